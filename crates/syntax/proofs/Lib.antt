@@ -1,0 +1,4 @@
+pub mod Scan
+pub mod Accepted
+pub mod Operands
+pub mod Marked
