@@ -6,10 +6,10 @@ use mathlib.Core.List.{List, []}
 use Prim.Native.Nat.{ℕ, zero, suc, _+_, _*_, _-_, _≤_, _<_}
 use native.Mathlib.Omega.{arith}
 use native.Mathlib.Numerals.{add-one}
-use native.Mathlib.Nat.{eq-or-lt-of-le, add-zero}
+use native.Mathlib.Nat.{eq-or-lt-of-le}
 use lib.Dec.{leb, eqb}
-use lib.ListN.{length, getD, take, drop, length-take, length-drop, List·getD-eq-default, drop-of-length-le}
-use lib.Seq.{getD-take, getD-drop, take-nil, take-all}
+use lib.ListN.{length, take, drop, length-take, length-drop, List·getD-eq-default, drop-of-length-le}
+use lib.Seq.{take-nil, take-all}
 use borrow.Author.Tests.{eq-eqb, ne-eqb, le-leb, lt-leb, eqb-true, leb-true}
 use Rattle.words.proofs.Loops.{and-left, and-right, turn, none-left}
 use Rattle.layout.specs.declared.Form.{Form}
@@ -96,31 +96,32 @@ laid form words e =
       pair = λ j p q. chain-pair (form .shortest) words 1 (count words) (1 + 2 * count words) (and-right (leb (1 + 2 * count words) (length words)) _ d) j p (omega arith);
     }
 
-module _ (s : ℕ) (words : List ℕ) (k : ℕ) (p : Pair s words k) where
-  pub part-length : length (part words k) ≡ lengthAt words k
-  unfolding part
-  part-length = let e = p .ends in simp (length-take, length-drop) (omega arith)
+-- the part of an entry, and of no entry
+pub part-zero : (words : List ℕ) → part words 0 ≡ []
+unfolding part
+part-zero words = refl
 
-  -- the first word of an entry stands at its offset
-  pub part-first : 1 ≤ s → getD (part words k) 0 0 ≡ getD words (offsetAt words k) 0
-  unfolding part
-  part-first h =
-      let e = p .long in
-      getD-take (lengthAt words k) (drop (offsetAt words k) words) 0 0 (omega arith) ∙ getD-drop (offsetAt words k) words 0 0 ∙ rw add-zero
+pub part-eq : (words : List ℕ) (k : ℕ) → 1 ≤ k → part words k ≡ take (lengthAt words k) (drop (offsetAt words k) words)
+unfolding part
+part-eq words k h = rw (ne-eqb k 0 (omega arith))
+
+module _ (s : ℕ) (words : List ℕ) (k : ℕ) (h : 1 ≤ k) (p : Pair s words k) where
+  pub part-length : length (part words k) ≡ lengthAt words k
+  part-length = let e = p .ends in rw (part-eq words k h) (simp (length-take, length-drop) (omega arith))
 
 -- a part whose pair passes the end is cut there
-module _ (words : List ℕ) (k : ℕ) where
+module _ (words : List ℕ) (k : ℕ) (some : 1 ≤ k) where
   pub part-no-pair : length words ≤ k → part words k ≡ []
-  unfolding part
-  part-no-pair h = let z : lengthAt words k ≡ 0 = List·getD-eq-default words 0 {n = 2 * k} (omega arith) in rw z
+  part-no-pair h =
+      let z : lengthAt words k ≡ 0 = List·getD-eq-default words 0 {n = 2 * k} (omega arith) in
+      part-eq words k some ∙ rw z
 
   pub part-outside : length words < offsetAt words k → part words k ≡ []
-  unfolding part
-  part-outside h = rw (drop-of-length-le words {i = offsetAt words k} (omega arith)) (take-nil (lengthAt words k))
+  part-outside h = part-eq words k some ∙ rw (drop-of-length-le words {i = offsetAt words k} (omega arith)) (take-nil (lengthAt words k))
 
-  pub part-cut : length words - offsetAt words k < lengthAt words k → part words k ≡ take (length words - offsetAt words k) (drop (offsetAt words k) words)
-  unfolding part
+  pub part-cut : length words - offsetAt words k < lengthAt words k
+      → part words k ≡ take (length words - offsetAt words k) (drop (offsetAt words k) words)
   part-cut h =
       let l : length (drop (offsetAt words k) words) ≡ length words - offsetAt words k = length-drop (offsetAt words k) words in
       let d = drop (offsetAt words k) words in
-      take-all (lengthAt words k) d (omega arith) ∙ sym (take-all (length words - offsetAt words k) d (omega arith))
+      part-eq words k some ∙ take-all (lengthAt words k) d (omega arith) ∙ sym (take-all (length words - offsetAt words k) d (omega arith))

@@ -58,12 +58,14 @@ pub fn laid_out(words: &[u32], form: Form) -> bool
     chained(words, form.shortest, n)
 }
 
-// The words of entry k, as a part of the slice.
+// The words of entry k, as a part of the slice; no words where there is no such entry.
 pub fn part(words: &[u32], k: usize) -> &[u32]
-    requires { ⌜ 1 ≤ k ⌝ }
     ensures { λ r. ⌜ now r ≡ part (now (words .entry)) k ⌝ }
 {
     let n = words.len();
+    if k == 0 {
+        return &words[n..n];
+    }
     if n <= k {
         return &words[n..n];
     }

@@ -85,7 +85,7 @@ operand doc k i s p q h =
 
 -- every node has its kind among its words
 pub some-words : (doc : List ℕ) (k : ℕ) → Laid documentForm doc → 1 ≤ k → k ≤ count doc → 1 ≤ length (part doc k)
-some-words doc k l p q = let e = l .pair k p q in let g = e .long in rw (part-length 1 doc k e) g
+some-words doc k l p q = let e = l .pair k p q in let g = e .long in rw (part-length 1 doc k p e) g
 
 -- the last node is the Document, and every other is used once
 pub last-document : (doc : List ℕ) → Document doc → kindAt doc (count doc) ≡ 1
