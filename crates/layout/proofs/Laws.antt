@@ -8,8 +8,7 @@ use native.Mathlib.Omega.{arith}
 use native.Mathlib.Numerals.{add-one}
 use native.Mathlib.Nat.{eq-or-lt-of-le}
 use lib.Dec.{leb, eqb}
-use lib.ListN.{length, take, drop, length-take, length-drop, List·getD-eq-default, drop-of-length-le}
-use lib.Seq.{take-nil, take-all}
+use lib.ListN.{length, take, drop, length-take, length-drop, List·getD-eq-default}
 use borrow.Author.Tests.{eq-eqb, ne-eqb, le-leb, lt-leb, eqb-true, leb-true}
 use Rattle.words.proofs.Loops.{and-left, and-right, turn, none-left}
 use Rattle.layout.specs.declared.Form.{Form}
@@ -109,19 +108,8 @@ module _ (s : ℕ) (words : List ℕ) (k : ℕ) (h : 1 ≤ k) (p : Pair s words 
   pub part-length : length (part words k) ≡ lengthAt words k
   part-length = let e = p .ends in rw (part-eq words k h) (simp (length-take, length-drop) (omega arith))
 
--- a part whose pair passes the end is cut there
-module _ (words : List ℕ) (k : ℕ) (some : 1 ≤ k) where
-  pub part-no-pair : length words ≤ k → part words k ≡ []
-  part-no-pair h =
-      let z : lengthAt words k ≡ 0 = List·getD-eq-default words 0 {n = 2 * k} (omega arith) in
-      part-eq words k some ∙ rw z
-
-  pub part-outside : length words < offsetAt words k → part words k ≡ []
-  part-outside h = part-eq words k some ∙ rw (drop-of-length-le words {i = offsetAt words k} (omega arith)) (take-nil (lengthAt words k))
-
-  pub part-cut : length words - offsetAt words k < lengthAt words k
-      → part words k ≡ take (length words - offsetAt words k) (drop (offsetAt words k) words)
-  part-cut h =
-      let l : length (drop (offsetAt words k) words) ≡ length words - offsetAt words k = length-drop (offsetAt words k) words in
-      let d = drop (offsetAt words k) words in
-      part-eq words k some ∙ take-all (lengthAt words k) d (omega arith) ∙ sym (take-all (length words - offsetAt words k) d (omega arith))
+-- no pair, no words
+pub part-no-pair : (words : List ℕ) (k : ℕ) → 1 ≤ k → length words ≤ k → part words k ≡ []
+part-no-pair words k some h =
+    let z : lengthAt words k ≡ 0 = List·getD-eq-default words 0 {n = 2 * k} (omega arith) in
+    part-eq words k some ∙ rw z

@@ -1,5 +1,5 @@
 // The layout of count, pairs and entries that documents, states and dictionaries share.
-use words::word;
+use words::{span, word};
 ghost use mathlib.Core.Path.{_≡_};
 ghost use Prim.Native.Nat.{_+_, _*_, _≤_};
 ghost use lib.ListN.{length};
@@ -62,20 +62,11 @@ pub fn laid_out(words: &[u32], form: Form) -> bool
 pub fn part(words: &[u32], k: usize) -> &[u32]
     ensures { λ r. ⌜ now r ≡ part (now (words .entry)) k ⌝ }
 {
-    let n = words.len();
     if k == 0 {
-        return &words[n..n];
+        return span(words, 0, 0);
     }
-    if n <= k {
-        return &words[n..n];
+    if words.len() <= k {
+        return span(words, 0, 0);
     }
-    let at = word(words, 2 * k - 1);
-    let len = word(words, 2 * k);
-    if n < at {
-        return &words[n..n];
-    }
-    if n - at < len {
-        return &words[at..n];
-    }
-    &words[at..at + len]
+    span(words, word(words, 2 * k - 1), word(words, 2 * k))
 }

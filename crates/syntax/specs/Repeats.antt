@@ -21,6 +21,10 @@ writtenBefore group k = joined group 1 (k - 1)
 abbrev pub repeatsIn : (ℕ → List ℕ) → ℕ → Bool
 repeatsIn group k = not (fresh (writtenBefore group k) (group k))
 
+-- a node's first operand
+abbrev pub firstOperand : List ℕ → ℕ → List ℕ
+firstOperand doc k = take 1 (drop 1 (part doc k))
+
 -- the identifiers of a Decl
 abbrev pub declared : List ℕ → ℕ → List ℕ
 declared doc k = drop 2 (part doc k)
@@ -33,7 +37,7 @@ isAxiomDecl doc k = eqb (kindAt doc k) 11 && eqb (kindAt doc (parent doc (parent
 unfoldable pub globals : List ℕ → ℕ → List ℕ
 globals doc k =
     cond (eqb (kindAt doc k) 2) (drop 1 (part doc k))
-    (cond (eqb (kindAt doc k) 5) (operandAt doc k 1 ∷ []) (cond (isAxiomDecl doc k) (declared doc k) []))
+    (cond (eqb (kindAt doc k) 5) (firstOperand doc k) (cond (isAxiomDecl doc k) (declared doc k) []))
 
 -- the identifiers of the Decls of Text t
 unfoldable pub declaredIn : List ℕ → ℕ → ℕ → List ℕ
@@ -45,7 +49,7 @@ parameters doc k = cond (between 4 (kindAt doc k) 5) (take (operandAt doc k 2) (
 
 -- the names of Schemas
 unfoldable pub schemas : List ℕ → ℕ → List ℕ
-schemas doc k = cond (eqb (kindAt doc k) 4) (operandAt doc k 1 ∷ []) []
+schemas doc k = cond (eqb (kindAt doc k) 4) (firstOperand doc k) []
 
 abbrev pub repeats : List ℕ → ℕ → Bool
 repeats doc k =

@@ -1,0 +1,17 @@
+use Rattle.words.proofs.Loops.{tests}
+use borrow.Author.Needs.{needs}
+use Rattle.reader.proofs.kinds.is_between.Statement.{statement}
+use Rattle.reader.proofs.kinds.is_between.Tie as tie
+use Rattle.reader.proofs.kinds.is_between.Reads as reads
+use Rattle.reader.proofs.kinds.is_between.Lts as lts
+
+-- src/kinds.rt:142:9
+returns : tie.Need-returns
+returns c = search tests
+
+-- src/kinds.rt:138:1
+returns-2 : tie.Need-returns-2
+returns-2 c = search tests
+
+pub is-between-spec : {M : Type 1} → statement M
+is-between-spec = tie.close (tie.spec returns returns-2)

@@ -1,0 +1,17 @@
+use Rattle.words.proofs.Loops.{tests}
+use borrow.Author.Needs.{needs}
+use Rattle.reader.proofs.kinds.is_name.Statement.{statement}
+use Rattle.reader.proofs.kinds.is_name.Tie as tie
+use Rattle.reader.proofs.kinds.is_name.Reads as reads
+use Rattle.reader.proofs.kinds.is_name.Lts as lts
+
+-- src/kinds.rt:179:9
+returns : tie.Need-returns
+returns c = search tests
+
+-- src/kinds.rt:175:1
+returns-2 : tie.Need-returns-2
+returns-2 c = search tests
+
+pub is-name-spec : {M : Type 1} → statement M
+is-name-spec = tie.close (tie.spec returns returns-2)

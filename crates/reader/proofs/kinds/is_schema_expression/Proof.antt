@@ -1,0 +1,25 @@
+use Rattle.syntax.specs.Kinds.{ofSort}
+use Rattle.words.proofs.Loops.{tests}
+use borrow.Author.Needs.{needs}
+use Rattle.reader.proofs.kinds.is_schema_expression.Statement.{statement}
+use Rattle.reader.proofs.kinds.is_schema_expression.Tie as tie
+use Rattle.reader.proofs.kinds.is_schema_expression.Reads as reads
+use Rattle.reader.proofs.kinds.is_schema_expression.Lts as lts
+
+-- src/kinds.rt:151:9
+returns : tie.Need-returns
+unfolding ofSort
+returns c = search tests
+
+-- src/kinds.rt:154:9
+returns-2 : tie.Need-returns-2
+unfolding ofSort
+returns-2 c = search tests
+
+-- src/kinds.rt:147:1
+returns-3 : tie.Need-returns-3
+unfolding ofSort
+returns-3 c = search tests
+
+pub is-schema-expression-spec : {M : Type 1} → statement M
+is-schema-expression-spec = tie.close (tie.spec returns returns-2 returns-3)

@@ -1,0 +1,77 @@
+use Rattle.syntax.proofs.Scan.{scan-hit, scan-go, scan-end}
+use Rattle.syntax.specs.Reading.{lowest}
+use Rattle.syntax.specs.Findings.{scan, useNumber}
+use native.Mathlib.Omega.{arith}
+use native.Mathlib.Nat.{add-sub-cancel}
+use Prim.Native.Nat.{_+_, _-_, _≤_}
+use mathlib.Core.Path.{_≡_, sym, _∙_}
+use borrow.Author.Needs.{needs}
+use Rattle.reader.proofs.links.check_uses.Statement.{statement}
+use Rattle.reader.proofs.links.check_uses.Tie as tie
+use Rattle.reader.proofs.links.check_uses.Reads as reads
+use Rattle.reader.proofs.links.check_uses.Lts as lts
+use Rattle.reader.proofs.links.use_number.Reads as use-number-reads
+use Rattle.words.proofs.word.Reads as word-reads
+
+abbrev Inv-loop : tie.InvT-loop
+Inv-loop doc used n k₀ k = (1 ≤ k) × (k ≤ n + 1) × (lowest doc (useNumber doc) ≡ scan (useNumber doc) k (n + 1 - k))
+
+abbrev μ-loop : tie.MeasureT-loop
+μ-loop doc used n k₀ k = n + 1 - k
+
+-- src/links.rt:94:9
+word-requires : tie.Need-word-requires Inv-loop μ-loop
+word-requires c κs = search needs
+
+-- src/links.rt:96:5
+loop-holds : tie.Need-loop-holds Inv-loop μ-loop
+loop-holds c = (omega arith, omega arith, rw (add-sub-cancel, c .word .ensures .0))
+
+-- src/links.rt:96:15
+add-loop : tie.Need-add-loop Inv-loop μ-loop
+add-loop c = search needs
+
+-- src/links.rt:97:13
+use-number-requires : tie.Need-use-number-requires Inv-loop μ-loop
+use-number-requires c κs = search needs
+
+-- src/links.rt:101:24
+cast-t8 : tie.Need-cast-t8 Inv-loop μ-loop
+cast-t8 c = search needs
+
+-- src/links.rt:99:13
+returns : tie.Need-returns Inv-loop μ-loop
+returns c = rw (c .before .use-number .ensures) (scan-hit _ _ _ (omega arith) (omega arith) ∙ sym (c .before .before .before .loop .inv .2))
+
+-- src/links.rt:104:9
+add-k : tie.Need-add-k Inv-loop μ-loop
+add-k c = search needs
+
+-- src/links.rt:96:5
+loop-less : tie.Need-loop-less Inv-loop μ-loop
+loop-less c = omega arith
+
+-- src/links.rt:96:5
+loop-again : tie.Need-loop-again Inv-loop μ-loop
+loop-again c = (omega arith, omega arith, c .before .before .before .loop .inv .2 ∙ scan-go _ _ _ (omega arith) (sym (c .before .use-number .ensures) ∙ c .if1 .left))
+
+-- src/links.rt:90:1
+returns-2 : tie.Need-returns-2 Inv-loop μ-loop
+returns-2 c = scan-end _ _ _ (omega arith) ∙ sym (c .before .loop .inv .2)
+
+pub check-uses-spec : {M : Type 1} → statement M
+check-uses-spec =
+    tie.close
+    (tie.spec
+    Inv-loop
+    μ-loop
+    word-requires
+    loop-holds
+    add-loop
+    use-number-requires
+    cast-t8
+    returns
+    add-k
+    loop-less
+    loop-again
+    returns-2)

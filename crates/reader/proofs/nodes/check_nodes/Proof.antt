@@ -1,0 +1,87 @@
+use Rattle.syntax.proofs.Scan.{scan-hit, scan-go, scan-end}
+use Rattle.syntax.specs.Reading.{lowest}
+use Rattle.syntax.specs.Findings.{scan, nodeNumber}
+use native.Mathlib.Omega.{arith}
+use native.Mathlib.Nat.{add-sub-cancel}
+use Prim.Native.Nat.{_+_, _-_, _≤_}
+use mathlib.Core.Path.{_≡_, sym, _∙_}
+use borrow.Author.Needs.{needs}
+use Rattle.reader.proofs.nodes.check_nodes.Statement.{statement}
+use Rattle.reader.proofs.nodes.check_nodes.Tie as tie
+use Rattle.reader.proofs.nodes.check_nodes.Reads as reads
+use Rattle.reader.proofs.nodes.check_nodes.Lts as lts
+use Rattle.layout.proofs.part.Reads as part-reads
+use Rattle.reader.proofs.nodes.number_of.Reads as number-of-reads
+use Rattle.words.proofs.word.Reads as word-reads
+
+abbrev Inv-loop : tie.InvT-loop
+Inv-loop doc n k₀ k = (1 ≤ k) × (k ≤ n + 1) × (lowest doc (nodeNumber doc) ≡ scan (nodeNumber doc) k (n + 1 - k))
+
+abbrev μ-loop : tie.MeasureT-loop
+μ-loop doc n k₀ k = n + 1 - k
+
+-- src/nodes.rt:108:9
+word-requires : tie.Need-word-requires Inv-loop μ-loop
+word-requires c κs = search needs
+
+-- src/nodes.rt:110:5
+loop-holds : tie.Need-loop-holds Inv-loop μ-loop
+loop-holds c = (omega arith, omega arith, rw (add-sub-cancel, c .word .ensures .0))
+
+-- src/nodes.rt:110:15
+add-loop : tie.Need-add-loop Inv-loop μ-loop
+add-loop c = search needs
+
+-- src/nodes.rt:111:40
+part-requires : tie.Need-part-requires Inv-loop μ-loop
+part-requires c κs = search needs
+
+-- src/nodes.rt:111:13
+number-of-requires : tie.Need-number-of-requires Inv-loop μ-loop
+number-of-requires c κs = search needs
+
+-- src/nodes.rt:115:24
+cast-t8 : tie.Need-cast-t8 Inv-loop μ-loop
+cast-t8 c = search needs
+
+-- src/nodes.rt:113:13
+returns : tie.Need-returns Inv-loop μ-loop
+returns c =
+    let e : c .before .number-of .result ≡ nodeNumber (c .before .before .before .before .before .before .before .args .doc .now) (c .before .before .before .before .loop .k) = cc in
+    rw e (scan-hit _ _ _ (omega arith) (omega arith) ∙ sym (c .before .before .before .before .loop .inv .2))
+
+-- src/nodes.rt:118:9
+add-k : tie.Need-add-k Inv-loop μ-loop
+add-k c = search needs
+
+-- src/nodes.rt:110:5
+loop-less : tie.Need-loop-less Inv-loop μ-loop
+loop-less c = omega arith
+
+-- src/nodes.rt:110:5
+loop-again : tie.Need-loop-again Inv-loop μ-loop
+loop-again c =
+    let e : c .before .number-of .result ≡ nodeNumber (c .before .before .before .before .before .before .before .args .doc .now) (c .before .before .before .before .loop .k) = cc in
+    (omega arith, omega arith, c .before .before .before .before .loop .inv .2 ∙ scan-go _ _ _ (omega arith) (sym e ∙ c .if1 .left))
+
+-- src/nodes.rt:104:1
+returns-2 : tie.Need-returns-2 Inv-loop μ-loop
+returns-2 c = scan-end _ _ _ (omega arith) ∙ sym (c .before .loop .inv .2)
+
+pub check-nodes-spec : {M : Type 1} → statement M
+check-nodes-spec =
+    tie.close
+    (tie.spec
+    Inv-loop
+    μ-loop
+    word-requires
+    loop-holds
+    add-loop
+    part-requires
+    number-of-requires
+    cast-t8
+    returns
+    add-k
+    loop-less
+    loop-again
+    returns-2)

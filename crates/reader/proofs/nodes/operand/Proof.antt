@@ -1,0 +1,23 @@
+use native.Mathlib.Omega.{arith}
+use borrow.Author.Needs.{needs}
+use Rattle.reader.proofs.nodes.operand.Statement.{statement}
+use Rattle.reader.proofs.nodes.operand.Tie as tie
+use Rattle.reader.proofs.nodes.operand.Reads as reads
+use Rattle.reader.proofs.nodes.operand.Lts as lts
+use Rattle.layout.proofs.part.Reads as part-reads
+use Rattle.words.proofs.word.Reads as word-reads
+
+-- src/nodes.rt:25:10
+part-requires : tie.Need-part-requires
+part-requires c κs = search needs
+
+-- src/nodes.rt:25:5
+word-requires : tie.Need-word-requires
+word-requires c κs = search needs
+
+-- src/nodes.rt:22:1
+returns : tie.Need-returns
+returns c = (cc, omega arith)
+
+pub operand-spec : {M : Type 1} → statement M
+operand-spec = tie.close (tie.spec part-requires word-requires returns)
