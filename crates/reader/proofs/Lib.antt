@@ -1,1 +1,4 @@
 pub mod LinkLaws
+pub mod MarkLaws
+pub mod RepeatLaws
+pub mod WritingLaws

@@ -1,14 +1,17 @@
 -- The tables of uses and parents: how the code fills them, and what they then say.
 use mathlib.Core.Path.{_≡_}
 use mathlib.Core.List.{List}
-use mathlib.Core.Bool.{cond}
+use mathlib.Core.Bool.{true, cond}
 use Prim.Native.Nat.{ℕ, _-_, _<_}
 use lib.ListN.{length, getD, set}
 use lib.Dec.{eqb}
 use Rattle.words.specs.Loops.{run}
-use Rattle.layout.specs.Layout.{count, part}
+use Rattle.layout.specs.Layout.{count, laidOut, part}
 use Rattle.syntax.specs.Kinds.{sortAt, isNodeSort}
-use Rattle.syntax.specs.Nodes.{uses, parent}
+use Rattle.syntax.specs.Nodes.{documentForm, uses, parent}
+use Rattle.syntax.specs.Findings.{nodeNumber, useNumber}
+use Rattle.syntax.specs.Reading.{lowest}
+use Rattle.syntax.specs.declared.Reading.the-variants.{Readable}
 
 -- a number of uses as far as it matters: 0, 1, or 2 for more
 abbrev pub capped : ℕ → ℕ
@@ -52,4 +55,12 @@ pub record Used (doc u : List ℕ) : Type 0 where
   pub at : (k : ℕ) → k < places → getD u k 0 ≡ capped (uses doc k)
 
 pub record Parents (doc u : List ℕ) : Type 0 where
+  pub few : count doc < places
   pub at : (k : ℕ) → k < places → getD u k 0 ≡ parent doc k
+
+-- the document has none of the findings 11 to 15, and `up` is its table of parents
+pub record Linked (doc up : List ℕ) : Type 0 where
+  pub laid : laidOut documentForm doc ≡ true
+  pub nodes : lowest doc (nodeNumber doc) ≡ Readable
+  pub uses : lowest doc (useNumber doc) ≡ Readable
+  pub parents : Parents doc up

@@ -1,10 +1,11 @@
 // Uses and parents of nodes, and finding 15.
-use crate::kinds::{operand_count, sort_at};
+use crate::kinds::operand_count;
+use crate::kinds::sort_at;
 use crate::nodes::kind_at;
 use layout::part;
 use syntax::Reading;
-use words::{store, word};
-
+use words::store;
+use words::word;
 ghost use mathlib.Core.Path.{_≡_};
 ghost use Prim.Native.Nat.{_≤_, _<_, _^_};
 ghost use Rattle.layout.specs.Layout.{count};

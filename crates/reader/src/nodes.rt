@@ -1,9 +1,13 @@
 // Findings 12 to 14, node by node.
-use crate::kinds::{column, count_ok, of_sort, operand_count, plain_ok, sort_at};
+use crate::kinds::column;
+use crate::kinds::count_ok;
+use crate::kinds::of_sort;
+use crate::kinds::operand_count;
+use crate::kinds::plain_ok;
+use crate::kinds::sort_at;
 use layout::part;
 use syntax::Reading;
 use words::word;
-
 ghost use mathlib.Core.Path.{_≡_};
 ghost use Prim.Native.Nat.{_≤_, _<_, _^_};
 ghost use Rattle.layout.specs.Layout.{count};

@@ -6,12 +6,12 @@ use Prim.Native.Nat.{ℕ, _+_, _-_, _≤_, _<_}
 use native.Mathlib.Omega.{arith}
 use lib.Dec.{leb, ltb, eqb}
 use lib.ListN.{length, getD}
-use borrow.Author.Tests.{leb-true, ltb-true, eqb-true, lt-ltb}
+use borrow.Author.Tests.{leb-true, ltb-true, eqb-true, lt-ltb, le-ltb}
 use Rattle.words.specs.Loops.{every}
 use Rattle.words.proofs.Loops.{and-left, and-right, every-at}
 use Rattle.layout.specs.Layout.{count, laidOut, part}
 use Rattle.layout.proofs.Laws.{Laid, laid, part-length}
-use Rattle.syntax.specs.Kinds.{listed, sortAt, countOk, ofSort, isNodeSort, counts}
+use Rattle.syntax.specs.Kinds.{cell, listed, sortAt, countOk, countIn, ofSort, isNodeSort}
 use Rattle.syntax.specs.Nodes.{documentForm, kindAt, uses}
 use Rattle.syntax.specs.Findings.{scan, andThen, plainWords, lowerAt, lowerNodes, nodeNumber, useNumber}
 use Rattle.syntax.specs.Repeats.{repeats, repeatNumber}
@@ -87,19 +87,39 @@ operand doc k i s p q h =
 pub some-words : (doc : List ℕ) (k : ℕ) → Laid documentForm doc → 1 ≤ k → k ≤ count doc → 1 ≤ length (part doc k)
 some-words doc k l p q = let e = l .pair k p q in let g = e .long in rw (part-length 1 doc k p e) g
 
--- the last node is the Document, and every other is used once
-pub last-document : (doc : List ℕ) → Document doc → kindAt doc (count doc) ≡ 1
-unfolding useNumber
-last-document doc d = go (ltb (count doc) (count doc)) (λ e. omega (arith, ltb-true (count doc) (count doc) e)) (d .used (count doc) (d .nodes .laid .some) (omega arith))
-  where
-    u : ℕ
-    u = cond (eqb (uses doc (count doc)) 1) (cond (eqb (kindAt doc (count doc)) 1) 15 0) 15
+-- a node has at least as many operands as its row's first column says
+pub least-operands : (doc : List ℕ) (k : ℕ) → Sound doc k → 1 ≤ length (part doc k) → cell (kindAt doc k) 0 < length (part doc k)
+unfolding countIn
+least-operands doc k s m =
+    let c : leb (cell (kindAt doc k) 0) (length (part doc k) - 1) ≡ true = and-left _ _ (and-left _ _ (s .counted)) in
+    omega (arith, leb-true (cell (kindAt doc k) 0) (length (part doc k) - 1) c)
 
-    go : (b : Bool) → (b ≡ true → ⊥) → cond b u (cond (eqb (kindAt doc (count doc)) 1) 0 15) ≡ 0 → kindAt doc (count doc) ≡ 1
-    go true h e = absurd (h refl)
-    go false h e = eqb-true _ _ (cond-zero (eqb (kindAt doc (count doc)) 1) 0 15 (omega arith) e .0)
+-- finding 15 absent: the last node is the Document, and every other is used once
+pub record Once (doc : List ℕ) : Type 0 where
+  pub last : kindAt doc (count doc) ≡ 1
+  pub once : (k : ℕ) → 1 ≤ k → k < count doc → uses doc k ≡ 1
+
+use-none : (doc : List ℕ) (k : ℕ) → useNumber doc k ≡ 0 → k < count doc → uses doc k ≡ 1
+unfolding useNumber
+use-none doc k e q = eqb-true _ _ (cond-zero (eqb (uses doc k) 1) _ 15 (omega arith) (rw (lt-ltb k (count doc) q) at e) .0)
+
+use-last : (doc : List ℕ) → useNumber doc (count doc) ≡ 0 → kindAt doc (count doc) ≡ 1
+unfolding useNumber
+use-last doc e =
+    let n = count doc in
+    eqb-true _ _ (cond-zero (eqb (kindAt doc n) 1) 0 15 (omega arith) (rw (le-ltb n n (omega arith)) at e) .0)
+
+pub uses-once : (doc : List ℕ) → 1 ≤ count doc → lowest doc (useNumber doc) ≡ Readable → Once doc
+uses-once doc s e =
+    let none = scan-none (useNumber doc) 1 (count doc) e in
+    record {
+      last = use-last doc (none (count doc) s (omega arith));
+      once = λ k p q. use-none doc k (none k p (omega arith)) q;
+    }
+
+-- the same of a readable document
+pub last-document : (doc : List ℕ) → Document doc → kindAt doc (count doc) ≡ 1
+last-document doc d = use-last doc (d .used (count doc) (d .nodes .laid .some) (omega arith))
 
 pub used-once : (doc : List ℕ) → Document doc → (k : ℕ) → 1 ≤ k → k < count doc → uses doc k ≡ 1
-unfolding useNumber
-used-once doc d k p q =
-    eqb-true _ _ (cond-zero (eqb (uses doc k) 1) _ 15 (omega arith) (rw (lt-ltb k (count doc) q) at (d .used k p (omega arith))) .0)
+used-once doc d k p q = use-none doc k (d .used k p (omega arith)) q

@@ -12,7 +12,7 @@ use Rattle.layout.specs.Layout.{count, part}
 use Rattle.syntax.specs.Kinds.{cell, sortAt, sortIn, sortRow, countOk, countIn, ofSort, isNodeSort, counts}
 use Rattle.syntax.specs.Nodes.{kindAt}
 use Rattle.syntax.specs.Promise.{At, Lower}
-use Rattle.syntax.proofs.Accepted.{readable, operand, some-words}
+use Rattle.syntax.proofs.Accepted.{readable, operand, some-words, least-operands}
 
 -- Tests on a kind's row: all sorts by the row; two operands, of sorts s₁ and s₂; at least one, the first of sort s; from the second on, or all, of sort s.
 abbrev pub plainRow : ℕ → Bool
@@ -34,7 +34,7 @@ pub cond-same : {A : Type 0} (b : Bool) (x : A) → cond b x x ≡ x
 cond-same true x = refl
 cond-same false x = refl
 
-sort-row : (q n a i : ℕ) → plainRow q ≡ true → sortIn q n a i ≡ sortRow q i
+pub sort-row : (q n a i : ℕ) → plainRow q ≡ true → sortIn q n a i ≡ sortRow q i
 unfolding sortIn
 sort-row q n a i e =
     let z = eqb-true (cell q 5) 0 (and-right (not (eqb q 12)) _ e) in
@@ -51,14 +51,11 @@ lower-operand doc s k h i t a b j g =
     let y = o .below in
     record { at = record { read = h .read; some = o .some; most = omega arith; small = omega arith; sort = rw j at (o .sort) }; below = y }
 
--- a node has at least as many operands as its row's first column says, and fewer than the second
-pub enough : (doc : List ℕ) (s k : ℕ) → At doc s k → cell (kindAt doc k) 0 < length (part doc k)
-unfolding countIn
+-- a node has at least as many operands as its row's first column says
+enough : (doc : List ℕ) (s k : ℕ) → At doc s k → cell (kindAt doc k) 0 < length (part doc k)
 enough doc s k h =
-    let r = readable doc (h .read) in
-    let m = some-words doc k (r .nodes .laid) (h .some) (h .most) in
-    let c : leb (cell (kindAt doc k) 0) (length (part doc k) - 1) ≡ true = and-left _ _ (and-left _ _ (r .nodes .node k (h .some) (h .most) .counted)) in
-    omega (arith, leb-true (cell (kindAt doc k) 0) (length (part doc k) - 1) c)
+    let r = readable doc (h .read) .nodes in
+    least-operands doc k (r .node k (h .some) (h .most)) (some-words doc k (r .laid) (h .some) (h .most))
 
 module _ (doc : List ℕ) (s k : ℕ) (h : At doc s k) where
   row-operand : plainRow (kindAt doc k) ≡ true → (i t : ℕ) → 1 ≤ i → i < length (part doc k) → sortRow (kindAt doc k) i ≡ t → counts < t

@@ -15,7 +15,7 @@ use Rattle.reader.proofs.kinds.operand_count.Reads as operand-count-rea
 use Rattle.reader.proofs.links.link_at.Reads as link-at-reads
 
 abbrev Inv-loop : tie.InvT-loop
-Inv-loop w k used₀ up₀ n i₀ used up i = 
+Inv-loop w k used₀ up₀ n i₀ used up i =
     (1 ≤ i) × (i ≤ n + 1) × (length used ≡ length used₀) × (length up ≡ length up₀)
     × (tallyNode w used₀ ≡ run (tallyAt w) i (n + 1 - i) used) × (linkNode w k up₀ ≡ run (linkAt w k) i (n + 1 - i) up)
 

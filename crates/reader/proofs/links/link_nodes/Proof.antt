@@ -16,7 +16,7 @@ use Rattle.reader.proofs.links.link_node.Reads as link-node-reads
 use Rattle.words.proofs.word.Reads as word-reads
 
 abbrev Inv-loop : tie.InvT-loop
-Inv-loop doc used₀ up₀ n k₀ used up k = 
+Inv-loop doc used₀ up₀ n k₀ used up k =
     (1 ≤ k) × (k ≤ n + 1) × (length used ≡ length used₀) × (length up ≡ length up₀)
     × (tally doc used₀ ≡ run (tallyOf doc) k (n + 1 - k) used) × (link doc up₀ ≡ run (linkOf doc) k (n + 1 - k) up)
 

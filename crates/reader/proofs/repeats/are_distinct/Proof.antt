@@ -1,0 +1,90 @@
+use Rattle.reader.proofs.MarkLaws.{distinct-off, distinct-go, distinct-end}
+use Rattle.reader.specs.Marks.{distinct}
+use Rattle.words.proofs.Lists.{take-rest}
+use Rattle.words.specs.Loops.{has}
+use lib.ListN.{getD, drop}
+use native.Mathlib.Omega.{arith}
+use Prim.Native.Nat.{_≤_, _+_, _-_}
+use mathlib.Core.Bool.{true, false}
+use mathlib.Core.Path.{_≡_, refl, sym, _∙_}
+use borrow.Author.Needs.{needs}
+use Rattle.reader.proofs.repeats.are_distinct.Statement.{statement}
+use Rattle.reader.proofs.repeats.are_distinct.Tie as tie
+use Rattle.reader.proofs.repeats.are_distinct.Reads as reads
+use Rattle.reader.proofs.repeats.are_distinct.Lts as lts
+use Rattle.reader.proofs.repeats.stands.Reads as stands-reads
+use Rattle.words.proofs.span.Reads as span-reads
+use Rattle.words.proofs.word.Reads as word-reads
+
+abbrev Inv-loop : tie.InvT-loop
+Inv-loop xs n i₀ i = (i ≤ n) × (distinct xs ≡ distinct (drop i xs))
+
+abbrev μ-loop : tie.MeasureT-loop
+μ-loop xs n i₀ i = n - i
+
+-- src/repeats.rt:136:5
+loop-holds : tie.Need-loop-holds Inv-loop μ-loop
+loop-holds c = (omega arith, refl)
+
+-- src/repeats.rt:137:13
+word-requires : tie.Need-word-requires Inv-loop μ-loop
+word-requires c κs = search needs
+
+-- src/repeats.rt:138:31
+add-span : tie.Need-add-span Inv-loop μ-loop
+add-span c = search needs
+
+-- src/repeats.rt:138:22
+span-requires : tie.Need-span-requires Inv-loop μ-loop
+span-requires c κs = search needs
+
+-- src/repeats.rt:138:12
+stands-requires : tie.Need-stands-requires Inv-loop μ-loop
+stands-requires c κs = search needs
+
+-- src/repeats.rt:139:13
+returns : tie.Need-returns Inv-loop μ-loop
+returns c =
+    let x = c .before .before .before .before .before .before .before .args .xs .now in
+    let i = c .before .before .before .before .before .loop .i in
+    let s = c .before .before .span .ensures ∙ take-rest x (i + 1) in
+    let e : has (getD x i 0) (drop (i + 1) x) ≡ true = rw (s, c .before .before .before .word .ensures .0) at (sym (c .before .stands .ensures) ∙ c .if1 .taken) in
+    distinct-off x i (omega arith) e ∙ sym (c .before .before .before .before .before .loop .inv .1)
+
+-- src/repeats.rt:141:9
+add-i : tie.Need-add-i Inv-loop μ-loop
+add-i c = search needs
+
+-- src/repeats.rt:136:5
+loop-less : tie.Need-loop-less Inv-loop μ-loop
+loop-less c = omega arith
+
+-- src/repeats.rt:136:5
+loop-again : tie.Need-loop-again Inv-loop μ-loop
+loop-again c =
+    let x = c .before .before .before .before .before .before .before .args .xs .now in
+    let i = c .before .before .before .before .before .loop .i in
+    let s = c .before .before .span .ensures ∙ take-rest x (i + 1) in
+    let e : has (getD x i 0) (drop (i + 1) x) ≡ false = rw (s, c .before .before .before .word .ensures .0) at (sym (c .before .stands .ensures) ∙ c .if1 .left) in
+    (omega arith, c .before .before .before .before .before .loop .inv .1 ∙ distinct-go x i (omega arith) e)
+
+-- src/repeats.rt:131:1
+returns-2 : tie.Need-returns-2 Inv-loop μ-loop
+returns-2 c = distinct-end (c .before .before .before .args .xs .now) (c .before .loop .i) (omega arith) ∙ sym (c .before .loop .inv .1)
+
+pub are-distinct-spec : {M : Type 1} → statement M
+are-distinct-spec =
+    tie.close
+    (tie.spec
+    Inv-loop
+    μ-loop
+    loop-holds
+    word-requires
+    add-span
+    span-requires
+    stands-requires
+    returns
+    add-i
+    loop-less
+    loop-again
+    returns-2)

@@ -1,0 +1,24 @@
+use Rattle.words.proofs.Lists.{take-rest}
+use mathlib.Core.Path.{_∙_}
+use borrow.Author.Needs.{needs}
+use Rattle.reader.proofs.repeats.declared_at.Statement.{statement}
+use Rattle.reader.proofs.repeats.declared_at.Tie as tie
+use Rattle.reader.proofs.repeats.declared_at.Reads as reads
+use Rattle.reader.proofs.repeats.declared_at.Lts as lts
+use Rattle.layout.proofs.part.Reads as part-reads
+use Rattle.words.proofs.span.Reads as span-reads
+
+-- src/repeats.rt:83:9
+part-requires : tie.Need-part-requires
+part-requires c κs = search needs
+
+-- src/repeats.rt:84:5
+span-requires : tie.Need-span-requires
+span-requires c κs = search needs
+
+-- src/repeats.rt:80:1
+returns : tie.Need-returns
+returns c = rw (← (c .before .part .ensures)) (c .span .ensures ∙ take-rest (c .before .part .result .now) 2)
+
+pub declared-at-spec : {M : Type 1} → statement M
+declared-at-spec = tie.close (tie.spec part-requires span-requires returns)

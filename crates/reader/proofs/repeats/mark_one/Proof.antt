@@ -1,0 +1,34 @@
+use borrow.Author.Tests.{eq-eqb}
+use lib.ListN.{List·getD-eq-default}
+use lib.Seq.{set-out}
+use mathlib.Core.Path.{sym, _∙_}
+use borrow.Author.Needs.{needs}
+use Rattle.reader.proofs.repeats.mark_one.Statement.{statement}
+use Rattle.reader.proofs.repeats.mark_one.Tie as tie
+use Rattle.reader.proofs.repeats.mark_one.Reads as reads
+use Rattle.reader.proofs.repeats.mark_one.Lts as lts
+
+-- src/repeats.rt:92:19
+slice-read-old : tie.Need-slice-read-old
+slice-read-old c = search needs
+
+-- src/repeats.rt:93:9
+slice-write-seen : tie.Need-slice-write-seen
+slice-write-seen c = search needs
+
+-- src/repeats.rt:94:9
+same-length : tie.Need-same-length
+same-length c = search needs
+
+-- src/repeats.rt:94:9
+returns : tie.Need-returns
+returns c = search needs
+
+-- src/repeats.rt:88:1
+returns-2 : tie.Need-returns-2
+returns-2 c =
+    let a = c .before .args in
+    (sym (eq-eqb _ 0 (List·getD-eq-default (a .seen .now) 0 (c .if1 .left))), sym (set-out _ _ _ (c .if1 .left)))
+
+pub mark-one-spec : {M : Type 1} → statement M
+mark-one-spec = tie.close (tie.spec slice-read-old slice-write-seen same-length returns returns-2)

@@ -1,0 +1,73 @@
+use Rattle.reader.specs.Marks.{sharedAt}
+use Rattle.words.proofs.Loops.{some-on, some-go, some-end}
+use Rattle.words.specs.Loops.{some}
+use lib.ListN.{length}
+use native.Mathlib.Omega.{arith}
+use native.Mathlib.Nat.{add-sub-cancel}
+use Prim.Native.Nat.{_+_, _-_, _≤_}
+use mathlib.Core.Path.{_≡_, sym, _∙_}
+use borrow.Author.Needs.{needs}
+use Rattle.reader.proofs.repeats.shared_before.Statement.{statement}
+use Rattle.reader.proofs.repeats.shared_before.Tie as tie
+use Rattle.reader.proofs.repeats.shared_before.Reads as reads
+use Rattle.reader.proofs.repeats.shared_before.Lts as lts
+use Rattle.reader.proofs.kinds.operand_count.Reads as operand-count-reads
+use Rattle.reader.proofs.repeats.shared_at.Reads as shared-at-reads
+
+abbrev Inv-loop : tie.InvT-loop
+Inv-loop doc k ids w n i₀ i = (i ≤ n + 1) × (some (sharedAt doc k ids w) 1 (length w - 1) ≡ some (sharedAt doc k ids w) i (n + 1 - i))
+
+abbrev μ-loop : tie.MeasureT-loop
+μ-loop doc k ids w n i₀ i = n + 1 - i
+
+-- src/repeats.rt:183:9
+operand-count-requires : tie.Need-operand-count-requires Inv-loop μ-loop
+operand-count-requires c κs = search needs
+
+-- src/repeats.rt:185:5
+loop-holds : tie.Need-loop-holds Inv-loop μ-loop
+loop-holds c = (omega arith, rw (add-sub-cancel, c .operand-count .ensures))
+
+-- src/repeats.rt:185:15
+add-loop : tie.Need-add-loop Inv-loop μ-loop
+add-loop c = search needs
+
+-- src/repeats.rt:186:12
+shared-at-requires : tie.Need-shared-at-requires Inv-loop μ-loop
+shared-at-requires c κs = search needs
+
+-- src/repeats.rt:187:13
+returns : tie.Need-returns Inv-loop μ-loop
+returns c = some-on _ _ _ (omega arith) (sym (c .before .shared-at .ensures) ∙ c .if1 .taken) ∙ sym (c .before .before .before .loop .inv .1)
+
+-- src/repeats.rt:189:9
+add-i : tie.Need-add-i Inv-loop μ-loop
+add-i c = search needs
+
+-- src/repeats.rt:185:5
+loop-less : tie.Need-loop-less Inv-loop μ-loop
+loop-less c = omega arith
+
+-- src/repeats.rt:185:5
+loop-again : tie.Need-loop-again Inv-loop μ-loop
+loop-again c = (omega arith, c .before .before .before .loop .inv .1 ∙ some-go _ _ _ (omega arith) (sym (c .before .shared-at .ensures) ∙ c .if1 .left))
+
+-- src/repeats.rt:180:1
+returns-2 : tie.Need-returns-2 Inv-loop μ-loop
+returns-2 c = some-end _ _ _ (omega arith) ∙ sym (c .before .loop .inv .1)
+
+pub shared-before-spec : {M : Type 1} → statement M
+shared-before-spec =
+    tie.close
+    (tie.spec
+    Inv-loop
+    μ-loop
+    operand-count-requires
+    loop-holds
+    add-loop
+    shared-at-requires
+    returns
+    add-i
+    loop-less
+    loop-again
+    returns-2)
