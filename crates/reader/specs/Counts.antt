@@ -6,7 +6,7 @@ use Prim.Native.Nat.{ℕ, zero, suc, _+_, _<_}
 use lib.ListN.{length, getD, set}
 use lib.Dec.{ltb, eqb}
 use Rattle.syntax.specs.Nodes.{kindAt, parent}
-use Rattle.syntax.specs.Limits.{isClosing, belowUpTo, declaredUpTo}
+use Rattle.syntax.specs.Limits.{isClosing, belowUpTo, declaredUpTo, tooDeep, tooNested, tooWide, tooCrowded}
 use Rattle.reader.specs.Links.{places}
 
 -- there are at least n nodes above k
@@ -33,3 +33,12 @@ pub record Below (doc : List ℕ) (k : ℕ) (u : List ℕ) : Type 0 where
 pub record Declared (doc : List ℕ) (k : ℕ) (u : List ℕ) : Type 0 where
   pub size : length u ≡ places
   pub at : (t : ℕ) → t < places → getD u t 0 ≡ declaredUpTo doc t k
+
+-- both tables, up to node k
+pub record Counted (doc : List ℕ) (k : ℕ) (u v : List ℕ) : Type 0 where
+  pub below : Below doc k u
+  pub declared : Declared doc k v
+
+-- the limits that go by the tree
+abbrev pub pastTree : List ℕ → ℕ → Bool
+pastTree doc k = tooDeep doc k || (tooNested doc k || (tooWide doc k || tooCrowded doc k))
