@@ -6,3 +6,6 @@ pub mod Repeats
 pub mod Limits
 pub mod Reading
 pub mod Promise
+pub mod LowerNodes
+pub mod Tree
+pub mod Decode
