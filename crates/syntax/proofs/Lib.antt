@@ -4,3 +4,10 @@ pub mod Operands
 pub mod Marked
 pub mod LowerNodes
 pub mod TreeMarked
+pub mod TreeShape
+pub mod TreeExpr
+pub mod TreePred
+pub mod TreeLists
+pub mod TreeCounts
+pub mod TreeText
+pub mod TreeParagraph

@@ -215,6 +215,22 @@ makers =
     ∷ two (λ k a b. anExpr (comprehension k (a .text) (b .expr)))  -- 46 Comprehension
     ∷ []
 
+-- the constructors of kinds that behave alike: 21 to 23, 25 to 27, 28 and 29, 33 to 35, 41 to 45
+abbrev pub relationOf : ℕ → ℕ → Expr → Expr → Pred
+relationOf q = getD (equal ∷ member ∷ atMost ∷ []) (q - 21) equal
+
+abbrev pub connectiveOf : ℕ → Connective
+connectiveOf q = getD (and ∷ or ∷ implies ∷ []) (q - 25) and
+
+abbrev pub quantifierOf : ℕ → Quantifier
+quantifierOf q = getD (forall ∷ exists ∷ []) (q - 28) forall
+
+abbrev pub membersOf : ℕ → ℕ → Exprs → Expr
+membersOf q = getD (set ∷ tuple ∷ product ∷ []) (q - 33) set
+
+abbrev pub operatorOf : ℕ → Operator
+operatorOf q = getD (plus ∷ minus ∷ times ∷ quotient ∷ remainder ∷ []) (q - 41) plus
+
 abbrev pub makeAt : List ℕ → ℕ → (ℕ → Node) → Node
 makeAt doc k sub = getD makers (kindAt doc k) unlisted sub k (part doc k)
 

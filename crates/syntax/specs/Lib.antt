@@ -9,3 +9,4 @@ pub mod Promise
 pub mod LowerNodes
 pub mod Tree
 pub mod Decode
+pub mod TreeNumbers
