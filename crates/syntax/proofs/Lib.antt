@@ -11,3 +11,8 @@ pub mod TreeLists
 pub mod TreeCounts
 pub mod TreeText
 pub mod TreeParagraph
+pub mod Occurrences
+pub mod TreeChildren
+pub mod TreeAmong
+pub mod TreeNumbered
+pub mod TreeNodes

@@ -88,9 +88,14 @@ module _ (doc : List ℕ) (k : ℕ) (h : At doc paragraphs k) where
       (omega arith) (rw (eq-eqb (operandAt doc k 2 + 3) (operandAt doc k 2 + 3) refl)) (rw q refl)
 
 -- 1 Document: the last node
+pub document-sort : (doc : List ℕ) (k : ℕ) → kindAt doc k ≡ 1 → (j : ℕ) → sortAt (part doc k) j ≡ paragraphs
+unfolding cell sortIn
+document-sort doc k q j =
+    rw (q, cond-same (eqb j 2) paragraphs, cond-same (eqb j 1) paragraphs) (cond-same (eqb j (length (part doc k) - 1)) paragraphs)
+
 pub document-law : (doc : List ℕ) → readOf doc ≡ Readable
     → (let n = count doc in Each doc n paragraphs 1 (length (part doc n)) (treeOf doc ≡ document n (paragraphsFrom doc n 1 (length (part doc n) - 1))))
-unfolding treeOf paragraphsFrom paragraphAt cell sortIn makers
+unfolding treeOf paragraphsFrom paragraphAt makers
 document-law doc r =
     record {
       each = λ j a b v x. rw x (o j a b);
@@ -104,7 +109,7 @@ document-law doc r =
     q = last-document doc (readable doc r)
 
     sort : (j : ℕ) → sortAt (part doc (count doc)) j ≡ paragraphs
-    sort j = rw (q, cond-same (eqb j 2) paragraphs, cond-same (eqb j 1) paragraphs) (cond-same (eqb j (length (part doc (count doc)) - 1)) paragraphs)
+    sort = document-sort doc (count doc) q
 
     o : (j : ℕ) → 1 ≤ j → j < length (part doc (count doc)) → Lower doc (count doc) paragraphs (operandAt doc (count doc) j)
     o j a b =

@@ -67,7 +67,7 @@ pub record Included (doc : List ℕ) (k n : ℕ) (Tree : Type 0) : Type 0 where
   pub each : (j : ℕ) → 4 ≤ j → j < n + 4 → (v : ℕ) → v ≡ operandAt doc k j → Lower doc k expressions v
   pub tree : Tree
 
-actual-sort : (doc : List ℕ) (k j : ℕ) → kindAt doc k ≡ 12 → 4 ≤ j → j < operandAt doc k 3 + 4 → sortAt (part doc k) j ≡ expressions
+pub actual-sort : (doc : List ℕ) (k j : ℕ) → kindAt doc k ≡ 12 → 4 ≤ j → j < operandAt doc k 3 + 4 → sortAt (part doc k) j ≡ expressions
 unfolding sortIn
 actual-sort doc k j q a b = rw (q, lt-leb j 3 a, le-leb j (operandAt doc k 3 + 3) (omega arith))
 
