@@ -1,10 +1,9 @@
 -- Which operands of a node are its children, by shape.
-use mathlib.Core.Path.{_≡_, refl, sym, ap, _∙_}
+use mathlib.Core.Path.{_≡_, refl, sym, _∙_}
 use mathlib.Core.Bool.{Bool, true, false, cond}
 use mathlib.Core.List.{List, [], _∷_, _++_, append-nil, append-assoc}
 use Prim.Native.Nat.{ℕ, zero, suc, _+_, _-_, _≤_, _<_}
 use native.Mathlib.Omega.{arith}
-use lib.Dec.{eqb}
 use lib.ListN.{length, getD}
 use Rattle.layout.specs.Layout.{part}
 use Rattle.syntax.specs.Kinds.{cell, sortAt, sortIn, isNodeSort}
@@ -12,10 +11,10 @@ use Rattle.syntax.specs.Nodes.{kindAt, operandAt, nodesAmong, children}
 use Rattle.syntax.specs.Promise.{At}
 use Rattle.syntax.specs.Decode.{gather}
 use Rattle.syntax.proofs.Accepted.{readable}
-use Rattle.syntax.proofs.Operands.{cond-same, enough}
+use Rattle.syntax.proofs.Operands.{cond-same}
 use Rattle.syntax.proofs.Occurrences.{flat}
 use Rattle.syntax.proofs.TreeShape.{AllFrom, all-at}
-use Rattle.syntax.proofs.TreeCounts.{not-many}
+use Rattle.syntax.proofs.TreeCounts.{at-least, at-most}
 use Rattle.syntax.proofs.TreeChildren.{numbersAt, numbers-at}
 
 pub among-none : (w : List ℕ) (i m : ℕ) → ((j : ℕ) → i ≤ j → j < i + m → isNodeSort (sortAt w j) ≡ false) → nodesAmong w i m ≡ []
@@ -60,8 +59,8 @@ module _ (doc : List ℕ) (s k : ℕ) (h : At doc s k) where
   -- a kind with c operands and no other number
   pub exactly : (q c : ℕ) → kindAt doc k ≡ q → cell q 0 ≡ c → cell q 1 ≡ suc c → length (part doc k) ≡ suc c
   exactly q c e a b =
-      let m = enough doc s k h in
-      let n = not-many doc s k h in
+      let m = at-least doc s k h in
+      let n = at-most doc s k h in
       let m′ : c < length (part doc k) = rw (e, a) at m in
       let n′ : length (part doc k) ≤ suc c = rw (e, b) at n in
       omega arith

@@ -1,8 +1,7 @@
 -- The law of each kind of expression, 30 to 46: its operands, and its tree by theirs.
 use mathlib.Core.Path.{_≡_, refl, ap, _∙_}
-use mathlib.Core.Bool.{true}
 use mathlib.Core.List.{List}
-use Prim.Native.Nat.{ℕ, _+_, _-_, _≤_, _<_}
+use Prim.Native.Nat.{ℕ, _-_, _≤_}
 use native.Mathlib.Omega.{arith}
 use lib.ListN.{length, getD}
 use borrow.Author.Tests.{leb-true}
@@ -12,11 +11,13 @@ use Rattle.words.proofs.Loops.{and-left, and-right, every-at}
 use Rattle.layout.specs.Layout.{part}
 use Rattle.syntax.specs.Kinds.{cell, ofSort, expressions, includes, texts}
 use Rattle.syntax.specs.Nodes.{kindAt, operandAt}
-use Rattle.syntax.specs.Promise.{At, Lower}
-use Rattle.syntax.specs.Tree.{Expr, reference, number, integers, power, application, selection, theta, schemaSet, arithmetic, comprehension, Exprs, none, more}
-use Rattle.syntax.specs.Decode.{Node, unlisted, gather, makers, makeAt, nodeAt, exprAt, includeAt, textAt, exprsFrom, membersOf, operatorOf}
-use Rattle.syntax.proofs.Operands.{manyKind, allKind, each-of, all-of, enough}
-use Rattle.syntax.proofs.TreeShape.{AllFrom, all-at, One, Two, Each, twoNodes, sub, seen, one-law, two-law, lower-gather}
+use Rattle.syntax.specs.Promise.{At}
+use Rattle.syntax.specs.Tree.{reference, number, integers, power, application, selection, theta, schemaSet, arithmetic, comprehension, none}
+use Rattle.syntax.specs.Tree.{more}
+use Rattle.syntax.specs.Decode.{Node, unlisted, gather, makers, exprAt, includeAt, textAt, exprsFrom, membersOf, operatorOf}
+use Rattle.syntax.proofs.Operands.{allKind, each-of, all-of}
+use Rattle.syntax.proofs.TreeCounts.{at-least}
+use Rattle.syntax.proofs.TreeShape.{all-at, One, Two, Each, twoNodes, sub, seen, one-law, two-law, lower-gather}
 
 pub expr-range : (doc : List ℕ) (k : ℕ) → At doc expressions k → (30 ≤ kindAt doc k) × (kindAt doc k ≤ 46)
 unfolding ofSort
@@ -29,7 +30,7 @@ module _ (doc : List ℕ) (k : ℕ) (h : At doc expressions k) where
   unfolding exprAt exprsFrom cell makers
   expr-reference q =
       let o = each-of doc expressions k h expressions (rw q refl) (omega arith) in
-      let n = enough doc expressions k h in
+      let n = at-least doc expressions k h in
       record {
         each = λ j a b v x. rw x (o j a b);
         tree =

@@ -1,5 +1,5 @@
 -- Operand lists of a tree, one turn at a time: a loop that is at operand i and ends before e.
-use mathlib.Core.Path.{_≡_, refl}
+use mathlib.Core.Path.{_≡_}
 use mathlib.Core.List.{List, [], _∷_}
 use Prim.Native.Nat.{ℕ, suc, _+_, _-_, _/_, _≤_, _<_}
 use native.Mathlib.Omega.{arith}
@@ -7,7 +7,7 @@ use native.Mathlib.Numerals.{add-one, add-two}
 use lib.ListN.{getD}
 use Rattle.layout.specs.Layout.{part}
 use Rattle.syntax.specs.Nodes.{operandAt}
-use Rattle.syntax.specs.Tree.{Exprs, none, more, Lines, end, Paragraph}
+use Rattle.syntax.specs.Tree.{none, more, end}
 use Rattle.syntax.specs.Decode.{pairsFrom, exprAt, lineAt, paragraphAt, exprsFrom, linesFrom, paragraphsFrom}
 use Rattle.syntax.proofs.TreeShape.{gather-go, gather-end}
 

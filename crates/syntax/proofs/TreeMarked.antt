@@ -1,9 +1,9 @@
 -- Trees of small documents, by computation.
 use mathlib.Core.Path.{_≡_, refl}
-use mathlib.Core.List.{List, [], _∷_}
+use mathlib.Core.List.{[], _∷_}
 use Rattle.layout.specs.Layout.{part}
 use Rattle.syntax.specs.LowerNodes.{tower, meaning}
-use Rattle.syntax.specs.Tree.{Exprs, none, Pred, equal, Expr, set, Paragraph, given, constraint, Document, document}
+use Rattle.syntax.specs.Tree.{none, equal, set, given, constraint, document}
 use Rattle.syntax.specs.Decode.{gather, makers, nodeAt, treeOf}
 
 -- document 01's printed input: one given

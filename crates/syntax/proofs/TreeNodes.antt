@@ -1,54 +1,37 @@
 -- Every node of a readable document stands in its tree once.
 use mathlib.Core.Path.{_≡_, refl, sym, ap, _∙_}
-use mathlib.Core.Bool.{Bool, true, false, cond}
+use mathlib.Core.Bool.{true, false, cond}
 use mathlib.Core.Logic.{⊎-elim}
 use mathlib.Core.List.{List, [], _∷_, _++_, append-nil}
 use Prim.Native.Nat.{ℕ, zero, suc, _+_, _-_, _≤_, _<_}
 use native.Mathlib.Omega.{arith}
-use lib.Dec.{leb, eqb}
-use lib.ListN.{length, getD}
-use borrow.Author.Tests.{eq-eqb, ne-eqb, lt-leb, le-leb}
+use lib.Dec.{eqb}
+use lib.ListN.{length}
+use borrow.Author.Tests.{eq-eqb, ne-eqb, lt-leb}
 use Rattle.words.specs.Loops.{occurrences}
 use Rattle.layout.specs.Layout.{count, part}
-use Rattle.syntax.specs.Kinds.{cell, sortAt, sortIn, isNodeSort, between, identifiers, schemaNames, counts, expressions, schemaExpressions, predicates, texts, lines, paragraphs, includes}
+use Rattle.syntax.specs.Kinds.{cell, sortAt, sortIn, isNodeSort, between, identifiers, schemaNames, counts, expressions, schemaExpressions}
+use Rattle.syntax.specs.Kinds.{predicates, texts, lines, paragraphs, includes}
 use Rattle.syntax.specs.Nodes.{kindAt, operandAt, nodesAmong, children}
 use Rattle.syntax.specs.Reading.{readOf}
 use Rattle.syntax.specs.declared.Reading.the-variants.{Readable}
-use Rattle.syntax.specs.Promise.{At, Lower}
+use Rattle.syntax.specs.Promise.{At}
 use Rattle.syntax.specs.Tree.{Lines, end}
-use Rattle.syntax.specs.Decode.{
-  exprAt,
-  predAt,
-  textAt,
-  includeAt,
-  lineAt,
-  schemaAt,
-  paragraphAt,
-  exprsFrom,
-  linesFrom,
-  paragraphsFrom,
-  treeOf,
-}
-use Rattle.syntax.specs.TreeNumbers.{
-  exprNumbers,
-  exprsNumbers,
-  predNumbers,
-  textNumbers,
-  linesNumbers,
-  includeNumbers,
-  schemaNumbers,
-  paragraphNumbers,
-  paragraphsNumbers,
-  nodeNumbers,
-}
+use Rattle.syntax.specs.Decode.{exprAt, predAt, textAt, includeAt, lineAt, schemaAt, paragraphAt, exprsFrom, linesFrom, paragraphsFrom, treeOf}
+use Rattle.syntax.specs.TreeNumbers.{exprNumbers, exprsNumbers, predNumbers, textNumbers, linesNumbers, includeNumbers, schemaNumbers}
+use Rattle.syntax.specs.TreeNumbers.{paragraphNumbers, paragraphsNumbers, nodeNumbers}
 use Rattle.syntax.proofs.Accepted.{readable, last-document}
-use Rattle.syntax.proofs.Operands.{cond-same, enough}
+use Rattle.syntax.proofs.Operands.{cond-same}
 use Rattle.syntax.proofs.Occurrences.{flat}
+use Rattle.syntax.proofs.TreeCounts.{at-least}
 use Rattle.syntax.proofs.TreeShape.{all-at}
-use Rattle.syntax.proofs.TreeText.{text-kind, include-kind, line-range, text-law, line-declaration, actual-sort, include-law, line-inclusion, schema-kinds, schema-plain, schema-from, schema-both}
-use Rattle.syntax.proofs.TreeParagraph.{paragraph-range, paragraph-given, paragraph-axiomatic, paragraph-schema, paragraph-abbreviation, paragraph-constraint, document-sort, document-law}
+use Rattle.syntax.proofs.TreeText.{text-kind, include-kind, line-range, text-law, line-declaration, actual-sort, include-law, line-inclusion}
+use Rattle.syntax.proofs.TreeText.{schema-kinds, schema-plain, schema-from, schema-both}
+use Rattle.syntax.proofs.TreeParagraph.{paragraph-range, paragraph-given, paragraph-axiomatic, paragraph-schema, paragraph-abbreviation}
+use Rattle.syntax.proofs.TreeParagraph.{paragraph-constraint, document-sort, document-law}
 use Rattle.syntax.proofs.TreeChildren.{numbersAt, numbers-at, once}
-use Rattle.syntax.proofs.TreeAmong.{among-none, among-split, gathered, by-children, one-numbers, two-numbers, first-child, last-child, middle-children, same-sort, no-node}
+use Rattle.syntax.proofs.TreeAmong.{among-none, gathered, by-children, one-numbers, two-numbers, first-child, last-child, middle-children}
+use Rattle.syntax.proofs.TreeAmong.{same-sort, no-node}
 use Rattle.syntax.proofs.TreeNumbered.{Numbered, below-expr, below-pred, below-text, listed-exprs, expr-numbered, pred-numbered}
 
 -- an Include's first three operands, and those after its actuals, are plain
@@ -68,7 +51,7 @@ module _ (doc : List ℕ) (k : ℕ) (ih : (j : ℕ) → j < k → Numbered doc j
       let l = text-law doc s k h e _ refl in
       let w = part doc k in
       let n = length w - 2 in
-      let m : 1 < length w = rw e at (enough doc s k h) in
+      let m : 1 < length w = rw e at (at-least doc s k h) in
       rw (l .tree) (by-children doc s k h (operandAt doc k 1 ∷ nodesAmong w 2 n)
       (first-child doc k m (rw e (ap isNodeSort (cond-same (eqb 1 (length w - 1)) predicates)))) (predNumbers (predAt doc (operandAt doc k 1)) ++ linesNumbers (linesFrom doc k 2 n))
       (rw (below-pred doc k ih (l .first)) (ap (λ (x : List ℕ). numbersAt doc (operandAt doc k 1) ++ x)
@@ -98,7 +81,7 @@ module _ (doc : List ℕ) (k : ℕ) (ih : (j : ℕ) → j < k → Numbered doc j
             let l = line-declaration doc k h e _ refl in
             let w = part doc k in
             let v = operandAt doc k 1 in
-            let m : 2 < length w = rw e at (enough doc lines k h) in
+            let m : 2 < length w = rw e at (at-least doc lines k h) in
             rw (l .tree ls) (ap (λ (x : List ℕ). x ++ linesNumbers ls)
             (by-children doc lines k h (v ∷ [])
             (first-child doc k (omega arith) (rw e (ap isNodeSort (cond-same (eqb 1 (length w - 1)) expressions)))

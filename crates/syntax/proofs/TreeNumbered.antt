@@ -2,10 +2,10 @@
 use mathlib.Core.Path.{_≡_, refl, sym, ap, _∙_}
 use mathlib.Core.Bool.{true, false}
 use mathlib.Core.List.{List, [], _∷_, _++_, append-nil}
-use Prim.Native.Nat.{ℕ, suc, _+_, _-_, _≤_, _<_}
+use Prim.Native.Nat.{ℕ, _+_, _-_, _≤_, _<_}
 use native.Mathlib.Omega.{arith}
 use lib.Dec.{eqb}
-use lib.ListN.{length, getD}
+use lib.ListN.{length}
 use borrow.Author.Tests.{ne-eqb}
 use Rattle.layout.specs.Layout.{part}
 use Rattle.syntax.specs.Kinds.{cell, sortAt, sortIn, isNodeSort, expressions, schemaExpressions, predicates, texts, lines, paragraphs, includes}
@@ -13,24 +13,14 @@ use Rattle.syntax.specs.Nodes.{kindAt, operandAt, nodesAmong, children}
 use Rattle.syntax.specs.Promise.{At, Lower}
 use Rattle.syntax.specs.Tree.{Expr, Exprs, none, more, Lines}
 use Rattle.syntax.specs.Decode.{exprAt, predAt, textAt, includeAt, lineAt, schemaAt, paragraphAt, exprsFrom, relationOf, membersOf}
-use Rattle.syntax.specs.TreeNumbers.{exprNumbers, exprsNumbers, predNumbers, textNumbers, linesNumbers, includeNumbers, schemaNumbers, paragraphNumbers}
-use Rattle.syntax.proofs.Operands.{cond-same, enough}
+use Rattle.syntax.specs.TreeNumbers.{exprNumbers, exprsNumbers, predNumbers, textNumbers, linesNumbers, includeNumbers, schemaNumbers}
+use Rattle.syntax.specs.TreeNumbers.{paragraphNumbers}
+use Rattle.syntax.proofs.Operands.{cond-same}
 use Rattle.syntax.proofs.Occurrences.{flat}
+use Rattle.syntax.proofs.TreeCounts.{at-least}
 use Rattle.syntax.proofs.TreeShape.{all-at}
-use Rattle.syntax.proofs.TreeExpr.{
-  expr-range,
-  expr-reference,
-  expr-number,
-  expr-integers,
-  expr-members,
-  expr-power,
-  expr-application,
-  expr-selection,
-  expr-theta,
-  expr-schemaSet,
-  expr-arithmetic,
-  expr-comprehension,
-}
+use Rattle.syntax.proofs.TreeExpr.{expr-range, expr-reference, expr-number, expr-integers, expr-members, expr-power, expr-application}
+use Rattle.syntax.proofs.TreeExpr.{expr-selection, expr-theta, expr-schemaSet, expr-arithmetic, expr-comprehension}
 use Rattle.syntax.proofs.TreePred.{pred-range, pred-truth, pred-relation, pred-not, pred-connected, pred-quantified}
 use Rattle.syntax.proofs.TreeChildren.{numbersAt}
 use Rattle.syntax.proofs.TreeAmong.{gathered, by-children, exactly, leaf-numbers, one-numbers, two-numbers, first-plain, same-sort}
@@ -90,7 +80,7 @@ module _ (doc : List ℕ) (k : ℕ) (ih : (j : ℕ) → j < k → Numbered doc j
         let l = expr-reference doc k h e in
         let w = part doc k in
         let n = length w - 2 in
-        let m : 1 < length w = rw e at (enough doc expressions k h) in
+        let m : 1 < length w = rw e at (at-least doc expressions k h) in
         rw (l .tree) (by-children doc expressions k h (nodesAmong w 2 n)
         (first-plain doc k m (rw e (ap isNodeSort (cond-same (eqb 1 (length w - 1)) 1)))) (exprsNumbers (exprsFrom doc k 2 n))
         (listed-exprs 2 n (λ j c d. rw (e, ne-eqb j 1 (omega arith)) (ap isNodeSort (same-sort (eqb j (length w - 1)) false (eqb j 2) expressions)))

@@ -1,11 +1,10 @@
 -- The law of each kind of paragraph, 2 to 6, and of the Document, 1: operands, and the tree by theirs.
 use mathlib.Core.Path.{_≡_, refl, ap, _∙_}
-use mathlib.Core.Bool.{true}
 use mathlib.Core.List.{List, [], _∷_}
 use Prim.Native.Nat.{ℕ, _+_, _-_, _≤_, _<_}
 use native.Mathlib.Omega.{arith}
 use lib.Dec.{leb, eqb}
-use lib.ListN.{length, getD, take, drop}
+use lib.ListN.{length, take, drop}
 use borrow.Author.Tests.{leb-true, eq-eqb}
 use Rattle.words.proofs.Loops.{and-left, and-right}
 use Rattle.layout.specs.Layout.{count, part}
@@ -14,12 +13,12 @@ use Rattle.syntax.specs.Nodes.{kindAt, operandAt}
 use Rattle.syntax.specs.Reading.{readOf}
 use Rattle.syntax.specs.declared.Reading.the-variants.{Readable}
 use Rattle.syntax.specs.Promise.{At, Lower}
-use Rattle.syntax.specs.Tree.{Paragraph, given, axiomatic, schema, abbreviation, constraint, Document, document}
-use Rattle.syntax.specs.Decode.{Node, gather, makers, makeAt, nodeAt, exprAt, predAt, textAt, schemaAt, paragraphAt, paragraphsFrom, treeOf}
+use Rattle.syntax.specs.Tree.{Paragraph, given, axiomatic, schema, abbreviation, constraint, document}
+use Rattle.syntax.specs.Decode.{Node, makers, makeAt, nodeAt, exprAt, predAt, textAt, schemaAt, paragraphAt, paragraphsFrom, treeOf}
 use Rattle.syntax.proofs.Accepted.{readable, operand, last-document}
-use Rattle.syntax.proofs.Operands.{cond-same, lower-operand, enough}
+use Rattle.syntax.proofs.Operands.{cond-same, lower-operand}
 use Rattle.syntax.proofs.TreeShape.{One, Each, sub, sub-lower, seen, one-law, lower-gather}
-use Rattle.syntax.proofs.TreeCounts.{defined-words, not-many}
+use Rattle.syntax.proofs.TreeCounts.{defined-words, at-most}
 
 pub paragraph-range : (doc : List ℕ) (k : ℕ) → At doc paragraphs k → (2 ≤ kindAt doc k) × (kindAt doc k ≤ 6)
 unfolding ofSort
@@ -61,7 +60,7 @@ module _ (doc : List ℕ) (k : ℕ) (h : At doc paragraphs k) where
       → (p a : ℕ) → p ≡ operandAt doc k 2 → a ≡ operandAt doc k (p + 3) → Defined doc k t p a (nodeAt doc k .paragraph ≡ g p (nodeAt doc a))
   defined-law g q t e u v c r f m p a x y =
       let l = defined-words doc paragraphs k h q e u v in
-      let n : length (part doc k) ≤ 8 = rw (e, c) at (not-many doc paragraphs k h) in
+      let n : length (part doc k) ≤ 8 = rw (e, c) at (at-most doc paragraphs k h) in
       let j = operandAt doc k 2 + 3 in
       let o = lower-operand doc paragraphs k h j t (omega arith) (omega arith) (body-sort doc k q t e l f) r in
       rw (y, x) (record {

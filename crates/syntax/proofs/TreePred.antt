@@ -1,8 +1,7 @@
 -- The law of each kind of predicate, 20 to 29: its operands, and its tree by theirs.
 use mathlib.Core.Path.{_≡_, refl, _∙_}
-use mathlib.Core.Bool.{true}
 use mathlib.Core.List.{List}
-use Prim.Native.Nat.{ℕ, _+_, _-_, _≤_, _<_}
+use Prim.Native.Nat.{ℕ, _≤_}
 use native.Mathlib.Omega.{arith}
 use lib.Dec.{leb}
 use lib.ListN.{getD}
@@ -13,7 +12,7 @@ use Rattle.layout.specs.Layout.{part}
 use Rattle.syntax.specs.Kinds.{cell, ofSort, expressions, predicates, texts}
 use Rattle.syntax.specs.Nodes.{kindAt, operandAt}
 use Rattle.syntax.specs.Promise.{At}
-use Rattle.syntax.specs.Tree.{Pred, truth, not, connected, quantified}
+use Rattle.syntax.specs.Tree.{truth, not, connected, quantified}
 use Rattle.syntax.specs.Decode.{Node, unlisted, makers, exprAt, predAt, textAt, relationOf, connectiveOf, quantifierOf}
 use Rattle.syntax.proofs.TreeShape.{all-at, One, Two, twoNodes, seen, one-law, two-law}
 

@@ -7,18 +7,17 @@ use Prim.Native.Nat.{ℕ, zero, suc, _+_, _-_, _≤_, _<_}
 use native.Mathlib.Omega.{arith}
 use native.Mathlib.Numerals.{add-one}
 use native.Mathlib.Nat.{eq-or-lt-of-le}
-use lib.ListN.{length, getD}
+use lib.ListN.{getD}
 use borrow.Author.Tests.{ltb-true, lt-ltb}
 use Rattle.words.proofs.Loops.{and-left, and-right, turn, none-left}
 use Rattle.layout.specs.Layout.{part}
-use Rattle.syntax.specs.Kinds.{isNodeSort, expressions, counts}
+use Rattle.syntax.specs.Kinds.{isNodeSort, counts}
 use Rattle.syntax.specs.Nodes.{kindAt, operandAt}
 use Rattle.syntax.specs.Promise.{At, Lower}
 use Rattle.syntax.specs.LowerNodes.{lower}
-use Rattle.syntax.specs.Tree.{Exprs, none, more}
-use Rattle.syntax.specs.Decode.{Node, noNode, gather, makeAt, nodeAt, exprAt, exprsFrom}
+use Rattle.syntax.specs.Decode.{Node, noNode, gather, makeAt, nodeAt}
 use Rattle.syntax.proofs.LowerNodes.{meaning-eq}
-use Rattle.syntax.proofs.Operands.{pairKind, oneKind, manyKind, allKind, first-of, pair-of, each-of, all-of}
+use Rattle.syntax.proofs.Operands.{pairKind, oneKind, first-of, pair-of}
 
 -- a fact at each of the m numbers from i on
 abbrev pub AllFrom : (ℕ → Type 0) → ℕ → ℕ → Type 0

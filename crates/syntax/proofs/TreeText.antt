@@ -2,21 +2,21 @@
 use mathlib.Core.Path.{_≡_, refl, ap, _∙_}
 use mathlib.Core.Bool.{Bool, true, false, _||_}
 use mathlib.Core.Logic.{_⊎_, inl, inr}
-use mathlib.Core.List.{List, []}
+use mathlib.Core.List.{List}
 use Prim.Native.Nat.{ℕ, _+_, _-_, _/_, _≤_, _<_}
 use native.Mathlib.Omega.{arith}
 use lib.Dec.{leb, eqb}
-use lib.ListN.{length, getD, drop}
+use lib.ListN.{length, drop}
 use borrow.Author.Tests.{leb-true, eqb-true, le-leb, lt-leb}
 use Rattle.words.proofs.Loops.{and-left, and-right}
 use Rattle.layout.specs.Layout.{part}
-use Rattle.syntax.specs.Kinds.{cell, sortAt, sortIn, ofSort, expressions, schemaExpressions, predicates, texts, lines, includes, counts}
+use Rattle.syntax.specs.Kinds.{cell, sortAt, sortIn, ofSort, expressions, schemaExpressions, predicates, texts, lines, includes}
 use Rattle.syntax.specs.Nodes.{kindAt, operandAt}
 use Rattle.syntax.specs.Promise.{At, Lower}
-use Rattle.syntax.specs.Tree.{Exprs, none, more, Text, text, Lines, end, declaration, inclusion, Include, include, Schema, plain, from, both}
-use Rattle.syntax.specs.Decode.{Node, gather, pairsFrom, makers, nodeAt, exprAt, predAt, textAt, includeAt, lineAt, schemaAt, exprsFrom, linesFrom}
-use Rattle.syntax.proofs.Operands.{first-of, each-of, lower-operand, enough}
-use Rattle.syntax.proofs.TreeShape.{One, Two, Each, sub, sub-lower, seen, as-made, one-law, two-law, lower-gather}
+use Rattle.syntax.specs.Tree.{none, more, text, Lines, end, declaration, inclusion, include, plain, from, both}
+use Rattle.syntax.specs.Decode.{Node, gather, pairsFrom, makers, exprAt, predAt, textAt, includeAt, lineAt, schemaAt, exprsFrom, linesFrom}
+use Rattle.syntax.proofs.Operands.{first-of, each-of, lower-operand}
+use Rattle.syntax.proofs.TreeShape.{One, Two, sub, sub-lower, seen, as-made, one-law, two-law, lower-gather}
 use Rattle.syntax.proofs.TreeCounts.{Actuals, include-words}
 
 pub text-kind : (doc : List ℕ) (k : ℕ) → At doc texts k → kindAt doc k ≡ 10

@@ -5,66 +5,11 @@ use lib.ListN.{length, getD, take, drop}
 use Rattle.layout.specs.Layout.{count, part}
 use Rattle.syntax.specs.Nodes.{kindAt}
 use Rattle.syntax.specs.LowerNodes.{meaning}
-use Rattle.syntax.specs.Tree.{
-  Operator,
-  plus,
-  minus,
-  times,
-  quotient,
-  remainder,
-  Connective,
-  and,
-  or,
-  implies,
-  Quantifier,
-  forall,
-  exists,
-  Expr,
-  reference,
-  number,
-  integers,
-  set,
-  tuple,
-  product,
-  power,
-  application,
-  selection,
-  theta,
-  schemaSet,
-  arithmetic,
-  comprehension,
-  Exprs,
-  none,
-  more,
-  Pred,
-  truth,
-  equal,
-  member,
-  atMost,
-  not,
-  connected,
-  quantified,
-  Text,
-  text,
-  Lines,
-  end,
-  declaration,
-  inclusion,
-  Include,
-  include,
-  Schema,
-  plain,
-  from,
-  both,
-  Paragraph,
-  given,
-  axiomatic,
-  schema,
-  abbreviation,
-  constraint,
-  Document,
-  document,
-}
+use Rattle.syntax.specs.Tree.{Operator, plus, minus, times, quotient, remainder, Connective, and, or, implies, Quantifier, forall, exists, Expr}
+use Rattle.syntax.specs.Tree.{reference, number, integers, set, tuple, product, power, application, selection, theta, schemaSet, arithmetic}
+use Rattle.syntax.specs.Tree.{comprehension, Exprs, none, more, Pred, truth, equal, member, atMost, not, connected, quantified, Text, text}
+use Rattle.syntax.specs.Tree.{Lines, end, declaration, inclusion, Include, include, Schema, plain, from, both, Paragraph, given, axiomatic}
+use Rattle.syntax.specs.Tree.{schema, abbreviation, constraint, Document, document}
 
 -- A node as each sort that it can be operand as. A node of another sort has there a part that stands for none.
 pub record Node : Type 0 where
