@@ -16,3 +16,4 @@ pub mod TreeChildren
 pub mod TreeAmong
 pub mod TreeNumbered
 pub mod TreeNodes
+pub mod TreeWords

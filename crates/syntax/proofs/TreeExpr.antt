@@ -12,12 +12,12 @@ use Rattle.layout.specs.Layout.{part}
 use Rattle.syntax.specs.Kinds.{cell, ofSort, expressions, includes, texts}
 use Rattle.syntax.specs.Nodes.{kindAt, operandAt}
 use Rattle.syntax.specs.Promise.{At}
-use Rattle.syntax.specs.Tree.{reference, number, integers, power, application, selection, theta, schemaSet, arithmetic, comprehension, none}
-use Rattle.syntax.specs.Tree.{more}
+use Rattle.syntax.specs.Tree.{exprNode, reference, number, integers, power, application, selection, theta, schemaSet, arithmetic, comprehension}
+use Rattle.syntax.specs.Tree.{none, more}
 use Rattle.syntax.specs.Decode.{Node, unlisted, gather, makers, exprAt, includeAt, textAt, exprsFrom, membersOf, operatorOf}
 use Rattle.syntax.proofs.Operands.{allKind, each-of, all-of}
 use Rattle.syntax.proofs.TreeCounts.{at-least}
-use Rattle.syntax.proofs.TreeShape.{all-at, One, Two, Each, twoNodes, sub, seen, one-law, two-law, lower-gather}
+use Rattle.syntax.proofs.TreeShape.{AllFrom, all-at, One, Two, Each, twoNodes, sub, seen, as-made, one-law, two-law, lower-gather}
 
 pub expr-range : (doc : List ℕ) (k : ℕ) → At doc expressions k → (30 ≤ kindAt doc k) × (kindAt doc k ≤ 46)
 unfolding ofSort
@@ -115,3 +115,16 @@ module _ (doc : List ℕ) (k : ℕ) (h : At doc expressions k) where
   unfolding exprAt textAt cell makers
   expr-comprehension q =
       two-law doc expressions k h (λ n. n .expr) (λ x y. comprehension k (x .text) (y .expr)) (λ below. rw q refl) texts expressions (rw q refl)
+
+  -- the number of the node
+  pub expr-node : exprNode (exprAt doc k) ≡ k
+  unfolding exprNode exprAt makers
+  expr-node =
+      let r = expr-range doc k h in
+      as-made doc k (λ n. exprNode (n .expr) ≡ k) (all-at Here 30 17 ones (kindAt doc k) (r .0) (omega arith))
+    where
+      Here : ℕ → Type 0
+      Here q = exprNode (getD makers q unlisted (sub doc k) k (part doc k) .expr) ≡ k
+
+      ones : AllFrom Here 30 17
+      ones = (refl, (refl, (refl, (refl, (refl, (refl, (refl, (refl, (refl, (refl, (refl, (refl, (refl, (refl, (refl, (refl, (refl, tt)))))))))))))))))
