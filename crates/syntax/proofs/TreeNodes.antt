@@ -24,7 +24,7 @@ use Rattle.syntax.proofs.Accepted.{readable, last-document}
 use Rattle.syntax.proofs.Operands.{cond-same}
 use Rattle.syntax.proofs.Occurrences.{flat}
 use Rattle.syntax.proofs.TreeCounts.{at-least}
-use Rattle.syntax.proofs.TreeShape.{all-at}
+use Rattle.syntax.proofs.TreeShape.{all-at, _▹_}
 use Rattle.syntax.proofs.TreeText.{text-kind, include-kind, line-range, text-law, line-declaration, actual-sort, include-law, line-inclusion}
 use Rattle.syntax.proofs.TreeText.{schema-kinds, schema-plain, schema-from, schema-both}
 use Rattle.syntax.proofs.TreeParagraph.{paragraph-range, paragraph-given, paragraph-axiomatic, paragraph-schema, paragraph-abbreviation}
@@ -72,27 +72,30 @@ module _ (doc : List ℕ) (k : ℕ) (ih : (j : ℕ) → j < k → Numbered doc j
       rw (l .tree) (by-children doc s k h (nodesAmong w 4 a) (rw m (middle-children w a (length w - (a + 4)) (include-start doc k e) (include-after doc k e))) (exprsNumbers (exprsFrom doc k 4 a))
       (listed-exprs doc k ih 4 a (λ j p q. rw (actual-sort doc k j e p (omega arith)) refl) (λ j p q. l .each j p (omega arith) _ refl)))
 
-  line-numbered : At doc lines k → (ls : Lines) → linesNumbers (lineAt doc k ls) ≡ numbersAt doc k ++ linesNumbers ls
+  -- 11 and 12 as lines
+  declaration-numbered : (h : At doc lines k) → kindAt doc k ≡ 11 → (ls : Lines) → linesNumbers (lineAt doc k ls) ≡ numbersAt doc k ++ linesNumbers ls
   unfolding exprNumbers cell sortIn flat
+  declaration-numbered h e ls =
+      let l = line-declaration doc k h e _ refl in
+      let w = part doc k in
+      let v = operandAt doc k 1 in
+      let m : 2 < length w = rw e at (at-least doc lines k h) in
+      let c =
+      first-child doc k (omega arith) (rw e (ap isNodeSort (cond-same (eqb 1 (length w - 1)) expressions)))
+      ∙ ap (_∷_ v) (among-none w 2 (length w - 2)
+      (λ j p q. rw (e, ne-eqb j 1 (omega arith)) (ap isNodeSort (same-sort (eqb j (length w - 1)) false (eqb j 2) identifiers))))
+      in
+      rw (l .tree ls) (ap (λ (x : List ℕ). x ++ linesNumbers ls)
+      (by-children doc lines k h (v ∷ []) c (exprNumbers (exprAt doc v)) (below-expr doc k ih (l .first) ∙ sym (append-nil (numbersAt doc v)))))
+
+  line-numbered : At doc lines k → (ls : Lines) → linesNumbers (lineAt doc k ls) ≡ numbersAt doc k ++ linesNumbers ls
+  unfolding exprNumbers
   line-numbered h ls =
       let r = line-range doc k h in
-      all-at (λ q. kindAt doc k ≡ q → linesNumbers (lineAt doc k ls) ≡ numbersAt doc k ++ linesNumbers ls) 11 2 (
-        (λ e.
-            let l = line-declaration doc k h e _ refl in
-            let w = part doc k in
-            let v = operandAt doc k 1 in
-            let m : 2 < length w = rw e at (at-least doc lines k h) in
-            rw (l .tree ls) (ap (λ (x : List ℕ). x ++ linesNumbers ls)
-            (by-children doc lines k h (v ∷ [])
-            (first-child doc k (omega arith) (rw e (ap isNodeSort (cond-same (eqb 1 (length w - 1)) expressions)))
-            ∙ ap (_∷_ v) (among-none w 2 (length w - 2)
-            (λ j c d. rw (e, ne-eqb j 1 (omega arith)) (ap isNodeSort (same-sort (eqb j (length w - 1)) false (eqb j 2) identifiers)))))
-            (exprNumbers (exprAt doc v)) (below-expr doc k ih (l .first) ∙ sym (append-nil (numbersAt doc v)))))),
-        (
-          (λ e. rw (line-inclusion doc k e ls) (ap (λ (x : List ℕ). x ++ linesNumbers ls) (include-numbered lines h e))),
-          tt,
-        ),
-      )
+      all-at (λ q. kindAt doc k ≡ q → linesNumbers (lineAt doc k ls) ≡ numbersAt doc k ++ linesNumbers ls) 11 2
+      ((λ e. declaration-numbered h e ls)
+      ▹ (λ e. rw (line-inclusion doc k e ls) (ap (λ (x : List ℕ). x ++ linesNumbers ls) (include-numbered lines h e)))
+      ▹ tt)
       (kindAt doc k) (r .0) (omega arith) refl
 
   schema-numbered : At doc schemaExpressions k → schemaNumbers (schemaAt doc k) ≡ numbersAt doc k
@@ -104,7 +107,7 @@ module _ (doc : List ℕ) (k : ℕ) (ih : (j : ℕ) → j < k → Numbered doc j
       (λ e. rw (schema-from doc k e) (include-numbered schemaExpressions h e))
       (λ e.
       let l = schema-both doc k h e _ _ refl refl in
-      rw (l .tree) (two-numbers doc schemaExpressions k h 15 e refl refl refl refl _ _
+      rw (l .tree) (two-numbers doc schemaExpressions k h 15 e refl _ _
       (ih _ (l .left .below) .schema (l .left .at)) (ih _ (l .right .below) .schema (l .right .at)))))
       (schema-kinds doc k h)
 
@@ -121,39 +124,30 @@ module _ (doc : List ℕ) (k : ℕ) (ih : (j : ℕ) → j < k → Numbered doc j
       (last-child doc k i (omega arith) (omega arith) (λ j c d. rw (e, n) (f i (operandAt doc k 3) j (omega arith))) (rw (e, n) (g i (operandAt doc k 3)))) x
       (y ∙ sym (append-nil (numbersAt doc (operandAt doc k i))))
 
-  paragraph-numbered : At doc paragraphs k → paragraphNumbers (paragraphAt doc k) ≡ numbersAt doc k
+  given-numbered : At doc paragraphs k → kindAt doc k ≡ 2 → paragraphNumbers (paragraphAt doc k) ≡ numbersAt doc k
   unfolding paragraphNumbers cell sortIn children flat
+  given-numbered h e =
+      let w = part doc k in
+      let c = among-none w 1 (length w - 1) (λ j p q. rw e (ap isNodeSort (same-sort (eqb j (length w - 1)) (eqb j 1) (eqb j 2) identifiers))) in
+      rw (paragraph-given doc k h e) (by-children doc paragraphs k h [] c [] refl)
+
+  paragraph-numbered : At doc paragraphs k → paragraphNumbers (paragraphAt doc k) ≡ numbersAt doc k
+  unfolding paragraphNumbers cell sortIn
   paragraph-numbered h =
       let r = paragraph-range doc k h in
-      all-at (λ q. kindAt doc k ≡ q → paragraphNumbers (paragraphAt doc k) ≡ numbersAt doc k) 2 5 (
-        (λ e.
-            let w = part doc k in
-            rw (paragraph-given doc k h e) (by-children doc paragraphs k h []
-            (among-none w 1 (length w - 1) (λ j c d. rw e (ap isNodeSort (same-sort (eqb j (length w - 1)) (eqb j 1) (eqb j 2) identifiers)))) [] refl)),
-        (
-          (λ e.
-              let l = paragraph-axiomatic doc k h e _ refl in
-              rw (l .tree) (one-numbers doc paragraphs k h 3 e refl refl refl _ (below-text doc k ih (l .first)))),
-          (
-            (λ e.
-                let l = paragraph-schema doc k h e _ _ refl refl in
-                rw (l .tree) (defined-numbers 4 e h (l .words) (λ i a j n. rw (ne-eqb j i n) (no-node (eqb j 1) (eqb j 2) schemaNames counts identifiers refl refl refl)) (λ i a. rw (eq-eqb i i refl)) _
-                (ih _ (l .body .below) .schema (l .body .at)))),
-            (
-              (λ e.
-                  let l = paragraph-abbreviation doc k h e _ _ refl refl in
-                  rw (l .tree) (defined-numbers 5 e h (l .words) (λ i a j n. rw (ne-eqb j i n) (no-node (eqb j 1) (eqb j 2) identifiers counts identifiers refl refl refl)) (λ i a. rw (eq-eqb i i refl)) _
-                  (below-expr doc k ih (l .body)))),
-              (
-                (λ e.
-                    let l = paragraph-constraint doc k h e _ refl in
-                    rw (l .tree) (one-numbers doc paragraphs k h 6 e refl refl refl _ (below-pred doc k ih (l .first)))),
-                tt,
-              ),
-            ),
-          ),
-        ),
-      )
+      all-at (λ q. kindAt doc k ≡ q → paragraphNumbers (paragraphAt doc k) ≡ numbersAt doc k) 2 5
+      (given-numbered h
+      ▹ (λ e. let l = paragraph-axiomatic doc k h e _ refl in rw (l .tree) (one-numbers doc paragraphs k h 3 e refl _ (below-text doc k ih (l .first))))
+      ▹ (λ e.
+      let l = paragraph-schema doc k h e _ _ refl refl in
+      rw (l .tree) (defined-numbers 4 e h (l .words) (λ i a j n. rw (ne-eqb j i n) (no-node (eqb j 1) (eqb j 2) schemaNames counts identifiers refl refl refl))
+      (λ i a. rw (eq-eqb i i refl)) _ (ih _ (l .body .below) .schema (l .body .at))))
+      ▹ (λ e.
+      let l = paragraph-abbreviation doc k h e _ _ refl refl in
+      rw (l .tree) (defined-numbers 5 e h (l .words) (λ i a j n. rw (ne-eqb j i n) (no-node (eqb j 1) (eqb j 2) identifiers counts identifiers refl refl refl))
+      (λ i a. rw (eq-eqb i i refl)) _ (below-expr doc k ih (l .body))))
+      ▹ (λ e. let l = paragraph-constraint doc k h e _ refl in rw (l .tree) (one-numbers doc paragraphs k h 6 e refl _ (below-pred doc k ih (l .first))))
+      ▹ tt)
       (kindAt doc k) (r .0) (omega arith) refl
 
   numbered : Numbered doc k

@@ -28,6 +28,11 @@ pub all-at : (P : ℕ → Type 0) (i m : ℕ) → AllFrom P i m → (j : ℕ) �
 all-at P i zero h j p q = absurd (omega arith)
 all-at P i (suc m) h j p q = ⊎-elim (λ e. subst P e (h .0)) (λ l. all-at P (suc i) m (h .1) j l (omega arith)) (eq-or-lt-of-le p)
 
+-- such facts in a row: first ▹ second ▹ .. ▹ tt
+infixr 15 _▹_
+abbrev pub _▹_ : {A B : Type 0} → A → B → A × B
+a ▹ b = (a, b)
+
 -- What a law gives: one operand a, two operands a and b, or each operand from i to e - 1; and the tree.
 pub record One (doc : List ℕ) (k s a : ℕ) (Tree : Type 0) : Type 0 where
   pub first : Lower doc k s a
