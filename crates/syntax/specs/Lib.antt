@@ -6,3 +6,7 @@ pub mod Repeats
 pub mod Limits
 pub mod Reading
 pub mod Promise
+pub mod LowerNodes
+pub mod Tree
+pub mod Decode
+pub mod TreeNumbers
