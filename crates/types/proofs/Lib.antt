@@ -1,0 +1,14 @@
+pub mod Terms
+pub mod Solutions
+pub mod States
+pub mod Formed
+pub mod Rational
+pub mod Closed
+pub mod Run
+pub mod Follows
+pub mod Finite
+pub mod Classify
+pub mod Piece
+pub mod Transfer
+pub mod Steps
+pub mod Find

@@ -1,0 +1,12 @@
+pub mod Former
+pub mod Types
+pub mod Equations
+pub mod Substitution
+pub mod Unify
+pub mod Component
+pub mod Formed
+pub mod Follows
+pub mod Classes
+pub mod Finite
+pub mod Classify
+pub mod Piece
