@@ -7,11 +7,11 @@ use mathlib.Core.List.{List, [], _∷_, map}
 use mathlib.Core.Logic.{_⊎_, inl, inr, ⊎-elim}
 use mathlib.Core.Path.{_∙_, _≡_, ap, ap₂, refl, subst, sym}
 use native.Mathlib.Omega.{arith}
-use Rattle.types.proofs.Finite.{all-at, all-of, depth, finite-ok, solution, solution-sat}
+use Rattle.types.proofs.Finite.{all-at, all-of, depth, finite-bounded, solution, solution-sat}
 use Rattle.types.proofs.Follows.{apart-clash, enough, links-in, merged-closed, merged-no-clash, rep-in}
 use Rattle.types.proofs.Rational.{Says, outer-says, rep-sat}
-use Rattle.types.proofs.Solutions.{gcons-0, gcons-1, node-0, node-1}
-use Rattle.types.proofs.Terms.{and-i, and-l, and-r, bool-no, head-refl, same-true}
+use Rattle.types.proofs.Solutions.{tcons-0, tcons-1, node-0, node-1}
+use Rattle.types.proofs.Terms.{and-i, and-l, and-r, bool-no, former-refl, same-true}
 use Rattle.types.specs.Classes.{rep}
 use Rattle.types.specs.Classify.{Out, Right, Solvable, Verdict, apart, clashing, classify, endless, join, judge, mergeLevels, merged, sameTerm, sameTerms, solvable, spent, subs, subss, toList, univ, viewTerm}
 use Rattle.types.specs.Equations.{AllP, In, Pairs, Solves, end, pair}
@@ -22,30 +22,32 @@ use Rattle.types.specs.Types.{Term, Terms, Ty, con, cons, nil, node, siz
 
 mutual
   unfolding sameTerm
-  pub sameT-eq : (t u : Term) → sameTerm t u ≡ true → t ≡ u
-  sameT-eq (unknown x) (unknown y) e = ap unknown (eqb-true x y e)
-  sameT-eq (unknown x) (con k us) e = absurd (bool-no false e refl)
-  sameT-eq (con h ts) (unknown y) e = absurd (bool-no false e refl)
-  sameT-eq (con h ts) (con k us) e = ap₂ con (same-true h k (and-l (sameFormer h k) (sameTerms ts us) e)) (sameTs-eq ts us (and-r (sameFormer h k) (sameTerms ts us) e))
 
-  pub sameTs-eq : (ts us : Terms) → sameTerms ts us ≡ true → ts ≡ us
-  sameTs-eq nil nil e = refl
-  sameTs-eq nil (cons u us) e = absurd (bool-no false e refl)
-  sameTs-eq (cons t ts) nil e = absurd (bool-no false e refl)
-  sameTs-eq (cons t ts) (cons u us) e = ap₂ cons (sameT-eq t u (and-l (sameTerm t u) (sameTerms ts us) e)) (sameTs-eq ts us (and-r (sameTerm t u) (sameTerms ts us) e))
+  pub sameTerm-eq : (t u : Term) → sameTerm t u ≡ true → t ≡ u
+  sameTerm-eq (unknown x) (unknown y) e = ap unknown (eqb-true x y e)
+  sameTerm-eq (unknown x) (con k us) e = absurd (bool-no false e refl)
+  sameTerm-eq (con h ts) (unknown y) e = absurd (bool-no false e refl)
+  sameTerm-eq (con h ts) (con k us) e = ap₂ con (same-true h k (and-l (sameFormer h k) (sameTerms ts us) e)) (sameTerms-eq ts us (and-r (sameFormer h k) (sameTerms ts us) e))
+
+  pub sameTerms-eq : (ts us : Terms) → sameTerms ts us ≡ true → ts ≡ us
+  sameTerms-eq nil nil e = refl
+  sameTerms-eq nil (cons u us) e = absurd (bool-no false e refl)
+  sameTerms-eq (cons t ts) nil e = absurd (bool-no false e refl)
+  sameTerms-eq (cons t ts) (cons u us) e = ap₂ cons (sameTerm-eq t u (and-l (sameTerm t u) (sameTerms ts us) e)) (sameTerms-eq ts us (and-r (sameTerm t u) (sameTerms ts us) e))
 
 mutual
   unfolding sameTerm
-  sameT-refl : (t : Term) → sameTerm t t ≡ true
-  sameT-refl (unknown x) = eq-eqb x x refl
-  sameT-refl (con h ts) = and-i (sameFormer h h) (sameTerms ts ts) (head-refl h) (sameTs-refl ts)
 
-  sameTs-refl : (ts : Terms) → sameTerms ts ts ≡ true
-  sameTs-refl nil = refl
-  sameTs-refl (cons t ts) = and-i (sameTerm t t) (sameTerms ts ts) (sameT-refl t) (sameTs-refl ts)
+  sameTerm-refl : (t : Term) → sameTerm t t ≡ true
+  sameTerm-refl (unknown x) = eq-eqb x x refl
+  sameTerm-refl (con h ts) = and-i (sameFormer h h) (sameTerms ts ts) (former-refl h) (sameTerms-refl ts)
 
-pub sameT-ne : (t u : Term) → sameTerm t u ≡ false → t ≡ u → ⊥
-sameT-ne t u e q = bool-no (sameTerm t u) (subst (λ z. sameTerm t z ≡ true) q (sameT-refl t)) e
+  sameTerms-refl : (ts : Terms) → sameTerms ts ts ≡ true
+  sameTerms-refl nil = refl
+  sameTerms-refl (cons t ts) = and-i (sameTerm t t) (sameTerms ts ts) (sameTerm-refl t) (sameTerms-refl ts)
+
+pub sameTerm-ne : (t u : Term) → sameTerm t u ≡ false → t ≡ u → ⊥
+sameTerm-ne t u e q = bool-no (sameTerm t u) (subst (λ z. sameTerm t z ≡ true) q (sameTerm-refl t)) e
 
 in-l : (t : Term) (xs ys : List Term) → In t xs → In t (join xs ys)
 unfolding join
@@ -96,6 +98,7 @@ kids-con k ts f n h cs (inr i) e c j = inr (f n h cs i e c j)
 
 mutual
   unfolding subs
+
   subs-kids : (t : Term) → Kids (subs t)
   subs-kids (unknown x) = kids-var x
   subs-kids (con k ts) = kids-con k ts (subss-kids ts)
@@ -116,14 +119,15 @@ all-map R S f (pair a b P) h = (f a b (h .0), all-map R S f P (h .1))
 univ-all : (P : Pairs Term) → AllP (λ a b. In a (univ P) × In b (univ P)) P
 unfolding univ
 univ-all end = tt
-univ-all (pair a b P) =
-    ((in-l a (subs a) _ (self-in a), in-r b (subs a) _ (in-l b (subs b) (univ P) (self-in b))),
-     all-map _ _ (λ c d q. (in-r c (subs a) _ (in-r c (subs b) (univ P) (q .0)), in-r d (subs a) _ (in-r d (subs b) (univ P) (q .1)))) P (univ-all P))
+univ-all (pair a b P) = (
+  (in-l a (subs a) _ (self-in a), in-r b (subs a) _ (in-l b (subs b) (univ P) (self-in b))),
+  all-map _ _ (λ c d q. (in-r c (subs a) _ (in-r c (subs b) (univ P) (q .0)), in-r d (subs a) _ (in-r d (subs b) (univ P) (q .1)))) P (univ-all P),
+)
 
-pub applys-gs : (σ : ℕ → Ty) (ts : Terms) → unders σ ts ≡ fromList (map (under σ) (toList ts))
+pub unders-list : (σ : ℕ → Ty) (ts : Terms) → unders σ ts ≡ fromList (map (under σ) (toList ts))
 unfolding under fromList toList
-applys-gs σ nil = refl
-applys-gs σ (cons t ts) = ap (tcons (under σ t)) (applys-gs σ ts)
+unders-list σ nil = refl
+unders-list σ (cons t ts) = ap (tcons (under σ t)) (unders-list σ ts)
 
 pub under-fits : (σ : ℕ → Ty) (n : Term) (h : Former) (cs : List Term) → viewTerm n ≡ shape h cs → under σ n ≡ node h (fromList (map (under σ) cs))
 unfolding under viewTerm
@@ -131,17 +135,17 @@ under-fits σ (unknown x) h cs e = let z : _≡_ {A = ℕ} 0 1 = cc in absurd (o
 under-fits σ (con k ts) h cs e =
     let p : k ≡ h = cc in
     let q : toList ts ≡ cs = cc in
-    ap (node k) (applys-gs σ ts) ∙ ap₂ (λ x l. node x (fromList (map (under σ) l))) p q
+    ap (node k) (unders-list σ ts) ∙ ap₂ (λ x l. node x (fromList (map (under σ) l))) p q
 
 abbrev pub build : Former → List Ty → Ty
 build h l = node h (fromList l)
 
-pub gs-inj : (a b : List Ty) → fromList a ≡ fromList b → a ≡ b
+pub fromList-inj : (a b : List Ty) → fromList a ≡ fromList b → a ≡ b
 unfolding fromList
-gs-inj [] [] e = refl
-gs-inj [] (y ∷ b) e = let z : _≡_ {A = ℕ} 0 1 = cc in absurd (omega arith)
-gs-inj (x ∷ a) [] e = let z : _≡_ {A = ℕ} 0 1 = cc in absurd (omega arith)
-gs-inj (x ∷ a) (y ∷ b) e = ap₂ _∷_ (gcons-0 _ _ _ _ e) (gs-inj a b (gcons-1 _ _ _ _ e))
+fromList-inj [] [] e = refl
+fromList-inj [] (y ∷ b) e = let z : _≡_ {A = ℕ} 0 1 = cc in absurd (omega arith)
+fromList-inj (x ∷ a) [] e = let z : _≡_ {A = ℕ} 0 1 = cc in absurd (omega arith)
+fromList-inj (x ∷ a) (y ∷ b) e = ap₂ _∷_ (tcons-0 _ _ _ _ e) (fromList-inj a b (tcons-1 _ _ _ _ e))
 
 module _ (P : Pairs Term) where
   abbrev us : List Term
@@ -151,18 +155,18 @@ module _ (P : Pairs Term) where
   run = mergeLevels sameTerm viewTerm (length us) end P
 
   says : (σ : ℕ → Ty) → (o : Out Term) → run ≡ o →
-      Says Term sameTerm sameT-eq sameT-ne viewTerm Ty build (λ h k a b q. node-0 _ _ _ _ q) (λ h k a b q. gs-inj a b (node-1 _ _ _ _ q)) (under σ) (under-fits σ) o (Unit {0} × Solves (under σ) P)
+      Says Term sameTerm sameTerm-eq sameTerm-ne viewTerm Ty build (λ h k a b q. node-0 _ _ _ _ q) (λ h k a b q. fromList-inj a b (node-1 _ _ _ _ q)) (under σ) (under-fits σ) o (Unit {0} × Solves (under σ) P)
   says σ o e =
-      subst (λ z. Says Term sameTerm sameT-eq sameT-ne viewTerm Ty build (λ h k a b q. node-0 _ _ _ _ q) (λ h k a b q. gs-inj a b (node-1 _ _ _ _ q)) (under σ) (under-fits σ) z (Unit {0} × Solves (under σ) P)) e
-      (outer-says Term sameTerm sameT-eq sameT-ne viewTerm Ty build (λ h k a b q. node-0 _ _ _ _ q) (λ h k a b q. gs-inj a b (node-1 _ _ _ _ q)) (under σ) (under-fits σ) (length us) end P)
+      subst (λ z. Says Term sameTerm sameTerm-eq sameTerm-ne viewTerm Ty build (λ h k a b q. node-0 _ _ _ _ q) (λ h k a b q. fromList-inj a b (node-1 _ _ _ _ q)) (under σ) (under-fits σ) z (Unit {0} × Solves (under σ) P)) e
+      (outer-says Term sameTerm sameTerm-eq sameTerm-ne viewTerm Ty build (λ h k a b q. node-0 _ _ _ _ q) (λ h k a b q. fromList-inj a b (node-1 _ _ _ _ q)) (under σ) (under-fits σ) (length us) end P)
 
   rep-us : (L : Pairs Term) → run ≡ merged L → (n : Term) → In n us → In (rep sameTerm L n) us
-  rep-us L e n i = rep-in Term sameTerm sameT-eq sameT-ne viewTerm P us (univ-kids P) L (links-in Term sameTerm sameT-eq sameT-ne viewTerm P us (univ-kids P) L (univ-all P) e) n i
+  rep-us L e n i = rep-in Term sameTerm sameTerm-eq sameTerm-ne viewTerm P us (univ-kids P) L (links-in Term sameTerm sameTerm-eq sameTerm-ne viewTerm P us (univ-kids P) L (univ-all P) e) n i
 
   zero-τ : Term → Ty
   zero-τ t = node int tnil
 
-  -- What the typeAt gives is what its values at the unknowns give.
+  -- What the tree gives is what its values at the unknowns give.
   module _ (L : Pairs Term) (e : run ≡ merged L) (d : ℕ) (a : (n : Term) → In n us → bounded (rep sameTerm L) viewTerm d n ≡ true) where
     abbrev σ : Term → Ty
     σ n = typeAt (rep sameTerm L) viewTerm zero-τ d n
@@ -172,11 +176,12 @@ module _ (P : Pairs Term) where
 
     mutual
       unfolding under viewTerm toList fromList
+
       σ-at : (t : Term) → In t us → under σ₀ t ≡ σ t
       σ-at (unknown x) i = refl
       σ-at (con h ts) i =
           ap (node h) (σ-ats ts (λ c j. univ-kids P (con h ts) h (toList ts) i refl c j))
-          ∙ sym (solution Term sameTerm sameT-eq sameT-ne viewTerm P L (merged-closed Term sameTerm sameT-eq sameT-ne viewTerm P (length us) L e) zero-τ d (con h ts) h (toList ts) (a (con h ts) i) refl)
+          ∙ sym (solution Term sameTerm sameTerm-eq sameTerm-ne viewTerm P L (merged-closed Term sameTerm sameTerm-eq sameTerm-ne viewTerm P (length us) L e) zero-τ d (con h ts) h (toList ts) (a (con h ts) i) refl)
 
       σ-ats : (ts : Terms) → ((c : Term) → In c (toList ts) → In c us) → unders σ₀ ts ≡ fromList (map σ (toList ts))
       σ-ats nil f = refl
@@ -187,24 +192,24 @@ module _ (P : Pairs Term) where
     sat-at (pair x y Q) h q = (σ-at x (h .0 .0) ∙ q .0 ∙ sym (σ-at y (h .0 .1)), sat-at Q (h .1) (q .1))
 
     solved : Solvable P
-    solved = (σ₀, sat-at P (univ-all P) (solution-sat Term sameTerm sameT-eq sameT-ne viewTerm P L (merged-closed Term sameTerm sameT-eq sameT-ne viewTerm P (length us) L e) zero-τ d))
+    solved = (σ₀, sat-at P (univ-all P) (solution-sat Term sameTerm sameTerm-eq sameTerm-ne viewTerm P L (merged-closed Term sameTerm sameTerm-eq sameTerm-ne viewTerm P (length us) L e) zero-τ d))
 
   finite : (L : Pairs Term) → run ≡ merged L → Solvable P → allb (bounded (rep sameTerm L) viewTerm (length us)) us ≡ true
   finite L e s =
       let sat = says (s .0) (merged L) e .1 (tt, s .1) in
       all-of _ us (λ n i.
-        depth (rep sameTerm L) viewTerm us (rep-us L e) (univ-kids P) (size (under (s .0) n)) n i
-        (finite-ok (rep sameTerm L) viewTerm (under (s .0)) (under-fits (s .0)) (λ m. rep-sat Term sameTerm sameT-eq sameT-ne (under (s .0)) L sat m) (size (under (s .0) n)) n (omega arith)))
+      depth (rep sameTerm L) viewTerm us (rep-us L e) (univ-kids P) (size (under (s .0) n)) n i
+      (finite-bounded (rep sameTerm L) viewTerm (under (s .0)) (under-fits (s .0)) (λ m. rep-sat Term sameTerm sameTerm-eq sameTerm-ne (under (s .0)) L sat m) (size (under (s .0) n)) n (omega arith)))
 
   judge-right : (o : Out Term) → run ≡ o → Right P (judge us o)
   unfolding judge
-  judge-right apart e = (apart-clash Term sameTerm sameT-eq sameT-ne viewTerm P (length us) e, λ s. says (s .0) apart e (tt, s .1))
-  judge-right spent e = absurd (enough Term sameTerm sameT-eq sameT-ne viewTerm P us (univ-kids P) (univ-all P) e)
+  judge-right apart e = (apart-clash Term sameTerm sameTerm-eq sameTerm-ne viewTerm P (length us) e, λ s. says (s .0) apart e (tt, s .1))
+  judge-right spent e = absurd (enough Term sameTerm sameTerm-eq sameTerm-ne viewTerm P us (univ-kids P) (univ-all P) e)
   judge-right (merged L) e = go (allb (bounded (rep sameTerm L) viewTerm (length us)) us) refl
     where
       go : (b : Bool) → allb (bounded (rep sameTerm L) viewTerm (length us)) us ≡ b → Right P (elim b as (λ x. Verdict) [ true ↦ solvable | false ↦ endless ])
-      go true q = (solved L e (length us) (λ n i. all-at _ us q n i), merged-no-clash Term sameTerm sameT-eq sameT-ne viewTerm P (length us) L e)
-      go false q = (merged-no-clash Term sameTerm sameT-eq sameT-ne viewTerm P (length us) L e, λ s. bool-no _ (finite L e s) q)
+      go true q = (solved L e (length us) (λ n i. all-at _ us q n i), merged-no-clash Term sameTerm sameTerm-eq sameTerm-ne viewTerm P (length us) L e)
+      go false q = (merged-no-clash Term sameTerm sameTerm-eq sameTerm-ne viewTerm P (length us) L e, λ s. bool-no _ (finite L e s) q)
 
 -- Ask 10: the verdict is right.
 pub classify-right : (P : Pairs Term) → Right P (classify P)

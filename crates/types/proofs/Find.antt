@@ -69,10 +69,11 @@ module _ (N : Type 0) (same : N → N → Bool) (same-eq : (a b : N) → same a 
       (swap same a b (rep same L m) ≡ swap same a b (rep same L n)) × (hops same (pair a b L) m < hops same (pair a b L) n)
   some-c a b n m L h ih true q e =
       let na = same-eq _ _ q in
-      let mb = some-inj b m e in
-      (ap (λ z. swap same a b (rep same L z)) (sym mb) ∙ ap (swap same a b) (h .1) ∙ swap-miss N same same-eq same-ne a b b (h .2)
-        ∙ sym (swap-hit N same same-eq same-ne a b _ (ap (rep same L) na ∙ h .0)),
-       omega (arith, ap (hops same (pair a b L)) mb, ap (hops same (pair a b L)) na, hop-one a b L (h .0), hop-miss a b b L (λ z. h .2 (sym (h .1) ∙ z)), root-hops L (h .3) b (h .1)))
+      let mb = some-inj b m e in (
+        ap (λ z. swap same a b (rep same L z)) (sym mb) ∙ ap (swap same a b) (h .1) ∙ swap-miss N same same-eq same-ne a b b (h .2)
+            ∙ sym (swap-hit N same same-eq same-ne a b _ (ap (rep same L) na ∙ h .0)),
+        omega (arith, ap (hops same (pair a b L)) mb, ap (hops same (pair a b L)) na, hop-one a b L (h .0), hop-miss a b b L (λ z. h .2 (sym (h .1) ∙ z)), root-hops L (h .3) b (h .1)),
+      )
   some-c a b n m L h ih false q e = (ap (swap same a b) (ih e .0), hop-same a b m n L (ih e .0) (ih e .1))
 
   -- A link: the same representative, and fewer links to go.

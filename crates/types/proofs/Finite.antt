@@ -13,7 +13,7 @@ use Rattle.types.specs.Classes.{Closed, Shape, rep}
 use Rattle.types.specs.Equations.{In, Pairs, Solves, end, pair}
 use Rattle.types.specs.Finite.{allb, bounded, boundedView, fromList, typeAt, typeOfView}
 use Rattle.types.specs.Follows.{View, shape, unk}
-use Rattle.types.specs.Former.{Former, and}
+use Rattle.types.specs.Former.{Former}
 use Rattle.types.specs.Types.{Ty, node, size, sizes}
 
 pub all-at : {N : Type 0} (p : N → Bool) (ns : List N) → allb p ns ≡ true → (n : N) → In n ns → p n ≡ true
@@ -39,15 +39,15 @@ map-by r f h (c ∷ cs) [] e = let z : _≡_ {A = ℕ} 0 1 = cc in absurd (omega
 map-by r f h (c ∷ cs) (d ∷ ds) e = ap₂ _∷_ (h c d (cons-0 _ _ _ _ e)) (map-by r f h cs ds (cons-1 _ _ _ _ e))
 
 module _ {N : Type 0} (r : N → N) (view : N → View N) where
-  okv-mono : (f g : N → Bool) → ((c : N) → f c ≡ true → g c ≡ true) → (v : View N) → boundedView f v ≡ true → boundedView g v ≡ true
+  boundedView-mono : (f g : N → Bool) → ((c : N) → f c ≡ true → g c ≡ true) → (v : View N) → boundedView f v ≡ true → boundedView g v ≡ true
   unfolding boundedView
-  okv-mono f g h unk e = refl
-  okv-mono f g h (shape k cs) e = all-of g cs (λ n i. h n (all-at f cs e n i))
+  boundedView-mono f g h unk e = refl
+  boundedView-mono f g h (shape k cs) e = all-of g cs (λ n i. h n (all-at f cs e n i))
 
-  pub ok-mono : (d : ℕ) (n : N) → bounded r view d n ≡ true → bounded r view (suc d) n ≡ true
+  pub bounded-mono : (d : ℕ) (n : N) → bounded r view d n ≡ true → bounded r view (suc d) n ≡ true
   unfolding bounded
-  ok-mono zero n e = absurd (bool-no false e refl)
-  ok-mono (suc d) n e = okv-mono _ _ (λ c q. ok-mono d c q) (view (r n)) e
+  bounded-mono zero n e = absurd (bool-no false e refl)
+  bounded-mono (suc d) n e = boundedView-mono _ _ (λ c q. bounded-mono d c q) (view (r n)) e
 
   treev-same : (f g : N → Ty) (p q : N → Bool) → ((c : N) → p c ≡ true → q c ≡ true → f c ≡ g c) → (x : Ty) (v : View N) → boundedView p v ≡ true → boundedView q v ≡ true → typeOfView f x v ≡ typeOfView g x v
   unfolding typeOfView boundedView
@@ -74,19 +74,19 @@ module _ {N : Type 0} (r : N → N) (view : N → View N) where
     in-size (d ∷ cs) c (inl e) = omega (arith, ap (λ z. size (σ z)) e)
     in-size (d ∷ cs) c (inr i) = omega (arith, in-size cs c i)
 
-    okv-fin : (d : ℕ) (f : N → Bool) → ((c : N) → size (σ c) ≤ d → f c ≡ true) → (n : N) (v : View N) → view n ≡ v → size (σ n) ≤ suc d → boundedView f v ≡ true
+    boundedView-fin : (d : ℕ) (f : N → Bool) → ((c : N) → size (σ c) ≤ d → f c ≡ true) → (n : N) (v : View N) → view n ≡ v → size (σ n) ≤ suc d → boundedView f v ≡ true
     unfolding boundedView size
-    okv-fin d f h n unk e l = refl
-    okv-fin d f h n (shape k cs) e l = all-of f cs (λ c i. h c (omega (arith, in-size cs c i, ap size (fits n k cs e))))
+    boundedView-fin d f h n unk e l = refl
+    boundedView-fin d f h n (shape k cs) e l = all-of f cs (λ c i. h c (omega (arith, in-size cs c i, ap size (fits n k cs e))))
 
     size-pos : (g : Ty) → 1 ≤ size g
     unfolding size
     size-pos (node h l) = omega arith
 
-    pub finite-ok : (d : ℕ) (n : N) → size (σ n) ≤ d → bounded r view d n ≡ true
+    pub finite-bounded : (d : ℕ) (n : N) → size (σ n) ≤ d → bounded r view d n ≡ true
     unfolding bounded
-    finite-ok zero n l = absurd (omega (arith, size-pos (σ n)))
-    finite-ok (suc d) n l = okv-fin d _ (λ c q. finite-ok d c q) (r n) (view (r n)) refl (omega (arith, ap size (by n)))
+    finite-bounded zero n l = absurd (omega (arith, size-pos (σ n)))
+    finite-bounded (suc d) n l = boundedView-fin d _ (λ c q. finite-bounded d c q) (r n) (view (r n)) refl (omega (arith, ap size (by n)))
 
 unfoldable plus : ℕ → ℕ → ℕ
 plus zero d = d
@@ -171,7 +171,7 @@ module _ {N : Type 0} (r : N → N) (view : N → View N) (us : List N) (r-in : 
   unfolding Fixed
   either zero = inl (omega arith)
   either (suc d) = ⊎-elim
-      (λ l. ⊎-elim (λ g. inl (omega arith)) (λ f. inr (unfold Fixed in fixed-suc d f)) (grow (bounded r view d) (bounded r view (suc d)) (ok-mono r view d) us))
+      (λ l. ⊎-elim (λ g. inl (omega arith)) (λ f. inr (unfold Fixed in fixed-suc d f)) (grow (bounded r view d) (bounded r view (suc d)) (bounded-mono r view d) us))
       (λ f. inr (fixed-suc d f))
       (either d)
 
@@ -188,7 +188,7 @@ module _ {N : Type 0} (r : N → N) (view : N → View N) (us : List N) (r-in : 
   up : (d e : ℕ) (m : N) → bounded r view e m ≡ true → bounded r view (plus d e) m ≡ true
   unfolding plus
   up zero e m q = q
-  up (suc d) e m q = ok-mono r view (plus d e) m (up d e m q)
+  up (suc d) e m q = bounded-mono r view (plus d e) m (up d e m q)
 
   -- LAW D: the number of nodes is depth enough.
   pub depth : (e : ℕ) (m : N) → In m us → bounded r view e m ≡ true → bounded r view (length us) m ≡ true
@@ -215,8 +215,8 @@ module _ (N : Type 0) (same : N → N → Bool) (same-eq : (a b : N) → same a 
       let hk = C .heads (r n) n k h ds cs e vn re in
       let pq = class-parts N same same-eq same-ne view P₀ L C (r n) n k h ds cs e vn re in
       ap₂ (λ x l. node x (fromList l)) hk
-      (map-same _ _ ds (λ c i. tree-same r view τ d (suc d) c (all-at _ ds q c i) (ok-mono r view d c (all-at _ ds q c i)))
-       ∙ map-by r (λ c. typeAt r view τ (suc d) c) (λ a b z. tree-by r view τ (suc d) a b z) ds cs pq)
+      (map-same _ _ ds (λ c i. tree-same r view τ d (suc d) c (all-at _ ds q c i) (bounded-mono r view d c (all-at _ ds q c i)))
+      ∙ map-by r (λ c. typeAt r view τ (suc d) c) (λ a b z. tree-by r view τ (suc d) a b z) ds cs pq)
 
   fits-d : (d : ℕ) (n : N) (h : Former) (cs : List N) → bounded r view d n ≡ true → view n ≡ shape h cs → typeAt r view τ d n ≡ node h (fromList (map (λ c. typeAt r view τ d c) cs))
   unfolding bounded typeAt

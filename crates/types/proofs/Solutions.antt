@@ -7,7 +7,7 @@ use mathlib.Core.List.{List}
 use mathlib.Core.Option.{Option, none, some}
 use mathlib.Core.Path.{_∙_, _≡_, ap, ap₂, refl, sym}
 use native.Mathlib.Omega.{arith}
-use Rattle.types.proofs.Terms.{occurs-no, put-eq, same-false, same-true}
+use Rattle.types.proofs.Terms.{no-self, replace-eq, same-false, same-true}
 use Rattle.types.specs.Equations.{Pairs, Solves, end, pair}
 use Rattle.types.specs.Former.{Former, sameFormer}
 use Rattle.types.specs.Substitution.{Respects, Substitution, bind, empty, occurs, resolve, without}
@@ -20,18 +20,19 @@ spec-iff σ clash A B f g h = λ q. h (g q)
 spec-iff σ cycle A B f g h = λ q. h (g q)
 spec-iff σ stuck A B f g h = tt
 
-pute-sat : (σ : ℕ → Ty) (x : ℕ) (u : Term) → σ x ≡ under σ u → (es : Pairs Term) → (Solves (under σ) (replaceAll x u es) → Solves (under σ) es) × (Solves (under σ) es → Solves (under σ) (replaceAll x u es))
+replaceAll-sat : (σ : ℕ → Ty) (x : ℕ) (u : Term) → σ x ≡ under σ u → (es : Pairs Term) → (Solves (under σ) (replaceAll x u es) → Solves (under σ) es) × (Solves (under σ) es → Solves (under σ) (replaceAll x u es))
 unfolding replaceAll
-pute-sat σ x u e end = (λ q. q, λ q. q)
-pute-sat σ x u e (pair a b es) =
-    (λ q. (sym (put-eq σ x u e a) ∙ q .0 ∙ put-eq σ x u e b, pute-sat σ x u e es .0 (q .1)),
-     λ q. (put-eq σ x u e a ∙ q .0 ∙ sym (put-eq σ x u e b), pute-sat σ x u e es .1 (q .1)))
+replaceAll-sat σ x u e end = (λ q. q, λ q. q)
+replaceAll-sat σ x u e (pair a b es) = (
+  λ q. (sym (replace-eq σ x u e a) ∙ q .0 ∙ replace-eq σ x u e b, replaceAll-sat σ x u e es .0 (q .1)),
+  λ q. (replace-eq σ x u e a ∙ q .0 ∙ sym (replace-eq σ x u e b), replaceAll-sat σ x u e es .1 (q .1)),
+)
 
-pub gcons-0 : (a b : Ty) (c d : Tys) → tcons a c ≡ tcons b d → a ≡ b
-gcons-0 a b c d q = cc
+pub tcons-0 : (a b : Ty) (c d : Tys) → tcons a c ≡ tcons b d → a ≡ b
+tcons-0 a b c d q = cc
 
-pub gcons-1 : (a b : Ty) (c d : Tys) → tcons a c ≡ tcons b d → c ≡ d
-gcons-1 a b c d q = cc
+pub tcons-1 : (a b : Ty) (c d : Tys) → tcons a c ≡ tcons b d → c ≡ d
+tcons-1 a b c d q = cc
 
 pub node-0 : (h k : Former) (a b : Tys) → node h a ≡ node k b → h ≡ k
 node-0 h k a b q = cc
@@ -39,17 +40,18 @@ node-0 h k a b q = cc
 pub node-1 : (h k : Former) (a b : Tys) → node h a ≡ node k b → a ≡ b
 node-1 h k a b q = cc
 
--- What zipTerms gives says that the two lists are equal under σ.
+-- What zip gives says that the two lists are equal under σ.
 ZipTerms : (ℕ → Ty) → Terms → Terms → Pairs Term → Option (Pairs Term) → Type 0
 ZipTerms σ ts us es none = unders σ ts ≡ unders σ us → ⊥
 ZipTerms σ ts us es (some es′) = (Solves (under σ) es′ → (unders σ ts ≡ unders σ us) × Solves (under σ) es) × ((unders σ ts ≡ unders σ us) × Solves (under σ) es → Solves (under σ) es′)
 
 zip-terms-cons : (σ : ℕ → Ty) (a b : Term) (ts us : Terms) (es : Pairs Term) (o : Option (Pairs Term)) → ZipTerms σ ts us (pair a b es) o → ZipTerms σ (cons a ts) (cons b us) es o
 unfolding ZipTerms under
-zip-terms-cons σ a b ts us es none h = λ q. h (gcons-1 _ _ _ _ q)
-zip-terms-cons σ a b ts us es (some es′) h =
-    (λ q. (ap₂ tcons (h .0 q .1 .0) (h .0 q .0), h .0 q .1 .1),
-     λ q. h .1 (gcons-1 _ _ _ _ (q .0), (gcons-0 _ _ _ _ (q .0), q .1)))
+zip-terms-cons σ a b ts us es none h = λ q. h (tcons-1 _ _ _ _ q)
+zip-terms-cons σ a b ts us es (some es′) h = (
+  λ q. (ap₂ tcons (h .0 q .1 .0) (h .0 q .0), h .0 q .1 .1),
+  λ q. h .1 (tcons-1 _ _ _ _ (q .0), (tcons-0 _ _ _ _ (q .0), q .1)),
+)
 
 zip-terms : (σ : ℕ → Ty) (ts us : Terms) (es : Pairs Term) → ZipTerms σ ts us es (zipTerms ts us es)
 unfolding ZipTerms zipTerms under
@@ -67,8 +69,8 @@ module _ (σ : ℕ → Ty) (nx : Next) (hx : (vs : List ℕ) (s : Substitution) 
   flex-spec false true vs x b es h k = λ q. k refl refl (q .1 .0)
   flex-spec false false vs x b es h k =
       spec-iff σ (nx (without x vs) (bind x b s) (replaceAll x b es)) _ _
-      (λ q. (q .0 .1, (q .0 .0, pute-sat σ x b (q .0 .0) es .0 (q .1))))
-      (λ q. ((q .1 .0, q .0), pute-sat σ x b (q .1 .0) es .1 (q .1 .1)))
+      (λ q. (q .0 .1, (q .0 .0, replaceAll-sat σ x b (q .0 .0) es .0 (q .1))))
+      (λ q. ((q .1 .0, q .0), replaceAll-sat σ x b (q .1 .0) es .1 (q .1 .1)))
       (hx (without x vs) (bind x b s) (replaceAll x b es))
 
   rigid-spec : (h k : Former) (d : Bool) → sameFormer h k ≡ d → (ts us : Terms) (es : Pairs Term) (o : Option (Pairs Term)) → ZipTerms σ ts us es o →
@@ -90,7 +92,7 @@ module _ (σ : ℕ → Ty) (nx : Next) (hx : (vs : List ℕ) (s : Substitution) 
   var-false : (x : ℕ) (b : Term) → occurs x b ≡ true → isUnknown x b ≡ false → σ x ≡ under σ b → ⊥
   unfolding isUnknown under occurs
   var-false x (unknown y) e f q = let z : _≡_ {A = ℕ} 0 1 = cc in omega arith
-  var-false x (con h ts) e f q = occurs-no σ x h ts e q
+  var-false x (con h ts) e f q = no-self σ x h ts e q
 
   step-spec : (vs : List ℕ) (a b : Term) (es : Pairs Term) → Spec σ (unifyStep nx go vs s a b es) (Respects σ s × Solves (under σ) (pair a b es))
   unfolding unifyStep under
@@ -99,7 +101,7 @@ module _ (σ : ℕ → Ty) (nx : Next) (hx : (vs : List ℕ) (s : Substitution) 
       spec-iff σ (flex false (occurs y (con h ts)) nx go vs s y (con h ts) es) _ _
       (λ q. (q .0, (sym (q .1 .0), q .1 .1)))
       (λ q. (q .0, (sym (q .1 .0), q .1 .1)))
-      (flex-spec false (occurs y (con h ts)) vs y (con h ts) es (λ e. let z : _≡_ {A = ℕ} 0 1 = cc in absurd (omega arith)) (λ e f q. occurs-no σ y h ts e q))
+      (flex-spec false (occurs y (con h ts)) vs y (con h ts) es (λ e. let z : _≡_ {A = ℕ} 0 1 = cc in absurd (omega arith)) (λ e f q. no-self σ y h ts e q))
   step-spec vs (con h ts) (con k us) es = rigid-spec h k (sameFormer h k) refl ts us es (zipTerms ts us es) (zip-terms σ ts us es)
 
 unifyLevel-spec : (σ : ℕ → Ty) (nx : Next) (hx : (vs : List ℕ) (s : Substitution) (es : Pairs Term) → Spec σ (nx vs s es) (Respects σ s × Solves (under σ) es)) →
@@ -114,16 +116,16 @@ unfolding unifyLevels
 unifyLevels-spec σ zero vs s es = unifyLevel-spec σ (λ vs′ s′ es′. stuck) (λ vs′ s′ es′. tt) (weight es) vs s es
 unifyLevels-spec σ (suc k) vs s es = unifyLevel-spec σ (λ vs′ s′ es′. unifyLevels k vs′ s′ es′) (λ vs′ s′ es′. unifyLevels-spec σ k vs′ s′ es′) (weight es) vs s es
 
-pub full-eq : (σ : ℕ → Ty) (s : Substitution) (t : Term) → Respects σ s → under σ (resolve s t) ≡ under σ t
+pub resolve-eq : (σ : ℕ → Ty) (s : Substitution) (t : Term) → Respects σ s → under σ (resolve s t) ≡ under σ t
 unfolding resolve
-full-eq σ empty t q = refl
-full-eq σ (bind x u s) t q = put-eq σ x u (q .0) (resolve s t) ∙ full-eq σ s t (q .1)
+resolve-eq σ empty t q = refl
+resolve-eq σ (bind x u s) t q = replace-eq σ x u (q .0) (resolve s t) ∙ resolve-eq σ s t (q .1)
 
 -- Laws 1 and 2: the solutions of the answer are those solutions of s that solve a = b; a failure has none.
 pub unify-spec : (σ : ℕ → Ty) (vs : List ℕ) (s : Substitution) (a b : Term) → Spec σ (unify vs s a b) (Respects σ s × (under σ a ≡ under σ b))
 unfolding unify
 unify-spec σ vs s a b =
     spec-iff σ (unifyLevels (length vs) vs s (pair (resolve s a) (resolve s b) end)) _ _
-    (λ q. (q .0, sym (full-eq σ s a (q .0)) ∙ q .1 .0 ∙ full-eq σ s b (q .0)))
-    (λ q. (q .0, (full-eq σ s a (q .0) ∙ q .1 ∙ sym (full-eq σ s b (q .0)), tt)))
+    (λ q. (q .0, sym (resolve-eq σ s a (q .0)) ∙ q .1 .0 ∙ resolve-eq σ s b (q .0)))
+    (λ q. (q .0, (resolve-eq σ s a (q .0) ∙ q .1 ∙ sym (resolve-eq σ s b (q .0)), tt)))
     (unifyLevels-spec σ (length vs) vs s (pair (resolve s a) (resolve s b) end))

@@ -9,8 +9,8 @@ use mathlib.Core.Logic.{_≢_}
 use mathlib.Core.Option.{Option, none, some}
 use mathlib.Core.Path.{_∙_, _≡_, ap, refl, subst, sym}
 use native.Mathlib.Omega.{arith}
-use Rattle.types.proofs.Solutions.{full-eq, gcons-0, gcons-1, node-1}
-use Rattle.types.proofs.Terms.{and-i, and-l, and-r, apply-ext, bool-no, each-both, each-map, each-put, occ-no, or-split, upd-other, upd-same}
+use Rattle.types.proofs.Solutions.{resolve-eq, tcons-0, tcons-1, node-1}
+use Rattle.types.proofs.Terms.{and-i, and-l, and-r, under-ext, bool-no, each-both, each-map, each-put, occurs-no, or-split, update-other, update-same}
 use Rattle.types.specs.Component.{has, hasType}
 use Rattle.types.specs.Equations.{Pairs, end, pair}
 use Rattle.types.specs.Former.{and, identifiers, sameFormer}
@@ -28,62 +28,62 @@ unfolding or
 or-true-l true b e = refl
 or-true-l false b e = absurd (bool-no false e refl)
 
-mem-rem-c : (x y z : ℕ) (ys : List ℕ) (b : Bool) → (member y (without x ys) ≡ true → member y ys ≡ true) →
+member-without-c : (x y z : ℕ) (ys : List ℕ) (b : Bool) → (member y (without x ys) ≡ true → member y ys ≡ true) →
     member y (elim b as (λ c. List ℕ) [ true ↦ without x ys | false ↦ z ∷ without x ys ]) ≡ true → or (eqb z y) (member y ys) ≡ true
 unfolding member
-mem-rem-c x y z ys true h e = or-true-r (eqb z y) (member y ys) (h e)
-mem-rem-c x y z ys false h e = or-split (eqb z y) (member y (without x ys)) e _ (λ q. or-true-l (eqb z y) (member y ys) q) (λ q. or-true-r (eqb z y) (member y ys) (h q))
+member-without-c x y z ys true h e = or-true-r (eqb z y) (member y ys) (h e)
+member-without-c x y z ys false h e = or-split (eqb z y) (member y (without x ys)) e _ (λ q. or-true-l (eqb z y) (member y ys) q) (λ q. or-true-r (eqb z y) (member y ys) (h q))
 
-mem-rem : (x y : ℕ) (vs : List ℕ) → member y (without x vs) ≡ true → member y vs ≡ true
+member-without : (x y : ℕ) (vs : List ℕ) → member y (without x vs) ≡ true → member y vs ≡ true
 unfolding member without
-mem-rem x y [] e = e
-mem-rem x y (z ∷ ys) e = mem-rem-c x y z ys (eqb z x) (mem-rem x y ys) e
+member-without x y [] e = e
+member-without x y (z ∷ ys) e = member-without-c x y z ys (eqb z x) (member-without x y ys) e
 
-rem-mem-c : (x y z : ℕ) (ys : List ℕ) (b : Bool) → eqb z x ≡ b → eqb y x ≡ false → (member y ys ≡ true → member y (without x ys) ≡ true) → or (eqb z y) (member y ys) ≡ true →
+without-member-c : (x y z : ℕ) (ys : List ℕ) (b : Bool) → eqb z x ≡ b → eqb y x ≡ false → (member y ys ≡ true → member y (without x ys) ≡ true) → or (eqb z y) (member y ys) ≡ true →
     member y (elim b as (λ c. List ℕ) [ true ↦ without x ys | false ↦ z ∷ without x ys ]) ≡ true
 unfolding member
-rem-mem-c x y z ys true q n h e =
+without-member-c x y z ys true q n h e =
     or-split (eqb z y) (member y ys) e _
     (λ r. absurd (eqb-false y x n (sym (eqb-true z y r) ∙ eqb-true z x q)))
     h
-rem-mem-c x y z ys false q n h e =
+without-member-c x y z ys false q n h e =
     or-split (eqb z y) (member y ys) e _
     (λ r. or-true-l (eqb z y) (member y (without x ys)) r)
     (λ r. or-true-r (eqb z y) (member y (without x ys)) (h r))
 
-rem-mem : (x y : ℕ) (vs : List ℕ) → eqb y x ≡ false → member y vs ≡ true → member y (without x vs) ≡ true
+without-member : (x y : ℕ) (vs : List ℕ) → eqb y x ≡ false → member y vs ≡ true → member y (without x vs) ≡ true
 unfolding member without
-rem-mem x y [] n e = e
-rem-mem x y (z ∷ ys) n e = rem-mem-c x y z ys (eqb z x) refl n (rem-mem x y ys n) e
+without-member x y [] n e = e
+without-member x y (z ∷ ys) n e = without-member-c x y z ys (eqb z x) refl n (without-member x y ys n) e
 
-rem-no-c : (x z : ℕ) (ys : List ℕ) (b : Bool) → eqb z x ≡ b → (member x (without x ys) ≡ true → ⊥) → member x (elim b as (λ c. List ℕ) [ true ↦ without x ys | false ↦ z ∷ without x ys ]) ≡ true → ⊥
+without-no-c : (x z : ℕ) (ys : List ℕ) (b : Bool) → eqb z x ≡ b → (member x (without x ys) ≡ true → ⊥) → member x (elim b as (λ c. List ℕ) [ true ↦ without x ys | false ↦ z ∷ without x ys ]) ≡ true → ⊥
 unfolding member
-rem-no-c x z ys true q h e = h e
-rem-no-c x z ys false q h e = or-split (eqb z x) (member x (without x ys)) e ⊥ (λ r. bool-no (eqb z x) r q) h
+without-no-c x z ys true q h e = h e
+without-no-c x z ys false q h e = or-split (eqb z x) (member x (without x ys)) e ⊥ (λ r. bool-no (eqb z x) r q) h
 
-rem-no : (x : ℕ) (vs : List ℕ) → member x (without x vs) ≡ true → ⊥
+without-no : (x : ℕ) (vs : List ℕ) → member x (without x vs) ≡ true → ⊥
 unfolding member without
-rem-no x [] e = bool-no false e refl
-rem-no x (z ∷ ys) e = rem-no-c x z ys (eqb z x) refl (rem-no x ys) e
+without-no x [] e = bool-no false e refl
+without-no x (z ∷ ys) e = without-no-c x z ys (eqb z x) refl (without-no x ys) e
 
-rem-len-c : (x z : ℕ) (ys : List ℕ) (b : Bool) → length (without x ys) ≤ length ys → length {A = ℕ} (elim b as (λ c. List ℕ) [ true ↦ without x ys | false ↦ z ∷ without x ys ]) ≤ suc (length ys)
-rem-len-c x z ys true h = omega arith
-rem-len-c x z ys false h = omega arith
+without-len-c : (x z : ℕ) (ys : List ℕ) (b : Bool) → length (without x ys) ≤ length ys → length {A = ℕ} (elim b as (λ c. List ℕ) [ true ↦ without x ys | false ↦ z ∷ without x ys ]) ≤ suc (length ys)
+without-len-c x z ys true h = omega arith
+without-len-c x z ys false h = omega arith
 
-rem-len : (x : ℕ) (vs : List ℕ) → length (without x vs) ≤ length vs
+without-len : (x : ℕ) (vs : List ℕ) → length (without x vs) ≤ length vs
 unfolding without
-rem-len x [] = omega arith
-rem-len x (z ∷ ys) = rem-len-c x z ys (eqb z x) (rem-len x ys)
+without-len x [] = omega arith
+without-len x (z ∷ ys) = without-len-c x z ys (eqb z x) (without-len x ys)
 
-rem-less-c : (x z : ℕ) (ys : List ℕ) (b : Bool) → length (without x ys) ≤ length ys → (b ≡ false → length (without x ys) < length ys) →
+without-less-c : (x z : ℕ) (ys : List ℕ) (b : Bool) → length (without x ys) ≤ length ys → (b ≡ false → length (without x ys) < length ys) →
     length {A = ℕ} (elim b as (λ c. List ℕ) [ true ↦ without x ys | false ↦ z ∷ without x ys ]) < suc (length ys)
-rem-less-c x z ys true h k = omega arith
-rem-less-c x z ys false h k = omega (arith, k refl)
+without-less-c x z ys true h k = omega arith
+without-less-c x z ys false h k = omega (arith, k refl)
 
-rem-less : (x : ℕ) (vs : List ℕ) → member x vs ≡ true → length (without x vs) < length vs
+without-less : (x : ℕ) (vs : List ℕ) → member x vs ≡ true → length (without x vs) < length vs
 unfolding without member
-rem-less x [] e = absurd (bool-no false e refl)
-rem-less x (z ∷ ys) e = rem-less-c x z ys (eqb z x) (rem-len x ys) (λ q. or-split (eqb z x) (member x ys) e _ (λ r. absurd (bool-no (eqb z x) r q)) (λ r. rem-less x ys r))
+without-less x [] e = absurd (bool-no false e refl)
+without-less x (z ∷ ys) e = without-less-c x z ys (eqb z x) (without-len x ys) (λ q. or-split (eqb z x) (member x ys) e _ (λ r. absurd (bool-no (eqb z x) r q)) (λ r. without-less x ys r))
 
 tri-map : (F K : ℕ → Type 0) (s : Substitution) → ((y : ℕ) → F y → K y) → ((y : ℕ) → K y → F y) → Tri F s → Tri K s
 tri-map F K empty f g h = tt
@@ -101,21 +101,21 @@ decide false C f g = g refl
 state-bind : (N : ℕ → Type 0) (vs : List ℕ) (s : Substitution) (x : ℕ) (t : Term) → member x vs ≡ true → Each (λ y. member y vs ≡ true) t → occurs x t ≡ false →
     State N vs s → State N (without x vs) (bind x t s)
 state-bind N vs s x t m e o h = record {
-    tri = (
-      rem-no x vs,
-      each-map _ _ (λ y q. rem-mem x y vs (q .1) (q .0)) t (each-both _ _ t e (occ-no x t o)),
-      tri-map _ _ s to from (h .tri)
-    );
-    dom = (h .sub x m, h .dom);
-    sub = λ y q. h .sub y (mem-rem x y vs q);
-    all = λ y n. base-map _ _ s to y (h .all y n)
-  }
+  tri = (
+    without-no x vs,
+    each-map _ _ (λ y q. without-member x y vs (q .1) (q .0)) t (each-both _ _ t e (occurs-no x t o)),
+    tri-map _ _ s to from (h .tri),
+  );
+  dom = (h .sub x m, h .dom);
+  sub = λ y q. h .sub y (member-without x y vs q);
+  all = λ y n. base-map _ _ s to y (h .all y n);
+}
   where
     to : (y : ℕ) → member y vs ≡ true → eqb y x ≡ false → member y (without x vs) ≡ true
-    to y q n = rem-mem x y vs n q
+    to y q n = without-member x y vs n q
 
     from : (y : ℕ) → (eqb y x ≡ false → member y (without x vs) ≡ true) → member y vs ≡ true
-    from y f = decide (eqb y x) _ (λ q. subst (λ z. member z vs ≡ true) (sym (eqb-true y x q)) m) (λ q. mem-rem x y vs (f q))
+    from y f = decide (eqb y x) _ (λ q. subst (λ z. member z vs ≡ true) (sym (eqb-true y x q)) m) (λ q. member-without x y vs (f q))
 
 -- One more unknown.
 tri-more : (N F K : ℕ → Type 0) (s : Substitution) → Dom N s → ((y : ℕ) → F y → K y) → ((y : ℕ) → N y → K y → F y) → Tri F s → Tri K s
@@ -134,14 +134,14 @@ dom-map N M (bind x t s) f d = (f x (d .0), dom-map N M s f (d .1))
 pub fresh : (n : ℕ) (vs : List ℕ) (s : Substitution) → State (λ y. y < n) vs s → State (λ y. y < suc n) (n ∷ vs) s
 unfolding member
 fresh n vs s h = record {
-    tri = tri-more (λ y. y < n) _ _ s (h .dom) (λ y q. or-true-r (eqb n y) (member y vs) q)
+  tri = tri-more (λ y. y < n) _ _ s (h .dom) (λ y q. or-true-r (eqb n y) (member y vs) q)
       (λ y l q. or-split (eqb n y) (member y vs) q _ (λ e. absurd (omega (arith, eqb-true n y e))) (λ e. e)) (h .tri);
-    dom = dom-map _ _ s (λ y l. omega arith) (h .dom);
-    sub = λ y q. or-split (eqb n y) (member y vs) q _ (λ e. omega (arith, eqb-true n y e)) (λ e. omega (arith, h .sub y e));
-    all = λ y l. decide (eqb n y) _
+  dom = dom-map _ _ s (λ y l. omega arith) (h .dom);
+  sub = λ y q. or-split (eqb n y) (member y vs) q _ (λ e. omega (arith, eqb-true n y e)) (λ e. omega (arith, h .sub y e));
+  all = λ y l. decide (eqb n y) _
       (λ e. base-free _ s y (or-true-l (eqb n y) (member y vs) e))
-      (λ e. base-map _ _ s (λ z q. or-true-r (eqb n z) (member z vs) q) y (h .all y (below n y l (λ q. eqb-false n y e q))))
-  }
+      (λ e. base-map _ _ s (λ z q. or-true-r (eqb n z) (member z vs) q) y (h .all y (below n y l (λ q. eqb-false n y e q))));
+}
   where
     below : (n y : ℕ) → y < suc n → (n ≡ y → ⊥) → y < n
     below n y l q = omega (arith, sym-ne n y q)
@@ -152,10 +152,10 @@ fresh n vs s h = record {
 pub start : State (λ y. y < 0) [] empty
 start = record { tri = tt; dom = tt; sub = λ y q. absurd (unfold member in bool-no false q refl); all = λ y l. absurd (omega arith) }
 
-pute-each : (P : ℕ → Type 0) (x : ℕ) (u : Term) → Each P u → (es : Pairs Term) → EachE (λ y. eqb y x ≡ false → P y) es → EachE P (replaceAll x u es)
+replaceAll-each : (P : ℕ → Type 0) (x : ℕ) (u : Term) → Each P u → (es : Pairs Term) → EachE (λ y. eqb y x ≡ false → P y) es → EachE P (replaceAll x u es)
 unfolding replaceAll
-pute-each P x u e end h = tt
-pute-each P x u e (pair a b es) h = (each-put P x u e a (h .0), each-put P x u e b (h .1), pute-each P x u e es (h .2))
+replaceAll-each P x u e end h = tt
+replaceAll-each P x u e (pair a b es) h = (each-put P x u e a (h .0), each-put P x u e b (h .1), replaceAll-each P x u e es (h .2))
 
 eachE-map : (P Q : ℕ → Type 0) → ((y : ℕ) → P y → Q y) → (es : Pairs Term) → EachE P es → EachE Q es
 eachE-map P Q f end h = tt
@@ -197,8 +197,8 @@ module _ (N : ℕ → Type 0) (nx : Next) (vs : List ℕ)
   flex-good false true x b es e m hb he w = tt
   flex-good false false x b es e m hb he w =
       let st = state-bind N vs s x b m hb (e refl) hs in
-      hx (without x vs) (bind x b s) (replaceAll x b es) (rem-less x vs m)
-      (pute-each _ x b (st .tri .1) es (eachE-map _ _ (λ y q r. rem-mem x y vs r q) es he))
+      hx (without x vs) (bind x b s) (replaceAll x b es) (without-less x vs m)
+      (replaceAll-each _ x b (st .tri .1) es (eachE-map _ _ (λ y q r. without-member x y vs r q) es he))
       st
 
   rigid-good : (d : Bool) (ts : Terms) (es : Pairs Term) (o : Option (Pairs Term)) → ZipGood (λ y. member y vs ≡ true) ts es o → termSizes ts + weight es ≤ n → Good N (rigid d o go)
@@ -229,17 +229,17 @@ outer-good N zero vs s es l h hs =
 outer-good N (suc k) vs s es l h hs =
     inner-good N (λ vs′ s′ es′. unifyLevels k vs′ s′ es′) vs (λ vs′ s′ es′ l′ h′ hs′. outer-good N k vs′ s′ es′ (omega arith) h′ hs′) s hs (weight es) es (omega arith) h
 
-full-each : (F : ℕ → Type 0) (s : Substitution) (t : Term) → Tri F s → Each (Base F s) t → Each F (resolve s t)
+resolve-each : (F : ℕ → Type 0) (s : Substitution) (t : Term) → Tri F s → Each (Base F s) t → Each F (resolve s t)
 unfolding resolve
-full-each F empty t h e = e
-full-each F (bind x u s) t h e = each-put F x u (h .1) (resolve s t) (full-each _ s t (h .2) e)
+resolve-each F empty t h e = e
+resolve-each F (bind x u s) t h e = each-put F x u (h .1) (resolve s t) (resolve-each _ s t (h .2) e)
 
-pub full-free : (N : ℕ → Type 0) (vs : List ℕ) (s : Substitution) (t : Term) → State N vs s → Each N t → Each (λ y. member y vs ≡ true) (resolve s t)
-full-free N vs s t h e = full-each _ s t (h .tri) (each-map N _ (h .all) t e)
+pub resolve-free : (N : ℕ → Type 0) (vs : List ℕ) (s : Substitution) (t : Term) → State N vs s → Each N t → Each (λ y. member y vs ≡ true) (resolve s t)
+resolve-free N vs s t h e = resolve-each _ s t (h .tri) (each-map N _ (h .all) t e)
 
-pub unify-good : (N : ℕ → Type 0) (vs : List ℕ) (s : Substitution) (a b : Term) → State N vs s → Each N a → Each N b → Good N (unify vs s a b)
+pub unify-state : (N : ℕ → Type 0) (vs : List ℕ) (s : Substitution) (a b : Term) → State N vs s → Each N a → Each N b → Good N (unify vs s a b)
 unfolding unify
-unify-good N vs s a b h ea eb = outer-good N (length vs) vs s _ (omega arith) (full-free N vs s a h ea, full-free N vs s b h eb, tt) h
+unify-state N vs s a b h ea eb = outer-good N (length vs) vs s _ (omega arith) (resolve-free N vs s a h ea, resolve-free N vs s b h eb, tt) h
 
 not-self : (x : ℕ) (C : Type 0) → eqb x x ≡ false → C
 not-self x C e = absurd (eqb-false x x e refl)
@@ -248,26 +248,28 @@ sol-free : (F : ℕ → Type 0) (s : Substitution) → Tri F s → (τ : ℕ →
 unfolding sol
 sol-free F empty h τ y f = refl
 sol-free F (bind x t s) h τ y f =
-    sol-free _ s (h .2) (update τ x (under τ t)) y (λ e. f) ∙ upd-other τ x (under τ t) y (ne-eqb y x (λ q. h .0 (subst F q f)))
+    sol-free _ s (h .2) (update τ x (under τ t)) y (λ e. f) ∙ update-other τ x (under τ t) y (ne-eqb y x (λ q. h .0 (subst F q f)))
 
 sol-sat-F : (F : ℕ → Type 0) (s : Substitution) → Tri F s → (τ : ℕ → Ty) → Respects (sol τ s) s
 unfolding sol
 sol-sat-F F empty h τ = tt
-sol-sat-F F (bind x t s) h τ =
-    (sol-free _ s (h .2) (update τ x (under τ t)) x (not-self x _) ∙ upd-same τ x (under τ t)
-      ∙ sym (apply-ext (sol (update τ x (under τ t)) s) τ t (each-map F _ (λ y f. sol-free F (bind x t s) h τ y f) t (h .1))),
-     sol-sat-F _ s (h .2) (update τ x (under τ t)))
+sol-sat-F F (bind x t s) h τ = (
+  sol-free _ s (h .2) (update τ x (under τ t)) x (not-self x _) ∙ update-same τ x (under τ t)
+      ∙ sym (under-ext (sol (update τ x (under τ t)) s) τ t (each-map F _ (λ y f. sol-free F (bind x t s) h τ y f) t (h .1))),
+  sol-sat-F _ s (h .2) (update τ x (under τ t)),
+)
 
 pub sol-sat : (N : ℕ → Type 0) (vs : List ℕ) (s : Substitution) → State N vs s → (τ : ℕ → Ty) → Respects (sol τ s) s
 sol-sat N vs s h τ = sol-sat-F _ s (h .tri) τ
 
 pub sol-at : (N : ℕ → Type 0) (vs : List ℕ) (s : Substitution) (t : Term) → State N vs s → Each N t → (τ : ℕ → Ty) → under (sol τ s) t ≡ under τ (resolve s t)
 sol-at N vs s t h e τ =
-    sym (full-eq (sol τ s) s t (sol-sat N vs s h τ))
-    ∙ apply-ext (sol τ s) τ (resolve s t) (each-map _ _ (λ y f. sol-free _ s (h .tri) τ y f) (resolve s t) (full-free N vs s t h e))
+    sym (resolve-eq (sol τ s) s t (sol-sat N vs s h τ))
+    ∙ under-ext (sol τ s) τ (resolve s t) (each-map _ _ (λ y f. sol-free _ s (h .tri) τ y f) (resolve s t) (resolve-free N vs s t h e))
 
 mutual
   unfolding ground Each
+
   ground-each : (t : Term) → ground t ≡ true → Each (λ y. ⊥) t
   ground-each (unknown x) e = bool-no false e refl
   ground-each (con h ts) e = grounds-each ts e
@@ -283,6 +285,7 @@ and-split false b e C f g = f refl
 
 mutual
   unfolding ground occurs
+
   open-has : (t : Term) → ground t ≡ false → (y : ℕ) × (occurs y t ≡ true)
   open-has (unknown x) e = (x, eq-eqb x x refl)
   open-has (con h ts) e = opens-has ts e
@@ -297,31 +300,36 @@ mutual
 -- Two maps that give t one type agree at the unknowns of t.
 mutual
   unfolding occurs under
-  occ-inj : (σ τ : ℕ → Ty) (y : ℕ) (t : Term) → occurs y t ≡ true → under σ t ≡ under τ t → σ y ≡ τ y
-  occ-inj σ τ y (unknown x) e q = let p = eqb-true x y e in ap σ (sym p) ∙ q ∙ ap τ p
-  occ-inj σ τ y (con h ts) e q = occs-inj σ τ y ts e (node-1 _ _ _ _ q)
 
-  occs-inj : (σ τ : ℕ → Ty) (y : ℕ) (ts : Terms) → occursAny y ts ≡ true → unders σ ts ≡ unders τ ts → σ y ≡ τ y
-  occs-inj σ τ y nil e q = absurd (bool-no false e refl)
-  occs-inj σ τ y (cons t ts) e q =
-      or-split (occurs y t) (occursAny y ts) e _ (λ r. occ-inj σ τ y t r (gcons-0 _ _ _ _ q)) (λ r. occs-inj σ τ y ts r (gcons-1 _ _ _ _ q))
+  occurs-inj : (σ τ : ℕ → Ty) (y : ℕ) (t : Term) → occurs y t ≡ true → under σ t ≡ under τ t → σ y ≡ τ y
+  occurs-inj σ τ y (unknown x) e q = let p = eqb-true x y e in ap σ (sym p) ∙ q ∙ ap τ p
+  occurs-inj σ τ y (con h ts) e q = occursAny-inj σ τ y ts e (node-1 _ _ _ _ q)
+
+  occursAny-inj : (σ τ : ℕ → Ty) (y : ℕ) (ts : Terms) → occursAny y ts ≡ true → unders σ ts ≡ unders τ ts → σ y ≡ τ y
+  occursAny-inj σ τ y nil e q = absurd (bool-no false e refl)
+  occursAny-inj σ τ y (cons t ts) e q =
+      or-split (occurs y t) (occursAny y ts) e _ (λ r. occurs-inj σ τ y t r (tcons-0 _ _ _ _ q)) (λ r. occursAny-inj σ τ y ts r (tcons-1 _ _ _ _ q))
 
 pub unique : (s : Substitution) (t : Term) → ground (resolve s t) ≡ true → (σ τ : ℕ → Ty) → Respects σ s → Respects τ s → under σ t ≡ under τ t
 unique s t e σ τ p q =
-    sym (full-eq σ s t p) ∙ apply-ext σ τ (resolve s t) (each-map _ _ (λ y f. absurd f) (resolve s t) (ground-each (resolve s t) e)) ∙ full-eq τ s t q
+    sym (resolve-eq σ s t p) ∙ under-ext σ τ (resolve s t) (each-map _ _ (λ y f. absurd f) (resolve s t) (ground-each (resolve s t) e)) ∙ resolve-eq τ s t q
 
 pub resolved : (s : Substitution) (t : Term) → ground (resolve s t) ≡ true → (σ : ℕ → Ty) → Respects σ s → under σ t ≡ under (λ y. ℤ) (resolve s t)
 resolved s t e σ p =
-    sym (full-eq σ s t p) ∙ apply-ext σ (λ y. ℤ) (resolve s t) (each-map _ _ (λ y f. absurd f) (resolve s t) (ground-each (resolve s t) e))
+    sym (resolve-eq σ s t p) ∙ under-ext σ (λ y. ℤ) (resolve s t) (each-map _ _ (λ y f. absurd f) (resolve s t) (ground-each (resolve s t) e))
 
 pub several : (N : ℕ → Type 0) (vs : List ℕ) (s : Substitution) (t : Term) → State N vs s → Each N t → ground (resolve s t) ≡ false →
     (σ : ℕ → Ty) × (τ : ℕ → Ty) × Respects σ s × Respects τ s × (under σ t ≡ under τ t → ⊥)
 several N vs s t h e g =
     let r = open-has (resolve s t) g in
     let one : ℕ → Ty = λ y. ℤ in
-    let two : ℕ → Ty = update one (r .0) ℙℤ in
-    (sol one s, sol two s, sol-sat N vs s h one, sol-sat N vs s h two,
-     λ q. differ (occ-inj one two (r .0) (resolve s t) (r .1) (sym (sol-at N vs s t h e one) ∙ q ∙ sol-at N vs s t h e two) ∙ upd-same one (r .0) ℙℤ))
+    let two : ℕ → Ty = update one (r .0) ℙℤ in (
+      sol one s,
+      sol two s,
+      sol-sat N vs s h one,
+      sol-sat N vs s h two,
+      λ q. differ (occurs-inj one two (r .0) (resolve s t) (r .1) (sym (sol-at N vs s t h e one) ∙ q ∙ sol-at N vs s t h e two) ∙ update-same one (r .0) ℙℤ),
+    )
   where
     differ : ℤ ≡ ℙℤ → ⊥
     differ q = let z : _≡_ {A = ℕ} 0 1 = cc in omega arith
@@ -337,7 +345,7 @@ has-no c (unknown x) e = refl
 has-no c (con h ts) e = e
 
 pub select-yes : (s : Substitution) (t : Term) (c : ℕ) → has c (resolve s t) ≡ true → (σ : ℕ → Ty) → Respects σ s → hasType c (under σ t) ≡ true
-select-yes s t c e σ q = subst (λ g. hasType c g ≡ true) (full-eq σ s t q) (has-yes c (resolve s t) σ e)
+select-yes s t c e σ q = subst (λ g. hasType c g ≡ true) (resolve-eq σ s t q) (has-yes c (resolve s t) σ e)
 
 pub select-no : (N : ℕ → Type 0) (vs : List ℕ) (s : Substitution) (t : Term) (c : ℕ) → State N vs s → Each N t → has c (resolve s t) ≡ false →
     (σ : ℕ → Ty) × Respects σ s × (hasType c (under σ t) ≡ false)
@@ -345,9 +353,10 @@ select-no N vs s t c h e g =
     let one : ℕ → Ty = λ y. ℤ in
     (sol one s, sol-sat N vs s h one, subst (λ z. hasType c z ≡ false) (sym (sol-at N vs s t h e one)) (has-no c (resolve s t) g))
 
--- Law 4 for all the unknowns at once: the solutions are one exactly where no unknown is empty.
+-- Law 4 for all the unknowns at once: the solutions are one exactly where no unknown is free.
 mutual
   unfolding ground Each
+
   each-ground : (t : Term) → Each (λ y. ⊥) t → ground t ≡ true
   each-ground (unknown x) e = absurd e
   each-ground (con h ts) e = eachs-ground ts e
@@ -356,23 +365,23 @@ mutual
   eachs-ground nil e = refl
   eachs-ground (cons t ts) e = and-i (ground t) (grounds ts) (each-ground t (e .0)) (eachs-ground ts (e .1))
 
-pub none-free : (N : ℕ → Type 0) (s : Substitution) (t : Term) → State N [] s → Each N t → ground (resolve s t) ≡ true
+pub none-open : (N : ℕ → Type 0) (s : Substitution) (t : Term) → State N [] s → Each N t → ground (resolve s t) ≡ true
 unfolding member
-none-free N s t h e = each-ground (resolve s t) (each-map _ _ (λ y q. bool-no false q refl) (resolve s t) (full-free N [] s t h e))
+none-open N s t h e = each-ground (resolve s t) (each-map _ _ (λ y q. bool-no false q refl) (resolve s t) (resolve-free N [] s t h e))
 
-put-miss : (x : ℕ) (u : Term) (y : ℕ) → eqb y x ≡ false → replace x u (unknown y) ≡ unknown y
+replace-miss : (x : ℕ) (u : Term) (y : ℕ) → eqb y x ≡ false → replace x u (unknown y) ≡ unknown y
 unfolding replace
-put-miss x u y e = ap (λ b. elim b as (λ c. Term) [ true ↦ u | false ↦ unknown y ]) e
+replace-miss x u y e = ap (λ b. elim b as (λ c. Term) [ true ↦ u | false ↦ unknown y ]) e
 
-full-self : (F : ℕ → Type 0) (s : Substitution) (y : ℕ) → Tri F s → F y → resolve s (unknown y) ≡ unknown y
+resolve-self : (F : ℕ → Type 0) (s : Substitution) (y : ℕ) → Tri F s → F y → resolve s (unknown y) ≡ unknown y
 unfolding resolve
-full-self F empty y h f = refl
-full-self F (bind x u s) y h f = ap (replace x u) (full-self _ s y (h .2) (λ e. f)) ∙ put-miss x u y (ne-eqb y x (λ q. h .0 (subst F q f)))
+resolve-self F empty y h f = refl
+resolve-self F (bind x u s) y h f = ap (replace x u) (resolve-self _ s y (h .2) (λ e. f)) ∙ replace-miss x u y (ne-eqb y x (λ q. h .0 (subst F q f)))
 
-pub some-free : (N : ℕ → Type 0) (y : ℕ) (vs : List ℕ) (s : Substitution) → State N (y ∷ vs) s → ground (resolve s (unknown y)) ≡ false
+pub some-open : (N : ℕ → Type 0) (y : ℕ) (vs : List ℕ) (s : Substitution) → State N (y ∷ vs) s → ground (resolve s (unknown y)) ≡ false
 unfolding member ground
-some-free N y vs s h = ap ground (full-self _ s y (h .tri) (or-true-l (eqb y y) (member y vs) (eq-eqb y y refl)))
+some-open N y vs s h = ap ground (resolve-self _ s y (h .tri) (or-true-l (eqb y y) (member y vs) (eq-eqb y y refl)))
 
-pub mem-head : (y : ℕ) (vs : List ℕ) → member y (y ∷ vs) ≡ true
+pub member-head : (y : ℕ) (vs : List ℕ) → member y (y ∷ vs) ≡ true
 unfolding member
-mem-head y vs = or-true-l (eqb y y) (member y vs) (eq-eqb y y refl)
+member-head y vs = or-true-l (eqb y y) (member y vs) (eq-eqb y y refl)

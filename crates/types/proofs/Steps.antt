@@ -4,7 +4,7 @@ use mathlib.Core.Bool.{Bool, false, true}
 use mathlib.Core.List.{List, map}
 use mathlib.Core.Path.{_∙_, _≡_, ap, refl, subst, sym}
 use native.Mathlib.Omega.{arith}
-use Rattle.types.proofs.Finite.{all-at, map-same, solution, solution-unknown}
+use Rattle.types.proofs.Finite.{all-at, map-same, solution-unknown}
 use Rattle.types.proofs.Rational.{swap-cases, swap-miss}
 use Rattle.types.proofs.Terms.{bool-no}
 use Rattle.types.specs.Classes.{Closed, Shape, rep, swap}
@@ -19,10 +19,12 @@ module _ (N : Type 0) (same : N → N → Bool) (same-eq : (a b : N) → same a 
   pub closed-add : (view : N → View N) (P₀ L : Pairs N) (a b : N) → Closed same view P₀ L end →
       Closed same view (pair a b P₀) L (pair a b end)
   closed-add view P₀ L a b C = record {
-      wf = C .wf; shaped = C .shaped; heads = C .heads;
-      parts = λ n m h k cs ds vn vm q f fl fp. C .parts n m h k cs ds vn vm q f fl tt;
-      covers = λ f fl fp. (fp .0, C .covers f fl tt)
-    }
+    wf = C .wf;
+    shaped = C .shaped;
+    heads = C .heads;
+    parts = λ n m h k cs ds vn vm q f fl fp. C .parts n m h k cs ds vn vm q f fl tt;
+    covers = λ f fl fp. (fp .0, C .covers f fl tt);
+  }
 
   -- New nodes: where the links are between old ones, a view of the new ones may be given.
   module _ (old : N → Bool) where
@@ -44,16 +46,16 @@ module _ (N : Type 0) (same : N → N → Bool) (same-eq : (a b : N) → same a 
     pub closed-grow : (view view′ : N → View N) → ((n : N) → old n ≡ true → view n ≡ view′ n) → (P₀ L P : Pairs N) → AllP (λ a b. (old a ≡ true) × (old b ≡ true)) L →
         Closed same view P₀ L P → Closed same view′ P₀ L P
     closed-grow view view′ v P₀ L P hl C = record {
-        wf = C .wf;
-        shaped = λ n s. go n s (old n) refl;
-        heads = λ n m h k cs ds vn vm q. two-solutions n m q (h ≡ k)
+      wf = C .wf;
+      shaped = λ n s. go n s (old n) refl;
+      heads = λ n m h k cs ds vn vm q. two-solutions n m q (h ≡ k)
           (λ on om. C .heads n m h k cs ds (v n on ∙ vn) (v m om ∙ vm) q)
           (λ e. shape-0 _ _ _ _ (sym vn ∙ ap view′ e ∙ vm));
-        parts = λ n m h k cs ds vn vm q f fl fp. two-solutions n m q (map f cs ≡ map f ds)
+      parts = λ n m h k cs ds vn vm q f fl fp. two-solutions n m q (map f cs ≡ map f ds)
           (λ on om. C .parts n m h k cs ds (v n on ∙ vn) (v m om ∙ vm) q f fl fp)
           (λ e. ap (map f) (shape-1 _ _ _ _ (sym vn ∙ ap view′ e ∙ vm)));
-        covers = C .covers
-      }
+      covers = C .covers;
+    }
       where
         shape-0 : (h k : Former) (cs ds : List N) → shape h cs ≡ shape k ds → h ≡ k
         shape-0 h k cs ds q = cc
@@ -79,17 +81,17 @@ module _ (N : Type 0) (same : N → N → Bool) (same-eq : (a b : N) → same a 
 
 module _ {N : Type 0} (r : N → N) (view : N → View N) where
   -- Nodes that each have such a node below them have no bounded depth: what is left unmarked at the end is in no finite solution.
-  okv-no : (X : N → Type 0) (f : N → Bool) → ((c : N) → X c → f c ≡ true → ⊥) → (h : Former) (cs : List N) (c : N) → In c cs → X c → (v : View N) → v ≡ shape h cs → boundedView f v ≡ true → ⊥
+  boundedView-no : (X : N → Type 0) (f : N → Bool) → ((c : N) → X c → f c ≡ true → ⊥) → (h : Former) (cs : List N) (c : N) → In c cs → X c → (v : View N) → v ≡ shape h cs → boundedView f v ≡ true → ⊥
   unfolding boundedView
-  okv-no X f k h cs c i x unk e q = let z : _≡_ {A = ℕ} 0 1 = cc in omega arith
-  okv-no X f k h cs c i x (shape g ds) e q = let p : ds ≡ cs = cc in k c x (all-at f ds q c (subst (In c) (sym p) i))
+  boundedView-no X f k h cs c i x unk e q = let z : _≡_ {A = ℕ} 0 1 = cc in omega arith
+  boundedView-no X f k h cs c i x (shape g ds) e q = let p : ds ≡ cs = cc in k c x (all-at f ds q c (subst (In c) (sym p) i))
 
   pub stuck-no : (X : N → Type 0) → ((n : N) → X n → (h : Former) × (cs : List N) × (c : N) × (view (r n) ≡ shape h cs) × In c cs × X c) → (d : ℕ) (n : N) → X n → bounded r view d n ≡ true → ⊥
   unfolding bounded
   stuck-no X k zero n x q = bool-no false q refl
-  stuck-no X k (suc d) n x q = let w = k n x in okv-no X _ (λ c y e. stuck-no X k d c y e) (w .0) (w .1) (w .2) (w .4) (w .5) (view (r n)) (w .3) q
+  stuck-no X k (suc d) n x q = let w = k n x in boundedView-no X _ (λ c y e. stuck-no X k d c y e) (w .0) (w .1) (w .2) (w .4) (w .5) (view (r n)) (w .3) q
 
-  -- Where no class is unknown, solutions are one-solution.
+  -- Where no class is unknown, solutions are one.
   module _ (known : (n : N) → view (r n) ≡ unk → ⊥) (σ τ : N → Ty) (fσ : (n : N) (h : Former) (cs : List N) → view n ≡ shape h cs → σ n ≡ node h (fromList (map σ cs)))
       (fτ : (n : N) (h : Former) (cs : List N) → view n ≡ shape h cs → τ n ≡ node h (fromList (map τ cs))) (bσ : (n : N) → σ (r n) ≡ σ n) (bτ : (n : N) → τ (r n) ≡ τ n) where
     one-v : (f : N → Bool) → ((c : N) → f c ≡ true → σ c ≡ τ c) → (n : N) (v : View N) → view (r n) ≡ v → boundedView f v ≡ true → σ (r n) ≡ τ (r n)
@@ -102,11 +104,11 @@ module _ {N : Type 0} (r : N → N) (view : N → View N) where
     one-solution zero n q = absurd (bool-no false q refl)
     one-solution (suc d) n q = sym (bσ n) ∙ one-v _ (λ c e. one-solution d c e) n (view (r n)) refl q ∙ bτ n
 
--- Where a class is unknown, there are two-solutions that differ there.
+-- Where a class is unknown, there are two that differ there.
 module _ (N : Type 0) (same : N → N → Bool) (same-eq : (a b : N) → same a b ≡ true → a ≡ b) (same-ne : (a b : N) → same a b ≡ false → a ≡ b → ⊥)
     (view : N → View N) (P₀ L : Pairs N) (C : Closed same view P₀ L end) where
   pub two-solutions : (d : ℕ) (n : N) → view (rep same L n) ≡ unk → typeAt (rep same L) view (λ m. node int tnil) d n ≡ typeAt (rep same L) view (λ m. node power (tcons (node int tnil) tnil)) d n → ⊥
   two-solutions d n e q =
       let p = sym (solution-unknown N same same-eq same-ne view P₀ L C (λ m. node int tnil) d n e) ∙ q
-            ∙ solution-unknown N same same-eq same-ne view P₀ L C (λ m. node power (tcons (node int tnil) tnil)) d n e in
+      ∙ solution-unknown N same same-eq same-ne view P₀ L C (λ m. node power (tcons (node int tnil) tnil)) d n e in
       let z : _≡_ {A = ℕ} 0 1 = cc in omega arith

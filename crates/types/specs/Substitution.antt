@@ -67,17 +67,17 @@ unfoldable mutual
   grounds nil = true
   grounds (cons t ts) = and (ground t) (grounds ts)
 
--- Law 3: a state has a solution, with any types at the empty unknowns.
+-- Law 3: a state has a solution, with any types at the free unknowns.
 unfoldable pub sol : (ℕ → Ty) → Substitution → ℕ → Ty
 sol τ empty = τ
 sol τ (bind x t s) = sol (update τ x (under τ t)) s
 
--- The bindings are in order: F are the unknowns that are still empty.
+-- The bindings are in order: F are the unknowns that are still free.
 abbrev pub Tri : (ℕ → Type 0) → Substitution → Type 0
 Tri F empty = Unit {0}
 Tri F (bind x t s) = (F x → ⊥) × Each F t × Tri (λ y. eqb y x ≡ false → F y) s
 
--- All the unknowns, empty or bound.
+-- All the unknowns, free or bound.
 abbrev pub Base : (ℕ → Type 0) → Substitution → ℕ → Type 0
 Base F empty y = F y
 Base F (bind x t s) y = Base (λ z. eqb z x ≡ false → F z) s y
@@ -86,7 +86,7 @@ abbrev pub Dom : (ℕ → Type 0) → Substitution → Type 0
 Dom N empty = Unit {0}
 Dom N (bind x t s) = N x × Dom N s
 
--- A state: vs are the empty unknowns, and N has all.
+-- A state: vs are the free unknowns, and N has all.
 pub record State (N : ℕ → Type 0) (vs : List ℕ) (s : Substitution) : Type 0 where
   pub tri : Tri (λ y. member y vs ≡ true) s
   pub dom : Dom N s

@@ -6,7 +6,7 @@ use mathlib.Core.Bool.{Bool, false, true}
 use mathlib.Core.List.{List}
 use mathlib.Core.Option.{Option, none, some}
 use Rattle.types.specs.Equations.{Pairs, end, pair}
-use Rattle.types.specs.Former.{and, sameFormer}
+use Rattle.types.specs.Former.{sameFormer}
 use Rattle.types.specs.Substitution.{Respects, State, Substitution, bind, occurs, replace, resolve, without}
 use Rattle.types.specs.Types.{Each, Term, Terms, Ty, con, cons, nil, termSize, unknown}
 
