@@ -22,7 +22,7 @@ use Rattle.solver.specs.Store.{frozen, linkAt, linkOf, view, Cell, load,
 use Rattle.solver.specs.Flat.{Kept, Straight}
 use Rattle.solver.specs.Calls.{Root}
 use Rattle.solver.proofs.Links.{WfN, rep-below}
-use Rattle.solver.proofs.Words.{frozen-set}
+use Rattle.solver.proofs.Words.{frozen-set, link-new, link-same}
 
 abbrev pick : Bool → ℕ → ℕ → ℕ
 pick true x y = x
@@ -172,30 +172,31 @@ module _ (s : List ℕ) (n : ℕ) (P₀ L : Pairs ℕ) (X : Solved s n P₀ L) (
       go true = rb
       go false = h .0 .1
 
-  few-i : i < 1024
+  few-i : i < 768
   few-i = let f = X .held .few in omega arith
 
-  still₁ : frozen (set s i (suc r)) ≡ frozen s
-  still₁ = let f = few-i in frozen-set s i (suc r) (omega arith)
+  still₁ : frozen (set s (7168 + i) (suc r)) ≡ frozen s
+  still₁ = let f = few-i in frozen-set s (7168 + i) (suc r) (omega arith)
 
-  links-c : (j : ℕ) → j < n → (v : ℕ) → linkAt s j ≡ v → (c : Bool) → eqb j i ≡ c → next eqb L₁ j ≡ linkOf (linkAt (set s i (suc r)) j)
-  unfolding linkOf linkAt
+  links-c : (j : ℕ) → j < n → (v : ℕ) → linkAt s j ≡ v → (c : Bool) → eqb j i ≡ c → next eqb L₁ j ≡ linkOf (linkAt (set s (7168 + i) (suc r)) j)
+  unfolding linkOf
   links-c j m zero e true q = absurd (linked (ap (linkAt s) (sym (eqb-true j i q)) ∙ e))
   links-c j m (suc v) e true q =
       some-flat i r L j v (X .held .links j m ∙ ap linkOf e) ∙ ap (λ c. some (pick c r v)) q
-      ∙ sym (ap (λ z. linkOf (getD (set s i (suc r)) z 0)) (eqb-true j i q) ∙ ap linkOf (getD-set-same s i (suc r) 0 (let f = few-i in let z = X .held .size in omega arith)))
-  links-c j m zero e false q = none-flat i r L j (X .held .links j m ∙ ap linkOf e) ∙ sym (ap linkOf (getD-set-other s i j (suc r) 0 (eqb-false j i q) ∙ e))
+      ∙ sym (ap (λ z. linkOf (linkAt (set s (7168 + i) (suc r)) z)) (eqb-true j i q)
+      ∙ ap linkOf (link-new _ i (suc r) (let b = rb in let f = X .held .few in omega arith) (getD-set-same s (7168 + i) (suc r) 0 (let f = few-i in let z = X .held .size in omega arith))))
+  links-c j m zero e false q = none-flat i r L j (X .held .links j m ∙ ap linkOf e) ∙ sym (ap linkOf (link-same s _ j j (getD-set-other s (7168 + i) (7168 + j) (suc r) 0 (λ z. eqb-false j i q (omega arith))) ∙ e))
   links-c j m (suc v) e false q =
-      some-flat i r L j v (X .held .links j m ∙ ap linkOf e) ∙ ap (λ c. some (pick c r v)) q ∙ sym (ap linkOf (getD-set-other s i j (suc r) 0 (eqb-false j i q) ∙ e))
+      some-flat i r L j v (X .held .links j m ∙ ap linkOf e) ∙ ap (λ c. some (pick c r v)) q ∙ sym (ap linkOf (link-same s _ j j (getD-set-other s (7168 + i) (7168 + j) (suc r) 0 (λ z. eqb-false j i q (omega arith))) ∙ e))
 
-  pub straight : Kept (set s i (suc r)) n P₀ L
+  pub straight : Kept (set s (7168 + i) (suc r)) n P₀ L
   straight = record {
     L′ = L₁;
     solved = record {
       held = record {
-        size = length-set s i (suc r) ∙ X .held .size;
+        size = length-set s (7168 + i) (suc r) ∙ X .held .size;
         few = X .held .few;
-        room = subst (λ w. load w n < 3072) (sym still₁) (X .held .room);
+        room = subst (λ w. load w n < 1536) (sym still₁) (X .held .room);
         cells = λ j m. subst (λ w. Cell w j) (sym still₁) (X .held .cells j m);
         links = λ j m. links-c j m (linkAt s j) refl (eqb j i) refl;
         wf = wf₁;
@@ -208,9 +209,9 @@ module _ (s : List ℕ) (n : ℕ) (P₀ L : Pairs ℕ) (X : Solved s n P₀ L) (
     same = same-rep;
   }
 
-pub straightened : (s : List ℕ) (n i r : ℕ) → length s ≡ 16384 → i < 1024 → Root s i r → (linkAt s i ≡ 0 → ⊥) → Straight s (set s i (suc r)) i n
+pub straightened : (s : List ℕ) (n i r : ℕ) → length s ≡ 16384 → i < 768 → Root s i r → (linkAt s i ≡ 0 → ⊥) → Straight s (set s (7168 + i) (suc r)) i n
 straightened s n i r z f Q d = record {
-  still = frozen-set s i (suc r) (omega arith);
+  still = frozen-set s (7168 + i) (suc r) (omega arith);
   keeps = λ P₀ L X l. straight s n P₀ L X i r l (Q .is n L (X .held) l) (Q .free) d;
 }
 

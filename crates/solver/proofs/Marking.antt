@@ -27,7 +27,7 @@ use Rattle.solver.specs.Store.{frozen, linkAt, fieldAt, tagAt, firstAt, 
 use Rattle.solver.specs.Sizes.{cap, markAt, unless, total, sizeOf, sizeAt, bare, typeAt, Sized, Marks, Same, Solution, Size, One}
 use Rattle.solver.specs.Calls.{Known, Root}
 use Rattle.solver.proofs.Links.{rep-below, upto, upto-in, upto-len}
-use Rattle.solver.proofs.Words.{frozen-set, run-cons}
+use Rattle.solver.proofs.Words.{frozen-set, run-cons, link-same}
 use Rattle.solver.proofs.Heads.{view-unk, view-shape}
 use Rattle.solver.proofs.Linking.{held-same}
 use Rattle.solver.proofs.Growing.{view-made, lt-or-ge}
@@ -293,23 +293,23 @@ same-solved s t a n P₀ L S = record {
 }
 
 -- A mark.
-module _ (s : List ℕ) (i v : ℕ) (size : length s ≡ 16384) (l : i < 1024) where
-  pub mark-same : Same s (set s (1024 + i) v)
+module _ (s : List ℕ) (i v : ℕ) (size : length s ≡ 16384) (l : i < 768) where
+  pub mark-same : Same s (set s (7936 + i) v)
   mark-same = record {
-    size = length-set s (1024 + i) v;
-    still = frozen-set s (1024 + i) v (omega arith);
-    links = unfold linkAt in (λ j m. getD-set-other s (1024 + i) j v 0 (λ e. omega arith));
+    size = length-set s (7936 + i) v;
+    still = frozen-set s (7936 + i) v (omega arith);
+    links = λ j m. link-same s _ j j (getD-set-other s (7936 + i) (7168 + j) v 0 (λ e. omega arith));
   }
 
-  pub mark-hit : markAt (set s (1024 + i) v) i ≡ v
+  pub mark-hit : markAt (set s (7936 + i) v) i ≡ v
   unfolding markAt
-  mark-hit = getD-set-same s (1024 + i) v 0 (omega arith)
+  mark-hit = getD-set-same s (7936 + i) v 0 (omega arith)
 
-  pub mark-miss : (j : ℕ) → (j ≡ i → ⊥) → markAt (set s (1024 + i) v) j ≡ markAt s j
+  pub mark-miss : (j : ℕ) → (j ≡ i → ⊥) → markAt (set s (7936 + i) v) j ≡ markAt s j
   unfolding markAt
-  mark-miss j d = getD-set-other s (1024 + i) (1024 + j) v 0 (λ e. d (omega arith))
+  mark-miss j d = getD-set-other s (7936 + i) (7936 + j) v 0 (λ e. d (omega arith))
 
-  bare-low : (m : ℕ) → m ≤ i → bare (set s (1024 + i) v) m ≡ bare s m
+  bare-low : (m : ℕ) → m ≤ i → bare (set s (7936 + i) v) m ≡ bare s m
   unfolding bare
   bare-low zero q = refl
   bare-low (suc m) q = ap₂ (λ x y. sizeOf x 0 + y) (mark-miss m (λ e. omega arith)) (bare-low m (omega arith))
@@ -320,18 +320,18 @@ module _ (s : List ℕ) (i v : ℕ) (size : length s ≡ 16384) (l : i < 1024) w
   pos-0 (suc x) d = refl
 
   module _ (free : markAt s i ≡ 0) (some : v ≡ 0 → ⊥) where
-    term-new : sizeOf (markAt (set s (1024 + i) v) i) 0 ≡ 0
+    term-new : sizeOf (markAt (set s (7936 + i) v) i) 0 ≡ 0
     term-new = pos-0 _ (λ e. some (sym mark-hit ∙ e))
 
     term-old : sizeOf (markAt s i) 0 ≡ 1
     unfolding sizeOf
     term-old = ap (λ x. sizeOf x 0) free
 
-    pub bare-mark : (m : ℕ) → i < m → bare (set s (1024 + i) v) m + 1 ≡ bare s m
+    pub bare-mark : (m : ℕ) → i < m → bare (set s (7936 + i) v) m + 1 ≡ bare s m
     unfolding bare
     bare-mark zero q = absurd (omega arith)
     bare-mark (suc m) q = ⊎-elim
-        (λ e. subst (λ z. sizeOf (markAt (set s (1024 + i) v) z) 0 + bare (set s (1024 + i) v) z + 1 ≡ sizeOf (markAt s z) 0 + bare s z) e
+        (λ e. subst (λ z. sizeOf (markAt (set s (7936 + i) v) z) 0 + bare (set s (7936 + i) v) z + 1 ≡ sizeOf (markAt s z) 0 + bare s z) e
         (omega (arith, term-new, term-old, bare-low i (omega arith))))
         (λ p. omega (arith, bare-mark m p, ap (λ x. sizeOf x 0) (mark-miss m (λ e. omega arith))))
         (eq-or-lt-of-le q′)
@@ -340,20 +340,20 @@ module _ (s : List ℕ) (i v : ℕ) (size : length s ≡ 16384) (l : i < 1024) w
         q′ = omega arith
 
   -- Marks stay right where the new one is.
-  pub marks-set : (n : ℕ) (L : Pairs ℕ) → Sized (frozen s) n L i v → Marks s n L → Marks (set s (1024 + i) v) n L
+  pub marks-set : (n : ℕ) (L : Pairs ℕ) → Sized (frozen s) n L i v → Marks s n L → Marks (set s (7936 + i) v) n L
   marks-set n L z M = record { right = λ j q d. go j q d (eqb j i) refl }
     where
-      e : frozen (set s (1024 + i) v) ≡ frozen s
-      e = frozen-set s (1024 + i) v (omega arith)
+      e : frozen (set s (7936 + i) v) ≡ frozen s
+      e = frozen-set s (7936 + i) v (omega arith)
 
-      go : (j : ℕ) → j < n → (markAt (set s (1024 + i) v) j ≡ 0 → ⊥) → (b : Bool) → eqb j i ≡ b → Sized (frozen (set s (1024 + i) v)) n L j (markAt (set s (1024 + i) v) j)
+      go : (j : ℕ) → j < n → (markAt (set s (7936 + i) v) j ≡ 0 → ⊥) → (b : Bool) → eqb j i ≡ b → Sized (frozen (set s (7936 + i) v)) n L j (markAt (set s (7936 + i) v) j)
       go j q d true t =
           let ji = eqb-true j i t in
-          subst (λ y. Sized (frozen (set s (1024 + i) v)) n L y (markAt (set s (1024 + i) v) y)) (sym ji)
-          (subst (λ y. Sized y n L i (markAt (set s (1024 + i) v) i)) (sym e) (subst (λ y. Sized (frozen s) n L i y) (sym mark-hit) z))
+          subst (λ y. Sized (frozen (set s (7936 + i) v)) n L y (markAt (set s (7936 + i) v) y)) (sym ji)
+          (subst (λ y. Sized y n L i (markAt (set s (7936 + i) v) i)) (sym e) (subst (λ y. Sized (frozen s) n L i y) (sym mark-hit) z))
       go j q d false t =
           let m = mark-miss j (eqb-false j i t) in
-          subst (λ y. Sized y n L j (markAt (set s (1024 + i) v) j)) (sym e) (subst (λ y. Sized (frozen s) n L j y) (sym m) (M .right j q (λ y. d (m ∙ y))))
+          subst (λ y. Sized y n L j (markAt (set s (7936 + i) v) j)) (sym e) (subst (λ y. Sized (frozen s) n L j y) (sym m) (M .right j q (λ y. d (m ∙ y))))
 
 pub size-unk : (s : List ℕ) (r : ℕ) → tagAt (frozen s) r ≡ 0 → 1 ≡ sizeAt s r
 unfolding sizeAt sizeOf
@@ -370,7 +370,7 @@ size-shape s r d = go (tagAt (frozen s) r) d
 pub known-root : (s : List ℕ) (i r : ℕ) → Known s i → Root s i r → Known s r
 known-root s i r k q = record { n = k .n; L = k .L; held = k .held; made = subst (λ z. z < k .n) (q .is (k .n) (k .L) (k .held) (k .made)) (rep-below (k .n) (k .L) (k .held .inside) i (k .made)) }
 
-pub few-cell : (s : List ℕ) (i : ℕ) → Known s i → i < 1024
+pub few-cell : (s : List ℕ) (i : ℕ) → Known s i → i < 768
 few-cell s i k = let f = k .held .few in let l = k .made in omega arith
 
 pub one-none : (s : List ℕ) (i : ℕ) → (markAt s i ≡ 0 → (n : ℕ) (L : Pairs ℕ) → Held s n L → i < n → sizeAt s (rep eqb L i) ≡ 0) → One s s i 0
@@ -386,7 +386,7 @@ one-none s i h = record {
   is = λ d. absurd (d refl);
 }
 
-pub one-some : (s : List ℕ) (i v : ℕ) → Known s i → markAt s i ≡ 0 → (v ≡ 0 → ⊥) → Size s i v → One s (set s (1024 + i) v) i 1
+pub one-some : (s : List ℕ) (i v : ℕ) → Known s i → markAt s i ≡ 0 → (v ≡ 0 → ⊥) → Size s i v → One s (set s (7936 + i) v) i 1
 one-some s i v k e d z = record {
   same = mark-same s i v (k .held .size) (few-cell s i k);
   few = omega arith;

@@ -31,7 +31,7 @@ pub round-known : (s t : List ℕ) (n k i : ℕ) → RoundTo s t n k i → Read 
 round-known s t n k i R D l = record { n = n; L = D .L; held = same-held s t (R .same) n (D .L) (D .held); made = l }
 
 module _ (s t u : List ℕ) (n k i d : ℕ) (R : RoundTo s t n k i) (D : Read s n) (l : i < n) (O : One t u i d) where
-  few-i : i < 1024
+  few-i : i < 768
   few-i = let f = D .held .few in omega arith
 
   size : length t ≡ 16384

@@ -14,7 +14,7 @@ use Rattle.types.specs.Equations.{AllP, InP, Pairs, end, pair}
 use Rattle.types.specs.Follows.{Clash, Follows, View, matching, reflexive, stated, symmetric, transitive}
 use Rattle.solver.specs.Store.{frozen, linkAt, tagAt, countAt, view, Cell, load, weight, Both, Held, Solved, pending, Busy}
 use Rattle.solver.specs.Calls.{Known, Root, Two, Alike, Pushing, Pushed, Open, Next, Turned, Popped, Asking, Done}
-use Rattle.solver.proofs.Words.{frozen-length, frozen-set, pushed, push-pending, push-frozen, push-front, pending-low}
+use Rattle.solver.proofs.Words.{frozen-length, frozen-set, pushed, push-pending, push-frozen, push-front, pending-low, link-same}
 use Rattle.solver.proofs.Linking.{
   weight-same,
   held-same,
@@ -40,16 +40,16 @@ pos e ne = omega arith
 
 -- The two ends of the newest pair are cells.
 module _ (s : List ℕ) (k : ℕ) (o : Open s (suc k)) where
-  pub few : k < 3072
+  pub few : k < 1536
   few = let f = o .busy .fit in omega arith
 
-  pub known-a : Known s (getD s (2048 + 2 * k) 0)
+  pub known-a : Known s (getD s (8704 + 2 * k) 0)
   known-a = record { n = o .n; L = o .L; held = o .busy .held; made = below-a s (o .n) (o .P₀) (o .L) k (o .busy) }
 
-  pub known-b : Known s (getD s (2049 + 2 * k) 0)
+  pub known-b : Known s (getD s (8705 + 2 * k) 0)
   known-b = record { n = o .n; L = o .L; held = o .busy .held; made = below-b s (o .n) (o .P₀) (o .L) k (o .busy) }
 
-  pub skip-turned : (x y : ℕ) → Root s (getD s (2048 + 2 * k) 0) x → Root s (getD s (2049 + 2 * k) 0) y → x ≡ y → Turned s s (suc k) true k
+  pub skip-turned : (x y : ℕ) → Root s (getD s (8704 + 2 * k) 0) x → Root s (getD s (8705 + 2 * k) 0) y → x ≡ y → Turned s s (suc k) true k
   skip-turned x y rx ry e = record {
     still = refl;
     falls = λ t. omega arith;
@@ -60,10 +60,10 @@ module _ (s : List ℕ) (k : ℕ) (o : Open s (suc k)) where
 
 module _ (s : List ℕ) (k x y : ℕ) (p : Popped s k x y) where
   module _ (n : ℕ) (P₀ L : Pairs ℕ) (B : Busy s n P₀ L (suc k)) where
-    ra : rep eqb L (getD s (2048 + 2 * k) 0) ≡ x
+    ra : rep eqb L (getD s (8704 + 2 * k) 0) ≡ x
     ra = p .left .is n L (B .held) (below-a s n P₀ L k B)
 
-    rb : rep eqb L (getD s (2049 + 2 * k) 0) ≡ y
+    rb : rep eqb L (getD s (8705 + 2 * k) 0) ≡ y
     rb = p .right .is n L (B .held) (below-b s n P₀ L k B)
 
     x-below : x < n
@@ -78,24 +78,24 @@ module _ (s : List ℕ) (k x y : ℕ) (p : Popped s k x y) where
   abbrev o : Open s (suc k)
   o = p .reading
 
-  pub few-x : x < 1024
+  pub few-x : x < 768
   few-x = let l = x-below (o .n) (o .P₀) (o .L) (o .busy) in let f = o .busy .held .few in omega arith
 
-  pub few-y : y < 1024
+  pub few-y : y < 768
   few-y = let l = y-below (o .n) (o .P₀) (o .L) (o .busy) in let f = o .busy .held .few in omega arith
 
-  pub left-turned : tagAt (frozen s) x ≡ 0 → Turned s (set s x (suc y)) (suc k) true k
+  pub left-turned : tagAt (frozen s) x ≡ 0 → Turned s (set s (7168 + x) (suc y)) (suc k) true k
   left-turned t = record {
-    still = still₁ s x y size few-x;
-    falls = λ e. omega (arith, weight-link s x y size few-x (p .left .free) 1024 few-x);
+    still = still₁ s x y size few-x few-y;
+    falls = λ e. omega (arith, weight-link s x y size few-x few-y (p .left .free) 768 few-x);
     goes = λ e n P₀ L B. left-unk s n P₀ L k B x y (ra n P₀ L B) (rb n P₀ L B) (p .apart) (p .left .free) (p .right .free) t;
     stops = λ f n P₀ L B. absurd (bool-no true refl f);
   }
 
-  pub right-turned : tagAt (frozen s) y ≡ 0 → Turned s (set s y (suc x)) (suc k) true k
+  pub right-turned : tagAt (frozen s) y ≡ 0 → Turned s (set s (7168 + y) (suc x)) (suc k) true k
   right-turned t = record {
-    still = still₁ s y x size few-y;
-    falls = λ e. omega (arith, weight-link s y x size few-y (p .right .free) 1024 few-y);
+    still = still₁ s y x size few-y few-x;
+    falls = λ e. omega (arith, weight-link s y x size few-y few-x (p .right .free) 768 few-y);
     goes = λ e n P₀ L B. right-unk s n P₀ L k B x y (ra n P₀ L B) (rb n P₀ L B) (p .apart) (p .left .free) (p .right .free) t;
     stops = λ f n P₀ L B. absurd (bool-no true refl f);
   }
@@ -121,26 +121,26 @@ module _ (s : List ℕ) (k x y : ℕ) (p : Popped s k x y) where
     }
 
     module _ (al : Alike (frozen s) x y) where
-      pub pushing : Pushing (set s x (suc y)) k x y
+      pub pushing : Pushing (set s (7168 + x) (suc y)) k x y
       pushing =
-          let e = still₁ s x y size few-x in
+          let e = still₁ s x y size few-x few-y in
           let c = ap (λ w. countAt w x) e in
           let f = o .busy .fit in
           let l = x-below (o .n) (o .P₀) (o .L) (o .busy) in
           record {
-            size = length-set s x (suc y) ∙ size;
+            size = length-set s (7168 + x) (suc y) ∙ size;
             two = subst (λ w. Two w x y) (sym e) two;
             same = subst (λ w. countAt w x ≡ countAt w y) (sym e) (al .1);
-            fit = omega (arith, weight-link s x y size few-x (p .left .free) (o .n) l);
+            fit = omega (arith, weight-link s x y size few-x few-y (p .left .free) (o .n) l);
           }
 
-      pub both-turned : (s₂ : List ℕ) (r : ℕ) → length s₂ ≡ length (set s x (suc y)) → Pushed (set s x (suc y)) s₂ k x y r → Turned s s₂ (suc k) true r
+      pub both-turned : (s₂ : List ℕ) (r : ℕ) → length s₂ ≡ length (set s (7168 + x) (suc y)) → Pushed (set s (7168 + x) (suc y)) s₂ k x y r → Turned s s₂ (suc k) true r
       both-turned s₂ r len q = record {
-        still = q .still ∙ still₁ s x y size few-x;
+        still = q .still ∙ still₁ s x y size few-x few-y;
         falls = λ e. omega (
           arith,
           weight₂ s (o .n) (o .P₀) (o .L) k (o .busy) x y (ra (o .n) (o .P₀) (o .L) (o .busy)) (rb (o .n) (o .P₀) (o .L) (o .busy)) (p .apart) (p .left .free) (p .right .free)
-              tx ty al s₂ r len (q .count) (q .still) (q .front) (q .pairs) 1024 (omega arith) few-x,
+              tx ty al s₂ r len (q .count) (q .still) (q .front) (q .pairs) 768 (omega arith) few-x,
         );
         goes = λ e n P₀ L B. both-shape s n P₀ L k B x y (ra n P₀ L B) (rb n P₀ L B) (p .apart) (p .left .free) (p .right .free)
             tx ty al s₂ r len (q .count) (q .still) (q .front) (q .pairs);
@@ -169,7 +169,7 @@ module _ (s : List ℕ) (n : ℕ) (P₀ L : Pairs ℕ) (S : Solved s n P₀ L) (
   begin =
       let size = S .held .size in
       let ew = push-frozen s 0 x y size (omega arith) in
-      let el : ((i : ℕ) → i < 1024 → linkAt (pushed s 0 x y) i ≡ linkAt s i) = unfold linkAt in (λ i l. push-front s 0 x y size (omega arith) i (omega arith)) in
+      let el : ((i : ℕ) → i < 768 → linkAt (pushed s 0 x y) i ≡ linkAt s i) = (λ i l. link-same s (pushed s 0 x y) i i (push-front s 0 x y size (omega arith) (7168 + i) (omega arith))) in
       let f = S .held .few in
       record {
         L = L;

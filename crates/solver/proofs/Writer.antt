@@ -206,7 +206,7 @@ module _ (s : List ℕ) (i r k : ℕ) (Q : Root s i r) (ek : k ≡ countAt (froz
   pub r-below : r < n
   r-below = subst (λ z. z < n) q (rep-below n L (R .held .inside) i l)
 
-  pub r-few : r < 1024
+  pub r-few : r < 768
   r-few = let f = R .held .few in let b = r-below in omega arith
 
   pub r-cell : Cell (frozen s) r

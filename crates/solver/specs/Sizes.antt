@@ -18,7 +18,7 @@ unfoldable pub cap : ℕ → ℕ
 cap x = elim (ltb x 33) [ true ↦ x | false ↦ 33 ]
 
 unfoldable pub markAt : List ℕ → ℕ → ℕ
-markAt s i = getD s (1024 + i) 0
+markAt s i = getD s (7936 + i) 0
 
 unfoldable pub unless : ℕ → ℕ → ℕ
 unless zero v = 0
@@ -58,7 +58,7 @@ pub record Marks (s : List ℕ) (n : ℕ) (L : Pairs ℕ) : Type 0 where
 pub record Same (s s′ : List ℕ) : Type 0 where
   pub size : length s′ ≡ length s
   pub still : frozen s′ ≡ frozen s
-  pub links : (i : ℕ) → i < 1024 → linkAt s′ i ≡ linkAt s i
+  pub links : (i : ℕ) → i < 768 → linkAt s′ i ≡ linkAt s i
 
 pub record Read (s : List ℕ) (n : ℕ) : Type 0 where
   pub L : Pairs ℕ
@@ -83,7 +83,7 @@ pub record One (s s′ : List ℕ) (i k : ℕ) : Type 0 where
   pub stuck : k ≡ 0 → markAt s i ≡ 0 → (n : ℕ) (L : Pairs ℕ) → Held s n L → i < n → sizeAt s (rep eqb L i) ≡ 0
   pub free : (k ≡ 0 → ⊥) → markAt s i ≡ 0
   pub value : ℕ
-  pub words : (k ≡ 0 → ⊥) → s′ ≡ set s (1024 + i) value
+  pub words : (k ≡ 0 → ⊥) → s′ ≡ set s (7936 + i) value
   pub some : (k ≡ 0 → ⊥) → value ≡ 0 → ⊥
   pub is : (k ≡ 0 → ⊥) → (n : ℕ) (L : Pairs ℕ) → Held s n L → i < n → value ≡ sizeAt s (rep eqb L i)
 

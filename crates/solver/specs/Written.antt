@@ -62,7 +62,7 @@ abbrev pub Typed : List ℕ → List ℕ → List ℕ → ℕ → ℕ → ℕ �
 Typed s out out′ at i e = (n : ℕ) (L : Pairs ℕ) → Ready s n L → i < n → Wrote out out′ at e (words (typeAt (frozen s) n L i))
 
 pub record Leading (s : List ℕ) (r at : ℕ) : Type 0 where
-  pub few : r < 1024
+  pub few : r < 768
   pub tags : tagAt (frozen s) r ≤ 6
   pub some : 0 < tagAt (frozen s) r
   pub room : at < 2 ^ 40

@@ -1,13 +1,31 @@
-// The solver over cells in a flat area of words: see specs/Store.antt.
+// The solver over cells in the caller's work area: specs/Store.antt has the layout, specs/Layout.antt how it follows from the capacity.
 ghost use mathlib.Core.Path.{_≡_};
 ghost use Prim.Native.Nat.{ℕ, suc, _+_, _*_, _<_, _≤_, _^_};
 ghost use lib.ListN.{length, getD, set};
-ghost use Rattle.solver.specs.Store.{frozen, fieldAt, tagAt, firstAt, countAt, run, partsAt, Cell};
+ghost use Rattle.solver.specs.Store.{frozen, linkAt, fieldAt, tagAt, firstAt, countAt, run, partsAt, Cell};
 ghost use Rattle.solver.specs.Flat.{Sound, Straight, Flattened};
 ghost use Rattle.solver.specs.Written.{leadAt, nameAt, Wrote, Writing, Typed, Leading};
 ghost use Rattle.solver.specs.Answers.{Scanned, Placed, Looked};
 ghost use Rattle.solver.specs.Sizes.{cap, markAt, total, Size, One, Read, Round, Rounds, Cleared, Tested};
 ghost use Rattle.solver.specs.Calls.{put, Making, Made, Adding, Added, Tells, Known, Root, Runs, Two, Alike, Pushing, Pushed, Open, Turned, Popped, Drained, Asking, Merged};
+
+const CELLS: usize = 768;
+
+const LINKS: usize = 7168;
+
+const MARKS: usize = LINKS + CELLS;
+
+const PAIRS: usize = MARKS + CELLS;
+
+const SECONDS: usize = PAIRS + 1;
+
+const RECORDS: usize = PAIRS + 2 * 1536;
+
+const ARGUMENTS: usize = RECORDS + 1;
+
+const FIRSTS: usize = RECORDS + 2;
+
+const COUNTS: usize = RECORDS + 3;
 
 pub struct Step {
     pub fine: bool,
@@ -35,7 +53,7 @@ fn held(a: &[u32], k: usize) -> usize
     requires { ⌜ k < 2 ^ 40 ⌝ }
     ensures { λ r. ⌜ (r ≡ getD (frozen (now (a .entry))) k 0) × (r < 2 ^ 32) ⌝ }
 {
-    word(a, 8192 + k)
+    word(a, RECORDS + k)
 }
 
 // Word j of cell i.
@@ -54,16 +72,36 @@ fn part(a: &[u32], i: usize, j: usize) -> usize
     held(a, field(a, i, 2) + j)
 }
 
+// The link of cell k: 0 where it is a representative.
+fn link(a: &[u32], k: usize) -> usize
+    requires { ⌜ k < 2 ^ 32 ⌝ }
+    ensures { λ r. ⌜ (r ≡ linkAt (now (a .entry)) k) × (r < 769) ⌝ }
+{
+    let v = word(a, LINKS + k);
+    if v < 769 {
+        return v;
+    }
+    0
+}
+
+// Links cell x to y.
+fn set_link(a: &mut [u32], x: usize, y: usize)
+    requires { ⌜ (x < 768) × (y < 768) ⌝ }
+    ensures { λ _. ⌜ now (a .exit) ≡ set (now (a .entry)) (7168 + x) (suc y) ⌝ }
+{
+    store(a, LINKS + x, (y + 1) as u32);
+}
+
 // The representative of cell i.
 pub fn find(a: &[u32], i: usize) -> usize
     requires { ⌜ Known (now a) i ⌝ }
     ensures { λ r. ⌜ Root (now (a .entry)) i r ⌝ }
 {
     let mut k = i;
-    let mut l = word(a, k);
+    let mut l = link(a, k);
     while l != 0 {
         k = l - 1;
-        l = word(a, k);
+        l = link(a, k);
     }
     k
 }
@@ -106,11 +144,11 @@ fn same_head(a: &[u32], x: usize, y: usize) -> bool
 
 // Pair number k of those that are pending.
 fn push(a: &mut [u32], k: usize, p: usize, q: usize)
-    requires { ⌜ (k < 3072) × (p < 2 ^ 32) × (q < 2 ^ 32) ⌝ }
-    ensures { λ _. ⌜ now (a .exit) ≡ set (set (now (a .entry)) (2048 + 2 * k) p) (2049 + 2 * k) q ⌝ }
+    requires { ⌜ (k < 1536) × (p < 2 ^ 32) × (q < 2 ^ 32) ⌝ }
+    ensures { λ _. ⌜ now (a .exit) ≡ set (set (now (a .entry)) (8704 + 2 * k) p) (8705 + 2 * k) q ⌝ }
 {
-    store(a, 2048 + 2 * k, p as u32);
-    store(a, 2049 + 2 * k, q as u32);
+    store(a, PAIRS + 2 * k, p as u32);
+    store(a, SECONDS + 2 * k, q as u32);
 }
 
 // The parts of x and y, pair by pair, on the k pairs that are pending.
@@ -135,21 +173,21 @@ fn join(a: &mut [u32], k: usize, x: usize, y: usize) -> Step
     ensures { λ r. ⌜ Turned (now (a .entry)) (now (a .exit)) (suc k) (r .fine) (r .left) ⌝ }
 {
     if field(a, x, 0) == 0 {
-        store(a, x, (y + 1) as u32);
+        set_link(a, x, y);
         return Step {
             fine: true,
             left: k,
         };
     }
     if field(a, y, 0) == 0 {
-        store(a, y, (x + 1) as u32);
+        set_link(a, y, x);
         return Step {
             fine: true,
             left: k,
         };
     }
     if same_head(a, x, y) {
-        store(a, x, (y + 1) as u32);
+        set_link(a, x, y);
         let left = push_parts(a, k, x, y);
         return Step {
             fine: true,
@@ -167,8 +205,8 @@ fn turn(a: &mut [u32], k: usize) -> Step
     requires { ⌜ Open (now a) (suc k) ⌝ }
     ensures { λ r. ⌜ Turned (now (a .entry)) (now (a .exit)) (suc k) (r .fine) (r .left) ⌝ }
 {
-    let x = find(a, word(a, 2048 + 2 * k));
-    let y = find(a, word(a, 2049 + 2 * k));
+    let x = find(a, word(a, PAIRS + 2 * k));
+    let y = find(a, word(a, SECONDS + 2 * k));
     if x == y {
         return Step {
             fine: true,
@@ -206,15 +244,15 @@ pub fn merge(a: &mut [u32], x: usize, y: usize) -> bool
 
 // Writes cell n.
 fn put_cell(a: &mut [u32], n: usize, tag: u32, arg: u32, first: u32, count: u32)
-    requires { ⌜ n < 1024 ⌝ }
+    requires { ⌜ n < 768 ⌝ }
     ensures { λ _. ⌜ now (a .exit) ≡ put (now (a .entry)) n tag arg first count ⌝ }
 {
-    store(a, n, 0);
+    store(a, LINKS + n, 0);
     let at = 4 * n;
-    store(a, 8192 + at, tag);
-    store(a, 8193 + at, arg);
-    store(a, 8194 + at, first);
-    store(a, 8195 + at, count);
+    store(a, RECORDS + at, tag);
+    store(a, ARGUMENTS + at, arg);
+    store(a, FIRSTS + at, first);
+    store(a, COUNTS + at, count);
 }
 
 // A new cell, number n.
@@ -227,10 +265,10 @@ pub fn new_cell(a: &mut [u32], n: usize, tag: u32, arg: u32, first: u32, count: 
 
 // A new unknown, cell number n.
 pub fn new_unknown(a: &mut [u32], n: usize)
-    requires { ⌜ Making (now a) n 0 0 4096 0 ⌝ }
-    ensures { λ _. ⌜ Made (now (a .entry)) (now (a .exit)) n 0 0 4096 0 ⌝ }
+    requires { ⌜ Making (now a) n 0 0 3072 0 ⌝ }
+    ensures { λ _. ⌜ Made (now (a .entry)) (now (a .exit)) n 0 0 3072 0 ⌝ }
 {
-    new_cell(a, n, 0, 0, 4096, 0);
+    new_cell(a, n, 0, 0, 3072, 0);
 }
 
 // A word more in the runs, at top: the caller's ghost count of cells is n.
@@ -238,7 +276,7 @@ pub fn add_word(a: &mut [u32], n: usize, top: usize, x: u32)
     requires { ⌜ Adding (now a) n top ⌝ }
     ensures { λ _. ⌜ Added (now (a .entry)) (now (a .exit)) n top x ⌝ }
 {
-    store(a, 8192 + top, x);
+    store(a, RECORDS + top, x);
 }
 
 // Sizes stop at 33.
@@ -260,7 +298,7 @@ fn sum_parts(a: &[u32], r: usize) -> usize
     let mut sum = 1;
     let mut j = 0;
     while j < m {
-        let v = word(a, 1024 + part(a, r, j));
+        let v = word(a, MARKS + part(a, r, j));
         if v == 0 {
             return 0;
         }
@@ -287,14 +325,14 @@ fn mark_one(a: &mut [u32], i: usize) -> usize
     requires { ⌜ Known (now a) i ⌝ }
     ensures { λ k. ⌜ One (now (a .entry)) (now (a .exit)) i k ⌝ }
 {
-    if word(a, 1024 + i) != 0 {
+    if word(a, MARKS + i) != 0 {
         return 0;
     }
     let v = size_of(a, i);
     if v == 0 {
         return 0;
     }
-    store(a, 1024 + i, v as u32);
+    store(a, MARKS + i, v as u32);
     1
 }
 
@@ -329,18 +367,18 @@ fn clear_marks(a: &mut [u32], n: usize)
 {
     let mut i = 0;
     while i < n {
-        store(a, 1024 + i, 0);
+        store(a, MARKS + i, 0);
         i += 1;
     }
 }
 
 fn all_marked(a: &[u32], n: usize) -> bool
-    requires { ⌜ n ≤ 1024 ⌝ }
+    requires { ⌜ n ≤ 768 ⌝ }
     ensures { λ r. ⌜ Tells r ((i : ℕ) → i < n → markAt (now (a .entry)) i ≡ 0 → ⊥) ⌝ }
 {
     let mut i = 0;
     while i < n {
-        if word(a, 1024 + i) == 0 {
+        if word(a, MARKS + i) == 0 {
             return false;
         }
         i += 1;
@@ -430,7 +468,7 @@ fn put_lead(a: &[u32], out: &mut [u32], at: usize, r: usize) -> usize
 
 // The identifier of part j of the former at r, if it has identifiers.
 fn put_name(a: &[u32], out: &mut [u32], at: usize, r: usize, j: usize) -> usize
-    requires { ⌜ (r < 1024) × (j < 2 ^ 32) × (at < 2 ^ 40) ⌝ }
+    requires { ⌜ (r < 768) × (j < 2 ^ 32) × (at < 2 ^ 40) ⌝ }
     ensures { λ e. ⌜ Wrote (now (out .entry)) (now (out .exit)) at e (nameAt (frozen (now (a .entry))) r j) ⌝ }
 {
     if field(a, r, 0) == 5 {
@@ -462,9 +500,9 @@ fn shorten(a: &mut [u32], i: usize, n: usize)
     requires { ⌜ (Sound (now a) n) × (i < n) ⌝ }
     ensures { λ _. ⌜ Straight (now (a .entry)) (now (a .exit)) i n ⌝ }
 {
-    if word(a, i) != 0 {
+    if link(a, i) != 0 {
         let r = find(a, i);
-        store(a, i, (r + 1) as u32);
+        set_link(a, i, r);
     }
 }
 

@@ -21,7 +21,7 @@ Inv-loop a₀ k₀ a k =
     (length a ≡ length a₀) × (frozen a ≡ frozen a₀) × ((n : ℕ) (P₀ L : Pairs ℕ) → Busy a₀ n P₀ L 1 → Next a n P₀ k)
 
 abbrev μ-loop : tie.MeasureT-loop
-μ-loop a₀ k₀ a k = weight a 1024 + k
+μ-loop a₀ k₀ a k = weight a 768 + k
 
 -- src/lib.rt:172:5
 loop-holds : tie.Need-loop-holds Inv-loop μ-loop
