@@ -1,0 +1,263 @@
+-- Reading type words, a level at a time.
+use mathlib.Core.Path.{_≡_, refl, sym, ap, ap₂, subst, _∙_}
+use mathlib.Core.Bool.{Bool, true, false}
+use mathlib.Core.List.{List, [], _∷_, _++_, append-assoc}
+use Prim.Native.Nat.{ℕ, zero, suc, _+_, _-_, _≤_, _<_}
+use native.Mathlib.Omega.{arith}
+use lib.Dec.{eqb}
+use lib.ListN.{length, getD, take, drop, length-append, length-take, length-drop, List·getD-append}
+use lib.Seq.{getD-drop, getD-take, getD-append-add, drop-at, drop-drop}
+use borrow.Author.Tests.{eq-eqb, ne-eqb}
+use Rattle.types.specs.Former.{Former, int, given, parameter, power, product, binding, tag, identifiers}
+use Rattle.types.specs.Types.{Ty, Tys, node, tnil, tcons}
+use Rattle.types.specs.Formed.{partCountType, FormedType, FormedTypes, Arity, WellFormed}
+use Rattle.types.specs.Words.{second, words, partWords}
+use Rattle.types.proofs.Words.{words-one}
+use Rattle.solver.specs.Settled.{lower, heap, Reads, Readable, leadWords, nameWords, partsOf}
+
+pub reads-one : (H : List ℕ) (p : ℕ) (g k : Ty) → Reads H p g → Reads H p k → g ≡ k
+reads-one H p g k R S = words-one g k (R .formed) (S .formed) (R .after) (S .after) (sym (R .words-at) ∙ S .words-at) .0
+
+words-some : (g : Ty) → 0 < length (words g)
+unfolding words
+words-some (node h gs) = omega arith
+
+-- A word of the type at p.
+pub word-in : (H : List ℕ) (p : ℕ) (g : Ty) → Reads H p g → (j : ℕ) → j < length (words g) → getD H (p + j) 0 ≡ getD (words g) j 0
+word-in H p g R j l = sym (getD-drop p H j 0) ∙ ap (λ z. getD z j 0) (R .words-at) ∙ List·getD-append (words g) (R .after) 0 j l
+
+pub inside : (H : List ℕ) (p : ℕ) (g : Ty) → Reads H p g → p + length (words g) ≤ length H
+inside H p g R = omega (arith, words-some g, ap length (R .words-at), length-append (words g) (R .after), length-drop p H)
+
+-- What stands after a beginning.
+pub drop-on : (H : List ℕ) (p : ℕ) (xs ys : List ℕ) → drop p H ≡ xs ++ ys → drop (p + length xs) H ≡ ys
+drop-on H p xs ys e = sym (drop-drop (length xs) p H) ∙ ap (drop (length xs)) e ∙ drop-at xs ys (length xs) refl
+
+abbrev pub Names : ℕ → List ℕ → Tys → Type 0
+Names zero l gs = l ≡ []
+Names (suc w) l gs = (w ≡ 0) × (length l ≡ partCountType gs)
+
+-- Parts gs, with the names l, stand at `at`, and end at e. A name takes w words.
+pub record Rest (H : List ℕ) (w at : ℕ) (l : List ℕ) (gs : Tys) (e : ℕ) : Type 0 where
+  pub formed : FormedTypes Arity gs
+  pub names : Names w l gs
+  pub after : List ℕ
+  pub words-at : drop at H ≡ partWords l gs ++ after
+  pub end : e ≡ at + length (partWords l gs)
+
+module _ (H : List ℕ) (p : ℕ) (h : Former) (gs : Tys) (R : Reads H p (node h gs)) where
+  all-words : drop p H ≡ (tag h ∷ second h (partCountType gs)) ++ (partWords (identifiers h) gs ++ R .after)
+  unfolding words
+  all-words = R .words-at ∙ ap (λ z. tag h ∷ z) (append-assoc (second h (partCountType gs)) (partWords (identifiers h) gs) (R .after))
+
+  pub tag-at : getD H p 0 ≡ tag h
+  tag-at = let z : p ≡ p + 0 = omega arith in ap (λ q. getD H q 0) z ∙ sym (getD-drop p H 0 0) ∙ ap (λ l. getD l 0 0) all-words
+
+  pub second-at : (v : ℕ) → second h (partCountType gs) ≡ v ∷ [] → getD H (p + 1) 0 ≡ v
+  second-at v e = sym (getD-drop p H 1 0) ∙ ap (λ l. getD l 1 0) (all-words ∙ ap (λ l. (tag h ∷ l) ++ (partWords (identifiers h) gs ++ R .after)) e)
+
+  formed : Arity h (partCountType gs) × FormedTypes Arity gs
+  unfolding FormedType
+  formed = R .formed
+
+  lead-c : (k : Former) → leadWords (tag k) ≡ suc (length (second k (partCountType gs)))
+  unfolding leadWords tag second
+  lead-c int = refl
+  lead-c (given g) = refl
+  lead-c (parameter i) = refl
+  lead-c power = refl
+  lead-c product = refl
+  lead-c (binding l) = refl
+
+  parts-c : (k : Former) → Arity k (partCountType gs) → (v : ℕ) → (second k (partCountType gs) ≡ partCountType gs ∷ [] → v ≡ partCountType gs) → partsOf (tag k) v ≡ partCountType gs
+  unfolding partsOf tag Arity second
+  parts-c int a v e = sym a
+  parts-c (given g) a v e = sym a
+  parts-c (parameter i) a v e = sym a
+  parts-c power a v e = sym a
+  parts-c product a v e = e refl
+  parts-c (binding l) a v e = e refl
+
+  pub parts-are : partsOf (tag h) (getD H (p + 1) 0) ≡ partCountType gs
+  parts-are = parts-c h (formed .0) _ (second-at _)
+
+  names-c : (k : Former) → Arity k (partCountType gs) → Names (nameWords (tag k)) (identifiers k) gs
+  unfolding nameWords tag identifiers Arity
+  names-c int a = refl
+  names-c (given g) a = refl
+  names-c (parameter i) a = refl
+  names-c power a = refl
+  names-c product a = refl
+  names-c (binding l) a = (refl, a .0)
+
+  pub the-rest : Rest H (nameWords (tag h)) (p + leadWords (tag h)) (identifiers h) gs (p + length (words (node h gs)))
+  unfolding words
+  the-rest =
+      let e = lead-c h in
+      record {
+        formed = formed .1;
+        names = names-c h (formed .0);
+        after = R .after;
+        words-at = ap (λ z. drop (p + z) H) e ∙ drop-on H p (tag h ∷ second h (partCountType gs)) (partWords (identifiers h) gs ++ R .after) all-words;
+        end = omega (arith, length-append (second h (partCountType gs)) (partWords (identifiers h) gs));
+      }
+
+-- The next part.
+pub record Part (H : List ℕ) (w at : ℕ) (l : List ℕ) (g : Ty) (gs : Tys) (e : ℕ) : Type 0 where
+  pub reads : Reads H (at + w) g
+  pub tail : List ℕ
+  pub rest : Rest H w (at + w + length (words g)) tail gs e
+  pub name : (w ≡ 0 → ⊥) → l ≡ getD H at 0 ∷ tail
+  pub none : w ≡ 0 → (l ≡ []) × (tail ≡ [])
+
+next-part : (H : List ℕ) (w at : ℕ) (l : List ℕ) (g : Ty) (gs : Tys) (e : ℕ) → Rest H w at l (tcons g gs) e → Part H w at l g gs e
+unfolding partWords words FormedType
+next-part H zero at [] g gs e R =
+    let z : at + 0 ≡ at = omega arith in
+    let q : drop (at + 0) H ≡ words g ++ (partWords [] gs ++ R .after) = ap (λ k. drop k H) z ∙ R .words-at ∙ append-assoc (words g) (partWords [] gs) (R .after) in
+    record {
+      reads = record { formed = R .formed .0; after = partWords [] gs ++ R .after; words-at = q };
+      tail = [];
+      rest = record { formed = R .formed .1; names = refl; after = R .after; words-at = drop-on H (at + 0) (words g) (partWords [] gs ++ R .after) q; end = omega (arith, R .end, length-append (words g) (partWords [] gs)) };
+      name = λ d. absurd (d refl);
+      none = λ d. (refl, refl);
+    }
+next-part H zero at (i ∷ l) g gs e R = let z : _≡_ {A = ℕ} 0 1 = (let n = R .names in cc) in absurd (omega arith)
+next-part H (suc w) at [] g gs e R = let n = R .names .1 in absurd (omega arith)
+next-part H (suc w) at (i ∷ l) g gs e R =
+    let w0 = R .names .0 in
+    let n = R .names .1 in
+    let z : at + suc w ≡ at + length {A = ℕ} (i ∷ []) = omega arith in
+    let a : drop at H ≡ (i ∷ []) ++ ((words g ++ partWords l gs) ++ R .after) = R .words-at in
+    let q : drop (at + suc w) H ≡ words g ++ (partWords l gs ++ R .after) = ap (λ k. drop k H) z ∙ drop-on H at (i ∷ []) _ a ∙ append-assoc (words g) (partWords l gs) (R .after) in
+    let y : at ≡ at + 0 = omega arith in
+    record {
+      reads = record { formed = R .formed .0; after = partWords l gs ++ R .after; words-at = q };
+      tail = l;
+      rest = record { formed = R .formed .1; names = (w0, omega arith); after = R .after; words-at = drop-on H (at + suc w) (words g) (partWords l gs ++ R .after) q; end = omega (arith, R .end, length-append (words g) (partWords l gs)) };
+      name = λ d. ap (λ x. x ∷ l) (sym (ap (λ k. getD H k 0) y ∙ sym (getD-drop at H 0 0) ∙ ap (λ m. getD m 0 0) a));
+      none = λ d. absurd (omega arith);
+    }
+
+pub part-next : (H : List ℕ) (w at : ℕ) (l : List ℕ) (g : Ty) (gs : Tys) (e : ℕ) → Rest H w at l (tcons g gs) e → Part H w at l g gs e
+part-next = next-part
+
+pub rest-done : (H : List ℕ) (w at : ℕ) (l : List ℕ) (e : ℕ) → Rest H w at l tnil e → e ≡ at
+unfolding partWords
+rest-done H w at l e R = let q = R .end in omega arith
+
+-- The two areas as one list.
+pub lower-length : (s : List ℕ) → length s ≡ 16384 → length (lower s) ≡ 7168
+unfolding lower
+lower-length s e = simp length-take (omega arith)
+
+pub heap-length : (s d : List ℕ) → length s ≡ 16384 → length (heap s d) ≡ 7168 + length d
+unfolding heap
+heap-length s d e = length-append (lower s) d ∙ ap (λ z. z + length d) (lower-length s e)
+
+pub heap-low : (s d : List ℕ) (p : ℕ) → length s ≡ 16384 → p < 7168 → getD (heap s d) p 0 ≡ getD s p 0
+unfolding heap lower
+heap-low s d p e l = List·getD-append (lower s) d 0 p (let z = lower-length s e in omega arith) ∙ getD-take 7168 s p 0 l
+
+pub heap-high : (s d : List ℕ) (p : ℕ) → length s ≡ 16384 → 7168 ≤ p → getD (heap s d) p 0 ≡ getD d (p - 7168) 0
+unfolding heap
+heap-high s d p e l =
+    let z = lower-length s e in
+    let q : p ≡ length (lower s) + (p - 7168) = omega arith in
+    ap (λ k. getD (lower s ++ d) k 0) q ∙ getD-append-add (lower s) d (p - 7168) 0
+
+-- Walking over the parts: n of them, j passed, a name takes w words, the whole ends at e.
+pub record Scan (H : List ℕ) (w at n j e : ℕ) : Type 0 where
+  pub l : List ℕ
+  pub gs : Tys
+  pub rest : Rest H w at l gs e
+  pub left : partCountType gs + j ≡ n
+
+pub scan-start : (H : List ℕ) (p : ℕ) (g : Ty) → Reads H p g → (t w n at : ℕ) → t ≡ getD H p 0 → w ≡ nameWords t → n ≡ partsOf t (getD H (p + 1) 0) → at ≡ p + leadWords t →
+    Scan H w at n 0 (p + length (words g))
+scan-start H p (node h gs) R t w n at et ew en ea =
+    let e : t ≡ tag h = et ∙ tag-at H p h gs R in
+    record {
+      l = identifiers h;
+      gs = gs;
+      rest = subst (λ y. Rest H w y (identifiers h) gs (p + length (words (node h gs)))) (sym (ea ∙ ap (λ y. p + leadWords y) e))
+          (subst (λ y. Rest H y (p + leadWords (tag h)) (identifiers h) gs (p + length (words (node h gs)))) (sym (ew ∙ ap nameWords e)) (the-rest H p h gs R));
+      left = (let z : partCountType gs + 0 ≡ partCountType gs = omega arith in z) ∙ sym (en ∙ ap (λ y. partsOf y (getD H (p + 1) 0)) e ∙ parts-are H p h gs R);
+    }
+
+pub record Stepped (H : List ℕ) (w at n j e : ℕ) : Type 0 where
+  pub part : Ty
+  pub reads : Reads H (at + w) part
+  pub next : Scan H w (at + w + length (words part)) n (j + 1) e
+  pub low : at + w < length H
+  pub high : at + w + length (words part) ≤ length H
+
+scan-c : (H : List ℕ) (w at n j e : ℕ) (l : List ℕ) (gs : Tys) → Rest H w at l gs e → partCountType gs + j ≡ n → j < n → Stepped H w at n j e
+scan-c H w at n j e l tnil R q lt = absurd (omega arith)
+scan-c H w at n j e l (tcons g gs) R q lt =
+    let P = part-next H w at l g gs e R in
+    let i = inside H (at + w) g (P .reads) in
+    let z = words-some g in
+    record { part = g; reads = P .reads; next = record { l = P .tail; gs = gs; rest = P .rest; left = omega arith }; low = omega arith; high = i }
+
+pub scan-step : (H : List ℕ) (w at n j e : ℕ) → Scan H w at n j e → j < n → Stepped H w at n j e
+scan-step H w at n j e S lt = scan-c H w at n j e (S .l) (S .gs) (S .rest) (S .left) lt
+
+pub scan-on : (H : List ℕ) (w at n j e at′ : ℕ) (S : Stepped H w at n j e) → at′ ≡ at + w + length (words (S .part)) → Scan H w at′ n (j + 1) e
+scan-on H w at n j e at′ S q = subst (λ y. Scan H w y n (j + 1) e) (sym q) (S .next)
+
+end-c : (H : List ℕ) (w at n j e : ℕ) (l : List ℕ) (gs : Tys) → Rest H w at l gs e → partCountType gs + j ≡ n → n ≤ j → e ≡ at
+end-c H w at n j e l tnil R q lt = rest-done H w at l e R
+end-c H w at n j e l (tcons g gs) R q lt = absurd (omega arith)
+
+pub scan-end : (H : List ℕ) (w at n j e : ℕ) → Scan H w at n j e → n ≤ j → e ≡ at
+scan-end H w at n j e S lt = end-c H w at n j e (S .l) (S .gs) (S .rest) (S .left) lt
+
+pub place-low : (H : List ℕ) (p : ℕ) (g : Ty) → Reads H p g → p < length H
+place-low H p g R = let i = inside H p g R in let z = words-some g in omega arith
+
+pub lead-1 : leadWords 1 ≡ 1
+unfolding leadWords
+lead-1 = refl
+
+pub lead-3 : leadWords 3 ≡ 1
+unfolding leadWords
+lead-3 = refl
+
+pub lead-else : (t : ℕ) → (t ≡ 1 → ⊥) → (t ≡ 3 → ⊥) → leadWords t ≡ 2
+unfolding leadWords
+lead-else zero a b = refl
+lead-else (suc zero) a b = absurd (a refl)
+lead-else (suc (suc zero)) a b = refl
+lead-else (suc (suc (suc zero))) a b = absurd (b refl)
+lead-else (suc (suc (suc (suc t)))) a b = refl
+
+pub parts-3 : (t v : ℕ) → t ≡ 3 → partsOf t v ≡ 1
+unfolding partsOf
+parts-3 t v e = ap (λ z. partsOf z v) e
+
+pub parts-4 : (t v : ℕ) → t ≡ 4 → partsOf t v ≡ v
+unfolding partsOf
+parts-4 t v e = ap (λ z. partsOf z v) e
+
+pub parts-5 : (t v : ℕ) → t ≡ 5 → partsOf t v ≡ v
+unfolding partsOf
+parts-5 t v e = ap (λ z. partsOf z v) e
+
+pub parts-else : (t v : ℕ) → (t ≡ 3 → ⊥) → (t ≡ 4 → ⊥) → (t ≡ 5 → ⊥) → partsOf t v ≡ 0
+unfolding partsOf
+parts-else zero v a b c = refl
+parts-else (suc zero) v a b c = refl
+parts-else (suc (suc zero)) v a b c = refl
+parts-else (suc (suc (suc zero))) v a b c = absurd (a refl)
+parts-else (suc (suc (suc (suc zero)))) v a b c = absurd (b refl)
+parts-else (suc (suc (suc (suc (suc zero))))) v a b c = absurd (c refl)
+parts-else (suc (suc (suc (suc (suc (suc t)))))) v a b c = refl
+
+pub name-5 : (t : ℕ) → t ≡ 5 → nameWords t ≡ 1
+unfolding nameWords
+name-5 t e = rw (nameWords, eq-eqb t 5 e)
+
+pub name-else : (t : ℕ) → (t ≡ 5 → ⊥) → nameWords t ≡ 0
+unfolding nameWords
+name-else t e = rw (nameWords, ne-eqb t 5 e)

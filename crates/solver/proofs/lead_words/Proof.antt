@@ -1,0 +1,24 @@
+use borrow.Author.Needs.{needs}
+use mathlib.Core.Path.{_≡_, sym, ap, _∙_}
+use native.Mathlib.Omega.{arith}
+use Rattle.solver.specs.Settled.{leadWords}
+use Rattle.solver.proofs.Reading.{lead-1, lead-3, lead-else}
+use Rattle.solver.proofs.lead_words.Statement.{statement}
+use Rattle.solver.proofs.lead_words.Tie as tie
+use Rattle.solver.proofs.lead_words.Reads as reads
+use Rattle.solver.proofs.lead_words.Lts as lts
+
+-- src/lib.rt:126:9
+returns : tie.Need-returns
+returns c = (sym (ap leadWords (c .if1 .taken) ∙ lead-1), omega arith, omega arith)
+
+-- src/lib.rt:129:9
+returns-2 : tie.Need-returns-2
+returns-2 c = (sym (ap leadWords (c .if2 .taken) ∙ lead-3), omega arith, omega arith)
+
+-- src/lib.rt:122:1
+returns-3 : tie.Need-returns-3
+returns-3 c = (sym (lead-else _ (c .before .if1 .left) (c .if2 .left)), omega arith, omega arith)
+
+pub lead-words-spec : {M : Type 1} → statement M
+lead-words-spec = tie.close (tie.spec returns returns-2 returns-3)

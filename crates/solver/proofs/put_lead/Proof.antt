@@ -1,0 +1,162 @@
+use mathlib.Core.Path.{_≡_, refl, sym, ap, ap₂, subst, _∙_}
+use mathlib.Core.List.{[], _∷_}
+use Prim.Native.Nat.{ℕ, suc, _+_, _-_, _≤_, _<_}
+use native.Mathlib.Omega.{arith}
+use lib.ListN.{set, getD}
+use Rattle.solver.specs.Store.{frozen, tagAt, argAt, countAt}
+use Rattle.solver.specs.Written.{Wrote, leadAt, nameAt}
+use Rattle.solver.proofs.Writer.{wrote-one, wrote-two, lead-one, lead-three, lead-five, lead-other}
+use borrow.Author.Needs.{needs}
+use Rattle.types.specs.Former.{int}
+use Rattle.types.specs.Types.{node, tnil}
+use Rattle.solver.proofs.put_lead.Statement.{statement}
+use Rattle.solver.proofs.put_lead.Tie as tie
+use Rattle.solver.proofs.put_lead.Reads as reads
+use Rattle.solver.proofs.put_lead.Lts as lts
+use Rattle.solver.proofs.field.Reads as field-reads
+use Rattle.solver.proofs.store.Reads as store-reads
+
+-- src/lib.rt:403:9
+field-requires : tie.Need-field-requires
+field-requires c κs = search needs
+
+-- src/lib.rt:404:20
+cast-store : tie.Need-cast-store
+cast-store c = search needs
+
+-- src/lib.rt:404:5
+store-requires : tie.Need-store-requires
+store-requires c κs = search needs
+
+-- src/lib.rt:406:16
+add-result : tie.Need-add-result
+add-result c = search needs
+
+-- src/lib.rt:406:9
+same-length : tie.Need-same-length
+same-length c = search needs
+
+-- src/lib.rt:406:9
+returns : tie.Need-returns
+returns c =
+    let s = c .before .before .before .before .before .before .before .before in
+    let w = frozen (s .args .a .now) in
+    let f = c .before .before .before .before .before .field .ensures .0 in
+    subst (λ z. Wrote (s .args .out .now) z (s .args .at) (s .args .at + 1) (leadAt w (s .args .r))) (sym (c .before .before .before .store .ensures))
+    (wrote-one _ _ _ _ (lead-one w (s .args .r) (sym f ∙ c .if1 .taken) ∙ ap (λ z. z ∷ []) (sym f)))
+
+-- src/lib.rt:409:16
+add-result-2 : tie.Need-add-result-2
+add-result-2 c = search needs
+
+-- src/lib.rt:409:9
+same-length-2 : tie.Need-same-length-2
+same-length-2 c = search needs
+
+-- src/lib.rt:409:9
+returns-2 : tie.Need-returns-2
+returns-2 c =
+    let s = c .before .before .before .before .before .before .before .before .before in
+    let w = frozen (s .args .a .now) in
+    let f = c .before .before .before .before .before .before .field .ensures .0 in
+    subst (λ z. Wrote (s .args .out .now) z (s .args .at) (s .args .at + 1) (leadAt w (s .args .r))) (sym (c .before .before .before .before .store .ensures))
+    (wrote-one _ _ _ _ (lead-three w (s .args .r) (sym f ∙ c .if2 .taken) ∙ ap (λ z. z ∷ []) (sym f)))
+
+-- src/lib.rt:412:20
+add-store : tie.Need-add-store
+add-store c = search needs
+
+-- src/lib.rt:412:28
+field-requires-2 : tie.Need-field-requires-2
+field-requires-2 c κs = search needs
+
+-- src/lib.rt:412:28
+cast-store-2 : tie.Need-cast-store-2
+cast-store-2 c = search needs
+
+-- src/lib.rt:412:9
+store-requires-2 : tie.Need-store-requires-2
+store-requires-2 c κs = search needs
+
+-- src/lib.rt:413:16
+add-result-3 : tie.Need-add-result-3
+add-result-3 c = search needs
+
+-- src/lib.rt:413:9
+same-length-3 : tie.Need-same-length-3
+same-length-3 c = search needs
+
+-- src/lib.rt:413:9
+returns-3 : tie.Need-returns-3
+returns-3 c =
+    let s = c .before .before .before .before .before .before .before .before .before .before .before .before .before .before .before in
+    let w = frozen (s .args .a .now) in
+    let f = c .before .before .before .before .before .before .before .before .before .before .before .before .field .ensures .0 in
+    let g = c .before .before .before .field2 .ensures .0 in
+    subst (λ z. Wrote (s .args .out .now) z (s .args .at) (s .args .at + 2) (leadAt w (s .args .r)))
+    (sym (c .before .before .store2 .ensures ∙ ap (λ z. set z (s .args .at + 1) (c .before .before .before .field2 .result)) (c .before .before .before .before .before .before .before .before .before .before .store .ensures)))
+    (wrote-two _ _ _ _ _ (lead-five w (s .args .r) (sym f ∙ c .before .before .before .before .before .if3 .taken) ∙ ap₂ (λ u v. u ∷ v ∷ []) (sym f) (sym g)))
+
+-- src/lib.rt:415:16
+add-store-2 : tie.Need-add-store-2
+add-store-2 c = search needs
+
+-- src/lib.rt:415:24
+field-requires-3 : tie.Need-field-requires-3
+field-requires-3 c κs = search needs
+
+-- src/lib.rt:415:24
+cast-store-3 : tie.Need-cast-store-3
+cast-store-3 c = search needs
+
+-- src/lib.rt:415:5
+store-requires-3 : tie.Need-store-requires-3
+store-requires-3 c κs = search needs
+
+-- src/lib.rt:416:5
+add-result-4 : tie.Need-add-result-4
+add-result-4 c = search needs
+
+-- src/lib.rt:399:1
+same-length-4 : tie.Need-same-length-4
+same-length-4 c = search needs
+
+-- src/lib.rt:399:1
+returns-4 : tie.Need-returns-4
+returns-4 c =
+    let s = c .before .before .before .before .before .before .before .before .before .before .before .before .before .before .before in
+    let w = frozen (s .args .a .now) in
+    let f = c .before .before .before .before .before .before .before .before .before .before .before .before .field .ensures .0 in
+    let g = c .before .before .before .field3 .ensures .0 in
+    subst (λ z. Wrote (s .args .out .now) z (s .args .at) (s .args .at + 2) (leadAt w (s .args .r)))
+    (sym (c .before .before .store3 .ensures ∙ ap (λ z. set z (s .args .at + 1) (c .before .before .before .field3 .result)) (c .before .before .before .before .before .before .before .before .before .before .store .ensures)))
+    (wrote-two _ _ _ _ _ (lead-other w (s .args .r) (s .pre .some) (s .pre .tags) (λ e. c .before .before .before .before .before .before .before .if1 .left (f ∙ e)) (λ e. c .before .before .before .before .before .before .if2 .left (f ∙ e)) (λ e. c .before .before .before .before .before .if3 .left (f ∙ e))
+    ∙ ap₂ (λ u v. u ∷ v ∷ []) (sym f) (sym g)))
+
+pub put-lead-spec : {M : Type 1} → statement M
+put-lead-spec =
+    tie.close
+    (tie.spec
+    field-requires
+    cast-store
+    store-requires
+    add-result
+    same-length
+    returns
+    add-result-2
+    same-length-2
+    returns-2
+    add-store
+    field-requires-2
+    cast-store-2
+    store-requires-2
+    add-result-3
+    same-length-3
+    returns-3
+    add-store-2
+    field-requires-3
+    cast-store-3
+    store-requires-3
+    add-result-4
+    same-length-4
+    returns-4)

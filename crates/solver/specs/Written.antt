@@ -1,0 +1,68 @@
+-- A type as words, in prefix order, and the writer's contracts.
+use mathlib.Core.Path.{_≡_}
+use mathlib.Core.Bool.{Bool, true, false}
+use mathlib.Core.List.{List, [], _∷_, _++_, map}
+use Prim.Native.Nat.{ℕ, zero, suc, _+_, _*_, _≤_, _<_, _^_}
+use lib.Dec.{eqb}
+use lib.ListN.{length, getD}
+use lib.Seq.{sets}
+use Rattle.types.specs.Classes.{rep}
+use Rattle.types.specs.Equations.{Pairs}
+use Rattle.types.specs.Words.{second, words}
+use Rattle.types.specs.Former.{tag, Former, binding, given, identifiers, int, parameter, power, product}
+use Rattle.types.specs.Types.{Ty, Tys, node, tcons, tnil}
+use Rattle.solver.specs.Store.{frozen, tagAt, argAt, firstAt, countAt, Held}
+use Rattle.solver.specs.Sizes.{markAt, typeAt, Sized}
+
+-- The first words of a type whose former has n parts.
+abbrev pub lead : Former → ℕ → List ℕ
+lead h n = tag h ∷ second h n
+
+-- The same from the words of a cell.
+unfoldable pub leadOf : ℕ → ℕ → ℕ → List ℕ
+leadOf zero a k = 1 ∷ []
+leadOf (suc zero) a k = 1 ∷ []
+leadOf (suc (suc zero)) a k = 2 ∷ a ∷ []
+leadOf (suc (suc (suc zero))) a k = 3 ∷ []
+leadOf (suc (suc (suc (suc zero)))) a k = 4 ∷ a ∷ []
+leadOf (suc (suc (suc (suc (suc zero))))) a k = 5 ∷ k ∷ []
+leadOf (suc (suc (suc (suc (suc (suc t)))))) a k = 6 ∷ a ∷ []
+
+abbrev pub leadAt : List ℕ → ℕ → List ℕ
+leadAt w r = leadOf (tagAt w r) (argAt w r) (countAt w r)
+
+unfoldable pub nameAt : List ℕ → ℕ → ℕ → List ℕ
+nameAt w r j = elim (eqb (tagAt w r) 5) [ true ↦ getD w (argAt w r + j) 0 ∷ [] | false ↦ [] ]
+
+-- The parts from number j on, f of them.
+unfoldable pub rest : (ℕ → Ty) → List ℕ → ℕ → ℕ → ℕ → List ℕ
+rest T w r j zero = []
+rest T w r j (suc f) = nameAt w r j ++ (words (T (getD w (firstAt w r + j) 0)) ++ rest T w r (suc j) f)
+
+-- ws stands at `at`, and e is where it ends.
+pub record Wrote (out out′ : List ℕ) (at e : ℕ) (ws : List ℕ) : Type 0 where
+  pub area : out′ ≡ sets out at ws
+  pub end : e ≡ at + length ws
+
+-- All types are finite and known, and their sizes are marked.
+pub record Ready (s : List ℕ) (n : ℕ) (L : Pairs ℕ) : Type 0 where
+  pub held : Held s n L
+  pub sizes : (i : ℕ) → i < n → Sized (frozen s) n L i (markAt s i)
+  pub known : (i : ℕ) → i < n → 0 < tagAt (frozen s) (rep eqb L i)
+
+pub record Writing (s : List ℕ) (at i : ℕ) : Type 0 where
+  pub n : ℕ
+  pub L : Pairs ℕ
+  pub ready : Ready s n L
+  pub made : i < n
+  pub small : markAt s i ≤ 32
+  pub room : at + length (words (typeAt (frozen s) n L i)) < 2 ^ 40
+
+abbrev pub Typed : List ℕ → List ℕ → List ℕ → ℕ → ℕ → ℕ → Type 0
+Typed s out out′ at i e = (n : ℕ) (L : Pairs ℕ) → Ready s n L → i < n → Wrote out out′ at e (words (typeAt (frozen s) n L i))
+
+pub record Leading (s : List ℕ) (r at : ℕ) : Type 0 where
+  pub few : r < 768
+  pub tags : tagAt (frozen s) r ≤ 6
+  pub some : 0 < tagAt (frozen s) r
+  pub room : at < 2 ^ 40

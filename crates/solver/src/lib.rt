@@ -1,0 +1,588 @@
+// The solver over cells in the caller's work area: specs/Store.antt has the layout, specs/Layout.antt how it follows from the capacity.
+ghost use mathlib.Core.Path.{_≡_};
+ghost use Prim.Native.Nat.{ℕ, suc, _+_, _*_, _<_, _≤_, _^_};
+ghost use lib.ListN.{length, getD, set};
+ghost use Rattle.solver.specs.Store.{frozen, linkAt, fieldAt, tagAt, firstAt, countAt, run, partsAt, Cell};
+ghost use Rattle.solver.specs.Settled.{heap, leadWords, nameWords, partsOf, Reading, Ends};
+ghost use Rattle.solver.specs.Flat.{Sound, Straight, Flattened};
+ghost use Rattle.solver.specs.Written.{leadAt, nameAt, Wrote, Writing, Typed, Leading};
+ghost use Rattle.solver.specs.Answers.{Scanned, Placed, Looked};
+ghost use Rattle.solver.specs.Sizes.{cap, markAt, total, Size, One, Read, Round, Rounds, Cleared, Tested};
+ghost use Rattle.solver.specs.Calls.{put, Making, Made, Adding, Added, Tells, Known, Root, Runs, Two, Alike, Pushing, Pushed, Open, Turned, Popped, Drained, Asking, Merged};
+
+const CELLS: usize = 768;
+
+const LINKS: usize = 7168;
+
+const MARKS: usize = LINKS + CELLS;
+
+const PAIRS: usize = MARKS + CELLS;
+
+const SECONDS: usize = PAIRS + 1;
+
+const RECORDS: usize = PAIRS + 2 * 1536;
+
+const ARGUMENTS: usize = RECORDS + 1;
+
+const FIRSTS: usize = RECORDS + 2;
+
+const COUNTS: usize = RECORDS + 3;
+
+pub struct Step {
+    pub fine: bool,
+    pub left: usize,
+}
+
+// The word at i, and 0 past the end.
+pub fn word(s: &[u32], i: usize) -> usize
+    ensures { λ r. ⌜ (r ≡ getD (now (s .entry)) i 0) × (r < 2 ^ 32) ⌝ }
+{
+    if i < s.len() { s[i] as usize } else { 0 }
+}
+
+// Writes x at i, if that is in the area.
+fn store(u: &mut [u32], i: usize, x: u32)
+    ensures { λ _. ⌜ now (u .exit) ≡ set (now (u .entry)) i x ⌝ }
+{
+    if i < u.len() {
+        u[i] = x;
+    }
+}
+
+// Word k of the frozen part.
+fn held(a: &[u32], k: usize) -> usize
+    requires { ⌜ k < 2 ^ 40 ⌝ }
+    ensures { λ r. ⌜ (r ≡ getD (frozen (now (a .entry))) k 0) × (r < 2 ^ 32) ⌝ }
+{
+    word(a, RECORDS + k)
+}
+
+// Word j of cell i.
+fn field(a: &[u32], i: usize, j: usize) -> usize
+    requires { ⌜ (i < 2 ^ 32) × (j < 4) ⌝ }
+    ensures { λ r. ⌜ (r ≡ fieldAt (frozen (now (a .entry))) i j) × (r < 2 ^ 32) ⌝ }
+{
+    held(a, 4 * i + j)
+}
+
+// Part j of cell i.
+fn part(a: &[u32], i: usize, j: usize) -> usize
+    requires { ⌜ (i < 2 ^ 32) × (j < 2 ^ 32) ⌝ }
+    ensures { λ r. ⌜ (r ≡ getD (frozen (now (a .entry))) (firstAt (frozen (now (a .entry))) i + j) 0) × (r < 2 ^ 32) ⌝ }
+{
+    held(a, field(a, i, 2) + j)
+}
+
+// The link of cell k: 0 where it is a representative.
+fn link(a: &[u32], k: usize) -> usize
+    requires { ⌜ k < 2 ^ 32 ⌝ }
+    ensures { λ r. ⌜ (r ≡ linkAt (now (a .entry)) k) × (r < 769) ⌝ }
+{
+    let v = word(a, LINKS + k);
+    if v < 769 {
+        return v;
+    }
+    0
+}
+
+// Links cell x to y.
+fn set_link(a: &mut [u32], x: usize, y: usize)
+    requires { ⌜ (x < 768) × (y < 768) ⌝ }
+    ensures { λ _. ⌜ now (a .exit) ≡ set (now (a .entry)) (7168 + x) (suc y) ⌝ }
+{
+    store(a, LINKS + x, (y + 1) as u32);
+}
+
+// The representative of cell i.
+pub fn find(a: &[u32], i: usize) -> usize
+    requires { ⌜ Known (now a) i ⌝ }
+    ensures { λ r. ⌜ Root (now (a .entry)) i r ⌝ }
+{
+    let mut k = i;
+    let mut l = link(a, k);
+    while l != 0 {
+        k = l - 1;
+        l = link(a, k);
+    }
+    k
+}
+
+// The type word at the place p: in the caller's part of the area, or in the dictionary.
+fn type_word(a: &[u32], d: &[u32], p: usize) -> usize
+    requires { ⌜ length (now a) ≡ 16384 ⌝ }
+    ensures { λ r. ⌜ (r ≡ getD (heap (now (a .entry)) (now (d .entry))) p 0) × (r < 2 ^ 32) ⌝ }
+{
+    if p < LINKS {
+        return word(a, p);
+    }
+    word(d, p - LINKS)
+}
+
+// The words of a type before its parts, by its tag.
+fn lead_words(t: usize) -> usize
+    ensures { λ r. ⌜ (r ≡ leadWords t) × (r ≤ 2) × (0 < r) ⌝ }
+{
+    if t == 1 {
+        return 1;
+    }
+    if t == 3 {
+        return 1;
+    }
+    2
+}
+
+// The words of a part's name, by the tag.
+fn name_words(t: usize) -> usize
+    ensures { λ r. ⌜ (r ≡ nameWords t) × (r ≤ 1) ⌝ }
+{
+    if t == 5 {
+        return 1;
+    }
+    0
+}
+
+// The number of parts of the type at p, whose tag is t.
+fn parts_of(a: &[u32], d: &[u32], t: usize, p: usize) -> usize
+    requires { ⌜ (length (now a) ≡ 16384) × (p < 2 ^ 40) ⌝ }
+    ensures { λ r. ⌜ (r ≡ partsOf t (getD (heap (now (a .entry)) (now (d .entry))) (p + 1) 0)) × (r < 2 ^ 32) ⌝ }
+{
+    if t == 3 {
+        return 1;
+    }
+    if t == 4 {
+        return type_word(a, d, p + 1);
+    }
+    if t == 5 {
+        return type_word(a, d, p + 1);
+    }
+    0
+}
+
+// The end of the type words at p.
+fn skip(a: &[u32], d: &[u32], p: usize) -> usize
+    requires { ⌜ Reading (now a) (now d) p ⌝ }
+    ensures { λ e. ⌜ Ends (now (a .entry)) (now (d .entry)) p e ⌝ }
+{
+    let t = type_word(a, d, p);
+    let w = name_words(t);
+    let n = parts_of(a, d, t, p);
+    let mut at = p + lead_words(t);
+    let mut j = 0;
+    while j < n {
+        at = skip(a, d, at + w);
+        j += 1;
+    }
+    at
+}
+
+// The k words at p are those at q.
+fn same_run(a: &[u32], p: usize, q: usize, k: usize) -> bool
+    requires { ⌜ Runs (frozen (now a)) p q k ⌝ }
+    ensures { λ r. ⌜ Tells r (run (frozen (now (a .entry))) p k ≡ run (frozen (now (a .entry))) q k) ⌝ }
+{
+    let mut j = 0;
+    while j < k {
+        if held(a, p + j) != held(a, q + j) {
+            return false;
+        }
+        j += 1;
+    }
+    true
+}
+
+// The cells x and y have the same former and the same number of parts.
+fn same_head(a: &[u32], x: usize, y: usize) -> bool
+    requires { ⌜ Two (frozen (now a)) x y ⌝ }
+    ensures { λ r. ⌜ Tells r (Alike (frozen (now (a .entry))) x y) ⌝ }
+{
+    let t = field(a, x, 0);
+    if t != field(a, y, 0) {
+        return false;
+    }
+    let k = field(a, x, 3);
+    if k != field(a, y, 3) {
+        return false;
+    }
+    let p = field(a, x, 1);
+    let q = field(a, y, 1);
+    if t == 5 {
+        return same_run(a, p, q, k);
+    }
+    p == q
+}
+
+// Pair number k of those that are pending.
+fn push(a: &mut [u32], k: usize, p: usize, q: usize)
+    requires { ⌜ (k < 1536) × (p < 2 ^ 32) × (q < 2 ^ 32) ⌝ }
+    ensures { λ _. ⌜ now (a .exit) ≡ set (set (now (a .entry)) (8704 + 2 * k) p) (8705 + 2 * k) q ⌝ }
+{
+    store(a, PAIRS + 2 * k, p as u32);
+    store(a, SECONDS + 2 * k, q as u32);
+}
+
+// The parts of x and y, pair by pair, on the k pairs that are pending.
+fn push_parts(a: &mut [u32], k: usize, x: usize, y: usize) -> usize
+    requires { ⌜ Pushing (now a) k x y ⌝ }
+    ensures { λ r. ⌜ Pushed (now (a .entry)) (now (a .exit)) k x y r ⌝ }
+{
+    let m = field(a, x, 3);
+    let mut j = 0;
+    while j < m {
+        let p = part(a, x, j);
+        let q = part(a, y, j);
+        push(a, k + j, p, q);
+        j += 1;
+    }
+    k + m
+}
+
+// The representatives x and y, of the newest pair, are merged.
+fn join(a: &mut [u32], k: usize, x: usize, y: usize) -> Step
+    requires { ⌜ Popped (now a) k x y ⌝ }
+    ensures { λ r. ⌜ Turned (now (a .entry)) (now (a .exit)) (suc k) (r .fine) (r .left) ⌝ }
+{
+    if field(a, x, 0) == 0 {
+        set_link(a, x, y);
+        return Step {
+            fine: true,
+            left: k,
+        };
+    }
+    if field(a, y, 0) == 0 {
+        set_link(a, y, x);
+        return Step {
+            fine: true,
+            left: k,
+        };
+    }
+    if same_head(a, x, y) {
+        set_link(a, x, y);
+        let left = push_parts(a, k, x, y);
+        return Step {
+            fine: true,
+            left: left,
+        };
+    }
+    Step {
+        fine: false,
+        left: k,
+    }
+}
+
+// One turn: the newest pair.
+fn turn(a: &mut [u32], k: usize) -> Step
+    requires { ⌜ Open (now a) (suc k) ⌝ }
+    ensures { λ r. ⌜ Turned (now (a .entry)) (now (a .exit)) (suc k) (r .fine) (r .left) ⌝ }
+{
+    let x = find(a, word(a, PAIRS + 2 * k));
+    let y = find(a, word(a, SECONDS + 2 * k));
+    if x == y {
+        return Step {
+            fine: true,
+            left: k,
+        };
+    }
+    join(a, k, x, y)
+}
+
+// Merges until nothing is pending.
+fn drain(a: &mut [u32]) -> bool
+    requires { ⌜ Open (now a) 1 ⌝ }
+    ensures { λ r. ⌜ Drained (now (a .entry)) (now (a .exit)) 1 r ⌝ }
+{
+    let mut k = 1;
+    while 0 < k {
+        let t = turn(a, k - 1);
+        if t.fine {
+            k = t.left;
+        } else {
+            return false;
+        }
+    }
+    true
+}
+
+// The equation x = y, beside those that are solved.
+pub fn merge(a: &mut [u32], x: usize, y: usize) -> bool
+    requires { ⌜ Asking (now a) x y ⌝ }
+    ensures { λ r. ⌜ Merged (now (a .entry)) (now (a .exit)) x y r ⌝ }
+{
+    push(a, 0, x, y);
+    drain(a)
+}
+
+// Writes cell n.
+fn put_cell(a: &mut [u32], n: usize, tag: u32, arg: u32, first: u32, count: u32)
+    requires { ⌜ n < 768 ⌝ }
+    ensures { λ _. ⌜ now (a .exit) ≡ put (now (a .entry)) n tag arg first count ⌝ }
+{
+    store(a, LINKS + n, 0);
+    let at = 4 * n;
+    store(a, RECORDS + at, tag);
+    store(a, ARGUMENTS + at, arg);
+    store(a, FIRSTS + at, first);
+    store(a, COUNTS + at, count);
+}
+
+// A new cell, number n.
+pub fn new_cell(a: &mut [u32], n: usize, tag: u32, arg: u32, first: u32, count: u32)
+    requires { ⌜ Making (now a) n tag arg first count ⌝ }
+    ensures { λ _. ⌜ Made (now (a .entry)) (now (a .exit)) n tag arg first count ⌝ }
+{
+    put_cell(a, n, tag, arg, first, count);
+}
+
+// A new unknown, cell number n.
+pub fn new_unknown(a: &mut [u32], n: usize)
+    requires { ⌜ Making (now a) n 0 0 3072 0 ⌝ }
+    ensures { λ _. ⌜ Made (now (a .entry)) (now (a .exit)) n 0 0 3072 0 ⌝ }
+{
+    new_cell(a, n, 0, 0, 3072, 0);
+}
+
+// A word more in the runs, at top: the caller's ghost count of cells is n.
+pub fn add_word(a: &mut [u32], n: usize, top: usize, x: u32)
+    requires { ⌜ Adding (now a) n top ⌝ }
+    ensures { λ _. ⌜ Added (now (a .entry)) (now (a .exit)) n top x ⌝ }
+{
+    store(a, RECORDS + top, x);
+}
+
+// Sizes stop at 33.
+fn capped(x: usize) -> usize
+    ensures { λ r. ⌜ r ≡ cap x ⌝ }
+{
+    if x < 33 {
+        return x;
+    }
+    33
+}
+
+// The size of the former at r over its parts, and 0 where a part has no mark.
+fn sum_parts(a: &[u32], r: usize) -> usize
+    requires { ⌜ Known (now a) r ⌝ }
+    ensures { λ v. ⌜ (v ≡ total (now (a .entry)) 1 (partsAt (frozen (now (a .entry))) r)) × (v ≤ 33) ⌝ }
+{
+    let m = field(a, r, 3);
+    let mut sum = 1;
+    let mut j = 0;
+    while j < m {
+        let v = word(a, MARKS + part(a, r, j));
+        if v == 0 {
+            return 0;
+        }
+        sum = capped(sum + v);
+        j += 1;
+    }
+    sum
+}
+
+// The size of cell i, and 0 where a part has no mark.
+fn size_of(a: &[u32], i: usize) -> usize
+    requires { ⌜ Known (now a) i ⌝ }
+    ensures { λ v. ⌜ Size (now (a .entry)) i v ⌝ }
+{
+    let r = find(a, i);
+    if field(a, r, 0) == 0 {
+        return 1;
+    }
+    sum_parts(a, r)
+}
+
+// Marks cell i, if it has no mark and can have one: 1.
+fn mark_one(a: &mut [u32], i: usize) -> usize
+    requires { ⌜ Known (now a) i ⌝ }
+    ensures { λ k. ⌜ One (now (a .entry)) (now (a .exit)) i k ⌝ }
+{
+    if word(a, MARKS + i) != 0 {
+        return 0;
+    }
+    let v = size_of(a, i);
+    if v == 0 {
+        return 0;
+    }
+    store(a, MARKS + i, v as u32);
+    1
+}
+
+// A round over the n cells: how many were marked.
+fn mark_round(a: &mut [u32], n: usize) -> usize
+    requires { ⌜ Read (now a) n ⌝ }
+    ensures { λ k. ⌜ Round (now (a .entry)) (now (a .exit)) n k ⌝ }
+{
+    let mut k = 0;
+    let mut i = 0;
+    while i < n {
+        k += mark_one(a, i);
+        i += 1;
+    }
+    k
+}
+
+// Rounds until nothing changes.
+fn mark_all(a: &mut [u32], n: usize)
+    requires { ⌜ Read (now a) n ⌝ }
+    ensures { λ _. ⌜ Rounds (now (a .entry)) (now (a .exit)) n ⌝ }
+{
+    let mut k = 1;
+    while k != 0 {
+        k = mark_round(a, n);
+    }
+}
+
+fn clear_marks(a: &mut [u32], n: usize)
+    requires { ⌜ Read (now a) n ⌝ }
+    ensures { λ _. ⌜ Cleared (now (a .entry)) (now (a .exit)) n ⌝ }
+{
+    let mut i = 0;
+    while i < n {
+        store(a, MARKS + i, 0);
+        i += 1;
+    }
+}
+
+fn all_marked(a: &[u32], n: usize) -> bool
+    requires { ⌜ n ≤ 768 ⌝ }
+    ensures { λ r. ⌜ Tells r ((i : ℕ) → i < n → markAt (now (a .entry)) i ≡ 0 → ⊥) ⌝ }
+{
+    let mut i = 0;
+    while i < n {
+        if word(a, MARKS + i) == 0 {
+            return false;
+        }
+        i += 1;
+    }
+    true
+}
+
+// Do all n cells have finite types?
+pub fn finite(a: &mut [u32], n: usize) -> bool
+    requires { ⌜ Read (now a) n ⌝ }
+    ensures { λ r. ⌜ Tested (now (a .entry)) (now (a .exit)) n r ⌝ }
+{
+    clear_marks(a, n);
+    mark_all(a, n);
+    all_marked(a, n)
+}
+
+// Is there a cell whose type is not known?
+pub fn unresolved(a: &[u32], n: usize) -> bool
+    requires { ⌜ Read (now a) n ⌝ }
+    ensures { λ r. ⌜ Scanned (now (a .entry)) n r ⌝ }
+{
+    let mut i = 0;
+    while i < n {
+        let r = find(a, i);
+        if field(a, r, 0) == 0 {
+            return true;
+        }
+        i += 1;
+    }
+    false
+}
+
+// The place of x among the k words at p: its number, and k where it is not there.
+fn place(a: &[u32], p: usize, k: usize, x: usize) -> usize
+    requires { ⌜ Runs (frozen (now a)) p p k ⌝ }
+    ensures { λ r. ⌜ Placed (run (frozen (now (a .entry))) p k) k x r ⌝ }
+{
+    let mut j = 0;
+    while j < k {
+        if held(a, p + j) == x {
+            return j;
+        }
+        j += 1;
+    }
+    k
+}
+
+// The cell of the component id of cell i, plus 1; 0: not in every solution.
+pub fn component(a: &[u32], i: usize, id: usize) -> usize
+    requires { ⌜ Known (now a) i ⌝ }
+    ensures { λ v. ⌜ Looked (now (a .entry)) i id v ⌝ }
+{
+    let r = find(a, i);
+    if field(a, r, 0) == 5 {
+        let p = field(a, r, 1);
+        let k = field(a, r, 3);
+        let j = place(a, p, k, id);
+        if j < k {
+            return part(a, r, j) + 1;
+        }
+        return 0;
+    }
+    0
+}
+
+// The first words of the type with the former at r.
+fn put_lead(a: &[u32], out: &mut [u32], at: usize, r: usize) -> usize
+    requires { ⌜ Leading (now a) r at ⌝ }
+    ensures { λ e. ⌜ Wrote (now (out .entry)) (now (out .exit)) at e (leadAt (frozen (now (a .entry))) r) ⌝ }
+{
+    let t = field(a, r, 0);
+    store(out, at, t as u32);
+    if t == 1 {
+        return at + 1;
+    }
+    if t == 3 {
+        return at + 1;
+    }
+    if t == 5 {
+        store(out, at + 1, field(a, r, 3) as u32);
+        return at + 2;
+    }
+    store(out, at + 1, field(a, r, 1) as u32);
+    at + 2
+}
+
+// The identifier of part j of the former at r, if it has identifiers.
+fn put_name(a: &[u32], out: &mut [u32], at: usize, r: usize, j: usize) -> usize
+    requires { ⌜ (r < 768) × (j < 2 ^ 32) × (at < 2 ^ 40) ⌝ }
+    ensures { λ e. ⌜ Wrote (now (out .entry)) (now (out .exit)) at e (nameAt (frozen (now (a .entry))) r j) ⌝ }
+{
+    if field(a, r, 0) == 5 {
+        store(out, at, held(a, field(a, r, 1) + j) as u32);
+        return at + 1;
+    }
+    at
+}
+
+// The type of cell i, from `at` on: where it ends.
+pub fn write(a: &[u32], out: &mut [u32], at: usize, i: usize) -> usize
+    requires { ⌜ Writing (now a) at i ⌝ }
+    ensures { λ e. ⌜ Typed (now (a .entry)) (now (out .entry)) (now (out .exit)) at i e ⌝ }
+{
+    let r = find(a, i);
+    let k = field(a, r, 3);
+    let mut m = put_lead(a, out, at, r);
+    let mut j = 0;
+    while j < k {
+        m = put_name(a, out, m, r, j);
+        m = write(a, out, m, part(a, r, j));
+        j += 1;
+    }
+    m
+}
+
+// Cell i linked straight to its representative. The caller's ghost count of cells is n.
+fn shorten(a: &mut [u32], i: usize, n: usize)
+    requires { ⌜ (Sound (now a) n) × (i < n) ⌝ }
+    ensures { λ _. ⌜ Straight (now (a .entry)) (now (a .exit)) i n ⌝ }
+{
+    if link(a, i) != 0 {
+        let r = find(a, i);
+        set_link(a, i, r);
+    }
+}
+
+// All links straight: a find is then two reads, up to the links of the next merge.
+pub fn flatten(a: &mut [u32], n: usize)
+    requires { ⌜ Sound (now a) n ⌝ }
+    ensures { λ _. ⌜ Flattened (now (a .entry)) (now (a .exit)) n ⌝ }
+{
+    let mut i = 0;
+    while i < n {
+        shorten(a, i, n);
+        i += 1;
+    }
+}
