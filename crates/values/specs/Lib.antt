@@ -1,2 +1,7 @@
 -- What the contracts of `values` cite. Laws about these definitions stand in proofs/.
 pub mod Integer
+pub mod Value
+pub mod Order
+pub mod Span
+pub mod Held
+pub mod Sets

@@ -1,2 +1,6 @@
 // Values of a run on words: integers, elements of givens, sets and tuples, as states and work areas hold them.
+pub mod held;
 pub mod integer;
+pub mod sets;
+pub mod span;
+pub mod words;

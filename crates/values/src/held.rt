@@ -1,0 +1,28 @@
+// A value by value: at most 64 words and their number. A value of over 64 words, finding 55, has the length 65.
+ghost use mathlib.Core.Path.{_≡_};
+ghost use mathlib.Core.List.{List, [], _++_};
+ghost use Prim.Native.Nat.{ℕ};
+ghost use Rattle.values.specs.Held.{over, keep};
+
+pub struct Held {
+    pub words: [u32; 64],
+    pub len: usize,
+}
+
+pub fn over() -> Held
+    ensures { λ r. ⌜ r ≡ over ⌝ }
+{
+    Held {
+        words: [0u32; 64],
+        len: 65,
+    }
+}
+
+pub fn empty() -> Held
+    ensures { λ r. ⌜ r ≡ keep [] ⌝ }
+{
+    Held {
+        words: [0u32; 64],
+        len: 0,
+    }
+}

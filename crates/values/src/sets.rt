@@ -1,0 +1,10 @@
+pub enum Place {
+    At(usize),
+    Already,
+}
+
+pub enum Applied {
+    Found { at: usize, len: usize },
+    Misfit,
+    Undefined,
+}
