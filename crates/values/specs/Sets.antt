@@ -1,7 +1,7 @@
 -- Sets on words: n members from the beginning of ws, ascending. The laws of proofs/ say what they do on a value's words.
 use mathlib.Core.List.{List, [], _∷_, _++_}
 use mathlib.Core.Bool.{Bool, true, false, cond}
-use Prim.Native.Nat.{ℕ, zero, suc, _+_, _-_, _%_, _^_}
+use Prim.Native.Nat.{ℕ, zero, suc, _+_, _%_, _^_}
 use lib.Dec.{eqb}
 use lib.ListN.{getD, take, drop}
 use Rattle.values.specs.Order.{compare, same}
@@ -43,7 +43,7 @@ place s m = placeFrom (getD s 1 0) 2 (drop 2 s) m
 
 -- the set s with the member m
 unfoldable pub insertAt : Place → List ℕ → List ℕ → List ℕ
-insertAt (At p) s m = (3 ∷ (getD s 1 0 + 1) % 2 ^ 32 ∷ []) ++ (take (p - 2) (drop 2 s) ++ (m ++ drop p s))
+insertAt (At p) s m = (3 ∷ (getD s 1 0 + 1) % 2 ^ 32 ∷ []) ++ (drop 2 (take p s) ++ (m ++ drop p s))
 insertAt Already s m = s
 
 unfoldable pub insert : List ℕ → List ℕ → List ℕ

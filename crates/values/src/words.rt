@@ -32,6 +32,17 @@ pub fn part(w: &[u32], at: usize, n: usize) -> &[u32]
     &w[at..at + n]
 }
 
+// All words from a place on.
+pub fn from(w: &[u32], at: usize) -> &[u32]
+    ensures { λ r. ⌜ now r ≡ drop at (now (w .entry)) ⌝ }
+{
+    let len = w.len();
+    if len < at {
+        return &w[len..];
+    }
+    &w[at..]
+}
+
 fn compare_word(x: u32, y: u32) -> Order
     ensures { λ r. ⌜ r ≡ compareWord x y ⌝ }
 {
