@@ -8,7 +8,7 @@ use lib.ListN.{drop}
 use lib.Seq.{drop-drop}
 use Rattle.values.specs.Order.{compare, same}
 use Rattle.values.specs.Span.{span}
-use Rattle.values.specs.Sets.{first, rest, among, choose, placeFrom, isPair, applyFrom}
+use Rattle.values.specs.Sets.{first, rest, among, choose, placeFrom, isPair, second, applyFrom}
 use Rattle.values.specs.declared.words.Order.{Order}
 use Rattle.values.specs.declared.words.Order.the-variants.{Less, Same, Greater}
 use Rattle.values.specs.declared.sets.Place.{Place}
@@ -55,3 +55,19 @@ module _ (s m : List ℕ) (n i at : ℕ) where
   pub place-end : n ≤ i → At at ≡ placeFrom (n - i) at (drop at s) m
   unfolding placeFrom
   place-end h = rw (no-more n i h)
+
+  pub apply-misfit : i < n → isPair (drop at s) ≡ false → Misfit ≡ applyFrom (n - i) at (drop at s) m
+  unfolding applyFrom
+  apply-misfit h e = rw (one-more n i h, applyFrom, e)
+
+  pub apply-hit : i < n → isPair (drop at s) ≡ true → same (first (drop 2 (drop at s))) m ≡ true → second at (drop 2 (drop at s)) ≡ applyFrom (n - i) at (drop at s) m
+  unfolding applyFrom
+  apply-hit h e f = rw (one-more n i h, applyFrom, e, f)
+
+  pub apply-go : i < n → isPair (drop at s) ≡ true → same (first (drop 2 (drop at s))) m ≡ false → (k : ℕ) → k ≡ span (drop at s) → applyFrom (n - i) at (drop at s) m ≡ applyFrom (n - (i + 1)) (at + k) (drop (at + k) s) m
+  unfolding applyFrom
+  apply-go h e f k g = rw (one-more n i h, applyFrom, e, f, rest-at s at, g)
+
+  pub apply-end : n ≤ i → Undefined ≡ applyFrom (n - i) at (drop at s) m
+  unfolding applyFrom
+  apply-end h = rw (no-more n i h)

@@ -5,3 +5,5 @@ pub mod Order
 pub mod Span
 pub mod Held
 pub mod Sets
+pub mod Givens
+pub mod Lookup

@@ -58,14 +58,14 @@ findingOf Undefined = 52
 unfoldable pub isPair : List ℕ → Bool
 isPair ws = cond (eqb (getD ws 0 0) 4) (eqb (getD ws 1 0) 2) false
 
+-- the second part of the pair at a place, from the words ws of its first part on
+unfoldable pub second : ℕ → List ℕ → Applied
+second at ws = Found (at + 2 + span ws) (span (rest ws))
+
 unfoldable pub applyFrom : ℕ → ℕ → List ℕ → List ℕ → Applied
 applyFrom zero at ws a = Undefined
 applyFrom (suc n) at ws a =
-    cond (isPair ws)
-    (cond (same (first (drop 2 ws)) a)
-    (Found (at + 2 + span (drop 2 ws)) (span (rest (drop 2 ws))))
-    (applyFrom n (at + span ws) (rest ws) a))
-    Misfit
+    cond (isPair ws) (cond (same (first (drop 2 ws)) a) (second at (drop 2 ws)) (applyFrom n (at + span ws) (rest ws) a)) Misfit
 
 unfoldable pub apply : List ℕ → List ℕ → Applied
 apply f a = cond (eqb (getD f 0 0) 3) (applyFrom (getD f 1 0) 2 (drop 2 f) a) Misfit

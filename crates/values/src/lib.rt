@@ -1,6 +1,8 @@
 // Values of a run on words: integers, elements of givens, sets and tuples, as states and work areas hold them.
+pub mod givens;
 pub mod held;
 pub mod integer;
+pub mod lookup;
 pub mod sets;
 pub mod span;
 pub mod words;

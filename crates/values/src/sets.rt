@@ -16,7 +16,7 @@ ghost use lib.ListN.{drop};
 ghost use Rattle.values.specs.Held.{keep};
 ghost use Rattle.values.specs.Order.{same};
 ghost use Rattle.values.specs.Span.{span};
-ghost use Rattle.values.specs.Sets.{first, rest, isMember, place, insertAt, insert, isPair, apply};
+ghost use Rattle.values.specs.Sets.{first, rest, isMember, place, insertAt, insert, isPair, second, apply};
 
 // Where a member goes in a set: before the word at a place, or it is there already.
 pub enum Place {
@@ -95,4 +95,52 @@ pub fn insert(s: &[u32], m: &[u32]) -> Held
         Place::Already => hold(s),
         Place::At(at) => insert_at(at, s, m),
     }
+}
+
+fn is_pair(w: &[u32]) -> bool
+    ensures { λ r. ⌜ r ≡ isPair (now (w .entry)) ⌝ }
+{
+    if word(w, 0) == 4 {
+        return word(w, 1) == 2;
+    }
+    false
+}
+
+// The second part of the pair at a place, from the words of its first part on.
+fn second(at: usize, w: &[u32]) -> Applied
+    requires { ⌜ at < 2 ^ 60 ⌝ }
+    ensures { λ r. ⌜ r ≡ second at (now (w .entry)) ⌝ }
+{
+    let k = span(w);
+    let len = span(from(w, k));
+    Applied::Found {
+        at: at + 2 + k,
+        len: len,
+    }
+}
+
+// The lowest pair of f whose first part is a.
+pub fn apply(f: &[u32], a: &[u32]) -> Applied
+    ensures { λ r. ⌜ r ≡ apply (now (f .entry)) (now (a .entry)) ⌝ }
+{
+    if word(f, 0) != 3 {
+        return Applied::Misfit;
+    }
+    let n = word(f, 1);
+    let mut at = 2;
+    let mut i = 0;
+    while i < n {
+        let w = from(f, at);
+        if is_pair(w) {
+            let parts = from(w, 2);
+            if same(first(parts), a) {
+                return second(at, parts);
+            }
+            at += span(w);
+            i += 1;
+        } else {
+            return Applied::Misfit;
+        }
+    }
+    Applied::Undefined
 }
