@@ -1,15 +1,17 @@
--- Laws of a given's elements as words: three each, in order.
+-- Laws of a given's elements as words, three each, in order; and of the search for a given's size.
 use mathlib.Core.Path.{_≡_, refl, sym, ap, _∙_}
 use mathlib.Core.List.{List, [], _∷_, _++_}
-use Prim.Native.Nat.{ℕ, zero, suc, _+_, _*_, _<_}
+use Prim.Native.Nat.{ℕ, zero, suc, _+_, _*_, _-_, _<_, _≤_}
 use native.Mathlib.Omega.{arith}
 use native.Mathlib.Numerals.{add-one}
-use lib.ListN.{length}
+use lib.ListN.{length, getD}
+use borrow.Author.Tests.{eq-eqb, ne-eqb}
 use Rattle.values.specs.declared.held.Held.{Held}
 use Rattle.values.specs.Held.{over, keep}
 use Rattle.values.specs.Value.{count, encode, encodes}
-use Rattle.values.specs.Givens.{elements, elementsFrom}
+use Rattle.values.specs.Givens.{elements, elementsFrom, smallSize, sizeFrom}
 use Rattle.values.proofs.Holding.{keep-over}
+use Rattle.values.proofs.Members.{one-more, no-more}
 
 elements-count : (g k n : ℕ) → count (elementsFrom g k n) ≡ n
 unfolding elementsFrom count
@@ -42,3 +44,17 @@ module _ (g n : ℕ) where
   elements-more k =
       let e : 0 + k ≡ k = omega arith in
       ap (λ (l : List ℕ). 3 ∷ n ∷ l) (sym (rw (add-one k, next-element g 0 k, e)))
+
+-- one turn of the search for the given g among n
+module _ (givens : List ℕ) (g n i : ℕ) where
+  pub size-hit : i < n → getD givens (2 * i) 0 ≡ g → smallSize (getD givens (2 * i + 1) 0) ≡ sizeFrom givens g i (n - i)
+  unfolding sizeFrom
+  size-hit h e = rw (one-more n i h, sizeFrom, eq-eqb _ _ e)
+
+  pub size-go : i < n → (getD givens (2 * i) 0 ≡ g → ⊥) → sizeFrom givens g i (n - i) ≡ sizeFrom givens g (i + 1) (n - (i + 1))
+  unfolding sizeFrom
+  size-go h e = rw (one-more n i h, sizeFrom, ne-eqb _ _ e, add-one i)
+
+  pub size-end : n ≤ i → 0 ≡ sizeFrom givens g i (n - i)
+  unfolding sizeFrom
+  size-end h = rw (no-more n i h)

@@ -7,3 +7,4 @@ pub mod Held
 pub mod Sets
 pub mod Givens
 pub mod Lookup
+pub mod Form

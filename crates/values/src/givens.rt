@@ -3,10 +3,12 @@ use super::held::Held;
 use super::held::append;
 use super::held::hold;
 use super::held::over;
+use super::words::word;
 ghost use mathlib.Core.Path.{_≡_};
+ghost use Prim.Native.Nat.{_≤_};
 ghost use Rattle.values.specs.Value.{encode};
 ghost use Rattle.values.specs.Held.{keep};
-ghost use Rattle.values.specs.Givens.{elements};
+ghost use Rattle.values.specs.Givens.{elements, smallSize, sizeOf};
 
 // The set of the n elements of g. Twenty elements have 62 words.
 pub fn given_set(g: u32, n: usize) -> Held
@@ -24,4 +26,28 @@ pub fn given_set(g: u32, n: usize) -> Held
         k += 1;
     }
     v
+}
+
+fn small_size(n: usize) -> usize
+    ensures { λ r. ⌜ (r ≡ smallSize n) × (r ≤ 20) ⌝ }
+{
+    if n <= 20 {
+        return n;
+    }
+    0
+}
+
+// The size of a given, by the table of identifiers and sizes that the caller lends.
+pub fn size_of(givens: &[u32], g: usize) -> usize
+    ensures { λ r. ⌜ r ≡ sizeOf (now (givens .entry)) g ⌝ }
+{
+    let n = givens.len() / 2;
+    let mut i = 0;
+    while i < n {
+        if word(givens, 2 * i) == g {
+            return small_size(word(givens, 2 * i + 1));
+        }
+        i += 1;
+    }
+    0
 }

@@ -1,4 +1,5 @@
 // Values of a run on words: integers, elements of givens, sets and tuples, as states and work areas hold them.
+pub mod form;
 pub mod givens;
 pub mod held;
 pub mod integer;
