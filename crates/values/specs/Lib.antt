@@ -8,3 +8,5 @@ pub mod Sets
 pub mod Givens
 pub mod Lookup
 pub mod Form
+pub mod TypeWords
+pub mod Typed

@@ -6,4 +6,6 @@ pub mod integer;
 pub mod lookup;
 pub mod sets;
 pub mod span;
+pub mod type_words;
+pub mod typed;
 pub mod words;
