@@ -1,0 +1,71 @@
+-- Laws of values by value: when a list is kept, and that appending to a kept list keeps the longer list.
+use mathlib.Core.Path.{_≡_, refl, sym, ap, _∙_, subst}
+use mathlib.Core.Bool.{Bool, true, false}
+use mathlib.Core.List.{List, [], _∷_, _++_}
+use Prim.Native.Nat.{ℕ, zero, suc, _+_, _-_, _≤_, _<_}
+use native.Mathlib.Omega.{arith}
+use native.Mathlib.Numerals.{add-one}
+use lib.Dec.{leb}
+use lib.ListN.{length, getD, set, take, drop, replicate, length-append, length-replicate, drop-of-length-le}
+use lib.Seq.{sets, sets-eq, drop-cons, take-at, drop-append-add, drop-nil}
+use borrow.Author.Tests.{le-leb, lt-leb, leb-true, leb-false}
+use Rattle.values.specs.declared.held.Held.{Held}
+use Rattle.values.specs.Held.{over, keep}
+
+-- one store of a copy, and its end
+pub sets-go : (v out : List ℕ) (to i : ℕ) → i < length v → sets out (to + i) (drop i v) ≡ sets (set out (to + i) (getD v i 0)) (to + (i + 1)) (drop (i + 1) v)
+sets-go v out to i h =
+    let e : to + (i + 1) ≡ suc (to + i) = omega arith in
+    rw (e, add-one i, drop-cons v i 0 h)
+
+pub sets-end : (v out : List ℕ) (to i : ℕ) → length v ≤ i → sets out (to + i) (drop i v) ≡ out
+sets-end v out to i h = rw (drop-of-length-le v h)
+
+pub keep-over : (ws : List ℕ) → 64 < length ws → keep ws ≡ over
+unfolding keep
+keep-over ws h = rw (lt-leb (length ws) 64 h)
+
+pub keep-fits : (ws : List ℕ) → length ws ≤ 64 → keep ws ≡ record { words = ws ++ replicate (64 - length ws) 0; len = length ws }
+unfolding keep
+keep-fits ws h = rw (le-leb (length ws) 64 h)
+
+abbrev zeros : ℕ → List ℕ
+zeros n = replicate n 0
+
+drop-replicate : (m n : ℕ) → drop m (zeros n) ≡ zeros (n - m)
+drop-replicate zero n = let e : n ≡ n - 0 = omega arith in ap zeros e
+drop-replicate (suc m) zero = let e : 0 ≡ 0 - suc m = omega arith in ap zeros e
+drop-replicate (suc m) (suc n) = let e : n - m ≡ suc n - suc m = omega arith in drop-replicate m n ∙ ap zeros e
+
+-- what a kept value says of its list
+module _ (v : Held) (ws : List ℕ) (e : v ≡ keep ws) where
+  pub held-short : v .len ≤ 64 → length ws ≤ 64
+  unfolding keep over
+  held-short h = go (leb (length ws) 64) refl
+    where
+      go : (b : Bool) → leb (length ws) 64 ≡ b → length ws ≤ 64
+      go true t = leb-true (length ws) 64 t
+      go false t = absurd (omega (arith, ap (λ (x : Held). x .len) (e ∙ keep-over ws (leb-false (length ws) 64 t))))
+
+  pub held-long : 64 < v .len → 64 < length ws
+  unfolding keep over
+  held-long h = go (leb (length ws) 64) refl
+    where
+      go : (b : Bool) → leb (length ws) 64 ≡ b → 64 < length ws
+      go true t = absurd (omega (arith, ap (λ (x : Held). x .len) (e ∙ keep-fits ws (leb-true (length ws) 64 t)), leb-true (length ws) 64 t))
+      go false t = leb-false (length ws) 64 t
+
+  pub held-len : length ws ≤ 64 → v .len ≡ length ws
+  held-len h = ap (λ (x : Held). x .len) (e ∙ keep-fits ws h)
+
+  pub held-words : length ws ≤ 64 → v .words ≡ ws ++ replicate (64 - length ws) 0
+  held-words h = ap (λ (x : Held). x .words) (e ∙ keep-fits ws h)
+
+-- the words after a copy to the end of those that are held
+pub appended : (ws w : List ℕ) → length ws + length w ≤ 64 → sets (ws ++ replicate (64 - length ws) 0) (length ws) w ≡ (ws ++ w) ++ replicate (64 - length (ws ++ w)) 0
+appended ws w h =
+    let z = zeros (64 - length ws) in
+    let l : length (ws ++ z) ≡ 64 = length-append ws z ∙ omega (arith, length-replicate {A = ℕ} (64 - length ws) 0) in
+    let k : 64 - length ws - length w ≡ 64 - length (ws ++ w) = omega (arith, length-append ws w) in
+    sets-eq w (ws ++ z) (length ws) (omega arith)
+    ∙ rw (take-at ws z (length ws) refl, drop-append-add ws z (length w), drop-replicate (length w) (64 - length ws), k)

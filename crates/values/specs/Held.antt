@@ -1,0 +1,14 @@
+-- A value by value: at most 64 words in an array, zeros after them.
+use mathlib.Core.List.{List, _++_}
+use mathlib.Core.Bool.{cond}
+use Prim.Native.Nat.{ℕ, _-_}
+use lib.Dec.{leb}
+use lib.ListN.{length, replicate}
+use Rattle.values.specs.declared.held.Held.{Held}
+
+-- over 64 words, finding 55: length 65 and no words
+unfoldable pub over : Held
+over = record { words = replicate 64 0; len = 65 }
+
+unfoldable pub keep : List ℕ → Held
+keep ws = cond (leb (length ws) 64) (record { words = ws ++ replicate (64 - length ws) 0; len = length ws }) over

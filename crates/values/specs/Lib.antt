@@ -1,0 +1,12 @@
+-- What the contracts of `values` cite. Laws about these definitions stand in proofs/.
+pub mod Integer
+pub mod Value
+pub mod Order
+pub mod Span
+pub mod Held
+pub mod Sets
+pub mod Givens
+pub mod Lookup
+pub mod Form
+pub mod TypeWords
+pub mod Typed

@@ -1,0 +1,67 @@
+// A value by value: at most 64 words and their number. A value of over 64 words, finding 55, has the length 65.
+ghost use mathlib.Core.Path.{_≡_};
+ghost use mathlib.Core.List.{List, [], _++_};
+ghost use Prim.Native.Nat.{ℕ, _+_, _≤_};
+ghost use lib.ListN.{length};
+ghost use lib.Seq.{sets};
+ghost use Rattle.values.specs.Held.{over, keep};
+
+pub struct Held {
+    pub words: [u32; 64],
+    pub len: usize,
+}
+
+pub fn over() -> Held
+    ensures { λ r. ⌜ r ≡ over ⌝ }
+{
+    Held {
+        words: [0u32; 64],
+        len: 65,
+    }
+}
+
+pub fn empty() -> Held
+    ensures { λ r. ⌜ r ≡ keep [] ⌝ }
+{
+    Held {
+        words: [0u32; 64],
+        len: 0,
+    }
+}
+
+fn copy(w: &[u32], out: &mut [u32], at: usize)
+    requires { ⌜ at + length (now w) ≤ length (now out) ⌝ }
+    ensures { λ _. ⌜ now (out .exit) ≡ sets (now (out .entry)) at (now (w .entry)) ⌝ }
+{
+    let n = w.len();
+    let mut i = 0;
+    while i < n {
+        out[at + i] = w[i];
+        i += 1;
+    }
+}
+
+// More words after those that are held.
+pub fn append(v: Held, w: &[u32]) -> Held
+    ensures { λ r. ⌜ ((ws : List ℕ) → v ≡ keep ws → r ≡ keep (ws ++ now (w .entry))) ⌝ }
+{
+    let len = v.len;
+    if 64 < len {
+        return over();
+    }
+    if 64 - len < w.len() {
+        return over();
+    }
+    let mut words = v.words;
+    copy(w, &mut words, len);
+    Held {
+        words: words,
+        len: len + w.len(),
+    }
+}
+
+pub fn hold(w: &[u32]) -> Held
+    ensures { λ r. ⌜ r ≡ keep (now (w .entry)) ⌝ }
+{
+    append(empty(), w)
+}

@@ -1,0 +1,146 @@
+// Sets on words: membership, insertion, Apply. Members are passed one by one, by their spans.
+use super::held::Held;
+use super::held::append;
+use super::held::empty;
+use super::held::hold;
+use super::span::span;
+use super::words::Order;
+use super::words::compare;
+use super::words::from;
+use super::words::part;
+use super::words::same;
+use super::words::word;
+ghost use mathlib.Core.Path.{_≡_};
+ghost use Prim.Native.Nat.{_+_, _<_, _^_};
+ghost use lib.ListN.{drop};
+ghost use Rattle.values.specs.Held.{keep};
+ghost use Rattle.values.specs.Order.{same};
+ghost use Rattle.values.specs.Span.{span};
+ghost use Rattle.values.specs.Sets.{first, rest, isMember, place, insertAt, insert, isPair, second, apply};
+
+// Where a member goes in a set: before the word at a place, or it is there already.
+pub enum Place {
+    At(usize),
+    Already,
+}
+
+// What Apply finds: the place and the number of words of a value. `findingOf` of specs/Sets.antt has each case's number.
+pub enum Applied {
+    Found { at: usize, len: usize },
+    Misfit,
+    Undefined,
+}
+
+// The words of the value at the beginning of w.
+pub fn first(w: &[u32]) -> &[u32]
+    ensures { λ r. ⌜ now r ≡ first (now (w .entry)) ⌝ }
+{
+    part(w, 0, span(w))
+}
+
+pub fn is_member(s: &[u32], m: &[u32]) -> bool
+    ensures { λ r. ⌜ r ≡ isMember (now (s .entry)) (now (m .entry)) ⌝ }
+{
+    let n = word(s, 1);
+    let mut at = 2;
+    let mut i = 0;
+    while i < n {
+        let w = from(s, at);
+        if same(first(w), m) {
+            return true;
+        }
+        at += span(w);
+        i += 1;
+    }
+    false
+}
+
+fn place_of(s: &[u32], m: &[u32]) -> Place
+    ensures { λ r. ⌜ r ≡ place (now (s .entry)) (now (m .entry)) ⌝ }
+{
+    let n = word(s, 1);
+    let mut at = 2;
+    let mut i = 0;
+    while i < n {
+        let w = from(s, at);
+        let o = compare(m, first(w));
+        match o {
+            Order::Less => return Place::At(at),
+            Order::Same => return Place::Already,
+            Order::Greater => {
+                at += span(w);
+                i += 1;
+            }
+        }
+    }
+    Place::At(at)
+}
+
+fn insert_at(p: usize, s: &[u32], m: &[u32]) -> Held
+    ensures { λ r. ⌜ r ≡ keep (insertAt (Place.At p) (now (s .entry)) (now (m .entry))) ⌝ }
+{
+    let head = [3, std::num::wrapping_add_u32(word(s, 1) as u32, 1)];
+    let a = append(empty(), &head);
+    let b = append(a, from(part(s, 0, p), 2));
+    let c = append(b, m);
+    append(c, from(s, p))
+}
+
+// The set s with the member m; over 64 words is finding 55.
+pub fn insert(s: &[u32], m: &[u32]) -> Held
+    ensures { λ r. ⌜ r ≡ keep (insert (now (s .entry)) (now (m .entry))) ⌝ }
+{
+    let p = place_of(s, m);
+    match p {
+        Place::Already => hold(s),
+        Place::At(at) => insert_at(at, s, m),
+    }
+}
+
+fn is_pair(w: &[u32]) -> bool
+    ensures { λ r. ⌜ r ≡ isPair (now (w .entry)) ⌝ }
+{
+    if word(w, 0) == 4 {
+        return word(w, 1) == 2;
+    }
+    false
+}
+
+// The second part of the pair at a place, from the words of its first part on.
+fn second(at: usize, w: &[u32]) -> Applied
+    requires { ⌜ at < 2 ^ 60 ⌝ }
+    ensures { λ r. ⌜ r ≡ second at (now (w .entry)) ⌝ }
+{
+    let k = span(w);
+    let len = span(from(w, k));
+    Applied::Found {
+        at: at + 2 + k,
+        len: len,
+    }
+}
+
+// The lowest pair of f whose first part is a.
+pub fn apply(f: &[u32], a: &[u32]) -> Applied
+    ensures { λ r. ⌜ r ≡ apply (now (f .entry)) (now (a .entry)) ⌝ }
+{
+    if word(f, 0) != 3 {
+        return Applied::Misfit;
+    }
+    let n = word(f, 1);
+    let mut at = 2;
+    let mut i = 0;
+    while i < n {
+        let w = from(f, at);
+        if is_pair(w) {
+            let parts = from(w, 2);
+            if same(first(parts), a) {
+                return second(at, parts);
+            }
+            at += span(w);
+            i += 1;
+        } else {
+            return Applied::Misfit;
+        }
+    }
+    Applied::Undefined
+}
