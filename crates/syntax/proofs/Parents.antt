@@ -134,3 +134,19 @@ pub parent-above : (doc : List ℕ) → Nodes doc → (k : ℕ) → uses doc k �
 parent-above doc n k e =
     let p = parent-some doc k e in
     child-lower doc n (parent doc k) k (p .0) (parent-most doc k) (p .1) .1
+
+-- whoever has a parent is lower than it, also where nothing is known of uses
+among-has : (doc : List ℕ) (k m : ℕ) → (parentAmong doc k m ≡ 0 → ⊥) → has k (children doc (parentAmong doc k m)) ≡ true
+unfolding parentAmong
+among-has doc k zero h = absurd (h refl)
+among-has doc k (suc m) h = go (has k (children doc (suc m))) refl (λ z. among-has doc k m z) h
+  where
+    go : (b : Bool) → has k (children doc (suc m)) ≡ b → ((parentAmong doc k m ≡ 0 → ⊥) → has k (children doc (parentAmong doc k m)) ≡ true)
+        → (cond b (suc m) (parentAmong doc k m) ≡ 0 → ⊥) → has k (children doc (cond b (suc m) (parentAmong doc k m))) ≡ true
+    go true e f z = e
+    go false e f z = f z
+
+pub parent-rises : (doc : List ℕ) → Nodes doc → (k : ℕ) → (parent doc k ≡ 0 → ⊥) → k < parent doc k
+unfolding parent
+parent-rises doc n k h =
+    child-lower doc n (parentAmong doc k (count doc)) k (omega arith) (among-most doc k (count doc)) (among-has doc k (count doc) h) .1

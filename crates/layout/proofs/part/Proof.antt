@@ -9,47 +9,36 @@ use Rattle.layout.proofs.part.Lts as lts
 use Rattle.words.proofs.span.Reads as span-reads
 use Rattle.words.proofs.word.Reads as word-reads
 
--- src/lib.rt:66:9
 span-requires : tie.Need-span-requires
 span-requires c κs = search needs
 
--- src/lib.rt:66:9
 returns : tie.Need-returns
 returns c = let a = c .before .before .before .args in rw (c .before .if1 .taken) (c .span .ensures ∙ sym (part-zero (a .words .now)))
 
--- src/lib.rt:69:9
 span-requires-2 : tie.Need-span-requires-2
 span-requires-2 c κs = search needs
 
--- src/lib.rt:69:9
 returns-2 : tie.Need-returns-2
 returns-2 c = let a = c .before .before .before .before .args in c .span2 .ensures ∙ sym (part-no-pair (a .words .now) (a .k) (omega arith) (omega arith))
 
--- src/lib.rt:71:29
 mul-word : tie.Need-mul-word
 mul-word c = search needs
 
--- src/lib.rt:71:29
 sub-word : tie.Need-sub-word
 sub-word c = search needs
 
--- src/lib.rt:71:17
 word-requires : tie.Need-word-requires
 word-requires c κs = search needs
 
--- src/lib.rt:71:53
 mul-word-2 : tie.Need-mul-word-2
 mul-word-2 c = search needs
 
--- src/lib.rt:71:41
 word-requires-2 : tie.Need-word-requires-2
 word-requires-2 c κs = search needs
 
--- src/lib.rt:71:5
 span-requires-3 : tie.Need-span-requires-3
 span-requires-3 c κs = search needs
 
--- src/lib.rt:62:1
 returns-3 : tie.Need-returns-3
 returns-3 c =
     let a = c .before .before .before .before .before .before .args in

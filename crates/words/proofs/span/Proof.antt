@@ -10,41 +10,32 @@ use Rattle.words.proofs.span.Tie as tie
 use Rattle.words.proofs.span.Reads as reads
 use Rattle.words.proofs.span.Lts as lts
 
--- src/lib.rt:19:16
 mul-result : tie.Need-mul-result
 mul-result c = search needs
 
--- src/lib.rt:19:16
 sub-result : tie.Need-sub-result
 sub-result c = search needs
 
--- src/lib.rt:19:16
 part-result-start : tie.Need-part-result-start
 part-result-start c = search needs
 
--- src/lib.rt:19:16
 part-result-end : tie.Need-part-result-end
 part-result-end c = search needs
 
--- src/lib.rt:19:9
 returns : tie.Need-returns
 returns c =
     let a = c .before .before .args in
     rw (sub-self, drop-of-length-le (a .s .now) {i = a .at} (omega arith)) (sym (take-nil (a .len)))
 
--- src/lib.rt:22:16
 mul-result-2 : tie.Need-mul-result-2
 mul-result-2 c = search needs
 
--- src/lib.rt:22:16
 part-result-start-2 : tie.Need-part-result-start-2
 part-result-start-2 c = search needs
 
--- src/lib.rt:22:16
 part-result-end-2 : tie.Need-part-result-end-2
 part-result-end-2 c = search needs
 
--- src/lib.rt:22:9
 returns-2 : tie.Need-returns-2
 returns-2 c =
     let a = c .before .before .before .args in
@@ -52,27 +43,21 @@ returns-2 c =
     let l : length d ≡ length (a .s .now) - a .at = length-drop (a .at) (a .s .now) in
     take-all (length (a .s .now) - a .at) d (omega arith) ∙ sym (take-all (a .len) d (omega arith))
 
--- src/lib.rt:24:12
 add-result : tie.Need-add-result
 add-result c = search needs
 
--- src/lib.rt:24:5
 mul-result-3 : tie.Need-mul-result-3
 mul-result-3 c = search needs
 
--- src/lib.rt:24:5
 sub-result-2 : tie.Need-sub-result-2
 sub-result-2 c = search needs
 
--- src/lib.rt:24:5
 part-result-start-3 : tie.Need-part-result-start-3
 part-result-start-3 c = search needs
 
--- src/lib.rt:24:5
 part-result-end-3 : tie.Need-part-result-end-3
 part-result-end-3 c = search needs
 
--- src/lib.rt:14:1
 returns-3 : tie.Need-returns-3
 returns-3 c = rw add-sub-cancel-left
 

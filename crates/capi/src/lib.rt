@@ -1,0 +1,23 @@
+// The calls for C and Rust. Each gives its finding as one number.
+use syntax::Reading;
+ghost use mathlib.Core.Path.{_≡_};
+ghost use Rattle.syntax.specs.Reading.{readOf};
+ghost use Rattle.capi.specs.Code.{codeOf};
+
+// A finding as one number: 0 where there is none, else number * 2^32 + place.
+fn code_of(r: Reading) -> u64
+    ensures { λ n. ⌜ n ≡ codeOf r ⌝ }
+{
+    match r {
+        Reading::Readable => 0,
+        Reading::Refused { number, place } => (number as u64) * 4294967296 + (place as u64),
+    }
+}
+
+// Reading: 0 where the document is readable, else one of 11 to 17 with its place.
+#[no_mangle]
+pub extern "C" fn z_read(doc: &[u32]) -> u64
+    ensures { λ n. ⌜ n ≡ codeOf (readOf (now (doc .entry))) ⌝ }
+{
+    code_of(reader::read(doc))
+}
