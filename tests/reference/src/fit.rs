@@ -1,0 +1,40 @@
+//! The fit call: checks a document, then a state against its dictionary: 41,
+//! then 42.
+
+use crate::check::{check_tree, Checked};
+use crate::finding::{demand, Finding};
+use crate::reading::read;
+use crate::state::{read_state, Role, State};
+use crate::values::is_of;
+use crate::WORK_WORDS;
+
+/// Fits a state to a document, with areas of these lengths.
+pub fn fit(
+    words: &[u32],
+    state: &[u32],
+    dictionary: usize,
+    work: usize,
+) -> Result<Checked, Finding> {
+    let document = read(words)?;
+    demand(work >= WORK_WORDS, 21, 0)?;
+    let checked = check_tree(&document, dictionary, true)?;
+    let state = read_state(&document, state)?;
+    has_recorded_types(&checked, &state)?;
+    Ok(checked)
+}
+
+/// 42: each value has its recorded type.
+fn has_recorded_types(checked: &Checked, state: &State) -> Result<(), Finding> {
+    for (i, role) in state.roles.iter().enumerate() {
+        if let Role::Declared(identifier) = role {
+            let value = &state.values[identifier];
+            let entries = &checked.dictionary.entries;
+            let recorded = entries
+                .iter()
+                .find(|entry| entry.class as u32 == 1 && entry.name == *identifier)
+                .expect("an accepted document records each declared identifier");
+            demand(is_of(value, &recorded.type_), 42, i as u32 + 1)?;
+        }
+    }
+    Ok(())
+}
