@@ -204,12 +204,13 @@ fn r17_component_sizes() {
     refuses(vec![wide.clone(), constraint(equal(use_it(5), use_it(5)))], 38, 12, 0);
     // A parameter that is not mentioned may be of any size.
     let idle = schema(2, &[A], text(truth(), vec![decl(int(), &[X])]));
-    let large = product(vec![four(6), four(6), four(6)]);
+    let b = abbreviation(B, &[], product(vec![four(6), four(6), four(6)]));
+    let large = product(vec![reference(B), reference(B)]);
     let used = schema_set(include(2, 0, vec![large.clone()], &[]));
-    accepts(vec![idle, constraint(equal(used.clone(), used))]);
+    accepts(vec![b.clone(), idle, constraint(equal(used.clone(), used))]);
     // 36 goes before 38.
     let lines = vec![decl(int(), &[X]), include(1, 0, vec![large], &[])];
-    refuses(vec![wide, plain_schema(3, lines)], 36, 12, 0);
+    refuses(vec![b, wide, plain_schema(3, lines)], 36, 12, 0);
     refuses(vec![abbreviation(B, &[], tuple(vec![tuple(vec![number(1); 6]); 5]))], 38, 5, 0);
 }
 
