@@ -210,8 +210,8 @@ fn r17_component_sizes() {
     accepts(vec![b.clone(), idle, constraint(equal(used.clone(), used))]);
     // 36 goes before 38.
     let lines = vec![decl(int(), &[X]), include(1, 0, vec![large], &[])];
-    refuses(vec![b, wide, plain_schema(3, lines)], 36, 12, 0);
-    refuses(vec![abbreviation(B, &[], tuple(vec![tuple(vec![number(1); 6]); 5]))], 38, 5, 0);
+    refuses(vec![b.clone(), wide, plain_schema(3, lines)], 36, 12, 0);
+    refuses(vec![b, abbreviation(C, &[], tuple(vec![reference(B), reference(B)]))], 38, 5, 1);
 }
 
 #[test]
