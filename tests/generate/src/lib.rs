@@ -1,0 +1,139 @@
+//! Documents and states by seed. The same seed and index give the same case on
+//! every machine.
+
+pub mod documents;
+pub mod inject;
+pub mod limits;
+pub mod number;
+pub mod raw;
+pub mod rng;
+pub mod runnable;
+pub mod schemas;
+pub mod shape;
+pub mod special;
+pub mod states;
+pub mod typed;
+pub mod types;
+
+use rng::Rng;
+use typed::Aim;
+
+/// What the calls are given: a document, a state, the areas' lengths.
+#[derive(Clone, PartialEq, Eq, Debug)]
+pub struct Case {
+    /// Which maker the document is from.
+    pub family: &'static str,
+    pub document: Vec<u32>,
+    pub state: Vec<u32>,
+    pub dictionary: usize,
+    pub work: usize,
+    /// Fills the areas before a call.
+    pub dirt: u32,
+}
+
+/// The case of this seed with this number.
+pub fn case(seed: u64, index: u64) -> Case {
+    let mut rng = Rng::new(seed ^ index.wrapping_mul(0xD134_2543_DE82_EF95));
+    rng.next();
+    let (family, document) = some_document(&mut rng);
+    let state = states::state_for(&mut rng, &document);
+    let (dictionary, work) = areas(&mut rng, &document);
+    Case { family, document, state, dictionary, work, dirt: rng.word() }
+}
+
+fn some_document(rng: &mut Rng) -> (&'static str, Vec<u32>) {
+    match rng.below(100) {
+        0..=3 => ("raw words", raw::raw_words(rng)),
+        4..=6 => {
+            let sound = sound_document(rng);
+            ("damaged layout", raw::damage_layout(rng, &sound))
+        }
+        7..=16 => {
+            let sound = sound_document(rng);
+            ("damaged nodes", raw::damage_nodes(rng, &sound))
+        }
+        17..=23 => ("shapes", shaped(rng)),
+        24..=33 => ("limits", limits::at_a_limit(rng)),
+        34..=41 => {
+            let tree = special::special_document(rng);
+            ("one rule", number::encode_somehow(rng, &tree))
+        }
+        42..=53 => ("typed", accepted(rng, Aim::Check)),
+        54..=69 => ("typed, one error", with_error(rng, Aim::Check)),
+        70..=87 => ("runnable", accepted(rng, Aim::Run)),
+        88..=93 => ("runnable, one error", with_error(rng, Aim::Run)),
+        _ => {
+            let tree = runnable::arithmetic_document(rng);
+            ("values at their ends", number::encode_somehow(rng, &tree))
+        }
+    }
+}
+
+fn shaped(rng: &mut Rng) -> Vec<u32> {
+    let names = *rng.pick(&[3, 6, 12, 40]);
+    let tree = shape::Shape { rng, names }.document();
+    number::encode_somehow(rng, &tree)
+}
+
+/// A document to be damaged.
+fn sound_document(rng: &mut Rng) -> Vec<u32> {
+    match rng.below(4) {
+        0 => shaped(rng),
+        1 => limits::at_a_limit(rng),
+        2 => accepted(rng, Aim::Run),
+        _ => accepted(rng, Aim::Check),
+    }
+}
+
+/// A document that the reference accepts, in most cases.
+fn accepted(rng: &mut Rng, aim: Aim) -> Vec<u32> {
+    let mut words = Vec::new();
+    for _ in 0..6 {
+        let tree = documents::typed_document(rng, aim);
+        words = number::encode_somehow(rng, &tree);
+        let is_accepted = reference::check(&words, usize::MAX, reference::WORK_WORDS).is_ok();
+        if is_accepted || rng.percent(10) {
+            break;
+        }
+    }
+    words
+}
+
+fn with_error(rng: &mut Rng, aim: Aim) -> Vec<u32> {
+    let mut tree = documents::typed_document(rng, aim);
+    for _ in 0..4 {
+        let words = coding::encode(&tree);
+        if reference::check(&words, usize::MAX, reference::WORK_WORDS).is_ok() {
+            break;
+        }
+        tree = documents::typed_document(rng, aim);
+    }
+    let sort = *rng.pick(&inject::SORTS);
+    inject::inject(rng, &mut tree, sort);
+    number::encode_somehow(rng, &tree)
+}
+
+/// Lengths of the dictionary area and the work area: mostly as the program has
+/// them, else odd, too short, or just enough.
+fn areas(rng: &mut Rng, document: &[u32]) -> (usize, usize) {
+    let needed = match reference::check(document, usize::MAX, reference::WORK_WORDS) {
+        Ok(checked) => checked.dictionary.length(),
+        Err(_) => 40,
+    };
+    let dictionary = match rng.below(12) {
+        0 => needed,
+        1 => needed - 1,
+        2 => rng.below(needed),
+        3 => rng.below(3),
+        4 => needed + 1 + rng.below(30),
+        5 => 16_385 + 2 * rng.below(500),
+        _ => 16_384,
+    };
+    let work = match rng.below(40) {
+        0 => 16_383,
+        1 => rng.below(16_384),
+        2 | 3 => 16_385 + rng.below(1_001),
+        _ => 16_384,
+    };
+    (dictionary, work)
+}
