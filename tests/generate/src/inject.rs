@@ -140,18 +140,23 @@ fn no_component(rng: &mut Rng, tree: &mut Tree) {
 /// Lines and paragraphs that bring a name again.
 fn clash(rng: &mut Rng, tree: &mut Tree) {
     let includes = tree.places(|t| t.kind == 12);
+    let schemas = tree.places(|t| t.kind == 4);
     match rng.below(4) {
         0 | 1 if !includes.is_empty() => {
             let place = *rng.pick(&includes);
             let again = tree.at(place).expect("an Include").clone();
-            let brings = axiom(text(truth(), vec![again]));
-            let at = rng.below(tree.operands.len() + 1);
-            tree.operands.insert(at, Operand::Node(brings));
+            let brings = || Operand::Node(axiom(text(truth(), vec![again.clone()])));
+            tree.operands.push(brings());
+            if rng.percent(60) {
+                tree.operands.push(brings());
+            }
         }
-        2 => change(rng, tree, |t| t.kind == 10, |rng, node| {
-            let ids = [id(rng.from(1, 9) as u32, 0)];
-            node.operands.push(Operand::Node(decl(power(integers()), &ids)));
-        }),
+        2 if !schemas.is_empty() => {
+            let place = *rng.pick(&schemas);
+            let schema = tree.at(place).expect("a Schema").clone();
+            let merged = other_component(rng, &schema);
+            tree.operands.push(Operand::Node(merged));
+        }
         _ => {
             let name = id(rng.from(1, 9) as u32, 0);
             let paragraph = match rng.percent(50) {
@@ -160,6 +165,28 @@ fn clash(rng: &mut Rng, tree: &mut Tree) {
             };
             tree.operands.push(Operand::Node(paragraph));
         }
+    }
+}
+
+/// A Text or Conjunction that merges the schema with a component of another
+/// type.
+fn other_component(rng: &mut Rng, of: &Tree) -> Tree {
+    let word = |operand: &Operand| match operand {
+        Operand::Word(word) => *word,
+        Operand::Node(_) => 4,
+    };
+    let mut of = of.clone();
+    let declared = match of.places(|t| t.kind == 11).first() {
+        Some(&place) => word(&of.at(place).expect("a Decl").operands[1]),
+        None => 4,
+    };
+    let actuals = vec![integers(); word(&of.operands[1]) as usize];
+    let one = include(word(&of.operands[0]), 0, actuals, &[]);
+    let other = decl(power(power(power(integers()))), &[declared]);
+    match rng.below(3) {
+        0 => schema(16_000, &[], text(truth(), vec![one, other])),
+        1 => schema(16_000, &[], text(truth(), vec![other, one])),
+        _ => schema(16_000, &[], conjunction(one, text(truth(), vec![other]))),
     }
 }
 
@@ -177,19 +204,20 @@ fn bad_rename(rng: &mut Rng, tree: &mut Tree) {
     });
 }
 
+/// A declared type or an actual with two wide names beside it, so that its
+/// size is near or past 32.
 fn too_large(rng: &mut Rng, tree: &mut Tree) {
-    change(rng, tree, |t| matches!(t.kind, 5 | 11 | 12), |rng, node| {
+    let (six, more) = (id(16_001, 0), id(16_002, 0));
+    let parts = rng.from(2, 3);
+    change(rng, tree, |t| matches!(t.kind, 5 | 11 | 12), |_, node| {
         for operand in &mut node.operands {
             if let Operand::Node(child) = operand {
-                let parts = rng.from(2, 6);
-                let wide = product(vec![integers(); parts]);
-                let wider = match rng.percent(50) {
-                    true => product(vec![wide.clone(), wide.clone(), wide]),
-                    false => power(wide),
-                };
-                *child = product(vec![child.clone(), wider]);
+                *child = product(vec![child.clone(), reference(more), reference(six)]);
                 return;
             }
         }
     });
+    let wide = abbreviation(six, &[], product(vec![integers(); 6]));
+    let wider = abbreviation(more, &[], product(vec![reference(six); parts]));
+    tree.operands.splice(0..0, [Operand::Node(wide), Operand::Node(wider)]);
 }

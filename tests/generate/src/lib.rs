@@ -120,13 +120,13 @@ fn areas(rng: &mut Rng, document: &[u32]) -> (usize, usize) {
         Ok(checked) => checked.dictionary.length(),
         Err(_) => 40,
     };
-    let dictionary = match rng.below(12) {
-        0 => needed,
-        1 => needed - 1,
-        2 => rng.below(needed),
-        3 => rng.below(3),
-        4 => needed + 1 + rng.below(30),
-        5 => 16_385 + 2 * rng.below(500),
+    let dictionary = match rng.below(40) {
+        0..=2 => needed,
+        3 | 4 => needed - 1,
+        5 | 6 => rng.below(needed),
+        7 => rng.below(3),
+        8..=10 => needed + 1 + rng.below(30),
+        11..=13 => 16_385 + 2 * rng.below(500),
         _ => 16_384,
     };
     let work = match rng.below(40) {

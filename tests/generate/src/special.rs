@@ -31,9 +31,9 @@ fn sized(rng: &mut Rng, size: usize, before: &mut Vec<Tree>) -> Tree {
             (n, false) => product(vec![integers(); n - 1]),
         };
     }
-    let name = id(100 + before.len() as u32, 0);
     let part = rng.from(1, size - 3);
     let tree = sized(rng, part, before);
+    let name = id(100 + before.len() as u32, 0);
     before.push(abbreviation(name, &[], tree));
     match rng.percent(70) {
         true => product(vec![reference(name), sized(rng, size - 1 - part, before)]),
