@@ -1,0 +1,7 @@
+//! Compares the proved library with the reference, call by call.
+
+pub mod areas;
+pub mod calls;
+pub mod expected;
+pub mod shrink;
+pub mod show;

@@ -1,0 +1,128 @@
+//! The comparison: cases by seed to the library and to the reference.
+//!
+//! compare [--seed N] [--count M] [--from I]
+//!
+//! Ends with 0 where all answers are equal and each number of the calls
+//! compared is reached often enough; 1 where not; 2 where no library is there,
+//! for then nothing is compared.
+
+use compare::calls::{Call, ARCHIVE, ARCHIVE_FOUND, CALLS, NOT_LINKED};
+use compare::expected::number;
+use compare::{show, shrink};
+use generate::Case;
+use std::collections::BTreeMap;
+use std::process::ExitCode;
+use std::time::Instant;
+
+/// How often each number must be reached.
+const REACHED: usize = 20;
+/// Differences after which the comparison ends.
+const SHOWN: usize = 3;
+
+struct Options {
+    seed: u64,
+    count: u64,
+    from: u64,
+}
+
+#[derive(Default)]
+struct Tally {
+    numbers: BTreeMap<u32, usize>,
+    compared: usize,
+    unfinished: usize,
+}
+
+fn main() -> ExitCode {
+    let Some(options) = options() else {
+        eprintln!("compare [--seed N] [--count M] [--from I]");
+        return ExitCode::from(2);
+    };
+    if CALLS.is_empty() {
+        match ARCHIVE_FOUND {
+            true => println!("{ARCHIVE} has none of the calls {NOT_LINKED:?}"),
+            false => println!("no library at {ARCHIVE}"),
+        }
+        println!("nothing is compared: this is no test");
+        return ExitCode::from(2);
+    }
+    let start = Instant::now();
+    let mut tallies: Vec<Tally> = CALLS.iter().map(|_| Tally::default()).collect();
+    let mut differences = 0;
+    for index in options.from..options.from + options.count {
+        let case = generate::case(options.seed, index);
+        for (call, tally) in CALLS.iter().zip(&mut tallies) {
+            if !compare(call, tally, &case) {
+                differences += 1;
+                report(call, &case, options.seed, index);
+                if differences == SHOWN {
+                    println!("stopped after {SHOWN} differences");
+                    return ExitCode::FAILURE;
+                }
+            }
+        }
+    }
+    let short = summary(&tallies, &options, start);
+    ExitCode::from(u8::from(differences > 0 || short))
+}
+
+fn options() -> Option<Options> {
+    let mut options = Options { seed: 1, count: 20_000, from: 0 };
+    let mut arguments = std::env::args().skip(1);
+    while let Some(name) = arguments.next() {
+        let value = arguments.next()?.parse().ok()?;
+        match name.as_str() {
+            "--seed" => options.seed = value,
+            "--count" => options.count = value,
+            "--from" => options.from = value,
+            _ => return None,
+        }
+    }
+    Some(options)
+}
+
+/// Compares one call on one case; false where the answers differ.
+fn compare(call: &Call, tally: &mut Tally, case: &Case) -> bool {
+    let Some(expected) = (call.expected)(case) else {
+        tally.unfinished += 1;
+        return true;
+    };
+    tally.compared += 1;
+    *tally.numbers.entry(number(expected.answer)).or_default() += 1;
+    call.difference(case, &expected).is_none()
+}
+
+fn differs(call: &Call, case: &Case) -> Option<String> {
+    (call.expected)(case).and_then(|expected| call.difference(case, &expected))
+}
+
+fn report(call: &Call, case: &Case, seed: u64, index: u64) {
+    let small = shrink::shrink(case, &|smaller| differs(call, smaller).is_some());
+    let name = call.name;
+    println!("{name} differs at seed {seed}, case {index} ({}), shrunk:", case.family);
+    print!("{}", show::document(&small.document));
+    println!("  state:\n{}", show::state(&small.state));
+    println!("  dictionary area {} words, work area {} words", small.dictionary, small.work);
+    println!("  {}\n", differs(call, &small).unwrap_or_default());
+}
+
+/// Prints what was compared; true where a number was reached too seldom.
+fn summary(tallies: &[Tally], options: &Options, start: Instant) -> bool {
+    let mut short = false;
+    println!("seed {}, {} cases, library {ARCHIVE}", options.seed, options.count);
+    for (call, tally) in CALLS.iter().zip(tallies) {
+        let Tally { numbers, compared, unfinished } = tally;
+        println!("{}: {compared} compared, {unfinished} runs too long", call.name);
+        let counts: Vec<String> = numbers.iter().map(|(n, times)| format!("{n}:{times}")).collect();
+        println!("  findings {}", counts.join(" "));
+        for number in call.numbers {
+            let times = numbers.get(number).copied().unwrap_or(0);
+            if times < REACHED {
+                println!("  {number} is reached {times} times, fewer than {REACHED}");
+                short = true;
+            }
+        }
+    }
+    println!("not in the library yet: {NOT_LINKED:?}");
+    println!("{:.1} seconds", start.elapsed().as_secs_f64());
+    short
+}
