@@ -102,7 +102,8 @@ impl Call {
     fn row(&self) -> String {
         let Call { symbol, numbers, .. } = self;
         format!(
-            "    Call {{ name: \"{symbol}\", function: call_{symbol}, expected: expected::{symbol}, \
+            "    Call {{ name: \"{symbol}\", function: call_{symbol}, expected: crate::expected::{symbol}, \
+             reference: crate::timed::{symbol}, \
              dictionary: {}, work: {}, numbers: &[{}] }},\n",
             self.has("dictionary"),
             self.has("work"),

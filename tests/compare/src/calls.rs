@@ -18,6 +18,8 @@ pub struct Call {
     pub function: fn(&mut Slices) -> u64,
     /// The reference's answer, or nothing where the run takes too long.
     pub expected: fn(&Case) -> Option<Expected>,
+    /// The reference doing the same work on the same areas, for timing.
+    pub reference: fn(&mut Slices) -> u64,
     pub dictionary: bool,
     pub work: bool,
     /// The finding numbers that a comparison must reach.

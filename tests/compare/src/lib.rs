@@ -5,3 +5,4 @@ pub mod calls;
 pub mod expected;
 pub mod shrink;
 pub mod show;
+pub mod timed;

@@ -1,7 +1,9 @@
 //! The comparison: cases by seed to the library and to the reference.
 //!
-//! compare [--seed N] [--count M] [--from I]
+//! compare [--seed N] [--count M] [--from I] [--trace 1]
 //!
+//! With --trace 1 each case's number is printed before it is compared, so that
+//! a library that crashes or hangs can be asked again with --from.
 //! Ends with 0 where all answers are equal and each number of the calls
 //! compared is reached often enough; 1 where not; 2 where no library is there,
 //! for then nothing is compared.
@@ -23,6 +25,7 @@ struct Options {
     seed: u64,
     count: u64,
     from: u64,
+    trace: u64,
 }
 
 #[derive(Default)]
@@ -34,7 +37,7 @@ struct Tally {
 
 fn main() -> ExitCode {
     let Some(options) = options() else {
-        eprintln!("compare [--seed N] [--count M] [--from I]");
+        eprintln!("compare [--seed N] [--count M] [--from I] [--trace 1]");
         return ExitCode::from(2);
     };
     if CALLS.is_empty() {
@@ -49,6 +52,9 @@ fn main() -> ExitCode {
     let mut tallies: Vec<Tally> = CALLS.iter().map(|_| Tally::default()).collect();
     let mut differences = 0;
     for index in options.from..options.from + options.count {
+        if options.trace > 0 {
+            eprintln!("case {index}");
+        }
         let case = generate::case(options.seed, index);
         for (call, tally) in CALLS.iter().zip(&mut tallies) {
             if !compare(call, tally, &case) {
@@ -66,7 +72,7 @@ fn main() -> ExitCode {
 }
 
 fn options() -> Option<Options> {
-    let mut options = Options { seed: 1, count: 20_000, from: 0 };
+    let mut options = Options { seed: 1, count: 20_000, from: 0, trace: 0 };
     let mut arguments = std::env::args().skip(1);
     while let Some(name) = arguments.next() {
         let value = arguments.next()?.parse().ok()?;
@@ -74,6 +80,7 @@ fn options() -> Option<Options> {
             "--seed" => options.seed = value,
             "--count" => options.count = value,
             "--from" => options.from = value,
+            "--trace" => options.trace = value,
             _ => return None,
         }
     }

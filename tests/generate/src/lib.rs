@@ -14,6 +14,7 @@ pub mod special;
 pub mod states;
 pub mod typed;
 pub mod types;
+pub mod worst;
 
 use rng::Rng;
 use typed::Aim;

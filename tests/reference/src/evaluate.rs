@@ -10,7 +10,9 @@ impl Run {
     pub fn expr(&mut self, expr: &Expr) -> Result<Value, Stop> {
         self.step()?;
         let value = self.expr_kind(expr)?;
-        self.list.push((expr.node, value.clone()));
+        if self.listing {
+            self.list.push((expr.node, value.clone()));
+        }
         Ok(value)
     }
 

@@ -15,9 +15,35 @@ pub fn fit(
     dictionary: usize,
     work: usize,
 ) -> Result<Checked, Finding> {
+    fit_recording(words, state, dictionary, work, true)
+}
+
+/// The same, leaving the dictionary's words in the area; both areas are zero
+/// where it leaves none.
+pub fn fit_into(
+    words: &[u32],
+    state: &[u32],
+    dictionary: &mut [u32],
+    work: &mut [u32],
+) -> Result<(), Finding> {
+    dictionary.fill(0);
+    work.fill(0);
+    let checked = fit_recording(words, state, dictionary.len(), work.len(), false)?;
+    let found = checked.dictionary.words();
+    dictionary[..found.len()].copy_from_slice(&found);
+    Ok(())
+}
+
+fn fit_recording(
+    words: &[u32],
+    state: &[u32],
+    dictionary: usize,
+    work: usize,
+    record: bool,
+) -> Result<Checked, Finding> {
     let document = read(words)?;
     demand(work >= WORK_WORDS, 21, 0)?;
-    let checked = check_tree(&document, dictionary, true)?;
+    let checked = check_tree(&document, dictionary, record)?;
     let state = read_state(&document, state)?;
     has_recorded_types(&checked, &state)?;
     Ok(checked)

@@ -49,6 +49,17 @@ pub enum Bound {
 /// Runs a document on a state with a work area of this length, in at most so
 /// many steps (worked-out expressions and assignments).
 pub fn run(words: &[u32], state: &[u32], work: usize, steps: u64) -> Outcome {
+    run_listing(words, state, work, steps, true)
+}
+
+/// The same, keeping the list of values only where it is asked for.
+pub fn run_listing(
+    words: &[u32],
+    state: &[u32],
+    work: usize,
+    steps: u64,
+    listing: bool,
+) -> Outcome {
     let refused = |finding| Outcome { ending: Ending::Refused(finding), list: Vec::new() };
     let document = match read(words) {
         Ok(document) => document,
@@ -58,15 +69,15 @@ pub fn run(words: &[u32], state: &[u32], work: usize, steps: u64) -> Outcome {
         return refused(finding);
     }
     match read_state(&document, state) {
-        Ok(state) => run_tree(&document, state, steps),
+        Ok(state) => run_tree(&document, state, steps, listing),
         Err(finding) => refused(finding),
     }
 }
 
 /// Runs the paragraphs of a readable document on a well-formed state.
-pub fn run_tree(document: &Document, state: State, steps: u64) -> Outcome {
-    let globals = BTreeMap::new();
-    let mut run = Run { state, globals, texts: Vec::new(), list: Vec::new(), steps };
+fn run_tree(document: &Document, state: State, steps: u64, listing: bool) -> Outcome {
+    let (globals, texts, list) = Default::default();
+    let mut run = Run { state, globals, texts, list, listing, steps };
     let ended = document.paragraphs.iter().try_for_each(|paragraph| run.paragraph(paragraph));
     let ending = match ended {
         Ok(()) => Ending::Holds,
@@ -83,6 +94,7 @@ pub struct Run {
     /// The assignments of the Texts around, innermost last.
     pub texts: Vec<Vec<(Identifier, Value)>>,
     pub list: Vec<(NodeNumber, Value)>,
+    pub listing: bool,
     pub steps: u64,
 }
 

@@ -3,6 +3,8 @@
 //! type of its node. Also shows which findings the generator reaches.
 //!
 //! This says nothing about the proved library; tests/compare does.
+//!
+//! soundness [--seed N] [--count M] [--from I] [--quiet 1]
 
 use generate::Case;
 use reference::values::is_of;
@@ -30,12 +32,16 @@ fn main() -> ExitCode {
         at.map_or(default, |at| arguments[at + 1].parse().expect("a number"))
     };
     let (seed, count) = (number("--seed", 1), number("--count", 20_000));
+    let from = number("--from", 0);
     let mut survey = Survey::default();
-    for index in 0..count {
+    for index in from..from + count {
         let case = generate::case(seed, index);
         if !survey.add(&case) {
             survey.broken.push(index);
         }
+    }
+    if number("--quiet", 0) == 0 {
+        survey.show_findings();
     }
     survey.report(seed, count)
 }
@@ -69,7 +75,8 @@ impl Survey {
         !is_51 && ended.list.iter().all(|(node, value)| is_of(value, &checked.node_types[node]))
     }
 
-    fn report(&self, seed: u64, count: u64) -> ExitCode {
+    /// Which findings each family reaches.
+    fn show_findings(&self) {
         let mut family = "";
         for ((name, number), times) in &self.families {
             if *name != family {
@@ -80,6 +87,9 @@ impl Survey {
         }
         println!("\nfit and run (1001 holds, 1002 fails, 10nn run's numbers):");
         println!("{:?}", self.numbers);
+    }
+
+    fn report(&self, seed: u64, count: u64) -> ExitCode {
         println!("soundness: seed {seed}, {count} cases, {} accepted with a fitting state,", self.fitting);
         println!("{} values listed, {} runs too long to finish", self.values, self.unfinished);
         if self.broken.is_empty() && self.fitting > 0 {
