@@ -1,8 +1,8 @@
 //! The comparison: cases by seed to the library and to the reference.
 //!
-//! compare [--seed N] [--count M] [--from I] [--trace 1]
+//! compare [--seed N] [--count M] [--from I] [--show K] [--trace 1]
 //!
-//! With --trace 1 each case's number is printed before it is compared, so that
+//! Stops after K differences, 3 where not said. With --trace 1 each case's number is printed before it is compared, so that
 //! a library that crashes or hangs can be asked again with --from.
 //! Ends with 0 where all answers are equal and each number of the calls
 //! compared is reached often enough; 1 where not; 2 where no library is there,
@@ -18,14 +18,13 @@ use std::time::Instant;
 
 /// How often each number must be reached.
 const REACHED: usize = 20;
-/// Differences after which the comparison ends.
-const SHOWN: usize = 3;
 
 struct Options {
     seed: u64,
     count: u64,
     from: u64,
     trace: u64,
+    show: u64,
 }
 
 #[derive(Default)]
@@ -37,7 +36,7 @@ struct Tally {
 
 fn main() -> ExitCode {
     let Some(options) = options() else {
-        eprintln!("compare [--seed N] [--count M] [--from I] [--trace 1]");
+        eprintln!("compare [--seed N] [--count M] [--from I] [--show K] [--trace 1]");
         return ExitCode::from(2);
     };
     if CALLS.is_empty() {
@@ -50,7 +49,7 @@ fn main() -> ExitCode {
     }
     let start = Instant::now();
     let mut tallies: Vec<Tally> = CALLS.iter().map(|_| Tally::default()).collect();
-    let mut differences = 0;
+    let mut differences = 0u64;
     for index in options.from..options.from + options.count {
         if options.trace > 0 {
             eprintln!("case {index}");
@@ -60,8 +59,8 @@ fn main() -> ExitCode {
             if !compare(call, tally, &case) {
                 differences += 1;
                 report(call, &case, options.seed, index);
-                if differences == SHOWN {
-                    println!("stopped after {SHOWN} differences");
+                if differences == options.show {
+                    println!("stopped after {differences} differences");
                     return ExitCode::FAILURE;
                 }
             }
@@ -72,7 +71,7 @@ fn main() -> ExitCode {
 }
 
 fn options() -> Option<Options> {
-    let mut options = Options { seed: 1, count: 20_000, from: 0, trace: 0 };
+    let mut options = Options { seed: 1, count: 20_000, from: 0, trace: 0, show: 3 };
     let mut arguments = std::env::args().skip(1);
     while let Some(name) = arguments.next() {
         let value = arguments.next()?.parse().ok()?;
@@ -81,6 +80,7 @@ fn options() -> Option<Options> {
             "--count" => options.count = value,
             "--from" => options.from = value,
             "--trace" => options.trace = value,
+            "--show" => options.show = value,
             _ => return None,
         }
     }

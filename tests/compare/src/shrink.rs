@@ -1,5 +1,5 @@
 //! Makes a case that shows a difference small: takes away whatever the
-//! difference does not need.
+//! difference does not need. Smaller cases are made one at a time.
 
 use generate::Case;
 use reference::kinds::{is_listed, slots, Slot};
@@ -10,25 +10,21 @@ use std::collections::BTreeMap;
 /// The most cases that one shrinking tries.
 const TRIES: usize = 6_000;
 
+type Nodes = Vec<Vec<u32>>;
+type Lazy<'a, T> = Box<dyn Iterator<Item = T> + 'a>;
+
 /// A smaller case that still differs.
 pub fn shrink(case: &Case, differs: &dyn Fn(&Case) -> bool) -> Case {
     let mut best = case.clone();
     let mut tries = 0;
     loop {
-        let mut found = false;
-        for smaller in smaller_cases(&best) {
+        let found = smaller_cases(&best).find(|smaller| {
             tries += 1;
-            if tries > TRIES {
-                return best;
-            }
-            if weight(&smaller) < weight(&best) && differs(&smaller) {
-                best = smaller;
-                found = true;
-                break;
-            }
-        }
-        if !found {
-            return best;
+            tries > TRIES || (weight(smaller) < weight(&best) && differs(smaller))
+        });
+        match found {
+            Some(smaller) if tries <= TRIES => best = smaller,
+            _ => return best,
         }
     }
 }
@@ -41,58 +37,54 @@ fn weight(case: &Case) -> (usize, u64) {
     (words, sum(&case.document) + sum(&case.state) + u64::from(case.dirt))
 }
 
-fn smaller_cases(case: &Case) -> Vec<Case> {
-    let mut all = vec![
+fn smaller_cases(case: &Case) -> Lazy<'_, Case> {
+    let plain = vec![
         Case { dictionary: 16_384, ..case.clone() },
         Case { work: 16_384, ..case.clone() },
         Case { dirt: 0, ..case.clone() },
         Case { state: vec![0], ..case.clone() },
     ];
-    match layout::parts(&case.document) {
+    let documents: Lazy<Case> = match layout::parts(&case.document) {
         Some(parts) => {
-            let nodes: Vec<Vec<u32>> =
-                parts.into_iter().map(|part| case.document[part].to_vec()).collect();
-            for smaller in smaller_trees(&nodes) {
-                let document = coding::join(&smaller);
-                let state = refitted(case, &document);
-                all.push(Case { document: document.clone(), state, ..case.clone() });
-                all.push(Case { document, ..case.clone() });
-            }
+            let nodes = parts.into_iter().map(|part| case.document[part].to_vec()).collect();
+            Box::new(smaller_trees(nodes).flat_map(|nodes| with_document(case, coding::join(&nodes))))
         }
-        None => {
-            for document in fewer_words(&case.document) {
-                all.push(Case { document, ..case.clone() });
-            }
-        }
-    }
-    for state in smaller_states(&case.state) {
-        all.push(Case { state, ..case.clone() });
-    }
-    all
+        None => Box::new(
+            fewer_words(case.document.clone()).map(|document| Case { document, ..case.clone() }),
+        ),
+    };
+    let states = smaller_states(&case.state).map(|state| Case { state, ..case.clone() });
+    Box::new(plain.into_iter().chain(documents).chain(states))
+}
+
+/// The case with another document, and with the state's entries that this one
+/// still asks for or the state as it is.
+fn with_document(case: &Case, document: Vec<u32>) -> [Case; 2] {
+    let state = refitted(case, &document);
+    let fitted = Case { document: document.clone(), state, ..case.clone() };
+    [fitted, Case { document, ..case.clone() }]
+}
+
+/// Stretches of so many things, from halves down to single ones.
+fn stretches(length: usize) -> impl Iterator<Item = (usize, usize)> {
+    let halves = std::iter::successors(Some(length.div_ceil(2)), |&n| (n > 1).then_some(n / 2));
+    halves.filter(|&n| n > 0).flat_map(move |n| {
+        (0..length).step_by(n).map(move |start| (start, (start + n).min(length)))
+    })
 }
 
 /// The words without a stretch of them, or with one made 0 or 1.
-fn fewer_words(words: &[u32]) -> Vec<Vec<u32>> {
-    let mut all = Vec::new();
-    let mut stretch = words.len().div_ceil(2);
-    while stretch >= 1 {
-        for start in (0..words.len()).step_by(stretch) {
-            let end = (start + stretch).min(words.len());
-            all.push([&words[..start], &words[end..]].concat());
-        }
-        if stretch == 1 {
-            break;
-        }
-        stretch /= 2;
-    }
-    for i in 0..words.len().min(200) {
-        for lower in [0, 1] {
-            let mut changed = words.to_vec();
-            changed[i] = lower;
-            all.push(changed);
-        }
-    }
-    all
+fn fewer_words(words: Vec<u32>) -> impl Iterator<Item = Vec<u32>> {
+    let length = words.len();
+    let lower = (0..length.min(200)).flat_map(|at| [(at, 0), (at, 1)]);
+    let others = words.clone();
+    let shorter =
+        stretches(length).map(move |(start, end)| [&words[..start], &words[end..]].concat());
+    shorter.chain(lower.map(move |(at, word)| {
+        let mut changed = others.clone();
+        changed[at] = word;
+        changed
+    }))
 }
 
 /// Which operand words of a node are nodes; none where it cannot be read.
@@ -105,82 +97,104 @@ fn node_slots(node: &[u32]) -> Vec<usize> {
     slots.iter().enumerate().filter(is_node).map(|(i, _)| i + 1).collect()
 }
 
-fn smaller_trees(nodes: &[Vec<u32>]) -> Vec<Vec<Vec<u32>>> {
-    let mut all = Vec::new();
-    for k in (1..=nodes.len()).rev() {
-        let node = &nodes[k - 1];
-        for at in 1..node.len() {
-            all.extend(without_words(nodes, k, at));
-        }
-        for at in node_slots(node) {
-            let child = node[at] as usize;
-            if child >= 1 && child < k {
-                for below in node_slots(&nodes[child - 1]) {
-                    all.push(changed(nodes, k, at, nodes[child - 1][below]));
-                }
-            }
-        }
-        all.extend(simpler_node(nodes, k));
-    }
-    all
-}
-
-/// The nodes with a word of node k changed, then swept.
-fn changed(nodes: &[Vec<u32>], k: usize, at: usize, word: u32) -> Vec<Vec<u32>> {
-    let mut nodes = nodes.to_vec();
+/// Fewer paragraphs, then one other node at a time.
+fn smaller_trees(nodes: Nodes) -> Lazy<'static, Nodes> {
     let before = reached(&nodes);
-    nodes[k - 1][at] = word;
-    swept(nodes, &before)
+    let last = nodes.len();
+    let paragraphs = nodes.last().map_or(0, |node| node.len() - 1);
+    let (first, second) = (nodes.clone(), nodes);
+    let kept = before.clone();
+    let without = stretches(paragraphs).map(move |(start, end)| {
+        let mut nodes = first.clone();
+        nodes[last - 1].drain(1 + start..1 + end);
+        swept(nodes, &kept)
+    });
+    let single = (1..=last).rev().flat_map(move |k| {
+        let (nodes, before) = (second.clone(), before.clone());
+        other_nodes(&nodes, k).into_iter().map(move |other| {
+            let mut nodes = nodes.clone();
+            nodes[k - 1] = other;
+            swept(nodes, &before)
+        })
+    });
+    Box::new(without.chain(single))
 }
 
-/// Without one operand word, or two, with or without a lower count before it.
-fn without_words(nodes: &[Vec<u32>], k: usize, at: usize) -> Vec<Vec<Vec<u32>>> {
-    let before = reached(nodes);
-    let mut all = Vec::new();
-    for length in [1, 2] {
-        for counted in [None, Some(2), Some(3)] {
-            let mut nodes = nodes.to_vec();
-            let node = &mut nodes[k - 1];
-            if at + length > node.len() {
-                continue;
-            }
-            if let Some(count) = counted {
-                if count >= at || node[count] == 0 {
-                    continue;
-                }
-                node[count] -= 1;
-            }
-            node.drain(at..at + length);
-            all.push(swept(nodes, &before));
-        }
-    }
-    all
-}
-
-/// Node k as a leaf of its sort, or with lower plain words.
-fn simpler_node(nodes: &[Vec<u32>], k: usize) -> Vec<Vec<Vec<u32>>> {
+/// What could stand in node k's place: a leaf, an operand's operand, fewer
+/// words, lower words.
+fn other_nodes(nodes: &[Vec<u32>], k: usize) -> Vec<Vec<u32>> {
     let node = &nodes[k - 1];
-    let mut others: Vec<Vec<u32>> = match node[0] {
+    let mut others = leaves(node);
+    others.extend(operands_of_operands(nodes, k));
+    for at in 1..node.len() {
+        others.extend(without_words(node, at));
+    }
+    others.extend(lower_words(node));
+    others
+}
+
+/// A leaf of the node's sort.
+fn leaves(node: &[u32]) -> Vec<Vec<u32>> {
+    match node[0] {
         20..=29 => vec![vec![20]],
         30..=46 => vec![vec![32], vec![33], vec![31, 0]],
         10 => node.get(1).map(|&predicate| vec![10, predicate]).into_iter().collect(),
         _ => Vec::new(),
-    };
-    let is_node = node_slots(node);
-    for at in (1..node.len()).filter(|at| !is_node.contains(at)) {
-        for lower in [0, 1, 4, 8] {
-            let mut changed = node.clone();
-            changed[at] = lower;
-            others.push(changed);
+    }
+}
+
+fn operands_of_operands(nodes: &[Vec<u32>], k: usize) -> Vec<Vec<u32>> {
+    let node = &nodes[k - 1];
+    let mut others = Vec::new();
+    for at in node_slots(node) {
+        let child = node[at] as usize;
+        if child >= 1 && child < k {
+            for below in node_slots(&nodes[child - 1]) {
+                let mut other = node.clone();
+                other[at] = nodes[child - 1][below];
+                others.push(other);
+            }
         }
     }
-    let before = reached(nodes);
-    let put = |other: Vec<u32>| {
-        let mut nodes = nodes.to_vec();
-        nodes[k - 1] = other;
-        swept(nodes, &before)
-    };
-    others.into_iter().map(put).collect()
+    others
+}
+
+/// Without one operand word, or two, with or without a lower count before it.
+fn without_words(node: &[u32], at: usize) -> Vec<Vec<u32>> {
+    let mut others = Vec::new();
+    for length in [1, 2] {
+        for counted in [None, Some(2), Some(3)] {
+            let mut other = node.to_vec();
+            if at + length > other.len() {
+                continue;
+            }
+            if let Some(count) = counted {
+                if count >= at || other[count] == 0 {
+                    continue;
+                }
+                other[count] -= 1;
+            }
+            other.drain(at..at + length);
+            others.push(other);
+        }
+    }
+    others
+}
+
+/// With one plain word lower.
+fn lower_words(node: &[u32]) -> Vec<Vec<u32>> {
+    let is_node = node_slots(node);
+    let mut others = Vec::new();
+    for at in (1..node.len().min(40)).filter(|at| !is_node.contains(at)) {
+        for lower in [0, 1, 4, 8] {
+            if lower < node[at] {
+                let mut other = node.to_vec();
+                other[at] = lower;
+                others.push(other);
+            }
+        }
+    }
+    others
 }
 
 /// The nodes that the last one reaches.
@@ -189,7 +203,7 @@ fn reached(nodes: &[Vec<u32>]) -> Vec<bool> {
     if let Some(last) = reached.last_mut() {
         *last = true;
     }
-    for k in (1..=nodes.len()).rev().filter(|&k| k > 0) {
+    for k in (1..=nodes.len()).rev() {
         if reached[k - 1] {
             for at in node_slots(&nodes[k - 1]) {
                 let child = nodes[k - 1][at] as usize;
@@ -204,7 +218,7 @@ fn reached(nodes: &[Vec<u32>]) -> Vec<bool> {
 
 /// Takes away the nodes that were reached and are so no longer, and numbers
 /// the others anew.
-fn swept(nodes: Vec<Vec<u32>>, before: &[bool]) -> Vec<Vec<u32>> {
+fn swept(nodes: Nodes, before: &[bool]) -> Nodes {
     let after = reached(&nodes);
     let mut numbers = vec![0; nodes.len() + 1];
     let mut kept = Vec::new();
@@ -232,8 +246,8 @@ fn refitted(case: &Case, document: &[u32]) -> Vec<u32> {
         let name = |role: &Role| match role {
             Role::Given(id) | Role::Declared(id) => *id,
         };
-        let named: BTreeMap<u32, Vec<u32>> =
-            old.iter().map(name).zip(parts.into_iter().map(|part| case.state[part].to_vec())).collect();
+        let words = parts.into_iter().map(|part| case.state[part].to_vec());
+        let named: BTreeMap<u32, Vec<u32>> = old.iter().map(name).zip(words).collect();
         let new = roles(&reference::read(document).ok()?);
         let entry = |role: &Role| named.get(&name(role)).cloned().unwrap_or(vec![1, 0]);
         Some(coding::join(&new.iter().map(entry).collect::<Vec<_>>()))
@@ -241,23 +255,27 @@ fn refitted(case: &Case, document: &[u32]) -> Vec<u32> {
     entries().unwrap_or_else(|| case.state.clone())
 }
 
-fn smaller_states(state: &[u32]) -> Vec<Vec<u32>> {
+fn smaller_states(state: &[u32]) -> Lazy<'static, Vec<u32>> {
     let Some(parts) = layout::parts(state) else {
-        return fewer_words(state);
+        return Box::new(fewer_words(state.to_vec()));
     };
-    let entries: Vec<Vec<u32>> = parts.into_iter().map(|part| state[part].to_vec()).collect();
-    let mut all = Vec::new();
-    for i in 0..entries.len() {
-        let mut others = vec![vec![1, 0], vec![3, 0], vec![1]];
-        others.extend(fewer_words(&entries[i]).into_iter().filter(|words| !words.is_empty()));
-        for other in others {
-            let mut changed = entries.clone();
-            changed[i] = other;
-            all.push(coding::join(&changed));
-        }
-        let mut fewer = entries.clone();
-        fewer.remove(i);
-        all.push(coding::join(&fewer));
-    }
-    all
+    let entries: Nodes = parts.into_iter().map(|part| state[part].to_vec()).collect();
+    let count = entries.len();
+    let fewer = entries.clone();
+    let without = (0..count).map(move |i| {
+        let mut others = fewer.clone();
+        others.remove(i);
+        coding::join(&others)
+    });
+    let other = (0..count).flat_map(move |i| {
+        let entries = entries.clone();
+        let short = vec![vec![1, 0], vec![3, 0], vec![1]].into_iter();
+        let words = fewer_words(entries[i].clone()).filter(|words| !words.is_empty());
+        short.chain(words).map(move |entry| {
+            let mut others = entries.clone();
+            others[i] = entry;
+            coding::join(&others)
+        })
+    });
+    Box::new(without.chain(other))
 }
