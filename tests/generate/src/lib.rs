@@ -5,6 +5,7 @@ pub mod documents;
 pub mod inject;
 pub mod limits;
 pub mod number;
+pub mod orders;
 pub mod raw;
 pub mod rng;
 pub mod runnable;
@@ -55,14 +56,18 @@ fn some_document(rng: &mut Rng) -> (&'static str, Vec<u32>) {
         }
         17..=23 => ("shapes", shaped(rng)),
         24..=33 => ("limits", limits::at_a_limit(rng)),
-        34..=41 => {
+        34..=38 => {
             let tree = special::special_document(rng);
             ("one rule", number::encode_somehow(rng, &tree))
         }
-        42..=53 => ("typed", accepted(rng, Aim::Check)),
-        54..=69 => ("typed, one error", with_error(rng, Aim::Check)),
+        39..=45 => {
+            let tree = orders::order_document(rng);
+            ("order of findings", number::encode_somehow(rng, &tree))
+        }
+        46..=53 => ("typed", accepted(rng, Aim::Check)),
+        54..=69 => ("typed, with errors", with_error(rng, Aim::Check)),
         70..=87 => ("runnable", accepted(rng, Aim::Run)),
-        88..=93 => ("runnable, one error", with_error(rng, Aim::Run)),
+        88..=93 => ("runnable, with errors", with_error(rng, Aim::Run)),
         _ => {
             let tree = runnable::arithmetic_document(rng);
             ("values at their ends", number::encode_somehow(rng, &tree))
@@ -109,19 +114,20 @@ fn with_error(rng: &mut Rng, aim: Aim) -> Vec<u32> {
         }
         tree = documents::typed_document(rng, aim);
     }
-    let sort = *rng.pick(&inject::SORTS);
-    inject::inject(rng, &mut tree, sort);
+    for _ in 0..[1, 1, 1, 2, 2, 3][rng.below(6)] {
+        let sort = *rng.pick(&inject::SORTS);
+        inject::inject(rng, &mut tree, sort);
+    }
     number::encode_somehow(rng, &tree)
 }
 
 /// Lengths of the dictionary area and the work area: mostly as the program has
 /// them, else odd, too short, or just enough.
 fn areas(rng: &mut Rng, document: &[u32]) -> (usize, usize) {
-    let needed = match reference::check(document, usize::MAX, reference::WORK_WORDS) {
-        Ok(checked) => checked.dictionary.length(),
-        Err(_) => 40,
-    };
-    let dictionary = match rng.below(40) {
+    let found = reference::check(document, usize::MAX, reference::WORK_WORDS);
+    let needed = found.as_ref().map_or(40, |checked| checked.dictionary.length());
+    let usual = found.is_err() && rng.percent(80);
+    let dictionary = match if usual { 40 } else { rng.below(40) } {
         0..=2 => needed,
         3 | 4 => needed - 1,
         5 | 6 => rng.below(needed),

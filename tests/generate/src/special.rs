@@ -206,6 +206,11 @@ fn theta_cases(rng: &mut Rng) -> Tree {
         true => vec![],
         false => vec![decl(integers(), &around)],
     };
-    paragraphs.push(constraint(exists(text(truth(), lines), same)));
+    let hidden: Vec<u32> = [X + stroke, Y + stroke].into_iter().filter(|_| rng.percent(50)).collect();
+    paragraphs.push(match rng.below(3) {
+        0 => constraint(exists(text(truth(), lines), same)),
+        1 => schema(9, &hidden, text(same, lines)),
+        _ => schema(9, &hidden, text(exists(text(truth(), vec![]), same), lines)),
+    });
     document(paragraphs)
 }

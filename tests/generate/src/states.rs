@@ -22,7 +22,7 @@ pub fn state_for(rng: &mut Rng, words: &[u32]) -> Vec<u32> {
         entries[at] = any_value(rng, &BTreeMap::new(), 3).into_iter().map(|w| w as u32).collect();
     }
     if sort >= 80 {
-        return damaged(rng, entries);
+        return damaged(rng, &document, entries);
     }
     join(&entries)
 }
@@ -188,7 +188,8 @@ fn any_type(rng: &mut Rng, depth: usize) -> Type {
 }
 
 /// Entries with one thing broken, in an entry or in the pairs.
-fn damaged(rng: &mut Rng, mut entries: Vec<Vec<u32>>) -> Vec<u32> {
+fn damaged(rng: &mut Rng, document: &Document, mut entries: Vec<Vec<u32>>) -> Vec<u32> {
+    let element = some_element(rng, document, &entries);
     if entries.is_empty() || rng.percent(20) {
         return damaged_layout(rng, &entries);
     }
@@ -196,7 +197,7 @@ fn damaged(rng: &mut Rng, mut entries: Vec<Vec<u32>>) -> Vec<u32> {
         let at = rng.below(entries.len());
         let entry = &mut entries[at];
         let word = rng.below(entry.len());
-        match rng.below(8) {
+        match rng.below(9) {
             0 => entry.push(odd_word(rng, 1)),
             1 if entry.len() > 1 => drop(entry.pop()),
             2 => entry[word] = odd_word(rng, entry[word]),
@@ -204,13 +205,32 @@ fn damaged(rng: &mut Rng, mut entries: Vec<Vec<u32>>) -> Vec<u32> {
             4 => *entry = unsorted(rng),
             5 => *entry = long_set(rng),
             6 => *entry = vec![*rng.pick(&[19, 20, 21, 22, u32::MAX])],
-            _ => {
-                let given = rng.from(4, 40) as u32;
-                *entry = vec![2, given, odd_word(rng, 3)];
-            }
+            7 => *entry = some_tuple(rng),
+            _ => *entry = element.to_vec(),
         }
     }
     join(&entries)
+}
+
+/// An element of a given of the document, at the end of its size or past it,
+/// or of a given that is not there.
+fn some_element(rng: &mut Rng, document: &Document, entries: &[Vec<u32>]) -> [u32; 3] {
+    let mut found = vec![[2, rng.from(4, 40) as u32, odd_word(rng, 3)]];
+    for (role, entry) in roles(document).iter().zip(entries) {
+        if let Role::Given(given) = role {
+            let size = entry[0];
+            let k = *rng.pick(&[size, size.wrapping_sub(1), 0, u32::MAX]);
+            found.push([2, *given, k]);
+        }
+    }
+    *found.last().expect("one at least")
+}
+
+/// A tuple of 0 to 8 parts.
+fn some_tuple(rng: &mut Rng) -> Vec<u32> {
+    let n = *rng.pick(&[0, 1, 1, 2, 5, 6, 7, 7, 8]);
+    let parts: Vec<u32> = (0..n).flat_map(|_| [1, integer(rng) as u32]).collect();
+    [vec![4, n], parts].concat()
 }
 
 /// A set whose members are not ascending, or not distinct, or just right.
