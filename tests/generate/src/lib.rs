@@ -6,8 +6,10 @@ pub mod inject;
 pub mod limits;
 pub mod number;
 pub mod orders;
+pub mod pinned;
 pub mod raw;
 pub mod rng;
+pub mod run_orders;
 pub mod runnable;
 pub mod schemas;
 pub mod shape;
@@ -37,8 +39,17 @@ pub struct Case {
 pub fn case(seed: u64, index: u64) -> Case {
     let mut rng = Rng::new(seed ^ index.wrapping_mul(0xD134_2543_DE82_EF95));
     rng.next();
-    let (family, document) = some_document(&mut rng);
-    let state = states::state_for(&mut rng, &document);
+    let (family, document, state) = match rng.percent(9) {
+        true => {
+            let (document, state) = pinned::pinned_case(&mut rng);
+            ("pinned values", document, state)
+        }
+        false => {
+            let (family, document) = some_document(&mut rng);
+            let state = states::state_for(&mut rng, &document);
+            (family, document, state)
+        }
+    };
     let (dictionary, work) = areas(&mut rng, &document);
     Case { family, document, state, dictionary, work, dirt: rng.word() }
 }
@@ -66,8 +77,12 @@ fn some_document(rng: &mut Rng) -> (&'static str, Vec<u32>) {
         }
         46..=53 => ("typed", accepted(rng, Aim::Check)),
         54..=69 => ("typed, with errors", with_error(rng, Aim::Check)),
-        70..=87 => ("runnable", accepted(rng, Aim::Run)),
-        88..=93 => ("runnable, with errors", with_error(rng, Aim::Run)),
+        70..=79 => ("runnable", accepted(rng, Aim::Run)),
+        80..=88 => {
+            let tree = run_orders::trouble_document(rng);
+            ("order of troubles", number::encode_somehow(rng, &tree))
+        }
+        89..=93 => ("runnable, with errors", with_error(rng, Aim::Run)),
         _ => {
             let tree = runnable::arithmetic_document(rng);
             ("values at their ends", number::encode_somehow(rng, &tree))

@@ -11,11 +11,12 @@ const Z: u32 = 28;
 const UNKNOWN: u32 = 4_000;
 
 pub fn order_document(rng: &mut Rng) -> Tree {
-    match rng.below(8) {
+    match rng.below(9) {
         0 | 1 => include_order(rng),
         2 => reference_order(rng),
         3 | 4 => global_order(rng),
         5 => text_order(rng),
+        6 => scope_order(rng),
         _ => piece_order(rng),
     }
 }
@@ -29,7 +30,8 @@ fn wide_names() -> Vec<Tree> {
 /// An E that is a good set, or no set, open, of an unknown name, too wide, or
 /// with a component that is not there.
 fn some_set(rng: &mut Rng) -> Tree {
-    match rng.below(16) {
+    match rng.below(17) {
+        16 => tuple(vec![set(vec![]), number(1)]),
         0..=5 => integers(),
         6 | 7 => power(integers()),
         8 => number(1),
@@ -49,7 +51,13 @@ fn some_name(rng: &mut Rng) -> u32 {
 
 fn some_renames(rng: &mut Rng) -> Vec<(u32, u32)> {
     let n = [0, 0, 0, 1, 1, 2, 2, 3][rng.below(8)];
-    (0..n).map(|_| (some_name(rng), some_name(rng))).collect()
+    let mut pairs: Vec<(u32, u32)> = (0..n).map(|_| (some_name(rng), some_name(rng))).collect();
+    if rng.percent(10) {
+        // An old name twice, to the same or to other new names.
+        let old = *rng.pick(&[X, Y]);
+        pairs = vec![(old, some_name(rng)), (old, *rng.pick(&[100, 104]))];
+    }
+    pairs
 }
 
 /// An Include of schema 1, 2, or one that is not there, with any count of
@@ -170,6 +178,37 @@ fn text_order(rng: &mut Rng) -> Tree {
         _ => axiom(inner),
     });
     document(paragraphs)
+}
+
+/// One name with several types around a Ref: which of them it has.
+fn scope_order(rng: &mut Rng) -> Tree {
+    // A set and an element of it, by the choice of a type.
+    let pair = || tuple(vec![number(1), number(1)]);
+    let sets = [integers(), power(integers()), product(vec![integers(), integers()])];
+    let elements = [number(1), integers(), pair()];
+    let line = |rng: &mut Rng| match rng.percent(60) {
+        true => vec![decl(rng.pick(&sets).clone(), &[X])],
+        false => vec![],
+    };
+    let (outer, middle, inner) = (line(rng), line(rng), line(rng));
+    let wanted = match rng.below(4) {
+        0 => equal(set(vec![reference(X)]), set(vec![])),
+        _ => equal(reference(X), rng.pick(&elements).clone()),
+    };
+    let innermost = match rng.below(3) {
+        0 => forall(text(wanted, inner), truth()),
+        1 => exists(text(truth(), inner), wanted),
+        _ => equal(comprehension(text(wanted, inner), number(1)), set(vec![])),
+    };
+    let global = axiom(text(truth(), outer));
+    let parameters: &[u32] = if rng.percent(60) { &[X] } else { &[Y] };
+    let seen = text(innermost, middle);
+    let user = match rng.below(3) {
+        0 => schema(1, parameters, seen),
+        1 => schema(1, parameters, conjunction(text(truth(), line(rng)), seen)),
+        _ => constraint(forall(seen, truth())),
+    };
+    document(vec![global, user])
 }
 
 /// 116: f[X] relates X to itself; 120: g[X] takes a pair of X and a set of X;

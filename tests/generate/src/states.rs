@@ -14,17 +14,65 @@ pub fn state_for(rng: &mut Rng, words: &[u32]) -> Vec<u32> {
     let Ok(document) = reference::read(words) else {
         return stray(rng);
     };
-    let types = declared_types(words, &document);
+    let mut types = declared_types(words, &document);
     let sort = rng.below(100);
-    let mut entries = entries(rng, &document, &types, sort >= 70);
-    if (70..80).contains(&sort) && !entries.is_empty() {
-        let at = rng.below(entries.len());
-        entries[at] = any_value(rng, &BTreeMap::new(), 3).into_iter().map(|w| w as u32).collect();
+    if (60..80).contains(&sort) && !types.is_empty() {
+        let givens: Vec<u32> = givens(&document);
+        let at = rng.below(types.len());
+        let (_, one) = types.iter_mut().nth(at).expect("one of the types");
+        *one = near_type(rng, one, &givens);
     }
-    if sort >= 80 {
-        return damaged(rng, &document, entries);
+    let entries = entries(rng, &document, &types, sort >= 60);
+    match sort >= 80 {
+        true => damaged(rng, &document, entries),
+        false => join(&entries),
     }
-    join(&entries)
+}
+
+/// A state that fits, as far as the generator finds values.
+pub fn fitting_state(rng: &mut Rng, words: &[u32]) -> Vec<u32> {
+    match reference::read(words) {
+        Ok(document) => {
+            let types = declared_types(words, &document);
+            join(&entries(rng, &document, &types, false))
+        }
+        Err(_) => vec![0],
+    }
+}
+
+fn givens(document: &Document) -> Vec<u32> {
+    let given = |role: &Role| match role {
+        Role::Given(id) => Some(*id),
+        Role::Declared(_) => None,
+    };
+    roles(document).iter().filter_map(given).collect()
+}
+
+/// A type that differs from this one in one place, or nearly so.
+fn near_type(rng: &mut Rng, t: &Rc<Type>, givens: &[u32]) -> Rc<Type> {
+    let base = |rng: &mut Rng| match givens.is_empty() || rng.percent(30) {
+        true => Rc::new(Type::Integer),
+        false => Rc::new(Type::Given(*rng.pick(givens))),
+    };
+    if rng.percent(15) {
+        return Rc::new(Type::Power(Rc::clone(t)));
+    }
+    match &**t {
+        Type::Power(part) if rng.percent(75) => Rc::new(Type::Power(near_type(rng, part, givens))),
+        Type::Power(part) => Rc::clone(part),
+        Type::Product(parts) => {
+            let mut parts = parts.clone();
+            let at = rng.below(parts.len());
+            match rng.below(4) {
+                0 if parts.len() < 6 => parts.push(base(rng)),
+                1 if parts.len() > 2 => drop(parts.pop()),
+                _ => parts[at] = near_type(rng, &parts[at], givens),
+            }
+            Rc::new(Type::Product(parts))
+        }
+        _ if rng.percent(20) => Rc::new(Type::Product(vec![Rc::clone(t), base(rng)])),
+        _ => base(rng),
+    }
 }
 
 /// Words for a document that nobody reads.
@@ -85,7 +133,7 @@ fn entries(
         if let Role::Given(given) = role {
             let size = match rng.below(10) {
                 0 if odd => 0,
-                1 => 20,
+                1 | 3 => rng.from(14, 20),
                 2 => rng.from(1, 20),
                 _ => rng.from(1, 4),
             };
@@ -163,28 +211,6 @@ fn set_value(rng: &mut Rng, part: &Type, sizes: &BTreeMap<u32, i32>, room: usize
     }
     members.sort();
     [vec![3, members.len() as i32], members.concat()].concat()
-}
-
-/// A value of any form.
-fn any_value(rng: &mut Rng, sizes: &BTreeMap<u32, i32>, depth: usize) -> Vec<i32> {
-    let part = |rng: &mut Rng| Rc::new(any_type(rng, depth - 1));
-    let t = match rng.below(3) {
-        0 => Type::Power(part(rng)),
-        1 => Type::Product(vec![part(rng), part(rng)]),
-        _ => Type::Integer,
-    };
-    value(rng, &t, sizes, 20)
-}
-
-fn any_type(rng: &mut Rng, depth: usize) -> Type {
-    match rng.below(3) {
-        0 if depth > 0 => Type::Power(Rc::new(any_type(rng, depth - 1))),
-        1 if depth > 0 => {
-            let n = rng.from(2, 3);
-            Type::Product((0..n).map(|_| Rc::new(any_type(rng, depth - 1))).collect())
-        }
-        _ => Type::Integer,
-    }
 }
 
 /// Entries with one thing broken, in an entry or in the pairs.
