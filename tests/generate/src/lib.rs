@@ -67,15 +67,15 @@ fn some_document(rng: &mut Rng) -> (&'static str, Vec<u32>) {
         }
         17..=23 => ("shapes", shaped(rng)),
         24..=33 => ("limits", limits::at_a_limit(rng)),
-        34..=38 => {
+        34..=37 => {
             let tree = special::special_document(rng);
             ("one rule", number::encode_somehow(rng, &tree))
         }
-        39..=45 => {
+        38..=46 => {
             let tree = orders::order_document(rng);
             ("order of findings", number::encode_somehow(rng, &tree))
         }
-        46..=53 => ("typed", accepted(rng, Aim::Check)),
+        47..=53 => ("typed", accepted(rng, Aim::Check)),
         54..=69 => ("typed, with errors", with_error(rng, Aim::Check)),
         70..=79 => ("runnable", accepted(rng, Aim::Run)),
         80..=88 => {

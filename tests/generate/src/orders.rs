@@ -11,7 +11,8 @@ const Z: u32 = 28;
 const UNKNOWN: u32 = 4_000;
 
 pub fn order_document(rng: &mut Rng) -> Tree {
-    match rng.below(9) {
+    match rng.below(10) {
+        9 => former_order(rng),
         0 | 1 => include_order(rng),
         2 => reference_order(rng),
         3 | 4 => global_order(rng),
@@ -209,6 +210,61 @@ fn scope_order(rng: &mut Rng) -> Tree {
         _ => constraint(forall(seen, truth())),
     };
     document(vec![global, user])
+}
+
+/// Two sets of types that are equal or nearly so: givens, parameters, bindings
+/// with other names, generic names with two parameters.
+fn former_order(rng: &mut Rng) -> Tree {
+    let component = |name: u32, id: u32| schema(name, &[], text(truth(), vec![decl(integers(), &[id])]));
+    let pairs = abbreviation(108, &[4, 8], product(vec![reference(4), reference(8)]));
+    let left = some_former(rng, 2);
+    let right = match rng.below(4) {
+        0 => left.clone(),
+        1 => reference(108),
+        2 => some_former(rng, 2),
+        _ => one_name_changed(rng, &left),
+    };
+    let bound = vec![include(1, 0, vec![], &[]), include(2, 0, vec![], &[])];
+    let body = match rng.below(4) {
+        0 => member(tuple(vec![number(1), left]), reference(108)),
+        1 => exists(text(truth(), bound), equal(theta(rng.from(1, 2) as u32, 0), theta(1, 0))),
+        _ => equal(left, right),
+    };
+    let user = schema(9, &[40, 44], text(body, vec![]));
+    document(vec![given(&[32, 36]), component(1, X), component(2, Y), pairs, user])
+}
+
+/// The same set with another given or parameter in one place.
+fn one_name_changed(rng: &mut Rng, former: &Tree) -> Tree {
+    let mut former = former.clone();
+    let places = former.places(|tree| tree.kind == 30);
+    if !places.is_empty() {
+        let place = *rng.pick(&places);
+        let changed = reference(*rng.pick(&[32, 36, 40, 44]));
+        *former.at(place).expect("the place of a node") = changed;
+    }
+    former
+}
+
+fn some_former(rng: &mut Rng, room: usize) -> Tree {
+    if room > 0 && rng.percent(50) {
+        return match rng.percent(40) {
+            true => power(some_former(rng, room - 1)),
+            false => {
+                let n = rng.from(2, 3);
+                product((0..n).map(|_| some_former(rng, room - 1)).collect())
+            }
+        };
+    }
+    match rng.below(9) {
+        0 => integers(),
+        1 => reference(32),
+        2 => reference(36),
+        3 | 4 => reference(40),
+        5 | 6 => reference(44),
+        7 => schema_set(include(rng.from(1, 2) as u32, 0, vec![], &[])),
+        _ => schema_set(include(1, 0, vec![], &[(X, *rng.pick(&[X, Y]))])),
+    }
 }
 
 /// 116: f[X] relates X to itself; 120: g[X] takes a pair of X and a set of X;

@@ -201,7 +201,11 @@ fn theta_cases(rng: &mut Rng) -> Tree {
     if rng.percent(20) {
         paragraphs.push(abbreviation(X + stroke, &[8], reference(8)));
     }
-    let same = equal(theta(1, stroke), theta(1, stroke));
+    let same = match rng.below(3) {
+        0 => equal(theta(1, stroke), theta(1, stroke)),
+        1 => equal(select(theta(1, stroke), Y + stroke_of_y), number(1)),
+        _ => equal(select(theta(1, stroke), Y + stroke_of_y), integers()),
+    };
     let lines = match around.is_empty() {
         true => vec![],
         false => vec![decl(integers(), &around)],
