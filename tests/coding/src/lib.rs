@@ -55,7 +55,12 @@ impl Tree {
 
     /// The places, in that walk, of the nodes that meet a condition.
     pub fn places(&self, wanted: impl Fn(&Tree) -> bool) -> Vec<usize> {
-        fn walk(tree: &Tree, next: &mut usize, wanted: &dyn Fn(&Tree) -> bool, out: &mut Vec<usize>) {
+        fn walk(
+            tree: &Tree,
+            next: &mut usize,
+            wanted: &dyn Fn(&Tree) -> bool,
+            out: &mut Vec<usize>,
+        ) {
             if wanted(tree) {
                 out.push(*next);
             }

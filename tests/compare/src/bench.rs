@@ -28,7 +28,10 @@ fn main() -> ExitCode {
     for (name, case) in worst::cases() {
         sets.push((name.to_string(), vec![case]));
     }
-    println!("{:<9}{:<34}{:>12}{:>12}{:>9}", "call", "documents", "library µs", "reference", "ratio");
+    println!(
+        "{:<9}{:<34}{:>12}{:>12}{:>9}",
+        "call", "documents", "library µs", "reference", "ratio"
+    );
     let mut ratios = Vec::new();
     for call in CALLS {
         for (name, cases) in &sets {

@@ -26,13 +26,30 @@ pub struct Call {
     pub numbers: &'static [u32],
 }
 
+/// How the library and the reference differ.
+pub struct Difference {
+    /// The finding numbers of both where the answers differ; nothing where
+    /// something written does.
+    pub numbers: Option<(u32, u32)>,
+    pub text: String,
+}
+
+impl Difference {
+    fn answers(library: u64, reference: u64) -> Difference {
+        let (theirs, ours) = (expected::in_words(library), expected::in_words(reference));
+        Difference {
+            numbers: Some((expected::number(library), expected::number(reference))),
+            text: format!("library: {theirs}; reference: {ours}"),
+        }
+    }
+}
+
 include!(concat!(env!("OUT_DIR"), "/linked.rs"));
 
 impl Call {
     /// Compares the library's answer with the expected one: the finding, the
     /// words of each area after the call, and that nothing else was written.
-    /// The difference in words, or nothing.
-    pub fn difference(&self, case: &Case, expected: &Expected) -> Option<String> {
+    pub fn difference(&self, case: &Case, expected: &Expected) -> Option<Difference> {
         let document = Guarded::new(&case.document, case.dirt);
         let state = Guarded::new(&case.state, case.dirt.rotate_left(7));
         let mut dictionary = Area::new(case.dictionary, case.dirt.rotate_left(13));
@@ -44,16 +61,17 @@ impl Call {
             work: work.words(),
         });
         if answer != expected.answer {
-            let (theirs, ours) = (expected::in_words(answer), expected::in_words(expected.answer));
-            return Some(format!("library: {theirs}; reference: {ours}"));
+            return Some(Difference::answers(answer, expected.answer));
         }
         if !document.is_intact() || !state.is_intact() {
-            return Some("the document or the state was written to".to_string());
+            let text = "the document or the state was written to".to_string();
+            return Some(Difference { numbers: None, text });
         }
         let dictionary = self.dictionary.then(|| dictionary.difference(&expected.dictionary));
         let work = self.work.then(|| work.difference(&[]));
         let in_area = |name: &str, found: Option<Option<String>>| {
-            found.flatten().map(|difference| format!("{name} area: {difference}"))
+            let text = format!("{name} area: {}", found.flatten()?);
+            Some(Difference { numbers: None, text })
         };
         in_area("dictionary", dictionary).or(in_area("work", work))
     }

@@ -3,6 +3,6 @@
 pub mod areas;
 pub mod calls;
 pub mod expected;
-pub mod shrink;
 pub mod show;
+pub mod shrink;
 pub mod timed;

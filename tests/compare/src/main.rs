@@ -2,13 +2,15 @@
 //!
 //! compare [--seed N] [--count M] [--from I] [--show K] [--trace 1]
 //!
-//! Stops after K differences, 3 where not said. With --trace 1 each case's number is printed before it is compared, so that
-//! a library that crashes or hangs can be asked again with --from.
+//! Stops after K differences, 3 where not said. With --trace 1 each case's
+//! number is printed before it is compared, so that a library that crashes or
+//! hangs can be asked again with --from.
+//!
 //! Ends with 0 where all answers are equal and each number of the calls
 //! compared is reached often enough; 1 where not; 2 where no library is there,
 //! for then nothing is compared.
 
-use compare::calls::{Call, ARCHIVE, ARCHIVE_FOUND, CALLS, NOT_LINKED};
+use compare::calls::{Call, Difference, ARCHIVE, ARCHIVE_FOUND, CALLS, NOT_LINKED};
 use compare::expected::number;
 use compare::{show, shrink};
 use generate::Case;
@@ -98,18 +100,21 @@ fn compare(call: &Call, tally: &mut Tally, case: &Case) -> bool {
     call.difference(case, &expected).is_none()
 }
 
-fn differs(call: &Call, case: &Case) -> Option<String> {
+fn differs(call: &Call, case: &Case) -> Option<Difference> {
     (call.expected)(case).and_then(|expected| call.difference(case, &expected))
 }
 
 fn report(call: &Call, case: &Case, seed: u64, index: u64) {
-    let small = shrink::shrink(case, &|smaller| differs(call, smaller).is_some());
+    // Only a case with the same two numbers shows the same difference.
+    let numbers = |case: &Case| differs(call, case).map(|difference| difference.numbers);
+    let wanted = numbers(case);
+    let small = shrink::shrink(case, &|smaller| numbers(smaller) == wanted);
     let name = call.name;
     println!("{name} differs at seed {seed}, case {index} ({}), shrunk:", case.family);
     print!("{}", show::document(&small.document));
     println!("  state:\n{}", show::state(&small.state));
     println!("  dictionary area {} words, work area {} words", small.dictionary, small.work);
-    println!("  {}\n", differs(call, &small).unwrap_or_default());
+    println!("  {}\n", differs(call, &small).map_or(String::new(), |found| found.text));
 }
 
 /// Prints what was compared; true where a number was reached too seldom.

@@ -60,44 +60,37 @@ fn identifier(word: u32) -> String {
 }
 
 fn kind_name(kind: u32) -> &'static str {
+    const PARAGRAPHS: [&str; 6] =
+        ["Document", "Given", "Axiom", "Schema", "Abbreviation", "Constraint"];
+    const PREDICATES: [&str; 10] =
+        ["true", "=", "member", "≤", "not", "and", "or", "implies", "forall", "exists"];
+    const EXPRESSIONS: [&str; 17] = [
+        "Ref",
+        "Number",
+        "ℤ",
+        "Set",
+        "Tuple",
+        "Product",
+        "Power",
+        "Apply",
+        "Select",
+        "Theta",
+        "SchemaSet",
+        "+",
+        "−",
+        "×",
+        "div",
+        "mod",
+        "Comprehension",
+    ];
     match kind {
-        1 => "Document",
-        2 => "Given",
-        3 => "Axiom",
-        4 => "Schema",
-        5 => "Abbreviation",
-        6 => "Constraint",
+        1..=6 => PARAGRAPHS[kind as usize - 1],
         10 => "Text",
         11 => "Decl",
         12 => "Include",
         15 => "Conjunction",
-        20 => "true",
-        21 => "=",
-        22 => "member",
-        23 => "≤",
-        24 => "not",
-        25 => "and",
-        26 => "or",
-        27 => "implies",
-        28 => "forall",
-        29 => "exists",
-        30 => "Ref",
-        31 => "Number",
-        32 => "ℤ",
-        33 => "Set",
-        34 => "Tuple",
-        35 => "Product",
-        36 => "Power",
-        37 => "Apply",
-        38 => "Select",
-        39 => "Theta",
-        40 => "SchemaSet",
-        41 => "+",
-        42 => "−",
-        43 => "×",
-        44 => "div",
-        45 => "mod",
-        46 => "Comprehension",
+        20..=29 => PREDICATES[kind as usize - 20],
+        30..=46 => EXPRESSIONS[kind as usize - 30],
         _ => "kind",
     }
 }
@@ -105,7 +98,8 @@ fn kind_name(kind: u32) -> &'static str {
 /// A state's entries, each read signed.
 pub fn state(words: &[u32]) -> String {
     let signed = |words: &[u32]| {
-        let all: Vec<String> = words.iter().take(80).map(|&word| (word as i32).to_string()).collect();
+        let all: Vec<String> =
+            words.iter().take(80).map(|&word| (word as i32).to_string()).collect();
         all.join(" ")
     };
     match layout::parts(words) {

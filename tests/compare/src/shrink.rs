@@ -47,7 +47,9 @@ fn smaller_cases(case: &Case) -> Lazy<'_, Case> {
     let documents: Lazy<Case> = match layout::parts(&case.document) {
         Some(parts) => {
             let nodes = parts.into_iter().map(|part| case.document[part].to_vec()).collect();
-            Box::new(smaller_trees(nodes).flat_map(|nodes| with_document(case, coding::join(&nodes))))
+            Box::new(
+                smaller_trees(nodes).flat_map(|nodes| with_document(case, coding::join(&nodes))),
+            )
         }
         None => Box::new(
             fewer_words(case.document.clone()).map(|document| Case { document, ..case.clone() }),

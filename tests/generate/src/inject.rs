@@ -29,7 +29,12 @@ fn is_expr(tree: &Tree) -> bool {
 }
 
 /// Changes one of the nodes that meet a condition, if there is one.
-fn change(rng: &mut Rng, tree: &mut Tree, wanted: impl Fn(&Tree) -> bool, how: impl FnOnce(&mut Rng, &mut Tree)) {
+fn change(
+    rng: &mut Rng,
+    tree: &mut Tree,
+    wanted: impl Fn(&Tree) -> bool,
+    how: impl FnOnce(&mut Rng, &mut Tree),
+) {
     let places = tree.places(wanted);
     if !places.is_empty() {
         let place = *rng.pick(&places);
@@ -38,11 +43,16 @@ fn change(rng: &mut Rng, tree: &mut Tree, wanted: impl Fn(&Tree) -> bool, how: i
 }
 
 fn write_twice(rng: &mut Rng, tree: &mut Tree) {
-    change(rng, tree, |t| matches!(t.kind, 2 | 11), |rng, node| {
-        let first = usize::from(node.kind == 11);
-        let word = node.operands[rng.from(first, node.operands.len() - 1)].clone();
-        node.operands.push(word);
-    });
+    change(
+        rng,
+        tree,
+        |t| matches!(t.kind, 2 | 11),
+        |rng, node| {
+            let first = usize::from(node.kind == 11);
+            let word = node.operands[rng.from(first, node.operands.len() - 1)].clone();
+            node.operands.push(word);
+        },
+    );
 }
 
 fn unknown_name(rng: &mut Rng, tree: &mut Tree) {
@@ -57,36 +67,46 @@ fn unknown_name(rng: &mut Rng, tree: &mut Tree) {
             let at = rng.below(tree.operands.len());
             tree.operands.remove(at);
         }
-        _ => change(rng, tree, |t| matches!(t.kind, 12 | 30 | 39), |rng, node| {
-            if let Operand::Word(word) = &mut node.operands[0] {
-                *word = match rng.percent(50) {
-                    true => rng.from(4, 60) as u32,
-                    false => odd_word(rng, *word).clamp(4, 16_383),
-                };
-            }
-        }),
+        _ => change(
+            rng,
+            tree,
+            |t| matches!(t.kind, 12 | 30 | 39),
+            |rng, node| {
+                if let Operand::Word(word) = &mut node.operands[0] {
+                    *word = match rng.percent(50) {
+                        true => rng.from(4, 60) as u32,
+                        false => odd_word(rng, *word).clamp(4, 16_383),
+                    };
+                }
+            },
+        ),
     }
 }
 
 fn wrong_count(rng: &mut Rng, tree: &mut Tree) {
-    change(rng, tree, |t| matches!(t.kind, 12 | 30), |rng, node| {
-        let add = rng.percent(60);
-        if node.kind == 30 {
-            match add || node.operands.len() == 1 {
-                true => node.operands.push(Operand::Node(integers())),
-                false => drop(node.operands.pop()),
+    change(
+        rng,
+        tree,
+        |t| matches!(t.kind, 12 | 30),
+        |rng, node| {
+            let add = rng.percent(60);
+            if node.kind == 30 {
+                match add || node.operands.len() == 1 {
+                    true => node.operands.push(Operand::Node(integers())),
+                    false => drop(node.operands.pop()),
+                }
+                return;
             }
-            return;
-        }
-        let Operand::Word(a) = node.operands[2] else { return };
-        if add || a == 0 {
-            node.operands.insert(3, Operand::Node(integers()));
-            node.operands[2] = Operand::Word(a + 1);
-        } else {
-            node.operands.remove(3);
-            node.operands[2] = Operand::Word(a - 1);
-        }
-    });
+            let Operand::Word(a) = node.operands[2] else { return };
+            if add || a == 0 {
+                node.operands.insert(3, Operand::Node(integers()));
+                node.operands[2] = Operand::Word(a + 1);
+            } else {
+                node.operands.remove(3);
+                node.operands[2] = Operand::Word(a - 1);
+            }
+        },
+    );
 }
 
 fn other_type(rng: &mut Rng, tree: &mut Tree) {
@@ -123,9 +143,14 @@ fn leave_open(rng: &mut Rng, tree: &mut Tree) {
 fn no_component(rng: &mut Rng, tree: &mut Tree) {
     let selects = !tree.places(|t| t.kind == 38).is_empty();
     if selects && rng.percent(50) {
-        change(rng, tree, |t| t.kind == 38, |rng, node| {
-            node.operands[1] = Operand::Word(id(rng.from(1, 9) as u32, rng.below(4) as u32));
-        });
+        change(
+            rng,
+            tree,
+            |t| t.kind == 38,
+            |rng, node| {
+                node.operands[1] = Operand::Word(id(rng.from(1, 9) as u32, rng.below(4) as u32));
+            },
+        );
         return;
     }
     change(rng, tree, is_expr, |rng, node| {
@@ -191,17 +216,22 @@ fn other_component(rng: &mut Rng, of: &Tree) -> Tree {
 }
 
 fn bad_rename(rng: &mut Rng, tree: &mut Tree) {
-    change(rng, tree, |t| matches!(t.kind, 12 | 39), |rng, node| {
-        if node.kind == 39 || rng.percent(40) {
-            node.operands[1] = Operand::Word(rng.from(1, 3) as u32);
-            return;
-        }
-        for _ in 0..rng.from(1, 2) {
-            let old = id(rng.from(1, 9) as u32, rng.below(4) as u32 / 3);
-            let new = id(rng.from(1, 9) as u32, 0);
-            node.operands.extend([Operand::Word(old), Operand::Word(new)]);
-        }
-    });
+    change(
+        rng,
+        tree,
+        |t| matches!(t.kind, 12 | 39),
+        |rng, node| {
+            if node.kind == 39 || rng.percent(40) {
+                node.operands[1] = Operand::Word(rng.from(1, 3) as u32);
+                return;
+            }
+            for _ in 0..rng.from(1, 2) {
+                let old = id(rng.from(1, 9) as u32, rng.below(4) as u32 / 3);
+                let new = id(rng.from(1, 9) as u32, 0);
+                node.operands.extend([Operand::Word(old), Operand::Word(new)]);
+            }
+        },
+    );
 }
 
 /// A declared type or an actual with two wide names beside it, so that its
@@ -209,14 +239,19 @@ fn bad_rename(rng: &mut Rng, tree: &mut Tree) {
 fn too_large(rng: &mut Rng, tree: &mut Tree) {
     let (six, more) = (id(16_001, 0), id(16_002, 0));
     let parts = rng.from(2, 3);
-    change(rng, tree, |t| matches!(t.kind, 5 | 11 | 12), |_, node| {
-        for operand in &mut node.operands {
-            if let Operand::Node(child) = operand {
-                *child = product(vec![child.clone(), reference(more), reference(six)]);
-                return;
+    change(
+        rng,
+        tree,
+        |t| matches!(t.kind, 5 | 11 | 12),
+        |_, node| {
+            for operand in &mut node.operands {
+                if let Operand::Node(child) = operand {
+                    *child = product(vec![child.clone(), reference(more), reference(six)]);
+                    return;
+                }
             }
-        }
-    });
+        },
+    );
     let wide = abbreviation(six, &[], product(vec![integers(); 6]));
     let wider = abbreviation(more, &[], product(vec![reference(six); parts]));
     tree.operands.splice(0..0, [Operand::Node(wide), Operand::Node(wider)]);

@@ -106,10 +106,14 @@ fn include_order(rng: &mut Rng) -> Tree {
 /// Refs with and without actuals, on names of every sort.
 fn reference_order(rng: &mut Rng) -> Tree {
     let f = abbreviation(104, &[4], product(vec![reference(4), integers()]));
-    let g = abbreviation(108, &[4, 8], match rng.percent(50) {
-        true => reference(8),
-        false => product(vec![reference(8), reference(4)]),
-    });
+    let g = abbreviation(
+        108,
+        &[4, 8],
+        match rng.percent(50) {
+            true => reference(8),
+            false => product(vec![reference(8), reference(4)]),
+        },
+    );
     let mut paragraphs = wide_names();
     paragraphs.extend([f, g, given(&[112])]);
     let some_ref = |rng: &mut Rng| {
@@ -215,7 +219,8 @@ fn scope_order(rng: &mut Rng) -> Tree {
 /// Two sets of types that are equal or nearly so: givens, parameters, bindings
 /// with other names, generic names with two parameters.
 fn former_order(rng: &mut Rng) -> Tree {
-    let component = |name: u32, id: u32| schema(name, &[], text(truth(), vec![decl(integers(), &[id])]));
+    let component =
+        |name: u32, id: u32| schema(name, &[], text(truth(), vec![decl(integers(), &[id])]));
     let pairs = abbreviation(108, &[4, 8], product(vec![reference(4), reference(8)]));
     let left = some_former(rng, 2);
     let right = match rng.below(4) {

@@ -129,7 +129,11 @@ fn stopping(rng: &mut Rng) -> Tree {
         false => at_most(number(rng.below(40) as u32), value),
     };
     let quantified = arithmetic(kind, text(truth(), vec![decl(reference(DIGITS), &[X])]), body);
-    if rng.percent(50) { not(quantified) } else { quantified }
+    if rng.percent(50) {
+        not(quantified)
+    } else {
+        quantified
+    }
 }
 
 /// Values that grow past 64 words while or before another trouble comes.
@@ -142,7 +146,11 @@ fn overflowing(rng: &mut Rng) -> Tree {
         4 | 5 => {
             let numbers = set((0..rng.from(1, 6) as u32).map(number).collect());
             let parts = vec![reference(GIVEN), numbers];
-            if rng.percent(70) { tuple(parts) } else { set(parts) }
+            if rng.percent(70) {
+                tuple(parts)
+            } else {
+                set(parts)
+            }
         }
         0 => tuple((0..rng.from(1, 3)).map(|_| reference(WIDE)).chain([some_leaf(rng)]).collect()),
         1 => {

@@ -73,7 +73,10 @@ fn pairs(rng: &mut Rng) -> Tree {
     let some = |n: usize| set((0..n).map(|i| number(i as u32)).collect());
     let lines = vec![decl(some(n), &[X]), decl(some(rng.from(2, 4)), &[Z])];
     let shift = integer(rng);
-    comprehension(text(truth(), lines), tuple(vec![reference(X), arithmetic(41, reference(Z), shift)]))
+    comprehension(
+        text(truth(), lines),
+        tuple(vec![reference(X), arithmetic(41, reference(Z), shift)]),
+    )
 }
 
 /// Sets and tuples of sets, near 64 words.

@@ -147,10 +147,14 @@ pub fn function_tower(rng: &mut Rng) -> Tree {
 /// Equations whose solution would stand inside itself, and some near them.
 fn inside_itself(rng: &mut Rng) -> Tree {
     let empty = || set(vec![]);
-    let identity = abbreviation(4, &[X], comprehension(
-        text(truth(), vec![decl(reference(X), &[Y])]),
-        tuple(vec![reference(Y), reference(Y)]),
-    ));
+    let identity = abbreviation(
+        4,
+        &[X],
+        comprehension(
+            text(truth(), vec![decl(reference(X), &[Y])]),
+            tuple(vec![reference(Y), reference(Y)]),
+        ),
+    );
     let f = || reference(4);
     let body = match rng.below(8) {
         0 => equal(apply(f(), f()), f()),
@@ -177,7 +181,10 @@ fn open_component(rng: &mut Rng) -> Tree {
         0 => equal(of(bound()), number(1)),
         1 => equal(of(apply(pair(bound()), number(1))), number(2)),
         2 => equal(of(apply(set(vec![]), number(1))), number(1)),
-        3 => equal(tuple(vec![apply(set(vec![]), bound()), of(bound())]), tuple(vec![number(1), number(2)])),
+        3 => equal(
+            tuple(vec![apply(set(vec![]), bound()), of(bound())]),
+            tuple(vec![number(1), number(2)]),
+        ),
         4 => equal(set(vec![of(bound())]), set(vec![])),
         _ => equal(of(number(1)), of(bound())),
     };
@@ -210,7 +217,8 @@ fn theta_cases(rng: &mut Rng) -> Tree {
         true => vec![],
         false => vec![decl(integers(), &around)],
     };
-    let hidden: Vec<u32> = [X + stroke, Y + stroke].into_iter().filter(|_| rng.percent(50)).collect();
+    let hidden: Vec<u32> =
+        [X + stroke, Y + stroke].into_iter().filter(|_| rng.percent(50)).collect();
     paragraphs.push(match rng.below(3) {
         0 => constraint(exists(text(truth(), lines), same)),
         1 => schema(9, &hidden, text(same, lines)),

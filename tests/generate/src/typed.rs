@@ -74,7 +74,9 @@ impl<'a> Typed<'a> {
         for (id, (_, t)) in self.visible() {
             match t {
                 Ty::Power(part) if *part == Ty::Given(id) => bases.push(*part),
-                Ty::Power(part) if matches!(*part, Ty::Param(_)) && self.parameters.contains(&id) => {
+                Ty::Power(part)
+                    if matches!(*part, Ty::Param(_)) && self.parameters.contains(&id) =>
+                {
                     bases.push(*part)
                 }
                 _ => {}
@@ -297,7 +299,9 @@ impl<'a> Typed<'a> {
     fn set_of(&mut self, t: &Ty, room: usize) -> Option<Tree> {
         if self.rng.percent(45) && self.may_be_unrunnable() {
             match t {
-                Ty::Power(part) => return Some(power(self.expr(&power_of((**part).clone()), room)?)),
+                Ty::Power(part) => {
+                    return Some(power(self.expr(&power_of((**part).clone()), room)?))
+                }
                 Ty::Product(parts) => {
                     let sets: Vec<Ty> = parts.iter().cloned().map(power_of).collect();
                     return Some(product(self.each(&sets, room)?));

@@ -56,7 +56,9 @@ impl Ty {
             Ty::Int | Ty::Given(_) => self.clone(),
             Ty::Param(i) => actuals[*i].clone(),
             Ty::Power(part) => power_of(part.with(actuals)),
-            Ty::Product(parts) => Ty::Product(parts.iter().map(|part| part.with(actuals)).collect()),
+            Ty::Product(parts) => {
+                Ty::Product(parts.iter().map(|part| part.with(actuals)).collect())
+            }
             Ty::Binding(parts) => {
                 Ty::Binding(parts.iter().map(|(id, part)| (*id, part.with(actuals))).collect())
             }

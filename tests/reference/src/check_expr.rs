@@ -151,18 +151,9 @@ impl Checker {
                 Ok(piece.graph.product(parts))
             }
             ExprKind::Product(operands) => self.product(piece, node, operands),
-            ExprKind::Power(operand) => {
-                let operand = self.expr(piece, operand)?;
-                let element = piece.element_of(operand, node)?;
-                let power = piece.graph.power(element);
-                Ok(piece.graph.power(power))
-            }
+            ExprKind::Power(operand) => self.power(piece, node, operand),
             ExprKind::Apply(function, argument) => self.apply(piece, node, function, argument),
-            ExprKind::Select(operand, identifier) => {
-                let operand = self.expr(piece, operand)?;
-                let component = piece.graph.component(operand, *identifier);
-                component.ok_or(Finding { number: 35, place: node })
-            }
+            ExprKind::Select(operand, identifier) => self.select(piece, node, operand, *identifier),
             ExprKind::Theta(schema, stroke) => {
                 let type_ = self.theta(node, *schema, *stroke)?;
                 Ok(piece.graph.enter(&type_, &[]))
@@ -171,18 +162,52 @@ impl Checker {
                 let type_ = Type::Power(Rc::new(binding(&self.lone_include(include)?)));
                 Ok(piece.graph.enter(&type_, &[]))
             }
-            ExprKind::Arithmetic(_, left, right) => {
-                let left = self.expr(piece, left)?;
-                let right = self.expr(piece, right)?;
-                both_integers(piece, left, right, node)?;
-                Ok(piece.graph.integer())
-            }
+            ExprKind::Arithmetic(_, left, right) => self.arithmetic(piece, node, left, right),
             ExprKind::Comprehension(text, body) => {
                 let signature = self.text(text)?;
                 let body = self.beside(signature, |checker| checker.expr(piece, body))?;
                 Ok(piece.graph.power(body))
             }
         }
+    }
+
+    /// The operand must be a power; the type is the power of that.
+    fn power(
+        &mut self,
+        piece: &mut Piece,
+        node: NodeNumber,
+        operand: &Expr,
+    ) -> Result<Cell, Finding> {
+        let operand = self.expr(piece, operand)?;
+        let element = piece.element_of(operand, node)?;
+        let power = piece.graph.power(element);
+        Ok(piece.graph.power(power))
+    }
+
+    /// 35 unless every solution so far has a binding with the component.
+    fn select(
+        &mut self,
+        piece: &mut Piece,
+        node: NodeNumber,
+        operand: &Expr,
+        identifier: Identifier,
+    ) -> Result<Cell, Finding> {
+        let operand = self.expr(piece, operand)?;
+        let component = piece.graph.component(operand, identifier);
+        component.ok_or(Finding { number: 35, place: node })
+    }
+
+    fn arithmetic(
+        &mut self,
+        piece: &mut Piece,
+        node: NodeNumber,
+        left: &Expr,
+        right: &Expr,
+    ) -> Result<Cell, Finding> {
+        let left = self.expr(piece, left)?;
+        let right = self.expr(piece, right)?;
+        both_integers(piece, left, right, node)?;
+        Ok(piece.graph.integer())
     }
 
     /// A Ref's actuals come first, then its own 31, 32 and 33. A generic name

@@ -64,9 +64,7 @@ impl Run {
                 }
                 Ok(true)
             }
-            (ExprKind::Product(operands), Value::Tuple(parts))
-                if parts.len() == operands.len() =>
-            {
+            (ExprKind::Product(operands), Value::Tuple(parts)) if parts.len() == operands.len() => {
                 for (part, operand) in parts.iter().zip(operands) {
                     if !self.test(part, operand)? {
                         return Ok(false);

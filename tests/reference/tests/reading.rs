@@ -86,7 +86,8 @@ fn r6_depth() {
 #[test]
 fn r6_texts() {
     // Texts inside the predicates of Texts.
-    let inside = |n: usize| (1..n).fold(text(truth(), vec![]), |t, _| text(forall(t, truth()), vec![]));
+    let inside =
+        |n: usize| (1..n).fold(text(truth(), vec![]), |t, _| text(forall(t, truth()), vec![]));
     assert_eq!(reads(&doc(vec![axiom(inside(4))])), (0, 0));
     let five = doc(vec![axiom(inside(5))]);
     assert_eq!(reads(&five), (17, nth(&five, 10, 0)));

@@ -85,10 +85,13 @@ fn r25_decls() {
     let answers = |e: Tree, number, kind, n| {
         let words = x_in(e);
         let place = nth(&words, kind, n);
-        assert_eq!(runs(&words, &one), match number {
-            0 => Ending::FailsAt(place),
-            _ => Ending::Refused(Finding { number, place }),
-        });
+        assert_eq!(
+            runs(&words, &one),
+            match number {
+                0 => Ending::FailsAt(place),
+                _ => Ending::Refused(Finding { number, place }),
+            }
+        );
     };
     answers(set(vec![number(2)]), 0, 11, 0);
     answers(power(int()), 51, 36, 0);
@@ -114,7 +117,12 @@ fn paragraphs_fail() {
     assert_eq!(run_of(vec![constraint(no())]), Ending::FailsAt(3));
     assert_eq!(run_of(vec![axiom(text(no(), vec![]))]), Ending::FailsAt(4));
     assert_eq!(run_of(vec![plain_schema(1, vec![decl(number(1), &[X])])]), Ending::Holds);
-    let states = |size| runs(&doc(vec![given(&[A]), constraint(equal(reference(A), set(vec![])))]), &state(&[&[size]]));
+    let states = |size| {
+        runs(
+            &doc(vec![given(&[A]), constraint(equal(reference(A), set(vec![])))]),
+            &state(&[&[size]]),
+        )
+    };
     assert_eq!(states(0), Ending::Holds);
     assert_eq!(states(1), Ending::FailsAt(5));
 }
@@ -145,14 +153,21 @@ fn quantifiers() {
     assert_eq!(run_of(vec![constraint(exists(over(truth(), 2), one_over()))]), Ending::Holds);
     stops(vec![constraint(forall(over(truth(), 2), one_over()))], 52, 44, 0);
     // First identifier slowest: (0, 0), (0, 1), (1, 0), (1, 1).
-    let words = vec![abbreviation(A, &[], comprehension(
-        text(truth(), vec![decl(upto(2), &[X, Y])]),
-        tuple(vec![reference(X), reference(Y)]),
-    ))];
+    let words = vec![abbreviation(
+        A,
+        &[],
+        comprehension(
+            text(truth(), vec![decl(upto(2), &[X, Y])]),
+            tuple(vec![reference(X), reference(Y)]),
+        ),
+    )];
     let outcome = run(&doc(words), &[0], AREA, 1_000);
     let tuples: Vec<Vec<i32>> =
         outcome.list.iter().map(|(_, v)| v.words()).filter(|w| w[0] == 4).collect();
-    assert_eq!(tuples, [[4, 2, 1, 0, 1, 0], [4, 2, 1, 0, 1, 1], [4, 2, 1, 1, 1, 0], [4, 2, 1, 1, 1, 1]]);
+    assert_eq!(
+        tuples,
+        [[4, 2, 1, 0, 1, 0], [4, 2, 1, 0, 1, 1], [4, 2, 1, 1, 1, 0], [4, 2, 1, 1, 1, 1]]
+    );
 }
 
 #[test]

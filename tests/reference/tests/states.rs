@@ -72,7 +72,8 @@ fn r21_document_order() {
 fn r22_bindings_have_no_values() {
     let one = plain_schema(1, vec![decl(int(), &[X])]);
     let set_of = schema_set(include(1, 0, vec![], &[]));
-    let words = doc(vec![one, plain_axiom(vec![decl(set_of.clone(), &[A]), decl(power(set_of), &[B])])]);
+    let words =
+        doc(vec![one, plain_axiom(vec![decl(set_of.clone(), &[A]), decl(power(set_of), &[B])])]);
     assert_eq!(fits(&words, &state(&[&[1, 1], &[3, 0]])), (42, 1));
     assert_eq!(fits(&words, &state(&[&[3, 0], &[3, 0]])), (42, 1));
 }

@@ -23,7 +23,8 @@ fn plain(name: u32) -> Tree {
 #[test]
 fn r8_areas() {
     let words = doc(vec![given(&[A]), given(&[B])]);
-    let answer = |dictionary, work| check(&words, dictionary, work).err().map(|f| (f.number, f.place));
+    let answer =
+        |dictionary, work| check(&words, dictionary, work).err().map(|f| (f.number, f.place));
     assert_eq!(answer(0, AREA - 1), Some((21, 0)));
     assert_eq!(answer(0, AREA), Some((22, 0)));
     assert_eq!(answer(8, AREA), Some((22, 1)));
@@ -216,7 +217,10 @@ fn r17_component_sizes() {
 
 #[test]
 fn r18_dictionary_order() {
-    assert_eq!(dictionary(vec![given(&[B, A])]), [2, 5, 6, 11, 6, 1, B, 0, 3, 2, B, 1, A, 0, 3, 2, A]);
+    assert_eq!(
+        dictionary(vec![given(&[B, A])]),
+        [2, 5, 6, 11, 6, 1, B, 0, 3, 2, B, 1, A, 0, 3, 2, A]
+    );
     let lines = vec![decl(int(), &[Y, X])];
     assert_eq!(dictionary(vec![plain_axiom(lines)]), [2, 5, 4, 9, 4, 1, X, 0, 1, 1, Y, 0, 1]);
     assert_eq!(dictionary(vec![plain_schema(7, vec![])]), [1, 3, 5, 2, 7, 0, 5, 0]);
@@ -247,10 +251,14 @@ fn r19_scope() {
 #[test]
 fn types_are_finite() {
     // f[X] == {} of pairs: f f asks for a type inside itself.
-    let id = abbreviation(A, &[X], comprehension(
-        text(truth(), vec![decl(reference(X), &[Y])]),
-        tuple(vec![reference(Y), reference(Y)]),
-    ));
+    let id = abbreviation(
+        A,
+        &[X],
+        comprehension(
+            text(truth(), vec![decl(reference(X), &[Y])]),
+            tuple(vec![reference(Y), reference(Y)]),
+        ),
+    );
     let inner = abbreviation(B, &[], apply(set(vec![]), set(vec![])));
     refuses(vec![inner], 34, 5, 0);
     // x : E with {E} = E has no finite solution: a set in itself.

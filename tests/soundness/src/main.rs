@@ -90,7 +90,10 @@ impl Survey {
     }
 
     fn report(&self, seed: u64, count: u64) -> ExitCode {
-        println!("soundness: seed {seed}, {count} cases, {} accepted with a fitting state,", self.fitting);
+        println!(
+            "soundness: seed {seed}, {count} cases, {} accepted with a fitting state,",
+            self.fitting
+        );
         println!("{} values listed, {} runs too long to finish", self.values, self.unfinished);
         if self.broken.is_empty() && self.fitting > 0 {
             return ExitCode::SUCCESS;
