@@ -12,7 +12,7 @@
 
 use compare::calls::{Call, Difference, ARCHIVE, ARCHIVE_FOUND, CALLS, NOT_LINKED};
 use compare::expected::number;
-use compare::{show, shrink};
+use compare::{program, show, shrink};
 use generate::Case;
 use std::collections::BTreeMap;
 use std::process::ExitCode;
@@ -69,7 +69,31 @@ fn main() -> ExitCode {
         }
     }
     let short = summary(&tallies, &options, start);
-    ExitCode::from(u8::from(differences > 0 || short))
+    let printed = printed_findings(&options);
+    ExitCode::from(u8::from(differences > 0 || short || !printed))
+}
+
+/// Compares the printed finding of the program that Z_PROGRAM names, on each
+/// tenth case; false where one differs.
+fn printed_findings(options: &Options) -> bool {
+    let Ok(path) = std::env::var("Z_PROGRAM") else {
+        println!("Z_PROGRAM names no program: the printed finding is not compared");
+        return true;
+    };
+    let mut compared = 0;
+    for index in (options.from..options.from + options.count).step_by(10) {
+        let case = generate::case(options.seed, index);
+        let input = program::input(&case, index);
+        if let Some(difference) = program::difference(&path, &input) {
+            println!("{path} differs at seed {}, case {index}:", options.seed);
+            print!("{}", show::document(&case.document));
+            println!("{difference}");
+            return false;
+        }
+        compared += 1;
+    }
+    println!("{path}: {compared} printed findings compared");
+    true
 }
 
 fn options() -> Option<Options> {

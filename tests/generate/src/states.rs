@@ -229,7 +229,7 @@ fn damaged(rng: &mut Rng, document: &Document, mut entries: Vec<Vec<u32>>) -> Ve
             2 => entry[word] = odd_word(rng, entry[word]),
             3 => entry[word] = rng.below(5) as u32,
             4 => *entry = unsorted(rng),
-            5 => *entry = long_set(rng),
+            5 => *entry = long_value(rng, &element),
             6 => *entry = vec![*rng.pick(&[19, 20, 21, 22, u32::MAX])],
             7 => *entry = some_tuple(rng),
             _ => *entry = element.to_vec(),
@@ -245,7 +245,7 @@ fn some_element(rng: &mut Rng, document: &Document, entries: &[Vec<u32>]) -> [u3
     for (role, entry) in roles(document).iter().zip(entries) {
         if let Role::Given(given) = role {
             let size = entry[0];
-            let k = *rng.pick(&[size, size.wrapping_sub(1), 0, u32::MAX]);
+            let k = *rng.pick(&[size, size.wrapping_sub(1), 0, 0, u32::MAX]);
             found.push([2, *given, k]);
         }
     }
@@ -269,11 +269,16 @@ fn unsorted(rng: &mut Rng) -> Vec<u32> {
     [vec![3, n as u32], members.concat()].concat()
 }
 
-/// A set of numbers in near 64 words.
-fn long_set(rng: &mut Rng) -> Vec<u32> {
-    let n = rng.from(30, 33) as u32;
+/// A set of numbers, or an element beside one, in near 64 words.
+fn long_value(rng: &mut Rng, element: &[u32]) -> Vec<u32> {
+    let beside = rng.percent(60);
+    let n = if beside { rng.from(27, 30) } else { rng.from(30, 33) } as u32;
     let members: Vec<u32> = (0..n).flat_map(|i| [1, i]).collect();
-    [vec![3, n], members].concat()
+    let set = [vec![3, n], members].concat();
+    match beside {
+        true => [vec![4, 2], element.to_vec(), set].concat(),
+        false => set,
+    }
 }
 
 fn damaged_layout(rng: &mut Rng, entries: &[Vec<u32>]) -> Vec<u32> {
