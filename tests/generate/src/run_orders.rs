@@ -144,7 +144,8 @@ fn overflowing(rng: &mut Rng) -> Tree {
     };
     match rng.below(6) {
         4 | 5 => {
-            let numbers = set((0..rng.from(1, 6) as u32).map(number).collect());
+            let count = *rng.pick(&[1, 1, 1, 2, 3, 4, 4, 5, 6]);
+            let numbers = set((0..count).map(number).collect());
             let parts = vec![reference(GIVEN), numbers];
             if rng.percent(70) {
                 tuple(parts)

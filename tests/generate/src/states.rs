@@ -133,7 +133,7 @@ fn entries(
         if let Role::Given(given) = role {
             let size = match rng.below(10) {
                 0 if odd => 0,
-                1 | 3 => rng.from(14, 20),
+                1 | 3 => *rng.pick(&[14, 15, 16, 17, 17, 18, 19, 19, 20]),
                 2 => rng.from(1, 20),
                 _ => rng.from(1, 4),
             };

@@ -76,6 +76,12 @@ fn r22_bindings_have_no_values() {
         doc(vec![one, plain_axiom(vec![decl(set_of.clone(), &[A]), decl(power(set_of), &[B])])]);
     assert_eq!(fits(&words, &state(&[&[1, 1], &[3, 0]])), (42, 1));
     assert_eq!(fits(&words, &state(&[&[3, 0], &[3, 0]])), (42, 1));
+    // The empty set is of every power type.
+    let schema_of = || schema_set(include(1, 0, vec![], &[]));
+    let one = plain_schema(1, vec![decl(int(), &[X])]);
+    let words = doc(vec![one, plain_axiom(vec![decl(power(schema_of()), &[B])])]);
+    assert_eq!(fits(&words, &state(&[&[3, 0]])), (0, 0));
+    assert_eq!(fits(&words, &state(&[&[3, 1, 1, 0]])), (42, 1));
 }
 
 #[test]
