@@ -38,7 +38,7 @@ fn symbols(archive: &Path) -> BTreeSet<String> {
     let output = Command::new("nm").arg("--defined-only").arg(archive).output().expect("nm runs");
     let text = String::from_utf8_lossy(&output.stdout).into_owned();
     let name = |line: &str| match line.split_whitespace().collect::<Vec<_>>()[..] {
-        [_, "T", name] => Some(name.to_string()),
+        [_, "T" | "W", name] => Some(name.to_string()),
         _ => None,
     };
     text.lines().filter_map(name).collect()
