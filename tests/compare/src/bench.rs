@@ -1,5 +1,5 @@
 //! The benchmark: the same documents to the library and to the reference, with
-//! areas cleared for both, and the times as a ratio.
+//! the areas that a call takes cleared for both, and the times as a ratio.
 //!
 //! bench [--seed N] [--count M]
 
@@ -25,7 +25,7 @@ fn main() -> ExitCode {
     };
     let (seed, count) = (number("--seed", 1), number("--count", 300));
     let mut sets: Vec<(String, Vec<Case>)> = vec![("mixed".to_string(), mixed(seed, count))];
-    for (name, case) in worst::cases() {
+    for (name, case) in worst::cases().into_iter().chain(worst::refused_cases()) {
         sets.push((name.to_string(), vec![case]));
     }
     println!(
@@ -62,8 +62,8 @@ fn mixed(seed: u64, count: u64) -> Vec<Case> {
 
 /// Prints one line of the table and gives its ratio.
 fn measure(call: &Call, name: &str, cases: &[Case]) -> f64 {
-    let mut dictionary = vec![0; 16_384];
-    let mut work = vec![0; 16_384];
+    let area = |taken: bool| vec![0; if taken { 16_384 } else { 0 }];
+    let (mut dictionary, mut work) = (area(call.dictionary), area(call.work));
     let mut time = |function: fn(&mut Slices) -> u64| {
         let rounds = (0..ROUNDS).map(|_| one_round(function, cases, &mut dictionary, &mut work));
         rounds.fold(f64::INFINITY, f64::min)

@@ -28,6 +28,21 @@ pub fn cases() -> Vec<(&'static str, Case)> {
     trees.into_iter().map(|(name, tree)| (name, case(name, &tree))).collect()
 }
 
+/// Documents that reading refuses as late as it can.
+pub fn refused_cases() -> Vec<(&'static str, Case)> {
+    let trees = [
+        ("1,022 predicates deep, refused", (0..1_020).fold(truth(), |p, _| not(p))),
+        ("200 quantifiers deep, refused", (0..200).fold(truth(), nested_text)),
+    ];
+    let refused = |(name, tree)| (name, case(name, &document(vec![constraint(tree)])));
+    trees.into_iter().map(refused).collect()
+}
+
+/// A forall whose Text holds the predicate, with six identifiers.
+fn nested_text(inner: Tree, _: u32) -> Tree {
+    forall(text(inner, vec![decl(integers(), &[4, 8, 12, 16, X, Y])]), truth())
+}
+
 fn case(family: &'static str, tree: &Tree) -> Case {
     let document = encode(tree);
     let state = match reference::read(&document) {

@@ -16,6 +16,16 @@ fn worst_documents_end_soon() {
 }
 
 #[test]
+fn refused_documents_end_soon() {
+    for (name, case) in generate::worst::refused_cases() {
+        let start = Instant::now();
+        let found = reference::read(&case.document).err().map(|finding| finding.number);
+        assert_eq!(found, Some(17), "{name}");
+        assert!(start.elapsed() < Duration::from_secs(1), "{name} is slow");
+    }
+}
+
+#[test]
 fn the_same_seed_gives_the_same_case() {
     for index in 0..200 {
         assert_eq!(generate::case(7, index), generate::case(7, index));
