@@ -18,8 +18,10 @@ use std::collections::BTreeMap;
 use std::process::ExitCode;
 use std::time::Instant;
 
-/// How often each number must be reached.
+/// How often each number must be reached, in a comparison as long as the
+/// gate's.
 const REACHED: usize = 20;
+const GATE: u64 = 20_000;
 
 struct Options {
     seed: u64,
@@ -97,7 +99,7 @@ fn printed_findings(options: &Options) -> bool {
 }
 
 fn options() -> Option<Options> {
-    let mut options = Options { seed: 1, count: 20_000, from: 0, trace: 0, show: 3 };
+    let mut options = Options { seed: 1, count: GATE, from: 0, trace: 0, show: 3 };
     let mut arguments = std::env::args().skip(1);
     while let Some(name) = arguments.next() {
         let value = arguments.next()?.parse().ok()?;
@@ -152,7 +154,7 @@ fn summary(tallies: &[Tally], options: &Options, start: Instant) -> bool {
         println!("  findings {}", counts.join(" "));
         for number in call.numbers {
             let times = numbers.get(number).copied().unwrap_or(0);
-            if times < REACHED {
+            if times < REACHED && options.count >= GATE {
                 println!("  {number} is reached {times} times, fewer than {REACHED}");
                 short = true;
             }

@@ -61,9 +61,13 @@ fn some_document(rng: &mut Rng) -> (&'static str, Vec<u32>) {
             let sound = sound_document(rng);
             ("damaged layout", raw::damage_layout(rng, &sound))
         }
-        7..=16 => {
+        7..=13 => {
             let sound = sound_document(rng);
             ("damaged nodes", raw::damage_nodes(rng, &sound))
+        }
+        14..=16 => {
+            let sound = sound_document(rng);
+            ("misused nodes", raw::misuse_nodes(rng, &sound))
         }
         17..=23 => ("shapes", shaped(rng)),
         24..=33 => ("limits", limits::at_a_limit(rng)),

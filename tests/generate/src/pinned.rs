@@ -15,10 +15,14 @@ use std::collections::BTreeMap;
 
 /// A document and a state for it.
 pub fn pinned_case(rng: &mut Rng) -> (Vec<u32>, Vec<u32>) {
-    let mut tree = match rng.percent(50) {
-        true => typed_document(rng, Aim::Run),
-        false => arithmetic_document(rng),
-    };
+    let mut tree = some_tree(rng);
+    for _ in 0..4 {
+        let found = reference::check(&encode(&tree), usize::MAX, reference::WORK_WORDS);
+        if found.is_ok() || rng.percent(10) {
+            break;
+        }
+        tree = some_tree(rng);
+    }
     let words = encode(&tree);
     let state = fitting_state(rng, &words);
     for (paragraph, identifier, value) in kept_values(&words, &state).into_iter().rev() {
@@ -26,6 +30,13 @@ pub fn pinned_case(rng: &mut Rng) -> (Vec<u32>, Vec<u32>) {
         tree.operands.insert(paragraph + 1, Operand::Node(pinned));
     }
     (encode_somehow(rng, &tree), state)
+}
+
+fn some_tree(rng: &mut Rng) -> Tree {
+    match rng.percent(50) {
+        true => typed_document(rng, Aim::Run),
+        false => arithmetic_document(rng),
+    }
 }
 
 /// The abbreviations that the run works out: the paragraph's place, the

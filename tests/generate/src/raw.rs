@@ -1,6 +1,7 @@
 //! Raw words and damaged layouts.
 
 use crate::rng::Rng;
+use reference::kinds::{has_sort, is_listed, slots, Slot};
 
 /// Words at the ends of ranges, where comparisons go wrong.
 pub const EDGES: [u32; 26] = [
@@ -143,4 +144,62 @@ pub fn damage_nodes(rng: &mut Rng, words: &[u32]) -> Vec<u32> {
         }
     }
     coding::join(&nodes)
+}
+
+/// A coded document in which one node is used twice or never, or the Document
+/// is not the last; operands are lower and of their sorts.
+pub fn misuse_nodes(rng: &mut Rng, words: &[u32]) -> Vec<u32> {
+    let Some(parts) = reference::layout::parts(words) else {
+        return words.to_vec();
+    };
+    let mut nodes: Vec<Vec<u32>> = parts.into_iter().map(|part| words[part].to_vec()).collect();
+    match rng.below(6) {
+        0 => add_unused(rng, &mut nodes, vec![20]),
+        1 => add_unused(rng, &mut nodes, vec![1]),
+        2 => {
+            let last = nodes.len() as u32;
+            nodes.push(vec![24, last]);
+        }
+        3 if nodes.last().is_some_and(|node| node.len() > 1) => {
+            nodes.last_mut().expect("checked above").pop();
+        }
+        _ => use_another(rng, &mut nodes),
+    }
+    coding::join(&nodes)
+}
+
+/// The operand words of a node that name nodes, with what they ask for.
+fn node_slots(node: &[u32]) -> Vec<(usize, Slot)> {
+    let known = if is_listed(node[0]) { slots(node) } else { None };
+    let all = known.unwrap_or_default().into_iter().enumerate();
+    all.filter(|(_, slot)| matches!(slot, Slot::Node(_))).map(|(i, slot)| (i + 1, slot)).collect()
+}
+
+/// Puts a node that nobody uses somewhere, the others keeping their operands.
+fn add_unused(rng: &mut Rng, nodes: &mut Vec<Vec<u32>>, node: Vec<u32>) {
+    let place = rng.below(nodes.len());
+    for node in nodes.iter_mut() {
+        for (at, _) in node_slots(node) {
+            node[at] += u32::from(node[at] as usize > place);
+        }
+    }
+    nodes.insert(place, node);
+}
+
+/// Lets one operand name another lower node of its sort.
+fn use_another(rng: &mut Rng, nodes: &mut [Vec<u32>]) {
+    for _ in 0..8 {
+        let k = rng.below(nodes.len());
+        let operands = node_slots(&nodes[k]);
+        if operands.is_empty() {
+            continue;
+        }
+        let (at, Slot::Node(sort)) = *rng.pick(&operands) else { continue };
+        let others: Vec<u32> =
+            (0..k).filter(|&i| has_sort(nodes[i][0], sort)).map(|i| i as u32 + 1).collect();
+        if others.len() > 1 {
+            nodes[k][at] = *rng.pick(&others);
+            return;
+        }
+    }
 }
