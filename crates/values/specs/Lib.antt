@@ -8,5 +8,6 @@ pub mod Sets
 pub mod Givens
 pub mod Lookup
 pub mod Form
+pub mod WellFormed
 pub mod TypeWords
 pub mod Typed
