@@ -40,7 +40,7 @@ unfoldable mutual
 mutual
   unfolding depth encode
 
-  depth-few : (v : Value) → 2 * depth v ≤ length (encode v)
+  pub depth-few : (v : Value) → 2 * depth v ≤ length (encode v)
   depth-few (int z) = omega arith
   depth-few (element g k) = omega arith
   depth-few (set vs) = omega (arith, depth-fews vs)
@@ -53,13 +53,13 @@ mutual
 mutual
   unfolding encode count
 
-  words-some : (v : Value) → 2 ≤ length (encode v)
+  pub words-some : (v : Value) → 2 ≤ length (encode v)
   words-some (int z) = omega arith
   words-some (element g k) = omega arith
   words-some (set vs) = omega arith
   words-some (tuple vs) = omega arith
 
-  count-few : (vs : Values) → count vs ≤ length (encodes vs)
+  pub count-few : (vs : Values) → count vs ≤ length (encodes vs)
   count-few nil = omega arith
   count-few (cons v vs) = omega (arith, words-some v, count-few vs, length-append (encode v) (encodes vs))
 

@@ -9,5 +9,6 @@ pub mod Givens
 pub mod Lookup
 pub mod Form
 pub mod WellFormed
+pub mod SetValues
 pub mod TypeWords
 pub mod Typed
