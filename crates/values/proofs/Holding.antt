@@ -69,3 +69,7 @@ appended ws w h =
     let k : 64 - length ws - length w ≡ 64 - length (ws ++ w) = omega (arith, length-append ws w) in
     sets-eq w (ws ++ z) (length ws) (omega arith)
     ∙ rw (take-at ws z (length ws) refl, drop-append-add ws z (length w), drop-replicate (length w) (64 - length ws), k)
+
+-- the words that are held, back as a list
+pub held-part : (v : Held) (ws : List ℕ) → v ≡ keep ws → length ws ≤ 64 → take (v .len) (v .words) ≡ ws
+held-part v ws e h = rw (held-len v ws e h, held-words v ws e h) (take-at ws (zeros (64 - length ws)) (length ws) refl)
