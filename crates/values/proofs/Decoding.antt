@@ -1,21 +1,15 @@
 -- `isValue` holds of exactly the words of well-formed values of at most 64 words.
-use mathlib.Core.Path.{_≡_, refl, sym, ap, _∙_, subst}
-use mathlib.Core.Bool.{Bool, true, false, cond, _&&_, false≢true, true≢false}
+use mathlib.Core.Path.{_≡_, refl, _∙_}
+use mathlib.Core.Bool.{Bool, true, false, false≢true}
 use mathlib.Core.List.{List, [], _∷_, _++_, append-assoc, append-nil}
-use mathlib.Core.Logic.{_⊎_, inl, inr, ⊎-elim}
-use Prim.Native.Nat.{ℕ, zero, suc, max, _+_, _*_, _-_, _≤_, _<_, _^_}
+use Prim.Native.Nat.{ℕ, suc, max, _+_, _*_, _-_, _≤_, _<_, _^_}
 use native.Mathlib.Omega.{arith}
-use native.Mathlib.Nat.{add-assoc, add-zero}
-use lib.Dec.{eqb, leb, ltb}
-use lib.ListN.{length, getD, take, drop, length-append, length-drop}
-use lib.Seq.{take-at, drop-at, getD-drop, drop-length}
-use borrow.Author.Tests.{eq-eqb, ne-eqb, le-leb, lt-leb, lt-ltb, le-ltb, ltb-true, ltb-false, leb-true, leb-false, eqb-true, eqb-false}
-use mir.Syntax.{w32}
-use mir.Val.{Fits}
-use mir.ValLaws.{ofZ-toZ, toZ-fits}
-use Rattle.values.specs.declared.form.Shape.{Shape}
-use Rattle.values.specs.declared.form.Shape.the-variants.{Broken, Leaf, Set, Tuple}
-use Rattle.values.specs.Integer.{signed, wordOf, in32}
+use lib.Dec.{leb, ltb}
+use lib.ListN.{length, length-append}
+use lib.Seq.{take-at, drop-at}
+use borrow.Author.Tests.{eq-eqb, ne-eqb, le-leb, lt-ltb, le-ltb, leb-true}
+use Rattle.values.specs.declared.form.Shape.the-variants.{Leaf, Set, Tuple}
+use Rattle.values.specs.Integer.{wordOf}
 use Rattle.values.specs.Order.{compare, isLess}
 use Rattle.values.specs.Value.{Value, int, element, set, tuple, Values, nil, cons, count, encode, encodes}
 use Rattle.values.specs.Form.{elementShape, groupShape, shapeOf, follows, nextFits, groupEnd, byShape, valueLength, isValue}

@@ -1,29 +1,26 @@
 -- Membership and insertion on words are membership and insertion of values, and insertion keeps a set well formed.
-use mathlib.Core.Path.{_≡_, refl, sym, ap, _∙_}
-use mathlib.Core.Bool.{Bool, true, false, cond, _&&_, false≢true, true≢false}
-use mathlib.Core.List.{List, [], _∷_, _++_, append-assoc, append-nil}
-use Prim.Native.Nat.{ℕ, zero, suc, _+_, _%_, _≤_, _<_, _^_}
+use mathlib.Core.Path.{_≡_, refl, ap, _∙_}
+use mathlib.Core.Bool.{Bool, true, false, cond, false≢true, true≢false}
+use mathlib.Core.List.{List, [], _∷_, _++_, append-assoc}
+use Prim.Native.Nat.{ℕ, suc, _+_, _≤_, _<_, _^_}
 use native.Mathlib.Omega.{arith}
 use native.Mathlib.Nat.{mod-eq-of-lt}
 use lib.IntN.{ℤ, pos, negsuc}
 use lib.Signed.{ltZ}
-use lib.Dec.{ltb}
-use lib.ListN.{length, getD, take, drop, length-append}
+use lib.ListN.{length, length-append}
 use lib.Seq.{take-at, drop-at}
 use borrow.Author.Tests.{ltb-true, le-ltb}
 use Rattle.values.specs.declared.words.Order.{Order}
 use Rattle.values.specs.declared.words.Order.the-variants.{Less, Same, Greater}
-use Rattle.values.specs.declared.sets.Place.{Place}
 use Rattle.values.specs.declared.sets.Place.the-variants.{At, Already}
 use Rattle.values.specs.Integer.{signed}
-use Rattle.values.specs.Order.{compareWord, orElse, compare, isLess, isSame, same}
-use Rattle.values.specs.Span.{span}
+use Rattle.values.specs.Order.{compareWord, orElse, compare, isLess}
 use Rattle.values.specs.Value.{Value, int, element, set, tuple, Values, nil, cons, count, encode, encodes}
-use Rattle.values.specs.Sets.{first, rest, among, isMember, choose, placeFrom, place, insertAt, insert}
+use Rattle.values.specs.Sets.{among, isMember, choose, placeFrom, place, insertAt, insert}
 use Rattle.values.specs.WellFormed.{ascends, wellFormed, allWellFormed}
 use Rattle.values.specs.SetValues.{sameValue, isIn, insertBy, insertValue}
 use Rattle.values.proofs.Encoding.{span-value, first-value, rest-value}
-use Rattle.values.proofs.Unique.{and-left, and-right}
+use Rattle.values.proofs.Unique.{and-left, and-right, both}
 use Rattle.values.proofs.Decoding.{count-few}
 
 -- ---- membership
@@ -130,9 +127,6 @@ unfolding flip isLess
 above a b e = rw (compare-flip a b, e)
 
 -- ---- insertion keeps a set well formed
-
-both : (a b : Bool) → a ≡ true → b ≡ true → (a && b) ≡ true
-both a b e f = rw (e, f)
 
 insert-ascends : (vs : Values) (v : Value) (p : List ℕ) → ascends p vs ≡ true → isLess (compare p (encode v)) ≡ true → ascends p (insertValue v vs) ≡ true
 unfolding ascends insertValue insertBy isLess

@@ -1,11 +1,10 @@
 -- An integer's words are read back as that integer.
-use mathlib.Core.Path.{_≡_, refl, sym, ap, _∙_}
+use mathlib.Core.Path.{_≡_, ap}
 use mathlib.Core.Bool.{true}
 use lib.IntN.{ℤ}
 use mir.Syntax.{w32}
 use mir.ValLaws.{toZ-ofZ}
-use Rattle.values.specs.declared.numbers.Number.{Number}
-use Rattle.values.specs.declared.numbers.Number.the-variants.{Integer, Misfit}
+use Rattle.values.specs.declared.numbers.Number.the-variants.{Integer}
 use Rattle.values.specs.Integer.{signed, wordOf, in32}
 use Rattle.values.specs.Numbers.{numberOf}
 use Rattle.values.specs.Value.{int, encode}

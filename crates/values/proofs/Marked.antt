@@ -1,14 +1,14 @@
 -- Document 01's marked cases of values, and the breaks of a value's form, as one table and one claim. Givens here: 4 has 2 elements.
 use mathlib.Core.Path.{_≡_, refl}
-use mathlib.Core.Bool.{Bool, true, false, cond, _&&_}
-use mathlib.Core.List.{List, [], _∷_, _++_}
+use mathlib.Core.Bool.{Bool, true, false}
+use mathlib.Core.List.{List, [], _∷_}
 use Prim.Native.Nat.{ℕ, zero, suc}
-use lib.IntN.{pos, negsuc}
+use lib.IntN.{pos}
 use lib.ListN.{length}
 use Rattle.values.specs.Integer.{signed, wordOf}
 use Rattle.values.specs.Order.{compareWord, orElse, compare, isLess, isSame, same}
 use Rattle.values.specs.Span.{head, parts, spans, span}
-use Rattle.values.specs.Value.{Value, int, element, set, tuple, Values, nil, cons, count, encode, encodes}
+use Rattle.values.specs.Value.{int, set, Values, nil, count, encode}
 use Rattle.values.specs.Sets.{first, rest, choose, placeFrom, place, insertAt, insert}
 use Rattle.values.specs.SetValues.{insertBy, insertValue}
 use Rattle.values.specs.Givens.{smallSize, sizeFrom, sizeOf}

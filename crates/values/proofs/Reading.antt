@@ -1,26 +1,26 @@
 -- Words that pass `isValue` are the words of a well-formed value: the value is read back from them.
 use mathlib.Core.Path.{_≡_, refl, sym, ap, _∙_, subst}
-use mathlib.Core.Bool.{Bool, true, false, cond, _&&_, false≢true, true≢false}
+use mathlib.Core.Bool.{Bool, true, false, cond, false≢true}
 use mathlib.Core.List.{List, [], _∷_, _++_, append-assoc, append-nil}
 use mathlib.Core.Logic.{_⊎_, inl, inr, ⊎-elim}
-use Prim.Native.Nat.{ℕ, zero, suc, _+_, _-_, _≤_, _<_, _^_}
+use Prim.Native.Nat.{ℕ, zero, suc, _+_, _≤_, _<_, _^_}
 use native.Mathlib.Omega.{arith}
 use lib.Dec.{eqb, leb, ltb}
 use lib.Signed.{mag}
 use lib.ListN.{length, getD, take, drop, length-append}
 use lib.Seq.{take-at, drop-drop, getD-drop, drop-length}
-use borrow.Author.Tests.{le-leb, ne-eqb, lt-ltb, ltb-false, leb-true, leb-false, ltb-true, eqb-true, eqb-false}
+use borrow.Author.Tests.{le-leb, ne-eqb, lt-ltb, ltb-false, leb-true, eqb-true}
 use mir.Syntax.{w32}
 use mir.Val.{Fits}
 use mir.ValLaws.{ofZ-toZ, toZ-fits}
 use Rattle.values.specs.declared.form.Shape.{Shape}
 use Rattle.values.specs.declared.form.Shape.the-variants.{Broken, Leaf, Set, Tuple}
-use Rattle.values.specs.Integer.{signed, wordOf, in32}
+use Rattle.values.specs.Integer.{signed, wordOf}
 use Rattle.values.specs.Order.{compare, isLess}
 use Rattle.values.specs.Value.{Value, int, element, set, tuple, Values, nil, cons, count, encode, encodes}
 use Rattle.values.specs.Form.{elementShape, groupShape, shapeOf, follows, nextFits, groupEnd, byShape, valueLength, isValue}
 use Rattle.values.specs.WellFormed.{ascends, wellFormed, allWellFormed}
-use Rattle.values.proofs.Unique.{and-left, and-right}
+use Rattle.values.proofs.Unique.{and-left, and-right, both}
 
 -- each is a word of 32 bits
 pub record Small (ws : List ℕ) : Type 0 where
@@ -124,9 +124,6 @@ module _ (size : ℕ → ℕ) where
       ws ≡ tag ∷ count vs ∷ (encodes vs ++ drop e ws)
   group-words ws tag n vs e l t c k w q =
       two-words ws l ∙ rw (t, c, k, q) (ap (λ (x : List ℕ). tag ∷ n ∷ x) (w ∙ ap (λ (x : List ℕ). encodes vs ++ x) (drop-drop (length (encodes vs)) 2 ws)))
-
-  both : (a b : Bool) → a ≡ true → b ≡ true → (a && b) ≡ true
-  both a b e f = rw (e, f)
 
   follows-yes : (b : Bool) (p m : List ℕ) → follows b p m ≡ true → b ≡ true → isLess (compare p m) ≡ true
   unfolding follows

@@ -1,15 +1,12 @@
 -- `typeLength` of a type's words is their number, whatever follows them: so a product's parts meet their own types.
 use mathlib.Core.Path.{_≡_, refl, sym, ap, _∙_}
 use mathlib.Core.List.{List, [], _∷_, _++_, append-assoc, append-nil}
-use Prim.Native.Nat.{ℕ, zero, suc, _+_, _≤_}
+use Prim.Native.Nat.{ℕ, suc, _+_, _≤_}
 use native.Mathlib.Omega.{arith}
 use native.Mathlib.Nat.{add-zero}
-use lib.Dec.{leb}
 use lib.ListN.{length, drop, length-append}
 use lib.Seq.{drop-at}
 use borrow.Author.Tests.{le-leb}
-use Rattle.values.specs.declared.type_words.Former.{Former}
-use Rattle.values.specs.declared.type_words.Former.the-variants.{Plain, Group}
 use Rattle.values.specs.TypeWords.{clip, countOf, formerOf, typesEnd, byFormer, typeLength, TypeWords, integers, given, power, product, binding, parameter, TypesWords, none, part, field}
 
 clipped : (n l : ℕ) → n ≤ l → clip n l ≡ n

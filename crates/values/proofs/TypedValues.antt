@@ -1,16 +1,14 @@
 -- Finding 42's test on words is its test on values.
-use mathlib.Core.Path.{_≡_, refl, sym, ap, _∙_}
+use mathlib.Core.Path.{_≡_, refl, ap, _∙_}
 use mathlib.Core.Bool.{Bool, true, false, cond, _&&_}
 use mathlib.Core.List.{List, [], _∷_, _++_, append-assoc, append-nil}
-use Prim.Native.Nat.{ℕ, zero, suc, _+_, _-_, _≤_}
+use Prim.Native.Nat.{ℕ, suc, _-_, _≤_}
 use native.Mathlib.Omega.{arith}
 use lib.Dec.{eqb}
 use lib.ListN.{length, getD, drop, length-append}
 use borrow.Author.Tests.{eqb-true}
 use Rattle.values.specs.Integer.{wordOf}
 use Rattle.values.specs.Value.{Value, int, element, set, tuple, Values, nil, cons, count, encode, encodes}
-use Rattle.values.specs.Sets.{rest}
-use Rattle.values.specs.declared.typed.Test.{Test}
 use Rattle.values.specs.declared.typed.Test.the-variants.{Fails, Passes, Each}
 use Rattle.values.specs.Typed.{typeStep, isOf, areOf, whether, testOf, each, byTest, hasType}
 use Rattle.values.proofs.Encoding.{rest-value}

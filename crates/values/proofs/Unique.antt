@@ -1,8 +1,8 @@
 -- No value's words are the beginning of another's: from words, the value and what follows it are determined.
 use mathlib.Core.Path.{_≡_, refl, sym, ap, _∙_}
 use mathlib.Core.Bool.{Bool, true, false, _&&_, false≢true}
-use mathlib.Core.List.{List, [], _∷_, _++_, append-assoc}
-use Prim.Native.Nat.{ℕ, zero, suc, _^_}
+use mathlib.Core.List.{List, [], _++_, append-assoc}
+use Prim.Native.Nat.{ℕ, _^_}
 use native.Mathlib.Omega.{arith}
 use lib.IntN.{ℤ}
 use lib.Signed.{mag}
@@ -12,9 +12,9 @@ use mir.Val.{SFits, toZ}
 use mir.ValLaws.{toZ-ofZ}
 use Rattle.values.specs.Integer.{wordOf, in32}
 use Rattle.values.specs.Value.{Value, int, element, set, tuple, Values, nil, cons, count, encode, encodes}
-use Rattle.values.specs.WellFormed.{wellFormed, allWellFormed, ascends}
+use Rattle.values.specs.WellFormed.{wellFormed, allWellFormed}
 
--- both parts of a test that passed
+-- both parts of a test that passed, and a test of which both parts pass
 pub and-left : (a b : Bool) → (a && b) ≡ true → a ≡ true
 and-left true b e = refl
 and-left false b e = e
@@ -22,6 +22,9 @@ and-left false b e = e
 pub and-right : (a b : Bool) → (a && b) ≡ true → b ≡ true
 and-right true b e = e
 and-right false b e = absurd (false≢true e)
+
+pub both : (a b : Bool) → a ≡ true → b ≡ true → (a && b) ≡ true
+both a b e f = rw (e, f)
 
 pub fits32 : (z : ℤ) → in32 z ≡ true → SFits w32 z
 fits32 z h = record { sfits = omega (arith, ltb-true (mag z) (2 ^ 31) h) }
