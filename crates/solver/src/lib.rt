@@ -3,7 +3,7 @@ ghost use mathlib.Core.Path.{_≡_};
 ghost use Prim.Native.Nat.{ℕ, suc, _+_, _*_, _<_, _≤_, _^_};
 ghost use lib.ListN.{length, getD, set};
 ghost use Rattle.solver.specs.Store.{frozen, linkAt, fieldAt, tagAt, firstAt, countAt, run, partsAt, Cell};
-ghost use Rattle.solver.specs.Settled.{heap, leadWords, nameWords, partsOf, Reading, Ends};
+ghost use Rattle.solver.specs.Settled.{heap, leadWords, nameWords, partsOf, Reading, Ends, Readings, SameType, Meeting, Naming, SameNames, SameFormer, Pinning, Pin, Settling};
 ghost use Rattle.solver.specs.Flat.{Sound, Straight, Flattened};
 ghost use Rattle.solver.specs.Written.{leadAt, nameAt, Wrote, Writing, Typed, Leading};
 ghost use Rattle.solver.specs.Answers.{Scanned, Placed, Looked};
@@ -175,6 +175,68 @@ fn skip(a: &[u32], d: &[u32], p: usize) -> usize
     at
 }
 
+// The types at p and q are one.
+fn same_type(a: &[u32], d: &[u32], p: usize, q: usize) -> bool
+    requires { ⌜ Readings (now a) (now d) p q ⌝ }
+    ensures { λ r. ⌜ SameType (now (a .entry)) (now (d .entry)) p q r ⌝ }
+{
+    let m = skip(a, d, p) - p;
+    if skip(a, d, q) - q != m {
+        return false;
+    }
+    let mut j = 0;
+    while j < m {
+        if type_word(a, d, p + j) != type_word(a, d, q + j) {
+            return false;
+        }
+        j += 1;
+    }
+    true
+}
+
+// The n identifiers of cell r are those of the type at p.
+fn same_names(a: &[u32], d: &[u32], r: usize, p: usize, n: usize) -> bool
+    requires { ⌜ Naming (now a) (now d) r p n ⌝ }
+    ensures { λ b. ⌜ SameNames (now (a .entry)) (now (d .entry)) r p n b ⌝ }
+{
+    let ids = field(a, r, 1);
+    let mut at = p + 2;
+    let mut j = 0;
+    while j < n {
+        if held(a, ids + j) != type_word(a, d, at) {
+            return false;
+        }
+        at = skip(a, d, at + 1);
+        j += 1;
+    }
+    true
+}
+
+// Cell r has the former of the type at p, and as many parts.
+fn same_former(a: &[u32], d: &[u32], r: usize, p: usize) -> bool
+    requires { ⌜ Meeting (now a) (now d) r p ⌝ }
+    ensures { λ b. ⌜ SameFormer (now (a .entry)) (now (d .entry)) r p b ⌝ }
+{
+    let t = field(a, r, 0);
+    if t != type_word(a, d, p) {
+        return false;
+    }
+    let n = field(a, r, 3);
+    if n != parts_of(a, d, t, p) {
+        return false;
+    }
+    if t == 5 {
+        return same_names(a, d, r, p, n);
+    }
+    if lead_words(t) == 1 {
+        return true;
+    }
+    if field(a, r, 1) != type_word(a, d, p + 1) {
+        return false;
+    }
+    true
+}
+
 // The k words at p are those at q.
 fn same_run(a: &[u32], p: usize, q: usize, k: usize) -> bool
     requires { ⌜ Runs (frozen (now a)) p q k ⌝ }
@@ -209,6 +271,48 @@ fn same_head(a: &[u32], x: usize, y: usize) -> bool
         return same_run(a, p, q, k);
     }
     p == q
+}
+
+// The unknown r, a representative, is given the type at p.
+fn settle(a: &mut [u32], d: &[u32], r: usize, p: usize) -> bool
+    requires { ⌜ Settling (now a) (now d) r p ⌝ }
+    ensures { λ b. ⌜ Pin (now (a .entry)) (now (a .exit)) (now (d .entry)) r p b ⌝ }
+{
+    let q = word(a, LINKS + r);
+    if q < 769 {
+        store(a, LINKS + r, (769 + p) as u32);
+        return true;
+    }
+    same_type(a, d, p, q - 769)
+}
+
+// Cell c is given the type at p: an unknown refers to it, a former's parts are given its parts.
+pub fn pin(a: &mut [u32], d: &[u32], c: usize, p: usize) -> bool
+    requires { ⌜ Pinning (now a) (now d) c p ⌝ }
+    ensures { λ b. ⌜ Pin (now (a .entry)) (now (a .exit)) (now (d .entry)) c p b ⌝ }
+{
+    let r = find(a, c);
+    let t = field(a, r, 0);
+    if t == 0 {
+        return settle(a, d, r, p);
+    }
+    if same_former(a, d, r, p) {
+        let n = field(a, r, 3);
+        let w = name_words(t);
+        let mut at = p + lead_words(t);
+        let mut j = 0;
+        while j < n {
+            let q = at + w;
+            if pin(a, d, part(a, r, j), q) {
+                at = skip(a, d, q);
+                j += 1;
+            } else {
+                return false;
+            }
+        }
+        return true;
+    }
+    false
 }
 
 // Pair number k of those that are pending.
