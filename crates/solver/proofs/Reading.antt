@@ -300,9 +300,12 @@ pub record Named (H : List ℕ) (at n j : ℕ) (l : List ℕ) : Type 0 where
 pub named-start : (H : List ℕ) (p n : ℕ) (l : List ℕ) (gs : Tys) → Reads H p (node (binding l) gs) → getD H (p + 1) 0 ≡ n → Named H (p + 2) n 0 l
 unfolding second tag identifiers nameWords leadWords
 named-start H p n l gs R en = record {
-  tail = l; gs = gs; e = p + length (words (node (binding l) gs)); rest = the-rest H p (binding l) gs R;
+  tail = l;
+  gs = gs;
+  e = p + length (words (node (binding l) gs));
+  rest = the-rest H p (binding l) gs R;
   left = (let z : partCountType gs + 0 ≡ partCountType gs = omega arith in z) ∙ sym (second-at H p (binding l) gs R (partCountType gs) refl) ∙ en;
-  tail-is = refl
+  tail-is = refl;
 }
 
 pub record NameStep (H : List ℕ) (at n j : ℕ) (l : List ℕ) : Type 0 where

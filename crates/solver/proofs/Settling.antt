@@ -32,8 +32,11 @@ kept-refl s = record { size = refl; low = refl; still = refl; links = λ i. refl
 
 pub kept-on : (s t u : List ℕ) → Kept s t → Kept t u → Kept s u
 kept-on s t u a b = record {
-  size = b .size ∙ a .size; low = b .low ∙ a .low; still = b .still ∙ a .still;
-  links = λ i. b .links i ∙ a .links i; rest = λ i l. b .rest i l ∙ a .rest i l
+  size = b .size ∙ a .size;
+  low = b .low ∙ a .low;
+  still = b .still ∙ a .still;
+  links = λ i. b .links i ∙ a .links i;
+  rest = λ i l. b .rest i l ∙ a .rest i l;
 }
 
 pub kept-held : (s t : List ℕ) → Kept s t → (n : ℕ) (L : Pairs ℕ) → Held s n L → Held t n L

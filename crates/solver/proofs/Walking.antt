@@ -55,8 +55,13 @@ pub record Walked (s t d : List ℕ) (n : ℕ) (L : Pairs ℕ) (r k w at j p : �
 pub walk-start : (s d : List ℕ) (n : ℕ) (L : Pairs ℕ) (r k p : ℕ) (h : Former) (gs : Tys) → Reads (heap s d) p (node h gs) → k ≡ partCountType gs → (t w at : ℕ) → t ≡ getD (heap s d) p 0 →
     w ≡ nameWords t → at ≡ p + leadWords t → Walked s s d n L r k w at 0 p h gs
 walk-start s d n L r k p h gs R ek t w at et ew ea = record {
-  l = identifiers h; left = gs; rest = rest-start (heap s d) p h gs R t w at et ew ea; count = (let z : partCountType gs + 0 ≡ partCountType gs = omega arith in z) ∙ sym ek;
-  ahead = λ σ F S O e. (O, e); back = λ σ F S O. O; whole = λ σ F S O e. e
+  l = identifiers h;
+  left = gs;
+  rest = rest-start (heap s d) p h gs R t w at et ew ea;
+  count = (let z : partCountType gs + 0 ≡ partCountType gs = omega arith in z) ∙ sym ek;
+  ahead = λ σ F S O e. (O, e);
+  back = λ σ F S O. O;
+  whole = λ σ F S O e. e;
 }
 
 -- The cell of the next part, and its type.
@@ -275,10 +280,11 @@ module _ (s d : List ℕ) (c r k p : ℕ) (Q : Root s c r) (ek : k ≡ countAt (
         later = le;
         walk = λ n L H P m.
             let W = I .walk n L H P m in
-            let b = part-below s d c r k p Q ek tx n L H m j lt in
-            (Y .pinned refl n L (kept-held s t (I .kept) n L H) (W .0) b,
-             λ h gs R. walk-step s t d n L r k w at j p h gs lt (r-room s d c r k p Q ek tx n L H m) H (I .kept) (W .0) b u e Y
-               (λ g Rg. E .is g (subst (λ z. Reads z (at + w) g) (sym (heap-kept s u d (kept-on s t u (I .kept) (Y .kept) .low))) Rg)) (W .1 h gs R));
+            let b = part-below s d c r k p Q ek tx n L H m j lt in (
+              Y .pinned refl n L (kept-held s t (I .kept) n L H) (W .0) b,
+              λ h gs R. walk-step s t d n L r k w at j p h gs lt (r-room s d c r k p Q ek tx n L H m) H (I .kept) (W .0) b u e Y
+                  (λ g Rg. E .is g (subst (λ z. Reads z (at + w) g) (sym (heap-kept s u d (kept-on s t u (I .kept) (Y .kept) .low))) Rg)) (W .1 h gs R),
+            );
       }
 
       pub pin-ahead : Pinning s d c p → Ahead s d w at
@@ -291,7 +297,10 @@ module _ (s d : List ℕ) (c r k p : ℕ) (Q : Root s c r) (ek : k ≡ countAt (
   pin-start X M t w at et ew ea z = record {
     kept = kept-refl s;
     later = omega arith;
-    walk = λ n L H P m. (P, λ h gs R.
-        let y = X .tells h gs R .holds refl in
-        walk-start s d n L r k p h gs R (ek ∙ y .1) t w at (et ∙ like-tag s d r p M h gs R y) ew ea);
+    walk = λ n L H P m. (
+      P,
+      λ h gs R.
+          let y = X .tells h gs R .holds refl in
+          walk-start s d n L r k p h gs R (ek ∙ y .1) t w at (et ∙ like-tag s d r p M h gs R y) ew ea,
+    );
   }

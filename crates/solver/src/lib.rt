@@ -4,11 +4,12 @@ ghost use Prim.Native.Nat.{ℕ, suc, _+_, _*_, _<_, _≤_, _^_};
 ghost use lib.ListN.{length, getD, set};
 ghost use Rattle.solver.specs.Store.{frozen, linkAt, fieldAt, tagAt, firstAt, countAt, run, partsAt, Cell};
 ghost use Rattle.solver.specs.Settled.{heap, leadWords, nameWords, partsOf, Reading, Ends, Readings, SameType, Meeting, Naming, SameNames, SameFormer, Pinning, Pin, Settling};
+ghost use Rattle.solver.specs.Merging.{Open, Turned, Popped, Tied, Tying, Drained, Asking, Merged};
 ghost use Rattle.solver.specs.Flat.{Sound, Straight, Flattened};
 ghost use Rattle.solver.specs.Written.{leadAt, nameAt, Wrote, Writing, Typed, Leading};
 ghost use Rattle.solver.specs.Answers.{Scanned, Placed, Looked};
 ghost use Rattle.solver.specs.Sizes.{cap, markAt, total, Size, One, Read, Round, Rounds, Cleared, Tested};
-ghost use Rattle.solver.specs.Calls.{put, Making, Made, Adding, Added, Tells, Known, Root, Runs, Two, Alike, Pushing, Pushed, Open, Turned, Popped, Drained, Asking, Merged};
+ghost use Rattle.solver.specs.Calls.{put, Making, Made, Adding, Added, Tells, Known, Root, Runs, Two, Alike, Pushing, Pushed};
 
 const CELLS: usize = 768;
 
@@ -340,22 +341,35 @@ fn push_parts(a: &mut [u32], k: usize, x: usize, y: usize) -> usize
     k + m
 }
 
+// The unknown x, a representative, is linked to y, which is given the type that x refers to.
+fn tie(a: &mut [u32], d: &[u32], x: usize, y: usize) -> bool
+    requires { ⌜ Tying (now a) (now d) x y ⌝ }
+    ensures { λ b. ⌜ Tied (now (a .entry)) (now (a .exit)) (now (d .entry)) x y b ⌝ }
+{
+    let q = word(a, LINKS + x);
+    set_link(a, x, y);
+    if q < 769 {
+        return true;
+    }
+    pin(a, d, y, q - 769)
+}
+
 // The representatives x and y, of the newest pair, are merged.
-fn join(a: &mut [u32], k: usize, x: usize, y: usize) -> Step
-    requires { ⌜ Popped (now a) k x y ⌝ }
-    ensures { λ r. ⌜ Turned (now (a .entry)) (now (a .exit)) (suc k) (r .fine) (r .left) ⌝ }
+fn join(a: &mut [u32], d: &[u32], k: usize, x: usize, y: usize) -> Step
+    requires { ⌜ Popped (now a) (now d) k x y ⌝ }
+    ensures { λ r. ⌜ Turned (now (a .entry)) (now (a .exit)) (now (d .entry)) (suc k) (r .fine) (r .left) ⌝ }
 {
     if field(a, x, 0) == 0 {
-        set_link(a, x, y);
+        let fine = tie(a, d, x, y);
         return Step {
-            fine: true,
+            fine: fine,
             left: k,
         };
     }
     if field(a, y, 0) == 0 {
-        set_link(a, y, x);
+        let fine = tie(a, d, y, x);
         return Step {
-            fine: true,
+            fine: fine,
             left: k,
         };
     }
@@ -374,9 +388,9 @@ fn join(a: &mut [u32], k: usize, x: usize, y: usize) -> Step
 }
 
 // One turn: the newest pair.
-fn turn(a: &mut [u32], k: usize) -> Step
-    requires { ⌜ Open (now a) (suc k) ⌝ }
-    ensures { λ r. ⌜ Turned (now (a .entry)) (now (a .exit)) (suc k) (r .fine) (r .left) ⌝ }
+fn turn(a: &mut [u32], d: &[u32], k: usize) -> Step
+    requires { ⌜ Open (now a) (now d) (suc k) ⌝ }
+    ensures { λ r. ⌜ Turned (now (a .entry)) (now (a .exit)) (now (d .entry)) (suc k) (r .fine) (r .left) ⌝ }
 {
     let x = find(a, word(a, PAIRS + 2 * k));
     let y = find(a, word(a, SECONDS + 2 * k));
@@ -386,17 +400,17 @@ fn turn(a: &mut [u32], k: usize) -> Step
             left: k,
         };
     }
-    join(a, k, x, y)
+    join(a, d, k, x, y)
 }
 
 // Merges until nothing is pending.
-fn drain(a: &mut [u32]) -> bool
-    requires { ⌜ Open (now a) 1 ⌝ }
-    ensures { λ r. ⌜ Drained (now (a .entry)) (now (a .exit)) 1 r ⌝ }
+fn drain(a: &mut [u32], d: &[u32]) -> bool
+    requires { ⌜ Open (now a) (now d) 1 ⌝ }
+    ensures { λ r. ⌜ Drained (now (a .entry)) (now (a .exit)) (now (d .entry)) 1 r ⌝ }
 {
     let mut k = 1;
     while 0 < k {
-        let t = turn(a, k - 1);
+        let t = turn(a, d, k - 1);
         if t.fine {
             k = t.left;
         } else {
@@ -407,12 +421,12 @@ fn drain(a: &mut [u32]) -> bool
 }
 
 // The equation x = y, beside those that are solved.
-pub fn merge(a: &mut [u32], x: usize, y: usize) -> bool
-    requires { ⌜ Asking (now a) x y ⌝ }
-    ensures { λ r. ⌜ Merged (now (a .entry)) (now (a .exit)) x y r ⌝ }
+pub fn merge(a: &mut [u32], d: &[u32], x: usize, y: usize) -> bool
+    requires { ⌜ Asking (now a) (now d) x y ⌝ }
+    ensures { λ r. ⌜ Merged (now (a .entry)) (now (a .exit)) (now (d .entry)) x y r ⌝ }
 {
     push(a, 0, x, y);
-    drain(a)
+    drain(a, d)
 }
 
 // Writes cell n.

@@ -72,7 +72,7 @@ pin-settle-requires t c κs =
     record {
       pinning = record { n = P .n; L = P .L; held = P .held; pinned = P .pinned; made = rb; few = P .few; readable = P .readable };
       open-cell = sym (c .before .before .field .ensures .0) ∙ c .before .if1 .taken;
-      root = c .before .before .before .before .find .ensures .free
+      root = c .before .before .before .before .find .ensures .free;
     }
 
 -- src/lib.rt:297:9
@@ -92,7 +92,12 @@ pin-same-former-requires t c κs =
     let R = known-root _ _ _ K (c .before .before .before .before .find .ensures) in
     let rb = root-below _ _ _ (P .n) (P .L) (c .before .before .before .before .find .ensures) (P .held) (P .made) in
     let M : Meeting (s .args .a .now) (s .args .d .now) (c .before .before .before .before .find .result) (s .args .p) = record {
-      areas = record { size = P .held .size; few = let f = P .few in omega arith }; few = few-cell _ _ R; cell = P .held .cells _ rb; shaped = pos (c .before .before .field .ensures .0) (c .before .if1 .left); readable = P .readable } in
+      areas = record { size = P .held .size; few = let f = P .few in omega arith };
+      few = few-cell _ _ R;
+      cell = P .held .cells _ rb;
+      shaped = pos (c .before .before .field .ensures .0) (c .before .if1 .left);
+      readable = P .readable;
+    } in
     M
 
 -- src/lib.rt:300:13
@@ -130,7 +135,12 @@ pin-loop-holds t c =
     let R = known-root _ _ _ K (c .before .before .before .before .before .before .before .before .before .before .find .ensures) in
     let rb = root-below _ _ _ (P .n) (P .L) (c .before .before .before .before .before .before .before .before .before .before .find .ensures) (P .held) (P .made) in
     let M : Meeting (s .args .a .now) (s .args .d .now) (c .before .before .before .before .before .before .before .before .before .before .find .result) (s .args .p) = record {
-      areas = record { size = P .held .size; few = let f = P .few in omega arith }; few = few-cell _ _ R; cell = P .held .cells _ rb; shaped = pos (c .before .before .before .before .before .before .before .before .field .ensures .0) (c .before .before .before .before .before .before .before .if1 .left); readable = P .readable } in
+      areas = record { size = P .held .size; few = let f = P .few in omega arith };
+      few = few-cell _ _ R;
+      cell = P .held .cells _ rb;
+      shaped = pos (c .before .before .before .before .before .before .before .before .field .ensures .0) (c .before .before .before .before .before .before .before .if1 .left);
+      readable = P .readable;
+    } in
     pin-start _ _ _ _ _ _ (c .before .before .before .before .before .before .before .before .before .before .find .ensures) (c .before .before .field2 .ensures .0) (M .shaped)
     (subst (λ z. SameFormer (s .args .a .now) (s .args .d .now) (c .before .before .before .before .before .before .before .before .before .before .find .result) (s .args .p) z) (c .before .before .before .before .if2 .taken) (c .before .before .before .before .before .same-former .ensures)) M _ _ _ (c .before .before .before .before .before .before .before .before .field .ensures .0) (c .before .name-words .ensures .0)
     (ap (λ y. s .args .p + y) (c .lead-words .ensures .0)) (let y = c .lead-words .ensures .2 in let x = c .lead-words .ensures .0 in omega arith)
@@ -186,10 +196,18 @@ pin-pin-requires t c κs =
     let hk = heap-kept (s .args .a .now) (c .before .before .before .before .loop .a) (s .args .d .now) (I .kept .low) in
     let hl = ap length hk in
     let pb = part-below _ (s .args .d .now) _ _ _ (s .args .p) Q ek tx (P .n) (P .L) (P .held) (P .made) (c .before .before .before .before .loop .j) lt in
-    let pe = c .part .ensures .0 ∙ ap (λ z. getD z (firstAt z (c .before .before .before .before .before .before .before .before .before .before .before .before .before .before .before .find .result) + c .before .before .before .before .loop .j) 0) (I .kept .still) in
-    (omega arith, record {
-      n = P .n; L = P .L; held = kept-held _ _ (I .kept) (P .n) (P .L) (P .held); pinned = I .walk (P .n) (P .L) (P .held) (P .pinned) (P .made) .0;
-      made = omega arith; few = f; readable = record { type = A .part; reads = reads-as _ _ _ (A .part) hk (A .reads) } })
+    let pe = c .part .ensures .0 ∙ ap (λ z. getD z (firstAt z (c .before .before .before .before .before .before .before .before .before .before .before .before .before .before .before .find .result) + c .before .before .before .before .loop .j) 0) (I .kept .still) in (
+      omega arith,
+      record {
+        n = P .n;
+        L = P .L;
+        held = kept-held _ _ (I .kept) (P .n) (P .L) (P .held);
+        pinned = I .walk (P .n) (P .L) (P .held) (P .pinned) (P .made) .0;
+        made = omega arith;
+        few = f;
+        readable = record { type = A .part; reads = reads-as _ _ _ (A .part) hk (A .reads) };
+      },
+    )
 
 -- src/lib.rt:307:17
 pin-skip-requires : (t : ℕ) → pin-lts.Need-skip-requires (pin-calls t) (pin-at t) pin.Post pin-Inv-loop pin-μ-loop

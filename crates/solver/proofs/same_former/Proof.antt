@@ -42,8 +42,12 @@ parts-of-requires c κs = (c .before .before .before .before .before .before .pr
 returns-2 : tie.Need-returns-2
 returns-2 c =
     let t = sym (c .before .before .before .before .before .field .ensures .0) ∙ c .before .before .before .if1 .left ∙ c .before .before .before .before .type-word .ensures .0 in
-    record { tells = λ h gs R. record { holds = λ z. absurd (bool-no false z refl);
-      fails = λ z. count-differs _ _ _ _ (c .before .before .before .before .before .before .before .before .pre) h gs R t (λ q. c .if2 .taken (c .before .before .field2 .ensures .0 ∙ q ∙ ap (λ y. partsOf y (getD (heap (c .before .before .before .before .before .before .before .before .args .a .now) (c .before .before .before .before .before .before .before .before .args .d .now)) (c .before .before .before .before .before .before .before .before .args .p + 1) 0)) (sym (c .before .before .before .before .before .field .ensures .0)) ∙ sym (c .before .parts-of .ensures .0))) } }
+    record {
+      tells = λ h gs R. record {
+        holds = λ z. absurd (bool-no false z refl);
+        fails = λ z. count-differs _ _ _ _ (c .before .before .before .before .before .before .before .before .pre) h gs R t (λ q. c .if2 .taken (c .before .before .field2 .ensures .0 ∙ q ∙ ap (λ y. partsOf y (getD (heap (c .before .before .before .before .before .before .before .before .args .a .now) (c .before .before .before .before .before .before .before .before .args .d .now)) (c .before .before .before .before .before .before .before .before .args .p + 1) 0)) (sym (c .before .before .before .before .before .field .ensures .0)) ∙ sym (c .before .parts-of .ensures .0)));
+      };
+    }
 
 -- src/lib.rt:229:9
 same-names-requires : tie.Need-same-names-requires
@@ -95,9 +99,14 @@ returns-5 c =
     let s = c .before .before .before .before .before .before .before .before .before .before .before .before .before .before in
     let t = sym (c .before .before .before .before .before .before .before .before .before .before .before .field .ensures .0) ∙ c .before .before .before .before .before .before .before .before .before .if1 .left ∙ c .before .before .before .before .before .before .before .before .before .before .type-word .ensures .0 in
     let k = sym (c .before .before .before .before .before .before .before .before .field2 .ensures .0) ∙ c .before .before .before .before .before .before .if2 .left ∙ c .before .before .before .before .before .before .before .parts-of .ensures .0 ∙ ap (λ y. partsOf y (getD (heap (s .args .a .now) (s .args .d .now)) (s .args .p + 1) 0)) (c .before .before .before .before .before .before .before .before .before .before .before .field .ensures .0) in
-    record { tells = λ h gs R. record { holds = λ z. absurd (bool-no false z refl); fails = λ z. plain-unlike _ _ _ _ (s .pre) h gs R t k (λ q. c .before .before .before .before .before .if3 .left (c .before .before .before .before .before .before .before .before .before .before .before .field .ensures .0 ∙ q))
-      (sym (ap leadWords (c .before .before .before .before .before .before .before .before .before .before .before .field .ensures .0)) ∙ sym (c .before .before .before .before .lead-words .ensures .0) ∙ two-words _ (c .before .before .before .before .lead-words .ensures .1) (c .before .before .before .before .lead-words .ensures .2) (c .before .before .before .if4 .left))
-      (λ q. c .if5 .taken (c .before .before .field3 .ensures .0 ∙ q ∙ sym (c .before .type-word2 .ensures .0))) } }
+    record {
+      tells = λ h gs R. record {
+        holds = λ z. absurd (bool-no false z refl);
+        fails = λ z. plain-unlike _ _ _ _ (s .pre) h gs R t k (λ q. c .before .before .before .before .before .if3 .left (c .before .before .before .before .before .before .before .before .before .before .before .field .ensures .0 ∙ q))
+            (sym (ap leadWords (c .before .before .before .before .before .before .before .before .before .before .before .field .ensures .0)) ∙ sym (c .before .before .before .before .lead-words .ensures .0) ∙ two-words _ (c .before .before .before .before .lead-words .ensures .1) (c .before .before .before .before .lead-words .ensures .2) (c .before .before .before .if4 .left))
+            (λ q. c .if5 .taken (c .before .before .field3 .ensures .0 ∙ q ∙ sym (c .before .type-word2 .ensures .0)));
+      };
+    }
 
 -- src/lib.rt:216:1
 returns-6 : tie.Need-returns-6

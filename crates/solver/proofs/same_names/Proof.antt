@@ -55,11 +55,15 @@ type-word-requires c κs = c .before .before .before .before .before .before .pr
 -- src/lib.rt:207:13
 returns : tie.Need-returns Inv-loop μ-loop
 returns c =
-    record { tells = λ l gs R.
-      let I = c .before .before .before .before .loop .inv .1 l gs R in
-      let S = named-step _ _ _ _ l (I .0) (c .before .before .before .loop-test .taken) in
-      record { holds = λ z. absurd (bool-no false z refl);
-        fails = λ z q. ids-no _ _ _ (c .before .before .before .before .loop .j) l (c .before .before .before .loop-test .taken) (λ y. c .if1 .taken (c .before .before .held .ensures .0 ∙ ap (λ x. getD (frozen (c .before .before .before .before .before .before .before .before .args .a .now)) (x + c .before .before .before .before .loop .j) 0) (c .before .before .before .before .before .field .ensures .0) ∙ y ∙ S .here ∙ sym (c .before .type-word .ensures .0))) q } }
+    record {
+      tells = λ l gs R.
+          let I = c .before .before .before .before .loop .inv .1 l gs R in
+          let S = named-step _ _ _ _ l (I .0) (c .before .before .before .loop-test .taken) in
+          record {
+            holds = λ z. absurd (bool-no false z refl);
+            fails = λ z q. ids-no _ _ _ (c .before .before .before .before .loop .j) l (c .before .before .before .loop-test .taken) (λ y. c .if1 .taken (c .before .before .held .ensures .0 ∙ ap (λ x. getD (frozen (c .before .before .before .before .before .before .before .before .args .a .now)) (x + c .before .before .before .before .loop .j) 0) (c .before .before .before .before .before .field .ensures .0) ∙ y ∙ S .here ∙ sym (c .before .type-word .ensures .0))) q;
+          };
+    }
 
 -- src/lib.rt:209:25
 add-skip : tie.Need-add-skip Inv-loop μ-loop
@@ -89,22 +93,30 @@ loop-less c = let l = c .before .before .before .before .loop-test .taken in ome
 -- src/lib.rt:205:5
 loop-again : tie.Need-loop-again Inv-loop μ-loop
 loop-again c =
-    let lt = c .before .before .before .before .loop-test .taken in
-    (omega arith, λ l gs R.
-      let I = c .before .before .before .before .before .loop .inv .1 l gs R in
-      let S = named-step _ _ _ _ l (I .0) lt in
-      (named-on _ _ _ _ _ l S (c .skip .ensures .is (S .part) (S .reads)),
-       below-next (λ i. getD (frozen (c .before .before .before .before .before .before .before .before .before .args .a .now)) (c .before .before .before .before .before .before .field .result + i) 0 ≡ getD l i 0) (c .before .before .before .before .before .loop .j) (I .1) (sym (c .before .before .before .held .ensures .0) ∙ c .before .if1 .left ∙ c .before .before .type-word .ensures .0 ∙ sym (S .here))))
+    let lt = c .before .before .before .before .loop-test .taken in (
+      omega arith,
+      λ l gs R.
+          let I = c .before .before .before .before .before .loop .inv .1 l gs R in
+          let S = named-step _ _ _ _ l (I .0) lt in (
+            named-on _ _ _ _ _ l S (c .skip .ensures .is (S .part) (S .reads)),
+            below-next (λ i. getD (frozen (c .before .before .before .before .before .before .before .before .before .args .a .now)) (c .before .before .before .before .before .before .field .result + i) 0 ≡ getD l i 0) (c .before .before .before .before .before .loop .j) (I .1) (sym (c .before .before .before .held .ensures .0) ∙ c .before .if1 .left ∙ c .before .before .type-word .ensures .0 ∙ sym (S .here)),
+          ),
+    )
 
 -- src/lib.rt:198:1
 returns-2 : tie.Need-returns-2 Inv-loop μ-loop
 returns-2 c =
-    record { tells = λ l gs R.
-      let I = c .before .loop .inv .1 l gs R in
-      let P = c .before .before .before .before .before .pre in
-      let q = c .loop-test .left in
-      record { holds = λ z. ids-yes _ _ _ l (names-length _ _ _ l gs R (P .parts-at)) (let k = P .count in let y = P .meeting .cell .named (P .binds) in omega arith)
-          (λ i y. ap (λ x. getD (frozen (c .before .before .before .before .before .args .a .now)) (x + i) 0) (sym (c .before .before .field .ensures .0)) ∙ I .1 i (omega arith)); fails = λ z. absurd (bool-no true refl z) } }
+    record {
+      tells = λ l gs R.
+          let I = c .before .loop .inv .1 l gs R in
+          let P = c .before .before .before .before .before .pre in
+          let q = c .loop-test .left in
+          record {
+            holds = λ z. ids-yes _ _ _ l (names-length _ _ _ l gs R (P .parts-at)) (let k = P .count in let y = P .meeting .cell .named (P .binds) in omega arith)
+                (λ i y. ap (λ x. getD (frozen (c .before .before .before .before .before .args .a .now)) (x + i) 0) (sym (c .before .before .field .ensures .0)) ∙ I .1 i (omega arith));
+            fails = λ z. absurd (bool-no true refl z);
+          };
+    }
 
 pub same-names-spec : {M : Type 1} → statement M
 same-names-spec =

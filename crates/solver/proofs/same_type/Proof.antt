@@ -40,10 +40,12 @@ sub-if1 c = let e = c .skip2 .ensures .is _ (c .before .before .before .before .
 -- src/lib.rt:185:9
 returns : tie.Need-returns Inv-loop μ-loop
 returns c =
-    record { tells = λ g k R S.
-      let e = c .before .before .skip .ensures .is g R in
-      let f = c .before .skip2 .ensures .is k S in
-      record { holds = λ z. absurd (bool-no false z refl); fails = λ z q. c .if1 .taken (let y = ap (λ x. length (words x)) q in omega arith) } }
+    record {
+      tells = λ g k R S.
+          let e = c .before .before .skip .ensures .is g R in
+          let f = c .before .skip2 .ensures .is k S in
+          record { holds = λ z. absurd (bool-no false z refl); fails = λ z q. c .if1 .taken (let y = ap (λ x. length (words x)) q in omega arith) };
+    }
 
 -- src/lib.rt:188:5
 loop-holds : tie.Need-loop-holds Inv-loop μ-loop
@@ -78,12 +80,14 @@ type-word-requires-2 c κs = c .before .before .before .before .before .before .
 -- src/lib.rt:190:13
 returns-2 : tie.Need-returns-2 Inv-loop μ-loop
 returns-2 c =
-    record { tells = λ g k R S.
-      let e = c .before .before .before .before .before .before .before .skip .ensures .is g R in
-      let l = c .before .before .before .loop-test .taken in
-      let x = c .before .before .type-word .ensures .0 in
-      let y = c .before .type-word2 .ensures .0 in
-      record { holds = λ z. absurd (bool-no false z refl); fails = λ z. same-no _ _ _ g k R S (c .before .before .before .before .loop .j) (omega arith) (λ q. c .if2 .taken (x ∙ q ∙ sym y)) } }
+    record {
+      tells = λ g k R S.
+          let e = c .before .before .before .before .before .before .before .skip .ensures .is g R in
+          let l = c .before .before .before .loop-test .taken in
+          let x = c .before .before .type-word .ensures .0 in
+          let y = c .before .type-word2 .ensures .0 in
+          record { holds = λ z. absurd (bool-no false z refl); fails = λ z. same-no _ _ _ g k R S (c .before .before .before .before .loop .j) (omega arith) (λ q. c .if2 .taken (x ∙ q ∙ sym y)) };
+    }
 
 -- src/lib.rt:192:9
 add-j : tie.Need-add-j Inv-loop μ-loop
@@ -102,12 +106,14 @@ loop-again c =
 -- src/lib.rt:179:1
 returns-3 : tie.Need-returns-3 Inv-loop μ-loop
 returns-3 c =
-    record { tells = λ g k R S.
-      let e = c .before .before .before .before .skip .ensures .is g R in
-      let f = c .before .before .before .skip2 .ensures .is k S in
-      let y = c .before .before .if1 .left in
-      let l = c .loop-test .left in
-      record { holds = λ z. same-yes _ _ _ g k R S (omega arith) (λ i q. c .before .loop .inv .1 i (omega arith)); fails = λ z. absurd (bool-no true refl z) } }
+    record {
+      tells = λ g k R S.
+          let e = c .before .before .before .before .skip .ensures .is g R in
+          let f = c .before .before .before .skip2 .ensures .is k S in
+          let y = c .before .before .if1 .left in
+          let l = c .loop-test .left in
+          record { holds = λ z. same-yes _ _ _ g k R S (omega arith) (λ i q. c .before .loop .inv .1 i (omega arith)); fails = λ z. absurd (bool-no true refl z) };
+    }
 
 pub same-type-spec : {M : Type 1} → statement M
 same-type-spec =

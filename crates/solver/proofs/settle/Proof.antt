@@ -69,7 +69,7 @@ same-type-requires c κs =
     record {
       areas = record { size = P .held .size; few = let f = P .few in omega arith };
       left = P .readable;
-      right = subst (λ z. Readable (heap (c .before .before .before .before .before .before .args .a .now) (c .before .before .before .before .before .before .args .d .now)) (z - 769)) (sym e) (P .pinned .reads _ (P .made) (omega arith))
+      right = subst (λ z. Readable (heap (c .before .before .before .before .before .before .args .a .now) (c .before .before .before .before .before .before .args .d .now)) (z - 769)) (sym e) (P .pinned .reads _ (P .made) (omega arith));
     }
 
 -- src/lib.rt:277:1
