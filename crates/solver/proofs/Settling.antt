@@ -100,14 +100,14 @@ module _ (s d : List ℕ) (r p : ℕ) (S : Settling s d r p) where
   bare-c n Q i l false e v = let m = miss i (eqb-false i r e) in ap (λ z. tagAt z i) (kept₁ .still) ∙ Q .bare i l (omega arith)
 
   module _ (none : wordAt s r < 769) where
-    obeys-before : (n : ℕ) (σ : ℕ → Ty) → Obeys s₁ d n σ → Obeys s d n σ
-    obeys-before n σ O i l v g R =
+    pub settled-before : (n : ℕ) (σ : ℕ → Ty) → Obeys s₁ d n σ → Obeys s d n σ
+    settled-before n σ O i l v g R =
         let ne : i ≡ r → ⊥ = λ e. let z = ap (wordAt s) e in omega arith in
         let m = miss i ne in
         O i l (omega arith) g (subst (λ z. Reads z (wordAt s₁ i - 769) g) (sym eh) (subst (λ z. Reads (heap s d) (z - 769) g) (sym m) R))
 
-    obeys-after : (n : ℕ) (g : Ty) → Reads (heap s d) p g → (σ : ℕ → Ty) → Obeys s d n σ → σ r ≡ g → Obeys s₁ d n σ
-    obeys-after n g R σ O e i l v k Q = go (eqb i r) refl
+    pub settled-after : (n : ℕ) (g : Ty) → Reads (heap s d) p g → (σ : ℕ → Ty) → Obeys s d n σ → σ r ≡ g → Obeys s₁ d n σ
+    settled-after n g R σ O e i l v k Q = go (eqb i r) refl
       where
         go : (b : Bool) → eqb i r ≡ b → σ i ≡ k
         go true z =
@@ -117,14 +117,18 @@ module _ (s d : List ℕ) (r p : ℕ) (S : Settling s d r p) where
             let m = miss i (eqb-false i r z) in
             O i l (omega arith) k (subst (λ y. Reads (heap s d) (y - 769) k) m (subst (λ y. Reads y (wordAt s₁ i - 769) k) eh Q))
 
+    pub settled-type : (n : ℕ) → r < n → (g : Ty) → Reads (heap s d) p g → (σ : ℕ → Ty) → Obeys s₁ d n σ → σ r ≡ g
+    settled-type n l g R σ O =
+        O r l (let z = hit in omega arith) g (subst (λ z. Reads z (wordAt s₁ r - 769) g) (sym eh) (subst (λ z. Reads (heap s d) z g) (sym (ap (λ z. z - 769) hit ∙ place)) R))
+
     pub settled : Pin s s₁ d r p true
     settled = record {
       kept = kept₁;
       pinned = λ f n L h Q l. record { reads = λ i m. pinned-c n Q i m (eqb i r) refl; bare = λ i m. bare-c n Q i m (eqb i r) refl };
       goes = λ f n L h Q l g R σ F Sv. record {
-        before = obeys-before n σ;
-        type = λ O. O r l (let z = hit in omega arith) g (subst (λ z. Reads z (wordAt s₁ r - 769) g) (sym eh) (subst (λ z. Reads (heap s d) z g) (sym (ap (λ z. z - 769) hit ∙ place)) R));
-        after = obeys-after n g R σ;
+        before = settled-before n σ;
+        type = settled-type n l g R σ;
+        after = settled-after n g R σ;
       };
       stops = λ f. absurd (bool-no true refl f);
     }

@@ -14,11 +14,12 @@ use Rattle.types.proofs.Follows.{map-len}
 use Rattle.types.proofs.Transfer.{follows-holds}
 use Rattle.types.proofs.Classify.{build}
 use Rattle.types.specs.Equations.{AllP, Pairs, Solves, end, pair}
+use Rattle.types.specs.Classes.{Closed}
 use Rattle.types.specs.Finite.{fromList}
 use Rattle.types.specs.Follows.{Clash, Follows}
 use Rattle.types.specs.Former.{Former}
 use Rattle.types.specs.Types.{Ty, Tys, node}
-use Rattle.solver.specs.Store.{frozen, linkAt, tagAt, view, weight, Held, pending, Busy}
+use Rattle.solver.specs.Store.{frozen, linkAt, tagAt, view, weight, Held, Solved, pending, Busy}
 use Rattle.solver.specs.Settled.{lower, heap, Reads, Readable, wordAt, Pinned, Obeys, Fits, Kept, Pinning, Pin}
 use Rattle.solver.specs.Merging.{Same, NoSolution, Tying, Tied}
 use Rattle.solver.proofs.Words.{frozen-set}
@@ -244,3 +245,11 @@ pinning-as t u d c p q e f P = subst (λ z. Pinning z d c q) (sym e) (subst (Pin
 
 pub pin-from : (t u v d : List ℕ) (c p q : ℕ) (b : Bool) → u ≡ t → q ≡ p → Pin u v d c q b → Pin t v d c p b
 pin-from t u v d c p q b e f P = subst (λ z. Pin z v d c p b) e (subst (λ z. Pin u v d c z b) f P)
+
+pub solved-kept : (s t : List ℕ) → Kept s t → (n : ℕ) (P₀ L : Pairs ℕ) → Solved s n P₀ L → Solved t n P₀ L
+solved-kept s t K n P₀ L S = record {
+  held = kept-held s t K n L (S .held);
+  closed = subst (λ w. Closed eqb (view w n) P₀ L end) (sym (K .still)) (S .closed);
+  follows = subst (λ w. AllP (Follows (view w n) P₀) L) (sym (K .still)) (S .follows);
+  asked = S .asked;
+}

@@ -12,9 +12,9 @@ use Rattle.types.specs.Formed.{WellFormed, partCountType}
 use Rattle.types.specs.Words.{words}
 use Rattle.types.specs.Equations.{Pairs, Solves}
 use Rattle.types.specs.Finite.{fromList}
-use Rattle.types.specs.Follows.{View, shape}
-use Rattle.solver.specs.Store.{frozen, linkAt, tagAt, argAt, countAt, run, formerAt, Cell, view, Held}
-use Rattle.solver.specs.Calls.{Tells}
+use Rattle.types.specs.Follows.{View, shape, unk}
+use Rattle.solver.specs.Store.{frozen, linkAt, tagAt, argAt, countAt, run, formerAt, Cell, view, Held, Solved}
+use Rattle.solver.specs.Calls.{Tells, Making}
 
 unfoldable pub lower : List ℕ → List ℕ
 lower s = take 7168 s
@@ -154,3 +154,21 @@ pub record Settling (s d : List ℕ) (r p : ℕ) : Type 0 where
   pub pinning : Pinning s d r p
   pub open-cell : tagAt (frozen s) r ≡ 0
   pub root : linkAt s r ≡ 0
+
+-- A settled type may enter as cell n.
+pub record Entering (s d : List ℕ) (n p : ℕ) : Type 0 where
+  pub making : Making s n 0 0 3072 0
+  pub pinned : Pinned s d n
+  pub few : length d < 2 ^ 31
+  pub readable : Readable (heap s d) p
+
+-- Cell n is made, and refers to the type at p: the solutions are those before, with that type at n.
+pub record Entered (s s′ d : List ℕ) (n p : ℕ) : Type 0 where
+  pub low : lower s′ ≡ lower s
+  pub grown : (P₀ L : Pairs ℕ) → Solved s n P₀ L → Solved s′ (suc n) P₀ L
+  pub old : (i : ℕ) → i < n → view (frozen s′) (suc n) i ≡ view (frozen s) n i
+  pub new : view (frozen s′) (suc n) n ≡ unk
+  pub pinned : Pinned s d n → Pinned s′ d (suc n)
+  pub before : (σ : ℕ → Ty) → Obeys s′ d (suc n) σ → Obeys s d n σ
+  pub type : (g : Ty) → Reads (heap s d) p g → (σ : ℕ → Ty) → Obeys s′ d (suc n) σ → σ n ≡ g
+  pub after : (g : Ty) → Reads (heap s d) p g → (σ : ℕ → Ty) → Obeys s d n σ → σ n ≡ g → Obeys s′ d (suc n) σ

@@ -3,7 +3,7 @@ ghost use mathlib.Core.Path.{_≡_};
 ghost use Prim.Native.Nat.{ℕ, suc, _+_, _*_, _<_, _≤_, _^_};
 ghost use lib.ListN.{length, getD, set};
 ghost use Rattle.solver.specs.Store.{frozen, linkAt, fieldAt, tagAt, firstAt, countAt, run, partsAt, Cell};
-ghost use Rattle.solver.specs.Settled.{heap, leadWords, nameWords, partsOf, Reading, Ends, Readings, SameType, Meeting, Naming, SameNames, SameFormer, Pinning, Pin, Settling};
+ghost use Rattle.solver.specs.Settled.{heap, leadWords, nameWords, partsOf, Reading, Ends, Readings, SameType, Meeting, Naming, SameNames, SameFormer, Pinning, Pin, Settling, Entering, Entered};
 ghost use Rattle.solver.specs.Merging.{Open, Turned, Popped, Tied, Tying, Drained, Asking, Merged};
 ghost use Rattle.solver.specs.Flat.{Sound, Straight, Flattened};
 ghost use Rattle.solver.specs.Written.{leadAt, nameAt, Wrote, Writing, Typed, Leading};
@@ -456,6 +456,15 @@ pub fn new_unknown(a: &mut [u32], n: usize)
     ensures { λ _. ⌜ Made (now (a .entry)) (now (a .exit)) n 0 0 3072 0 ⌝ }
 {
     new_cell(a, n, 0, 0, 3072, 0);
+}
+
+// The settled type at p enters as cell n, which refers to its words.
+pub fn new_settled(a: &mut [u32], d: &[u32], n: usize, p: usize)
+    requires { ⌜ Entering (now a) (now d) n p ⌝ }
+    ensures { λ _. ⌜ Entered (now (a .entry)) (now (a .exit)) (now (d .entry)) n p ⌝ }
+{
+    new_unknown(a, n);
+    store(a, LINKS + n, (769 + p) as u32);
 }
 
 // A word more in the runs, at top: the caller's ghost count of cells is n.
