@@ -98,8 +98,15 @@ module _ (s d : List ℕ) (n p : ℕ) (E : Entering s d n p) (M : Made s (put s 
 
   S : Settling t d n p
   S = record {
-    pinning = record { n = suc n; L = E .making .L; held = H₁; pinned = made-pinned s d n 0 0 3072 0 sz few (E .pinned); made = omega arith; few = E .few;
-      readable = subst (λ z. Readable z p) (sym eh₁) (E .readable) };
+    pinning = record {
+      n = suc n;
+      L = E .making .L;
+      held = H₁;
+      pinned = made-pinned s d n 0 0 3072 0 sz few (E .pinned);
+      made = omega arith;
+      few = E .few;
+      readable = subst (λ z. Readable z p) (sym eh₁) (E .readable);
+    };
     open-cell = tag-new;
     root = link-new t n 0 (omega arith) (put-0 s n 0 0 3072 0 sz few);
   }

@@ -3,11 +3,11 @@ ghost use mathlib.Core.Path.{_≡_};
 ghost use Prim.Native.Nat.{ℕ, suc, _+_, _*_, _<_, _≤_, _^_};
 ghost use lib.ListN.{length, getD, set};
 ghost use Rattle.solver.specs.Store.{frozen, linkAt, fieldAt, tagAt, firstAt, countAt, run, partsAt, Cell};
-ghost use Rattle.solver.specs.Settled.{heap, leadWords, nameWords, partsOf, Reading, Ends, Readings, SameType, Meeting, Naming, SameNames, SameFormer, Pinning, Pin, Settling, Entering, Entered};
+ghost use Rattle.solver.specs.Settled.{heap, leadWords, nameWords, partsOf, Reading, Ends, Readings, SameType, Meeting, Naming, SameNames, SameFormer, Pinning, Pin, Settling, Entering, Entered, wordAt};
 ghost use Rattle.solver.specs.Merging.{Open, Turned, Popped, Tied, Tying, Drained, Asking, Merged};
 ghost use Rattle.solver.specs.Flat.{Sound, Straight, Flattened};
 ghost use Rattle.solver.specs.Written.{leadAt, nameAt, Wrote, Writing, Typed, Leading};
-ghost use Rattle.solver.specs.Answers.{Scanned, Placed, Looked};
+ghost use Rattle.solver.specs.Answers.{Scanned, Left, Placed, Looked};
 ghost use Rattle.solver.specs.Sizes.{cap, markAt, total, Size, One, Read, Round, Rounds, Cleared, Tested};
 ghost use Rattle.solver.specs.Calls.{put, Making, Made, Adding, Added, Tells, Known, Root, Runs, Two, Alike, Pushing, Pushed};
 
@@ -601,6 +601,36 @@ pub fn unresolved(a: &[u32], n: usize) -> bool
     while i < n {
         let r = find(a, i);
         if field(a, r, 0) == 0 {
+            return true;
+        }
+        i += 1;
+    }
+    false
+}
+
+// Cell r is an unknown, and refers to no type.
+fn is_open(a: &[u32], r: usize) -> bool
+    requires { ⌜ r < 768 ⌝ }
+    ensures { λ b. ⌜ Tells b ((tagAt (frozen (now (a .entry))) r ≡ 0) × (wordAt (now (a .entry)) r < 769)) ⌝ }
+{
+    if field(a, r, 0) != 0 {
+        return false;
+    }
+    if word(a, LINKS + r) < 769 {
+        return true;
+    }
+    false
+}
+
+// Is there a cell whose type the equations and the settled types leave open?
+pub fn left_open(a: &[u32], n: usize) -> bool
+    requires { ⌜ Read (now a) n ⌝ }
+    ensures { λ r. ⌜ Left (now (a .entry)) n r ⌝ }
+{
+    let mut i = 0;
+    while i < n {
+        let r = find(a, i);
+        if is_open(a, r) {
             return true;
         }
         i += 1;
