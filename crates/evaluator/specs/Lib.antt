@@ -10,3 +10,4 @@ pub mod Decode
 pub mod States
 pub mod Paragraphs
 pub mod Run
+pub mod Marked
