@@ -11,3 +11,4 @@ pub mod States
 pub mod Paragraphs
 pub mod Run
 pub mod Marked
+pub mod Claims
