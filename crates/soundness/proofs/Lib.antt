@@ -1,2 +1,5 @@
 pub mod Values
 pub mod Scopes
+pub mod Expressions
+pub mod Kept
+pub mod Run
