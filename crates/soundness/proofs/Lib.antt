@@ -3,3 +3,4 @@ pub mod Scopes
 pub mod Expressions
 pub mod Kept
 pub mod Run
+pub mod Demand
