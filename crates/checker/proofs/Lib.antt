@@ -5,3 +5,10 @@ pub mod SolvingRight
 pub mod ExpressionRoot
 pub mod OneType
 pub mod CheckRight
+pub mod FormedInstances
+pub mod FormedSignatures
+pub mod FormedScopes
+pub mod Sized
+pub mod SizedTree
+pub mod FormedItems
+pub mod FormedCheck
