@@ -45,6 +45,7 @@ instances-count r (tcons g gs) = ap suc (instances-count r gs)
 
 mutual
   unfolding instance Formed FormedType
+
   pub instance-formed : (r : Terms) (g : Ty) → Formeds Arity r → WellFormed g → Formed Arity (instance r g)
   instance-formed r (node h gs) hr f = former-formed h r (instances r gs) hr (subst (Arity h) (sym (instances-count r gs)) (f .0)) (instances-formed r gs hr (f .1))
 

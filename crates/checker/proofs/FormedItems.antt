@@ -151,8 +151,17 @@ theta-names k (naming i t s) Γ = ap (_∷_ i) (theta-names k s Γ)
 pub thetaItems-formed : (n k : ℕ) (f : Found) (Γ : Scope) → FormedFound f → FormedScope Γ → FormedItems (thetaItems n k f Γ)
 unfolding thetaItems FormedItems FormedFound
 thetaItems-formed n k noSchema Γ w h = tt
-thetaItems-formed n k (aSchema p g) Γ w h = (thetaNames-formed n k (componentsOf (instance nil g)) Γ, (refuseIf-formed (ltb 0 p) 32 n, (refuseIf-formed (someStroked k (componentsOf (instance nil g))) 37 n, typed-formed n _ (binding-formed (thetaSignature k (componentsOf (instance nil g)) Γ) (thetaSignature-formed k (componentsOf (instance nil g)) Γ h)
-    (subst Ascending (sym (theta-names k (componentsOf (instance nil g)) Γ)) (components-rising (instance nil g) (instance-formed nil g nil-formed w)))))))
+thetaItems-formed n k (aSchema p g) Γ w h = (
+  thetaNames-formed n k (componentsOf (instance nil g)) Γ,
+  (
+    refuseIf-formed (ltb 0 p) 32 n,
+    (
+      refuseIf-formed (someStroked k (componentsOf (instance nil g))) 37 n,
+      typed-formed n _ (binding-formed (thetaSignature k (componentsOf (instance nil g)) Γ) (thetaSignature-formed k (componentsOf (instance nil g)) Γ h)
+          (subst Ascending (sym (theta-names k (componentsOf (instance nil g)) Γ)) (components-rising (instance nil g) (instance-formed nil g nil-formed w)))),
+    ),
+  ),
+)
 
 pub includeRule-formed : (f : Found) (i : Include) (acts : Items) → FormedItems acts → FormedItems (includeRule f i acts)
 unfolding includeRule FormedItems
@@ -186,17 +195,19 @@ mutual
   formedExpr (integers n) Γ z h = (tt, (tt, (refl, ((refl, tt), tt))))
   formedExpr (set n es) Γ z h = (formedExprs es Γ z h, (tt, (areMembers-formed n es, (tt, (tt, (refl, (tt, tt)))))))
   formedExpr (tuple n es) Γ z h = (formedExprs es Γ (z .1) h, (tt, (tt, (two-to-six (types-count es) (z .0), typesOf-formed es))))
-  formedExpr (product n es) Γ z h =
-      (formedExprs es Γ (z .1) h,
-       (arePowers-formed n es 1, (tt, (tt, (refl, ((two-to-six (row-count n 1 (exprsLength es)) (z .0), row-formed n 1 (exprsLength es)), tt))))))
+  formedExpr (product n es) Γ z h = (
+    formedExprs es Γ (z .1) h,
+    (arePowers-formed n es 1, (tt, (tt, (refl, ((two-to-six (row-count n 1 (exprsLength es)) (z .0), row-formed n 1 (exprsLength es)), tt))))),
+  )
   formedExpr (power n e) Γ z h = (formedExpr e Γ z h, (isPower-formed n 1 e, (tt, (tt, (refl, ((refl, (tt, tt)), tt))))))
   formedExpr (application n f a) Γ z h =
       (formedExpr f Γ (z .0) h, (formedExpr a Γ (z .1) h, (tt, (tt, (refl, (((omega arith, omega arith), (tt, (tt, tt))), tt))))))
   formedExpr (selection n e i) Γ z h = (formedExpr e Γ z h, (tt, tt))
   formedExpr (theta n s k) Γ z h = thetaItems-formed n k (schemaNamed s Γ) Γ (schemaNamed-formed s Γ h) h
-  formedExpr (schemaSet n i) Γ z h =
-      (formedInclude i Γ z h,
-       (smallTypes-formed (includeNode i) (includeSignature i Γ), (tt, (tt, (refl, (binding-formed (includeSignature i Γ) (included-formed i Γ h) (included-rising i Γ), tt))))))
+  formedExpr (schemaSet n i) Γ z h = (
+    formedInclude i Γ z h,
+    (smallTypes-formed (includeNode i) (includeSignature i Γ), (tt, (tt, (refl, (binding-formed (includeSignature i Γ) (included-formed i Γ h) (included-rising i Γ), tt))))),
+  )
   formedExpr (arithmetic n o a b) Γ z h =
       (formedExpr a Γ (z .0) h, (formedExpr b Γ (z .1) h, ((tt, (refl, tt)), ((tt, (refl, tt)), (tt, (tt, (refl, tt)))))))
   formedExpr (comprehension n t e) Γ z h =
@@ -221,15 +232,23 @@ mutual
 
   pub formedLines : (ls : Lines) (Γ : Scope) (D : Dictionary) (r : Signature) → SizedLines ls → FormedScope Γ → FormedTerms r → FormedItems (linesItems ls Γ D r)
   formedLines end Γ D r z h k = tt
-  formedLines (declaration n e xs ls) Γ D r z h k =
-      ((formedExpr e Γ (z .0) h, isPower-formed n 0 e),
-       ((mergeDeclared-formed n xs (unknownAt n 0) r tt k, newNames-formed n xs D),
-        ((tt, fewNames-formed n (declare xs (unknownAt n 0) r)), formedLines ls Γ D (declare xs (unknownAt n 0) r) (z .1) h (declare-formed xs n r k))))
-  formedLines (inclusion i ls) Γ D r z h k =
-      (formedInclude i Γ (z .0) h,
-       ((mergeNames-formed (includeNode i) (includeSignature i Γ) r (included-formed i Γ h) k, newNames-formed (includeNode i) (namesOf (includeSignature i Γ)) D),
-        ((smallTypes-formed (includeNode i) (includeSignature i Γ), fewNames-formed (includeNode i) (merge (includeSignature i Γ) r)),
-         formedLines ls Γ D (merge (includeSignature i Γ) r) (z .1) h (merge-formed (includeSignature i Γ) r (included-formed i Γ h) k))))
+  formedLines (declaration n e xs ls) Γ D r z h k = (
+    (formedExpr e Γ (z .0) h, isPower-formed n 0 e),
+    (
+      (mergeDeclared-formed n xs (unknownAt n 0) r tt k, newNames-formed n xs D),
+      ((tt, fewNames-formed n (declare xs (unknownAt n 0) r)), formedLines ls Γ D (declare xs (unknownAt n 0) r) (z .1) h (declare-formed xs n r k)),
+    ),
+  )
+  formedLines (inclusion i ls) Γ D r z h k = (
+    formedInclude i Γ (z .0) h,
+    (
+      (mergeNames-formed (includeNode i) (includeSignature i Γ) r (included-formed i Γ h) k, newNames-formed (includeNode i) (namesOf (includeSignature i Γ)) D),
+      (
+        (smallTypes-formed (includeNode i) (includeSignature i Γ), fewNames-formed (includeNode i) (merge (includeSignature i Γ) r)),
+        formedLines ls Γ D (merge (includeSignature i Γ) r) (z .1) h (merge-formed (includeSignature i Γ) r (included-formed i Γ h) k),
+      ),
+    ),
+  )
 
   pub formedInclude : (i : Include) (Γ : Scope) → SizedInclude i → FormedScope Γ → FormedItems (includeItems i Γ)
   formedInclude (include n s k xs rs) Γ z h = includeRule-formed (schemaNamed s Γ) (include n s k xs rs) (actualItems xs n 1 Γ) (formedActuals xs n 1 Γ z h)
@@ -242,11 +261,16 @@ pub formedSchema : (x : Schema) (Γ : Scope) → SizedSchema x → FormedScope �
 unfolding schemaItems FormedItems SizedSchema
 formedSchema (plain t) Γ z h = formedText t Γ blank z h
 formedSchema (from i) Γ z h = (formedInclude i Γ z h, smallTypes-formed (includeNode i) (includeSignature i Γ))
-formedSchema (both n a b) Γ z h =
-    (formedSchema a Γ (z .0) h,
-     (formedSchema b Γ (z .1) h,
-      (mergeNames-formed n (schemaSignature b Γ) (schemaSignature a Γ) (schema-formed b Γ h) (schema-formed a Γ h),
-       fewNames-formed n (merge (schemaSignature b Γ) (schemaSignature a Γ)))))
+formedSchema (both n a b) Γ z h = (
+  formedSchema a Γ (z .0) h,
+  (
+    formedSchema b Γ (z .1) h,
+    (
+      mergeNames-formed n (schemaSignature b Γ) (schemaSignature a Γ) (schema-formed b Γ h) (schema-formed a Γ h),
+      fewNames-formed n (merge (schemaSignature b Γ) (schemaSignature a Γ)),
+    ),
+  ),
+)
 
 pub formedParagraph : (p : Paragraph) (D : Dictionary) → SizedParagraph p → FormedDictionary D → FormedItems (paragraphItems p D)
 unfolding paragraphItems FormedItems FormedScope SizedParagraph

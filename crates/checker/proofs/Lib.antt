@@ -12,3 +12,4 @@ pub mod Sized
 pub mod SizedTree
 pub mod FormedItems
 pub mod FormedCheck
+pub mod Marked

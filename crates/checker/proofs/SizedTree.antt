@@ -147,9 +147,11 @@ module _ (doc : List ℕ) (k : ℕ) (ih : (j : ℕ) → j < k → SizedAt doc j)
   unfolding SizedExpr linesFrom
   text-sized s h e =
       let l = text-law doc s k h e _ refl in
-      rw (l .tree) (below-pred (l .first),
-      gather-keeps SizedLines (lineAt doc) (part doc k) end tt 2 (length (part doc k) - 2)
-      (λ j c d y z. let o = l .each j c (omega arith) _ refl in ih _ (o .below) .line (o .at) y z))
+      rw (l .tree) (
+        below-pred (l .first),
+        gather-keeps SizedLines (lineAt doc) (part doc k) end tt 2 (length (part doc k) - 2)
+            (λ j c d y z. let o = l .each j c (omega arith) _ refl in ih _ (o .below) .line (o .at) y z),
+      )
 
   include-sized : (s : ℕ) → At doc s k → kindAt doc k ≡ 12 → SizedInclude (includeAt doc k)
   unfolding SizedExpr
