@@ -4,6 +4,7 @@ pub mod SettledTerms
 pub mod SolvingRight
 pub mod ExpressionRoot
 pub mod OneType
+pub mod Typings
 pub mod CheckRight
 pub mod FormedInstances
 pub mod FormedSignatures
@@ -13,3 +14,4 @@ pub mod SizedTree
 pub mod FormedItems
 pub mod FormedCheck
 pub mod Marked
+pub mod GlobalNames
