@@ -1,0 +1,17 @@
+pub mod ItemLaws
+pub mod Steps
+pub mod SettledTerms
+pub mod SolvingRight
+pub mod ExpressionRoot
+pub mod OneType
+pub mod Typings
+pub mod CheckRight
+pub mod FormedInstances
+pub mod FormedSignatures
+pub mod FormedScopes
+pub mod Sized
+pub mod SizedTree
+pub mod FormedItems
+pub mod FormedCheck
+pub mod Marked
+pub mod GlobalNames

@@ -1,0 +1,16 @@
+pub mod Strokes
+pub mod Unknowns
+pub mod Items
+pub mod Dictionary
+pub mod Signatures
+pub mod Scopes
+pub mod Conditions
+pub mod Rules
+pub mod Entries
+pub mod Solving
+pub mod ExpressionNodes
+pub mod Globals
+pub mod Check
+pub mod Areas
+pub mod Verdicts
+pub mod WellFormed

@@ -1,0 +1,13 @@
+-- Well-formed dictionaries: in every type a power has one part, a product 2 to 6, a binding one for each of its ascending identifiers.
+use Rattle.types.specs.Formed.{WellFormed}
+use Rattle.checker.specs.Dictionary.{nameEntry, schemaEntry, Dictionary, blank, _▸_}
+use Rattle.checker.specs.Check.{Answer, accepted, refused}
+
+unfoldable pub FormedDictionary : Dictionary → Type 0
+FormedDictionary blank = Unit {0}
+FormedDictionary (D ▸ nameEntry i p g) = FormedDictionary D × WellFormed g
+FormedDictionary (D ▸ schemaEntry s p g) = FormedDictionary D × WellFormed g
+
+abbrev pub FormedAnswer : Answer → Type 0
+FormedAnswer (accepted E) = FormedDictionary E
+FormedAnswer (refused f m) = Unit {0}

@@ -1,0 +1,4 @@
+pub mod HasType
+pub mod Recorded
+pub mod Fit
+pub mod Areas

@@ -1,0 +1,5 @@
+pub mod Decimal
+pub mod Lines
+pub mod Print
+pub mod Bounds
+pub mod Marked
