@@ -15,3 +15,5 @@ pub mod FormedItems
 pub mod FormedCheck
 pub mod Marked
 pub mod GlobalNames
+pub mod WrittenOnce
+pub mod SecondCase
