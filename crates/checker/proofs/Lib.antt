@@ -17,3 +17,4 @@ pub mod Marked
 pub mod GlobalNames
 pub mod WrittenOnce
 pub mod SecondCase
+pub mod NamesKept
