@@ -18,3 +18,4 @@ pub mod GlobalNames
 pub mod WrittenOnce
 pub mod SecondCase
 pub mod NamesKept
+pub mod DictionaryLaid

@@ -149,13 +149,13 @@ module _ (doc : List ℕ) (r : readOf doc ≡ Readable) where
       let kt = text-kind doc t (lt .at) in
       let cq : has (getD x 1 0) (children doc q) ≡ true = place-child doc q 1 (omega arith) m (rw eq (ap isNodeSort (cond-same (eqb 1 (length x - 1)) texts))) in
       let ct : has (getD w j 0) (children doc t) ≡ true =
-        place-child doc t j (omega arith) b (rw (kt, ne-eqb j 1 (omega arith)) (ap isNodeSort (same-sort (eqb j (length w - 1)) false (eqb j 2) lines))) in
+      place-child doc t j (omega arith) b (rw (kt, ne-eqb j 1 (omega arith)) (ap isNodeSort (same-sort (eqb j (length w - 1)) false (eqb j 2) lines))) in
       let pv : parent doc v ≡ t =
-        parent-only doc v (used-once doc d v (lv .at .some) (omega (arith, lv .below, lt .at .most, lt .below, hq .most))) t (lt .at .some) (lt .at .most)
-          (subst (λ (y : ℕ). has y (children doc t) ≡ true) (sym ev) ct) in
+      parent-only doc v (used-once doc d v (lv .at .some) (omega (arith, lv .below, lt .at .most, lt .below, hq .most))) t (lt .at .some) (lt .at .most)
+      (subst (λ (y : ℕ). has y (children doc t) ≡ true) (sym ev) ct) in
       let pt : parent doc t ≡ q =
-        parent-only doc t (used-once doc d t (lt .at .some) (omega (arith, lt .below, hq .most))) q (hq .some) (hq .most)
-          (subst (λ (y : ℕ). has y (children doc q) ≡ true) (sym et) cq) in
+      parent-only doc t (used-once doc d t (lt .at .some) (omega (arith, lt .below, hq .most))) q (hq .some) (hq .most)
+      (subst (λ (y : ℕ). has y (children doc q) ≡ true) (sym et) cq) in
       rw (ek, pv, pt, eq)
 
   one-line : (q t : ℕ) → kindAt doc q ≡ 3 → At doc paragraphs q → Lower doc q texts t → t ≡ operandAt doc q 1 → (j : ℕ) → 2 ≤ j → j < length (part doc t) → (v : ℕ)
@@ -287,7 +287,15 @@ written-once doc r before p after e D E m i h k =
         let u : 1 ≤ occurrences m (paragraphsNumbers (paragraphsIn before)) = has-once m (paragraphsNumbers (paragraphsIn before)) (subst (λ (z : ℕ). has z (paragraphsNumbers (paragraphsIn before)) ≡ true) s (a .node)) in
         let v : 1 ≤ occurrences m (paragraphNumbers p) = has-once m (paragraphNumbers p) (b .node) in
         let c : paragraphsNumbers (paragraphsOf (treeOf doc)) ≡ paragraphsNumbers (paragraphsIn before) ++ paragraphsNumbers (p ∷ after) =
-          ap paragraphsNumbers e ∙ paragraphs-append (paragraphsIn before) (p ∷ after) in
+        ap paragraphsNumbers e ∙ paragraphs-append (paragraphsIn before) (p ∷ after) in
         let f : paragraphsNumbers (p ∷ after) ≡ paragraphNumbers p ++ paragraphsNumbers after = unfold paragraphsNumbers in refl in
-        omega (arith, n, u, v, ap (occurrences m) c, occurrences-append m (paragraphsNumbers (paragraphsIn before)) (paragraphsNumbers (p ∷ after)), ap (occurrences m) f,
-          occurrences-append m (paragraphNumbers p) (paragraphsNumbers after))
+        omega (
+          arith,
+          n,
+          u,
+          v,
+          ap (occurrences m) c,
+          occurrences-append m (paragraphsNumbers (paragraphsIn before)) (paragraphsNumbers (p ∷ after)),
+          ap (occurrences m) f,
+          occurrences-append m (paragraphNumbers p) (paragraphsNumbers after),
+        )

@@ -48,14 +48,15 @@ Answers doc d w a =
     ((f m : ℕ) × (readOf doc ≡ Refused f m) × (a ≡ refused f m))
     ⊎ ((readOf doc ≡ Readable) × AnswersTree (treeOf doc) d w a)
 
--- One type and no other: two typings of a paragraph give each of its expressions the same type; so through the document.
+-- One type and no other: each paragraph has a typing, and two typings of it give each of its expressions the same type; so through the document.
 unfoldable pub OneType : List Paragraph → Dictionary → Type 0
 OneType [] D = Unit {0}
 OneType (p ∷ ps) D =
-    ((σ τ : Table) → Meets (paragraphItems p D) σ → Meets (paragraphItems p D) τ → (m : ℕ) → InParagraph m p → σ (slot m 0) ≡ τ (slot m 0))
+    ((τ : Table) × Meets (paragraphItems p D) τ)
+    × ((σ τ : Table) → Meets (paragraphItems p D) σ → Meets (paragraphItems p D) τ → (m : ℕ) → InParagraph m p → σ (slot m 0) ≡ τ (slot m 0))
     × ((τ : Table) → Meets (paragraphItems p D) τ → OneType ps (extend p D τ))
 
--- The dictionary's entries are those types: each paragraph has a typing, and with any typing of it the entries are the same.
+-- The dictionary's entries are those types: E is D with the entries that the typings of the paragraphs give, whichever typing is taken.
 unfoldable pub Records : List Paragraph → Dictionary → Dictionary → Type 0
 Records [] D E = D ≡ E
 Records (p ∷ ps) D E =
