@@ -19,3 +19,4 @@ pub mod WrittenOnce
 pub mod SecondCase
 pub mod NamesKept
 pub mod DictionaryLaid
+pub mod Recorded
