@@ -20,3 +20,4 @@ pub mod SecondCase
 pub mod NamesKept
 pub mod DictionaryLaid
 pub mod Recorded
+pub mod AcceptedTypes

@@ -265,7 +265,7 @@ fewer (document n ps) k b e =
     let g = few b in
     omega (arith, e, f, g)
 
-paragraphs-once : (doc : List ℕ) → readOf doc ≡ Readable → (k : ℕ) → occurrences k (paragraphsNumbers (paragraphsOf (treeOf doc))) ≤ 1
+pub paragraphs-once : (doc : List ℕ) → readOf doc ≡ Readable → (k : ℕ) → occurrences k (paragraphsNumbers (paragraphsOf (treeOf doc))) ≤ 1
 paragraphs-once doc r k = fewer (treeOf doc) k (between 1 k (count doc)) (each-node-once doc r k)
 
 -- No identifier is written by two paragraphs.
