@@ -21,3 +21,4 @@ pub mod NamesKept
 pub mod DictionaryLaid
 pub mod Recorded
 pub mod AcceptedTypes
+pub mod Slots
