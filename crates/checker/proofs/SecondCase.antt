@@ -75,3 +75,18 @@ new-names n (j ∷ is) D P =
     to : (i : ℕ) → Passes (newName n (nameIn j D)) P → (has i is ≡ true → isGlobal i D ≡ false) → (eqb j i ≡ true) ⊎ (has i is ≡ true) → isGlobal i D ≡ false
     to i h k (inl q) = subst (λ (x : ℕ). isGlobal x D ≡ false) (eqb-true j i q) (passed (nameIn j D) h)
     to i h k (inr q) = k q
+
+-- So, for the identifiers that the paragraph p makes global at its node m, the rule passes exactly where document 01's second case does not hold of any.
+pub second-case-rule : (doc : List ℕ) → readOf doc ≡ Readable → (before : History) (p : Paragraph) (after : List Paragraph)
+    → paragraphsOf (treeOf doc) ≡ paragraphsIn before ++ (p ∷ after)
+    → (m : ℕ) (w : Way) (is : List ℕ) → ((i : ℕ) → has i is ≡ true → Declares p (dictionaryFrom before blank) m i w)
+    → (P : Table → Type 0) → Passes (newNames m is (dictionaryFrom before blank)) P ↔ ((i : ℕ) → has i is ≡ true → TwiceGlobal before i w → ⊥)
+second-case-rule doc r before p after e m w is h P =
+    let n = new-names m is (dictionaryFrom before blank) P in (
+      λ q i s t. bool-no (isGlobal i (dictionaryFrom before blank)) (second-case doc r before p after e m i w (h i s) .1 t) (n .0 q i s),
+      λ f. n .1 (λ i s. go i s f (isGlobal i (dictionaryFrom before blank)) refl),
+    )
+  where
+    go : (i : ℕ) → has i is ≡ true → ((i : ℕ) → has i is ≡ true → TwiceGlobal before i w → ⊥) → (b : Bool) → isGlobal i (dictionaryFrom before blank) ≡ b → b ≡ false
+    go i s f true q = absurd (f i s (second-case doc r before p after e m i w (h i s) .0 q))
+    go i s f false q = refl
