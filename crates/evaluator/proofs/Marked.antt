@@ -23,9 +23,9 @@ use Rattle.evaluator.specs.Scope.{pick, lookup, refer}
 use Rattle.evaluator.specs.Operations.{asInteger, asSet, asTuple, addIf, add, findPair, keepInteger, calculate, connect, allPass, countIf, sameCount}
 use Rattle.evaluator.specs.Assignments.{domains, next, each, assign, flowOf, truthOf, gathered}
 use Rattle.evaluator.specs.Rules.{amongMembers, stopInclude, evalExpr, evalExprs, evalMembers, evalPred, overText, evalLines, testExpr, testExprs}
-use Rattle.evaluator.specs.Names.{namesAs, lineNames, paragraphNames, namesOf, documentNames}
-use Rattle.evaluator.specs.Decode.{valuesFrom, valueByShape, valueAt, valueOf}
-use Rattle.evaluator.specs.States.{sizeTable, sizesIn, isSize, givenNumber, valueNumber, isPaired, entriesOf, stateIf, stateOf, entryFrom, entryValue, valueIn}
+use Rattle.states.specs.Names.{namesAs, lineNames, paragraphNames, namesOf, documentNames}
+use Rattle.states.specs.Decode.{valuesFrom, valueByShape, valueAt, valueOf}
+use Rattle.states.specs.States.{sizeTable, sizesIn, isSize, givenNumber, valueNumber, isPaired, entriesOf, stateIf, stateOf, entryFrom, entryValue, valueIn}
 use Rattle.evaluator.specs.Paragraphs.{then, unless, bindGivens, testNames, testLines, runParagraph, runParagraphs, runDocument}
 use Rattle.evaluator.specs.Run.{ending, runState, runWork, runRead, runOf}
 use Rattle.evaluator.specs.Marked.{lastNode, lastWords, marked}

@@ -49,12 +49,16 @@ pub fn roles(document: &Document) -> Vec<Role> {
     roles
 }
 
-/// 41 at 0 for the count and the pairs, then at the first ill-formed Given
-/// entry, then at the first other one.
+/// "A state has the document's layout", and with it the document's limit of
+/// words: a longer state is 41 at 0, not at an entry.
+const STATE_WORDS: usize = 16_384;
+
+/// 41 at 0 for the length, the count and the pairs, then at the first
+/// ill-formed Given entry, then at the first other one.
 pub fn read_state(document: &Document, words: &[u32]) -> Result<State, Finding> {
     let mut state = State { roles: roles(document), ..State::default() };
     let parts = match layout::parts(words) {
-        Some(parts) if parts.len() == state.roles.len() => parts,
+        Some(parts) if words.len() <= STATE_WORDS && parts.len() == state.roles.len() => parts,
         _ => return refused(41, 0),
     };
     for (i, part) in parts.iter().enumerate() {

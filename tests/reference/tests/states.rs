@@ -56,7 +56,10 @@ fn r21_values() {
     };
     assert_eq!(with(&set_of(31)), (0, 0));
     assert_eq!(with(&set_of(32)), (41, 1));
-    assert_eq!(with(&vec![1; 20_000]), (41, 1));
+    // the longest state, and one word more, which breaks the layout
+    assert_eq!(with(&vec![1; 16_384 - 6]), (41, 1));
+    assert_eq!(with(&vec![1; 16_384 - 5]), (41, 0));
+    assert_eq!(with(&vec![1; 20_000]), (41, 0));
 }
 
 #[test]

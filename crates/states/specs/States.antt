@@ -7,13 +7,15 @@ use lib.ListN.{length, getD}
 use Rattle.layout.specs.declared.Form.{Form}
 use Rattle.layout.specs.Layout.{count, laidOut, part}
 use Rattle.syntax.specs.Findings.{scan, andThen}
+use Rattle.syntax.specs.Reading.{readOf}
+use Rattle.syntax.specs.Decode.{treeOf}
 use Rattle.syntax.specs.declared.Reading.{Reading}
 use Rattle.syntax.specs.declared.Reading.the-variants.{Readable, Refused}
 use Rattle.values.specs.Value.{Value}
 use Rattle.values.specs.Form.{isValue}
 use Rattle.values.specs.Givens.{elements, sizeOf}
-use Rattle.evaluator.specs.Names.{Name}
-use Rattle.evaluator.specs.Decode.{valueOf}
+use Rattle.states.specs.Names.{Name, documentNames}
+use Rattle.states.specs.Decode.{valueOf}
 
 -- the document's layout, with a count from 0
 abbrev pub stateForm : Form
@@ -74,3 +76,7 @@ entryValue sizes n w = cond (n .isGiven) (elements (n .identifier) (getD w 0 0))
 
 unfoldable pub valueIn : List Name → List ℕ → State
 valueIn ns state i = let k = entryFrom ns i 1 in entryValue (sizesIn ns state) (nameAt ns k) (part state k)
+
+-- The finding of a document with a state: reading's first, then 41 by the names of the document.
+unfoldable pub stateCheckOf : List ℕ → List ℕ → Reading
+stateCheckOf doc state = andThen (readOf doc) (stateOf (documentNames (treeOf doc)) state)
