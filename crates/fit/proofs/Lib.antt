@@ -1,0 +1,2 @@
+pub mod TypeLengths
+pub mod OfType
