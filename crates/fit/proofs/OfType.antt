@@ -1,7 +1,8 @@
 -- 42's test on type words says what document 01 says of values and types.
 use mathlib.Core.Path.{_≡_, refl, ap, sym, subst, _∙_}
 use mathlib.Core.Bool.{Bool, true, false, _&&_, false≢true}
-use mathlib.Core.List.{List, [], _∷_, _++_, append-assoc}
+use mathlib.Core.List.{List, [], _∷_, _++_, append-assoc, append-nil}
+use mathlib.Core.Logic.{_↔_}
 use Prim.Native.Nat.{ℕ, suc, _+_, _≤_}
 use native.Mathlib.Omega.{arith}
 use lib.Dec.{eqb}
@@ -83,3 +84,37 @@ mutual
       let t : areOf (cons v vs) true (words g ++ (partWords [] gs ++ r)) ≡ true = subst (λ (ws : List ℕ). areOf (cons v vs) true ws ≡ true) again e in
       let rest : areOf vs true (partWords [] gs ++ r) ≡ true = subst (λ (ws : List ℕ). areOf vs true ws ≡ true) (step-over g (w .0) (omega arith) (partWords [] gs ++ r)) (and-right (isOf v (words g ++ (partWords [] gs ++ r))) _ t) in
       aPart (of-has v g (w .0) (omega arith) (partWords [] gs ++ r) (and-left (isOf v (words g ++ (partWords [] gs ++ r))) _ t)) (parts-have vs gs (omega arith) (w .1) (omega arith) r rest)
+
+and-both : (a b : Bool) → a ≡ true → b ≡ true → (a && b) ≡ true
+and-both true b e f = f
+and-both false b e f = e
+
+parts-count : {vs : Values} {gs : Tys} → PartsHave vs gs → partCountType gs ≡ count vs
+unfolding count
+parts-count noPart = refl
+parts-count (aPart h hs) = ap suc (parts-count hs)
+
+mutual
+  unfolding isOf words tag second identifiers FormedType size Arity typeStep count
+
+  pub has-of : {v : Value} {g : Ty} → Has v g → WellFormed g → size g ≤ 32 → (r : List ℕ) → isOf v (words g ++ r) ≡ true
+  has-of (isInteger z) w l r = refl
+  has-of (isElement g k) w l r = eq-eqb g g refl
+  has-of (isSet {vs} {t} h) w l r = subst (λ (ws : List ℕ). areOf vs false ws ≡ true) (sym (append-assoc (words t) [] r)) (have-members h (w .1 .0) (omega arith) r)
+  has-of (isTuple {vs} {ts} h) w l r = and-both (eqb (partCountType ts) (count vs)) _ (eq-eqb (partCountType ts) (count vs) (parts-count h)) (have-parts h (w .1) (omega arith) r)
+
+  have-members : {vs : Values} {g : Ty} → MembersHave vs g → WellFormed g → size g ≤ 32 → (r : List ℕ) → areOf vs false (words g ++ r) ≡ true
+  have-members noMember w l r = refl
+  have-members (aMember h hs) w l r = and-both _ _ (has-of h w l r) (have-members hs w l r)
+
+  have-parts : {vs : Values} {gs : Tys} → PartsHave vs gs → FormedTypes Arity gs → sizes gs ≤ 32 → (r : List ℕ) → areOf vs true (partWords [] gs ++ r) ≡ true
+  have-parts noPart w l r = refl
+  have-parts (aPart {v} {vs} {t} {ts} h hs) w l r =
+      let s = partWords [] ts ++ r in
+      let rest : areOf vs true (drop (typeStep true (words t ++ s)) (words t ++ s)) ≡ true = subst (λ (ws : List ℕ). areOf vs true ws ≡ true) (sym (step-over t (w .0) (omega arith) s)) (have-parts hs (w .1) (omega arith) r) in
+      subst (λ (ws : List ℕ). areOf (cons v vs) true ws ≡ true) (sym (append-assoc (words t) (partWords [] ts) r)) (and-both _ _ (has-of h (w .0) (omega arith) s) rest)
+
+-- 42's test is document 01's sentence, for every type that a dictionary records for a state's name
+pub of-type : (v : Value) (g : Ty) → WellFormed g → size g ≤ 32 → (isOf v (words g) ≡ true) ↔ Has v g
+of-type v g w l =
+    (λ e. of-has v g w l [] (subst (λ (ws : List ℕ). isOf v ws ≡ true) (sym (append-nil (words g))) e), λ h. subst (λ (ws : List ℕ). isOf v ws ≡ true) (append-nil (words g)) (has-of h w l []))
