@@ -16,6 +16,7 @@ use Rattle.checker.specs.Check.{accepted, paragraphsOf, checkOf}
 use Rattle.checker.specs.Verdicts.{Accepts}
 use Rattle.checker.proofs.CheckRight.{accepted-says}
 use Rattle.fit.specs.Recorded.{Fits}
+use Rattle.fit.specs.Fit.{fitOf}
 use Rattle.evaluator.specs.Outcomes.{Event, Outcome}
 use Rattle.evaluator.specs.Names.{namesOf, documentNames}
 use Rattle.evaluator.specs.States.{State, stateOf, valueIn}
@@ -28,6 +29,7 @@ use Rattle.evaluator.proofs.StatePlace.{state-ill}
 use Rattle.soundness.specs.Demand.{TypeAt, OfItsType, Sound}
 use Rattle.soundness.proofs.Values.{Typed}
 use Rattle.soundness.proofs.Run.{paragraphs-sound}
+use Rattle.soundness.proofs.Fitted.{fit-fits}
 
 number-of : (a b c d : ℕ) → Refused a b ≡ Refused c d → a ≡ c
 number-of a b c d e = cc
@@ -72,3 +74,7 @@ unfolding runOf runRead
 demand-three doc state d w work E e f =
     let a = accepted-says doc d w E e in
     rw (a .read) (work-sound doc state d E (a .passes) f (leb 16384 work))
+
+-- The same from the fit call: what it accepts, a run of the document with that state, in a work area of any length, never finds misfitting.
+pub fit-sound : (doc state : List ℕ) (d w work : ℕ) (E : Dictionary) → fitOf doc state d w ≡ accepted E → Sound doc (runOf doc state work)
+fit-sound doc state d w work E e = let f = fit-fits doc state d w E e in demand-three doc state d w work E (f .checked) (f .fits)
