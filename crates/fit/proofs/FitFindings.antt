@@ -1,6 +1,7 @@
 -- The fit call finds the check's refusal, then 41, then 42 at the first entry whose value is not of its recorded type; otherwise it accepts.
 use mathlib.Core.Path.{_≡_, refl, sym, ap, subst, _∙_}
-use mathlib.Core.Bool.{Bool, true, false, cond}
+use mathlib.Core.Bool.{Bool, true, false, cond, false≢true}
+use mathlib.Core.Logic.{_↔_}
 use mathlib.Core.List.{List}
 use Prim.Native.Nat.{ℕ, _+_, _≤_, _<_}
 use native.Mathlib.Omega.{arith}
@@ -12,7 +13,10 @@ use Rattle.syntax.specs.declared.Reading.{Reading}
 use Rattle.syntax.specs.declared.Reading.the-variants.{Readable, Refused}
 use Rattle.syntax.proofs.Scan.{scan-none}
 use Rattle.values.specs.Typed.{isOf}
-use Rattle.checker.specs.Dictionary.{Dictionary, nameIn}
+use Rattle.types.specs.Types.{Ty, size}
+use Rattle.types.specs.Formed.{WellFormed as Formed}
+use Rattle.types.specs.Words.{words}
+use Rattle.checker.specs.Dictionary.{Dictionary, ofGlobal, nameIn}
 use Rattle.checker.specs.Check.{Answer, accepted, refused, checkOf}
 use Rattle.evaluator.specs.Names.{Name, documentNames}
 use Rattle.evaluator.specs.Decode.{valueOf}
@@ -20,7 +24,9 @@ use Rattle.evaluator.specs.States.{nameAt, sizesIn, stateOf}
 use Rattle.evaluator.specs.Claims.{WellFormed}
 use Rattle.evaluator.proofs.StatePlace.{scan-found, state-ill, state-well}
 use Rattle.fit.specs.Fit.{recordedWords, typeNumber, fitTypes, fitState, fitChecked, fitOf}
+use Rattle.fit.specs.HasType.{Has}
 use Rattle.fit.specs.Claims.{Finds, unchecked, illFormed, mistyped, fits}
+use Rattle.fit.proofs.OfType.{of-type}
 
 one-number : (b c : Bool) (x : ℕ) → cond b 0 (cond c 0 42) ≡ x → (x ≡ 0 → ⊥) → x ≡ 42
 one-number true c x e z = absurd (z (sym e))
@@ -30,6 +36,20 @@ one-number false false x e z = sym e
 type-number : (E : Dictionary) (ns : List Name) (state : List ℕ) (k x : ℕ) → typeNumber E ns state k ≡ x → (x ≡ 0 → ⊥) → x ≡ 42
 unfolding typeNumber
 type-number E ns state k x e z = one-number (nameAt ns k .isGiven) (isOf (valueOf (sizesIn ns state) (part state k)) (recordedWords (nameIn (nameAt ns k .identifier) E))) x e z
+
+passes-zero : (c : Bool) → (_≡_ {A = ℕ} (cond c 0 42) 0) ↔ (c ≡ true)
+passes-zero true = (λ e. refl, λ e. refl)
+passes-zero false = (λ e. absurd (omega arith), λ e. absurd (false≢true e))
+
+-- 42 is not at an entry exactly where its value is of the type that the dictionary records for its name
+pub number-right : (E : Dictionary) (ns : List Name) (state : List ℕ) (k p : ℕ) (g : Ty) → nameAt ns k .isGiven ≡ false → nameIn (nameAt ns k .identifier) E ≡ ofGlobal p g → Formed g → size g ≤ 32 →
+    (typeNumber E ns state k ≡ 0) ↔ Has (valueOf (sizesIn ns state) (part state k)) g
+unfolding typeNumber recordedWords
+number-right E ns state k p g b e w l =
+    let v = valueOf (sizesIn ns state) (part state k) in
+    let z = passes-zero (isOf v (words g)) in
+    let h = of-type v g w l in
+    rw (b, e) (λ x. h .0 (z .0 x), λ x. z .1 (h .1 x))
 
 module _ (doc state : List ℕ) (d w : ℕ) (ns : List Name) where
   types-finds : (E : Dictionary) → checkOf doc d w ≡ accepted E → WellFormed ns state → (r : Reading) → scan (typeNumber E ns state) 1 (length ns) ≡ r → Finds doc state d w ns (fitTypes r E)
