@@ -146,6 +146,7 @@ assign-fine (domain i vs ds) k scope s h = each-fine i vs _ scope s (λ scope′
 
 mutual
   unfolding evalExpr sameCount
+
   pub expr-fine : (a : Expr) (scope : Scope) → Fine (evalExpr a scope)
   expr-fine (reference n i xs) scope = bind-fine (exprs-fine xs scope) (λ vs. refer-fine n xs _)
   expr-fine (number n k) scope = keep-fine n _

@@ -29,7 +29,6 @@ use Rattle.evaluator.specs.States.{sizeTable, sizesIn, isSize, givenNumb
 use Rattle.evaluator.specs.Paragraphs.{then, unless, bindGivens, testNames, testLines, runParagraph, runParagraphs, runDocument}
 use Rattle.evaluator.specs.Run.{ending, runState, runWork, runRead, runOf}
 use Rattle.evaluator.specs.Marked.{lastNode, lastWords, marked}
-
 use Rattle.evaluator.specs.Marked.{Hold, none, more}
 
 pub marked-hold : Hold marked

@@ -157,7 +157,7 @@ module _ (R : ℕ → Ty → Type 0) (τ : Table) where
         bind-good (integer-typed n (rw (h .1 .1 .0) at ha)) λ x _. bind-good (integer-typed n (rw (h .1 .1 .1 .0) at hb)) λ y _. whole-typed n _ (k n (inl refl)) (h .1 .1 .1 .1 .1)
     expr-typed (comprehension n t e) names k h o =
         bind-good (text-typed t blank (τ (slot (exprNode e) 0)) _ names nil (λ m q. k m (inr (inl q))) (h .0) o
-          (λ names′ s o′ a. bind-good (expr-typed e names′ (λ m q. k m (inr (inr q))) (h .1 .0) o′) λ v hv. bind-good (add-typed n hv a) λ s′ a′. pure-good (goes a′)) noMember)
+        (λ names′ s o′ a. bind-good (expr-typed e names′ (λ m q. k m (inr (inr q))) (h .1 .0) o′) λ v hv. bind-good (add-typed n hv a) λ s′ a′. pure-good (goes a′)) noMember)
         λ f fo. keep-typed n (k n (inl refl)) (rw (h .1 .1 .1) (isSet (gathered-have fo)))
 
     pub exprs-typed : (xs : Exprs) {Γ : Scope} (names : Run.Scope) → ((m : ℕ) → InExprs m xs → R m (τ (slot m 0))) → Meets (exprsItems xs Γ) τ → ScopeFits τ Γ names → Typed R (λ vs. PartsHave vs (unders τ (typesOf xs))) (evalExprs xs names)

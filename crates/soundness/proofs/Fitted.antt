@@ -91,9 +91,9 @@ module _ (E : Dictionary) where
       let τ = acc .1 .0 in
       let S = linesSignature ls (globals D) noNames in
       every-append
-        (line-names τ ls (globals D) D noNames (acc .1 .1 .0)
-          (λ i x e. kept ps _ d E (acc .1 .3) i 0 (under τ x) (name-added S τ D i ∙ ap (λ (z : Option Term). overRecorded τ z (nameIn i D)) e)))
-        (names-recorded ps _ d (acc .1 .3))
+      (line-names τ ls (globals D) D noNames (acc .1 .1 .0)
+      (λ i x e. kept ps _ d E (acc .1 .3) i 0 (under τ x) (name-added S τ D i ∙ ap (λ (z : Option Term). overRecorded τ z (nameIn i D)) e)))
+      (names-recorded ps _ d (acc .1 .3))
   names-recorded (schema n s xs x ∷ ps) D d acc = names-recorded ps _ d (acc .1 .3)
   names-recorded (abbreviation n i xs a ∷ ps) D d acc = names-recorded ps _ d (acc .1 .3)
   names-recorded (constraint n p ∷ ps) D d acc = names-recorded ps _ d (acc .1 .3)

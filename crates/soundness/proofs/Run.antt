@@ -99,10 +99,10 @@ module _ (R : ℕ → Ty → Type 0) (E : Dictionary) (state : State) where
     axiom-typed (declaration n e xs ls) Γ D r names own c k h j o q =
         let both = every-split (namesAs false xs) c in
         bind-good
-          (names-typed (unknownAt n 0) n _ xs Γ r own (both .0)
-            (λ v hv. test-typed R τ e _ names (λ m z. k m (inl z)) (h .0 .0) (h .0 .1 .1) hv o (expr-typed R τ e names (λ m z. k m (inl z)) (h .0 .0) o))
-            (h .1 .0 .0) (λ i w z. j i w (lines-stay i w ls Γ (declare xs (unknownAt n 0) r) z)) q)
-          λ s so. then-typed _ so (λ own′ q′. axiom-typed ls Γ D (declare xs (unknownAt n 0) r) names own′ (both .1) (λ m z. k m (inr z)) (h .1 .1 .1) j o q′)
+        (names-typed (unknownAt n 0) n _ xs Γ r own (both .0)
+        (λ v hv. test-typed R τ e _ names (λ m z. k m (inl z)) (h .0 .0) (h .0 .1 .1) hv o (expr-typed R τ e names (λ m z. k m (inl z)) (h .0 .0) o))
+        (h .1 .0 .0) (λ i w z. j i w (lines-stay i w ls Γ (declare xs (unknownAt n 0) r) z)) q)
+        λ s so. then-typed _ so (λ own′ q′. axiom-typed ls Γ D (declare xs (unknownAt n 0) r) names own′ (both .1) (λ m z. k m (inr z)) (h .1 .1 .1) j o q′)
     axiom-typed (inclusion i ls) Γ D r names own c k h j o q = include-typed R τ i
 
   -- One paragraph after the other: the names afterwards fit the dictionary afterwards.
@@ -122,11 +122,11 @@ module _ (R : ℕ → Ty → Type 0) (E : Dictionary) (state : State) where
       let ty : (j : ℕ) → InParagraph j (axiomatic n (text m p ls)) → R j (τ (slot j 0)) = λ j q. k j _ (inl (q, λ ρ s. one-type (axiomatic n (text m p ls)) D (acc .0) ρ τ s h j q)) in
       let S = linesSignature ls (globals D) noNames in
       bind-good
-        (bind-good
-          (axiom-typed τ ls (globals D) D noNames names names (both .0) (λ j q. ty j (inl q)) (h .0)
-            (λ i x e. kept ps _ d E (acc .1 .3) i 0 (under τ x) (name-added S τ D i ∙ ap (λ (z : Option Term). overRecorded τ z (nameIn i D)) e)) (scope-change σ τ D names o) (scope-change σ τ D names o))
-          λ s so. then-typed _ so λ own o′. bind-good (pred-typed R τ p own (λ j q. ty j (inr q)) (h .1) o′) λ c _. pure-good (unless-fits n c (scope-settled τ S D own o′)))
-        λ s so. then-any _ so λ names′ o′. paragraphs-typed ps _ d τ names′ (acc .1 .3) (both .1) (λ j t y. k j t (inr (τ, h, y))) o′
+      (bind-good
+      (axiom-typed τ ls (globals D) D noNames names names (both .0) (λ j q. ty j (inl q)) (h .0)
+      (λ i x e. kept ps _ d E (acc .1 .3) i 0 (under τ x) (name-added S τ D i ∙ ap (λ (z : Option Term). overRecorded τ z (nameIn i D)) e)) (scope-change σ τ D names o) (scope-change σ τ D names o))
+      λ s so. then-typed _ so λ own o′. bind-good (pred-typed R τ p own (λ j q. ty j (inr q)) (h .1) o′) λ c _. pure-good (unless-fits n c (scope-settled τ S D own o′)))
+      λ s so. then-any _ so λ names′ o′. paragraphs-typed ps _ d τ names′ (acc .1 .3) (both .1) (λ j t y. k j t (inr (τ, h, y))) o′
   paragraphs-typed (schema n s xs x ∷ ps) D d σ names acc f k o =
       let τ = acc .1 .0 in
       bind-good (pure-good {P = StepFits τ (globals (extend (schema n s xs x) D τ))} (goesOn (schema-fits τ D names (scope-change σ τ D names o)))) λ z so.
@@ -135,19 +135,19 @@ module _ (R : ℕ → Ty → Type 0) (E : Dictionary) (state : State) where
       let τ = acc .1 .0 in
       let h = acc .1 .1 in
       bind-good
-        (bind-good (expr-typed R τ e names (λ j q. k j _ (inl (q, λ ρ s. one-type (abbreviation n i [] e) D (acc .0) ρ τ s h j q))) (h .0) (scope-change σ τ D names o))
-          λ v hv. pure-good (goesOn (scope-record τ D names i 0 _ _ (scope-change σ τ D names o) (asGlobal hv))))
-        λ s so. then-any _ so λ names′ o′. paragraphs-typed ps _ d τ names′ (acc .1 .3) f (λ j t y. k j t (inr (τ, h, y))) o′
+      (bind-good (expr-typed R τ e names (λ j q. k j _ (inl (q, λ ρ s. one-type (abbreviation n i [] e) D (acc .0) ρ τ s h j q))) (h .0) (scope-change σ τ D names o))
+      λ v hv. pure-good (goesOn (scope-record τ D names i 0 _ _ (scope-change σ τ D names o) (asGlobal hv))))
+      λ s so. then-any _ so λ names′ o′. paragraphs-typed ps _ d τ names′ (acc .1 .3) f (λ j t y. k j t (inr (τ, h, y))) o′
   paragraphs-typed (abbreviation n i (x ∷ xs) e ∷ ps) D d σ names acc f k o =
       let τ = acc .1 .0 in
       bind-good (pure-good (goesOn (scope-record τ D names i (length (x ∷ xs)) _ _ (scope-change σ τ D names o) asGeneric)))
-        λ s so. then-any _ so λ names′ o′. paragraphs-typed ps _ d τ names′ (acc .1 .3) f (λ j t y. k j t (inr (τ, acc .1 .1, y))) o′
+      λ s so. then-any _ so λ names′ o′. paragraphs-typed ps _ d τ names′ (acc .1 .3) f (λ j t y. k j t (inr (τ, acc .1 .1, y))) o′
   paragraphs-typed (constraint n p ∷ ps) D d σ names acc f k o =
       let τ = acc .1 .0 in
       let h = acc .1 .1 in
       bind-good
-        (bind-good (pred-typed R τ p names (λ j q. k j _ (inl (q, λ ρ s. one-type (constraint n p) D (acc .0) ρ τ s h j q))) h (scope-change σ τ D names o)) λ c _. pure-good (unless-fits n c (scope-change σ τ D names o)))
-        λ s so. then-any _ so λ names′ o′. paragraphs-typed ps _ d τ names′ (acc .1 .3) f (λ j t y. k j t (inr (τ, h, y))) o′
+      (bind-good (pred-typed R τ p names (λ j q. k j _ (inl (q, λ ρ s. one-type (constraint n p) D (acc .0) ρ τ s h j q))) h (scope-change σ τ D names o)) λ c _. pure-good (unless-fits n c (scope-change σ τ D names o)))
+      λ s so. then-any _ so λ names′ o′. paragraphs-typed ps _ d τ names′ (acc .1 .3) f (λ j t y. k j t (inr (τ, h, y))) o′
 
 -- a document whose paragraphs are accepted with E, a state that fits E
 pub paragraphs-sound : (ps : List Paragraph) (d : ℕ) (E : Dictionary) (state : State) (τ : Table) → Accepts ps blank d E → Fits E (namesOf ps) state → Typed (TypeAt ps blank) (λ s. Unit {0}) (runParagraphs ps state Run.empty)

@@ -168,10 +168,12 @@ more-fits τ t {v} x m nothing false f h k = k
 
 pub scope-more : (τ : Table) (Γ : Scope) (r : Signature) (i : ℕ) (t : Term) {v : Value} (names : Run.Scope) → ScopeFits τ (enter r Γ) names → Fits τ i t r → Has v (under τ t) → ScopeFits τ (enter (insertName i t r) Γ) (bind i (valued v) names)
 unfolding lookup
-scope-more τ Γ r i t {v} names o f h = record { look = λ j.
-    subst (λ (m : Named). MeaningFits τ m (pick (eqb j i) (valued v) (lookup j names))) (sym (name-entered (insertName i t r) Γ j ∙ ap (λ (z : Option Term). over z (nameAt j Γ)) (insert-in j i t r)))
+scope-more τ Γ r i t {v} names o f h = record {
+  look = λ j.
+      subst (λ (m : Named). MeaningFits τ m (pick (eqb j i) (valued v) (lookup j names))) (sym (name-entered (insertName i t r) Γ j ∙ ap (λ (z : Option Term). over z (nameAt j Γ)) (insert-in j i t r)))
       (more-fits τ t (lookup j names) (nameAt j Γ) (termIn j r) (eqb j i) (λ q w e. f w (ap (λ (z : ℕ). termIn z r) (sym (eqb-true j i q)) ∙ e)) h
-        (subst (λ (m : Named). MeaningFits τ m (lookup j names)) (name-entered r Γ j) (o .look j))) }
+      (subst (λ (m : Named). MeaningFits τ m (lookup j names)) (name-entered r Γ j) (o .look j)));
+}
 
 -- Recorded names do not depend on the table.
 unfoldable Recorded : Named → Type 0
@@ -208,9 +210,11 @@ settled τ m nothing h = h
 -- The names of an Axiom, settled in the dictionary.
 pub scope-settled : (τ : Table) (s : Signature) (D : Dictionary) (names : Run.Scope) → ScopeFits τ (enter s (globals D)) names → ScopeFits τ (globals (addSignature s τ D)) names
 unfolding nameAt
-scope-settled τ s D names o = record { look = λ i.
-    subst (λ (m : Named). MeaningFits τ m (lookup i names)) (sym (name-added s τ D i))
-      (settled τ (nameIn i D) (termIn i s) (subst (λ (m : Named). MeaningFits τ m (lookup i names)) (name-entered s (globals D) i) (o .look i))) }
+scope-settled τ s D names o = record {
+  look = λ i.
+      subst (λ (m : Named). MeaningFits τ m (lookup i names)) (sym (name-added s τ D i))
+      (settled τ (nameIn i D) (termIn i s) (subst (λ (m : Named). MeaningFits τ m (lookup i names)) (name-entered s (globals D) i) (o .look i)));
+}
 
 either-fits : (τ : Table) (b : Bool) {a m : Named} {x y : Meaning} → MeaningFits τ a x → MeaningFits τ m y → MeaningFits τ (cond b a m) (pick b x y)
 unfolding pick
