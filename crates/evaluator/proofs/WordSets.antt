@@ -22,7 +22,7 @@ use Rattle.evaluator.specs.Members as Members
 use Rattle.evaluator.proofs.ValueSpans.{span-value, first-value, rest-value}
 
 -- a set's members are short where the set is
-first-short : (v : Value) (vs : Values) (n : ℕ) → length (encodes (cons v vs)) ≤ n → (length (encode v) ≤ n) × (length (encodes vs) ≤ n)
+pub first-short : (v : Value) (vs : Values) (n : ℕ) → length (encodes (cons v vs)) ≤ n → (length (encode v) ≤ n) × (length (encodes vs) ≤ n)
 unfolding encode
 first-short v vs n h = let a = length-append (encode v) (encodes vs) in (omega arith, omega arith)
 
