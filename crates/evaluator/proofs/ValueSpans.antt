@@ -49,6 +49,7 @@ mutual
 
 mutual
   unfolding heads encode
+
   heads-few : (v : Value) → 2 * heads v ≤ length (encode v)
   heads-few (int z) = omega arith
   heads-few (element g k) = omega arith

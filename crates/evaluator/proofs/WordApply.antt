@@ -41,9 +41,9 @@ module _ (n : ℕ) (f : List ℕ) where
   second-found at k x y r hx hy e d =
       rw (span-value x (encode y ++ r) hx, rest-value x (encode y ++ r) hx, span-value y r hy)
       (found (
-        let s : drop (at + 2 + length (encode x)) f ≡ encode y ++ r =
-          ap (λ (j : ℕ). drop (j + length (encode x)) f) (sym e) ∙ sym (drop-drop (length (encode x)) k f) ∙ ap (λ (l : List ℕ). drop (length (encode x)) l) d ∙ drop-at (encode x) (encode y ++ r) (length (encode x)) refl in
-        ap (λ (l : List ℕ). take (length (encode y)) l) s ∙ take-at (encode y) r (length (encode y)) refl))
+      let s : drop (at + 2 + length (encode x)) f ≡ encode y ++ r =
+      ap (λ (j : ℕ). drop (j + length (encode x)) f) (sym e) ∙ sym (drop-drop (length (encode x)) k f) ∙ ap (λ (l : List ℕ). drop (length (encode x)) l) d ∙ drop-at (encode x) (encode y ++ r) (length (encode x)) refl in
+      ap (λ (l : List ℕ). take (length (encode y)) l) s ∙ take-at (encode y) r (length (encode y)) refl))
 
   three-not-two : (k : ℕ) → eqb (suc (suc (suc k))) 2 ≡ false
   three-not-two k = ne-eqb (suc (suc (suc k))) 2 (λ z. omega arith)
