@@ -22,7 +22,7 @@ use Rattle.evaluator.specs.Decode.{valuesFrom, valueByShape, valueAt, va
 abbrev pub Words : List ℕ → Type 0
 Words ws = (i : ℕ) → getD ws i 0 < 2 ^ 32
 
-words-drop : (n : ℕ) (ws : List ℕ) → Words ws → Words (drop n ws)
+pub words-drop : (n : ℕ) (ws : List ℕ) → Words ws → Words (drop n ws)
 words-drop n ws h i = subst (λ (x : ℕ). x < 2 ^ 32) (sym (getD-drop n ws i 0)) (h (n + i))
 
 -- what a shape says of the words that it was found at
