@@ -145,6 +145,7 @@ one-types : (ps : List Paragraph) (D : Dictionary) (d : ℕ) (E : Dictionary) �
 unfolding Accepts OneType
 one-types [] D d E h = tt
 one-types (p ∷ ps) D d E h = (
+  (h .1 .0, h .1 .1),
   λ σ τ a b. one-type p D (h .0) σ τ a b,
   λ τ s. subst (λ X. OneType ps X) (extend-same p D (h .0) (h .1 .0) τ (h .1 .1) s) (one-types ps (extend p D (h .1 .0)) d E (h .1 .3)),
 )

@@ -15,3 +15,10 @@ pub mod FormedItems
 pub mod FormedCheck
 pub mod Marked
 pub mod GlobalNames
+pub mod WrittenOnce
+pub mod SecondCase
+pub mod NamesKept
+pub mod DictionaryLaid
+pub mod Recorded
+pub mod AcceptedTypes
+pub mod Slots

@@ -30,7 +30,7 @@ use Rattle.checker.specs.Check.{paragraphsOf}
 use Rattle.checker.proofs.Sized.{SizedExpr, SizedExprs, SizedPred, SizedText, SizedLines, SizedInclude, SizedSchema, SizedParagraph, SizedParagraphs}
 
 -- What holds of the end, and with each operand, holds of the operands gathered.
-gather-keeps : {A : Type 0} (P : A → Type 0) (f : ℕ → A → A) (w : List ℕ) (z : A) → P z → (i m : ℕ)
+pub gather-keeps : {A : Type 0} (P : A → Type 0) (f : ℕ → A → A) (w : List ℕ) (z : A) → P z → (i m : ℕ)
     → ((j : ℕ) → i ≤ j → j < i + m → (y : A) → P y → P (f (getD w j 0) y)) → P (gather f w i m z)
 unfolding gather
 gather-keeps P f w z p i zero h = p

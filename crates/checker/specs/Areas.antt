@@ -1,5 +1,5 @@
--- What the check call leaves: its finding, and what each area holds (document 01, "The dictionary": words after it are zero; "The work area is zero after
--- every call"; after a refusal the dictionary area is zero too).
+-- What the check call leaves: its finding, and what each area holds. Document 01: words after the dictionary are zero, and the work area is zero after
+-- every call. What the dictionary area holds after a refusal it leaves open; it is zero, as DESIGN.md has it.
 use mathlib.Core.Path.{_≡_}
 use mathlib.Core.List.{List, _++_}
 use Prim.Native.Nat.{ℕ, _-_}

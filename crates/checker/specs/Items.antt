@@ -71,7 +71,7 @@ Passes (small n a) P = (τ : Table) → P τ → size (under τ a) ≤ 32
 Passes (refusal f n) P = ⊥
 Passes (piece n t) P = Passes t P × ((σ τ : Table) → And P t σ → And P t τ → Agree t σ τ)
 
--- The first item that does not pass gives the finding f at the node m.
+-- The first item that does not pass gives the finding f at the node m. (33 at a Select never comes in a document, where its unknown is new.)
 unfoldable pub Refuses : Items → (Table → Type 0) → ℕ → ℕ → Type 0
 Refuses skip P f m = ⊥
 Refuses (a ⨾ b) P f m = Refuses a P f m ⊎ (Passes a P × Refuses b (And P a) f m)

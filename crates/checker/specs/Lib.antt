@@ -9,6 +9,7 @@ pub mod Rules
 pub mod Entries
 pub mod Solving
 pub mod ExpressionNodes
+pub mod AcceptedTypes
 pub mod Globals
 pub mod Check
 pub mod Areas

@@ -12,7 +12,7 @@ use Rattle.checker.specs.Dictionary.{Dictionary, blank, dictionaryLength
 use Rattle.checker.specs.Rules.{paragraphItems}
 use Rattle.checker.specs.Entries.{extend, paragraphNode}
 use Rattle.checker.specs.ExpressionNodes.{InParagraph}
-use Rattle.checker.specs.Check.{Answer, accepted, refused, paragraphsOf, workWords}
+use Rattle.checker.specs.Check.{Answer, accepted, refused, paragraphsOf}
 use Rattle.syntax.specs.declared.Reading.the-variants.{Readable, Refused}
 
 -- Accepted with the dictionary E: the items of every paragraph pass over the dictionary so far, and its words fit the area of d words.
@@ -39,8 +39,8 @@ AnswersFrom ps D d (refused f m) = RefusesAt ps D d f m
 -- A readable document, by the lengths of its two areas: 21, then 22 at 0, then the paragraphs.
 unfoldable pub AnswersTree : Document → ℕ → ℕ → Answer → Type 0
 AnswersTree t d w a =
-    ((w < workWords) × (a ≡ refused 21 0))
-    ⊎ ((workWords ≤ w) × (((d ≡ 0) × (a ≡ refused 22 0)) ⊎ ((0 < d) × AnswersFrom (paragraphsOf t) blank d a)))
+    ((w < 16384) × (a ≡ refused 21 0))
+    ⊎ ((16384 ≤ w) × (((d ≡ 0) × (a ≡ refused 22 0)) ⊎ ((0 < d) × AnswersFrom (paragraphsOf t) blank d a)))
 
 -- The answer to a document's words: reading's finding where there is one.
 unfoldable pub Answers : List ℕ → ℕ → ℕ → Answer → Type 0
@@ -48,14 +48,15 @@ Answers doc d w a =
     ((f m : ℕ) × (readOf doc ≡ Refused f m) × (a ≡ refused f m))
     ⊎ ((readOf doc ≡ Readable) × AnswersTree (treeOf doc) d w a)
 
--- One type and no other: two typings of a paragraph give each of its expressions the same type; so through the document.
+-- One type and no other: each paragraph has a typing, and two typings of it give each of its expressions the same type; so through the document.
 unfoldable pub OneType : List Paragraph → Dictionary → Type 0
 OneType [] D = Unit {0}
 OneType (p ∷ ps) D =
-    ((σ τ : Table) → Meets (paragraphItems p D) σ → Meets (paragraphItems p D) τ → (m : ℕ) → InParagraph m p → σ (slot m 0) ≡ τ (slot m 0))
+    ((τ : Table) × Meets (paragraphItems p D) τ)
+    × ((σ τ : Table) → Meets (paragraphItems p D) σ → Meets (paragraphItems p D) τ → (m : ℕ) → InParagraph m p → σ (slot m 0) ≡ τ (slot m 0))
     × ((τ : Table) → Meets (paragraphItems p D) τ → OneType ps (extend p D τ))
 
--- The dictionary's entries are those types: each paragraph has a typing, and with any typing of it the entries are the same.
+-- The dictionary's entries are those types: E is D with the entries that the typings of the paragraphs give, whichever typing is taken.
 unfoldable pub Records : List Paragraph → Dictionary → Dictionary → Type 0
 Records [] D E = D ≡ E
 Records (p ∷ ps) D E =
