@@ -43,4 +43,26 @@ unfolding
     evalLines testExpr testExprs namesAs lineNames paragraphNames namesOf documentNames valuesFrom valueByShape valueAt valueOf sizeTable
     sizesIn isSize givenNumber valueNumber isPaired entriesOf stateIf stateOf entryFrom entryValue valueIn then unless bindGivens testNames
     testLines runParagraph runParagraphs runDocument ending runState runWork runRead runOf lastNode lastWords marked
-marked-hold = more (record { found = refl; last = refl; valued = refl }) (more (record { found = refl; last = refl; valued = refl }) (more (record { found = refl; last = refl; valued = refl }) (more (record { found = refl; last = refl; valued = refl }) (more (record { found = refl; last = refl; valued = refl }) (more (record { found = refl; last = refl; valued = refl }) (more (record { found = refl; last = refl; valued = refl }) (more (record { found = refl; last = refl; valued = refl }) (more (record { found = refl; last = refl; valued = refl }) (more (record { found = refl; last = refl; valued = refl }) (more (record { found = refl; last = refl; valued = refl }) (more (record { found = refl; last = refl; valued = refl }) (more (record { found = refl; last = refl; valued = refl }) (more (record { found = refl; last = refl; valued = refl }) (more (record { found = refl; last = refl; valued = refl }) (more (record { found = refl; last = refl; valued = refl }) none)))))))))))))))
+marked-hold =
+    more (record { found = refl; last = refl; valued = refl })
+    (more (record { found = refl; last = refl; valued = refl })
+    (more (record { found = refl; last = refl; valued = refl })
+    (more (record { found = refl; last = refl; valued = refl })
+    (more (record { found = refl; last = refl; valued = refl })
+    (more (record { found = refl; last = refl; valued = refl })
+    (more (record { found = refl; last = refl; valued = refl })
+    (more (record { found = refl; last = refl; valued = refl })
+    (more (record { found = refl; last = refl; valued = refl })
+    (more (record { found = refl; last = refl; valued = refl })
+    (more (record { found = refl; last = refl; valued = refl })
+    (more (record { found = refl; last = refl; valued = refl })
+    (more (record { found = refl; last = refl; valued = refl })
+    (more (record { found = refl; last = refl; valued = refl })
+    (more (record { found = refl; last = refl; valued = refl })
+    (more (record { found = refl; last = refl; valued = refl })
+    (more (record { found = refl; last = refl; valued = refl })
+    (more (record { found = refl; last = refl; valued = refl })
+    (more (record { found = refl; last = refl; valued = refl })
+    (more (record { found = refl; last = refl; valued = refl })
+    (more (record { found = refl; last = refl; valued = refl })
+    (more (record { found = refl; last = refl; valued = refl }) none)))))))))))))))))))))

@@ -28,7 +28,7 @@ pub record Found (f : ℕ → ℕ) (i m v p : ℕ) : Type 0 where
 refused-same : (a b c d : ℕ) → Refused a b ≡ Refused c d → (a ≡ c) × (b ≡ d)
 refused-same a b c d e = (cc, cc)
 
-scan-found : (f : ℕ → ℕ) (i m v p : ℕ) → scan f i m ≡ Refused v p → Found f i m v p
+pub scan-found : (f : ℕ → ℕ) (i m v p : ℕ) → scan f i m ≡ Refused v p → Found f i m v p
 unfolding scan
 scan-found f i zero v p e = never v p (sym e)
 scan-found f i (suc m) v p e = go (f i) refl e (λ x. scan-found f (suc i) m v p x)

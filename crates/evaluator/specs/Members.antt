@@ -27,4 +27,4 @@ insert v (cons w ws) = place (compare (encode v) (encode w)) v w ws (insert v ws
 
 unfoldable pub isIn : Value → Values → Bool
 isIn v nil = false
-isIn v (cons w ws) = elim (sameValue v w) [ true ↦ true | false ↦ isIn v ws ]
+isIn v (cons w ws) = elim (sameValue w v) [ true ↦ true | false ↦ isIn v ws ]

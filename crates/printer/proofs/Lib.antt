@@ -1,3 +1,4 @@
 pub mod Decimal
 pub mod Lengths
 pub mod Marked
+pub mod Printed

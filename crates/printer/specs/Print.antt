@@ -1,6 +1,8 @@
 -- The printed finding of a check: bytes, from the finding and the dictionary's words.
 use mathlib.Core.List.{List}
 use Prim.Native.Nat.{ℕ}
+use Rattle.checker.specs.Check.{Answer, checkOf}
+use Rattle.checker.specs.Areas.{findingOf, dictionaryAfter}
 use Rattle.checker.specs.declared.Finding.{Finding}
 use Rattle.checker.specs.declared.Finding.the-variants.{Accepted, Refused}
 use Rattle.printer.specs.Lines.{acceptedLines, refusedLine}
@@ -8,3 +10,11 @@ use Rattle.printer.specs.Lines.{acceptedLines, refusedLine}
 unfoldable pub printOf : Finding → List ℕ → List ℕ
 printOf Accepted d = acceptedLines d
 printOf (Refused number place) d = refusedLine number place
+
+-- what is printed for an answer of a check with a dictionary area of n words
+unfoldable pub printedAnswer : Answer → ℕ → List ℕ
+printedAnswer a n = printOf (findingOf a) (dictionaryAfter a n)
+
+-- what the program prints for a document's words, with areas of 16,384 words
+unfoldable pub printedOf : List ℕ → List ℕ
+printedOf doc = printedAnswer (checkOf doc 16384 16384) 16384

@@ -14,8 +14,10 @@ use Rattle.types.specs.Types.{ℤ}
 use Rattle.checker.specs.Dictionary.{Dictionary, blank}
 use Rattle.checker.specs.Check.{accepted, paragraphsOf, checkOf}
 use Rattle.checker.specs.Verdicts.{Accepts}
+use Rattle.checker.specs.AcceptedTypes.{HasType}
 use Rattle.checker.proofs.CheckRight.{accepted-says}
 use Rattle.fit.specs.Recorded.{Fits}
+use Rattle.fit.specs.Fit.{fitOf}
 use Rattle.evaluator.specs.Outcomes.{Event, Outcome}
 use Rattle.states.specs.Names.{namesOf, documentNames}
 use Rattle.states.specs.States.{State, stateOf, valueIn}
@@ -25,9 +27,10 @@ use Rattle.evaluator.specs.Run.{Ran, ran, ending, runState, runWork, runRead, r
 use Rattle.evaluator.specs.declared.Finding.{Finding}
 use Rattle.evaluator.specs.declared.Finding.the-variants.{Holds, Fails, Refused}
 use Rattle.evaluator.proofs.StatePlace.{state-ill}
-use Rattle.soundness.specs.Demand.{TypeAt, OfItsType, Sound}
+use Rattle.soundness.specs.Demand.{OfItsType, Sound}
 use Rattle.soundness.proofs.Values.{Typed}
 use Rattle.soundness.proofs.Run.{paragraphs-sound}
+use Rattle.soundness.proofs.Fitted.{fit-fits}
 
 number-of : (a b c d : ℕ) → Refused a b ≡ Refused c d → a ≡ c
 number-of a b c d e = cc
@@ -41,13 +44,13 @@ holds-not node e = let z : _≡_ {A = ℕ} 0 1 = cc in omega arith
 fails-not : (n node : ℕ) → Fails n ≡ Refused 51 node → ⊥
 fails-not n node e = let z : _≡_ {A = ℕ} 0 1 = cc in omega arith
 
-ending-sound : (doc : List ℕ) {m : Outcome Step} → Typed (TypeAt (paragraphsOf (treeOf doc)) blank) (λ s. Unit {0}) m → Sound doc (ending m)
+ending-sound : (doc : List ℕ) {m : Outcome Step} → Typed (HasType (paragraphsOf (treeOf doc)) blank) (λ s. Unit {0}) m → Sound doc (ending m)
 unfolding ending
 ending-sound doc (finished {a = onward names} l _) = record { noMisfit = holds-not; listed = l }
 ending-sound doc (finished {a = failed n} l _) = record { noMisfit = fails-not n; listed = l }
 ending-sound doc (ceased {number = number} {node = node} l h) = refused-sound doc number node h l
 
-document-sound : (tree : Document) (d : ℕ) (E : Dictionary) (state : State) → Accepts (paragraphsOf tree) blank d E → Fits E (documentNames tree) state → Typed (TypeAt (paragraphsOf tree) blank) (λ s. Unit {0}) (runDocument tree state)
+document-sound : (tree : Document) (d : ℕ) (E : Dictionary) (state : State) → Accepts (paragraphsOf tree) blank d E → Fits E (documentNames tree) state → Typed (HasType (paragraphsOf tree) blank) (λ s. Unit {0}) (runDocument tree state)
 unfolding paragraphsOf documentNames runDocument
 document-sound (document n ps) d E state h f = paragraphs-sound ps d E state (λ y. ℤ) h f
 
@@ -72,3 +75,7 @@ unfolding runOf runRead
 demand-three doc state d w work E e f =
     let a = accepted-says doc d w E e in
     rw (a .read) (work-sound doc state d E (a .passes) f (leb 16384 work))
+
+-- The same from the fit call: what it accepts, a run of the document with that state, in a work area of any length, never finds misfitting.
+pub fit-sound : (doc state : List ℕ) (d w work : ℕ) (E : Dictionary) → fitOf doc state d w ≡ accepted E → Sound doc (runOf doc state work)
+fit-sound doc state d w work E e = let f = fit-fits doc state d w E e in demand-three doc state d w work E (f .checked) (f .fits)

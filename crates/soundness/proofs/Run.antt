@@ -11,7 +11,7 @@ use Rattle.syntax.specs.Tree.{Lines, end, declaration, inclusion, Paragraph, gi
 use Rattle.values.specs.Value.{Value}
 use Rattle.types.specs.Types.{Ty, Term, under}
 use Rattle.checker.specs.Unknowns.{Table, slot, unknownAt, givenSet}
-use Rattle.checker.specs.Items.{Meets}
+use Rattle.checker.specs.Items.{Any, Meets, Passes}
 use Rattle.checker.specs.Dictionary.{Dictionary, blank, _▸_, nameEntry, schemaEntry, Named, ofGlobal, nameIn}
 use Rattle.checker.specs.Conditions.{mergeDeclared, newNames}
 use Rattle.checker.specs.Entries.{addGivens, extend}
@@ -20,7 +20,8 @@ use Rattle.checker.specs.Scopes.{Scope, globals, nameAt, enter, withParameters,
 use Rattle.checker.specs.Rules.{textItems, linesItems, paragraphItems}
 use Rattle.checker.specs.ExpressionNodes.{InText, InLines, InParagraph}
 use Rattle.checker.specs.Verdicts.{Accepts}
-use Rattle.checker.proofs.OneType.{one-type}
+use Rattle.checker.specs.AcceptedTypes.{HasType}
+use Rattle.checker.proofs.OneType.{one-type, extend-same}
 use Rattle.fit.specs.HasType.{Has}
 use Rattle.fit.specs.Recorded.{Every, none, also, OfRecorded, Fits}
 use Rattle.evaluator.specs.Outcomes.{Outcome, _>>=_}
@@ -30,7 +31,6 @@ use Rattle.states.specs.Names.{Name, namesAs, lineNames, paragraphNames, namesO
 use Rattle.states.specs.States.{State}
 use Rattle.evaluator.specs.Paragraphs.{Step, onward, failed, then, unless, bindGivens, testNames, testLines, runParagraph, runParagraphs, runDocument}
 use Rattle.evaluator.proofs.Outcomes.{bind-good, pure-good, choose-good}
-use Rattle.soundness.specs.Demand.{TypeAt}
 use Rattle.soundness.proofs.Values.{Typed}
 use Rattle.soundness.proofs.Scopes.{overRecorded, name-added, names-stay, lines-stay, merge-fits, merges-next, added, asGlobal, asGeneric, asUnknown, ScopeFits, scope-more, scope-change, scope-settled, scope-record}
 use Rattle.soundness.proofs.Expressions.{expr-typed, pred-typed, test-typed, include-typed}
@@ -49,6 +49,11 @@ unless-fits : {τ : Table} (n : ℕ) (b : Bool) {names : Run.Scope} {Γ : Scope}
 unfolding unless
 unless-fits n true h = goesOn h
 unless-fits n false h = fails
+
+-- a type that a later paragraph's node has
+type-later : (p : Paragraph) (ps : List Paragraph) (D : Dictionary) → Passes (paragraphItems p D) Any → (τ : Table) → Meets (paragraphItems p D) τ → (m : ℕ) (g : Ty) → HasType ps (extend p D τ) m g → HasType (p ∷ ps) D m g
+unfolding HasType
+type-later p ps D c τ h m g y = inr (λ σ s. subst (λ (X : Dictionary). HasType ps X m g) (extend-same p D c τ σ h s) y)
 
 global-inj : (q : ℕ) (g h : Ty) → ofGlobal q g ≡ ofGlobal q h → g ≡ h
 global-inj q g h e = cc
@@ -106,15 +111,15 @@ module _ (R : ℕ → Ty → Type 0) (E : Dictionary) (state : State) where
     axiom-typed (inclusion i ls) Γ D r names own c k h j o q = include-typed R τ i
 
   -- One paragraph after the other: the names afterwards fit the dictionary afterwards.
-  paragraphs-typed : (ps : List Paragraph) (D : Dictionary) (d : ℕ) (σ : Table) (names : Run.Scope) → Accepts ps D d E → Fits E (namesOf ps) state → ((n : ℕ) (g : Ty) → TypeAt ps D n g → R n g) → ScopeFits σ (globals D) names →
+  paragraphs-typed : (ps : List Paragraph) (D : Dictionary) (d : ℕ) (σ : Table) (names : Run.Scope) → Accepts ps D d E → Fits E (namesOf ps) state → ((n : ℕ) (g : Ty) → HasType ps D n g → R n g) → ScopeFits σ (globals D) names →
       Typed R (λ s. Unit {0}) (runParagraphs ps state names)
-  unfolding runParagraphs runParagraph Accepts TypeAt extend paragraphItems textItems InParagraph InText inside textSignature withParameters Meets under overRecorded enter namesOf paragraphNames
+  unfolding runParagraphs runParagraph Accepts HasType extend paragraphItems textItems InParagraph InText inside textSignature withParameters Meets under overRecorded enter namesOf paragraphNames
   paragraphs-typed [] D d σ names acc f k o = pure-good tt
   paragraphs-typed (given n xs ∷ ps) D d σ names acc f k o =
       let τ = acc .1 .0 in
       let both = every-split (namesAs true xs) f in
       bind-good (pure-good {P = StepFits τ (globals (addGivens xs D))} (goesOn (givens-fit τ xs D names (both .0) (λ i g e. kept ps _ d E (acc .1 .3) i 0 g e) (scope-change σ τ D names o))))
-      λ s so. then-any _ so λ names′ o′. paragraphs-typed ps _ d τ names′ (acc .1 .3) (both .1) (λ m t y. k m t (inr (τ, acc .1 .1, y))) o′
+      λ s so. then-any _ so λ names′ o′. paragraphs-typed ps _ d τ names′ (acc .1 .3) (both .1) (λ m t y. k m t (type-later (given n xs) ps D (acc .0) τ (acc .1 .1) m t y)) o′
   paragraphs-typed (axiomatic n (text m p ls) ∷ ps) D d σ names acc f k o =
       let τ = acc .1 .0 in
       let h = acc .1 .1 in
@@ -126,29 +131,29 @@ module _ (R : ℕ → Ty → Type 0) (E : Dictionary) (state : State) where
       (axiom-typed τ ls (globals D) D noNames names names (both .0) (λ j q. ty j (inl q)) (h .0)
       (λ i x e. kept ps _ d E (acc .1 .3) i 0 (under τ x) (name-added S τ D i ∙ ap (λ (z : Option Term). overRecorded τ z (nameIn i D)) e)) (scope-change σ τ D names o) (scope-change σ τ D names o))
       λ s so. then-typed _ so λ own o′. bind-good (pred-typed R τ p own (λ j q. ty j (inr q)) (h .1) o′) λ c _. pure-good (unless-fits n c (scope-settled τ S D own o′)))
-      λ s so. then-any _ so λ names′ o′. paragraphs-typed ps _ d τ names′ (acc .1 .3) (both .1) (λ j t y. k j t (inr (τ, h, y))) o′
+      λ s so. then-any _ so λ names′ o′. paragraphs-typed ps _ d τ names′ (acc .1 .3) (both .1) (λ j t y. k j t (type-later (axiomatic n (text m p ls)) ps D (acc .0) τ (acc .1 .1) j t y)) o′
   paragraphs-typed (schema n s xs x ∷ ps) D d σ names acc f k o =
       let τ = acc .1 .0 in
       bind-good (pure-good {P = StepFits τ (globals (extend (schema n s xs x) D τ))} (goesOn (schema-fits τ D names (scope-change σ τ D names o)))) λ z so.
-      then-any _ so λ names′ o′. paragraphs-typed ps _ d τ names′ (acc .1 .3) f (λ j t y. k j t (inr (τ, acc .1 .1, y))) o′
+      then-any _ so λ names′ o′. paragraphs-typed ps _ d τ names′ (acc .1 .3) f (λ j t y. k j t (type-later (schema n s xs x) ps D (acc .0) τ (acc .1 .1) j t y)) o′
   paragraphs-typed (abbreviation n i [] e ∷ ps) D d σ names acc f k o =
       let τ = acc .1 .0 in
       let h = acc .1 .1 in
       bind-good
       (bind-good (expr-typed R τ e names (λ j q. k j _ (inl (q, λ ρ s. one-type (abbreviation n i [] e) D (acc .0) ρ τ s h j q))) (h .0) (scope-change σ τ D names o))
       λ v hv. pure-good (goesOn (scope-record τ D names i 0 _ _ (scope-change σ τ D names o) (asGlobal hv))))
-      λ s so. then-any _ so λ names′ o′. paragraphs-typed ps _ d τ names′ (acc .1 .3) f (λ j t y. k j t (inr (τ, h, y))) o′
+      λ s so. then-any _ so λ names′ o′. paragraphs-typed ps _ d τ names′ (acc .1 .3) f (λ j t y. k j t (type-later (abbreviation n i [] e) ps D (acc .0) τ (acc .1 .1) j t y)) o′
   paragraphs-typed (abbreviation n i (x ∷ xs) e ∷ ps) D d σ names acc f k o =
       let τ = acc .1 .0 in
       bind-good (pure-good (goesOn (scope-record τ D names i (length (x ∷ xs)) _ _ (scope-change σ τ D names o) asGeneric)))
-      λ s so. then-any _ so λ names′ o′. paragraphs-typed ps _ d τ names′ (acc .1 .3) f (λ j t y. k j t (inr (τ, acc .1 .1, y))) o′
+      λ s so. then-any _ so λ names′ o′. paragraphs-typed ps _ d τ names′ (acc .1 .3) f (λ j t y. k j t (type-later (abbreviation n i (x ∷ xs) e) ps D (acc .0) τ (acc .1 .1) j t y)) o′
   paragraphs-typed (constraint n p ∷ ps) D d σ names acc f k o =
       let τ = acc .1 .0 in
       let h = acc .1 .1 in
       bind-good
       (bind-good (pred-typed R τ p names (λ j q. k j _ (inl (q, λ ρ s. one-type (constraint n p) D (acc .0) ρ τ s h j q))) h (scope-change σ τ D names o)) λ c _. pure-good (unless-fits n c (scope-change σ τ D names o)))
-      λ s so. then-any _ so λ names′ o′. paragraphs-typed ps _ d τ names′ (acc .1 .3) f (λ j t y. k j t (inr (τ, h, y))) o′
+      λ s so. then-any _ so λ names′ o′. paragraphs-typed ps _ d τ names′ (acc .1 .3) f (λ j t y. k j t (type-later (constraint n p) ps D (acc .0) τ (acc .1 .1) j t y)) o′
 
 -- a document whose paragraphs are accepted with E, a state that fits E
-pub paragraphs-sound : (ps : List Paragraph) (d : ℕ) (E : Dictionary) (state : State) (τ : Table) → Accepts ps blank d E → Fits E (namesOf ps) state → Typed (TypeAt ps blank) (λ s. Unit {0}) (runParagraphs ps state Run.empty)
-paragraphs-sound ps d E state τ h f = paragraphs-typed (TypeAt ps blank) E state ps blank d τ Run.empty h f (λ n g t. t) (start-fits τ)
+pub paragraphs-sound : (ps : List Paragraph) (d : ℕ) (E : Dictionary) (state : State) (τ : Table) → Accepts ps blank d E → Fits E (namesOf ps) state → Typed (HasType ps blank) (λ s. Unit {0}) (runParagraphs ps state Run.empty)
+paragraphs-sound ps d E state τ h f = paragraphs-typed (HasType ps blank) E state ps blank d τ Run.empty h f (λ n g t. t) (start-fits τ)

@@ -1,0 +1,71 @@
+-- Every case of the table holds, by computation from the words.
+use mathlib.Core.Path.{_≡_, refl}
+use Rattle.syntax.specs.Tree.{exprNode, exprsLength}
+use Rattle.syntax.specs.Identifiers.{nameOf, strokeOf, isIdentifier}
+use Rattle.syntax.specs.Kinds.{ofSort, plainOk, cell, sortIn, countBy}
+use Rattle.syntax.specs.LowerNodes.{tower, meaning}
+use Rattle.syntax.specs.Decode.{gather, pairsFrom, makers, nodeAt, exprAt, predAt, textAt, includeAt, lineAt, schemaAt, paragraphAt, treeOf}
+use Rattle.syntax.specs.Decode.{exprsFrom, linesFrom, paragraphsFrom}
+use Rattle.syntax.specs.Nodes.{nodesAmong, children, uses, parentAmong, parent, above}
+use Rattle.syntax.specs.Findings.{scan, useNumber}
+use Rattle.syntax.specs.Repeats.{fresh, isAxiomDecl, globals, declaredIn, parameters, schemas, repeatNumber}
+use Rattle.syntax.specs.Limits.{textsAmong, isClosing, anyCrowded, limitNumber}
+use Rattle.syntax.specs.Reading.{readOf}
+use Rattle.words.specs.Loops.{every, some, total, joined, run, has, occurrences}
+use Rattle.layout.specs.Layout.{chain, laidOut, part}
+use Rattle.types.specs.Former.{and, eqs, tag, arg, identifiers, formerOf, sameFormer}
+use Rattle.types.specs.Types.{under, size, termSize, Each}
+use Rattle.types.specs.Substitution.{or, occurs, replace, update, resolve, without, member, ground, sol}
+use Rattle.types.specs.Unify.{zipTerms, replaceAll, weight, isUnknown, flex, rigid, unifyStep, unifyLevel, unifyLevels, unify}
+use Rattle.types.specs.Component.{has as has′, hasType, pick, pickType, component, componentType}
+use Rattle.types.specs.Instance.{nth, actual, instanceFormer, instance}
+use Rattle.types.specs.Words.{second, words}
+use Rattle.checker.specs.Strokes.{decorate, takes}
+use Rattle.checker.specs.Unknowns.{slot, row}
+use Rattle.checker.specs.Dictionary.{entryWords, entries, entryPairs, allWords, laidOutWords, dictionaryWords, nameIn, schemaIn}
+use Rattle.checker.specs.Signatures.{countNames, namesOf, termsOf, bindingOf, withNames, componentsOf, orElse, termIn, hasName, insertName}
+use Rattle.checker.specs.Signatures.{merge, declare, strokeAll, renamed, renameAll, someStroked, hasOld, wrongOld, wrongNames}
+use Rattle.checker.specs.Scopes.{nameAt, schemaNamed, withParameters, enter, brought, includeSignature, includeNode, linesSignature}
+use Rattle.checker.specs.Scopes.{textSignature, inside, schemaSignature}
+use Rattle.checker.specs.Conditions.{refuseIf, sameType, mergeDeclared, mergeNames, newName, newNames, smallTypes, fewNames, typesOf, arePowers}
+use Rattle.checker.specs.Conditions.{areMembers, freshRow}
+use Rattle.checker.specs.Rules.{referenceItems, thetaName, thetaNames, typeInScope, thetaSignature, thetaItems, includeRule, exprItems}
+use Rattle.checker.specs.Rules.{schemaItems, paragraphItems}
+use Rattle.checker.specs.Entries.{addGivens, addSignature, extend, paragraphNode}
+use Rattle.checker.specs.Solving.{andThen, answer, passIf, selected, isSmall, isClosed, solveFrom, addUnknown, termUnknowns, unknowns, solve}
+use Rattle.checker.specs.Solving.{tableOf}
+use Rattle.checker.specs.Check.{fitting, settle, checkParagraphs, paragraphsOf, afterReading, checkOf}
+use Rattle.values.specs.Integer.{signed, wordOf}
+use Rattle.values.specs.Value.{count, encode, encodes}
+use Rattle.values.specs.Order.{compareWord, orElse as orElse′, compare, isLess, isSame, same}
+use Rattle.values.specs.Givens.{elementsFrom, elements, smallSize, sizeFrom, sizeOf}
+use Rattle.values.specs.Form.{elementShape, groupShape, shapeOf, follows, nextFits, groupEnd, byShape, valueLength, isValue}
+use Rattle.values.specs.TypeWords.{clip, countOf, formerOf as formerOf′, typesEnd, byFormer, typeLength}
+use Rattle.values.specs.Typed.{typeStep, isOf, areOf}
+use Rattle.states.specs.Names.{namesAs, lineNames, paragraphNames, namesOf as namesOf′, documentNames}
+use Rattle.states.specs.Decode.{valuesFrom, valueByShape, valueAt, valueOf}
+use Rattle.states.specs.States.{sizeTable, sizesIn, isSize, givenNumber, valueNumber, isPaired, entriesOf, stateIf, stateOf, entryFrom}
+use Rattle.states.specs.States.{entryValue, valueIn}
+use Rattle.fit.specs.Fit.{recordedWords, typeNumber, fitTypes, fitState, fitChecked, fitOf}
+use Rattle.fit.specs.Marked.{seen, marked}
+use Rattle.fit.specs.Marked.{Hold, none, more}
+
+pub marked-hold : Hold marked
+unfolding
+    exprNode exprsLength nameOf strokeOf isIdentifier ofSort plainOk cell sortIn countBy tower meaning gather pairsFrom makers nodeAt exprAt predAt
+    textAt includeAt lineAt schemaAt paragraphAt treeOf exprsFrom linesFrom paragraphsFrom nodesAmong children uses parentAmong parent above scan
+    useNumber fresh isAxiomDecl globals declaredIn parameters schemas repeatNumber textsAmong isClosing anyCrowded limitNumber readOf every some total
+    joined run has occurrences chain laidOut part and eqs tag arg identifiers formerOf sameFormer under size termSize Each or occurs replace update
+    resolve without member ground sol zipTerms replaceAll weight isUnknown flex rigid unifyStep unifyLevel unifyLevels unify has′ hasType pick
+    pickType component componentType nth actual instanceFormer instance second words decorate takes slot row entryWords entries entryPairs allWords
+    laidOutWords dictionaryWords nameIn schemaIn countNames namesOf termsOf bindingOf withNames componentsOf orElse termIn hasName insertName merge
+    declare strokeAll renamed renameAll someStroked hasOld wrongOld wrongNames nameAt schemaNamed withParameters enter brought includeSignature
+    includeNode linesSignature textSignature inside schemaSignature refuseIf sameType mergeDeclared mergeNames newName newNames smallTypes fewNames
+    typesOf arePowers areMembers freshRow referenceItems thetaName thetaNames typeInScope thetaSignature thetaItems includeRule exprItems schemaItems
+    paragraphItems addGivens addSignature extend paragraphNode andThen answer passIf selected isSmall isClosed solveFrom addUnknown termUnknowns
+    unknowns solve tableOf fitting settle checkParagraphs paragraphsOf afterReading checkOf signed wordOf count encode encodes compareWord orElse′
+    compare isLess isSame same elementsFrom elements smallSize sizeFrom sizeOf elementShape groupShape shapeOf follows nextFits groupEnd byShape
+    valueLength isValue clip countOf formerOf′ typesEnd byFormer typeLength typeStep isOf areOf namesAs lineNames paragraphNames namesOf′
+    documentNames valuesFrom valueByShape valueAt valueOf sizeTable sizesIn isSize givenNumber valueNumber isPaired entriesOf stateIf stateOf
+    entryFrom entryValue valueIn recordedWords typeNumber fitTypes fitState fitChecked fitOf seen marked
+marked-hold = more refl (more refl (more refl (more refl (more refl (more refl (more refl none))))))
