@@ -14,8 +14,8 @@ use Rattle.syntax.specs.declared.Reading.{Reading}
 use Rattle.syntax.specs.declared.Reading.the-variants.{Readable, Refused as Unreadable}
 use Rattle.evaluator.specs.Outcomes.{Outcome, _>>=_}
 use Rattle.evaluator.specs.Scope.{Scope}
-use Rattle.evaluator.specs.Names.{documentNames}
-use Rattle.evaluator.specs.States.{State, stateOf, valueIn}
+use Rattle.states.specs.Names.{documentNames}
+use Rattle.states.specs.States.{State, stateOf, valueIn}
 use Rattle.evaluator.specs.Paragraphs.{Step, onward, failed, then, testNames, testLines, runParagraph, runParagraphs, runDocument}
 use Rattle.evaluator.specs.Run.{Ran, ran, ending, runState, runWork, runRead, runOf}
 use Rattle.evaluator.specs.declared.Finding.the-variants.{Refused}

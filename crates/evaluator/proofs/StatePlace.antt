@@ -13,8 +13,8 @@ use Rattle.syntax.specs.declared.Reading.{Reading}
 use Rattle.syntax.specs.declared.Reading.the-variants.{Readable, Refused}
 use Rattle.syntax.proofs.Scan.{scan-none, then-none, never}
 use Rattle.values.specs.Form.{isValue}
-use Rattle.evaluator.specs.Names.{Name}
-use Rattle.evaluator.specs.States.{nameAt, sizesIn, isSize, givenNumber, valueNumber, isPaired, entriesOf, stateIf, stateOf}
+use Rattle.states.specs.Names.{Name}
+use Rattle.states.specs.States.{nameAt, sizesIn, isSize, givenNumber, valueNumber, isPaired, entriesOf, stateIf, stateOf}
 use Rattle.evaluator.specs.Claims.{IllFormed, pairs, given, other, WellFormed}
 
 -- what a scan that finds has found: the first number other than 0, and where

@@ -10,9 +10,9 @@ use Rattle.layout.specs.Layout.{part, lengthAt, offsetAt}
 use Rattle.values.specs.Value.{Value, encode}
 use Rattle.values.specs.Givens.{elements}
 use Rattle.values.specs.Form.{isValue}
-use Rattle.evaluator.specs.Names.{Name}
-use Rattle.evaluator.specs.Decode.{valueOf}
-use Rattle.evaluator.specs.States.{nameAt, sizesIn, valueNumber, entryFrom, entryValue, valueIn}
+use Rattle.states.specs.Names.{Name}
+use Rattle.states.specs.Decode.{valueOf}
+use Rattle.states.specs.States.{nameAt, sizesIn, valueNumber, entryFrom, entryValue, valueIn}
 use Rattle.evaluator.specs.Claims.{WellFormed}
 use Rattle.evaluator.proofs.Decoding.{Words, words-drop, value-read}
 

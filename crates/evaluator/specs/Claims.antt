@@ -11,8 +11,8 @@ use Rattle.syntax.specs.Decode.{treeOf}
 use Rattle.syntax.specs.declared.Reading.the-variants.{Readable, Refused as Unreadable}
 use Rattle.evaluator.specs.Members.{wordCount}
 use Rattle.evaluator.specs.Outcomes.{Event, worked, Outcome, done, stopped}
-use Rattle.evaluator.specs.Names.{Name, documentNames}
-use Rattle.evaluator.specs.States.{isPaired, givenNumber, valueNumber, stateOf}
+use Rattle.states.specs.Names.{Name, documentNames}
+use Rattle.states.specs.States.{isPaired, givenNumber, valueNumber, stateOf}
 use Rattle.evaluator.specs.Run.{Ran, ran}
 use Rattle.evaluator.specs.declared.Finding.the-variants.{Holds, Fails, Refused}
 

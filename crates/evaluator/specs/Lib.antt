@@ -5,9 +5,6 @@ pub mod Scope
 pub mod Operations
 pub mod Assignments
 pub mod Rules
-pub mod Names
-pub mod Decode
-pub mod States
 pub mod Paragraphs
 pub mod Run
 pub mod Marked

@@ -18,9 +18,9 @@ use Rattle.types.specs.Formed.{WellFormed as Formed}
 use Rattle.types.specs.Words.{words}
 use Rattle.checker.specs.Dictionary.{Dictionary, ofGlobal, nameIn}
 use Rattle.checker.specs.Check.{Answer, accepted, refused, checkOf}
-use Rattle.evaluator.specs.Names.{Name, documentNames}
-use Rattle.evaluator.specs.Decode.{valueOf}
-use Rattle.evaluator.specs.States.{nameAt, sizesIn, stateOf}
+use Rattle.states.specs.Names.{Name, documentNames}
+use Rattle.states.specs.Decode.{valueOf}
+use Rattle.states.specs.States.{nameAt, sizesIn, stateOf}
 use Rattle.evaluator.specs.Claims.{WellFormed}
 use Rattle.evaluator.proofs.StatePlace.{scan-found, state-ill, state-well}
 use Rattle.fit.specs.Fit.{recordedWords, typeNumber, fitTypes, fitState, fitChecked, fitOf}

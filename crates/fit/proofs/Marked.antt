@@ -42,10 +42,10 @@ use Rattle.values.specs.Givens.{elementsFrom, elements, smallSize, sizeFrom, si
 use Rattle.values.specs.Form.{elementShape, groupShape, shapeOf, follows, nextFits, groupEnd, byShape, valueLength, isValue}
 use Rattle.values.specs.TypeWords.{clip, countOf, formerOf as formerOf′, typesEnd, byFormer, typeLength}
 use Rattle.values.specs.Typed.{typeStep, isOf, areOf}
-use Rattle.evaluator.specs.Names.{namesAs, lineNames, paragraphNames, namesOf as namesOf′, documentNames}
-use Rattle.evaluator.specs.Decode.{valuesFrom, valueByShape, valueAt, valueOf}
-use Rattle.evaluator.specs.States.{sizeTable, sizesIn, isSize, givenNumber, valueNumber, isPaired, entriesOf, stateIf, stateOf, entryFrom}
-use Rattle.evaluator.specs.States.{entryValue, valueIn}
+use Rattle.states.specs.Names.{namesAs, lineNames, paragraphNames, namesOf as namesOf′, documentNames}
+use Rattle.states.specs.Decode.{valuesFrom, valueByShape, valueAt, valueOf}
+use Rattle.states.specs.States.{sizeTable, sizesIn, isSize, givenNumber, valueNumber, isPaired, entriesOf, stateIf, stateOf, entryFrom}
+use Rattle.states.specs.States.{entryValue, valueIn}
 use Rattle.fit.specs.Fit.{recordedWords, typeNumber, fitTypes, fitState, fitChecked, fitOf}
 use Rattle.fit.specs.Marked.{seen, marked}
 use Rattle.fit.specs.Marked.{Hold, none, more}

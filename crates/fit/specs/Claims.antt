@@ -6,7 +6,7 @@ use lib.ListN.{length}
 use Rattle.syntax.specs.Decode.{treeOf}
 use Rattle.checker.specs.Dictionary.{Dictionary}
 use Rattle.checker.specs.Check.{Answer, accepted, refused, checkOf}
-use Rattle.evaluator.specs.Names.{Name, documentNames}
+use Rattle.states.specs.Names.{Name, documentNames}
 use Rattle.evaluator.specs.Claims.{IllFormed, WellFormed}
 use Rattle.fit.specs.Fit.{typeNumber}
 

@@ -12,9 +12,9 @@ use Rattle.types.specs.Words.{words}
 use Rattle.values.specs.Typed.{isOf}
 use Rattle.checker.specs.Dictionary.{Dictionary, Named, unnamed, ofLocal, ofGlobal, nameIn}
 use Rattle.checker.specs.Check.{Answer, accepted, refused, checkOf}
-use Rattle.evaluator.specs.Names.{Name, documentNames}
-use Rattle.evaluator.specs.States.{nameAt, sizesIn, stateOf}
-use Rattle.evaluator.specs.Decode.{valueOf}
+use Rattle.states.specs.Names.{Name, documentNames}
+use Rattle.states.specs.States.{nameAt, sizesIn, stateOf}
+use Rattle.states.specs.Decode.{valueOf}
 
 -- the type words that the dictionary records for a name; an accepted dictionary has every name of the state
 unfoldable pub recordedWords : Named → List ℕ

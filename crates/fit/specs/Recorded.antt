@@ -4,8 +4,8 @@ use mathlib.Core.List.{List, [], _∷_}
 use Prim.Native.Nat.{ℕ}
 use Rattle.types.specs.Types.{Ty}
 use Rattle.checker.specs.Dictionary.{Dictionary, ofGlobal, nameIn}
-use Rattle.evaluator.specs.Names.{Name}
-use Rattle.evaluator.specs.States.{State}
+use Rattle.states.specs.Names.{Name}
+use Rattle.states.specs.States.{State}
 use Rattle.fit.specs.HasType.{Has}
 
 pub data Every (P : Name → Type 0) : List Name → Type 0 where

@@ -1,6 +1,84 @@
 // The reader of coded documents: findings 11 to 17 for any words (document 01, "The coded document", "Finding numbers").
+use layout::Form;
+use syntax::Reading;
+
 mod kinds;
 mod limits;
 mod links;
-mod nodes;
+pub mod nodes;
 mod repeats;
+
+ghost use mathlib.Core.Path.{_≡_};
+ghost use mathlib.Core.Bool.{true};
+ghost use Rattle.layout.specs.Layout.{laidOut};
+ghost use Rattle.syntax.specs.Nodes.{documentForm};
+ghost use Rattle.syntax.specs.Findings.{nodeNumber, useNumber};
+ghost use Rattle.syntax.specs.Repeats.{repeatNumber};
+ghost use Rattle.syntax.specs.Limits.{limitNumber};
+ghost use Rattle.syntax.specs.Findings.{andThen};
+ghost use Rattle.syntax.specs.Reading.{lowest, readOf};
+ghost use Rattle.syntax.specs.declared.Reading.the-variants.{Readable};
+ghost use Rattle.reader.specs.Links.{Linked};
+
+// Findings 16 and 17, by the table of parents.
+fn check_tree(doc: &[u32], up: &[u32]) -> Reading
+    requires { ⌜ Linked (now doc) (now up) ⌝ }
+    ensures { λ r. ⌜ r ≡ andThen (lowest (now (doc .entry)) (repeatNumber (now (doc .entry)))) (lowest (now (doc .entry)) (limitNumber (now (doc .entry)))) ⌝ }
+{
+    let first = repeats::check_repeats(doc, up);
+    match first {
+        Reading::Readable => limits::check_limits(doc, up),
+        Reading::Refused { number, place } => Reading::Refused {
+            number: number,
+            place: place,
+        },
+    }
+}
+
+// Findings 15 to 17, of a document whose nodes are in order.
+fn check_uses_and_tree(doc: &[u32]) -> Reading
+    requires { ⌜ (laidOut documentForm (now doc) ≡ true) × (lowest (now doc) (nodeNumber (now doc)) ≡ Readable) ⌝ }
+    ensures { λ r. ⌜ r ≡ andThen (lowest (now (doc .entry)) (useNumber (now (doc .entry)))) (andThen (lowest (now (doc .entry)) (repeatNumber (now (doc .entry)))) (lowest (now (doc .entry)) (limitNumber (now (doc .entry))))) ⌝ }
+{
+    let mut used = [0u32; 1025];
+    let mut up = [0u32; 1025];
+    links::link_nodes(doc, &mut used, &mut up);
+    let first = links::check_uses(doc, &used);
+    match first {
+        Reading::Readable => check_tree(doc, &up),
+        Reading::Refused { number, place } => Reading::Refused {
+            number: number,
+            place: place,
+        },
+    }
+}
+
+// The finding of reading a document.
+pub fn read(doc: &[u32]) -> Reading
+    ensures { λ r. ⌜ r ≡ readOf (now (doc .entry)) ⌝ }
+{
+    let form = Form {
+        fewest: 1,
+        most: 1024,
+        shortest: 1,
+        longest: 16384,
+    };
+    if layout::laid_out(doc, form) {
+        let first = nodes::check_nodes(doc);
+        match first {
+            Reading::Readable => {
+                return check_uses_and_tree(doc);
+            }
+            Reading::Refused { number, place } => {
+                return Reading::Refused {
+                    number: number,
+                    place: place,
+                };
+            }
+        }
+    }
+    Reading::Refused {
+        number: 11,
+        place: 0,
+    }
+}

@@ -1,10 +1,11 @@
 // Finding 17: the limits.
 use crate::kinds::is_between;
 use crate::nodes::kind_at;
-use crate::repeats::{declared_at, globals_at};
+use crate::repeats::declared_at;
+use crate::repeats::globals_at;
 use syntax::Reading;
-use words::{store, word};
-
+use words::store;
+use words::word;
 ghost use mathlib.Core.Path.{_≡_};
 ghost use mathlib.Core.Bool.{true, false};
 ghost use Prim.Native.Nat.{_+_, _-_, _≤_, _<_};
@@ -84,4 +85,82 @@ fn crowd(doc: &[u32], up: &[u32], k: usize, n: usize, below: &mut [u32]) -> bool
         return crowd(doc, up, a, n - 1, below);
     }
     crowd(doc, up, a, n - 1, below)
+}
+
+// Node k is a Text inside 4 others. It is at most 12 deep.
+fn is_nested(doc: &[u32], up: &[u32], k: usize) -> bool
+    requires { ⌜ Parents (now doc) (now up) × (k < places) × (reaches (now doc) 12 k ≡ false) ⌝ }
+    ensures { λ r. ⌜ r ≡ tooNested (now (doc .entry)) k ⌝ }
+{
+    let q = kind_at(doc, k);
+    if q == 10 {
+        return 4 < 1 + texts_above(doc, up, k, 12);
+    }
+    false
+}
+
+// Adds the identifiers of a Decl to those of its Text; whether they are then more than 6.
+fn widen(doc: &[u32], up: &[u32], k: usize, declared: &mut [u32]) -> bool
+    requires { ⌜ Linked (now doc) (now up) × (1 ≤ k) × (k ≤ count (now doc)) × Declared (now doc) (k - 1) (now declared) ⌝ }
+    ensures { λ r. ⌜ (r ≡ tooWide (now (doc .entry)) k) × (r ≡ false → Declared (now (doc .entry)) k (now (declared .exit))) ⌝ }
+{
+    let q = kind_at(doc, k);
+    if q == 11 {
+        let t = word(up, k);
+        let ids = declared_at(doc, k);
+        let n = word(declared, t) + ids.len();
+        if 6 < n {
+            return true;
+        }
+        store(declared, t, n as u32);
+        return false;
+    }
+    false
+}
+
+// Node k is past one of the limits that go by the tree; where it is not, the tables have node k.
+fn limit_at(doc: &[u32], up: &[u32], k: usize, below: &mut [u32], declared: &mut [u32]) -> bool
+    requires { ⌜ Linked (now doc) (now up) × (1 ≤ k) × (k ≤ count (now doc)) × Counted (now doc) (k - 1) (now below) (now declared) ⌝ }
+    ensures { λ r. ⌜ (r ≡ pastTree (now (doc .entry)) k) × (r ≡ false → Counted (now (doc .entry)) k (now (below .exit)) (now (declared .exit))) ⌝ }
+{
+    if has_above(doc, up, k, 12) {
+        return true;
+    }
+    if is_nested(doc, up, k) {
+        return true;
+    }
+    if widen(doc, up, k, declared) {
+        return true;
+    }
+    crowd(doc, up, k, 12, below)
+}
+
+// The first node past a limit.
+pub fn check_limits(doc: &[u32], up: &[u32]) -> Reading
+    requires { ⌜ Linked (now doc) (now up) ⌝ }
+    ensures { λ r. ⌜ r ≡ lowest (now (doc .entry)) (limitNumber (now (doc .entry))) ⌝ }
+{
+    let mut below = [0u32; 1025];
+    let mut declared = [0u32; 1025];
+    let mut globals = 0;
+    let n = word(doc, 0);
+    let mut k = 1;
+    while k < n + 1 {
+        if limit_at(doc, up, k, &mut below, &mut declared) {
+            return Reading::Refused {
+                number: 17,
+                place: k as u32,
+            };
+        }
+        let ids = globals_at(doc, up, k);
+        globals += ids.len();
+        if 64 < globals {
+            return Reading::Refused {
+                number: 17,
+                place: k as u32,
+            };
+        }
+        k += 1;
+    }
+    Reading::Readable
 }

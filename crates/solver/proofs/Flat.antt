@@ -19,10 +19,11 @@ use Rattle.types.specs.Classes.{Closed, Shape, Wf, next, rep}
 use Rattle.types.specs.Equations.{AllP, Pairs, Solves, end, pair}
 use Rattle.types.specs.Follows.{Follows, View}
 use Rattle.solver.specs.Store.{frozen, linkAt, linkOf, view, Cell, load, Both, Held, Solved}
-use Rattle.solver.specs.Flat.{Kept, Straight}
+use Rattle.solver.specs.Flat.{Kept, Direct, Straight}
 use Rattle.solver.specs.Calls.{Root}
 use Rattle.solver.proofs.Links.{WfN, rep-below}
 use Rattle.solver.proofs.Words.{frozen-set, link-new, link-same}
+use Rattle.solver.proofs.Reading.{below-next}
 
 abbrev pick : Bool → ℕ → ℕ → ℕ
 pick true x y = x
@@ -209,11 +210,48 @@ module _ (s : List ℕ) (n : ℕ) (P₀ L : Pairs ℕ) (X : Solved s n P₀ L) (
     same = same-rep;
   }
 
-pub straightened : (s : List ℕ) (n i r : ℕ) → length s ≡ 16384 → i < 768 → Root s i r → (linkAt s i ≡ 0 → ⊥) → Straight s (set s (7168 + i) (suc r)) i n
-straightened s n i r z f Q d = record {
+-- Cell i gets the link to r.
+module _ (s : List ℕ) (i r : ℕ) (z : length s ≡ 16384) (f : i < 768) (fr : r < 768) where
+  set-hit : linkAt (set s (7168 + i) (suc r)) i ≡ suc r
+  set-hit = link-new _ i (suc r) (omega arith) (getD-set-same s (7168 + i) (suc r) 0 (omega arith))
+
+  set-miss : (j : ℕ) → (j ≡ i → ⊥) → linkAt (set s (7168 + i) (suc r)) j ≡ linkAt s j
+  set-miss j d = link-same s _ j j (getD-set-other s (7168 + i) (7168 + j) (suc r) 0 (λ e. d (omega arith)))
+
+suc-inj : (a b : ℕ) → suc a ≡ suc b → a ≡ b
+suc-inj a b e = omega arith
+
+pub straightened : (s : List ℕ) (n i r : ℕ) → length s ≡ 16384 → i < 768 → r < 768 → Root s i r → (linkAt s i ≡ 0 → ⊥) → Straight s (set s (7168 + i) (suc r)) i n
+straightened s n i r z f fr Q d = record {
   still = frozen-set s (7168 + i) (suc r) (omega arith);
+  direct = λ j e.
+      let m = suc-inj j r (sym e ∙ set-hit s i r z f fr) in
+      ap (linkAt (set s (7168 + i) (suc r))) m ∙ set-miss s i r z f fr r (λ q. d (ap (linkAt s) (sym q) ∙ Q .free)) ∙ Q .free;
+  others = set-miss s i r z f fr;
+  roots = λ e. absurd (d e);
   keeps = λ P₀ L X l. straight s n P₀ L X i r l (Q .is n L (X .held) l) (Q .free) d;
 }
+
+pub straight-none : (s : List ℕ) (n i : ℕ) → linkAt s i ≡ 0 → Straight s s i n
+straight-none s n i e = record {
+  still = refl;
+  direct = λ j q. absurd (let z = sym e ∙ q in omega arith);
+  others = λ j d. refl;
+  roots = λ q. q;
+  keeps = λ P₀ L X l. record { L′ = L; solved = X; same = λ j. refl };
+}
+
+pub direct-next : (s t : List ℕ) (i n : ℕ) → Straight s t i n → ((j : ℕ) → j < i → Direct s j) → (j : ℕ) → j < i + 1 → Direct t j
+direct-next s t i n S h = below-next (λ j. Direct t j) i old (S .direct)
+  where
+    old : (j : ℕ) → j < i → Direct t j
+    old j l m e =
+        let q : linkAt s m ≡ 0 = h j l m (sym (S .others j (λ z. omega arith)) ∙ e) in
+        go (eqb m i) refl q
+      where
+        go : (b : Bool) → eqb m i ≡ b → linkAt s m ≡ 0 → linkAt t m ≡ 0
+        go true y q = ap (linkAt t) (eqb-true m i y) ∙ S .roots (ap (linkAt s) (sym (eqb-true m i y)) ∙ q)
+        go false y q = S .others m (eqb-false m i y) ∙ q
 
 pub kept-on : (s t u : List ℕ) (n i : ℕ) → ((P₀ L : Pairs ℕ) → Solved s n P₀ L → Kept t n P₀ L) → Straight t u i n → i < n → (P₀ L : Pairs ℕ) → Solved s n P₀ L → Kept u n P₀ L
 kept-on s t u n i h S l P₀ L X =

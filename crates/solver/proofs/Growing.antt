@@ -170,17 +170,17 @@ module _ (s : List ℕ) (n t a f c : ℕ) (size : length s ≡ 16384) (l : n < 7
   abbrev s4 : List ℕ
   s4 = set s3 (11778 + 4 * n) f
 
-  put-other : (p : ℕ) → (p ≡ 7168 + n → ⊥) → (p ≡ 11776 + 4 * n → ⊥) → (p ≡ 11777 + 4 * n → ⊥) → (p ≡ 11778 + 4 * n → ⊥) → (p ≡ 11779 + 4 * n → ⊥) → getD (put s n t a f c) p 0 ≡ getD s p 0
+  pub put-other : (p : ℕ) → (p ≡ 7168 + n → ⊥) → (p ≡ 11776 + 4 * n → ⊥) → (p ≡ 11777 + 4 * n → ⊥) → (p ≡ 11778 + 4 * n → ⊥) → (p ≡ 11779 + 4 * n → ⊥) → getD (put s n t a f c) p 0 ≡ getD s p 0
   unfolding put
   put-other p d₀ d₁ d₂ d₃ d₄ =
       getD-set-other s4 (11779 + 4 * n) p c 0 d₄ ∙ getD-set-other s3 (11778 + 4 * n) p f 0 d₃ ∙ getD-set-other s2 (11777 + 4 * n) p a 0 d₂
       ∙ getD-set-other s1 (11776 + 4 * n) p t 0 d₁ ∙ getD-set-other s (7168 + n) p 0 0 d₀
 
-  put-length : length (put s n t a f c) ≡ length s
+  pub put-length : length (put s n t a f c) ≡ length s
   unfolding put
   put-length = simp length-set
 
-  put-0 : getD (put s n t a f c) (7168 + n) 0 ≡ 0
+  pub put-0 : getD (put s n t a f c) (7168 + n) 0 ≡ 0
   unfolding put
   put-0 =
       getD-set-other s4 (11779 + 4 * n) (7168 + n) c 0 (λ e. omega arith) ∙ getD-set-other s3 (11778 + 4 * n) (7168 + n) f 0 (λ e. omega arith)
@@ -216,7 +216,7 @@ module _ (s : List ℕ) (n t a f c : ℕ) (size : length s ≡ 16384) (l : n < 7
   unfolding fieldAt
   here j q v e h = frozen-at (put s n t a f c) (4 * n + j) ∙ ap (λ z. getD (put s n t a f c) z 0) e ∙ h
 
-  t-at : tagAt w′ n ≡ t
+  pub t-at : tagAt w′ n ≡ t
   t-at = here 0 (11776 + 4 * n) t (omega arith) put-t
 
   a-at : argAt w′ n ≡ a
@@ -228,14 +228,14 @@ module _ (s : List ℕ) (n t a f c : ℕ) (size : length s ≡ 16384) (l : n < 7
   c-at : countAt w′ n ≡ c
   c-at = here 3 (11779 + 4 * n) c (omega arith) put-c
 
-  there : (i j : ℕ) → i < n → j < 4 → fieldAt w′ i j ≡ fieldAt w i j
+  pub there : (i j : ℕ) → i < n → j < 4 → fieldAt w′ i j ≡ fieldAt w i j
   unfolding fieldAt
   there i j m q =
       frozen-at (put s n t a f c) (4 * i + j)
       ∙ put-other (11776 + (4 * i + j)) (λ e. omega arith) (λ e. omega arith) (λ e. omega arith) (λ e. omega arith) (λ e. omega arith)
       ∙ sym (frozen-at s (4 * i + j))
 
-  runs : (p : ℕ) → 3072 ≤ p → getD w′ p 0 ≡ getD w p 0
+  pub runs : (p : ℕ) → 3072 ≤ p → getD w′ p 0 ≡ getD w p 0
   runs p m =
       frozen-at (put s n t a f c) p
       ∙ put-other (11776 + p) (λ e. omega arith) (λ e. omega arith) (λ e. omega arith) (λ e. omega arith) (λ e. omega arith)

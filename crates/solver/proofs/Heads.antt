@@ -9,12 +9,12 @@ use lib.ListN.{length}
 use borrow.Author.Tests.{lt-ltb, le-ltb}
 use Rattle.types.specs.Follows.{View, shape, unk}
 use Rattle.types.specs.Former.{Former, binding, given, int, parameter, power, product}
-use Rattle.types.specs.Former.{formerOf}
+use Rattle.types.specs.Former.{formerOf, tag}
 use Rattle.solver.specs.Store.{frozen, fieldAt, tagAt, argAt, countAt, run, partsAt, formerAt, viewOf, view, Cell}
 use Rattle.solver.specs.Calls.{Two, Alike}
 use Rattle.solver.proofs.Words.{run-length}
 
-code : Former → ℕ
+pub code : Former → ℕ
 code int = 1
 code (given g) = 2
 code power = 3
@@ -22,7 +22,7 @@ code product = 4
 code (binding l) = 5
 code (parameter i) = 6
 
-coded : (t a : ℕ) (l : List ℕ) → 0 < t → t ≤ 6 → code (formerOf t a l) ≡ t
+pub coded : (t a : ℕ) (l : List ℕ) → 0 < t → t ≤ 6 → code (formerOf t a l) ≡ t
 unfolding formerOf code
 coded zero a l p q = absurd (omega arith)
 coded (suc zero) a l p q = refl
@@ -31,6 +31,15 @@ coded (suc (suc (suc zero))) a l p q = refl
 coded (suc (suc (suc (suc zero)))) a l p q = refl
 coded (suc (suc (suc (suc (suc zero))))) a l p q = refl
 coded (suc (suc (suc (suc (suc (suc n)))))) a l p q = omega arith
+
+pub tag-code : (h : Former) → code h ≡ tag h
+unfolding code tag
+tag-code int = refl
+tag-code (given g) = refl
+tag-code power = refl
+tag-code product = refl
+tag-code (binding l) = refl
+tag-code (parameter i) = refl
 
 pub arg-yes : (t a b : ℕ) (l m : List ℕ) → (t ≡ 5 → ⊥) → a ≡ b → formerOf t a l ≡ formerOf t b m
 unfolding formerOf
@@ -56,7 +65,7 @@ ids-yes : (t a b : ℕ) (l m : List ℕ) → t ≡ 5 → l ≡ m → formerOf t 
 unfolding formerOf
 ids-yes t a b l m p q = rw p (ap binding q)
 
-binding-inj : (l m : List ℕ) → binding l ≡ binding m → l ≡ m
+pub binding-inj : (l m : List ℕ) → binding l ≡ binding m → l ≡ m
 binding-inj l m q = cc
 
 ids-no : (t a b : ℕ) (l m : List ℕ) → t ≡ 5 → formerOf t a l ≡ formerOf t b m → l ≡ m

@@ -19,7 +19,8 @@ use Rattle.types.specs.Equations.{AllP, In, InP, Pairs, Solves, end, pair}
 use Rattle.types.specs.Follows.{Clash, Follows, View, matching, parts, shape, symmetric, unk}
 use Rattle.types.specs.Former.{Former}
 use Rattle.solver.specs.Store.{frozen, linkAt, fieldAt, tagAt, countAt, partsAt, formerAt, view, Cell, load, free, weight, linkOf, Both, Held, pending, Busy}
-use Rattle.solver.specs.Calls.{Alike, Next}
+use Rattle.solver.specs.Calls.{Alike}
+use Rattle.solver.specs.Merging.{Next}
 use Rattle.solver.proofs.Links.{rep-below}
 use Rattle.solver.proofs.Words.{frozen-set, pending-low, link-new, link-same}
 use Rattle.solver.proofs.Heads.{view-unk, view-shape, parts-length}
@@ -189,7 +190,7 @@ module _ (s : List ℕ) (n : ℕ) (P₀ L : Pairs ℕ) (k : ℕ) (B : Busy s n P
     same-f : (f : ℕ → ℕ) → Solves f L → f x ≡ f y → f a ≡ f b
     same-f f fl q = sym (rep-sat ℕ eqb eqb-true eqb-false f L fl a) ∙ ap f ra ∙ q ∙ ap f (sym rb) ∙ rep-sat ℕ eqb eqb-true eqb-false f L fl b
 
-    meets : Follows Vw P₀ x y
+    pub meets : Follows Vw P₀ x y
     meets = subst (λ z. Follows Vw P₀ z y) ra (subst (λ z. Follows Vw P₀ (rep eqb L a) z) rb (reps ℕ eqb eqb-true eqb-false Vw P₀ L (pending s k) a b (B .follows, (D .0, D .1))))
 
     few-x : x < 768

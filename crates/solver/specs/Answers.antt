@@ -6,13 +6,14 @@ use Prim.Native.Nat.{ℕ, zero, suc, _+_, _≤_, _<_}
 use lib.Dec.{eqb}
 use lib.ListN.{length, getD}
 use Rattle.types.specs.Classes.{rep}
-use Rattle.types.specs.Equations.{In, Pairs}
+use Rattle.types.specs.Equations.{In, Pairs, Solves}
 use Rattle.types.specs.Finite.{bounded, fromList}
 use Rattle.types.specs.Follows.{View, shape, unk}
 use Rattle.types.specs.Former.{Former, binding}
 use Rattle.types.specs.Types.{Ty, Tys, node}
 use Rattle.solver.specs.Store.{frozen, tagAt, view, Held, Solved}
 use Rattle.solver.specs.Sizes.{Solution}
+use Rattle.solver.specs.Settled.{Pinned, Obeys, Fits}
 
 -- All cells have finite types.
 abbrev pub Finite : List ℕ → ℕ → Pairs ℕ → Type 0
@@ -60,3 +61,23 @@ pub record Placed (l : List ℕ) (k x r : ℕ) : Type 0 where
   pub within : r ≤ k
   pub hit : r < k → getD l r 0 ≡ x
   pub none : r ≡ k → In x l → ⊥
+
+-- A solution of a store with settled cells.
+pub record SolutionOf (s d : List ℕ) (n : ℕ) (P₀ : Pairs ℕ) : Type 0 where
+  pub σ : ℕ → Ty
+  pub fits : Fits (frozen s) n σ
+  pub sat : Solves σ P₀
+  pub obeys : Obeys s d n σ
+
+pub record Differ (s d : List ℕ) (n : ℕ) (P₀ : Pairs ℕ) : Type 0 where
+  pub one : SolutionOf s d n P₀
+  pub other : SolutionOf s d n P₀
+  pub cell : ℕ
+  pub made : cell < n
+  pub differ : one .σ cell ≡ other .σ cell → ⊥
+
+-- 34, with settled cells. True: two solutions differ at a cell. False: each cell's type is the same in all of them.
+pub record Left (s : List ℕ) (n : ℕ) (free : Bool) : Type 0 where
+  pub several : free ≡ true → (d : List ℕ) (P₀ L : Pairs ℕ) → Solved s n P₀ L → Pinned s d n → Finite (frozen s) n L → Differ s d n P₀
+  pub one : free ≡ false → (d : List ℕ) (P₀ L : Pairs ℕ) → Solved s n P₀ L → Pinned s d n → Finite (frozen s) n L →
+      (X Y : SolutionOf s d n P₀) → (i : ℕ) → i < n → X .σ i ≡ Y .σ i

@@ -3,12 +3,13 @@ ghost use mathlib.Core.Path.{_≡_};
 ghost use Prim.Native.Nat.{ℕ, suc, _+_, _*_, _<_, _≤_, _^_};
 ghost use lib.ListN.{length, getD, set};
 ghost use Rattle.solver.specs.Store.{frozen, linkAt, fieldAt, tagAt, firstAt, countAt, run, partsAt, Cell};
-ghost use Rattle.solver.specs.Settled.{heap, leadWords, nameWords, partsOf, Reading, Ends};
+ghost use Rattle.solver.specs.Settled.{heap, leadWords, nameWords, partsOf, Reading, Ends, Readings, SameType, Meeting, Naming, SameNames, SameFormer, Pinning, Pin, Settling, Entering, Entered, wordAt};
+ghost use Rattle.solver.specs.Merging.{Open, Turned, Popped, Tied, Tying, Drained, Asking, Merged};
 ghost use Rattle.solver.specs.Flat.{Sound, Straight, Flattened};
 ghost use Rattle.solver.specs.Written.{leadAt, nameAt, Wrote, Writing, Typed, Leading};
-ghost use Rattle.solver.specs.Answers.{Scanned, Placed, Looked};
+ghost use Rattle.solver.specs.Answers.{Scanned, Left, Placed, Looked};
 ghost use Rattle.solver.specs.Sizes.{cap, markAt, total, Size, One, Read, Round, Rounds, Cleared, Tested};
-ghost use Rattle.solver.specs.Calls.{put, Making, Made, Adding, Added, Tells, Known, Root, Runs, Two, Alike, Pushing, Pushed, Open, Turned, Popped, Drained, Asking, Merged};
+ghost use Rattle.solver.specs.Calls.{put, Making, Made, Adding, Added, Tells, Known, Root, Runs, Two, Alike, Pushing, Pushed};
 
 const CELLS: usize = 768;
 
@@ -175,6 +176,68 @@ fn skip(a: &[u32], d: &[u32], p: usize) -> usize
     at
 }
 
+// The types at p and q are one.
+fn same_type(a: &[u32], d: &[u32], p: usize, q: usize) -> bool
+    requires { ⌜ Readings (now a) (now d) p q ⌝ }
+    ensures { λ r. ⌜ SameType (now (a .entry)) (now (d .entry)) p q r ⌝ }
+{
+    let m = skip(a, d, p) - p;
+    if skip(a, d, q) - q != m {
+        return false;
+    }
+    let mut j = 0;
+    while j < m {
+        if type_word(a, d, p + j) != type_word(a, d, q + j) {
+            return false;
+        }
+        j += 1;
+    }
+    true
+}
+
+// The n identifiers of cell r are those of the type at p.
+fn same_names(a: &[u32], d: &[u32], r: usize, p: usize, n: usize) -> bool
+    requires { ⌜ Naming (now a) (now d) r p n ⌝ }
+    ensures { λ b. ⌜ SameNames (now (a .entry)) (now (d .entry)) r p n b ⌝ }
+{
+    let ids = field(a, r, 1);
+    let mut at = p + 2;
+    let mut j = 0;
+    while j < n {
+        if held(a, ids + j) != type_word(a, d, at) {
+            return false;
+        }
+        at = skip(a, d, at + 1);
+        j += 1;
+    }
+    true
+}
+
+// Cell r has the former of the type at p, and as many parts.
+fn same_former(a: &[u32], d: &[u32], r: usize, p: usize) -> bool
+    requires { ⌜ Meeting (now a) (now d) r p ⌝ }
+    ensures { λ b. ⌜ SameFormer (now (a .entry)) (now (d .entry)) r p b ⌝ }
+{
+    let t = field(a, r, 0);
+    if t != type_word(a, d, p) {
+        return false;
+    }
+    let n = field(a, r, 3);
+    if n != parts_of(a, d, t, p) {
+        return false;
+    }
+    if t == 5 {
+        return same_names(a, d, r, p, n);
+    }
+    if lead_words(t) == 1 {
+        return true;
+    }
+    if field(a, r, 1) != type_word(a, d, p + 1) {
+        return false;
+    }
+    true
+}
+
 // The k words at p are those at q.
 fn same_run(a: &[u32], p: usize, q: usize, k: usize) -> bool
     requires { ⌜ Runs (frozen (now a)) p q k ⌝ }
@@ -211,6 +274,48 @@ fn same_head(a: &[u32], x: usize, y: usize) -> bool
     p == q
 }
 
+// The unknown r, a representative, is given the type at p.
+fn settle(a: &mut [u32], d: &[u32], r: usize, p: usize) -> bool
+    requires { ⌜ Settling (now a) (now d) r p ⌝ }
+    ensures { λ b. ⌜ Pin (now (a .entry)) (now (a .exit)) (now (d .entry)) r p b ⌝ }
+{
+    let q = word(a, LINKS + r);
+    if q < 769 {
+        store(a, LINKS + r, (769 + p) as u32);
+        return true;
+    }
+    same_type(a, d, p, q - 769)
+}
+
+// Cell c is given the type at p: an unknown refers to it, a former's parts are given its parts.
+pub fn pin(a: &mut [u32], d: &[u32], c: usize, p: usize) -> bool
+    requires { ⌜ Pinning (now a) (now d) c p ⌝ }
+    ensures { λ b. ⌜ Pin (now (a .entry)) (now (a .exit)) (now (d .entry)) c p b ⌝ }
+{
+    let r = find(a, c);
+    let t = field(a, r, 0);
+    if t == 0 {
+        return settle(a, d, r, p);
+    }
+    if same_former(a, d, r, p) {
+        let n = field(a, r, 3);
+        let w = name_words(t);
+        let mut at = p + lead_words(t);
+        let mut j = 0;
+        while j < n {
+            let q = at + w;
+            if pin(a, d, part(a, r, j), q) {
+                at = skip(a, d, q);
+                j += 1;
+            } else {
+                return false;
+            }
+        }
+        return true;
+    }
+    false
+}
+
 // Pair number k of those that are pending.
 fn push(a: &mut [u32], k: usize, p: usize, q: usize)
     requires { ⌜ (k < 1536) × (p < 2 ^ 32) × (q < 2 ^ 32) ⌝ }
@@ -236,22 +341,35 @@ fn push_parts(a: &mut [u32], k: usize, x: usize, y: usize) -> usize
     k + m
 }
 
+// The unknown x, a representative, is linked to y, which is given the type that x refers to.
+fn tie(a: &mut [u32], d: &[u32], x: usize, y: usize) -> bool
+    requires { ⌜ Tying (now a) (now d) x y ⌝ }
+    ensures { λ b. ⌜ Tied (now (a .entry)) (now (a .exit)) (now (d .entry)) x y b ⌝ }
+{
+    let q = word(a, LINKS + x);
+    set_link(a, x, y);
+    if q < 769 {
+        return true;
+    }
+    pin(a, d, y, q - 769)
+}
+
 // The representatives x and y, of the newest pair, are merged.
-fn join(a: &mut [u32], k: usize, x: usize, y: usize) -> Step
-    requires { ⌜ Popped (now a) k x y ⌝ }
-    ensures { λ r. ⌜ Turned (now (a .entry)) (now (a .exit)) (suc k) (r .fine) (r .left) ⌝ }
+fn join(a: &mut [u32], d: &[u32], k: usize, x: usize, y: usize) -> Step
+    requires { ⌜ Popped (now a) (now d) k x y ⌝ }
+    ensures { λ r. ⌜ Turned (now (a .entry)) (now (a .exit)) (now (d .entry)) (suc k) (r .fine) (r .left) ⌝ }
 {
     if field(a, x, 0) == 0 {
-        set_link(a, x, y);
+        let fine = tie(a, d, x, y);
         return Step {
-            fine: true,
+            fine: fine,
             left: k,
         };
     }
     if field(a, y, 0) == 0 {
-        set_link(a, y, x);
+        let fine = tie(a, d, y, x);
         return Step {
-            fine: true,
+            fine: fine,
             left: k,
         };
     }
@@ -270,9 +388,9 @@ fn join(a: &mut [u32], k: usize, x: usize, y: usize) -> Step
 }
 
 // One turn: the newest pair.
-fn turn(a: &mut [u32], k: usize) -> Step
-    requires { ⌜ Open (now a) (suc k) ⌝ }
-    ensures { λ r. ⌜ Turned (now (a .entry)) (now (a .exit)) (suc k) (r .fine) (r .left) ⌝ }
+fn turn(a: &mut [u32], d: &[u32], k: usize) -> Step
+    requires { ⌜ Open (now a) (now d) (suc k) ⌝ }
+    ensures { λ r. ⌜ Turned (now (a .entry)) (now (a .exit)) (now (d .entry)) (suc k) (r .fine) (r .left) ⌝ }
 {
     let x = find(a, word(a, PAIRS + 2 * k));
     let y = find(a, word(a, SECONDS + 2 * k));
@@ -282,17 +400,17 @@ fn turn(a: &mut [u32], k: usize) -> Step
             left: k,
         };
     }
-    join(a, k, x, y)
+    join(a, d, k, x, y)
 }
 
 // Merges until nothing is pending.
-fn drain(a: &mut [u32]) -> bool
-    requires { ⌜ Open (now a) 1 ⌝ }
-    ensures { λ r. ⌜ Drained (now (a .entry)) (now (a .exit)) 1 r ⌝ }
+fn drain(a: &mut [u32], d: &[u32]) -> bool
+    requires { ⌜ Open (now a) (now d) 1 ⌝ }
+    ensures { λ r. ⌜ Drained (now (a .entry)) (now (a .exit)) (now (d .entry)) 1 r ⌝ }
 {
     let mut k = 1;
     while 0 < k {
-        let t = turn(a, k - 1);
+        let t = turn(a, d, k - 1);
         if t.fine {
             k = t.left;
         } else {
@@ -303,12 +421,12 @@ fn drain(a: &mut [u32]) -> bool
 }
 
 // The equation x = y, beside those that are solved.
-pub fn merge(a: &mut [u32], x: usize, y: usize) -> bool
-    requires { ⌜ Asking (now a) x y ⌝ }
-    ensures { λ r. ⌜ Merged (now (a .entry)) (now (a .exit)) x y r ⌝ }
+pub fn merge(a: &mut [u32], d: &[u32], x: usize, y: usize) -> bool
+    requires { ⌜ Asking (now a) (now d) x y ⌝ }
+    ensures { λ r. ⌜ Merged (now (a .entry)) (now (a .exit)) (now (d .entry)) x y r ⌝ }
 {
     push(a, 0, x, y);
-    drain(a)
+    drain(a, d)
 }
 
 // Writes cell n.
@@ -338,6 +456,15 @@ pub fn new_unknown(a: &mut [u32], n: usize)
     ensures { λ _. ⌜ Made (now (a .entry)) (now (a .exit)) n 0 0 3072 0 ⌝ }
 {
     new_cell(a, n, 0, 0, 3072, 0);
+}
+
+// The settled type at p enters as cell n, which refers to its words.
+pub fn new_settled(a: &mut [u32], d: &[u32], n: usize, p: usize)
+    requires { ⌜ Entering (now a) (now d) n p ⌝ }
+    ensures { λ _. ⌜ Entered (now (a .entry)) (now (a .exit)) (now (d .entry)) n p ⌝ }
+{
+    new_unknown(a, n);
+    store(a, LINKS + n, (769 + p) as u32);
 }
 
 // A word more in the runs, at top: the caller's ghost count of cells is n.
@@ -474,6 +601,36 @@ pub fn unresolved(a: &[u32], n: usize) -> bool
     while i < n {
         let r = find(a, i);
         if field(a, r, 0) == 0 {
+            return true;
+        }
+        i += 1;
+    }
+    false
+}
+
+// Cell r is an unknown, and refers to no type.
+fn is_open(a: &[u32], r: usize) -> bool
+    requires { ⌜ r < 768 ⌝ }
+    ensures { λ b. ⌜ Tells b ((tagAt (frozen (now (a .entry))) r ≡ 0) × (wordAt (now (a .entry)) r < 769)) ⌝ }
+{
+    if field(a, r, 0) != 0 {
+        return false;
+    }
+    if word(a, LINKS + r) < 769 {
+        return true;
+    }
+    false
+}
+
+// Is there a cell whose type the equations and the settled types leave open?
+pub fn left_open(a: &[u32], n: usize) -> bool
+    requires { ⌜ Read (now a) n ⌝ }
+    ensures { λ r. ⌜ Left (now (a .entry)) n r ⌝ }
+{
+    let mut i = 0;
+    while i < n {
+        let r = find(a, i);
+        if is_open(a, r) {
             return true;
         }
         i += 1;

@@ -19,8 +19,8 @@ use Rattle.checker.proofs.CheckRight.{accepted-says}
 use Rattle.fit.specs.Recorded.{Fits}
 use Rattle.fit.specs.Fit.{fitOf}
 use Rattle.evaluator.specs.Outcomes.{Event, Outcome}
-use Rattle.evaluator.specs.Names.{namesOf, documentNames}
-use Rattle.evaluator.specs.States.{State, stateOf, valueIn}
+use Rattle.states.specs.Names.{namesOf, documentNames}
+use Rattle.states.specs.States.{State, stateOf, valueIn}
 use Rattle.evaluator.specs.Paragraphs.{Step, onward, failed, runDocument}
 use Rattle.evaluator.specs.Claims.{Listed, empty, finished, ceased}
 use Rattle.evaluator.specs.Run.{Ran, ran, ending, runState, runWork, runRead, runOf}

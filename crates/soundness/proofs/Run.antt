@@ -27,8 +27,8 @@ use Rattle.fit.specs.Recorded.{Every, none, also, OfRecorded, Fits}
 use Rattle.evaluator.specs.Outcomes.{Outcome, _>>=_}
 use Rattle.evaluator.specs.Scope.{bind, valued, generic, lookup}
 use Rattle.evaluator.specs.Scope as Run
-use Rattle.evaluator.specs.Names.{Name, namesAs, lineNames, paragraphNames, namesOf}
-use Rattle.evaluator.specs.States.{State}
+use Rattle.states.specs.Names.{Name, namesAs, lineNames, paragraphNames, namesOf}
+use Rattle.states.specs.States.{State}
 use Rattle.evaluator.specs.Paragraphs.{Step, onward, failed, then, unless, bindGivens, testNames, testLines, runParagraph, runParagraphs, runDocument}
 use Rattle.evaluator.proofs.Outcomes.{bind-good, pure-good, choose-good}
 use Rattle.soundness.proofs.Values.{Typed}

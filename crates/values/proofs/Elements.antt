@@ -6,7 +6,6 @@ use native.Mathlib.Omega.{arith}
 use native.Mathlib.Numerals.{add-one}
 use lib.ListN.{length, getD}
 use borrow.Author.Tests.{eq-eqb, ne-eqb}
-use Rattle.values.specs.declared.held.Held.{Held}
 use Rattle.values.specs.Held.{over, keep}
 use Rattle.values.specs.Value.{count, encode, encodes}
 use Rattle.values.specs.Givens.{elements, elementsFrom, smallSize, sizeFrom}

@@ -1,13 +1,13 @@
 -- Laws of values by value: when a list is kept, and that appending to a kept list keeps the longer list.
-use mathlib.Core.Path.{_≡_, refl, sym, ap, _∙_, subst}
+use mathlib.Core.Path.{_≡_, refl, ap, _∙_}
 use mathlib.Core.Bool.{Bool, true, false}
-use mathlib.Core.List.{List, [], _∷_, _++_}
+use mathlib.Core.List.{List, _++_}
 use Prim.Native.Nat.{ℕ, zero, suc, _+_, _-_, _≤_, _<_}
 use native.Mathlib.Omega.{arith}
 use native.Mathlib.Numerals.{add-one}
 use lib.Dec.{leb}
 use lib.ListN.{length, getD, set, take, drop, replicate, length-append, length-replicate, drop-of-length-le}
-use lib.Seq.{sets, sets-eq, drop-cons, take-at, drop-append-add, drop-nil}
+use lib.Seq.{sets, sets-eq, drop-cons, take-at, drop-append-add}
 use borrow.Author.Tests.{le-leb, lt-leb, leb-true, leb-false}
 use Rattle.values.specs.declared.held.Held.{Held}
 use Rattle.values.specs.Held.{over, keep}
@@ -69,3 +69,7 @@ appended ws w h =
     let k : 64 - length ws - length w ≡ 64 - length (ws ++ w) = omega (arith, length-append ws w) in
     sets-eq w (ws ++ z) (length ws) (omega arith)
     ∙ rw (take-at ws z (length ws) refl, drop-append-add ws z (length w), drop-replicate (length w) (64 - length ws), k)
+
+-- the words that are held, back as a list
+pub held-part : (v : Held) (ws : List ℕ) → v ≡ keep ws → length ws ≤ 64 → take (v .len) (v .words) ≡ ws
+held-part v ws e h = rw (held-len v ws e h, held-words v ws e h) (take-at ws (zeros (64 - length ws)) (length ws) refl)

@@ -13,9 +13,8 @@ use borrow.Author.Tests.{lt-ltb, le-ltb, ltb-true, ltb-false}
 use mir.Syntax.{w32, w64}
 use mir.Val.{SFits, Fits, toZ, ofZ}
 use mir.ValLaws.{toZ-pos, toZ-neg}
-use Rattle.values.specs.declared.integer.Integer.{Integer}
 use Rattle.values.specs.declared.integer.Integer.the-variants.{Whole, Undefined, Outside}
-use Rattle.values.specs.Integer.{signed, wordOf, kept, sum, difference, product, floorDiv, floorMod, byDivisor, quotient, remainder}
+use Rattle.values.specs.Integer.{signed, wordOf, kept, floorDiv, floorMod, byDivisor, quotient, remainder}
 
 -- ---- bounds
 

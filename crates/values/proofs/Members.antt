@@ -1,20 +1,17 @@
 -- One turn of each loop over a set's members: n members, i of them passed, the next at the place `at` of s.
-use mathlib.Core.Path.{_≡_, refl, sym, ap, _∙_}
-use mathlib.Core.Bool.{Bool, true, false}
+use mathlib.Core.Path.{_≡_}
+use mathlib.Core.Bool.{true, false}
 use mathlib.Core.List.{List}
-use Prim.Native.Nat.{ℕ, zero, suc, _+_, _-_, _≤_, _<_}
+use Prim.Native.Nat.{ℕ, suc, _+_, _-_, _≤_, _<_}
 use native.Mathlib.Omega.{arith}
 use lib.ListN.{drop}
 use lib.Seq.{drop-drop}
 use Rattle.values.specs.Order.{compare, same}
 use Rattle.values.specs.Span.{span}
 use Rattle.values.specs.Sets.{first, rest, among, choose, placeFrom, isPair, second, applyFrom}
-use Rattle.values.specs.declared.words.Order.{Order}
 use Rattle.values.specs.declared.words.Order.the-variants.{Less, Same, Greater}
-use Rattle.values.specs.declared.sets.Place.{Place}
 use Rattle.values.specs.declared.sets.Place.the-variants.{At, Already}
-use Rattle.values.specs.declared.sets.Applied.{Applied}
-use Rattle.values.specs.declared.sets.Applied.the-variants.{Found, Misfit, Undefined}
+use Rattle.values.specs.declared.sets.Applied.the-variants.{Misfit, Undefined}
 
 pub rest-at : (s : List ℕ) (at : ℕ) → rest (drop at s) ≡ drop (at + span (drop at s)) s
 unfolding rest

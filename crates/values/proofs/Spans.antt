@@ -1,7 +1,7 @@
 -- Laws of how far a value's words reach: at a place of a slice, and one turn of the loop over heads.
 use mathlib.Core.Path.{_≡_, refl, sym, ap, _∙_}
 use mathlib.Core.Bool.{cond}
-use mathlib.Core.List.{List, [], _∷_}
+use mathlib.Core.List.{List}
 use Prim.Native.Nat.{ℕ, zero, suc, _+_, _-_, _≤_, _<_}
 use native.Mathlib.Omega.{arith}
 use native.Mathlib.Nat.{add-zero, add-assoc}
@@ -10,7 +10,7 @@ use lib.ListN.{getD, drop}
 use lib.Seq.{getD-drop, drop-drop}
 use borrow.Author.Tests.{eq-eqb, ne-eqb, le-leb, lt-leb, lt-ltb, le-ltb}
 use borrow.Author.Needs.{needs}
-use Rattle.values.specs.Span.{head, parts, spans, span}
+use Rattle.values.specs.Span.{head, parts, spans}
 
 -- at a `return`: the tests on the way decide the definition's
 pub ruleset tests = (eq-eqb, ne-eqb, le-leb, lt-leb, lt-ltb, le-ltb, needs)

@@ -1,5 +1,5 @@
 -- Laws of finding 42's test: one level, and one turn of the loop over members or parts.
-use mathlib.Core.Path.{_≡_, refl, sym, ap, _∙_}
+use mathlib.Core.Path.{_≡_, refl}
 use mathlib.Core.Bool.{Bool, true, false, cond}
 use mathlib.Core.List.{List}
 use Prim.Native.Nat.{ℕ, zero, suc, _+_, _-_, _≤_, _<_}
@@ -8,7 +8,6 @@ use lib.Dec.{eqb}
 use lib.ListN.{getD, drop}
 use lib.Seq.{drop-drop}
 use Rattle.values.specs.Span.{span}
-use Rattle.values.specs.Sets.{rest}
 use Rattle.values.specs.declared.typed.Test.{Test}
 use Rattle.values.specs.declared.typed.Test.the-variants.{Fails, Passes, Each}
 use Rattle.values.specs.Typed.{typeStep, whether, testOf, each, byTest, hasType}

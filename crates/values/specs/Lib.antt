@@ -7,6 +7,9 @@ pub mod Held
 pub mod Sets
 pub mod Givens
 pub mod Lookup
+pub mod Numbers
 pub mod Form
+pub mod WellFormed
+pub mod SetValues
 pub mod TypeWords
 pub mod Typed

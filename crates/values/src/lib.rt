@@ -4,6 +4,7 @@ pub mod givens;
 pub mod held;
 pub mod integer;
 pub mod lookup;
+pub mod numbers;
 pub mod sets;
 pub mod span;
 pub mod type_words;

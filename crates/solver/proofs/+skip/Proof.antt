@@ -119,10 +119,12 @@ skip-loop-again t c =
     let P = c .before .before .before .before .before .before .before .before .before .pre .1 in
     let o = c .before .before .loop .inv .0 in
     let S₀ = scan-step _ _ _ _ _ _ (c .before .before .loop .inv .1 (P .readable .type) (P .readable .reads)) (c .before .loop-test .taken) in
-    let e₀ = c .skip .ensures .is (S₀ .part) (S₀ .reads) in
-    (omega arith, λ g R.
-      let S = scan-step _ _ _ _ _ _ (c .before .before .loop .inv .1 g R) (c .before .loop-test .taken) in
-      scan-on _ _ _ _ _ _ _ S (c .skip .ensures .is (S .part) (S .reads)))
+    let e₀ = c .skip .ensures .is (S₀ .part) (S₀ .reads) in (
+      omega arith,
+      λ g R.
+          let S = scan-step _ _ _ _ _ _ (c .before .before .loop .inv .1 g R) (c .before .loop-test .taken) in
+          scan-on _ _ _ _ _ _ _ S (c .skip .ensures .is (S .part) (S .reads)),
+    )
 
 -- src/lib.rt:162:1
 skip-returns : (t : ℕ) → skip-lts.Need-returns (skip-calls t) (skip-at t) skip.Post skip-Inv-loop skip-μ-loop

@@ -10,32 +10,25 @@ use Rattle.reader.proofs.kinds.column.Tie as tie
 use Rattle.reader.proofs.kinds.column.Reads as reads
 use Rattle.reader.proofs.kinds.column.Lts as lts
 
--- src/kinds.rt:83:26
 mul-result : tie.Need-mul-result
 mul-result c = search needs
 
--- src/kinds.rt:83:26
 add-result : tie.Need-add-result
 add-result c = search needs
 
--- src/kinds.rt:83:20
 mul-result-2 : tie.Need-mul-result-2
 mul-result-2 c = search needs
 
--- src/kinds.rt:83:20
 array-read-result : tie.Need-array-read-result
 array-read-result c = search needs
 
--- src/kinds.rt:83:20
 cast-result : tie.Need-cast-result
 cast-result c = omega (arith, below-at 65536 table refl (6 * c .before .args .kind + c .before .args .j))
 
--- src/kinds.rt:79:1
 returns : tie.Need-returns
 unfolding cell
 returns c = search tests
 
--- src/kinds.rt:79:1
 returns-2 : tie.Need-returns-2
 unfolding cell
 returns-2 c = sym (List·getD-eq-default table 0 {n = 6 * c .before .args .kind + c .before .args .j} (omega arith))

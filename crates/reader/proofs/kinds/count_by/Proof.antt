@@ -6,40 +6,32 @@ use Rattle.reader.proofs.kinds.count_by.Tie as tie
 use Rattle.reader.proofs.kinds.count_by.Reads as reads
 use Rattle.reader.proofs.kinds.count_by.Lts as lts
 
--- src/kinds.rt:221:20
 add-from : tie.Need-add-from
 add-from c = search needs
 
--- src/kinds.rt:223:13
 returns : tie.Need-returns
 unfolding countBy
 returns c = search tests
 
--- src/kinds.rt:227:13
 returns-2 : tie.Need-returns-2
 unfolding countBy
 returns-2 c = search tests
 
--- src/kinds.rt:229:9
 returns-3 : tie.Need-returns-3
 unfolding countBy
 returns-3 c = search tests
 
--- src/kinds.rt:232:9
 returns-4 : tie.Need-returns-4
 unfolding countBy
 returns-4 c = search tests
 
--- src/kinds.rt:235:9
 returns-5 : tie.Need-returns-5
 unfolding countBy
 returns-5 c = search tests
 
--- src/kinds.rt:237:10
 add-result : tie.Need-add-result
 add-result c = search needs
 
--- src/kinds.rt:216:1
 returns-6 : tie.Need-returns-6
 unfolding countBy
 returns-6 c = search tests

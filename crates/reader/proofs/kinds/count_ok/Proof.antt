@@ -8,37 +8,29 @@ use Rattle.reader.proofs.kinds.count_row.Reads as count-row-reads
 use Rattle.reader.proofs.kinds.operand_count.Reads as operand-count-reads
 use Rattle.words.proofs.word.Reads as word-reads
 
--- src/kinds.rt:250:9
 word-requires : tie.Need-word-requires
 word-requires c κs = search needs
 
--- src/kinds.rt:251:9
 operand-count-requires : tie.Need-operand-count-requires
 operand-count-requires c κs = search needs
 
--- src/kinds.rt:252:9
 word-requires-2 : tie.Need-word-requires-2
 word-requires-2 c κs = search needs
 
--- src/kinds.rt:253:9
 word-requires-3 : tie.Need-word-requires-3
 word-requires-3 c κs = search needs
 
--- src/kinds.rt:254:8
 count-row-requires : tie.Need-count-row-requires
 count-row-requires c κs = search needs
 
--- src/kinds.rt:255:9
 count-by-requires : tie.Need-count-by-requires
 count-by-requires c κs = search needs
 
--- src/kinds.rt:255:9
 returns : tie.Need-returns
 returns c =
     let b = c .before .before in
     rw (← (b .before .before .before .before .word .ensures .0), ← (b .before .before .before .operand-count .ensures), ← (b .before .before .word2 .ensures .0), ← (b .before .word3 .ensures .0), ← (b .count-row .ensures), c .before .if1 .taken) (c .count-by .ensures)
 
--- src/kinds.rt:247:1
 returns-2 : tie.Need-returns-2
 returns-2 c =
     let b = c .before in

@@ -6,19 +6,15 @@ use Rattle.reader.proofs.kinds.count_row.Reads as reads
 use Rattle.reader.proofs.kinds.count_row.Lts as lts
 use Rattle.reader.proofs.kinds.column.Reads as column-reads
 
--- src/kinds.rt:207:9
 column-requires : tie.Need-column-requires
 column-requires c κs = search needs
 
--- src/kinds.rt:208:9
 column-requires-2 : tie.Need-column-requires-2
 column-requires-2 c κs = search needs
 
--- src/kinds.rt:210:9
 returns : tie.Need-returns
 returns c = rw (← (c .before .before .column .ensures), ← (c .before .column2 .ensures)) (search tests)
 
--- src/kinds.rt:204:1
 returns-2 : tie.Need-returns-2
 returns-2 c = rw (← (c .before .before .column .ensures), ← (c .before .column2 .ensures)) (search tests)
 

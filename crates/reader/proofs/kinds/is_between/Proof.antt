@@ -5,11 +5,9 @@ use Rattle.reader.proofs.kinds.is_between.Tie as tie
 use Rattle.reader.proofs.kinds.is_between.Reads as reads
 use Rattle.reader.proofs.kinds.is_between.Lts as lts
 
--- src/kinds.rt:142:9
 returns : tie.Need-returns
 returns c = search tests
 
--- src/kinds.rt:138:1
 returns-2 : tie.Need-returns-2
 returns-2 c = search tests
 

@@ -6,11 +6,9 @@ use Rattle.reader.proofs.kinds.is_identifier.Reads as reads
 use Rattle.reader.proofs.kinds.is_identifier.Lts as lts
 use Rattle.reader.proofs.kinds.is_name.Reads as is-name-reads
 
--- src/kinds.rt:187:5
 is-name-requires : tie.Need-is-name-requires
 is-name-requires c κs = search needs
 
--- src/kinds.rt:184:1
 returns : tie.Need-returns
 unfolding nameOf isIdentifier
 returns c = c .is-name .ensures

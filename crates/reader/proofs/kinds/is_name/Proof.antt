@@ -5,11 +5,9 @@ use Rattle.reader.proofs.kinds.is_name.Tie as tie
 use Rattle.reader.proofs.kinds.is_name.Reads as reads
 use Rattle.reader.proofs.kinds.is_name.Lts as lts
 
--- src/kinds.rt:179:9
 returns : tie.Need-returns
 returns c = search tests
 
--- src/kinds.rt:175:1
 returns-2 : tie.Need-returns-2
 returns-2 c = search tests
 

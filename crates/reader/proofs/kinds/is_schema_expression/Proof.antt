@@ -6,17 +6,14 @@ use Rattle.reader.proofs.kinds.is_schema_expression.Tie as tie
 use Rattle.reader.proofs.kinds.is_schema_expression.Reads as reads
 use Rattle.reader.proofs.kinds.is_schema_expression.Lts as lts
 
--- src/kinds.rt:151:9
 returns : tie.Need-returns
 unfolding ofSort
 returns c = search tests
 
--- src/kinds.rt:154:9
 returns-2 : tie.Need-returns-2
 unfolding ofSort
 returns-2 c = search tests
 
--- src/kinds.rt:147:1
 returns-3 : tie.Need-returns-3
 unfolding ofSort
 returns-3 c = search tests

@@ -8,61 +8,48 @@ use Rattle.reader.proofs.kinds.of_sort.Lts as lts
 use Rattle.reader.proofs.kinds.is_between.Reads as is-between-reads
 use Rattle.reader.proofs.kinds.is_schema_expression.Reads as is-schema-expression-reads
 
--- src/kinds.rt:164:14
 is-between-requires : tie.Need-is-between-requires
 is-between-requires c κs = search needs
 
--- src/kinds.rt:165:14
 is-schema-expression-requires : tie.Need-is-schema-expression-requires
 is-schema-expression-requires c κs = search needs
 
--- src/kinds.rt:166:14
 is-between-requires-2 : tie.Need-is-between-requires-2
 is-between-requires-2 c κs = search needs
 
--- src/kinds.rt:168:15
 is-between-requires-3 : tie.Need-is-between-requires-3
 is-between-requires-3 c κs = search needs
 
--- src/kinds.rt:169:15
 is-between-requires-4 : tie.Need-is-between-requires-4
 is-between-requires-4 c κs = search needs
 
--- src/kinds.rt:160:1
 returns : tie.Need-returns
 unfolding ofSort
 returns c = rw (c .before .match .keys1) (c .is-between .ensures)
 
--- src/kinds.rt:160:1
 returns-2 : tie.Need-returns-2
 returns-2 c = rw (c .before .match .keys2) (c .is-schema-expression .ensures)
 
--- src/kinds.rt:160:1
 returns-3 : tie.Need-returns-3
 unfolding ofSort
 returns-3 c = rw (c .before .match .keys3) (c .is-between2 .ensures)
 
--- src/kinds.rt:160:1
 returns-4 : tie.Need-returns-4
 unfolding ofSort
 returns-4 c = rw (c .match .keys4)
 
--- src/kinds.rt:160:1
 returns-5 : tie.Need-returns-5
 unfolding ofSort
 returns-5 c = rw (c .before .match .keys5) (c .is-between3 .ensures)
 
--- src/kinds.rt:160:1
 returns-6 : tie.Need-returns-6
 unfolding ofSort
 returns-6 c = rw (c .before .match .keys6) (c .is-between4 .ensures)
 
--- src/kinds.rt:160:1
 returns-7 : tie.Need-returns-7
 unfolding ofSort
 returns-7 c = rw (c .match .keys7)
 
--- src/kinds.rt:160:1
 returns-8 : tie.Need-returns-8
 unfolding ofSort
 returns-8 c = search tests

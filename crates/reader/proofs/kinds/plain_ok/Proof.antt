@@ -8,40 +8,32 @@ use Rattle.reader.proofs.kinds.plain_ok.Lts as lts
 use Rattle.reader.proofs.kinds.is_identifier.Reads as is-identifier-reads
 use Rattle.reader.proofs.kinds.is_name.Reads as is-name-reads
 
--- src/kinds.rt:195:14
 is-identifier-requires : tie.Need-is-identifier-requires
 is-identifier-requires c κs = search needs
 
--- src/kinds.rt:196:14
 is-name-requires : tie.Need-is-name-requires
 is-name-requires c κs = search needs
 
--- src/kinds.rt:191:1
 returns : tie.Need-returns
 unfolding plainOk
 returns c = rw (c .before .match .keys1) (c .is-identifier .ensures)
 
--- src/kinds.rt:191:1
 returns-2 : tie.Need-returns-2
 unfolding plainOk
 returns-2 c = rw (c .before .match .keys2) (c .is-name .ensures)
 
--- src/kinds.rt:191:1
 returns-3 : tie.Need-returns-3
 unfolding plainOk
 returns-3 c = rw (c .match .keys3)
 
--- src/kinds.rt:191:1
 returns-4 : tie.Need-returns-4
 unfolding plainOk
 returns-4 c = rw (c .match .keys4)
 
--- src/kinds.rt:191:1
 returns-5 : tie.Need-returns-5
 unfolding plainOk
 returns-5 c = rw (c .match .keys5)
 
--- src/kinds.rt:191:1
 returns-6 : tie.Need-returns-6
 unfolding plainOk
 returns-6 c = search tests

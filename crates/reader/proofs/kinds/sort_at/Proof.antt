@@ -7,23 +7,18 @@ use Rattle.reader.proofs.kinds.operand_count.Reads as operand-count-rea
 use Rattle.reader.proofs.kinds.sort_in.Reads as sort-in-reads
 use Rattle.words.proofs.word.Reads as word-reads
 
--- src/kinds.rt:141:13
 word-requires : tie.Need-word-requires
 word-requires c κs = search needs
 
--- src/kinds.rt:141:25
 operand-count-requires : tie.Need-operand-count-requires
 operand-count-requires c κs = search needs
 
--- src/kinds.rt:141:43
 word-requires-2 : tie.Need-word-requires-2
 word-requires-2 c κs = search needs
 
--- src/kinds.rt:141:5
 sort-in-requires : tie.Need-sort-in-requires
 sort-in-requires c κs = search needs
 
--- src/kinds.rt:138:1
 returns : tie.Need-returns
 returns c = cc
 

@@ -9,38 +9,30 @@ use Rattle.reader.proofs.kinds.column.Reads as column-reads
 use Rattle.reader.proofs.kinds.sort_include.Reads as sort-include-reads
 use Rattle.reader.proofs.kinds.sort_row.Reads as sort-row-reads
 
--- src/kinds.rt:118:9
 sort-include-requires : tie.Need-sort-include-requires
 sort-include-requires c κs = search needs
 
--- src/kinds.rt:118:9
 returns : tie.Need-returns
 unfolding sortIn
 returns c = search tests
 
--- src/kinds.rt:121:13
 column-requires : tie.Need-column-requires
 column-requires c κs = search needs
 
--- src/kinds.rt:123:13
 returns-2 : tie.Need-returns-2
 unfolding sortIn
 returns-2 c = rw (← (c .before .column .ensures)) (search tests)
 
--- src/kinds.rt:125:9
 sort-row-requires : tie.Need-sort-row-requires
 sort-row-requires c κs = search needs
 
--- src/kinds.rt:125:9
 returns-3 : tie.Need-returns-3
 unfolding sortIn
 returns-3 c = rw (← (c .before .before .column .ensures)) (search tests)
 
--- src/kinds.rt:127:5
 sort-row-requires-2 : tie.Need-sort-row-requires-2
 sort-row-requires-2 c κs = search needs
 
--- src/kinds.rt:113:1
 returns-4 : tie.Need-returns-4
 unfolding sortIn
 returns-4 c = search tests

@@ -6,27 +6,21 @@ use Rattle.reader.proofs.kinds.sort_row.Reads as reads
 use Rattle.reader.proofs.kinds.sort_row.Lts as lts
 use Rattle.reader.proofs.kinds.column.Reads as column-reads
 
--- src/kinds.rt:90:9
 column-requires : tie.Need-column-requires
 column-requires c κs = search needs
 
--- src/kinds.rt:90:9
 returns : tie.Need-returns
 returns c = search tests
 
--- src/kinds.rt:93:9
 column-requires-2 : tie.Need-column-requires-2
 column-requires-2 c κs = search needs
 
--- src/kinds.rt:93:9
 returns-2 : tie.Need-returns-2
 returns-2 c = search tests
 
--- src/kinds.rt:95:5
 column-requires-3 : tie.Need-column-requires-3
 column-requires-3 c κs = search needs
 
--- src/kinds.rt:86:1
 returns-3 : tie.Need-returns-3
 returns-3 c = search tests
 

@@ -8,25 +8,20 @@ use Rattle.reader.proofs.limits.is_closing.Reads as reads
 use Rattle.reader.proofs.limits.is_closing.Lts as lts
 use Rattle.reader.proofs.kinds.is_between.Reads as is-between-reads
 
--- src/limits.rt:23:9
 returns : tie.Need-returns
 unfolding isClosing
 returns c = search tests
 
--- src/limits.rt:25:8
 is-between-requires : tie.Need-is-between-requires
 is-between-requires c κs = search needs
 
--- src/limits.rt:26:9
 returns-2 : tie.Need-returns-2
 unfolding isClosing
 returns-2 c = rw (ne-eqb _ 5 (c .before .before .if1 .left), ← (c .before .is-between .ensures), c .if2 .taken)
 
--- src/limits.rt:28:5
 is-between-requires-2 : tie.Need-is-between-requires-2
 is-between-requires-2 c κs = search needs
 
--- src/limits.rt:19:1
 returns-3 : tie.Need-returns-3
 unfolding isClosing
 returns-3 c = rw (ne-eqb _ 5 (c .before .before .before .if1 .left), ← (c .before .before .is-between .ensures), c .before .if2 .left) (c .is-between2 .ensures)

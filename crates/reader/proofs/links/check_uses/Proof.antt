@@ -19,43 +19,33 @@ Inv-loop doc used n k₀ k = (1 ≤ k) × (k ≤ n + 1) × (lowest doc (useNumbe
 abbrev μ-loop : tie.MeasureT-loop
 μ-loop doc used n k₀ k = n + 1 - k
 
--- src/links.rt:94:9
 word-requires : tie.Need-word-requires Inv-loop μ-loop
 word-requires c κs = search needs
 
--- src/links.rt:96:5
 loop-holds : tie.Need-loop-holds Inv-loop μ-loop
 loop-holds c = (omega arith, omega arith, rw (add-sub-cancel, c .word .ensures .0))
 
--- src/links.rt:96:15
 add-loop : tie.Need-add-loop Inv-loop μ-loop
 add-loop c = search needs
 
--- src/links.rt:97:13
 use-number-requires : tie.Need-use-number-requires Inv-loop μ-loop
 use-number-requires c κs = search needs
 
--- src/links.rt:101:24
 cast-t8 : tie.Need-cast-t8 Inv-loop μ-loop
 cast-t8 c = search needs
 
--- src/links.rt:99:13
 returns : tie.Need-returns Inv-loop μ-loop
 returns c = rw (c .before .use-number .ensures) (scan-hit _ _ _ (omega arith) (omega arith) ∙ sym (c .before .before .before .loop .inv .2))
 
--- src/links.rt:104:9
 add-k : tie.Need-add-k Inv-loop μ-loop
 add-k c = search needs
 
--- src/links.rt:96:5
 loop-less : tie.Need-loop-less Inv-loop μ-loop
 loop-less c = omega arith
 
--- src/links.rt:96:5
 loop-again : tie.Need-loop-again Inv-loop μ-loop
 loop-again c = (omega arith, omega arith, c .before .before .before .loop .inv .2 ∙ scan-go _ _ _ (omega arith) (sym (c .before .use-number .ensures) ∙ c .if1 .left))
 
--- src/links.rt:90:1
 returns-2 : tie.Need-returns-2 Inv-loop μ-loop
 returns-2 c = scan-end _ _ _ (omega arith) ∙ sym (c .before .loop .inv .2)
 

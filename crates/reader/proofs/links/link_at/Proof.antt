@@ -11,40 +11,31 @@ use Rattle.reader.proofs.links.mark.Reads as mark-reads
 use Rattle.words.proofs.store.Reads as store-reads
 use Rattle.words.proofs.word.Reads as word-reads
 
--- src/links.rt:33:8
 sort-at-requires : tie.Need-sort-at-requires
 sort-at-requires c κs = search needs
 
--- src/links.rt:34:9
 returns : tie.Need-returns
 unfolding tallyAt linkAt
 returns c = rw (← (c .before .sort-at .ensures), le-ltb _ _ (c .if1 .taken)) (search tests)
 
--- src/links.rt:36:9
 word-requires : tie.Need-word-requires
 word-requires c κs = search needs
 
--- src/links.rt:37:5
 mark-requires : tie.Need-mark-requires
 mark-requires c κs = search needs
 
--- src/links.rt:38:18
 cast-store : tie.Need-cast-store
 cast-store c = search needs
 
--- src/links.rt:38:5
 store-requires : tie.Need-store-requires
 store-requires c κs = search needs
 
--- src/links.rt:29:1
 same-length : tie.Need-same-length
 same-length c = search needs
 
--- src/links.rt:29:1
 same-length-2 : tie.Need-same-length-2
 same-length-2 c = search needs
 
--- src/links.rt:29:1
 returns-2 : tie.Need-returns-2
 unfolding tallyAt linkAt
 returns-2 c = let s = c .before .before .before .before .before .before .before .before .before .before .sort-at .ensures in

@@ -22,46 +22,36 @@ Inv-loop w k used₀ up₀ n i₀ used up i =
 abbrev μ-loop : tie.MeasureT-loop
 μ-loop w k used₀ up₀ n i₀ used up i = n + 1 - i
 
--- src/links.rt:45:9
 operand-count-requires : tie.Need-operand-count-requires Inv-loop μ-loop
 operand-count-requires c κs = search needs
 
--- src/links.rt:47:5
 loop-holds : tie.Need-loop-holds Inv-loop μ-loop
 loop-holds c = (omega arith, omega arith, refl, refl, rw (add-sub-cancel, c .operand-count .ensures), rw (add-sub-cancel, c .operand-count .ensures))
 
--- src/links.rt:47:15
 add-loop : tie.Need-add-loop Inv-loop μ-loop
 add-loop c = search needs
 
--- src/links.rt:48:9
 link-at-requires : tie.Need-link-at-requires Inv-loop μ-loop
 link-at-requires c κs = search needs
 
--- src/links.rt:49:9
 add-i : tie.Need-add-i Inv-loop μ-loop
 add-i c = search needs
 
--- src/links.rt:47:5
 loop-less : tie.Need-loop-less Inv-loop μ-loop
 loop-less c = omega arith
 
--- src/links.rt:47:5
 loop-again : tie.Need-loop-again Inv-loop μ-loop
 loop-again c =
     let l = c .before .before .before .before .before .before .before .before .loop in
     let t = c .before .before .before .before .link-at in
     (omega arith, omega arith, t .kept .1 .1 .1 .0 ∙ l .inv .2, t .kept .1 .1 .1 .1 .0 ∙ l .inv .3, l .inv .4 ∙ run-go _ _ _ _ (omega arith) ∙ rw (← (t .ensures .0)), l .inv .5 ∙ run-go _ _ _ _ (omega arith) ∙ rw (← (t .ensures .1)))
 
--- src/links.rt:41:1
 same-length : tie.Need-same-length Inv-loop μ-loop
 same-length c = search needs
 
--- src/links.rt:41:1
 same-length-2 : tie.Need-same-length-2 Inv-loop μ-loop
 same-length-2 c = search needs
 
--- src/links.rt:41:1
 returns : tie.Need-returns Inv-loop μ-loop
 returns c = (sym (c .before .loop .inv .4 ∙ run-end _ _ _ _ (omega arith)), sym (c .before .loop .inv .5 ∙ run-end _ _ _ _ (omega arith)))
 

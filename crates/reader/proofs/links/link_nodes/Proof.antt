@@ -23,35 +23,27 @@ Inv-loop doc used₀ up₀ n k₀ used up k =
 abbrev μ-loop : tie.MeasureT-loop
 μ-loop doc used₀ up₀ n k₀ used up k = n + 1 - k
 
--- src/links.rt:58:9
 word-requires : tie.Need-word-requires Inv-loop μ-loop
 word-requires c κs = search needs
 
--- src/links.rt:60:5
 loop-holds : tie.Need-loop-holds Inv-loop μ-loop
 loop-holds c = (omega arith, omega arith, refl, refl, rw (add-sub-cancel, c .word .ensures .0), rw (add-sub-cancel, c .word .ensures .0))
 
--- src/links.rt:60:15
 add-loop : tie.Need-add-loop Inv-loop μ-loop
 add-loop c = search needs
 
--- src/links.rt:61:19
 part-requires : tie.Need-part-requires Inv-loop μ-loop
 part-requires c κs = search needs
 
--- src/links.rt:61:9
 link-node-requires : tie.Need-link-node-requires Inv-loop μ-loop
 link-node-requires c κs = search needs
 
--- src/links.rt:62:9
 add-k : tie.Need-add-k Inv-loop μ-loop
 add-k c = search needs
 
--- src/links.rt:60:5
 loop-less : tie.Need-loop-less Inv-loop μ-loop
 loop-less c = omega arith
 
--- src/links.rt:60:5
 loop-again : tie.Need-loop-again Inv-loop μ-loop
 loop-again c =
     let l = c .before .before .before .before .before .before .before .before .before .loop in
@@ -59,15 +51,12 @@ loop-again c =
     let p = c .before .before .before .before .before .before .before .part .ensures in
     (omega arith, omega arith, t .kept .1 .1 .0 ∙ l .inv .2, t .kept .1 .1 .1 .0 ∙ l .inv .3, l .inv .4 ∙ run-go _ _ _ _ (omega arith) ∙ rw (← p, ← (t .ensures .0)), l .inv .5 ∙ run-go _ _ _ _ (omega arith) ∙ rw (← p, ← (t .ensures .1)))
 
--- src/links.rt:54:1
 same-length : tie.Need-same-length Inv-loop μ-loop
 same-length c = c .before .loop .inv .2
 
--- src/links.rt:54:1
 same-length-2 : tie.Need-same-length-2 Inv-loop μ-loop
 same-length-2 c = c .before .loop .inv .3
 
--- src/links.rt:54:1
 returns : tie.Need-returns Inv-loop μ-loop
 returns c = (sym (c .before .loop .inv .4 ∙ run-end _ _ _ _ (omega arith)), sym (c .before .loop .inv .5 ∙ run-end _ _ _ _ (omega arith)))
 

@@ -7,47 +7,36 @@ use Rattle.reader.proofs.links.mark.Tie as tie
 use Rattle.reader.proofs.links.mark.Reads as reads
 use Rattle.reader.proofs.links.mark.Lts as lts
 
--- src/links.rt:20:12
 mul-if2 : tie.Need-mul-if2
 mul-if2 c = search needs
 
--- src/links.rt:20:12
 slice-read-if2 : tie.Need-slice-read-if2
 slice-read-if2 c = search needs
 
--- src/links.rt:21:13
 mul-used : tie.Need-mul-used
 mul-used c = search needs
 
--- src/links.rt:21:13
 slice-write-used : tie.Need-slice-write-used
 slice-write-used c = search needs
 
--- src/links.rt:23:13
 mul-used-2 : tie.Need-mul-used-2
 mul-used-2 c = search needs
 
--- src/links.rt:23:13
 slice-write-used-2 : tie.Need-slice-write-used-2
 slice-write-used-2 c = search needs
 
--- src/links.rt:16:1
 same-length : tie.Need-same-length
 same-length c = search needs
 
--- src/links.rt:16:1
 returns : tie.Need-returns
 returns c = search tests
 
--- src/links.rt:16:1
 same-length-2 : tie.Need-same-length-2
 same-length-2 c = search needs
 
--- src/links.rt:16:1
 returns-2 : tie.Need-returns-2
 returns-2 c = search tests
 
--- src/links.rt:16:1
 returns-3 : tie.Need-returns-3
 returns-3 c = sym (set-out _ _ _ (c .if1 .left))
 

@@ -9,46 +9,38 @@ use Rattle.reader.proofs.links.use_number.Lts as lts
 use Rattle.reader.proofs.nodes.kind_at.Reads as kind-at-reads
 use Rattle.words.proofs.word.Reads as word-reads
 
--- src/links.rt:71:9
 word-requires : tie.Need-word-requires
 word-requires c κs = search needs
 
--- src/links.rt:72:9
 word-requires-2 : tie.Need-word-requires-2
 word-requires-2 c κs = search needs
 
--- src/links.rt:73:9
 kind-at-requires : tie.Need-kind-at-requires
 kind-at-requires c κs = search needs
 
--- src/links.rt:77:17
 returns : tie.Need-returns
 unfolding useNumber
 returns c = let b = c .before .before .before in
     let a = b .before .before .before .before .before in
     rw (← (b .kind-at .ensures .0), used-one _ _ (a .args .k) _ (a .pre .0) (a .pre .1) (b .before .word2 .ensures .0), ← (b .before .before .word .ensures .0)) (search tests)
 
--- src/links.rt:79:13
 returns-2 : tie.Need-returns-2
 unfolding useNumber
 returns-2 c = let b = c .before .before .before in
     let a = b .before .before .before .before .before in
     rw (← (b .kind-at .ensures .0), used-one _ _ (a .args .k) _ (a .pre .0) (a .pre .1) (b .before .word2 .ensures .0), ← (b .before .before .word .ensures .0)) (search tests)
 
--- src/links.rt:81:9
 returns-3 : tie.Need-returns-3
 unfolding useNumber
 returns-3 c = let b = c .before .before in
     let a = b .before .before .before .before .before in
     rw (← (b .kind-at .ensures .0), used-one _ _ (a .args .k) _ (a .pre .0) (a .pre .1) (b .before .word2 .ensures .0), ← (b .before .before .word .ensures .0)) (search tests)
 
--- src/links.rt:84:9
 returns-4 : tie.Need-returns-4
 unfolding useNumber
 returns-4 c = let b = c .before .before in
     rw (← (b .kind-at .ensures .0), ← (b .before .before .word .ensures .0)) (search tests)
 
--- src/links.rt:67:1
 returns-5 : tie.Need-returns-5
 unfolding useNumber
 returns-5 c = let b = c .before .before in

@@ -20,51 +20,40 @@ Inv-loop doc n k₀ k = (1 ≤ k) × (k ≤ n + 1) × (lowest doc (nodeNumber do
 abbrev μ-loop : tie.MeasureT-loop
 μ-loop doc n k₀ k = n + 1 - k
 
--- src/nodes.rt:108:9
 word-requires : tie.Need-word-requires Inv-loop μ-loop
 word-requires c κs = search needs
 
--- src/nodes.rt:110:5
 loop-holds : tie.Need-loop-holds Inv-loop μ-loop
 loop-holds c = (omega arith, omega arith, rw (add-sub-cancel, c .word .ensures .0))
 
--- src/nodes.rt:110:15
 add-loop : tie.Need-add-loop Inv-loop μ-loop
 add-loop c = search needs
 
--- src/nodes.rt:111:40
 part-requires : tie.Need-part-requires Inv-loop μ-loop
 part-requires c κs = search needs
 
--- src/nodes.rt:111:13
 number-of-requires : tie.Need-number-of-requires Inv-loop μ-loop
 number-of-requires c κs = search needs
 
--- src/nodes.rt:115:24
 cast-t8 : tie.Need-cast-t8 Inv-loop μ-loop
 cast-t8 c = search needs
 
--- src/nodes.rt:113:13
 returns : tie.Need-returns Inv-loop μ-loop
 returns c =
     let e : c .before .number-of .result ≡ nodeNumber (c .before .before .before .before .before .before .before .args .doc .now) (c .before .before .before .before .loop .k) = cc in
     rw e (scan-hit _ _ _ (omega arith) (omega arith) ∙ sym (c .before .before .before .before .loop .inv .2))
 
--- src/nodes.rt:118:9
 add-k : tie.Need-add-k Inv-loop μ-loop
 add-k c = search needs
 
--- src/nodes.rt:110:5
 loop-less : tie.Need-loop-less Inv-loop μ-loop
 loop-less c = omega arith
 
--- src/nodes.rt:110:5
 loop-again : tie.Need-loop-again Inv-loop μ-loop
 loop-again c =
     let e : c .before .number-of .result ≡ nodeNumber (c .before .before .before .before .before .before .before .args .doc .now) (c .before .before .before .before .loop .k) = cc in
     (omega arith, omega arith, c .before .before .before .before .loop .inv .2 ∙ scan-go _ _ _ (omega arith) (sym e ∙ c .if1 .left))
 
--- src/nodes.rt:104:1
 returns-2 : tie.Need-returns-2 Inv-loop μ-loop
 returns-2 c = scan-end _ _ _ (omega arith) ∙ sym (c .before .loop .inv .2)
 

@@ -7,15 +7,12 @@ use Rattle.reader.proofs.nodes.kind_at.Lts as lts
 use Rattle.layout.proofs.part.Reads as part-reads
 use Rattle.words.proofs.word.Reads as word-reads
 
--- src/nodes.rt:18:10
 part-requires : tie.Need-part-requires
 part-requires c κs = search needs
 
--- src/nodes.rt:18:5
 word-requires : tie.Need-word-requires
 word-requires c κs = search needs
 
--- src/nodes.rt:15:1
 returns : tie.Need-returns
 returns c = (cc, omega arith)
 

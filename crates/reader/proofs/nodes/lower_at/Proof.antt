@@ -9,37 +9,29 @@ use Rattle.reader.proofs.kinds.sort_at.Reads as sort-at-reads
 use Rattle.reader.proofs.nodes.kind_at.Reads as kind-at-reads
 use Rattle.words.proofs.word.Reads as word-reads
 
--- src/nodes.rt:54:9
 sort-at-requires : tie.Need-sort-at-requires
 sort-at-requires c κs = search needs
 
--- src/nodes.rt:55:9
 word-requires : tie.Need-word-requires
 word-requires c κs = search needs
 
--- src/nodes.rt:57:9
 returns : tie.Need-returns
 returns c = rw (← (c .before .before .sort-at .ensures)) (search tests)
 
--- src/nodes.rt:60:9
 returns-2 : tie.Need-returns-2
 returns-2 c = rw (← (c .before .before .before .sort-at .ensures), ← (c .before .before .word .ensures .0)) (search tests)
 
--- src/nodes.rt:63:27
 kind-at-requires : tie.Need-kind-at-requires
 kind-at-requires c κs = search needs
 
--- src/nodes.rt:63:9
 of-sort-requires : tie.Need-of-sort-requires
 of-sort-requires c κs = search needs
 
--- src/nodes.rt:63:9
 returns-3 : tie.Need-returns-3
 returns-3 c =
     let b = c .before .before .before .before .before in
     rw (← (b .before .sort-at .ensures), ← (b .word .ensures .0), ← (c .before .kind-at .ensures .0), ← (c .of-sort .ensures)) (search tests)
 
--- src/nodes.rt:51:1
 returns-4 : tie.Need-returns-4
 returns-4 c = rw (← (c .before .before .before .before .sort-at .ensures), ← (c .before .before .before .word .ensures .0)) (search tests)
 

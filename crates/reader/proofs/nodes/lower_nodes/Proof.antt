@@ -19,39 +19,30 @@ Inv-loop doc k w n i₀ i = (i ≤ n + 1) × (lowerNodes doc k w ≡ every (lowe
 abbrev μ-loop : tie.MeasureT-loop
 μ-loop doc k w n i₀ i = n + 1 - i
 
--- src/nodes.rt:71:9
 operand-count-requires : tie.Need-operand-count-requires Inv-loop μ-loop
 operand-count-requires c κs = search needs
 
--- src/nodes.rt:73:5
 loop-holds : tie.Need-loop-holds Inv-loop μ-loop
 loop-holds c = (omega arith, rw (add-sub-cancel, c .operand-count .ensures))
 
--- src/nodes.rt:73:15
 add-loop : tie.Need-add-loop Inv-loop μ-loop
 add-loop c = search needs
 
--- src/nodes.rt:74:12
 lower-at-requires : tie.Need-lower-at-requires Inv-loop μ-loop
 lower-at-requires c κs = search needs
 
--- src/nodes.rt:75:13
 add-i : tie.Need-add-i Inv-loop μ-loop
 add-i c = search needs
 
--- src/nodes.rt:73:5
 loop-less : tie.Need-loop-less Inv-loop μ-loop
 loop-less c = omega arith
 
--- src/nodes.rt:73:5
 loop-again : tie.Need-loop-again Inv-loop μ-loop
 loop-again c = (omega arith, c .before .before .before .loop .inv .1 ∙ every-go _ _ _ (omega arith) (sym (c .before .lower-at .ensures) ∙ c .if1 .taken))
 
--- src/nodes.rt:77:13
 returns : tie.Need-returns Inv-loop μ-loop
 returns c = every-off _ _ _ (omega arith) (sym (c .before .lower-at .ensures) ∙ c .if1 .left) ∙ sym (c .before .before .before .loop .inv .1)
 
--- src/nodes.rt:68:1
 returns-2 : tie.Need-returns-2 Inv-loop μ-loop
 returns-2 c = every-end _ _ _ (omega arith) ∙ sym (c .before .loop .inv .1)
 

@@ -10,51 +10,41 @@ use Rattle.reader.proofs.nodes.lower_nodes.Reads as lower-nodes-reads
 use Rattle.reader.proofs.nodes.plain_words.Reads as plain-words-reads
 use Rattle.words.proofs.word.Reads as word-reads
 
--- src/nodes.rt:87:24
 word-requires : tie.Need-word-requires
 word-requires c κs = search needs
 
--- src/nodes.rt:87:9
 column-requires : tie.Need-column-requires
 column-requires c κs = search needs
 
--- src/nodes.rt:89:12
 count-ok-requires : tie.Need-count-ok-requires
 count-ok-requires c κs = search needs
 
--- src/nodes.rt:90:16
 plain-words-requires : tie.Need-plain-words-requires
 plain-words-requires c κs = search needs
 
--- src/nodes.rt:91:20
 lower-nodes-requires : tie.Need-lower-nodes-requires
 lower-nodes-requires c κs = search needs
 
--- src/nodes.rt:92:21
 returns : tie.Need-returns
 returns c =
     let b = c .before .before .before .before .before .before in
     rw (← (c .before .lower-nodes .ensures), c .if4 .taken, ← (c .before .before .before .plain-words .ensures), c .before .before .if3 .taken, ← (c .before .before .before .before .before .count-ok .ensures), c .before .before .before .before .if2 .taken, ← (b .before .before .word .ensures .0), ← (b .before .column .ensures), lt-ltb 0 (b .before .column .result) (b .if1 .taken))
 
--- src/nodes.rt:94:17
 returns-2 : tie.Need-returns-2
 returns-2 c =
     let b = c .before .before .before .before .before .before in
     rw (← (c .before .lower-nodes .ensures), c .if4 .left, ← (c .before .before .before .plain-words .ensures), c .before .before .if3 .taken, ← (c .before .before .before .before .before .count-ok .ensures), c .before .before .before .before .if2 .taken, ← (b .before .before .word .ensures .0), ← (b .before .column .ensures), lt-ltb 0 (b .before .column .result) (b .if1 .taken))
 
--- src/nodes.rt:96:13
 returns-3 : tie.Need-returns-3
 returns-3 c =
     let b = c .before .before .before .before in
     rw (← (c .before .plain-words .ensures), c .if3 .left, ← (c .before .before .before .count-ok .ensures), c .before .before .if2 .taken, ← (b .before .before .word .ensures .0), ← (b .before .column .ensures), lt-ltb 0 (b .before .column .result) (b .if1 .taken))
 
--- src/nodes.rt:98:9
 returns-4 : tie.Need-returns-4
 returns-4 c =
     let b = c .before .before in
     rw (← (c .before .count-ok .ensures), c .if2 .left, ← (b .before .before .word .ensures .0), ← (b .before .column .ensures), lt-ltb 0 (b .before .column .result) (b .if1 .taken))
 
--- src/nodes.rt:84:1
 returns-5 : tie.Need-returns-5
 returns-5 c = rw (← (c .before .before .word .ensures .0), ← (c .before .column .ensures), le-ltb 0 (c .before .column .result) (c .if1 .left))
 

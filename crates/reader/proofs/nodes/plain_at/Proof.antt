@@ -7,19 +7,15 @@ use Rattle.reader.proofs.kinds.plain_ok.Reads as plain-ok-reads
 use Rattle.reader.proofs.kinds.sort_at.Reads as sort-at-reads
 use Rattle.words.proofs.word.Reads as word-reads
 
--- src/nodes.rt:32:14
 sort-at-requires : tie.Need-sort-at-requires
 sort-at-requires c κs = search needs
 
--- src/nodes.rt:32:29
 word-requires : tie.Need-word-requires
 word-requires c κs = search needs
 
--- src/nodes.rt:32:5
 plain-ok-requires : tie.Need-plain-ok-requires
 plain-ok-requires c κs = search needs
 
--- src/nodes.rt:29:1
 returns : tie.Need-returns
 returns c = cc
 

@@ -19,39 +19,30 @@ Inv-loop w n i₀ i = (i ≤ n + 1) × (plainWords w ≡ every (plainAt w) i (n 
 abbrev μ-loop : tie.MeasureT-loop
 μ-loop w n i₀ i = n + 1 - i
 
--- src/nodes.rt:38:9
 operand-count-requires : tie.Need-operand-count-requires Inv-loop μ-loop
 operand-count-requires c κs = search needs
 
--- src/nodes.rt:40:5
 loop-holds : tie.Need-loop-holds Inv-loop μ-loop
 loop-holds c = (omega arith, rw (add-sub-cancel, c .operand-count .ensures))
 
--- src/nodes.rt:40:15
 add-loop : tie.Need-add-loop Inv-loop μ-loop
 add-loop c = search needs
 
--- src/nodes.rt:41:12
 plain-at-requires : tie.Need-plain-at-requires Inv-loop μ-loop
 plain-at-requires c κs = search needs
 
--- src/nodes.rt:42:13
 add-i : tie.Need-add-i Inv-loop μ-loop
 add-i c = search needs
 
--- src/nodes.rt:40:5
 loop-less : tie.Need-loop-less Inv-loop μ-loop
 loop-less c = omega arith
 
--- src/nodes.rt:40:5
 loop-again : tie.Need-loop-again Inv-loop μ-loop
 loop-again c = (omega arith, c .before .before .before .loop .inv .1 ∙ every-go _ _ _ (omega arith) (sym (c .before .plain-at .ensures) ∙ c .if1 .taken))
 
--- src/nodes.rt:44:13
 returns : tie.Need-returns Inv-loop μ-loop
 returns c = every-off _ _ _ (omega arith) (sym (c .before .plain-at .ensures) ∙ c .if1 .left) ∙ sym (c .before .before .before .loop .inv .1)
 
--- src/nodes.rt:35:1
 returns-2 : tie.Need-returns-2 Inv-loop μ-loop
 returns-2 c = every-end _ _ _ (omega arith) ∙ sym (c .before .loop .inv .1)
 

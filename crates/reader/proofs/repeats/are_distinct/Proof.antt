@@ -22,27 +22,21 @@ Inv-loop xs n i₀ i = (i ≤ n) × (distinct xs ≡ distinct (drop i xs))
 abbrev μ-loop : tie.MeasureT-loop
 μ-loop xs n i₀ i = n - i
 
--- src/repeats.rt:136:5
 loop-holds : tie.Need-loop-holds Inv-loop μ-loop
 loop-holds c = (omega arith, refl)
 
--- src/repeats.rt:137:13
 word-requires : tie.Need-word-requires Inv-loop μ-loop
 word-requires c κs = search needs
 
--- src/repeats.rt:138:31
 add-span : tie.Need-add-span Inv-loop μ-loop
 add-span c = search needs
 
--- src/repeats.rt:138:22
 span-requires : tie.Need-span-requires Inv-loop μ-loop
 span-requires c κs = search needs
 
--- src/repeats.rt:138:12
 stands-requires : tie.Need-stands-requires Inv-loop μ-loop
 stands-requires c κs = search needs
 
--- src/repeats.rt:139:13
 returns : tie.Need-returns Inv-loop μ-loop
 returns c =
     let x = c .before .before .before .before .before .before .before .args .xs .now in
@@ -51,15 +45,12 @@ returns c =
     let e : has (getD x i 0) (drop (i + 1) x) ≡ true = rw (s, c .before .before .before .word .ensures .0) at (sym (c .before .stands .ensures) ∙ c .if1 .taken) in
     distinct-off x i (omega arith) e ∙ sym (c .before .before .before .before .before .loop .inv .1)
 
--- src/repeats.rt:141:9
 add-i : tie.Need-add-i Inv-loop μ-loop
 add-i c = search needs
 
--- src/repeats.rt:136:5
 loop-less : tie.Need-loop-less Inv-loop μ-loop
 loop-less c = omega arith
 
--- src/repeats.rt:136:5
 loop-again : tie.Need-loop-again Inv-loop μ-loop
 loop-again c =
     let x = c .before .before .before .before .before .before .before .args .xs .now in
@@ -68,7 +59,6 @@ loop-again c =
     let e : has (getD x i 0) (drop (i + 1) x) ≡ false = rw (s, c .before .before .before .word .ensures .0) at (sym (c .before .stands .ensures) ∙ c .if1 .left) in
     (omega arith, c .before .before .before .before .before .loop .inv .1 ∙ distinct-go x i (omega arith) e)
 
--- src/repeats.rt:131:1
 returns-2 : tie.Need-returns-2 Inv-loop μ-loop
 returns-2 c = distinct-end (c .before .before .before .args .xs .now) (c .before .loop .i) (omega arith) ∙ sym (c .before .loop .inv .1)
 

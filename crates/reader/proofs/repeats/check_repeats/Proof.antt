@@ -22,53 +22,41 @@ Inv-loop doc up seen₀ names₀ n k₀ seen names k = (1 ≤ k) × (k ≤ n + 1
 abbrev μ-loop : tie.MeasureT-loop
 μ-loop doc up seen₀ names₀ n k₀ seen names k = n + 1 - k
 
--- src/repeats.rt:239:9
 word-requires : tie.Need-word-requires Inv-loop μ-loop
 word-requires c κs = search needs
 
--- src/repeats.rt:241:5
 loop-holds : tie.Need-loop-holds Inv-loop μ-loop
 loop-holds c = (omega arith, omega arith, rw (add-sub-cancel, c .word .ensures .0), written-none _)
 
--- src/repeats.rt:241:15
 add-loop : tie.Need-add-loop Inv-loop μ-loop
 add-loop c = search needs
 
--- src/repeats.rt:242:48
 slice-aggregate-repeat-number : tie.Need-slice-aggregate-repeat-number Inv-loop μ-loop
 slice-aggregate-repeat-number c = sym (c .before .before .loop .inv .3 .globals .size)
 
--- src/repeats.rt:242:59
 slice-aggregate-repeat-number-2 : tie.Need-slice-aggregate-repeat-number-2 Inv-loop μ-loop
 slice-aggregate-repeat-number-2 c = sym (c .before .before .before .loop .inv .3 .schemas .size)
 
--- src/repeats.rt:242:13
 repeat-number-requires : tie.Need-repeat-number-requires Inv-loop μ-loop
 repeat-number-requires c κs = ((c .before .before .before .before .before .before .before .pre, omega arith, omega (arith, c .before .before .before .before .word .ensures .0)), c .before .before .before .loop .inv .3)
 
--- src/repeats.rt:246:24
 cast-t14 : tie.Need-cast-t14 Inv-loop μ-loop
 cast-t14 c = search needs
 
--- src/repeats.rt:244:13
 returns : tie.Need-returns Inv-loop μ-loop
 returns c = rw (c .before .before .before .repeat-number .ensures .0) (scan-hit _ _ _ (omega arith) (omega (arith, c .before .before .before .repeat-number .ensures .0)) ∙ sym (c .before .before .before .before .before .before .before .loop .inv .2))
 
--- src/repeats.rt:249:9
 add-k : tie.Need-add-k Inv-loop μ-loop
 add-k c = search needs
 
--- src/repeats.rt:241:5
 loop-less : tie.Need-loop-less Inv-loop μ-loop
 loop-less c = omega arith
 
--- src/repeats.rt:241:5
 loop-again : tie.Need-loop-again Inv-loop μ-loop
 loop-again c =
     let r = c .before .before .before .repeat-number .ensures in
     (omega arith, omega arith, c .before .before .before .before .before .before .before .loop .inv .2 ∙ scan-go _ _ _ (omega arith) (sym (r .0) ∙ c .if1 .left), r .1 (c .if1 .left))
 
--- src/repeats.rt:233:1
 returns-2 : tie.Need-returns-2 Inv-loop μ-loop
 returns-2 c = scan-end _ _ _ (omega arith) ∙ sym (c .before .loop .inv .2)
 

@@ -8,15 +8,12 @@ use Rattle.reader.proofs.repeats.declared_at.Lts as lts
 use Rattle.layout.proofs.part.Reads as part-reads
 use Rattle.words.proofs.span.Reads as span-reads
 
--- src/repeats.rt:83:9
 part-requires : tie.Need-part-requires
 part-requires c κs = search needs
 
--- src/repeats.rt:84:5
 span-requires : tie.Need-span-requires
 span-requires c κs = search needs
 
--- src/repeats.rt:80:1
 returns : tie.Need-returns
 returns c = rw (← (c .before .part .ensures)) (c .span .ensures ∙ take-rest (c .before .part .result .now) 2)
 

@@ -12,23 +12,18 @@ use Rattle.reader.proofs.repeats.is_axiom_decl.Lts as lts
 use Rattle.reader.proofs.nodes.kind_at.Reads as kind-at-reads
 use Rattle.words.proofs.word.Reads as word-reads
 
--- src/repeats.rt:27:9
 kind-at-requires : tie.Need-kind-at-requires
 kind-at-requires c κs = search needs
 
--- src/repeats.rt:29:13
 word-requires : tie.Need-word-requires
 word-requires c κs = search needs
 
--- src/repeats.rt:30:13
 word-requires-2 : tie.Need-word-requires-2
 word-requires-2 c κs = search needs
 
--- src/repeats.rt:31:16
 kind-at-requires-2 : tie.Need-kind-at-requires-2
 kind-at-requires-2 c κs = search needs
 
--- src/repeats.rt:31:9
 returns : tie.Need-returns
 unfolding isAxiomDecl
 returns c = let s = c .before .before .before .before .before .before .before in
@@ -39,7 +34,6 @@ returns c = let s = c .before .before .before .before .before .before .before in
     let u : c .before .word2 .result ≡ parent d (c .before .before .word .result) = c .before .word2 .ensures .0 ∙ p .at (c .before .before .word .result) (omega (arith, parent-most d k, p .few)) in
     rw (← (c .before .before .before .before .kind-at .ensures .0), eq-eqb _ 11 (c .before .before .before .if1 .taken), ← t, ← u, ← (c .kind-at2 .ensures .0))
 
--- src/repeats.rt:23:1
 returns-2 : tie.Need-returns-2
 unfolding isAxiomDecl
 returns-2 c = rw (← (c .before .kind-at .ensures .0), ne-eqb _ 11 (c .if1 .left))

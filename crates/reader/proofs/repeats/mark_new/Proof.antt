@@ -21,27 +21,21 @@ Inv-loop ids seen₀ n i₀ seen i =
 abbrev μ-loop : tie.MeasureT-loop
 μ-loop ids seen₀ n i₀ seen i = n - i
 
--- src/repeats.rt:105:5
 loop-holds : tie.Need-loop-holds Inv-loop μ-loop
 loop-holds c = (omega arith, refl, refl, refl)
 
--- src/repeats.rt:106:27
 word-requires : tie.Need-word-requires Inv-loop μ-loop
 word-requires c κs = search needs
 
--- src/repeats.rt:106:12
 mark-one-requires : tie.Need-mark-one-requires Inv-loop μ-loop
 mark-one-requires c κs = search needs
 
--- src/repeats.rt:107:13
 add-i : tie.Need-add-i Inv-loop μ-loop
 add-i c = search needs
 
--- src/repeats.rt:105:5
 loop-less : tie.Need-loop-less Inv-loop μ-loop
 loop-less c = omega arith
 
--- src/repeats.rt:105:5
 loop-again : tie.Need-loop-again Inv-loop μ-loop
 loop-again c =
     let a = c .before .before .before .before .before .before .before .before .before .before .args in
@@ -52,11 +46,9 @@ loop-again c =
     let s : c .before .before .before .mark-one .last .0 ≡ set (l .seen) (getD (a .ids .now) (l .i) 0) 1 = rw w at (m .1) in
     (omega arith, c .before .before .before .mark-one .kept .0 ∙ l .inv .1, rw s (l .inv .2 ∙ unmarked-go (a .ids .now) (l .i) (l .seen) (omega arith) e), rw s (l .inv .3 ∙ marked-go (a .ids .now) (l .i) (l .seen) (omega arith)))
 
--- src/repeats.rt:109:13
 same-length : tie.Need-same-length Inv-loop μ-loop
 same-length c = c .before .before .before .mark-one .kept .0 ∙ c .before .before .before .before .before .before .before .loop .inv .1
 
--- src/repeats.rt:109:13
 returns : tie.Need-returns Inv-loop μ-loop
 returns c =
     let a = c .before .before .before .before .before .before .before .before .before .before .args in
@@ -65,11 +57,9 @@ returns c =
     let e : eqb (getD (l .seen) (getD (a .ids .now) (l .i) 0) 0) 0 ≡ false = rw (c .before .before .before .before .word .ensures .0) at (sym (m .0) ∙ c .if1 .left) in
     (unmarked-off (a .ids .now) (l .i) (l .seen) (omega arith) e ∙ sym (l .inv .2), λ q. absurd (false≢true q))
 
--- src/repeats.rt:100:1
 same-length-2 : tie.Need-same-length-2 Inv-loop μ-loop
 same-length-2 c = c .before .loop .inv .1
 
--- src/repeats.rt:100:1
 returns-2 : tie.Need-returns-2 Inv-loop μ-loop
 returns-2 c =
     let a = c .before .before .before .before .args in

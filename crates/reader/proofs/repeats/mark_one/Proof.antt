@@ -8,23 +8,18 @@ use Rattle.reader.proofs.repeats.mark_one.Tie as tie
 use Rattle.reader.proofs.repeats.mark_one.Reads as reads
 use Rattle.reader.proofs.repeats.mark_one.Lts as lts
 
--- src/repeats.rt:92:19
 slice-read-old : tie.Need-slice-read-old
 slice-read-old c = search needs
 
--- src/repeats.rt:93:9
 slice-write-seen : tie.Need-slice-write-seen
 slice-write-seen c = search needs
 
--- src/repeats.rt:94:9
 same-length : tie.Need-same-length
 same-length c = search needs
 
--- src/repeats.rt:94:9
 returns : tie.Need-returns
 returns c = search needs
 
--- src/repeats.rt:88:1
 returns-2 : tie.Need-returns-2
 returns-2 c =
     let a = c .before .args in

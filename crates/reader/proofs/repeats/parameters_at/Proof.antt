@@ -10,36 +10,28 @@ use Rattle.reader.proofs.nodes.kind_at.Reads as kind-at-reads
 use Rattle.words.proofs.span.Reads as span-reads
 use Rattle.words.proofs.word.Reads as word-reads
 
--- src/repeats.rt:71:9
 kind-at-requires : tie.Need-kind-at-requires
 kind-at-requires c κs = search needs
 
--- src/repeats.rt:72:9
 part-requires : tie.Need-part-requires
 part-requires c κs = search needs
 
--- src/repeats.rt:73:8
 is-between-requires : tie.Need-is-between-requires
 is-between-requires c κs = search needs
 
--- src/repeats.rt:74:27
 word-requires : tie.Need-word-requires
 word-requires c κs = search needs
 
--- src/repeats.rt:74:9
 span-requires : tie.Need-span-requires
 span-requires c κs = search needs
 
--- src/repeats.rt:74:9
 returns : tie.Need-returns
 unfolding parameters
 returns c = rw (← (c .before .before .before .before .before .kind-at .ensures .0), ← (c .before .before .before .is-between .ensures), c .before .before .if1 .taken, ← (c .before .before .before .before .part .ensures), ← (c .before .word .ensures .0)) (c .span .ensures)
 
--- src/repeats.rt:76:5
 span-requires-2 : tie.Need-span-requires-2
 span-requires-2 c κs = search needs
 
--- src/repeats.rt:68:1
 returns-2 : tie.Need-returns-2
 unfolding parameters
 returns-2 c = rw (← (c .before .before .before .before .kind-at .ensures .0), ← (c .before .before .is-between .ensures), c .before .if1 .left) (c .span2 .ensures)

@@ -16,23 +16,18 @@ use Rattle.reader.proofs.repeats.parameters_at.Reads as parameters-at-r
 use Rattle.reader.proofs.repeats.repeats_in_text.Reads as repeats-in-text-reads
 use Rattle.reader.proofs.repeats.schemas_at.Reads as schemas-at-reads
 
--- src/repeats.rt:217:17
 globals-at-requires : tie.Need-globals-at-requires
 globals-at-requires c κs = search needs
 
--- src/repeats.rt:217:8
 mark-new-requires : tie.Need-mark-new-requires
 mark-new-requires c κs = search needs
 
--- src/repeats.rt:218:12
 repeats-in-text-requires : tie.Need-repeats-in-text-requires
 repeats-in-text-requires c κs = search needs
 
--- src/repeats.rt:219:13
 same-length : tie.Need-same-length
 same-length c = search needs
 
--- src/repeats.rt:219:13
 returns : tie.Need-returns
 returns c =
     let s = c .before .before .before .before .before .before .before .before .before .before .before .before in
@@ -41,31 +36,24 @@ returns c =
     let g : c .before .before .before .before .before .mark-new .result ≡ unmarked (globals (a .doc .now) (a .k)) (a .seen .now) = rw (c .before .before .before .before .before .before .before .globals-at .ensures) at (c .before .before .before .before .before .mark-new .ensures .0) in
     (rw (e, ← g, c .before .before .if1 .taken, ← (c .before .repeats-in-text .ensures), c .if2 .taken), λ z. absurd (omega (arith, z)))
 
--- src/repeats.rt:221:25
 parameters-at-requires : tie.Need-parameters-at-requires
 parameters-at-requires c κs = search needs
 
--- src/repeats.rt:221:12
 are-distinct-requires : tie.Need-are-distinct-requires
 are-distinct-requires c κs = search needs
 
--- src/repeats.rt:222:25
 schemas-at-requires : tie.Need-schemas-at-requires
 schemas-at-requires c κs = search needs
 
--- src/repeats.rt:222:16
 mark-new-requires-2 : tie.Need-mark-new-requires-2
 mark-new-requires-2 c κs = search needs
 
--- src/repeats.rt:223:17
 same-length-2 : tie.Need-same-length-2
 same-length-2 c = search needs
 
--- src/repeats.rt:223:17
 same-length-3 : tie.Need-same-length-3
 same-length-3 c = search needs
 
--- src/repeats.rt:223:17
 returns-2 : tie.Need-returns-2
 returns-2 c =
     let s = c .before .before .before .before .before .before .before .before .before .before .before .before .before .before .before .before .before .before .before .before .before in
@@ -81,15 +69,12 @@ returns-2 c =
     let n : c .before .before .before .mark-new2 .last .1 .0 ≡ marked (schemas d (a .k)) (a .names .now) = rw (c .before .before .before .before .before .schemas-at .ensures) at (c .before .before .before .mark-new2 .ensures .1 (c .if4 .taken)) in
     (rw (e, ← g, b .before .if1 .taken, ← (b .repeats-in-text .ensures), c .before .before .before .before .before .before .before .before .before .if2 .left, ← x, c .before .before .before .before .before .before .if3 .taken, ← m, c .if4 .taken), λ z. rw (h, n) o)
 
--- src/repeats.rt:225:13
 same-length-4 : tie.Need-same-length-4
 same-length-4 c = search needs
 
--- src/repeats.rt:225:13
 same-length-5 : tie.Need-same-length-5
 same-length-5 c = search needs
 
--- src/repeats.rt:225:13
 returns-3 : tie.Need-returns-3
 returns-3 c =
     let s = c .before .before .before .before .before .before .before .before .before .before .before .before .before .before .before .before .before .before .before .before .before in
@@ -102,11 +87,9 @@ returns-3 c =
     let m : c .before .before .before .mark-new2 .result ≡ unmarked (schemas d (a .k)) (a .names .now) = rw (c .before .before .before .before .before .schemas-at .ensures) at (c .before .before .before .mark-new2 .ensures .0) in
     (rw (e, ← g, b .before .if1 .taken, ← (b .repeats-in-text .ensures), c .before .before .before .before .before .before .before .before .before .if2 .left, ← x, c .before .before .before .before .before .before .if3 .taken, ← m, c .if4 .left), λ z. absurd (omega (arith, z)))
 
--- src/repeats.rt:227:9
 same-length-6 : tie.Need-same-length-6
 same-length-6 c = search needs
 
--- src/repeats.rt:227:9
 returns-4 : tie.Need-returns-4
 returns-4 c =
     let s = c .before .before .before .before .before .before .before .before .before .before .before .before .before .before .before in
@@ -118,11 +101,9 @@ returns-4 c =
     let x : c .before .are-distinct .result ≡ distinct (parameters d (a .k)) = rw (c .before .before .parameters-at .ensures) at (c .before .are-distinct .ensures) in
     (rw (e, ← g, b .before .if1 .taken, ← (b .repeats-in-text .ensures), c .before .before .before .if2 .left, ← x, c .if3 .left), λ z. absurd (omega (arith, z)))
 
--- src/repeats.rt:212:1
 same-length-7 : tie.Need-same-length-7
 same-length-7 c = search needs
 
--- src/repeats.rt:212:1
 returns-5 : tie.Need-returns-5
 returns-5 c =
     let s = c .before .before .before .before .before .before .before .before .before .before in

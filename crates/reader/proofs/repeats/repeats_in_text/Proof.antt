@@ -17,31 +17,24 @@ use Rattle.reader.proofs.repeats.declared_at.Reads as declared-at-reads
 use Rattle.reader.proofs.repeats.shared_before.Reads as shared-before-reads
 use Rattle.words.proofs.word.Reads as word-reads
 
--- src/repeats.rt:199:9
 kind-at-requires : tie.Need-kind-at-requires
 kind-at-requires c κs = search needs
 
--- src/repeats.rt:201:13
 declared-at-requires : tie.Need-declared-at-requires
 declared-at-requires c κs = search needs
 
--- src/repeats.rt:202:13
 word-requires : tie.Need-word-requires
 word-requires c κs = search needs
 
--- src/repeats.rt:203:12
 are-distinct-requires : tie.Need-are-distinct-requires
 are-distinct-requires c κs = search needs
 
--- src/repeats.rt:204:47
 part-requires : tie.Need-part-requires
 part-requires c κs = search needs
 
--- src/repeats.rt:204:13
 shared-before-requires : tie.Need-shared-before-requires
 shared-before-requires c κs = search needs
 
--- src/repeats.rt:204:13
 returns : tie.Need-returns
 returns c =
     let s = c .before .before .before .before .before .before .before .before .before .before in
@@ -55,7 +48,6 @@ returns c =
     let p = c .before .part .ensures in
     rw (repeats-shared d (nodes-of d _ l) (once-of d _ l) k q (s .pre .1) (s .pre .2) (rw i at e), ← i, ← t, ← p) (c .shared-before .ensures)
 
--- src/repeats.rt:206:9
 returns-2 : tie.Need-returns-2
 returns-2 c =
     let s = c .before .before .before .before .before .before .before .before in
@@ -66,7 +58,6 @@ returns-2 c =
     let e : distinct (c .before .before .before .declared-at .result .now) ≡ false = sym (c .before .are-distinct .ensures) ∙ c .if2 .left in
     repeats-itself d (nodes-of d _ l) (once-of d _ l) k q (s .pre .1) (s .pre .2) (rw (c .before .before .before .declared-at .ensures) at e)
 
--- src/repeats.rt:195:1
 returns-3 : tie.Need-returns-3
 returns-3 c =
     let s = c .before .before .before .before in

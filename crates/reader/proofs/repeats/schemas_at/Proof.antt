@@ -9,28 +9,22 @@ use Rattle.layout.proofs.part.Reads as part-reads
 use Rattle.reader.proofs.nodes.kind_at.Reads as kind-at-reads
 use Rattle.words.proofs.span.Reads as span-reads
 
--- src/repeats.rt:59:9
 kind-at-requires : tie.Need-kind-at-requires
 kind-at-requires c κs = search needs
 
--- src/repeats.rt:60:9
 part-requires : tie.Need-part-requires
 part-requires c κs = search needs
 
--- src/repeats.rt:62:9
 span-requires : tie.Need-span-requires
 span-requires c κs = search needs
 
--- src/repeats.rt:62:9
 returns : tie.Need-returns
 unfolding schemas
 returns c = rw (← (c .before .before .before .kind-at .ensures .0), eq-eqb _ 4 (c .before .if1 .taken), ← (c .before .before .part .ensures)) (c .span .ensures)
 
--- src/repeats.rt:64:5
 span-requires-2 : tie.Need-span-requires-2
 span-requires-2 c κs = search needs
 
--- src/repeats.rt:56:1
 returns-2 : tie.Need-returns-2
 unfolding schemas
 returns-2 c = rw (← (c .before .before .before .kind-at .ensures .0), ne-eqb _ 4 (c .before .if1 .left)) (c .span2 .ensures)

@@ -20,19 +20,15 @@ Inv-loop xs ys n i₀ i = (i ≤ n) × (shares xs ys ≡ shares xs (drop i ys))
 abbrev μ-loop : tie.MeasureT-loop
 μ-loop xs ys n i₀ i = n - i
 
--- src/repeats.rt:152:5
 loop-holds : tie.Need-loop-holds Inv-loop μ-loop
 loop-holds c = (omega arith, refl)
 
--- src/repeats.rt:153:19
 word-requires : tie.Need-word-requires Inv-loop μ-loop
 word-requires c κs = search needs
 
--- src/repeats.rt:153:12
 stands-requires : tie.Need-stands-requires Inv-loop μ-loop
 stands-requires c κs = search needs
 
--- src/repeats.rt:154:13
 returns : tie.Need-returns Inv-loop μ-loop
 returns c =
     let a = c .before .before .before .before .before .before .before .args in
@@ -40,15 +36,12 @@ returns c =
     let e : has (getD (a .ys .now) i 0) (a .xs .now) ≡ true = rw (c .before .before .word .ensures .0) at (sym (c .before .stands .ensures) ∙ c .if1 .taken) in
     shares-on (a .ys .now) i (a .xs .now) (omega arith) e ∙ sym (c .before .before .before .before .loop .inv .1)
 
--- src/repeats.rt:156:9
 add-i : tie.Need-add-i Inv-loop μ-loop
 add-i c = search needs
 
--- src/repeats.rt:152:5
 loop-less : tie.Need-loop-less Inv-loop μ-loop
 loop-less c = omega arith
 
--- src/repeats.rt:152:5
 loop-again : tie.Need-loop-again Inv-loop μ-loop
 loop-again c =
     let a = c .before .before .before .before .before .before .before .args in
@@ -56,7 +49,6 @@ loop-again c =
     let e : has (getD (a .ys .now) i 0) (a .xs .now) ≡ false = rw (c .before .before .word .ensures .0) at (sym (c .before .stands .ensures) ∙ c .if1 .left) in
     (omega arith, c .before .before .before .before .loop .inv .1 ∙ shares-go (a .ys .now) i (a .xs .now) (omega arith) e)
 
--- src/repeats.rt:147:1
 returns-2 : tie.Need-returns-2 Inv-loop μ-loop
 returns-2 c =
     let a = c .before .before .before .before .args in

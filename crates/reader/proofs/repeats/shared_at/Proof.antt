@@ -10,40 +10,31 @@ use Rattle.reader.proofs.repeats.declared_at.Reads as declared-at-reads
 use Rattle.reader.proofs.repeats.share.Reads as share-reads
 use Rattle.words.proofs.word.Reads as word-reads
 
--- src/repeats.rt:165:9
 sort-at-requires : tie.Need-sort-at-requires
 sort-at-requires c κs = search needs
 
--- src/repeats.rt:166:9
 word-requires : tie.Need-word-requires
 word-requires c κs = search needs
 
--- src/repeats.rt:168:9
 returns : tie.Need-returns
 returns c = rw (← (c .before .before .sort-at .ensures), le-ltb _ _ (c .if1 .taken))
 
--- src/repeats.rt:171:9
 returns-2 : tie.Need-returns-2
 returns-2 c = rw (← (c .before .before .before .sort-at .ensures), lt-ltb _ _ (c .before .if1 .left), ← (c .before .before .word .ensures .0), le-ltb _ _ (c .if2 .taken))
 
--- src/repeats.rt:173:9
 kind-at-requires : tie.Need-kind-at-requires
 kind-at-requires c κs = search needs
 
--- src/repeats.rt:175:22
 declared-at-requires : tie.Need-declared-at-requires
 declared-at-requires c κs = search needs
 
--- src/repeats.rt:175:9
 share-requires : tie.Need-share-requires
 share-requires c κs = search needs
 
--- src/repeats.rt:175:9
 returns-3 : tie.Need-returns-3
 returns-3 c =
     rw (← (c .before .before .before .before .before .before .before .sort-at .ensures), lt-ltb _ _ (c .before .before .before .before .before .if1 .left), ← (c .before .before .before .before .before .before .word .ensures .0), lt-ltb _ _ (c .before .before .before .before .if2 .left), ← (c .before .before .before .kind-at .ensures .0), eq-eqb _ 11 (c .before .before .if3 .taken), ← (c .before .declared-at .ensures)) (c .share .ensures)
 
--- src/repeats.rt:162:1
 returns-4 : tie.Need-returns-4
 returns-4 c =
     rw (← (c .before .before .before .before .before .sort-at .ensures), lt-ltb _ _ (c .before .before .before .if1 .left), ← (c .before .before .before .before .word .ensures .0), lt-ltb _ _ (c .before .before .if2 .left), ← (c .before .kind-at .ensures .0), ne-eqb _ 11 (c .if3 .left))

@@ -20,39 +20,30 @@ Inv-loop doc k ids w n i₀ i = (i ≤ n + 1) × (some (sharedAt doc k ids w) 1 
 abbrev μ-loop : tie.MeasureT-loop
 μ-loop doc k ids w n i₀ i = n + 1 - i
 
--- src/repeats.rt:183:9
 operand-count-requires : tie.Need-operand-count-requires Inv-loop μ-loop
 operand-count-requires c κs = search needs
 
--- src/repeats.rt:185:5
 loop-holds : tie.Need-loop-holds Inv-loop μ-loop
 loop-holds c = (omega arith, rw (add-sub-cancel, c .operand-count .ensures))
 
--- src/repeats.rt:185:15
 add-loop : tie.Need-add-loop Inv-loop μ-loop
 add-loop c = search needs
 
--- src/repeats.rt:186:12
 shared-at-requires : tie.Need-shared-at-requires Inv-loop μ-loop
 shared-at-requires c κs = search needs
 
--- src/repeats.rt:187:13
 returns : tie.Need-returns Inv-loop μ-loop
 returns c = some-on _ _ _ (omega arith) (sym (c .before .shared-at .ensures) ∙ c .if1 .taken) ∙ sym (c .before .before .before .loop .inv .1)
 
--- src/repeats.rt:189:9
 add-i : tie.Need-add-i Inv-loop μ-loop
 add-i c = search needs
 
--- src/repeats.rt:185:5
 loop-less : tie.Need-loop-less Inv-loop μ-loop
 loop-less c = omega arith
 
--- src/repeats.rt:185:5
 loop-again : tie.Need-loop-again Inv-loop μ-loop
 loop-again c = (omega arith, c .before .before .before .loop .inv .1 ∙ some-go _ _ _ (omega arith) (sym (c .before .shared-at .ensures) ∙ c .if1 .left))
 
--- src/repeats.rt:180:1
 returns-2 : tie.Need-returns-2 Inv-loop μ-loop
 returns-2 c = some-end _ _ _ (omega arith) ∙ sym (c .before .loop .inv .1)
 

@@ -17,31 +17,24 @@ Inv-loop x xs n i₀ i = (i ≤ n) × (has x xs ≡ has x (drop i xs))
 abbrev μ-loop : tie.MeasureT-loop
 μ-loop x xs n i₀ i = n - i
 
--- src/repeats.rt:121:5
 loop-holds : tie.Need-loop-holds Inv-loop μ-loop
 loop-holds c = (omega arith, refl)
 
--- src/repeats.rt:122:12
 word-requires : tie.Need-word-requires Inv-loop μ-loop
 word-requires c κs = search needs
 
--- src/repeats.rt:123:13
 returns : tie.Need-returns Inv-loop μ-loop
 returns c = let a = c .before .before .before .before .before .args in has-here (a .xs .now) (c .before .before .before .loop .i) (a .x) (omega arith) (omega arith) ∙ sym (c .before .before .before .loop .inv .1)
 
--- src/repeats.rt:125:9
 add-i : tie.Need-add-i Inv-loop μ-loop
 add-i c = search needs
 
--- src/repeats.rt:121:5
 loop-less : tie.Need-loop-less Inv-loop μ-loop
 loop-less c = omega arith
 
--- src/repeats.rt:121:5
 loop-again : tie.Need-loop-again Inv-loop μ-loop
 loop-again c = let a = c .before .before .before .before .before .args in (omega arith, c .before .before .before .loop .inv .1 ∙ has-go (a .xs .now) (c .before .before .before .loop .i) (a .x) (omega arith) (omega arith))
 
--- src/repeats.rt:116:1
 returns-2 : tie.Need-returns-2 Inv-loop μ-loop
 returns-2 c = let a = c .before .before .before .args in has-end (a .xs .now) (c .before .loop .i) (a .x) (omega arith) ∙ sym (c .before .loop .inv .1)
 

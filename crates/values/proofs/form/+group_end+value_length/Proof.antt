@@ -1,17 +1,15 @@
-use mathlib.Core.Path.{_≡_, refl, sym, _∙_, ap}
-use mathlib.Core.Bool.{true, false}
+use mathlib.Core.Path.{_≡_, sym, _∙_}
 use mathlib.Core.List.{[]}
-use Prim.Native.Nat.{_+_, _*_, _-_, _≤_}
+use Prim.Native.Nat.{_+_, _*_, _-_, _≤_, ℕ, _<_}
 use native.Mathlib.Omega.{arith}
 use native.Mathlib.Nat.{sub-zero}
 use lib.ListN.{length, take, drop, length-drop}
+use borrow.Author.Needs.{needs}
+use borrow.Fn.PlainCycle.{Measures, is, falls, and}
 use Rattle.values.specs.Givens.{sizeOf}
 use Rattle.values.specs.Form.{follows, groupEnd, byShape, valueLength}
-use Rattle.values.proofs.Forms.{Within, shape-within, length-none, length-level, group-none, group-stop, group-go, group-done}
-use borrow.Author.Needs.{needs}
-use Prim.Native.Nat.{ℕ, _<_}
+use Rattle.values.proofs.Forms.{shape-within, length-none, length-level, group-none, group-stop, group-go, group-done}
 use borrow.Fn.Kinds.{In}
-use borrow.Fn.PlainCycle.{Measures, is, falls, and}
 use Rattle.values.proofs.form.group_end.Reads as group-end
 use Rattle.values.proofs.form.group_end.Kinds as group-end-kinds
 use Rattle.values.proofs.form.+group_end+value_length.Lts-group_end as group-end-lts
@@ -65,9 +63,6 @@ value-length-calls t = (shape-of-reads.Asked, shape-of-reads.Learnt, group-end-b
 group-end-loop-holds : (t : ℕ) → group-end-lts.Need-loop-holds (group-end-calls t) (group-end-at t) group-end.Post group-end-Inv-loop group-end-μ-loop
 group-end-loop-holds t c = (omega arith, omega arith, c .before .before .pre .1, rw sub-zero)
 
-group-end-from-requires : (t : ℕ) → group-end-lts.Need-from-requires (group-end-calls t) (group-end-at t) group-end.Post group-end-Inv-loop group-end-μ-loop
-group-end-from-requires t c κs = search needs
-
 group-end-value-length-requires : (t : ℕ) → group-end-lts.Need-value-length-requires (group-end-calls t) (group-end-at t) group-end.Post group-end-Inv-loop group-end-μ-loop
 group-end-value-length-requires t c κs = (omega (arith, c .before .before .before .before .before .pre .0), tt)
 
@@ -80,27 +75,6 @@ group-end-returns t c =
           (rw (← (c .before .before .from .ensures)) (sym (v .ensures .0) ∙ c .if1 .taken)) ∙ sym (l .inv .3),
       omega arith,
     )
-
-group-end-sub-part : (t : ℕ) → group-end-lts.Need-sub-part (group-end-calls t) (group-end-at t) group-end.Post group-end-Inv-loop group-end-μ-loop
-group-end-sub-part t c = search needs
-
-group-end-part-requires : (t : ℕ) → group-end-lts.Need-part-requires (group-end-calls t) (group-end-at t) group-end.Post group-end-Inv-loop group-end-μ-loop
-group-end-part-requires t c κs = search needs
-
-group-end-part-requires-2 : (t : ℕ) → group-end-lts.Need-part-requires-2 (group-end-calls t) (group-end-at t) group-end.Post group-end-Inv-loop group-end-μ-loop
-group-end-part-requires-2 t c κs = search needs
-
-group-end-follows-requires : (t : ℕ) → group-end-lts.Need-follows-requires (group-end-calls t) (group-end-at t) group-end.Post group-end-Inv-loop group-end-μ-loop
-group-end-follows-requires t c κs = search needs
-
-group-end-add-at : (t : ℕ) → group-end-lts.Need-add-at (group-end-calls t) (group-end-at t) group-end.Post group-end-Inv-loop group-end-μ-loop
-group-end-add-at t c = search needs
-
-group-end-add-i : (t : ℕ) → group-end-lts.Need-add-i (group-end-calls t) (group-end-at t) group-end.Post group-end-Inv-loop group-end-μ-loop
-group-end-add-i t c = search needs
-
-group-end-loop-less : (t : ℕ) → group-end-lts.Need-loop-less (group-end-calls t) (group-end-at t) group-end.Post group-end-Inv-loop group-end-μ-loop
-group-end-loop-less t c = search needs
 
 group-end-loop-again : (t : ℕ) → group-end-lts.Need-loop-again (group-end-calls t) (group-end-at t) group-end.Post group-end-Inv-loop group-end-μ-loop
 group-end-loop-again t c =
@@ -141,31 +115,10 @@ value-length-returns t c =
     let s = c .before .before .before .args in
     (length-none (sizeOf (s .givens .now)) (s .depth) (s .w .now) (c .if1 .taken), omega arith)
 
-value-length-shape-of-requires : (t : ℕ) → value-length-lts.Need-shape-of-requires (value-length-calls t) (value-length-at t) value-length.Post
-value-length-shape-of-requires t c κs = search needs
-
-value-length-enum-told : (t : ℕ) → value-length-lts.Need-enum-told (value-length-calls t) (value-length-at t) value-length.Post
-value-length-enum-told t c = search needs
-
-value-length-enum-known-s : (t : ℕ) → value-length-lts.Need-enum-known-s (value-length-calls t) (value-length-at t) value-length.Post
-value-length-enum-known-s t c = search needs
-
-value-length-enum-known-s-2 : (t : ℕ) → value-length-lts.Need-enum-known-s-2 (value-length-calls t) (value-length-at t) value-length.Post
-value-length-enum-known-s-2 t c = search needs
-
-value-length-sub-group-end : (t : ℕ) → value-length-lts.Need-sub-group-end (value-length-calls t) (value-length-at t) value-length.Post
-value-length-sub-group-end t c = search needs
-
 value-length-group-end-requires : (t : ℕ) → value-length-lts.Need-group-end-requires (value-length-calls t) (value-length-at t) value-length.Post
 value-length-group-end-requires t c κs =
     let s = c .before .before .before .before .before .before .before .args in
     (omega (arith, c .before .before .before .before .before .before .before .pre .0), rw (← (c .before .before .before .shape-of .ensures), c .before .s2 .given .1) at (shape-within (sizeOf (s .givens .now)) (s .w .now)))
-
-value-length-enum-known-s-3 : (t : ℕ) → value-length-lts.Need-enum-known-s-3 (value-length-calls t) (value-length-at t) value-length.Post
-value-length-enum-known-s-3 t c = search needs
-
-value-length-sub-group-end-2 : (t : ℕ) → value-length-lts.Need-sub-group-end-2 (value-length-calls t) (value-length-at t) value-length.Post
-value-length-sub-group-end-2 t c = search needs
 
 value-length-group-end-requires-2 : (t : ℕ) → value-length-lts.Need-group-end-requires-2 (value-length-calls t) (value-length-at t) value-length.Post
 value-length-group-end-requires-2 t c κs =
@@ -207,29 +160,29 @@ pub +group-end+value-length-spec : {M : Type 1} → statement M
     group-end-Inv-loop
     group-end-μ-loop
     (group-end-loop-holds t)
-    (group-end-from-requires t)
+    (λ c κs. search needs)
     (group-end-value-length-requires t)
     (group-end-returns t)
-    (group-end-sub-part t)
-    (group-end-part-requires t)
-    (group-end-part-requires-2 t)
-    (group-end-follows-requires t)
-    (group-end-add-at t)
-    (group-end-add-i t)
-    (group-end-loop-less t)
+    (λ c. search needs)
+    (λ c κs. search needs)
+    (λ c κs. search needs)
+    (λ c κs. search needs)
+    (λ c. search needs)
+    (λ c. search needs)
+    (λ c. search needs)
     (group-end-loop-again t)
     (group-end-returns-2 t)
     (group-end-returns-3 t))
     λ t. value-length-lts.spec (value-length-calls t) (value-length-at t) value-length.Post
     (value-length-returns t)
-    (value-length-shape-of-requires t)
-    (value-length-enum-told t)
-    (value-length-enum-known-s t)
-    (value-length-enum-known-s-2 t)
-    (value-length-sub-group-end t)
+    (λ c κs. search needs)
+    (λ c. search needs)
+    (λ c. search needs)
+    (λ c. search needs)
+    (λ c. search needs)
     (value-length-group-end-requires t)
-    (value-length-enum-known-s-3 t)
-    (value-length-sub-group-end-2 t)
+    (λ c. search needs)
+    (λ c. search needs)
     (value-length-group-end-requires-2 t)
     (value-length-returns-2 t)
     (value-length-returns-3 t)

@@ -1,40 +1,32 @@
+use Prim.Native.Nat.{_^_}
+use borrow.Author.Tests.{eq-eqb, ne-eqb, lt-ltb, le-ltb, le-leb, lt-leb}
 use Rattle.values.specs.Form.{groupShape}
-use Rattle.values.proofs.Spans.{tests}
-use borrow.Author.Needs.{needs}
 use Rattle.values.proofs.form.group_shape.Statement.{statement}
 use Rattle.values.proofs.form.group_shape.Tie as tie
-use Rattle.values.proofs.form.group_shape.Reads as reads
-use Rattle.values.proofs.form.group_shape.Lts as lts
 
--- src/form.rt:36:13
 returns : tie.Need-returns
 unfolding groupShape
-returns c = search tests
+returns c = rw (eq-eqb _ 3 (c .before .if1 .taken), lt-ltb _ (2 ^ 31) (c .if2 .taken))
 
--- src/form.rt:38:9
 returns-2 : tie.Need-returns-2
 unfolding groupShape
-returns-2 c = search tests
+returns-2 c = rw (eq-eqb _ 3 (c .before .if1 .taken), le-ltb _ (2 ^ 31) (c .if2 .left))
 
--- src/form.rt:42:13
 returns-3 : tie.Need-returns-3
 unfolding groupShape
-returns-3 c = search tests
+returns-3 c = rw (ne-eqb _ 3 (c .before .before .if1 .left), eq-eqb _ 4 (c .before .if3 .taken), lt-ltb _ 2 (c .if4 .taken))
 
--- src/form.rt:45:13
 returns-4 : tie.Need-returns-4
 unfolding groupShape
-returns-4 c = search tests
+returns-4 c = rw (ne-eqb _ 3 (c .before .before .before .if1 .left), eq-eqb _ 4 (c .before .before .if3 .taken), le-ltb _ 2 (c .before .if4 .left), le-leb _ 6 (c .if5 .taken))
 
--- src/form.rt:47:9
 returns-5 : tie.Need-returns-5
 unfolding groupShape
-returns-5 c = search tests
+returns-5 c = rw (ne-eqb _ 3 (c .before .before .before .if1 .left), eq-eqb _ 4 (c .before .before .if3 .taken), le-ltb _ 2 (c .before .if4 .left), lt-leb _ 6 (c .if5 .left))
 
--- src/form.rt:31:1
 returns-6 : tie.Need-returns-6
 unfolding groupShape
-returns-6 c = search tests
+returns-6 c = rw (ne-eqb _ 3 (c .before .if1 .left), ne-eqb _ 4 (c .if3 .left))
 
 pub group-shape-spec : {M : Type 1} → statement M
 group-shape-spec = tie.close (tie.spec returns returns-2 returns-3 returns-4 returns-5 returns-6)

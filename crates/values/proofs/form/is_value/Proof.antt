@@ -1,30 +1,20 @@
 use borrow.Author.Tests.{le-leb, lt-leb}
-use Rattle.values.specs.Form.{isValue}
 use borrow.Author.Needs.{needs}
+use Rattle.values.specs.Form.{isValue}
 use Rattle.values.proofs.form.is_value.Statement.{statement}
 use Rattle.values.proofs.form.is_value.Tie as tie
-use Rattle.values.proofs.form.is_value.Reads as reads
-use Rattle.values.proofs.form.is_value.Lts as lts
-use Rattle.values.proofs.form.value_length.Reads as value-length-reads
 
--- src/form.rt:124:9
 returns : tie.Need-returns
 unfolding isValue
 returns c = rw (lt-leb 1 _ (c .if1 .taken))
 
--- src/form.rt:127:9
 returns-2 : tie.Need-returns-2
 unfolding isValue
 returns-2 c = rw (le-leb 1 _ (c .before .if1 .left), lt-leb _ 64 (c .if2 .taken))
 
--- src/form.rt:129:5
-value-length-requires : tie.Need-value-length-requires
-value-length-requires c κs = search needs
-
--- src/form.rt:119:1
 returns-3 : tie.Need-returns-3
 unfolding isValue
 returns-3 c = rw (le-leb 1 _ (c .before .before .if1 .left), le-leb _ 64 (c .before .if2 .left), ← (c .value-length .ensures .0))
 
 pub is-value-spec : {M : Type 1} → statement M
-is-value-spec = tie.close (tie.spec returns returns-2 value-length-requires returns-3)
+is-value-spec = tie.close (tie.spec returns returns-2 (λ c κs. search needs) returns-3)

@@ -1,17 +1,12 @@
 use Rattle.values.specs.Givens.{smallSize}
 use Rattle.values.proofs.Spans.{tests}
-use borrow.Author.Needs.{needs}
 use Rattle.values.proofs.givens.small_size.Statement.{statement}
 use Rattle.values.proofs.givens.small_size.Tie as tie
-use Rattle.values.proofs.givens.small_size.Reads as reads
-use Rattle.values.proofs.givens.small_size.Lts as lts
 
--- src/givens.rt:35:9
 returns : tie.Need-returns
 unfolding smallSize
 returns c = search tests
 
--- src/givens.rt:31:1
 returns-2 : tie.Need-returns-2
 unfolding smallSize
 returns-2 c = search tests

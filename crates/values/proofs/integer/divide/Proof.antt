@@ -1,5 +1,4 @@
 -- `divide` rounds down. The machine divides what it reads back from the bits of `a` and `n`, which are `a` and `n`.
-use borrow.Author.Needs.{needs}
 use mathlib.Core.Path.{_≡_}
 use mathlib.Core.Bool.{true, false}
 use lib.IntN.{pos}

@@ -1,10 +1,10 @@
 -- `signed` reads a word as its integer.
-use borrow.Author.Needs.{needs}
-use mathlib.Core.Path.{_≡_, refl}
+use mathlib.Core.Path.{refl}
+use Prim.Native.Nat.{_<_, _^_}
 use native.Mathlib.Omega.{arith}
 use mir.Syntax.{w32}
 use mir.ValLaws.{toZ-ofZ}
-use Prim.Native.Nat.{_<_, _^_}
+use borrow.Author.Needs.{needs}
 use Rattle.values.specs.Integer.{signed}
 use Rattle.values.proofs.Integers.{complement, complement-fits, complement-signed}
 use Rattle.values.proofs.integer.signed.Statement.{statement}

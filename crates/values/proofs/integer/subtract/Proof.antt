@@ -1,8 +1,7 @@
 -- `subtract` in 64 bits, where it cannot pass the range, then `kept`.
-use borrow.Author.Needs.{needs}
-use mathlib.Core.Path.{_≡_}
 use mir.Syntax.{w32, w64}
 use mir.ValLaws.{toZ-ofZ}
+use borrow.Author.Needs.{needs}
 use Rattle.values.specs.Integer.{difference}
 use Rattle.values.proofs.Integers.{widen, difference-fits}
 use Rattle.values.proofs.integer.subtract.Statement.{statement}

@@ -1,14 +1,13 @@
-use mathlib.Core.Path.{_≡_, refl, sym, _∙_, ap}
-use Prim.Native.Nat.{_+_, _*_, _-_, _≤_}
+use mathlib.Core.Path.{_≡_, sym, _∙_}
+use Prim.Native.Nat.{_+_, _*_, _-_, _≤_, ℕ, _<_}
 use native.Mathlib.Omega.{arith}
 use native.Mathlib.Nat.{sub-zero}
 use lib.ListN.{length, drop, length-drop}
-use Rattle.values.specs.TypeWords.{typesEnd, byFormer, typeLength, clip}
-use Rattle.values.proofs.TypeSpans.{Bounded, former-bounded, type-none, type-level, types-go, types-done}
 use borrow.Author.Needs.{needs}
-use Prim.Native.Nat.{ℕ, _<_}
-use borrow.Fn.Kinds.{In}
 use borrow.Fn.PlainCycle.{Measures, is, falls, and}
+use Rattle.values.specs.TypeWords.{typesEnd, byFormer, typeLength, clip}
+use Rattle.values.proofs.TypeSpans.{former-bounded, type-none, type-level, types-go, types-done}
+use borrow.Fn.Kinds.{In}
 use Rattle.values.proofs.type_words.type_length.Reads as type-length
 use Rattle.values.proofs.type_words.type_length.Kinds as type-length-kinds
 use Rattle.values.proofs.type_words.+type_length+types_end.Lts-type_length as type-length-lts
@@ -53,28 +52,10 @@ type-length-returns t c =
     let s = c .before .before .args in
     (type-none (s .depth) (s .w .now) (c .if1 .taken), omega arith)
 
-type-length-former-of-requires : (t : ℕ) → type-length-lts.Need-former-of-requires (type-length-calls t) (type-length-at t) type-length.Post
-type-length-former-of-requires t c κs = search needs
-
-type-length-enum-known-f : (t : ℕ) → type-length-lts.Need-enum-known-f (type-length-calls t) (type-length-at t) type-length.Post
-type-length-enum-known-f t c = search needs
-
-type-length-clip-requires : (t : ℕ) → type-length-lts.Need-clip-requires (type-length-calls t) (type-length-at t) type-length.Post
-type-length-clip-requires t c κs = search needs
-
-type-length-enum-known-f-2 : (t : ℕ) → type-length-lts.Need-enum-known-f-2 (type-length-calls t) (type-length-at t) type-length.Post
-type-length-enum-known-f-2 t c = search needs
-
-type-length-sub-types-end : (t : ℕ) → type-length-lts.Need-sub-types-end (type-length-calls t) (type-length-at t) type-length.Post
-type-length-sub-types-end t c = search needs
-
 type-length-types-end-requires : (t : ℕ) → type-length-lts.Need-types-end-requires (type-length-calls t) (type-length-at t) type-length.Post
 type-length-types-end-requires t c κs =
     let s = c .before .before .before .before .before .before .args in
     (omega (arith, c .before .before .before .before .before .before .pre .0), rw (← (c .before .before .before .former-of .ensures), c .before .f2 .given .1) at (former-bounded (s .w .now)))
-
-type-length-clip-requires-2 : (t : ℕ) → type-length-lts.Need-clip-requires-2 (type-length-calls t) (type-length-at t) type-length.Post
-type-length-clip-requires-2 t c κs = search needs
 
 type-length-returns-2 : (t : ℕ) → type-length-lts.Need-returns-2 (type-length-calls t) (type-length-at t) type-length.Post
 unfolding byFormer
@@ -102,9 +83,6 @@ types-end-loop-holds t c = (omega arith, omega (arith, c .before .pre .1), rw su
 types-end-add-at : (t : ℕ) → types-end-lts.Need-add-at (types-end-calls t) (types-end-at t) types-end.Post types-end-Inv-loop types-end-μ-loop
 types-end-add-at t c = omega (arith, c .before .before .before .pre .1, c .before .before .before .good .0)
 
-types-end-from-requires : (t : ℕ) → types-end-lts.Need-from-requires (types-end-calls t) (types-end-at t) types-end.Post types-end-Inv-loop types-end-μ-loop
-types-end-from-requires t c κs = search needs
-
 types-end-type-length-requires : (t : ℕ) → types-end-lts.Need-type-length-requires (types-end-calls t) (types-end-at t) types-end.Post types-end-Inv-loop types-end-μ-loop
 types-end-type-length-requires t c κs = (omega (arith, c .before .before .before .before .pre .0), tt)
 
@@ -114,12 +92,6 @@ types-end-add-at-2 t c =
     let l = c .before .before .before .loop in
     let k : c .type-length .result ≤ length (drop (l .at + s .skip) (s .w .now)) = rw (c .before .from .ensures) at (c .type-length .ensures .1) in
     omega (arith, length-drop (l .at + s .skip) (s .w .now), c .before .before .before .before .before .pre .1, c .before .before .before .before .before .good .0)
-
-types-end-add-i : (t : ℕ) → types-end-lts.Need-add-i (types-end-calls t) (types-end-at t) types-end.Post types-end-Inv-loop types-end-μ-loop
-types-end-add-i t c = search needs
-
-types-end-loop-less : (t : ℕ) → types-end-lts.Need-loop-less (types-end-calls t) (types-end-at t) types-end.Post types-end-Inv-loop types-end-μ-loop
-types-end-loop-less t c = search needs
 
 types-end-loop-again : (t : ℕ) → types-end-lts.Need-loop-again (types-end-calls t) (types-end-at t) types-end.Post types-end-Inv-loop types-end-μ-loop
 types-end-loop-again t c =
@@ -141,13 +113,13 @@ types-end-returns t c =
 pub +type-length+types-end-spec : {M : Type 1} → statement M
 +type-length+types-end-spec = close μ-type-length μ-types-end (λ t. type-length-lts.spec (type-length-calls t) (type-length-at t) type-length.Post
     (type-length-returns t)
-    (type-length-former-of-requires t)
-    (type-length-enum-known-f t)
-    (type-length-clip-requires t)
-    (type-length-enum-known-f-2 t)
-    (type-length-sub-types-end t)
+    (λ c κs. search needs)
+    (λ c. search needs)
+    (λ c κs. search needs)
+    (λ c. search needs)
+    (λ c. search needs)
     (type-length-types-end-requires t)
-    (type-length-clip-requires-2 t)
+    (λ c κs. search needs)
     (type-length-returns-2 t)
     (type-length-returns-3 t))
     λ t. types-end-lts.spec (types-end-calls t) (types-end-at t) types-end.Post
@@ -155,10 +127,10 @@ pub +type-length+types-end-spec : {M : Type 1} → statement M
     types-end-μ-loop
     (types-end-loop-holds t)
     (types-end-add-at t)
-    (types-end-from-requires t)
+    (λ c κs. search needs)
     (types-end-type-length-requires t)
     (types-end-add-at-2 t)
-    (types-end-add-i t)
-    (types-end-loop-less t)
+    (λ c. search needs)
+    (λ c. search needs)
     (types-end-loop-again t)
     (types-end-returns t)

@@ -1,15 +1,14 @@
-use mathlib.Core.Path.{_≡_, refl, sym, _∙_, ap}
-use Prim.Native.Nat.{_+_, _*_, _-_, _≤_, _^_}
+use mathlib.Core.Path.{_≡_, sym, _∙_}
+use Prim.Native.Nat.{_+_, _*_, _-_, _≤_, ℕ, _<_}
 use native.Mathlib.Omega.{arith}
 use native.Mathlib.Nat.{sub-zero}
-use lib.ListN.{length, getD, drop, length-drop}
-use Rattle.values.specs.Span.{span}
-use Rattle.values.specs.Typed.{typeStep, each, byTest, hasType}
-use Rattle.values.proofs.Testing.{Counted, test-counted, typed-none, typed-level, each-stop, each-go, each-done}
+use lib.ListN.{length, drop, length-drop}
 use borrow.Author.Needs.{needs}
-use Prim.Native.Nat.{ℕ, _<_}
-use borrow.Fn.Kinds.{In}
 use borrow.Fn.PlainCycle.{Measures, is, falls, and}
+use Rattle.values.specs.Span.{span}
+use Rattle.values.specs.Typed.{each, byTest, hasType}
+use Rattle.values.proofs.Testing.{test-counted, typed-none, typed-level, each-stop, each-go, each-done}
+use borrow.Fn.Kinds.{In}
 use Rattle.values.proofs.typed.each_has.Reads as each-has
 use Rattle.values.proofs.typed.each_has.Kinds as each-has-kinds
 use Rattle.values.proofs.typed.+each_has+type_of.Lts-each_has as each-has-lts
@@ -57,17 +56,8 @@ type-of-calls t = (test-of-reads.Asked, test-of-reads.Learnt, from-reads.Asked, 
 each-has-loop-holds : (t : ℕ) → each-has-lts.Need-loop-holds (each-has-calls t) (each-has-at t) each-has.Post each-has-Inv-loop each-has-μ-loop
 each-has-loop-holds t c = (omega arith, omega arith, omega arith, rw sub-zero)
 
-each-has-from-requires : (t : ℕ) → each-has-lts.Need-from-requires (each-has-calls t) (each-has-at t) each-has.Post each-has-Inv-loop each-has-μ-loop
-each-has-from-requires t c κs = search needs
-
-each-has-from-requires-2 : (t : ℕ) → each-has-lts.Need-from-requires-2 (each-has-calls t) (each-has-at t) each-has.Post each-has-Inv-loop each-has-μ-loop
-each-has-from-requires-2 t c κs = search needs
-
 each-has-type-of-requires : (t : ℕ) → each-has-lts.Need-type-of-requires (each-has-calls t) (each-has-at t) each-has.Post each-has-Inv-loop each-has-μ-loop
 each-has-type-of-requires t c κs = (omega (arith, c .before .before .before .before .before .before .pre .0), tt)
-
-each-has-type-step-requires : (t : ℕ) → each-has-lts.Need-type-step-requires (each-has-calls t) (each-has-at t) each-has.Post each-has-Inv-loop each-has-μ-loop
-each-has-type-step-requires t c κs = search needs
 
 each-has-add-here : (t : ℕ) → each-has-lts.Need-add-here (each-has-calls t) (each-has-at t) each-has.Post each-has-Inv-loop each-has-μ-loop
 each-has-add-here t c =
@@ -75,18 +65,6 @@ each-has-add-here t c =
     let l = c .before .before .before .before .before .before .loop in
     let k : c .type-step .result ≤ length (drop (l .here) (s .t .now)) = rw (c .before .before .before .before .from .ensures) at (c .type-step .ensures .1) in
     omega (arith, length-drop (l .here) (s .t .now), c .before .before .before .before .before .before .before .before .before .good .0)
-
-each-has-span-requires : (t : ℕ) → each-has-lts.Need-span-requires (each-has-calls t) (each-has-at t) each-has.Post each-has-Inv-loop each-has-μ-loop
-each-has-span-requires t c κs = search needs
-
-each-has-add-at : (t : ℕ) → each-has-lts.Need-add-at (each-has-calls t) (each-has-at t) each-has.Post each-has-Inv-loop each-has-μ-loop
-each-has-add-at t c = search needs
-
-each-has-add-i : (t : ℕ) → each-has-lts.Need-add-i (each-has-calls t) (each-has-at t) each-has.Post each-has-Inv-loop each-has-μ-loop
-each-has-add-i t c = search needs
-
-each-has-loop-less : (t : ℕ) → each-has-lts.Need-loop-less (each-has-calls t) (each-has-at t) each-has.Post each-has-Inv-loop each-has-μ-loop
-each-has-loop-less t c = search needs
 
 each-has-loop-again : (t : ℕ) → each-has-lts.Need-loop-again (each-has-calls t) (each-has-at t) each-has.Post each-has-Inv-loop each-has-μ-loop
 each-has-loop-again t c =
@@ -120,24 +98,6 @@ type-of-returns t c =
     let s = c .before .before .before .args in
     typed-none (s .depth) (s .t .now) (s .w .now) (c .if1 .taken)
 
-type-of-test-of-requires : (t : ℕ) → type-of-lts.Need-test-of-requires (type-of-calls t) (type-of-at t) type-of.Post
-type-of-test-of-requires t c κs = search needs
-
-type-of-enum-told : (t : ℕ) → type-of-lts.Need-enum-told (type-of-calls t) (type-of-at t) type-of.Post
-type-of-enum-told t c = search needs
-
-type-of-enum-told-2 : (t : ℕ) → type-of-lts.Need-enum-told-2 (type-of-calls t) (type-of-at t) type-of.Post
-type-of-enum-told-2 t c = search needs
-
-type-of-enum-known-q : (t : ℕ) → type-of-lts.Need-enum-known-q (type-of-calls t) (type-of-at t) type-of.Post
-type-of-enum-known-q t c = search needs
-
-type-of-from-requires : (t : ℕ) → type-of-lts.Need-from-requires (type-of-calls t) (type-of-at t) type-of.Post
-type-of-from-requires t c κs = search needs
-
-type-of-sub-each-has : (t : ℕ) → type-of-lts.Need-sub-each-has (type-of-calls t) (type-of-at t) type-of.Post
-type-of-sub-each-has t c = search needs
-
 type-of-each-has-requires : (t : ℕ) → type-of-lts.Need-each-has-requires (type-of-calls t) (type-of-at t) type-of.Post
 type-of-each-has-requires t c κs =
     let s = c .before .before .before .before .before .before .before .before .args in
@@ -170,26 +130,26 @@ pub +each-has+type-of-spec : {M : Type 1} → statement M
     each-has-Inv-loop
     each-has-μ-loop
     (each-has-loop-holds t)
-    (each-has-from-requires t)
-    (each-has-from-requires-2 t)
+    (λ c κs. search needs)
+    (λ c κs. search needs)
     (each-has-type-of-requires t)
-    (each-has-type-step-requires t)
+    (λ c κs. search needs)
     (each-has-add-here t)
-    (each-has-span-requires t)
-    (each-has-add-at t)
-    (each-has-add-i t)
-    (each-has-loop-less t)
+    (λ c κs. search needs)
+    (λ c. search needs)
+    (λ c. search needs)
+    (λ c. search needs)
     (each-has-loop-again t)
     (each-has-returns t)
     (each-has-returns-2 t))
     λ t. type-of-lts.spec (type-of-calls t) (type-of-at t) type-of.Post
     (type-of-returns t)
-    (type-of-test-of-requires t)
-    (type-of-enum-told t)
-    (type-of-enum-told-2 t)
-    (type-of-enum-known-q t)
-    (type-of-from-requires t)
-    (type-of-sub-each-has t)
+    (λ c κs. search needs)
+    (λ c. search needs)
+    (λ c. search needs)
+    (λ c. search needs)
+    (λ c κs. search needs)
+    (λ c. search needs)
     (type-of-each-has-requires t)
     (type-of-returns-2 t)
     (type-of-returns-3 t)

@@ -1,68 +1,33 @@
 use borrow.Author.Tests.{eq-eqb, ne-eqb}
-use Rattle.values.specs.Typed.{testOf}
 use borrow.Author.Needs.{needs}
+use Rattle.values.specs.Typed.{testOf}
 use Rattle.values.proofs.typed.test_of.Statement.{statement}
 use Rattle.values.proofs.typed.test_of.Tie as tie
-use Rattle.values.proofs.typed.test_of.Reads as reads
-use Rattle.values.proofs.typed.test_of.Lts as lts
-use Rattle.values.proofs.typed.whether.Reads as whether-reads
-use Rattle.values.proofs.words.word.Reads as word-reads
 
--- src/typed.rt:40:9
-word-requires : tie.Need-word-requires
-word-requires c κs = search needs
-
--- src/typed.rt:41:15
-word-requires-2 : tie.Need-word-requires-2
-word-requires-2 c κs = search needs
-
--- src/typed.rt:42:9
 returns : tie.Need-returns
 unfolding testOf
 returns c = rw (← (c .before .before .word .ensures .0), ← (c .before .word2 .ensures .0), ne-eqb _ _ (c .if1 .taken))
 
--- src/typed.rt:45:9
 returns-2 : tie.Need-returns-2
 unfolding testOf
 returns-2 c = rw (← (c .before .before .before .word .ensures .0), ← (c .before .before .word2 .ensures .0), eq-eqb _ _ (c .before .if1 .left), eq-eqb _ 1 (c .if2 .taken))
 
--- src/typed.rt:47:9
-word-requires-3 : tie.Need-word-requires-3
-word-requires-3 c κs = search needs
-
--- src/typed.rt:49:24
-word-requires-4 : tie.Need-word-requires-4
-word-requires-4 c κs = search needs
-
--- src/typed.rt:49:9
-whether-requires : tie.Need-whether-requires
-whether-requires c κs = search needs
-
--- src/typed.rt:49:9
 returns-3 : tie.Need-returns-3
 unfolding testOf
 returns-3 c = rw (← (c .before .before .before .before .before .before .before .word .ensures .0), ← (c .before .before .before .before .before .before .word2 .ensures .0), eq-eqb _ _ (c .before .before .before .before .before .if1 .left), ne-eqb _ 1 (c .before .before .before .before .if2 .left), eq-eqb _ 2 (c .before .before .if3 .taken), ← (c .before .before .before .word3 .ensures .0), ← (c .before .word4 .ensures .0)) (c .whether .ensures)
 
--- src/typed.rt:52:9
 returns-4 : tie.Need-returns-4
 unfolding testOf
 returns-4 c = rw (← (c .before .before .before .before .before .before .word .ensures .0), ← (c .before .before .before .before .before .word2 .ensures .0), eq-eqb _ _ (c .before .before .before .before .if1 .left), ne-eqb _ 1 (c .before .before .before .if2 .left), ne-eqb _ 2 (c .before .if3 .left), eq-eqb _ 3 (c .if4 .taken), ← (c .before .before .word3 .ensures .0))
 
--- src/typed.rt:59:12
-word-requires-5 : tie.Need-word-requires-5
-word-requires-5 c κs = search needs
-
--- src/typed.rt:60:13
 returns-5 : tie.Need-returns-5
 unfolding testOf
 returns-5 c = rw (← (c .before .before .before .before .before .before .before .before .before .word .ensures .0), ← (c .before .before .before .before .before .before .before .before .word2 .ensures .0), eq-eqb _ _ (c .before .before .before .before .before .before .before .if1 .left), ne-eqb _ 1 (c .before .before .before .before .before .before .if2 .left), ne-eqb _ 2 (c .before .before .before .before .if3 .left), ne-eqb _ 3 (c .before .before .before .if4 .left), eq-eqb _ 4 (c .before .before .if5 .taken), ← (c .before .before .before .before .before .word3 .ensures .0), ← (c .before .word5 .ensures .0), eq-eqb _ _ (c .if6 .taken))
 
--- src/typed.rt:66:9
 returns-6 : tie.Need-returns-6
 unfolding testOf
 returns-6 c = rw (← (c .before .before .before .before .before .before .before .before .before .word .ensures .0), ← (c .before .before .before .before .before .before .before .before .word2 .ensures .0), eq-eqb _ _ (c .before .before .before .before .before .before .before .if1 .left), ne-eqb _ 1 (c .before .before .before .before .before .before .if2 .left), ne-eqb _ 2 (c .before .before .before .before .if3 .left), ne-eqb _ 3 (c .before .before .before .if4 .left), eq-eqb _ 4 (c .before .before .if5 .taken), ← (c .before .before .before .before .before .word3 .ensures .0), ← (c .before .word5 .ensures .0), ne-eqb _ _ (c .if6 .left))
 
--- src/typed.rt:37:1
 returns-7 : tie.Need-returns-7
 unfolding testOf
 returns-7 c = rw (← (c .before .before .before .before .before .before .before .word .ensures .0), ← (c .before .before .before .before .before .before .word2 .ensures .0), eq-eqb _ _ (c .before .before .before .before .before .if1 .left), ne-eqb _ 1 (c .before .before .before .before .if2 .left), ne-eqb _ 2 (c .before .before .if3 .left), ne-eqb _ 3 (c .before .if4 .left), ne-eqb _ 4 (c .if5 .left))
@@ -71,16 +36,16 @@ pub test-of-spec : {M : Type 1} → statement M
 test-of-spec =
     tie.close
     (tie.spec
-    word-requires
-    word-requires-2
+    (λ c κs. search needs)
+    (λ c κs. search needs)
     returns
     returns-2
-    word-requires-3
-    word-requires-4
-    whether-requires
+    (λ c κs. search needs)
+    (λ c κs. search needs)
+    (λ c κs. search needs)
     returns-3
     returns-4
-    word-requires-5
+    (λ c κs. search needs)
     returns-5
     returns-6
     returns-7)

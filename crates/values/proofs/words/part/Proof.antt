@@ -1,78 +1,25 @@
-use mathlib.Core.Path.{_≡_, refl, sym, _∙_}
-use Prim.Native.Nat.{_+_, _-_, _≤_}
+use mathlib.Core.Path.{sym, _∙_}
+use Prim.Native.Nat.{_-_}
 use native.Mathlib.Omega.{arith}
 use native.Mathlib.Nat.{add-sub-cancel-left}
-use lib.ListN.{length, drop, take, drop-of-length-le, length-drop}
+use lib.ListN.{length, drop, drop-of-length-le, length-drop}
 use lib.Seq.{take-all, drop-length, take-nil}
 use borrow.Author.Needs.{needs}
 use Rattle.values.proofs.words.part.Statement.{statement}
 use Rattle.values.proofs.words.part.Tie as tie
-use Rattle.values.proofs.words.part.Reads as reads
-use Rattle.values.proofs.words.part.Lts as lts
 
--- src/words.rt:31:16
-mul-result : tie.Need-mul-result
-mul-result c = search needs
-
--- src/words.rt:31:16
-sub-result : tie.Need-sub-result
-sub-result c = search needs
-
--- src/words.rt:31:16
-part-result-start : tie.Need-part-result-start
-part-result-start c = search needs
-
--- src/words.rt:31:16
-part-result-end : tie.Need-part-result-end
-part-result-end c = search needs
-
--- src/words.rt:31:9
 returns : tie.Need-returns
 returns c =
     let s = c .before .before .args in
     let w = s .w .now in
     rw (drop-length w, drop-of-length-le w {i = s .at} (omega arith)) (take-nil (length w - length w) ∙ sym (take-nil (s .n)))
 
--- src/words.rt:34:16
-mul-result-2 : tie.Need-mul-result-2
-mul-result-2 c = search needs
-
--- src/words.rt:34:16
-part-result-start-2 : tie.Need-part-result-start-2
-part-result-start-2 c = search needs
-
--- src/words.rt:34:16
-part-result-end-2 : tie.Need-part-result-end-2
-part-result-end-2 c = search needs
-
--- src/words.rt:34:9
 returns-2 : tie.Need-returns-2
 returns-2 c =
     let s = c .before .before .before .args in
     let l = length-drop (s .at) (s .w .now) in
     take-all (length (s .w .now) - s .at) (drop (s .at) (s .w .now)) (omega arith) ∙ sym (take-all (s .n) (drop (s .at) (s .w .now)) (omega arith))
 
--- src/words.rt:36:12
-add-result : tie.Need-add-result
-add-result c = search needs
-
--- src/words.rt:36:5
-mul-result-3 : tie.Need-mul-result-3
-mul-result-3 c = search needs
-
--- src/words.rt:36:5
-sub-result-2 : tie.Need-sub-result-2
-sub-result-2 c = search needs
-
--- src/words.rt:36:5
-part-result-start-3 : tie.Need-part-result-start-3
-part-result-start-3 c = search needs
-
--- src/words.rt:36:5
-part-result-end-3 : tie.Need-part-result-end-3
-part-result-end-3 c = search needs
-
--- src/words.rt:26:1
 returns-3 : tie.Need-returns-3
 returns-3 c = rw add-sub-cancel-left
 
@@ -80,18 +27,18 @@ pub part-spec : {M : Type 1} → statement M
 part-spec =
     tie.close
     (tie.spec
-    mul-result
-    sub-result
-    part-result-start
-    part-result-end
+    (λ c. search needs)
+    (λ c. search needs)
+    (λ c. search needs)
+    (λ c. search needs)
     returns
-    mul-result-2
-    part-result-start-2
-    part-result-end-2
+    (λ c. search needs)
+    (λ c. search needs)
+    (λ c. search needs)
     returns-2
-    add-result
-    mul-result-3
-    sub-result-2
-    part-result-start-3
-    part-result-end-3
+    (λ c. search needs)
+    (λ c. search needs)
+    (λ c. search needs)
+    (λ c. search needs)
+    (λ c. search needs)
     returns-3)

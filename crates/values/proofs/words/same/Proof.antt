@@ -1,5 +1,5 @@
+use mathlib.Core.Path.{_∙_, ap}
 use borrow.Author.Needs.{needs}
-use mathlib.Core.Path.{_≡_, _∙_, ap}
 use Rattle.values.specs.Order.{same, isSame}
 use Rattle.values.proofs.words.same.Statement.{statement}
 use Rattle.values.proofs.words.same.Tie as tie

@@ -4,28 +4,15 @@ use lib.ListN.{List·getD-eq-default}
 use borrow.Author.Needs.{needs}
 use Rattle.values.proofs.words.word.Statement.{statement}
 use Rattle.values.proofs.words.word.Tie as tie
-use Rattle.values.proofs.words.word.Reads as reads
-use Rattle.values.proofs.words.word.Lts as lts
 
--- src/words.rt:19:9
-mul-result : tie.Need-mul-result
-mul-result c = search needs
-
--- src/words.rt:19:9
-shared-slice-read-result : tie.Need-shared-slice-read-result
-shared-slice-read-result c = search needs
-
--- src/words.rt:19:9
 cast-result : tie.Need-cast-result
 cast-result c = omega (arith, c .shared-slice-known .given (c .before .before .args .i))
 
--- src/words.rt:15:1
 returns : tie.Need-returns
 returns c = (refl, omega (arith, c .shared-slice-known .given (c .before .before .args .i)))
 
--- src/words.rt:15:1
 returns-2 : tie.Need-returns-2
 returns-2 c = (sym (List·getD-eq-default (c .before .args .w .now) 0 (c .if1 .left)), omega arith)
 
 pub word-spec : {M : Type 1} → statement M
-word-spec = tie.close (tie.spec mul-result shared-slice-read-result cast-result returns returns-2)
+word-spec = tie.close (tie.spec (λ c. search needs) (λ c. search needs) cast-result returns returns-2)

@@ -1,0 +1,32 @@
+// The calls for C and Rust. Each gives its finding as one number.
+use syntax::Reading;
+ghost use mathlib.Core.Path.{_≡_};
+ghost use Rattle.syntax.specs.Reading.{readOf};
+ghost use Rattle.states.specs.States.{stateCheckOf};
+ghost use Rattle.capi.specs.Code.{codeOf};
+
+// A finding as one number: 0 where there is none, else number * 2^32 + place.
+fn code_of(r: Reading) -> u64
+    ensures { λ n. ⌜ n ≡ codeOf r ⌝ }
+{
+    match r {
+        Reading::Readable => 0,
+        Reading::Refused { number, place } => (number as u64) * 4294967296 + (place as u64),
+    }
+}
+
+// Reading: 0 where the document is readable, else one of 11 to 17 with its place.
+#[no_mangle]
+pub extern "C" fn z_read(doc: &[u32]) -> u64
+    ensures { λ n. ⌜ n ≡ codeOf (readOf (now (doc .entry))) ⌝ }
+{
+    code_of(reader::read(doc))
+}
+
+// A document with a state: reading's finding first, then 41 with the entry, 0 for its pairs; 0 where the state is well formed.
+#[no_mangle]
+pub extern "C" fn z_state(doc: &[u32], state: &[u32]) -> u64
+    ensures { λ n. ⌜ n ≡ codeOf (stateCheckOf (now (doc .entry)) (now (state .entry))) ⌝ }
+{
+    code_of(states::check_state(doc, state))
+}

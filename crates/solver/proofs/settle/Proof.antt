@@ -1,0 +1,102 @@
+use borrow.Author.Needs.{needs}
+use mathlib.Core.Path.{_≡_, refl, sym, ap, subst, _∙_}
+use native.Mathlib.Omega.{arith}
+use Prim.Native.Nat.{_+_, _-_, _≤_}
+use lib.ListN.{set}
+use Rattle.solver.specs.Settled.{wordAt, heap, Readable, Pin, SameType}
+use Rattle.solver.proofs.Settling.{settled, compared}
+use Rattle.solver.proofs.Reading.{place-low, heap-length}
+use Rattle.solver.proofs.settle.Statement.{statement}
+use Rattle.solver.proofs.settle.Tie as tie
+use Rattle.solver.proofs.settle.Reads as reads
+use Rattle.solver.proofs.settle.Lts as lts
+use Rattle.solver.proofs.same_type.Reads as same-type-reads
+use Rattle.solver.proofs.store.Reads as store-reads
+use Rattle.solver.proofs.word.Reads as word-reads
+
+-- src/lib.rt:281:21
+add-word : tie.Need-add-word
+add-word c = let f = c .before .before .before .pre .pinning .held .few in let l = c .before .before .before .pre .pinning .made in omega arith
+
+-- src/lib.rt:281:9
+word-requires : tie.Need-word-requires
+word-requires c κs = search needs
+
+-- src/lib.rt:283:18
+add-store : tie.Need-add-store
+add-store c = let f = c .before .before .before .before .before .before .pre .pinning .held .few in let l = c .before .before .before .before .before .before .pre .pinning .made in omega arith
+
+-- src/lib.rt:283:30
+add-store-2 : tie.Need-add-store-2
+add-store-2 c =
+    let P = c .before .before .before .before .before .before .pre .pinning in
+    let l = place-low _ _ _ (P .readable .reads) in
+    let h = heap-length (c .before .before .before .before .before .before .args .a .now) (c .before .before .before .before .before .before .args .d .now) (P .held .size) in
+    let f = P .few in omega arith
+
+-- src/lib.rt:283:29
+cast-store : tie.Need-cast-store
+cast-store c =
+    let P = c .before .before .before .before .before .before .pre .pinning in
+    let l = place-low _ _ _ (P .readable .reads) in
+    let h = heap-length (c .before .before .before .before .before .before .args .a .now) (c .before .before .before .before .before .before .args .d .now) (P .held .size) in
+    let f = P .few in omega arith
+
+-- src/lib.rt:283:9
+store-requires : tie.Need-store-requires
+store-requires c κs = search needs
+
+-- src/lib.rt:284:9
+same-length : tie.Need-same-length
+same-length c = search needs
+
+-- src/lib.rt:284:9
+returns : tie.Need-returns
+unfolding wordAt
+returns c =
+    let s = c .before .before .before .before .before .before .before .before .before in
+    let e = c .before .before .before .before .before .word .ensures .0 in
+    let l = c .before .before .before .before .if1 .taken in
+    subst (λ z. Pin (s .args .a .now) z (s .args .d .now) (s .args .r) (s .args .p) _) (sym (c .before .before .store .ensures)) (settled _ _ _ _ (s .pre) (omega arith))
+
+-- src/lib.rt:286:5
+same-type-requires : tie.Need-same-type-requires
+unfolding wordAt
+same-type-requires c κs =
+    let P = c .before .before .before .before .before .before .pre .pinning in
+    let e = c .before .before .word .ensures .0 in
+    let l = c .before .if1 .left in
+    record {
+      areas = record { size = P .held .size; few = let f = P .few in omega arith };
+      left = P .readable;
+      right = subst (λ z. Readable (heap (c .before .before .before .before .before .before .args .a .now) (c .before .before .before .before .before .before .args .d .now)) (z - 769)) (sym e) (P .pinned .reads _ (P .made) (omega arith));
+    }
+
+-- src/lib.rt:277:1
+same-length-2 : tie.Need-same-length-2
+same-length-2 c = search needs
+
+-- src/lib.rt:277:1
+returns-2 : tie.Need-returns-2
+unfolding wordAt
+returns-2 c =
+    let s = c .before .before .before .before .before .before .before in
+    let e = c .before .before .before .word .ensures .0 in
+    let l = c .before .before .if1 .left in
+    compared _ _ _ _ (s .pre) _ (omega arith) (subst (λ z. SameType (s .args .a .now) (s .args .d .now) (s .args .p) (z - 769) (c .same-type .result)) e (c .same-type .ensures))
+
+pub settle-spec : {M : Type 1} → statement M
+settle-spec =
+    tie.close
+    (tie.spec
+    add-word
+    word-requires
+    add-store
+    add-store-2
+    cast-store
+    store-requires
+    same-length
+    returns
+    same-type-requires
+    same-length-2
+    returns-2)

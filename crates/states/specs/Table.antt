@@ -1,0 +1,32 @@
+-- The table that the code of finding 41 works with: for entry k, at 2 k, a given's identifier and the size that the state gives it; 0 and 0 else.
+use mathlib.Core.List.{List, [], _∷_}
+use mathlib.Core.Bool.{cond}
+use Prim.Native.Nat.{ℕ, _+_, _*_, _-_}
+use lib.Dec.{eqb}
+use lib.ListN.{length, getD, set}
+use Rattle.layout.specs.Layout.{part}
+use Rattle.syntax.specs.Nodes.{kindAt}
+use Rattle.values.specs.Form.{isValue}
+use Rattle.values.specs.Givens.{sizeOf}
+use Rattle.states.specs.Names.{Name}
+use Rattle.states.specs.States.{isSize}
+
+-- a given's pair
+unfoldable pub putPair : ℕ → List ℕ → ℕ → List ℕ → List ℕ
+putPair g state k u = set (set u (2 * k) g) (2 * k + 1) (getD (part state k) 0 0)
+
+-- the names from entry k on
+unfoldable pub putNames : List Name → List ℕ → ℕ → List ℕ → List ℕ
+putNames [] state k u = u
+putNames (n ∷ ns) state k u = putNames ns state (k + 1) (cond (n .isGiven) (putPair (n .identifier) state k u) u)
+
+-- the number of names that line k of an Axiom's Text writes
+unfoldable pub lineCount : List ℕ → ℕ → ℕ
+lineCount doc k = cond (eqb (kindAt doc k) 11) (length (part doc k) - 2) 0
+
+-- 41 at entry k by the table: where it is a given's, and where it is not; 0 for none
+unfoldable pub givenBy : List ℕ → List ℕ → ℕ → ℕ
+givenBy table state k = cond (eqb (getD table (2 * k) 0) 0) 0 (cond (isSize (part state k)) 0 41)
+
+unfoldable pub valueBy : List ℕ → List ℕ → ℕ → ℕ
+valueBy table state k = cond (eqb (getD table (2 * k) 0) 0) (cond (isValue (sizeOf table) (part state k)) 0 41) 0

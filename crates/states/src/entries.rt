@@ -1,0 +1,101 @@
+// The entries of a state, by the table of the names: all Given entries, then the others.
+use layout::part;
+use syntax::Reading;
+use values::form::is_value;
+use words::word;
+ghost use mathlib.Core.Path.{_≡_};
+ghost use Prim.Native.Nat.{_≤_, _<_, _^_};
+ghost use Rattle.syntax.specs.Findings.{scan, andThen};
+ghost use Rattle.states.specs.States.{isSize};
+ghost use Rattle.states.specs.Table.{givenBy, valueBy};
+
+// A given's entry: one word, its size 0 to 20.
+fn is_size(w: &[u32]) -> bool
+    ensures { λ r. ⌜ r ≡ isSize (now (w .entry)) ⌝ }
+{
+    if w.len() == 1 {
+        return word(w, 0) <= 20;
+    }
+    false
+}
+
+// 41 at entry k if it is a given's, 0 for none.
+fn given_by(table: &[u32], state: &[u32], k: usize) -> u32
+    requires { ⌜ k < 2 ^ 32 ⌝ }
+    ensures { λ r. ⌜ r ≡ givenBy (now (table .entry)) (now (state .entry)) k ⌝ }
+{
+    let g = word(table, 2 * k);
+    if g == 0 {
+        return 0;
+    }
+    if is_size(part(state, k)) {
+        return 0;
+    }
+    41
+}
+
+// 41 at entry k if it is not a given's, 0 for none.
+fn value_by(table: &[u32], state: &[u32], k: usize) -> u32
+    requires { ⌜ k < 2 ^ 32 ⌝ }
+    ensures { λ r. ⌜ r ≡ valueBy (now (table .entry)) (now (state .entry)) k ⌝ }
+{
+    let g = word(table, 2 * k);
+    if g == 0 {
+        if is_value(table, part(state, k)) {
+            return 0;
+        }
+        return 41;
+    }
+    0
+}
+
+fn check_givens(table: &[u32], state: &[u32], n: usize) -> Reading
+    requires { ⌜ n ≤ 1024 ⌝ }
+    ensures { λ r. ⌜ r ≡ scan (givenBy (now (table .entry)) (now (state .entry))) 1 n ⌝ }
+{
+    let mut k = 1;
+    while k < n + 1 {
+        let number = given_by(table, state, k);
+        if number != 0 {
+            return Reading::Refused {
+                number: number,
+                place: k as u32,
+            };
+        }
+        k += 1;
+    }
+    Reading::Readable
+}
+
+fn check_values(table: &[u32], state: &[u32], n: usize) -> Reading
+    requires { ⌜ n ≤ 1024 ⌝ }
+    ensures { λ r. ⌜ r ≡ scan (valueBy (now (table .entry)) (now (state .entry))) 1 n ⌝ }
+{
+    let mut k = 1;
+    while k < n + 1 {
+        let number = value_by(table, state, k);
+        if number != 0 {
+            return Reading::Refused {
+                number: number,
+                place: k as u32,
+            };
+        }
+        k += 1;
+    }
+    Reading::Readable
+}
+
+// The first entry that is ill formed, Given entries first.
+pub fn check_entries(table: &[u32], state: &[u32], n: usize) -> Reading
+    requires { ⌜ n ≤ 1024 ⌝ }
+    ensures { λ r. ⌜ r ≡ andThen (scan (givenBy (now (table .entry)) (now (state .entry))) 1 n) (scan (valueBy (now (table .entry)) (now (state .entry))) 1 n) ⌝ }
+{
+    let first = check_givens(table, state, n);
+    match first {
+        Reading::Readable => check_values(table, state, n),
+        Reading::Refused { number, place } => Reading::Refused {
+            number: number,
+            place: place,
+        },
+    }
+}

@@ -1,0 +1,56 @@
+// States on words: which names of a document a state gives values to, and finding 41 with its place. The definitions are in specs/.
+use layout::Form;
+use syntax::Reading;
+use words::word;
+
+mod entries;
+mod names;
+
+ghost use mathlib.Core.Path.{_≡_};
+ghost use Rattle.syntax.specs.Reading.{readOf};
+ghost use Rattle.syntax.specs.Decode.{treeOf};
+ghost use Rattle.syntax.specs.declared.Reading.the-variants.{Readable};
+ghost use Rattle.states.specs.Names.{documentNames};
+ghost use Rattle.states.specs.States.{stateOf, stateCheckOf};
+
+// Finding 41 of a state for a readable document. A state has at most 1,024 entries, so where there are more names their pairs are not needed.
+fn check_names(doc: &[u32], state: &[u32]) -> Reading
+    requires { ⌜ readOf (now doc) ≡ Readable ⌝ }
+    ensures { λ r. ⌜ r ≡ stateOf (documentNames (treeOf (now (doc .entry)))) (now (state .entry)) ⌝ }
+{
+    let mut table = [0u32; 2050];
+    let n = names::put_names(doc, state, &mut table);
+    let form = Form {
+        fewest: 0,
+        most: 1024,
+        shortest: 1,
+        longest: 16384,
+    };
+    if layout::laid_out(state, form) {
+        if word(state, 0) == n {
+            return entries::check_entries(&table, state, n);
+        }
+        return Reading::Refused {
+            number: 41,
+            place: 0,
+        };
+    }
+    Reading::Refused {
+        number: 41,
+        place: 0,
+    }
+}
+
+// The finding of a document with a state: reading's, else 41 with its place.
+pub fn check_state(doc: &[u32], state: &[u32]) -> Reading
+    ensures { λ r. ⌜ r ≡ stateCheckOf (now (doc .entry)) (now (state .entry)) ⌝ }
+{
+    let first = reader::read(doc);
+    match first {
+        Reading::Readable => check_names(doc, state),
+        Reading::Refused { number, place } => Reading::Refused {
+            number: number,
+            place: place,
+        },
+    }
+}

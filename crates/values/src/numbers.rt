@@ -1,0 +1,32 @@
+// Integers as values.
+use super::held::Held;
+use super::held::hold;
+use super::integer::signed;
+use super::integer::word_of;
+use super::words::word;
+ghost use mathlib.Core.Path.{_≡_};
+ghost use Rattle.values.specs.Held.{keep};
+ghost use Rattle.values.specs.Numbers.{numberOf};
+ghost use Rattle.values.specs.Value.{int, encode};
+
+// What a value is as an integer. `findingOf` of specs/Numbers.antt has each case's number.
+pub enum Number {
+    Integer(i32),
+    Misfit,
+}
+
+pub fn number_of(w: &[u32]) -> Number
+    ensures { λ r. ⌜ r ≡ numberOf (now (w .entry)) ⌝ }
+{
+    if word(w, 0) == 1 {
+        return Number::Integer(signed(word(w, 1) as u32));
+    }
+    Number::Misfit
+}
+
+pub fn integer_value(z: i32) -> Held
+    ensures { λ r. ⌜ r ≡ keep (encode (int z)) ⌝ }
+{
+    let w = [1, word_of(z)];
+    hold(&w)
+}

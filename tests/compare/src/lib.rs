@@ -1,0 +1,9 @@
+//! Compares the proved library with the reference, call by call.
+
+pub mod areas;
+pub mod calls;
+pub mod expected;
+pub mod program;
+pub mod show;
+pub mod shrink;
+pub mod timed;

@@ -1,0 +1,36 @@
+//! The reference doing what each call does, areas included, for the benchmark.
+//! The function has the call's name.
+
+use crate::calls::Slices;
+use reference::run::run_listing;
+use reference::{Ending, Finding};
+
+fn answer<T>(found: Result<T, Finding>) -> u64 {
+    found.err().map_or(0, Finding::word)
+}
+
+pub fn z_read(s: &mut Slices) -> u64 {
+    answer(reference::read(s.document))
+}
+
+pub fn z_state(s: &mut Slices) -> u64 {
+    answer(reference::check_state(s.document, s.state))
+}
+
+pub fn z_check(s: &mut Slices) -> u64 {
+    answer(reference::check_into(s.document, s.dictionary, s.work))
+}
+
+pub fn z_fit(s: &mut Slices) -> u64 {
+    answer(reference::fit::fit_into(s.document, s.state, s.dictionary, s.work))
+}
+
+pub fn z_run(s: &mut Slices) -> u64 {
+    s.work.fill(0);
+    match run_listing(s.document, s.state, s.work.len(), u64::MAX, false).ending {
+        Ending::Holds => 0,
+        Ending::FailsAt(node) => 1 << 32 | u64::from(node),
+        Ending::Refused(finding) => finding.word(),
+        Ending::OutOfSteps => u64::MAX,
+    }
+}
