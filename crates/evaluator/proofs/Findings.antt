@@ -14,10 +14,11 @@ use Rattle.syntax.specs.Tree.{Connective, and, or, implies, Expr, reference, nu
 use Rattle.syntax.specs.Tree.{comprehension, Exprs, none, more, Pred, truth, equal, member, atMost, connected, quantified, Text, text, Lines, end}
 use Rattle.syntax.specs.Tree.{declaration, inclusion, Include, include}
 use Rattle.syntax.specs.Tree as Tree
-use Rattle.evaluator.specs.Members.{wordCount, sameValue}
+use Rattle.values.specs.SetValues.{Image, found, misfit, undefined, applyValue}
+use Rattle.evaluator.specs.Members.{wordCount}
 use Rattle.evaluator.specs.Outcomes.{Outcome, _>>=_, pure, stop, keepIf, keep}
 use Rattle.evaluator.specs.Scope.{Scope, Meaning, valued, generic, unknown, refer}
-use Rattle.evaluator.specs.Operations.{asInteger, asSet, asTuple, addIf, add, findPair, keepInteger, connect, allPass, countIf, sameCount}
+use Rattle.evaluator.specs.Operations.{asInteger, asSet, asTuple, addIf, add, image, findPair, keepInteger, connect, allPass, countIf, sameCount}
 use Rattle.evaluator.specs.Assignments.{Domains, noMore, domain, Flow, go, halt, Body, next, each, assign}
 use Rattle.evaluator.specs.Rules.{amongMembers, stopInclude, evalExpr, evalExprs, evalMembers, evalPred, overText, evalLines, testExpr, testExprs}
 use Rattle.evaluator.specs.Claims.{Listed, empty, entry, Good, finished, ceased, Short, Trouble}
@@ -81,16 +82,15 @@ add-fine : (n : ℕ) (v : Value) (vs : Values) → Fine (add n v vs)
 unfolding add
 add-fine n v vs = addIf-fine _ n _
 
+image-fine : (n : ℕ) (i : Image) → Fine (image n i)
+unfolding image
+image-fine n (found v) = pure-good tt
+image-fine n misfit = trouble (omega arith) (omega arith)
+image-fine n undefined = trouble (omega arith) (omega arith)
+
 pair-fine : (n : ℕ) (a : Value) (vs : Values) → Fine (findPair n a vs)
 unfolding findPair
-pair-fine n a nil = trouble (omega arith) (omega arith)
-pair-fine n a (cons (int z) ws) = trouble (omega arith) (omega arith)
-pair-fine n a (cons (element g k) ws) = trouble (omega arith) (omega arith)
-pair-fine n a (cons (Value.set vs) ws) = trouble (omega arith) (omega arith)
-pair-fine n a (cons (Value.tuple nil) ws) = trouble (omega arith) (omega arith)
-pair-fine n a (cons (Value.tuple (cons x nil)) ws) = trouble (omega arith) (omega arith)
-pair-fine n a (cons (Value.tuple (cons x (cons y nil))) ws) = choose-good (sameValue x a) (pure-good tt) (pair-fine n a ws)
-pair-fine n a (cons (Value.tuple (cons x (cons y (cons z vs)))) ws) = trouble (omega arith) (omega arith)
+pair-fine n a vs = image-fine n (applyValue a vs)
 
 whole-fine : (n : ℕ) (i : Integer) → Fine (keepInteger n i)
 unfolding keepInteger

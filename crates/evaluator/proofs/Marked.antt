@@ -17,10 +17,11 @@ use Rattle.values.specs.Value.{count, encode}
 use Rattle.values.specs.Order.{compareWord, orElse, compare, isLess, isSame, same}
 use Rattle.values.specs.Givens.{elementsFrom, elements, smallSize, sizeFrom, sizeOf}
 use Rattle.values.specs.Form.{elementShape, groupShape, shapeOf, follows, nextFits, groupEnd, byShape, valueLength, isValue}
-use Rattle.evaluator.specs.Members.{wordCount, sameValue, place, insert, isIn}
+use Rattle.values.specs.SetValues.{sameValue, isIn, insertBy, insertValue, applyValue}
+use Rattle.evaluator.specs.Members.{wordCount}
 use Rattle.evaluator.specs.Outcomes.{after, _>>=_, keepIf, keep}
 use Rattle.evaluator.specs.Scope.{pick, lookup, refer}
-use Rattle.evaluator.specs.Operations.{asInteger, asSet, asTuple, addIf, add, findPair, keepInteger, calculate, connect, allPass, countIf, sameCount}
+use Rattle.evaluator.specs.Operations.{asInteger, asSet, asTuple, addIf, add, image, findPair, keepInteger, calculate, connect, allPass, countIf, sameCount}
 use Rattle.evaluator.specs.Assignments.{domains, next, each, assign, flowOf, truthOf, gathered}
 use Rattle.evaluator.specs.Rules.{amongMembers, stopInclude, evalExpr, evalExprs, evalMembers, evalPred, overText, evalLines, testExpr, testExprs}
 use Rattle.states.specs.Names.{namesAs, lineNames, paragraphNames, namesOf, documentNames}
@@ -33,36 +34,14 @@ use Rattle.evaluator.specs.Marked.{Hold, none, more}
 
 pub marked-hold : Hold marked
 unfolding
-    every total joined has occurrences chain laidOut part tower meaning nameOf isIdentifier cell sortIn countBy plainOk ofSort nodesAmong
-    children uses parentAmong parent above scan useNumber fresh isAxiomDecl globals declaredIn parameters schemas repeatNumber textsAmong
-    isClosing anyCrowded limitNumber readOf gather pairsFrom makers nodeAt treeOf exprsLength signed wordOf findingOf kept sum difference
-    product floorDiv floorMod byDivisor quotient remainder count encode compareWord orElse compare isLess isSame same elementsFrom elements
-    smallSize sizeFrom sizeOf elementShape groupShape shapeOf follows nextFits groupEnd byShape valueLength isValue wordCount sameValue place
-    insert isIn after _>>=_ keepIf keep pick lookup refer asInteger asSet asTuple addIf add findPair keepInteger calculate connect allPass
-    countIf sameCount domains next each assign flowOf truthOf gathered amongMembers stopInclude evalExpr evalExprs evalMembers evalPred overText
-    evalLines testExpr testExprs namesAs lineNames paragraphNames namesOf documentNames valuesFrom valueByShape valueAt valueOf sizeTable
-    sizesIn isSize givenNumber valueNumber isPaired entriesOf stateIf stateOf entryFrom entryValue valueIn then unless bindGivens testNames
-    testLines runParagraph runParagraphs runDocument ending runState runWork runRead runOf lastNode lastWords marked
-marked-hold =
-    more (record { found = refl; last = refl; valued = refl })
-    (more (record { found = refl; last = refl; valued = refl })
-    (more (record { found = refl; last = refl; valued = refl })
-    (more (record { found = refl; last = refl; valued = refl })
-    (more (record { found = refl; last = refl; valued = refl })
-    (more (record { found = refl; last = refl; valued = refl })
-    (more (record { found = refl; last = refl; valued = refl })
-    (more (record { found = refl; last = refl; valued = refl })
-    (more (record { found = refl; last = refl; valued = refl })
-    (more (record { found = refl; last = refl; valued = refl })
-    (more (record { found = refl; last = refl; valued = refl })
-    (more (record { found = refl; last = refl; valued = refl })
-    (more (record { found = refl; last = refl; valued = refl })
-    (more (record { found = refl; last = refl; valued = refl })
-    (more (record { found = refl; last = refl; valued = refl })
-    (more (record { found = refl; last = refl; valued = refl })
-    (more (record { found = refl; last = refl; valued = refl })
-    (more (record { found = refl; last = refl; valued = refl })
-    (more (record { found = refl; last = refl; valued = refl })
-    (more (record { found = refl; last = refl; valued = refl })
-    (more (record { found = refl; last = refl; valued = refl })
-    (more (record { found = refl; last = refl; valued = refl }) none)))))))))))))))))))))
+    every total joined has occurrences chain laidOut part tower meaning nameOf isIdentifier cell sortIn countBy plainOk ofSort nodesAmong children
+    uses parentAmong parent above scan useNumber fresh isAxiomDecl globals declaredIn parameters schemas repeatNumber textsAmong isClosing anyCrowded
+    limitNumber readOf gather pairsFrom makers nodeAt treeOf exprsLength signed wordOf findingOf kept sum difference product floorDiv floorMod
+    byDivisor quotient remainder count encode compareWord orElse compare isLess isSame same elementsFrom elements smallSize sizeFrom sizeOf
+    elementShape groupShape shapeOf follows nextFits groupEnd byShape valueLength isValue wordCount sameValue isIn insertBy insertValue applyValue
+    image after _>>=_ keepIf keep pick lookup refer asInteger asSet asTuple addIf add findPair keepInteger calculate connect allPass countIf sameCount
+    domains next each assign flowOf truthOf gathered amongMembers stopInclude evalExpr evalExprs evalMembers evalPred overText evalLines testExpr
+    testExprs namesAs lineNames paragraphNames namesOf documentNames valuesFrom valueByShape valueAt valueOf sizeTable sizesIn isSize givenNumber
+    valueNumber isPaired entriesOf stateIf stateOf entryFrom entryValue valueIn then unless bindGivens testNames testLines runParagraph runParagraphs
+    runDocument ending runState runWork runRead runOf lastNode lastWords marked
+marked-hold = more (record { found = refl; last = refl; valued = refl }) (more (record { found = refl; last = refl; valued = refl }) (more (record { found = refl; last = refl; valued = refl }) (more (record { found = refl; last = refl; valued = refl }) (more (record { found = refl; last = refl; valued = refl }) (more (record { found = refl; last = refl; valued = refl }) (more (record { found = refl; last = refl; valued = refl }) (more (record { found = refl; last = refl; valued = refl }) (more (record { found = refl; last = refl; valued = refl }) (more (record { found = refl; last = refl; valued = refl }) (more (record { found = refl; last = refl; valued = refl }) (more (record { found = refl; last = refl; valued = refl }) (more (record { found = refl; last = refl; valued = refl }) (more (record { found = refl; last = refl; valued = refl }) (more (record { found = refl; last = refl; valued = refl }) (more (record { found = refl; last = refl; valued = refl }) (more (record { found = refl; last = refl; valued = refl }) (more (record { found = refl; last = refl; valued = refl }) (more (record { found = refl; last = refl; valued = refl }) (more (record { found = refl; last = refl; valued = refl }) (more (record { found = refl; last = refl; valued = refl }) (more (record { found = refl; last = refl; valued = refl }) none)))))))))))))))))))))

@@ -9,7 +9,8 @@ use Rattle.values.specs.declared.integer.Integer.{Integer}
 use Rattle.values.specs.declared.integer.Integer.the-variants.{Whole, Undefined, Outside}
 use Rattle.syntax.specs.Tree.{Operator, plus, minus, times, Connective, and, or, implies}
 use Rattle.syntax.specs.Tree as Tree
-use Rattle.evaluator.specs.Members.{wordCount, sameValue, insert}
+use Rattle.values.specs.SetValues.{insertValue, Image, found, misfit, undefined, applyValue}
+use Rattle.evaluator.specs.Members.{wordCount}
 use Rattle.evaluator.specs.Outcomes.{Outcome, _>>=_, pure, stop, keep}
 
 -- 51: a value of a sort that the operation at node n cannot use
@@ -37,18 +38,16 @@ addIf true n vs = pure vs
 addIf false n vs = stop 55 n
 
 unfoldable pub add : ℕ → Value → Values → Outcome Values
-add n v vs = let r = insert v vs in addIf (leb (wordCount (set r)) 64) n r
+add n v vs = let r = insertValue v vs in addIf (leb (wordCount (set r)) 64) n r
 
 -- Apply: the lowest pair whose first part equals the argument a; a member that is no pair, met before it, is 51; none found is 52
+unfoldable pub image : ℕ → Image → Outcome Value
+image n (found v) = pure v
+image n misfit = stop 51 n
+image n undefined = stop 52 n
+
 unfoldable pub findPair : ℕ → Value → Values → Outcome Value
-findPair n a nil = stop 52 n
-findPair n a (cons (int z) ws) = stop 51 n
-findPair n a (cons (element g k) ws) = stop 51 n
-findPair n a (cons (set vs) ws) = stop 51 n
-findPair n a (cons (tuple nil) ws) = stop 51 n
-findPair n a (cons (tuple (cons x nil)) ws) = stop 51 n
-findPair n a (cons (tuple (cons x (cons y nil))) ws) = elim (sameValue x a) [ true ↦ pure y | false ↦ findPair n a ws ]
-findPair n a (cons (tuple (cons x (cons y (cons z vs)))) ws) = stop 51 n
+findPair n a vs = image n (applyValue a vs)
 
 -- arithmetic: 52 where there is no result, then 53 where it is outside 32 bits signed (R23)
 unfoldable pub keepInteger : ℕ → Integer → Outcome Value

@@ -10,7 +10,7 @@ use Rattle.syntax.specs.Tree.{Expr, reference, number, integers, set, tuple, pr
 use Rattle.syntax.specs.Tree.{comprehension, Exprs, none, more, Pred, truth, equal, member, atMost, connected, quantified, Text, text, Lines, end}
 use Rattle.syntax.specs.Tree.{declaration, inclusion, Include, include, exprsLength}
 use Rattle.syntax.specs.Tree as Tree
-use Rattle.evaluator.specs.Members.{sameValue, isIn}
+use Rattle.values.specs.SetValues.{sameValue, isIn}
 use Rattle.evaluator.specs.Outcomes.{Outcome, _>>=_, pure, stop, keep}
 use Rattle.evaluator.specs.Scope.{Scope, lookup, refer}
 use Rattle.evaluator.specs.Operations.{asInteger, asSet, asTuple, add, findPair, keepInteger, calculate, connect, allPass, sameCount}

@@ -1,6 +1,6 @@
 -- What each part of the evaluation rules does to values of a type.
 use mathlib.Core.Path.{_≡_}
-use mathlib.Core.Bool.{Bool, true, false}
+use mathlib.Core.Bool.{Bool, true, false, cond}
 use Prim.Native.Nat.{ℕ}
 use native.Mathlib.Omega.{arith}
 use lib.IntN.{ℤ}
@@ -13,9 +13,10 @@ use Rattle.values.specs.declared.integer.Integer.the-variants.{Whole, Undefined
 use Rattle.types.specs.Former as Former
 use Rattle.types.specs.Types.{Ty, node, Tys, tnil, tcons}
 use Rattle.fit.specs.HasType.{Has, isInteger, isElement, isSet, isTuple, MembersHave, noMember, aMember, PartsHave, noPart, aPart}
-use Rattle.evaluator.specs.Members.{wordCount, sameValue, place, insert}
+use Rattle.values.specs.SetValues.{sameValue, insertBy, insertValue, Image, found, misfit, undefined, applyValue}
+use Rattle.evaluator.specs.Members.{wordCount}
 use Rattle.evaluator.specs.Outcomes.{Outcome, keepIf, keep}
-use Rattle.evaluator.specs.Operations.{asInteger, asSet, asTuple, addIf, add, findPair, keepInteger}
+use Rattle.evaluator.specs.Operations.{asInteger, asSet, asTuple, addIf, add, image, findPair, keepInteger}
 use Rattle.evaluator.specs.Claims.{empty, entry, Good, finished}
 use Rattle.evaluator.proofs.Outcomes.{pure-good, stop-good, choose-good}
 
@@ -37,6 +38,21 @@ NoMisfit number n = number ≡ 51 → ⊥
 
 abbrev pub Typed : (ℕ → Ty → Type 0) → {A : Type 0} → (A → Type 0) → Outcome A → Type 0
 Typed R P m = Good (Entry R) NoMisfit P m
+
+-- what Apply finds in a set of pairs: a value of the second part's type, or none
+unfoldable ImageHas : Image → Ty → Type 0
+ImageHas (found v) b = Has v b
+ImageHas misfit b = ⊥
+ImageHas undefined b = Unit {0}
+
+either-has : (c : Bool) (x y : Image) (b : Ty) → ImageHas x b → ImageHas y b → ImageHas (cond c x y) b
+either-has true x y b h k = h
+either-has false x y b h k = k
+
+image-has : (x : Value) {ps : Values} {a b : Ty} → MembersHave ps (productType (tcons a (tcons b tnil))) → ImageHas (applyValue x ps) b
+unfolding applyValue ImageHas
+image-has x noMember = tt
+image-has x {b = b} (aMember (isTuple (aPart {v = y} p (aPart {v = z} q noPart))) ps) = either-has (sameValue y x) (found z) _ b q (image-has x ps)
 
 module _ {R : ℕ → Ty → Type 0} where
   keepIf-typed : (b : Bool) (n : ℕ) {v : Value} {g : Ty} → R n g → Has v g → Typed R (λ w. Has w g) (keepIf b n v)
@@ -65,10 +81,15 @@ module _ {R : ℕ → Ty → Type 0} where
   addIf-typed true n h = pure-good h
   addIf-typed false n h = stop-good (omega arith)
 
+  image-typed : (n : ℕ) (i : Image) {b : Ty} → ImageHas i b → Typed R (λ r. Has r b) (image n i)
+  unfolding image ImageHas
+  image-typed n (found v) h = pure-good h
+  image-typed n misfit h = absurd h
+  image-typed n undefined h = stop-good (omega arith)
+
   pub pair-typed : (n : ℕ) (x : Value) {ps : Values} {a b : Ty} → MembersHave ps (productType (tcons a (tcons b tnil))) → Typed R (λ r. Has r b) (findPair n x ps)
   unfolding findPair
-  pair-typed n x noMember = stop-good (omega arith)
-  pair-typed n x (aMember (isTuple (aPart {v = y} p (aPart q noPart))) ps) = choose-good (sameValue y x) (pure-good q) (pair-typed n x ps)
+  pair-typed n x h = image-typed n _ (image-has x h)
 
   pub whole-typed : (n : ℕ) (i : Integer) {g : Ty} → R n g → g ≡ integerType → Typed R (λ w. Has w g) (keepInteger n i)
   unfolding keepInteger
@@ -76,16 +97,16 @@ module _ {R : ℕ → Ty → Type 0} where
   whole-typed n Undefined r e = stop-good (omega arith)
   whole-typed n Outside r e = stop-good (omega arith)
 
-place-have : (o : Order) {v w : Value} {ws r : Values} {t : Ty} → Has v t → Has w t → MembersHave ws t → MembersHave r t → MembersHave (place o v w ws r) t
-unfolding place
-place-have Less v w ws r = aMember v (aMember w ws)
-place-have Same v w ws r = aMember w ws
-place-have Greater v w ws r = aMember w r
+by-have : (o : Order) {v w : Value} {ws r : Values} {t : Ty} → Has v t → Has w t → MembersHave ws t → MembersHave r t → MembersHave (insertBy o v w ws r) t
+unfolding insertBy
+by-have Less v w ws r = aMember v (aMember w ws)
+by-have Same v w ws r = aMember w ws
+by-have Greater v w ws r = aMember w r
 
-insert-have : {v : Value} {ws : Values} {t : Ty} → Has v t → MembersHave ws t → MembersHave (insert v ws) t
-unfolding insert
+insert-have : {v : Value} {ws : Values} {t : Ty} → Has v t → MembersHave ws t → MembersHave (insertValue v ws) t
+unfolding insertValue
 insert-have h noMember = aMember h noMember
-insert-have h (aMember w ws) = place-have _ h w ws (insert-have h ws)
+insert-have h (aMember w ws) = by-have _ h w ws (insert-have h ws)
 
 pub add-typed : {R : ℕ → Ty → Type 0} (n : ℕ) {v : Value} {vs : Values} {t : Ty} → Has v t → MembersHave vs t → Typed R (λ r. MembersHave r t) (add n v vs)
 unfolding add
