@@ -89,7 +89,7 @@ module _ (s d : List ℕ) (n : ℕ) (P₀ L : Pairs ℕ) (S : Solved s n P₀ L)
             at-unk (pick s d n P g) i l (ap (tagAt w) ri ∙ P .bare i l v) ∙ ap (pick s d n P g) ri ∙ pick-pinned s d n P g i l v k R;
       }
 
-  open-type : (g : Ty) (i : ℕ) → i < n → tagAt w (r i) ≡ 0 → wordAt s (r i) < 769 → solution-with g .σ i ≡ g
+  pub open-type : (g : Ty) (i : ℕ) → i < n → tagAt w (r i) ≡ 0 → wordAt s (r i) < 769 → solution-with g .σ i ≡ g
   unfolding solution-with
   open-type g i l e v = at-unk (pick s d n P g) i l e ∙ pick-open s d n P g (r i) v
 

@@ -7,7 +7,7 @@ ghost use Rattle.solver.specs.Settled.{heap, leadWords, nameWords, parts
 ghost use Rattle.solver.specs.Merging.{Open, Turned, Popped, Tied, Tying, Drained, Asking, Merged};
 ghost use Rattle.solver.specs.Flat.{Sound, Straight, Flattened};
 ghost use Rattle.solver.specs.Written.{leadAt, nameAt, Wrote, Writing, Typed, Leading};
-ghost use Rattle.solver.specs.Answers.{Scanned, Left, Placed, Looked};
+ghost use Rattle.solver.specs.Answers.{Scanned, Left, Placed, LookingRoot, Looking, Looked};
 ghost use Rattle.solver.specs.Sizes.{cap, markAt, total, Size, One, Read, Round, Rounds, Cleared, Tested};
 ghost use Rattle.solver.specs.Calls.{put, Making, Made, Adding, Added, Tells, Known, Root, Runs, Two, Alike, Pushing, Pushed};
 
@@ -674,12 +674,11 @@ fn place(a: &[u32], p: usize, k: usize, x: usize) -> usize
     k
 }
 
-// The cell of the component id of cell i, plus 1; 0: not in every solution.
-pub fn component(a: &[u32], i: usize, id: usize) -> usize
-    requires { ⌜ Known (now a) i ⌝ }
-    ensures { λ v. ⌜ Looked (now (a .entry)) i id v ⌝ }
+// The component id of the former at r, a representative: its cell plus 1, and 0 where there is none.
+fn former_component(a: &[u32], d: &[u32], r: usize, id: usize) -> usize
+    requires { ⌜ (LookingRoot (now a) (now d) r) × (0 < tagAt (frozen (now a)) r) ⌝ }
+    ensures { λ v. ⌜ Looked (now (a .entry)) (now (d .entry)) r id v ⌝ }
 {
-    let r = find(a, i);
     if field(a, r, 0) == 5 {
         let p = field(a, r, 1);
         let k = field(a, r, 3);
@@ -690,6 +689,34 @@ pub fn component(a: &[u32], i: usize, id: usize) -> usize
         return 0;
     }
     0
+}
+
+// The component id of the unknown r, a representative: 769 plus the place of its type, and 0 where there is none.
+fn unknown_component(a: &[u32], d: &[u32], r: usize, id: usize) -> usize
+    requires { ⌜ (LookingRoot (now a) (now d) r) × (tagAt (frozen (now a)) r ≡ 0) ⌝ }
+    ensures { λ v. ⌜ Looked (now (a .entry)) (now (d .entry)) r id v ⌝ }
+{
+    let q = word(a, LINKS + r);
+    if q < 769 {
+        return 0;
+    }
+    let p = settled_component(a, d, q - 769, id);
+    if p == 0 {
+        return 0;
+    }
+    769 + p
+}
+
+// The component id of cell i: its cell plus 1, or 769 plus the place of its type; 0: not in every solution.
+pub fn component(a: &[u32], d: &[u32], i: usize, id: usize) -> usize
+    requires { ⌜ Looking (now a) (now d) i ⌝ }
+    ensures { λ v. ⌜ Looked (now (a .entry)) (now (d .entry)) i id v ⌝ }
+{
+    let r = find(a, i);
+    if field(a, r, 0) == 0 {
+        return unknown_component(a, d, r, id);
+    }
+    former_component(a, d, r, id)
 }
 
 // The first words of the type with the former at r.
