@@ -21,7 +21,7 @@ use Rattle.types.specs.Types.{Ty, Tys, node, tcons, tnil}
 use Rattle.solver.specs.Store.{frozen, tagAt, argAt, firstAt, countAt, run, partsAt, formerAt, view, Cell, Held, Solved}
 use Rattle.solver.specs.Calls.{Known, Root}
 use Rattle.solver.specs.Sizes.{Solution, Read}
-use Rattle.solver.specs.Answers.{Finite, Several, Scanned, Has, Placed}
+use Rattle.solver.specs.Answers.{Finite, Has, Placed}
 use Rattle.solver.proofs.Links.{rep-below}
 use Rattle.solver.proofs.Words.{run-at, run-length}
 use Rattle.solver.proofs.Heads.{view-unk, view-shape, parts-length, head-five, not-five}
@@ -55,39 +55,6 @@ module _ (s : List ℕ) (n : ℕ) (P₀ L : Pairs ℕ) (S : Solved s n P₀ L) w
 
   abbrev r : ℕ → ℕ
   r = rep eqb L
-
-  pub several : Finite (frozen s) n L → (i : ℕ) → i < n → tagAt w (r i) ≡ 0 → Several w n P₀
-  unfolding solve-with
-  several F i l e = record {
-    one = solve-with s n P₀ L S (λ m. node int tnil) F;
-    other = solve-with s n P₀ L S (λ m. node power (tcons (node int tnil) tnil)) F;
-    cell = i;
-    made = l;
-    differ = two-solutions ℕ eqb eqb-true eqb-false Vw P₀ L (S .closed) n i (view-unk w n (r i) (rep-below n L (S .held .inside) i l) e);
-  }
-
-  module _ (known : (i : ℕ) → i < n → tagAt w (r i) ≡ 0 → ⊥) (X Y : Solution w n P₀) where
-    no-unk : (i : ℕ) → i < n → Vw (r i) ≡ unk → ⊥
-    no-unk i l e =
-        let b = rep-below n L (S .held .inside) i l in
-        let q = sym (view-shape w n (r i) b (⊎-elim (λ z. absurd (known i l z)) (λ p. p) (eq-zero-or-pos (tagAt w (r i))))) ∙ e in
-        let z : _≡_ {A = ℕ} 0 1 = cc in omega arith
-
-    one-v : (f : ℕ → Bool) → ((c : ℕ) → c < n → f c ≡ true → X .σ c ≡ Y .σ c) → (i : ℕ) → i < n → (v : View ℕ) → Vw (r i) ≡ v → boundedView f v ≡ true → X .σ (r i) ≡ Y .σ (r i)
-    unfolding boundedView
-    one-v f k i l unk e q = absurd (no-unk i l e)
-    one-v f k i l (shape h cs) e q =
-        X .fits (r i) h cs e
-        ∙ ap (λ z. node h (fromList z)) (map-same (X .σ) (Y .σ) cs (λ c j. k c (kids-below s n L (S .held) (r i) h cs (rep-below n L (S .held .inside) i l) e c j) (all-at f cs q c j)))
-        ∙ sym (Y .fits (r i) h cs e)
-
-    one-d : (d i : ℕ) → i < n → bounded r Vw d i ≡ true → X .σ i ≡ Y .σ i
-    unfolding bounded
-    one-d zero i l q = absurd (bool-no false q refl)
-    one-d (suc d) i l q = sym (by-rep s n P₀ L S X i) ∙ one-v _ (λ c m e. one-d d c m e) i l (Vw (r i)) refl q ∙ by-rep s n P₀ L S Y i
-
-    pub unique : Finite w n L → (i : ℕ) → i < n → X .σ i ≡ Y .σ i
-    unique F i l = one-d n i l (F i l)
 
   -- A former's type, in a solution.
   module _ (i : ℕ) (l : i < n) where

@@ -14,25 +14,12 @@ use Rattle.types.specs.Follows.{View, shape, unk}
 use Rattle.types.specs.Former.{Former, binding}
 use Rattle.types.specs.Types.{Ty, Tys, node}
 use Rattle.solver.specs.Store.{frozen, linkAt, tagAt, view, Held, Solved}
-use Rattle.solver.specs.Sizes.{Solution}
+use Rattle.solver.specs.Written.{Resolved}
 use Rattle.solver.specs.Settled.{heap, wordAt, Readable, Pinned, Obeys, Fits, Found}
 
 -- All cells have finite types.
 abbrev pub Finite : List ℕ → ℕ → Pairs ℕ → Type 0
 Finite w n L = (i : ℕ) → i < n → bounded (rep eqb L) (view w n) n i ≡ true
-
-pub record Several (w : List ℕ) (n : ℕ) (P₀ : Pairs ℕ) : Type 0 where
-  pub one : Solution w n P₀
-  pub other : Solution w n P₀
-  pub cell : ℕ
-  pub made : cell < n
-  pub differ : one .σ cell ≡ other .σ cell → ⊥
-
--- 34. True: there are several solutions. False: each cell's type is the same in all of them.
-pub record Scanned (s : List ℕ) (n : ℕ) (free : Bool) : Type 0 where
-  pub several : free ≡ true → (P₀ L : Pairs ℕ) → Solved s n P₀ L → Finite (frozen s) n L → Several (frozen s) n P₀
-  pub one : free ≡ false → (P₀ L : Pairs ℕ) → Solved s n P₀ L → Finite (frozen s) n L → (X Y : Solution (frozen s) n P₀) → (i : ℕ) → i < n → X .σ i ≡ Y .σ i
-  pub known : free ≡ false → (L : Pairs ℕ) → Held s n L → (i : ℕ) → i < n → 0 < tagAt (frozen s) (rep eqb L i)
 
 -- The component of an identifier in a type.
 pub record Has (σ : ℕ → Ty) (i id c : ℕ) : Type 0 where
@@ -64,11 +51,12 @@ pub record Differ (s d : List ℕ) (n : ℕ) (P₀ : Pairs ℕ) : Type 0 where
   pub made : cell < n
   pub differ : one .σ cell ≡ other .σ cell → ⊥
 
--- 34, with settled cells. True: two solutions differ at a cell. False: each cell's type is the same in all of them.
+-- 34. True: two solutions differ at a cell. False: each cell's type is the same in all of them.
 pub record Left (s : List ℕ) (n : ℕ) (free : Bool) : Type 0 where
   pub several : free ≡ true → (d : List ℕ) (P₀ L : Pairs ℕ) → Solved s n P₀ L → Pinned s d n → Finite (frozen s) n L → Differ s d n P₀
   pub one : free ≡ false → (d : List ℕ) (P₀ L : Pairs ℕ) → Solved s n P₀ L → Pinned s d n → Finite (frozen s) n L →
       (X Y : SolutionOf s d n P₀) → (i : ℕ) → i < n → X .σ i ≡ Y .σ i
+  pub resolved : free ≡ false → (L : Pairs ℕ) → Held s n L → Resolved s n L
 
 -- A solution where cell i is no binding with this identifier.
 pub record Without (s d : List ℕ) (n : ℕ) (P₀ : Pairs ℕ) (i id : ℕ) : Type 0 where
