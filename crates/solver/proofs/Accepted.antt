@@ -2,22 +2,25 @@
 use mathlib.Core.Path.{_≡_, refl, sym, ap, subst, _∙_}
 use mathlib.Core.Bool.{true, false}
 use mathlib.Core.List.{List, [], _∷_, _++_}
-use Prim.Native.Nat.{ℕ, zero, suc, _+_, _*_, _≤_, _<_}
+use Prim.Native.Nat.{ℕ, zero, suc, _+_, _*_, _-_, _≤_, _<_}
 use native.Mathlib.Omega.{arith}
 use lib.Dec.{eqb}
-use lib.ListN.{length, length-append}
+use lib.ListN.{length}
 use borrow.Author.Tests.{eqb-true, eqb-false}
+use Rattle.types.proofs.Classify.{build}
 use Rattle.types.proofs.Closed.{closed-start}
+use Rattle.types.proofs.Transfer.{follows-holds}
 use Rattle.types.specs.Classes.{rep}
 use Rattle.types.specs.Equations.{Pairs, end}
-use Rattle.types.specs.Former.{Former, binding, given, identifiers, int, parameter, power, product}
-use Rattle.types.specs.Types.{Ty, Tys, node, size, sizes, tcons, tnil}
-use Rattle.solver.specs.Store.{frozen, tagAt, view, load, Held, Solved}
-use Rattle.solver.specs.Sizes.{markAt, typeAt, Sized, Solution, Tested}
-use Rattle.solver.specs.Answers.{Scanned}
-use Rattle.solver.specs.Written.{Ready}
-use Rattle.solver.proofs.Marking.{solve}
-use Rattle.solver.proofs.Answering.{unique}
+use Rattle.types.specs.Types.{Ty}
+use Rattle.solver.specs.Store.{frozen, tagAt, linkAt, view, load, Held, Solved}
+use Rattle.solver.specs.Settled.{heap, wordAt, Reads, Readable, Pinned, Obeys, Fits}
+use Rattle.solver.specs.Sizes.{markAt, Sized, Same, Tested, Model, Least}
+use Rattle.solver.specs.Answers.{SolutionOf}
+use Rattle.solver.specs.Written.{Resolved}
+use Rattle.solver.proofs.Links.{stop-rep}
+use Rattle.solver.proofs.Marking.{mk-c, sat-all}
+use Rattle.solver.proofs.Settling.{heap-kept}
 
 -- Any area of 16,384 words is a store with no cells.
 pub start : (s : List ℕ) → length s ≡ 16384 → Solved s 0 end end
@@ -37,16 +40,42 @@ start s e = record {
   asked = tt;
 }
 
--- `finite` true and `unresolved` false: types can be written.
-pub ready : (s s′ : List ℕ) (n : ℕ) → Tested s s′ n true → Scanned s′ n false → (P₀ L : Pairs ℕ) → Solved s n P₀ L → Ready s′ n L
-ready s s′ n T C P₀ L S = record {
-  held = T .grown P₀ L S .held;
-  sizes = λ i l. subst (λ w. Sized w n L i (markAt s′ i)) (sym (T .still)) (T .sizes refl P₀ L S i l);
-  known = C .known refl L (T .grown P₀ L S .held);
-}
+-- What `finite` does not change: what solutions obey.
+module _ (s s′ d : List ℕ) (n : ℕ) (K : Same s s′) (few : n ≤ 768) where
+  low-heap : heap s′ d ≡ heap s d
+  low-heap = heap-kept s s′ d (K .low)
 
--- What is written is the cell's type in the one solution.
-pub accepted : (s : List ℕ) (n : ℕ) (P₀ L : Pairs ℕ) → Solved s n P₀ L → Ready s n L → (X : Solution (frozen s) n P₀) → (i : ℕ) → i < n → X .σ i ≡ typeAt (frozen s) n L i
-unfolding solve
-accepted s n P₀ L S R X i l =
-    unique s n P₀ L S (λ j m e. let q = R .known j m in omega arith) X (solve s n P₀ L S (λ j m. R .sizes j m .finite)) (λ j m. R .sizes j m .finite) i l
+  pub same-pinned : Pinned s d n → Pinned s′ d n
+  same-pinned P = record {
+    reads = λ i l v.
+        let e = K .refs i (omega arith) in
+        subst (λ z. Readable z (wordAt s′ i - 769)) (sym low-heap) (subst (λ z. Readable (heap s d) (z - 769)) (sym e) (P .reads i l (omega arith)));
+    bare = λ i l v. let e = K .refs i (omega arith) in ap (λ z. tagAt z i) (K .still) ∙ P .bare i l (omega arith);
+  }
+
+  pub same-obeys : (σ : ℕ → Ty) → Obeys s d n σ → Obeys s′ d n σ
+  same-obeys σ O i l v g R =
+      let e = K .refs i (omega arith) in
+      O i l (omega arith) g (subst (λ z. Reads (heap s d) (z - 769) g) e (subst (λ z. Reads z (wordAt s′ i - 769) g) low-heap R))
+
+-- `finite` true: each solution is one of the marked store.
+pub model : (s s′ d : List ℕ) (n : ℕ) → Tested s s′ n true → (P₀ L : Pairs ℕ) → Solved s n P₀ L → Pinned s d n → (X : SolutionOf s d n P₀) → Model s′ d n L (X .σ)
+model s s′ d n T P₀ L S P X =
+    let f = S .held .few in
+    record {
+      marked = record {
+        held = T .grown P₀ L S .held;
+        sizes = λ i l. subst (λ w. Sized w n L i (markAt s′ i)) (sym (T .still)) (T .sizes refl P₀ L S i l);
+      };
+      pinned = same-pinned s s′ d n (T .same) f P;
+      fits = subst (λ w. Fits w n (X .σ)) (sym (T .still)) (X .fits);
+      sat = sat-all (X .σ) _ (follows-holds build mk-c (view (frozen s) n) P₀ (X .σ) (X .fits) (X .sat)) L (S .follows);
+      obeys = same-obeys s s′ d n (T .same) f (X .σ) (X .obeys);
+    }
+
+-- With nothing left open every solution has the least sizes.
+pub least : (s : List ℕ) (n : ℕ) (L : Pairs ℕ) → Held s n L → Resolved s n L → (σ : ℕ → Ty) → Least s n σ
+least s n L H R σ i l t k v =
+    let q = stop-rep s n L H i l k in
+    let z = R i l (ap (tagAt (frozen s)) q ∙ t) in
+    let y : 769 ≤ wordAt s i = subst (λ u. 769 ≤ wordAt s u) q z in absurd (omega arith)

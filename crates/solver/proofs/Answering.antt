@@ -21,7 +21,7 @@ use Rattle.types.specs.Types.{Ty, Tys, node, tcons, tnil}
 use Rattle.solver.specs.Store.{frozen, tagAt, argAt, firstAt, countAt, run, partsAt, formerAt, view, Cell, Held, Solved}
 use Rattle.solver.specs.Calls.{Known, Root}
 use Rattle.solver.specs.Sizes.{Solution, Read}
-use Rattle.solver.specs.Answers.{Finite, Several, Scanned, Has, Lacks, Without, Looked, Placed}
+use Rattle.solver.specs.Answers.{Finite, Has, Placed}
 use Rattle.solver.proofs.Links.{rep-below}
 use Rattle.solver.proofs.Words.{run-at, run-length}
 use Rattle.solver.proofs.Heads.{view-unk, view-shape, parts-length, head-five, not-five}
@@ -56,45 +56,12 @@ module _ (s : List ℕ) (n : ℕ) (P₀ L : Pairs ℕ) (S : Solved s n P₀ L) w
   abbrev r : ℕ → ℕ
   r = rep eqb L
 
-  pub several : Finite (frozen s) n L → (i : ℕ) → i < n → tagAt w (r i) ≡ 0 → Several w n P₀
-  unfolding solve-with
-  several F i l e = record {
-    one = solve-with s n P₀ L S (λ m. node int tnil) F;
-    other = solve-with s n P₀ L S (λ m. node power (tcons (node int tnil) tnil)) F;
-    cell = i;
-    made = l;
-    differ = two-solutions ℕ eqb eqb-true eqb-false Vw P₀ L (S .closed) n i (view-unk w n (r i) (rep-below n L (S .held .inside) i l) e);
-  }
-
-  module _ (known : (i : ℕ) → i < n → tagAt w (r i) ≡ 0 → ⊥) (X Y : Solution w n P₀) where
-    no-unk : (i : ℕ) → i < n → Vw (r i) ≡ unk → ⊥
-    no-unk i l e =
-        let b = rep-below n L (S .held .inside) i l in
-        let q = sym (view-shape w n (r i) b (⊎-elim (λ z. absurd (known i l z)) (λ p. p) (eq-zero-or-pos (tagAt w (r i))))) ∙ e in
-        let z : _≡_ {A = ℕ} 0 1 = cc in omega arith
-
-    one-v : (f : ℕ → Bool) → ((c : ℕ) → c < n → f c ≡ true → X .σ c ≡ Y .σ c) → (i : ℕ) → i < n → (v : View ℕ) → Vw (r i) ≡ v → boundedView f v ≡ true → X .σ (r i) ≡ Y .σ (r i)
-    unfolding boundedView
-    one-v f k i l unk e q = absurd (no-unk i l e)
-    one-v f k i l (shape h cs) e q =
-        X .fits (r i) h cs e
-        ∙ ap (λ z. node h (fromList z)) (map-same (X .σ) (Y .σ) cs (λ c j. k c (kids-below s n L (S .held) (r i) h cs (rep-below n L (S .held .inside) i l) e c j) (all-at f cs q c j)))
-        ∙ sym (Y .fits (r i) h cs e)
-
-    one-d : (d i : ℕ) → i < n → bounded r Vw d i ≡ true → X .σ i ≡ Y .σ i
-    unfolding bounded
-    one-d zero i l q = absurd (bool-no false q refl)
-    one-d (suc d) i l q = sym (by-rep s n P₀ L S X i) ∙ one-v _ (λ c m e. one-d d c m e) i l (Vw (r i)) refl q ∙ by-rep s n P₀ L S Y i
-
-    pub unique : Finite w n L → (i : ℕ) → i < n → X .σ i ≡ Y .σ i
-    unique F i l = one-d n i l (F i l)
-
   -- A former's type, in a solution.
   module _ (i : ℕ) (l : i < n) where
     b : r i < n
     b = rep-below n L (S .held .inside) i l
 
-    formed : 0 < tagAt w (r i) → (X : Solution w n P₀) → X .σ i ≡ node (formerAt w (r i)) (fromList (map (X .σ) (partsAt w (r i))))
+    pub formed : 0 < tagAt w (r i) → (X : Solution w n P₀) → X .σ i ≡ node (formerAt w (r i)) (fromList (map (X .σ) (partsAt w (r i))))
     formed p X = sym (by-rep s n P₀ L S X i) ∙ X .fits (r i) _ _ (view-shape w n (r i) b p)
 
     pub found : (id j c : ℕ) → tagAt w (r i) ≡ 5 → j < countAt w (r i) → getD (run w (argAt w (r i)) (countAt w (r i))) j 0 ≡ id → getD w (firstAt w (r i) + j) 0 ≡ c →
@@ -108,60 +75,3 @@ module _ (s : List ℕ) (n : ℕ) (P₀ L : Pairs ℕ) (S : Solved s n P₀ L) w
       name = hit;
       part = run-at w (firstAt w (r i)) (countAt w (r i)) j q ∙ here;
     }
-
-    without : (id : ℕ) → Finite w n L → 0 < tagAt w (r i) → ((ids : List ℕ) → formerAt w (r i) ≡ binding ids → In id ids → ⊥) → Without w n P₀ i id
-    without id F p h =
-        let X = solve-with s n P₀ L S (λ m. node int tnil) F in
-        record { solution = X; lacks = record { not = λ ids g e. h ids (node-inj _ _ _ _ (sym (formed p X) ∙ e)) } }
-
-    without-unk : (id : ℕ) → Finite w n L → tagAt w (r i) ≡ 0 → Without w n P₀ i id
-    unfolding solve-with
-    without-unk id F e =
-        let X = solve-with s n P₀ L S (λ m. node int tnil) F in
-        let q = solution-unknown ℕ eqb eqb-true eqb-false Vw P₀ L (S .closed) (λ m. node int tnil) n i (view-unk w n (r i) b e) in
-        record { solution = X; lacks = record { not = λ ids g z. absurd (int-no ids (node-inj _ _ _ _ (sym q ∙ z))) } }
-
-    pub not-binding : (id : ℕ) → Finite w n L → (tagAt w (r i) ≡ 5 → ⊥) → Without w n P₀ i id
-    not-binding id F ne = ⊎-elim (λ z. without-unk id F z)
-        (λ p. without id F p (λ ids e. absurd (not-five w (r i) (S .held .cells (r i) b) p ne ids e)))
-        (eq-zero-or-pos (tagAt w (r i)))
-
-    pub no-name : (id : ℕ) → Finite w n L → tagAt w (r i) ≡ 5 → (In id (run w (argAt w (r i)) (countAt w (r i))) → ⊥) → Without w n P₀ i id
-    no-name id F e h = without id F (omega arith) (λ ids q m. h (subst (In id) (binding-inj _ _ (sym q ∙ head-five w (r i) e)) m))
-
--- Put together, over the representative x that `find` gave.
-module _ (s : List ℕ) (i x id : ℕ) (R : Root s i x) where
-  abbrev v : List ℕ
-  v = frozen s
-
-  pub looked-other : (tagAt v x ≡ 5 → ⊥) → Looked s i id 0
-  looked-other ne = record {
-    found = λ c e. absurd (omega arith);
-    below = λ c e. absurd (omega arith);
-    absent = λ e n P₀ L S l F. not-binding s n P₀ L S i l id F (λ q. ne (ap (tagAt v) (sym (R .is n L (S .held) l)) ∙ q));
-  }
-
-  pub looked-none : tagAt v x ≡ 5 → (In id (run v (argAt v x) (countAt v x)) → ⊥) → Looked s i id 0
-  looked-none t h = record {
-    found = λ c e. absurd (omega arith);
-    below = λ c e. absurd (omega arith);
-    absent = λ e n P₀ L S l F.
-        let q = R .is n L (S .held) l in
-        no-name s n P₀ L S i l id F (ap (tagAt v) q ∙ t) (subst (λ z. In id (run v (argAt v z) (countAt v z)) → ⊥) (sym q) h);
-  }
-
-  pub looked-some : (j c : ℕ) → tagAt v x ≡ 5 → j < countAt v x → getD (run v (argAt v x) (countAt v x)) j 0 ≡ id → getD v (firstAt v x + j) 0 ≡ c → Looked s i id (c + 1)
-  looked-some j c t q hit here = record {
-    found = λ d e n P₀ L S l X.
-        let y = R .is n L (S .held) l in
-        subst (Has (X .σ) i id) (omega arith) (subst (λ z. tagAt v z ≡ 5 → j < countAt v z → getD (run v (argAt v z) (countAt v z)) j 0 ≡ id → getD v (firstAt v z + j) 0 ≡ c → Has (X .σ) i id c) y
-        (λ t′ q′ h′ e′. found s n P₀ L S i l id j c t′ q′ h′ e′ X) t q hit here);
-    below = λ d e n L H l.
-        let y = R .is n L H l in
-        let b : x < n = subst (λ z. z < n) y (rep-below n L (H .inside) i l) in
-        let C = H .cells x b in
-        let o = C .older (getD (partsAt v x) j 0) (getD-in (partsAt v x) j (let z = parts-length v x C in omega arith)) in
-        let k = run-at v (firstAt v x) (countAt v x) j q ∙ here in
-        omega arith;
-    absent = λ e. absurd (omega arith);
-  }

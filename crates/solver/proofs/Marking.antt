@@ -8,7 +8,8 @@ use native.Mathlib.Omega.{arith}
 use native.Mathlib.Nat.{eq-or-lt-of-le, eq-zero-or-pos}
 use lib.Dec.{eqb, ltb}
 use lib.ListN.{length, getD, set, length-set}
-use lib.Seq.{getD-set-same, getD-set-other}
+use lib.Seq.{getD-set-same, getD-set-other, take-set-le}
+use Rattle.solver.specs.Settled.{lower, wordAt}
 use borrow.Author.Tests.{eqb-true, eqb-false, lt-ltb, le-ltb}
 use Rattle.types.proofs.Classify.{build}
 use Rattle.types.proofs.Closed.{idem}
@@ -40,22 +41,22 @@ pub cap-high : (x : ℕ) → 33 ≤ x → cap x ≡ 33
 unfolding cap
 cap-high x l = rw (cap, le-ltb x 33 l)
 
-cap-cases : (x : ℕ) (C : Type 0) → (x < 33 → cap x ≡ x → C) → (33 ≤ x → cap x ≡ 33 → C) → C
+pub cap-cases : (x : ℕ) (C : Type 0) → (x < 33 → cap x ≡ x → C) → (33 ≤ x → cap x ≡ 33 → C) → C
 cap-cases x C f g = ⊎-elim (λ l. f l (cap-low x l)) (λ l. g l (cap-high x l)) (lt-or-ge x 33)
 
 pub cap-le : (x : ℕ) → cap x ≤ 33
 cap-le x = cap-cases x _ (λ l e. omega arith) (λ l e. omega arith)
 
-cap-pos : (x : ℕ) → 0 < x → 0 < cap x
+pub cap-pos : (x : ℕ) → 0 < x → 0 < cap x
 cap-pos x p = cap-cases x _ (λ l e. omega arith) (λ l e. omega arith)
 
-cap-add : (x y z : ℕ) → cap (cap (x + y) + z) ≡ cap (x + (y + z))
+pub cap-add : (x y z : ℕ) → cap (cap (x + y) + z) ≡ cap (x + (y + z))
 cap-add x y z =
     cap-cases (x + y) _
     (λ l e. ap cap (let q : cap (x + y) + z ≡ x + (y + z) = omega arith in q))
     (λ l e. cap-high (cap (x + y) + z) (omega arith) ∙ sym (cap-high (x + (y + z)) (omega arith)))
 
-cap-part : (x y : ℕ) → cap (x + cap y) ≡ cap (x + y)
+pub cap-part : (x y : ℕ) → cap (x + cap y) ≡ cap (x + y)
 cap-part x y =
     cap-cases y _
     (λ l e. ap (λ v. cap (x + v)) e)
@@ -276,10 +277,10 @@ module _ (s : List ℕ) (n : ℕ) (P₀ L : Pairs ℕ) (S : Solved s n P₀ L) w
 
 -- Same cells and links.
 pub same-refl : (s : List ℕ) → Same s s
-same-refl s = record { size = refl; still = refl; links = λ i l. refl }
+same-refl s = record { size = refl; still = refl; links = λ i l. refl; low = refl; refs = λ i l. refl }
 
 pub same-on : (s t u : List ℕ) → Same s t → Same t u → Same s u
-same-on s t u a b = record { size = b .size ∙ a .size; still = b .still ∙ a .still; links = λ i l. b .links i l ∙ a .links i l }
+same-on s t u a b = record { size = b .size ∙ a .size; still = b .still ∙ a .still; links = λ i l. b .links i l ∙ a .links i l; low = b .low ∙ a .low; refs = λ i l. b .refs i l ∙ a .refs i l }
 
 pub same-held : (s t : List ℕ) → Same s t → (n : ℕ) (L : Pairs ℕ) → Held s n L → Held t n L
 same-held s t a n L H = held-same s t (a .still) n L (a .size) (a .links) H
@@ -295,7 +296,10 @@ same-solved s t a n P₀ L S = record {
 -- A mark.
 module _ (s : List ℕ) (i v : ℕ) (size : length s ≡ 16384) (l : i < 768) where
   pub mark-same : Same s (set s (7936 + i) v)
+  unfolding lower wordAt
   mark-same = record {
+    low = take-set-le 7168 s (7936 + i) v (omega arith);
+    refs = λ j m. getD-set-other s (7936 + i) (7168 + j) v 0 (λ e. omega arith);
     size = length-set s (7936 + i) v;
     still = frozen-set s (7936 + i) v (omega arith);
     links = λ j m. link-same s _ j j (getD-set-other s (7936 + i) (7168 + j) v 0 (λ e. omega arith));

@@ -89,7 +89,7 @@ module _ (s d : List ℕ) (n : ℕ) (P₀ L : Pairs ℕ) (S : Solved s n P₀ L)
             at-unk (pick s d n P g) i l (ap (tagAt w) ri ∙ P .bare i l v) ∙ ap (pick s d n P g) ri ∙ pick-pinned s d n P g i l v k R;
       }
 
-  open-type : (g : Ty) (i : ℕ) → i < n → tagAt w (r i) ≡ 0 → wordAt s (r i) < 769 → solution-with g .σ i ≡ g
+  pub open-type : (g : Ty) (i : ℕ) → i < n → tagAt w (r i) ≡ 0 → wordAt s (r i) < 769 → solution-with g .σ i ≡ g
   unfolding solution-with
   open-type g i l e v = at-unk (pick s d n P g) i l e ∙ pick-open s d n P g (r i) v
 
@@ -142,12 +142,14 @@ pub left-yes : (s : List ℕ) (n i x : ℕ) → i < n → Root s i x → tagAt (
 left-yes s n i x l Q e v = record {
   several = λ f d P₀ L S P F. let q = Q .is n L (S .held) l in two-left s d n P₀ L S P F i l (ap (tagAt (frozen s)) q ∙ e) (subst (λ z. wordAt s z < 769) (sym q) v);
   one = λ f. absurd (bool-no true refl f);
+  resolved = λ f. absurd (bool-no true refl f);
 }
 
 pub left-no : (s : List ℕ) (n : ℕ) → ((i : ℕ) → i < n → (L : Pairs ℕ) → Held s n L → tagAt (frozen s) (rep eqb L i) ≡ 0 → 769 ≤ wordAt s (rep eqb L i)) → Left s n false
 left-no s n h = record {
   several = λ f. absurd (bool-no false f refl);
   one = λ f d P₀ L S P F X Y i l. all-one s d n P₀ L S P F (λ j m e. h j m L (S .held) e) X Y i l;
+  resolved = λ f L H i l. h i l L H;
 }
 
 pub scan-next : (s : List ℕ) (n i x : ℕ) → i < n → Root s i x → ((tagAt (frozen s) x ≡ 0) × (wordAt s x < 769) → ⊥) →

@@ -117,6 +117,7 @@ module _ (s t u : List ℕ) (n : ℕ) (C : Cleared s t n) (R : Rounds t u n) whe
 
     pub tested : Tested s u n fine
     tested = record {
+      same = su;
       still = su .still;
       grown = λ P₀ L S. same-solved s u su n P₀ L S;
       sizes = λ e P₀ L S i l. sized e L (S .held) i l;

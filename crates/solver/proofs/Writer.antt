@@ -19,8 +19,10 @@ use Rattle.types.specs.Former.{formerOf, tag}
 use Rattle.types.specs.Words.{second, words, partWords}
 use Rattle.types.specs.Formed.{partCountType}
 use Rattle.solver.specs.Store.{frozen, tagAt, argAt, firstAt, countAt, run, partsAt, formerAt, view, Cell, Held}
-use Rattle.solver.specs.Sizes.{cap, markAt, typeAt, Sized}
-use Rattle.solver.specs.Written.{lead, leadOf, leadAt, nameAt, rest, Wrote, Ready, Writing, Typed, Leading}
+use Rattle.solver.specs.Sizes.{cap, markAt, typeAt, Sized, Marked, Model}
+use Rattle.solver.specs.Written.{lead, leadOf, leadAt, nameAt, rest, Resolved, Wrote, Writing, Typed, Leading}
+use Rattle.solver.specs.Settled.{heap, wordAt, Reads, Readable}
+use Rattle.types.proofs.Rational.{rep-sat}
 use Rattle.solver.proofs.Links.{rep-below}
 use Rattle.solver.proofs.Words.{run-cons, run-length, run-at}
 use Rattle.solver.proofs.Heads.{view-shape}
@@ -153,8 +155,8 @@ pub rest-end : (T : ℕ → Ty) (w : List ℕ) (r k j : ℕ) → k ≤ j → res
 unfolding rest
 rest-end T w r k j l = let e : k - j ≡ 0 = omega arith in rw e
 
--- The type of a cell, by its representative.
-module _ (s : List ℕ) (n : ℕ) (L : Pairs ℕ) (R : Ready s n L) (i : ℕ) (l : i < n) where
+-- The type of a cell with a former, by its representative.
+module _ (s : List ℕ) (n : ℕ) (L : Pairs ℕ) (R : Marked s n L) (i : ℕ) (l : i < n) (known : 0 < tagAt (frozen s) (rep eqb L i)) where
   abbrev w₀ : List ℕ
   w₀ = frozen s
 
@@ -168,12 +170,9 @@ module _ (s : List ℕ) (n : ℕ) (L : Pairs ℕ) (R : Ready s n L) (i : ℕ) (l
   unfolding typeAt
   type-is =
       let d = R .sizes i l .finite in
-      let h = view-shape w₀ n x x-below (R .known i l) in
+      let h = view-shape w₀ n x x-below known in
       tree-same (rep eqb L) (view w₀ n) (λ j. node int tnil) n (suc n) i d (bounded-mono (rep eqb L) (view w₀ n) n i d)
       ∙ (unfold typeOf typeOfView in (ap (typeOfView (λ c. typeOf (rep eqb L) (view w₀ n) (λ j. node int tnil) n c) (node int tnil)) h))
-
-  pub type-words : words (typeAt w₀ n L i) ≡ leadAt w₀ x ++ rest (typeAt w₀ n L) w₀ x 0 (countAt w₀ x)
-  type-words = ap words type-is ∙ cell-words (typeAt w₀ n L) w₀ x (R .held .cells x x-below)
 
   part-size : (T : ℕ → Ty) (c : ℕ) (cs : List ℕ) → In c cs → size (T c) ≤ sizes (fromList (map T cs))
   unfolding fromList size
@@ -199,7 +198,7 @@ module _ (s : List ℕ) (n : ℕ) (L : Pairs ℕ) (R : Ready s n L) (i : ℕ) (l
       (cn, omega arith)
 
 -- The same at the representative r that `find` gave, with k parts.
-module _ (s : List ℕ) (i r k : ℕ) (Q : Root s i r) (ek : k ≡ countAt (frozen s) r) (n : ℕ) (L : Pairs ℕ) (R : Ready s n L) (l : i < n) where
+module _ (s : List ℕ) (i r : ℕ) (Q : Root s i r) (n : ℕ) (L : Pairs ℕ) (R : Marked s n L) (l : i < n) where
   abbrev q : rep eqb L i ≡ r
   q = Q .is n L (R .held) l
 
@@ -212,25 +211,39 @@ module _ (s : List ℕ) (i r k : ℕ) (Q : Root s i r) (ek : k ≡ countAt (froz
   pub r-cell : Cell (frozen s) r
   r-cell = R .held .cells r r-below
 
-  pub r-known : 0 < tagAt (frozen s) r
-  r-known = subst (λ z. 0 < tagAt (frozen s) z) q (R .known i l)
-
-  pub r-words : words (typeAt (frozen s) n L i) ≡ leadAt (frozen s) r ++ rest (typeAt (frozen s) n L) (frozen s) r 0 k
-  r-words =
-      type-words s n L R i l
-      ∙ ap (λ z. leadAt (frozen s) z ++ rest (typeAt (frozen s) n L) (frozen s) z 0 (countAt (frozen s) z)) q
-      ∙ ap (λ z. leadAt (frozen s) r ++ rest (typeAt (frozen s) n L) (frozen s) r 0 z) (sym ek)
-
-  pub r-length : length (words (typeAt (frozen s) n L i)) ≡ length (leadAt (frozen s) r) + length (rest (typeAt (frozen s) n L) (frozen s) r 0 k)
-  r-length = ap length r-words ∙ length-append (leadAt (frozen s) r) (rest (typeAt (frozen s) n L) (frozen s) r 0 k)
-
-  pub r-part : markAt s i ≤ 32 → (j : ℕ) → j < k → (c : ℕ) → c ≡ getD (frozen s) (firstAt (frozen s) r + j) 0 → (c < n) × (markAt s c < markAt s i)
-  r-part small j jk c e =
+  pub r-part : 0 < tagAt (frozen s) r → markAt s i ≤ 32 → (k : ℕ) → k ≡ countAt (frozen s) r → (j : ℕ) → j < k → (c : ℕ) → c ≡ getD (frozen s) (firstAt (frozen s) r + j) 0 →
+      (c < n) × (markAt s c < markAt s i)
+  r-part known small k ek j jk c e =
       let jc : j < countAt (frozen s) r = omega arith in
       let z = run-length (frozen s) (firstAt (frozen s) r) (countAt (frozen s) r) (r-cell .room) in
       let m = getD-in (partsAt (frozen s) r) j (omega arith) in
       let h = subst (λ y. In y (partsAt (frozen s) r)) (run-at (frozen s) (firstAt (frozen s) r) (countAt (frozen s) r) j jc ∙ sym e) m in
-      mark-falls s n L R i l small c (subst (λ y. In c (partsAt (frozen s) y)) (sym q) h)
+      mark-falls s n L R i l (subst (λ z. 0 < tagAt (frozen s) z) (sym q) known) small c (subst (λ y. In c (partsAt (frozen s) y)) (sym q) h)
+
+  pub r-settled : Resolved s n L → tagAt (frozen s) r ≡ 0 → 769 ≤ wordAt s r
+  r-settled h t = subst (λ z. 769 ≤ wordAt s z) q (h i l (ap (tagAt (frozen s)) q ∙ t))
+
+-- And in a solution.
+module _ (s d : List ℕ) (i r : ℕ) (Q : Root s i r) (n : ℕ) (L : Pairs ℕ) (σ : ℕ → Ty) (M : Model s d n L σ) (l : i < n) where
+  pub m-by : σ i ≡ σ r
+  m-by = sym (rep-sat ℕ eqb eqb-true eqb-false σ L (M .sat) i) ∙ ap σ (Q .is n L (M .marked .held) l)
+
+  pub m-type : 0 < tagAt (frozen s) r → σ i ≡ node (formerAt (frozen s) r) (fromList (map σ (partsAt (frozen s) r)))
+  m-type p = m-by ∙ M .fits r _ _ (view-shape (frozen s) n r (r-below s i r Q n L (M .marked) l) p)
+
+  pub m-words : 0 < tagAt (frozen s) r → (k : ℕ) → k ≡ countAt (frozen s) r → words (σ i) ≡ leadAt (frozen s) r ++ rest σ (frozen s) r 0 k
+  m-words p k ek =
+      ap words (m-type p) ∙ cell-words σ (frozen s) r (r-cell s i r Q n L (M .marked) l)
+      ∙ ap (λ z. leadAt (frozen s) r ++ rest σ (frozen s) r 0 z) (sym ek)
+
+  pub m-length : 0 < tagAt (frozen s) r → (k : ℕ) → k ≡ countAt (frozen s) r → length (words (σ i)) ≡ length (leadAt (frozen s) r) + length (rest σ (frozen s) r 0 k)
+  m-length p k ek = ap length (m-words p k ek) ∙ length-append (leadAt (frozen s) r) (rest σ (frozen s) r 0 k)
+
+  pub m-settled : 769 ≤ wordAt s r → (g : Ty) → Reads (heap s d) (wordAt s r - 769) g → σ i ≡ g
+  m-settled v g R = m-by ∙ M .obeys r (r-below s i r Q n L (M .marked) l) v g R
+
+  pub m-readable : 769 ≤ wordAt s r → Readable (heap s d) (wordAt s r - 769)
+  m-readable v = M .pinned .reads r (r-below s i r Q n L (M .marked) l) v
 
 pub wrote-one : (out : List ℕ) (at v : ℕ) (ws : List ℕ) → ws ≡ v ∷ [] → Wrote out (set out at v) at (at + 1) ws
 wrote-one out at v ws e = record { area = sym (ap (sets out at) e); end = ap (λ z. at + length z) (sym e) }

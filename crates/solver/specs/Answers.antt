@@ -2,35 +2,24 @@
 use mathlib.Core.Path.{_≡_}
 use mathlib.Core.Bool.{Bool, true, false}
 use mathlib.Core.List.{List, [], _∷_, map}
-use Prim.Native.Nat.{ℕ, zero, suc, _+_, _≤_, _<_}
+use mathlib.Core.Option.{none}
+use Prim.Native.Nat.{ℕ, zero, suc, _+_, _-_, _≤_, _<_, _^_}
 use lib.Dec.{eqb}
 use lib.ListN.{length, getD}
 use Rattle.types.specs.Classes.{rep}
+use Rattle.types.specs.Component.{componentType}
 use Rattle.types.specs.Equations.{In, Pairs, Solves}
 use Rattle.types.specs.Finite.{bounded, fromList}
 use Rattle.types.specs.Follows.{View, shape, unk}
 use Rattle.types.specs.Former.{Former, binding}
 use Rattle.types.specs.Types.{Ty, Tys, node}
-use Rattle.solver.specs.Store.{frozen, tagAt, view, Held, Solved}
-use Rattle.solver.specs.Sizes.{Solution}
-use Rattle.solver.specs.Settled.{Pinned, Obeys, Fits}
+use Rattle.solver.specs.Store.{frozen, linkAt, tagAt, view, Held, Solved}
+use Rattle.solver.specs.Written.{Resolved}
+use Rattle.solver.specs.Settled.{heap, wordAt, Readable, Pinned, Obeys, Fits, Found}
 
 -- All cells have finite types.
 abbrev pub Finite : List ℕ → ℕ → Pairs ℕ → Type 0
 Finite w n L = (i : ℕ) → i < n → bounded (rep eqb L) (view w n) n i ≡ true
-
-pub record Several (w : List ℕ) (n : ℕ) (P₀ : Pairs ℕ) : Type 0 where
-  pub one : Solution w n P₀
-  pub other : Solution w n P₀
-  pub cell : ℕ
-  pub made : cell < n
-  pub differ : one .σ cell ≡ other .σ cell → ⊥
-
--- 34. True: there are several solutions. False: each cell's type is the same in all of them.
-pub record Scanned (s : List ℕ) (n : ℕ) (free : Bool) : Type 0 where
-  pub several : free ≡ true → (P₀ L : Pairs ℕ) → Solved s n P₀ L → Finite (frozen s) n L → Several (frozen s) n P₀
-  pub one : free ≡ false → (P₀ L : Pairs ℕ) → Solved s n P₀ L → Finite (frozen s) n L → (X Y : Solution (frozen s) n P₀) → (i : ℕ) → i < n → X .σ i ≡ Y .σ i
-  pub known : free ≡ false → (L : Pairs ℕ) → Held s n L → (i : ℕ) → i < n → 0 < tagAt (frozen s) (rep eqb L i)
 
 -- The component of an identifier in a type.
 pub record Has (σ : ℕ → Ty) (i id c : ℕ) : Type 0 where
@@ -41,20 +30,6 @@ pub record Has (σ : ℕ → Ty) (i id c : ℕ) : Type 0 where
   pub fits : place < length parts
   pub name : getD ids place 0 ≡ id
   pub part : getD parts place 0 ≡ c
-
--- A type that is no binding with this identifier.
-pub record Lacks (g : Ty) (id : ℕ) : Type 0 where
-  pub not : (ids : List ℕ) (l : Tys) → g ≡ node (binding ids) l → In id ids → ⊥
-
-pub record Without (w : List ℕ) (n : ℕ) (P₀ : Pairs ℕ) (i id : ℕ) : Type 0 where
-  pub solution : Solution w n P₀
-  pub lacks : Lacks (solution .σ i) id
-
--- 35. c + 1: in every solution cell i is a binding where id has the type of cell c. 0: in some solution it is not.
-pub record Looked (s : List ℕ) (i id v : ℕ) : Type 0 where
-  pub found : (c : ℕ) → v ≡ suc c → (n : ℕ) (P₀ L : Pairs ℕ) → Solved s n P₀ L → i < n → (X : Solution (frozen s) n P₀) → Has (X .σ) i id c
-  pub below : (c : ℕ) → v ≡ suc c → (n : ℕ) (L : Pairs ℕ) → Held s n L → i < n → c < n
-  pub absent : v ≡ 0 → (n : ℕ) (P₀ L : Pairs ℕ) → Solved s n P₀ L → i < n → Finite (frozen s) n L → Without (frozen s) n P₀ i id
 
 -- r is the first place of x in the list of k words, and k where it is not there.
 pub record Placed (l : List ℕ) (k x r : ℕ) : Type 0 where
@@ -76,8 +51,37 @@ pub record Differ (s d : List ℕ) (n : ℕ) (P₀ : Pairs ℕ) : Type 0 where
   pub made : cell < n
   pub differ : one .σ cell ≡ other .σ cell → ⊥
 
--- 34, with settled cells. True: two solutions differ at a cell. False: each cell's type is the same in all of them.
+-- 34. True: two solutions differ at a cell. False: each cell's type is the same in all of them.
 pub record Left (s : List ℕ) (n : ℕ) (free : Bool) : Type 0 where
   pub several : free ≡ true → (d : List ℕ) (P₀ L : Pairs ℕ) → Solved s n P₀ L → Pinned s d n → Finite (frozen s) n L → Differ s d n P₀
   pub one : free ≡ false → (d : List ℕ) (P₀ L : Pairs ℕ) → Solved s n P₀ L → Pinned s d n → Finite (frozen s) n L →
       (X Y : SolutionOf s d n P₀) → (i : ℕ) → i < n → X .σ i ≡ Y .σ i
+  pub resolved : free ≡ false → (L : Pairs ℕ) → Held s n L → Resolved s n L
+
+-- A solution where cell i is no binding with this identifier.
+pub record Without (s d : List ℕ) (n : ℕ) (P₀ : Pairs ℕ) (i id : ℕ) : Type 0 where
+  pub solution : SolutionOf s d n P₀
+  pub lacks : componentType id (solution .σ i) ≡ none
+
+-- What a function that looks at cell i asks.
+pub record Looking (s d : List ℕ) (i : ℕ) : Type 0 where
+  pub n : ℕ
+  pub L : Pairs ℕ
+  pub held : Held s n L
+  pub pinned : Pinned s d n
+  pub made : i < n
+  pub few : length d < 2 ^ 31
+
+-- The same of a representative.
+pub record LookingRoot (s d : List ℕ) (i : ℕ) : Type 0 where
+  pub looking : Looking s d i
+  pub root : linkAt s i ≡ 0
+
+-- 35. c + 1, below 769: in every solution cell i is a binding where id has the type of cell c. 769 + p: in every solution it is one where id has the type
+-- whose words stand at p. 0: in some solution it is not.
+pub record Looked (s d : List ℕ) (i id v : ℕ) : Type 0 where
+  pub found : (c : ℕ) → v ≡ suc c → v < 769 → (n : ℕ) (P₀ L : Pairs ℕ) → Solved s n P₀ L → i < n → (X : SolutionOf s d n P₀) → Has (X .σ) i id c
+  pub below : (c : ℕ) → v ≡ suc c → v < 769 → (n : ℕ) (L : Pairs ℕ) → Held s n L → i < n → c < n
+  pub settled : 769 ≤ v → (n : ℕ) (P₀ L : Pairs ℕ) → Solved s n P₀ L → Pinned s d n → i < n → (X : SolutionOf s d n P₀) → Found (heap s d) (v - 769) (componentType id (X .σ i))
+  pub place : 769 ≤ v → (n : ℕ) (L : Pairs ℕ) → Held s n L → Pinned s d n → i < n → Readable (heap s d) (v - 769)
+  pub absent : v ≡ 0 → (n : ℕ) (P₀ L : Pairs ℕ) → Solved s n P₀ L → Pinned s d n → i < n → Finite (frozen s) n L → Without s d n P₀ i id

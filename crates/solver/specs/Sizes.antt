@@ -2,7 +2,7 @@
 use mathlib.Core.Path.{_≡_}
 use mathlib.Core.Bool.{Bool, true, false}
 use mathlib.Core.List.{List, [], _∷_, map}
-use Prim.Native.Nat.{ℕ, zero, suc, _+_, _*_, _≤_, _<_}
+use Prim.Native.Nat.{ℕ, zero, suc, _+_, _*_, _-_, _≤_, _<_, _^_}
 use lib.Dec.{eqb, ltb}
 use lib.ListN.{length, getD, set}
 use Rattle.types.specs.Classes.{rep}
@@ -12,10 +12,16 @@ use Rattle.types.specs.Follows.{View, shape, unk}
 use Rattle.types.specs.Former.{Former, int}
 use Rattle.types.specs.Types.{Ty, node, size, tnil}
 use Rattle.solver.specs.Store.{frozen, linkAt, tagAt, partsAt, view, Held, Solved}
+use Rattle.solver.specs.Settled.{lower, heap, wordAt, Reads, Pinned, Obeys, Fits}
 
 -- Sizes stop at 33.
 unfoldable pub cap : ℕ → ℕ
 cap x = elim (ltb x 33) [ true ↦ x | false ↦ 33 ]
+
+-- The size of the type at the place p.
+pub record TypeSize (s d : List ℕ) (p v : ℕ) : Type 0 where
+  pub is : (g : Ty) → Reads (heap s d) p g → v ≡ cap (size g)
+  pub few : v ≤ 33
 
 unfoldable pub markAt : List ℕ → ℕ → ℕ
 markAt s i = getD s (7936 + i) 0
@@ -59,6 +65,8 @@ pub record Same (s s′ : List ℕ) : Type 0 where
   pub size : length s′ ≡ length s
   pub still : frozen s′ ≡ frozen s
   pub links : (i : ℕ) → i < 768 → linkAt s′ i ≡ linkAt s i
+  pub low : lower s′ ≡ lower s
+  pub refs : (i : ℕ) → i < 768 → wordAt s′ i ≡ wordAt s i
 
 pub record Read (s : List ℕ) (n : ℕ) : Type 0 where
   pub L : Pairs ℕ
@@ -111,10 +119,47 @@ pub record Solution (w : List ℕ) (n : ℕ) (P₀ : Pairs ℕ) : Type 0 where
   pub fits : (i : ℕ) (h : Former) (cs : List ℕ) → view w n i ≡ shape h cs → σ i ≡ node h (fromList (map σ cs))
   pub sat : Solves σ P₀
 
--- THE TEST FOR FINITE TYPES. True: each cell has its size. False: the equations have no solution.
+-- THE TEST FOR FINITE TYPES. True: each cell has its size, where a cell without a former counts 1. False: the equations have no solution.
 pub record Tested (s s′ : List ℕ) (n : ℕ) (fine : Bool) : Type 0 where
+  pub same : Same s s′
   pub still : frozen s′ ≡ frozen s
   pub grown : (P₀ L : Pairs ℕ) → Solved s n P₀ L → Solved s′ n P₀ L
   pub sizes : fine ≡ true → (P₀ L : Pairs ℕ) → Solved s n P₀ L → (i : ℕ) → i < n → Sized (frozen s) n L i (markAt s′ i)
   pub solves : fine ≡ true → (P₀ L : Pairs ℕ) → Solved s n P₀ L → Solution (frozen s) n P₀
   pub endless : fine ≡ false → (P₀ L : Pairs ℕ) → Solved s n P₀ L → Solution (frozen s) n P₀ → ⊥
+
+-- `finite` has answered true.
+pub record Marked (s : List ℕ) (n : ℕ) (L : Pairs ℕ) : Type 0 where
+  pub held : Held s n L
+  pub sizes : (i : ℕ) → i < n → Sized (frozen s) n L i (markAt s i)
+
+-- σ is a solution.
+pub record Model (s d : List ℕ) (n : ℕ) (L : Pairs ℕ) (σ : ℕ → Ty) : Type 0 where
+  pub marked : Marked s n L
+  pub pinned : Pinned s d n
+  pub fits : Fits (frozen s) n σ
+  pub sat : Solves σ L
+  pub obeys : Obeys s d n σ
+
+-- σ gives types of size 1 to the cells that are left open.
+abbrev pub Least : List ℕ → ℕ → (ℕ → Ty) → Type 0
+Least s n σ = (i : ℕ) → i < n → tagAt (frozen s) i ≡ 0 → linkAt s i ≡ 0 → wordAt s i < 769 → size (σ i) ≡ 1
+
+-- The size of the unknown r, which is no link.
+pub record UnknownSize (s d : List ℕ) (r v : ℕ) : Type 0 where
+  pub free : wordAt s r < 769 → v ≡ 1
+  pub settled : 769 ≤ wordAt s r → TypeSize s d (wordAt s r - 769) v
+  pub few : v ≤ 33
+
+pub record Measuring (s d : List ℕ) (i : ℕ) : Type 0 where
+  pub n : ℕ
+  pub L : Pairs ℕ
+  pub marked : Marked s n L
+  pub pinned : Pinned s d n
+  pub made : i < n
+  pub few : length d < 2 ^ 31
+
+-- The size of the type of cell i, at most 33, where the cells that are left open count 1.
+pub record Measured (s d : List ℕ) (i v : ℕ) : Type 0 where
+  pub is : (n : ℕ) (L : Pairs ℕ) (σ : ℕ → Ty) → Model s d n L σ → Least s n σ → i < n → v ≡ cap (size (σ i))
+  pub few : v ≤ 33

@@ -12,7 +12,8 @@ use Rattle.types.specs.Words.{second, words}
 use Rattle.types.specs.Former.{tag, Former, binding, given, identifiers, int, parameter, power, product}
 use Rattle.types.specs.Types.{Ty, Tys, node, tcons, tnil}
 use Rattle.solver.specs.Store.{frozen, tagAt, argAt, firstAt, countAt, Held}
-use Rattle.solver.specs.Sizes.{markAt, typeAt, Sized}
+use Rattle.solver.specs.Settled.{heap, wordAt, Reads}
+use Rattle.solver.specs.Sizes.{markAt, Model}
 
 -- The first words of a type whose former has n parts.
 abbrev pub lead : Former → ℕ → List ℕ
@@ -44,22 +45,28 @@ pub record Wrote (out out′ : List ℕ) (at e : ℕ) (ws : List ℕ) : Type 0 w
   pub area : out′ ≡ sets out at ws
   pub end : e ≡ at + length ws
 
--- All types are finite and known, and their sizes are marked.
-pub record Ready (s : List ℕ) (n : ℕ) (L : Pairs ℕ) : Type 0 where
-  pub held : Held s n L
-  pub sizes : (i : ℕ) → i < n → Sized (frozen s) n L i (markAt s i)
-  pub known : (i : ℕ) → i < n → 0 < tagAt (frozen s) (rep eqb L i)
+-- The words of the type at the place p stand at `at`.
+pub record Copied (s d out out′ : List ℕ) (at p e : ℕ) : Type 0 where
+  pub is : (g : Ty) → Reads (heap s d) p g → Wrote out out′ at e (words g)
 
-pub record Writing (s : List ℕ) (at i : ℕ) : Type 0 where
+-- Every cell has a former or refers to a type.
+abbrev pub Resolved : List ℕ → ℕ → Pairs ℕ → Type 0
+Resolved s n L = (i : ℕ) → i < n → tagAt (frozen s) (rep eqb L i) ≡ 0 → 769 ≤ wordAt s (rep eqb L i)
+
+pub record Writing (s d : List ℕ) (at i : ℕ) : Type 0 where
   pub n : ℕ
   pub L : Pairs ℕ
-  pub ready : Ready s n L
+  pub σ : ℕ → Ty
+  pub model : Model s d n L σ
+  pub resolved : Resolved s n L
   pub made : i < n
+  pub few : length d < 2 ^ 31
   pub small : markAt s i ≤ 32
-  pub room : at + length (words (typeAt (frozen s) n L i)) < 2 ^ 40
+  pub room : at + length (words (σ i)) < 2 ^ 40
 
-abbrev pub Typed : List ℕ → List ℕ → List ℕ → ℕ → ℕ → ℕ → Type 0
-Typed s out out′ at i e = (n : ℕ) (L : Pairs ℕ) → Ready s n L → i < n → Wrote out out′ at e (words (typeAt (frozen s) n L i))
+-- The type of cell i in the solution stands at `at`.
+abbrev pub Typed : List ℕ → List ℕ → List ℕ → List ℕ → ℕ → ℕ → ℕ → Type 0
+Typed s d out out′ at i e = (n : ℕ) (L : Pairs ℕ) (σ : ℕ → Ty) → Model s d n L σ → Resolved s n L → i < n → Wrote out out′ at e (words (σ i))
 
 pub record Leading (s : List ℕ) (r at : ℕ) : Type 0 where
   pub few : r < 768

@@ -6,9 +6,9 @@ ghost use Rattle.solver.specs.Store.{frozen, linkAt, fieldAt, tagAt, fir
 ghost use Rattle.solver.specs.Settled.{heap, leadWords, nameWords, partsOf, Reading, Ends, Readings, SameType, Meeting, Naming, SameNames, SameFormer, Pinning, Pin, Settling, Entering, Entered, wordAt, Component};
 ghost use Rattle.solver.specs.Merging.{Open, Turned, Popped, Tied, Tying, Drained, Asking, Merged};
 ghost use Rattle.solver.specs.Flat.{Sound, Straight, Flattened};
-ghost use Rattle.solver.specs.Written.{leadAt, nameAt, Wrote, Writing, Typed, Leading};
-ghost use Rattle.solver.specs.Answers.{Scanned, Left, Placed, Looked};
-ghost use Rattle.solver.specs.Sizes.{cap, markAt, total, Size, One, Read, Round, Rounds, Cleared, Tested};
+ghost use Rattle.solver.specs.Written.{leadAt, nameAt, Copied, Wrote, Writing, Typed, Leading};
+ghost use Rattle.solver.specs.Answers.{Left, Placed, LookingRoot, Looking, Looked};
+ghost use Rattle.solver.specs.Sizes.{cap, TypeSize, UnknownSize, Measuring, Measured, markAt, total, Size, One, Read, Round, Rounds, Cleared, Tested};
 ghost use Rattle.solver.specs.Calls.{put, Making, Made, Adding, Added, Tells, Known, Root, Runs, Two, Alike, Pushing, Pushed};
 
 const CELLS: usize = 768;
@@ -174,6 +174,26 @@ fn skip(a: &[u32], d: &[u32], p: usize) -> usize
         j += 1;
     }
     at
+}
+
+// The size of the type at p, at most 33.
+fn type_size(a: &[u32], d: &[u32], p: usize) -> usize
+    requires { ⌜ Reading (now a) (now d) p ⌝ }
+    ensures { λ v. ⌜ TypeSize (now (a .entry)) (now (d .entry)) p v ⌝ }
+{
+    let t = type_word(a, d, p);
+    let w = name_words(t);
+    let n = parts_of(a, d, t, p);
+    let mut at = p + lead_words(t);
+    let mut sum = 1;
+    let mut j = 0;
+    while j < n {
+        let q = at + w;
+        sum = capped(sum + type_size(a, d, q));
+        at = skip(a, d, q);
+        j += 1;
+    }
+    sum
 }
 
 // The types at p and q are one.
@@ -613,20 +633,38 @@ pub fn finite(a: &mut [u32], n: usize) -> bool
     all_marked(a, n)
 }
 
-// Is there a cell whose type is not known?
-pub fn unresolved(a: &[u32], n: usize) -> bool
-    requires { ⌜ Read (now a) n ⌝ }
-    ensures { λ r. ⌜ Scanned (now (a .entry)) n r ⌝ }
+// The size of the unknown r, a representative, at most 33.
+fn unknown_size(a: &[u32], d: &[u32], r: usize) -> usize
+    requires { ⌜ LookingRoot (now a) (now d) r ⌝ }
+    ensures { λ v. ⌜ UnknownSize (now (a .entry)) (now (d .entry)) r v ⌝ }
 {
-    let mut i = 0;
-    while i < n {
-        let r = find(a, i);
-        if field(a, r, 0) == 0 {
-            return true;
-        }
-        i += 1;
+    let q = word(a, LINKS + r);
+    if q < 769 {
+        return 1;
     }
-    false
+    type_size(a, d, q - 769)
+}
+
+// The size of the type of cell i, at most 33. The marks are those of `finite`.
+pub fn cell_size(a: &[u32], d: &[u32], i: usize) -> usize
+    requires { ⌜ Measuring (now a) (now d) i ⌝ }
+    ensures { λ v. ⌜ Measured (now (a .entry)) (now (d .entry)) i v ⌝ }
+{
+    if 32 < word(a, MARKS + i) {
+        return 33;
+    }
+    let r = find(a, i);
+    if field(a, r, 0) == 0 {
+        return unknown_size(a, d, r);
+    }
+    let k = field(a, r, 3);
+    let mut sum = 1;
+    let mut j = 0;
+    while j < k {
+        sum = capped(sum + cell_size(a, d, part(a, r, j)));
+        j += 1;
+    }
+    sum
 }
 
 // Cell r is an unknown, and refers to no type.
@@ -674,12 +712,11 @@ fn place(a: &[u32], p: usize, k: usize, x: usize) -> usize
     k
 }
 
-// The cell of the component id of cell i, plus 1; 0: not in every solution.
-pub fn component(a: &[u32], i: usize, id: usize) -> usize
-    requires { ⌜ Known (now a) i ⌝ }
-    ensures { λ v. ⌜ Looked (now (a .entry)) i id v ⌝ }
+// The component id of the former at r, a representative: its cell plus 1, and 0 where there is none.
+fn former_component(a: &[u32], d: &[u32], r: usize, id: usize) -> usize
+    requires { ⌜ (LookingRoot (now a) (now d) r) × (0 < tagAt (frozen (now a)) r) ⌝ }
+    ensures { λ v. ⌜ Looked (now (a .entry)) (now (d .entry)) r id v ⌝ }
 {
-    let r = find(a, i);
     if field(a, r, 0) == 5 {
         let p = field(a, r, 1);
         let k = field(a, r, 3);
@@ -690,6 +727,34 @@ pub fn component(a: &[u32], i: usize, id: usize) -> usize
         return 0;
     }
     0
+}
+
+// The component id of the unknown r, a representative: 769 plus the place of its type, and 0 where there is none.
+fn unknown_component(a: &[u32], d: &[u32], r: usize, id: usize) -> usize
+    requires { ⌜ (LookingRoot (now a) (now d) r) × (tagAt (frozen (now a)) r ≡ 0) ⌝ }
+    ensures { λ v. ⌜ Looked (now (a .entry)) (now (d .entry)) r id v ⌝ }
+{
+    let q = word(a, LINKS + r);
+    if q < 769 {
+        return 0;
+    }
+    let p = settled_component(a, d, q - 769, id);
+    if p == 0 {
+        return 0;
+    }
+    769 + p
+}
+
+// The component id of cell i: its cell plus 1, or 769 plus the place of its type; 0: not in every solution.
+pub fn component(a: &[u32], d: &[u32], i: usize, id: usize) -> usize
+    requires { ⌜ Looking (now a) (now d) i ⌝ }
+    ensures { λ v. ⌜ Looked (now (a .entry)) (now (d .entry)) i id v ⌝ }
+{
+    let r = find(a, i);
+    if field(a, r, 0) == 0 {
+        return unknown_component(a, d, r, id);
+    }
+    former_component(a, d, r, id)
 }
 
 // The first words of the type with the former at r.
@@ -725,18 +790,35 @@ fn put_name(a: &[u32], out: &mut [u32], at: usize, r: usize, j: usize) -> usize
     at
 }
 
+// The type whose words stand at p, from `at` on: where it ends.
+fn put_type(a: &[u32], d: &[u32], out: &mut [u32], at: usize, p: usize) -> usize
+    requires { ⌜ (Reading (now a) (now d) p) × (at < 2 ^ 40) ⌝ }
+    ensures { λ e. ⌜ Copied (now (a .entry)) (now (d .entry)) (now (out .entry)) (now (out .exit)) at p e ⌝ }
+{
+    let m = skip(a, d, p) - p;
+    let mut j = 0;
+    while j < m {
+        store(out, at + j, type_word(a, d, p + j) as u32);
+        j += 1;
+    }
+    at + m
+}
+
 // The type of cell i, from `at` on: where it ends.
-pub fn write(a: &[u32], out: &mut [u32], at: usize, i: usize) -> usize
-    requires { ⌜ Writing (now a) at i ⌝ }
-    ensures { λ e. ⌜ Typed (now (a .entry)) (now (out .entry)) (now (out .exit)) at i e ⌝ }
+pub fn write(a: &[u32], d: &[u32], out: &mut [u32], at: usize, i: usize) -> usize
+    requires { ⌜ Writing (now a) (now d) at i ⌝ }
+    ensures { λ e. ⌜ Typed (now (a .entry)) (now (d .entry)) (now (out .entry)) (now (out .exit)) at i e ⌝ }
 {
     let r = find(a, i);
+    if field(a, r, 0) == 0 {
+        return put_type(a, d, out, at, word(a, LINKS + r) - 769);
+    }
     let k = field(a, r, 3);
     let mut m = put_lead(a, out, at, r);
     let mut j = 0;
     while j < k {
         m = put_name(a, out, m, r, j);
-        m = write(a, out, m, part(a, r, j));
+        m = write(a, d, out, m, part(a, r, j));
         j += 1;
     }
     m
