@@ -1,8 +1,8 @@
 -- The tables of uses and parents, filled from zeros, say what they should.
-use mathlib.Core.Path.{_≡_, refl, sym, ap, _∙_}
+use mathlib.Core.Path.{_≡_, refl, sym, _∙_}
 use mathlib.Core.Bool.{Bool, true, false, _||_, cond}
-use mathlib.Core.List.{List, [], _∷_}
-use Prim.Native.Nat.{ℕ, zero, suc, _+_, _-_, _≤_, _<_}
+use mathlib.Core.List.{List, _∷_}
+use Prim.Native.Nat.{ℕ, zero, suc, _+_, _-_, _<_}
 use native.Mathlib.Omega.{arith}
 use native.Mathlib.Decide.{ℕ-discrete}
 use lib.Dec.{eqb}
@@ -14,7 +14,7 @@ use Rattle.words.proofs.Lists.{occurrences-append, run-last}
 use Rattle.layout.specs.Layout.{count, part}
 use Rattle.syntax.specs.Kinds.{sortAt, isNodeSort}
 use Rattle.syntax.specs.Nodes.{nodesAmong, children, uses, parentAmong, parent}
-use Rattle.reader.specs.Links.{capped, bump, tallyAt, tallyNode, tallyOf, tally, linkAt, linkNode, linkOf, link, places, Used, Parents, Linked}
+use Rattle.reader.specs.Links.{capped, bump, tallyAt, tallyNode, tallyOf, tally, linkAt, linkOf, link, places, Used, Parents, Linked}
 use Rattle.syntax.proofs.Accepted.{Nodes, Once, nodes-sound, uses-once}
 
 -- a number of uses is 1 exactly where the table says so

@@ -1,7 +1,7 @@
 -- What a document that passed findings 12 to 15 writes: identifiers and names in range, and the Decls of one Text.
-use mathlib.Core.Path.{_≡_, refl, sym, ap, subst, _∙_}
+use mathlib.Core.Path.{_≡_, refl, sym, ap, _∙_}
 use mathlib.Core.Bool.{Bool, true, false, _&&_, _||_, cond, not, false≢true}
-use mathlib.Core.List.{List, [], _∷_, _++_}
+use mathlib.Core.List.{List, [], _∷_}
 use Prim.Native.Nat.{ℕ, zero, suc, _+_, _-_, _/_, _≤_, _<_}
 use native.Mathlib.Omega.{arith}
 use lib.Dec.{leb, ltb, eqb}
@@ -12,13 +12,13 @@ use Rattle.words.proofs.Loops.{and-left, and-right, every-at}
 use Rattle.words.proofs.Lists.{has-joined, some-at, some-true, same-test}
 use Rattle.layout.specs.Layout.{count, part}
 use Rattle.syntax.specs.Identifiers.{nameOf, isIdentifier, isName}
-use Rattle.syntax.specs.Kinds.{cell, sortAt, sortIn, sortRow, plainOk, isNodeSort, identifiers, schemaNames}
-use Rattle.syntax.specs.Nodes.{kindAt, children, uses, parent}
+use Rattle.syntax.specs.Kinds.{cell, sortAt, sortIn, plainOk, isNodeSort, identifiers, schemaNames}
+use Rattle.syntax.specs.Nodes.{kindAt, uses, parent}
 use Rattle.syntax.specs.Findings.{plainAt}
 use Rattle.syntax.specs.Repeats.{fresh, writtenBefore, repeatsIn, declared, declaredIn, isAxiomDecl, globals, parameters, schemas, firstOperand, repeatNumber}
 use Rattle.syntax.proofs.Accepted.{Sound, Nodes, Once, some-words, least-operands}
 use Rattle.syntax.proofs.Operands.{cond-same, sort-row}
-use Rattle.syntax.proofs.Parents.{Child, child-place, place-child, child-lower, parent-some, parent-only, parent-most}
+use Rattle.syntax.proofs.Parents.{child-place, place-child, child-lower, parent-some, parent-only, parent-most}
 use Rattle.reader.specs.Links.{Linked}
 use Rattle.reader.specs.Marks.{unmarked, marked, Written, distinct, shares, sharedAt, identifierMarks, nameMarks}
 use Rattle.reader.proofs.RepeatLaws.{AllBelow, unmarked-fresh, marks-after, no-marks, written-next, fresh-shares, fresh-distinct}

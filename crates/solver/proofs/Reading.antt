@@ -18,6 +18,8 @@ use Rattle.types.specs.Former.{Former, int, given, parameter, power, product, b
 use Rattle.types.specs.Types.{Ty, Tys, node, tnil, tcons}
 use Rattle.types.specs.Formed.{partCountType, FormedType, FormedTypes, Arity, WellFormed}
 use Rattle.types.specs.Words.{second, words, partWords}
+use mathlib.Core.Option.{Option, some, none}
+use Rattle.types.specs.Component.{pickType, componentType}
 use Rattle.types.proofs.Words.{words-one}
 use Rattle.solver.specs.Settled.{lower, heap, Reads, Readable, Areas, Meeting, SameNames, leadWords, nameWords, partsOf}
 
@@ -453,3 +455,81 @@ two-words x a b d = go x a b d
     go zero a b d = absurd (omega arith)
     go (suc zero) a b d = absurd (d refl)
     go (suc (suc x)) a b d = omega arith
+
+-- Looking for the component id: j of n passed, and none of them it.
+pub record Seeking (H : List ℕ) (at n j id : ℕ) (o : Option Ty) : Type 0 where
+  pub l : List ℕ
+  pub gs : Tys
+  pub e : ℕ
+  pub rest : Rest H 1 at l gs e
+  pub left : partCountType gs + j ≡ n
+  pub same : o ≡ pickType id l gs
+
+pub seek-start : (H : List ℕ) (p n id : ℕ) (g : Ty) → Reads H p g → getD H p 0 ≡ 5 → getD H (p + 1) 0 ≡ n → Seeking H (p + 2) n 0 id (componentType id g)
+unfolding componentType identifiers second tag nameWords leadWords
+seek-start H p n id (node h gs) R t5 en =
+    let b = is-binding H p h gs R t5 in
+    let Rb : Reads H p (node (binding (b .0)) gs) = subst (λ z. Reads H p (node z gs)) (b .1) R in
+    record {
+      l = b .0;
+      gs = gs;
+      e = p + length (words (node (binding (b .0)) gs));
+      rest = the-rest H p (binding (b .0)) gs Rb;
+      left = (let z : partCountType gs + 0 ≡ partCountType gs = omega arith in z) ∙ sym (second-at H p (binding (b .0)) gs Rb (partCountType gs) refl) ∙ en;
+      same = ap (λ z. pickType id (identifiers z) gs) (b .1);
+    }
+
+pub record Sought (H : List ℕ) (at n j id : ℕ) (o : Option Ty) : Type 0 where
+  pub part : Ty
+  pub reads : Reads H (at + 1) part
+  pub low : at + 1 < length H
+  pub hit : getD H at 0 ≡ id → o ≡ some part
+  pub miss : (getD H at 0 ≡ id → ⊥) → Seeking H (at + 1 + length (words part)) n (j + 1) id o
+
+pick-hit : (id x : ℕ) (l : List ℕ) (g : Ty) (gs : Tys) → x ≡ id → pickType id (x ∷ l) (tcons g gs) ≡ some g
+unfolding pickType
+pick-hit id x l g gs e = ap (λ b. elim b as (λ z. Option Ty) [ true ↦ some g | false ↦ pickType id l gs ]) (eq-eqb x id e)
+
+pick-miss : (id x : ℕ) (l : List ℕ) (g : Ty) (gs : Tys) → (x ≡ id → ⊥) → pickType id (x ∷ l) (tcons g gs) ≡ pickType id l gs
+unfolding pickType
+pick-miss id x l g gs e = ap (λ b. elim b as (λ z. Option Ty) [ true ↦ some g | false ↦ pickType id l gs ]) (ne-eqb x id e)
+
+seek-c : (H : List ℕ) (at n j id : ℕ) (o : Option Ty) (l : List ℕ) (gs : Tys) (e : ℕ) → Rest H 1 at l gs e → partCountType gs + j ≡ n → o ≡ pickType id l gs → j < n → Sought H at n j id o
+seek-c H at n j id o l tnil e R q s lt = absurd (omega arith)
+seek-c H at n j id o l (tcons g gs) e R q s lt =
+    let P = part-next H 1 at l g gs e R in
+    let hd = P .name (λ z. omega arith) in
+    record {
+      part = g;
+      reads = P .reads;
+      low = place-low H (at + 1) g (P .reads);
+      hit = λ x. s ∙ ap (λ z. pickType id z (tcons g gs)) hd ∙ pick-hit id (getD H at 0) (P .tail) g gs x;
+      miss = λ x. record { l = P .tail; gs = gs; e = e; rest = P .rest; left = omega arith; same = s ∙ ap (λ z. pickType id z (tcons g gs)) hd ∙ pick-miss id (getD H at 0) (P .tail) g gs x };
+    }
+
+pub seek-step : (H : List ℕ) (at n j id : ℕ) (o : Option Ty) → Seeking H at n j id o → j < n → Sought H at n j id o
+seek-step H at n j id o S lt = seek-c H at n j id o (S .l) (S .gs) (S .e) (S .rest) (S .left) (S .same) lt
+
+pub seek-on : (H : List ℕ) (at n j id at′ : ℕ) (o : Option Ty) (S : Sought H at n j id o) → (getD H at 0 ≡ id → ⊥) → at′ ≡ at + 1 + length (words (S .part)) → Seeking H at′ n (j + 1) id o
+seek-on H at n j id at′ o S d q = subst (λ y. Seeking H y n (j + 1) id o) (sym q) (S .miss d)
+
+seek-end-c : (id n j : ℕ) (l : List ℕ) (gs : Tys) → partCountType gs + j ≡ n → n ≤ j → pickType id l gs ≡ none
+unfolding pickType
+seek-end-c id n j [] gs q lt = refl
+seek-end-c id n j (x ∷ l) tnil q lt = refl
+seek-end-c id n j (x ∷ l) (tcons g gs) q lt = absurd (omega arith)
+
+pub seek-end : (H : List ℕ) (at n j id : ℕ) (o : Option Ty) → Seeking H at n j id o → n ≤ j → o ≡ none
+seek-end H at n j id o S lt = S .same ∙ seek-end-c id n j (S .l) (S .gs) (S .left) lt
+
+not-binding-c : (id : ℕ) (h : Former) (gs : Tys) → (tag h ≡ 5 → ⊥) → componentType id (node h gs) ≡ none
+unfolding componentType identifiers pickType tag
+not-binding-c id int gs d = refl
+not-binding-c id (given g) gs d = refl
+not-binding-c id (parameter i) gs d = refl
+not-binding-c id power gs d = refl
+not-binding-c id product gs d = refl
+not-binding-c id (binding l) gs d = absurd (d refl)
+
+pub not-binding : (H : List ℕ) (p id : ℕ) (g : Ty) → Reads H p g → (getD H p 0 ≡ 5 → ⊥) → componentType id g ≡ none
+not-binding H p id (node h gs) R d = not-binding-c id h gs (λ e. d (tag-at H p h gs R ∙ e))

@@ -9,6 +9,8 @@ use lib.ListN.{length, getD, take, drop}
 use Rattle.types.specs.Former.{Former, binding}
 use Rattle.types.specs.Types.{Ty, Tys, node}
 use Rattle.types.specs.Formed.{WellFormed, partCountType}
+use mathlib.Core.Option.{Option, some, none}
+use Rattle.types.specs.Component.{componentType}
 use Rattle.types.specs.Words.{words}
 use Rattle.types.specs.Equations.{Pairs, Solves}
 use Rattle.types.specs.Finite.{fromList}
@@ -172,3 +174,14 @@ pub record Entered (s s′ d : List ℕ) (n p : ℕ) : Type 0 where
   pub before : (σ : ℕ → Ty) → Obeys s′ d (suc n) σ → Obeys s d n σ
   pub type : (g : Ty) → Reads (heap s d) p g → (σ : ℕ → Ty) → Obeys s′ d (suc n) σ → σ n ≡ g
   pub after : (g : Ty) → Reads (heap s d) p g → (σ : ℕ → Ty) → Obeys s d n σ → σ n ≡ g → Obeys s′ d (suc n) σ
+
+-- The type of the option stands at r.
+pub record Found (H : List ℕ) (r : ℕ) (o : Option Ty) : Type 0 where
+  pub type : Ty
+  pub is : o ≡ some type
+  pub reads : Reads H r type
+
+-- The component id of the type at p: r is the place of its type, and 0 where there is none (the place 0 is never the type of a component).
+pub record Component (s d : List ℕ) (p id r : ℕ) : Type 0 where
+  pub none : r ≡ 0 → (g : Ty) → Reads (heap s d) p g → componentType id g ≡ none
+  pub some : (r ≡ 0 → ⊥) → (g : Ty) → Reads (heap s d) p g → Found (heap s d) r (componentType id g)

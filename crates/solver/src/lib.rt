@@ -3,7 +3,7 @@ ghost use mathlib.Core.Path.{_≡_};
 ghost use Prim.Native.Nat.{ℕ, suc, _+_, _*_, _<_, _≤_, _^_};
 ghost use lib.ListN.{length, getD, set};
 ghost use Rattle.solver.specs.Store.{frozen, linkAt, fieldAt, tagAt, firstAt, countAt, run, partsAt, Cell};
-ghost use Rattle.solver.specs.Settled.{heap, leadWords, nameWords, partsOf, Reading, Ends, Readings, SameType, Meeting, Naming, SameNames, SameFormer, Pinning, Pin, Settling, Entering, Entered, wordAt};
+ghost use Rattle.solver.specs.Settled.{heap, leadWords, nameWords, partsOf, Reading, Ends, Readings, SameType, Meeting, Naming, SameNames, SameFormer, Pinning, Pin, Settling, Entering, Entered, wordAt, Component};
 ghost use Rattle.solver.specs.Merging.{Open, Turned, Popped, Tied, Tying, Drained, Asking, Merged};
 ghost use Rattle.solver.specs.Flat.{Sound, Straight, Flattened};
 ghost use Rattle.solver.specs.Written.{leadAt, nameAt, Wrote, Writing, Typed, Leading};
@@ -236,6 +236,27 @@ fn same_former(a: &[u32], d: &[u32], r: usize, p: usize) -> bool
         return false;
     }
     true
+}
+
+// The place of the type of the component id in the type at p, and 0 where there is none.
+pub fn settled_component(a: &[u32], d: &[u32], p: usize, id: usize) -> usize
+    requires { ⌜ Reading (now a) (now d) p ⌝ }
+    ensures { λ r. ⌜ Component (now (a .entry)) (now (d .entry)) p id r ⌝ }
+{
+    if type_word(a, d, p) != 5 {
+        return 0;
+    }
+    let n = type_word(a, d, p + 1);
+    let mut at = p + 2;
+    let mut j = 0;
+    while j < n {
+        if type_word(a, d, at) == id {
+            return at + 1;
+        }
+        at = skip(a, d, at + 1);
+        j += 1;
+    }
+    0
 }
 
 // The k words at p are those at q.

@@ -2,14 +2,14 @@
 use mathlib.Core.Path.{_≡_, refl, _∙_}
 use mathlib.Core.Bool.{Bool, true, false, _&&_, cond, not}
 use mathlib.Core.List.{List}
-use Prim.Native.Nat.{ℕ, _+_, _-_, _≤_, _<_}
+use Prim.Native.Nat.{ℕ, _-_, _≤_, _<_}
 use native.Mathlib.Omega.{arith}
-use lib.Dec.{leb, ltb, eqb}
+use lib.Dec.{leb, eqb}
 use lib.ListN.{length, getD}
 use borrow.Author.Tests.{leb-true, eqb-true, not-true, ne-eqb, lt-ltb}
 use Rattle.words.proofs.Loops.{and-left, and-right}
-use Rattle.layout.specs.Layout.{count, part}
-use Rattle.syntax.specs.Kinds.{cell, sortAt, sortIn, sortRow, countOk, countIn, ofSort, isNodeSort, counts}
+use Rattle.layout.specs.Layout.{part}
+use Rattle.syntax.specs.Kinds.{cell, sortAt, sortIn, sortRow, counts}
 use Rattle.syntax.specs.Nodes.{kindAt}
 use Rattle.syntax.specs.Promise.{At, Lower}
 use Rattle.syntax.proofs.Accepted.{readable, operand, some-words, least-operands}

@@ -1,9 +1,9 @@
 -- Finding 17: the limits (document 01, "Limits"). Each test holds at the first node past its limit, in node order, and perhaps at later nodes.
-use Prim.Native.Nat.{ℕ, suc, _+_}
+use Prim.Native.Nat.{ℕ, _+_}
 use mathlib.Core.List.{List, [], _∷_}
-use mathlib.Core.Bool.{Bool, true, false, _&&_, _||_, cond}
+use mathlib.Core.Bool.{Bool, false, _&&_, _||_, cond}
 use lib.ListN.{length}
-use lib.Dec.{leb, ltb, eqb}
+use lib.Dec.{ltb, eqb}
 use Rattle.words.specs.Loops.{total, has}
 use Rattle.syntax.specs.Kinds.{between}
 use Rattle.syntax.specs.Nodes.{kindAt, parent, ancestors}

@@ -10,7 +10,7 @@ use lib.ListN.{length, getD, set, take, drop, replicate, length-append, length-r
 use lib.Seq.{sets, sets-eq, drop-cons, take-at, drop-append-add}
 use borrow.Author.Tests.{le-leb, lt-leb, leb-true, leb-false}
 use Rattle.values.specs.declared.held.Held.{Held}
-use Rattle.values.specs.Held.{over, keep}
+use Rattle.values.specs.Held.{over, keep, findingOf}
 
 -- one store of a copy, and its end
 pub sets-go : (v out : List ℕ) (to i : ℕ) → i < length v → sets out (to + i) (drop i v) ≡ sets (set out (to + i) (getD v i 0)) (to + (i + 1)) (drop (i + 1) v)
@@ -73,3 +73,11 @@ appended ws w h =
 -- the words that are held, back as a list
 pub held-part : (v : Held) (ws : List ℕ) → v ≡ keep ws → length ws ≤ 64 → take (v .len) (v .words) ≡ ws
 held-part v ws e h = rw (held-len v ws e h, held-words v ws e h) (take-at ws (zeros (64 - length ws)) (length ws) refl)
+
+pub finding-none : (ws : List ℕ) → length ws ≤ 64 → findingOf (keep ws) ≡ 0
+unfolding findingOf
+finding-none ws h = rw (keep-fits ws h, le-leb (length ws) 64 h)
+
+pub finding-over : (ws : List ℕ) → 64 < length ws → findingOf (keep ws) ≡ 55
+unfolding findingOf over
+finding-over ws h = rw (keep-over ws h)

@@ -12,6 +12,7 @@ use Rattle.values.specs.Value.{int, set, Values, nil, count, encode}
 use Rattle.values.specs.Sets.{first, rest, choose, placeFrom, place, insertAt, insert}
 use Rattle.values.specs.SetValues.{insertBy, insertValue}
 use Rattle.values.specs.Givens.{smallSize, sizeFrom, sizeOf}
+use Rattle.values.specs.Held.{over, keep, findingOf}
 use Rattle.values.specs.Form.{elementShape, groupShape, shapeOf, follows, nextFits, groupEnd, byShape, valueLength, isValue}
 
 pub data Row : Type 0 where
@@ -40,7 +41,8 @@ marked =
     ∷ words (insert (3 ∷ 1 ∷ 1 ∷ 2 ∷ []) (1 ∷ 2 ∷ [])) (3 ∷ 1 ∷ 1 ∷ 2 ∷ [])
     ∷ words (insert (3 ∷ 1 ∷ 1 ∷ 2 ∷ []) (1 ∷ 4294967295 ∷ [])) (3 ∷ 2 ∷ 1 ∷ 4294967295 ∷ 1 ∷ 2 ∷ [])
     ∷ number (length (encode (set (below 31)))) 64
-    ∷ number (length (encode (set (below 32)))) 66
+    ∷ number (findingOf (keep (encode (set (below 31))))) 0
+    ∷ number (findingOf (keep (encode (set (below 32))))) 55
     ∷ test (wellFormedWords (1 ∷ 4294967295 ∷ [])) true
     ∷ test (wellFormedWords (1 ∷ [])) false
     ∷ test (wellFormedWords (1 ∷ 1 ∷ 1 ∷ [])) false
@@ -59,5 +61,5 @@ marked =
     ∷ []
 
 pub marked-hold : Hold marked
-unfolding Hold below wellFormedWords marked signed wordOf compareWord orElse compare isLess isSame same head parts spans span count encode first rest choose placeFrom place insertAt insert insertBy insertValue smallSize sizeFrom sizeOf elementShape groupShape shapeOf follows nextFits groupEnd byShape valueLength isValue
-marked-hold = (refl, (refl, (refl, (refl, (refl, (refl, (refl, (refl, (refl, (refl, (refl, (refl, (refl, (refl, (refl, (refl, (refl, (refl, (refl, (refl, (refl, tt)))))))))))))))))))))
+unfolding over keep findingOf Hold below wellFormedWords marked signed wordOf compareWord orElse compare isLess isSame same head parts spans span count encode first rest choose placeFrom place insertAt insert insertBy insertValue smallSize sizeFrom sizeOf elementShape groupShape shapeOf follows nextFits groupEnd byShape valueLength isValue
+marked-hold = (refl, (refl, (refl, (refl, (refl, (refl, (refl, (refl, (refl, (refl, (refl, (refl, (refl, (refl, (refl, (refl, (refl, (refl, (refl, (refl, (refl, (refl, tt))))))))))))))))))))))

@@ -12,3 +12,7 @@ over = record { words = replicate 64 0; len = 65 }
 
 unfoldable pub keep : List ℕ → Held
 keep ws = cond (leb (length ws) 64) (record { words = ws ++ replicate (64 - length ws) 0; len = length ws }) over
+
+-- 55 for a value of over 64 words, 0 for one that is held
+unfoldable pub findingOf : Held → ℕ
+findingOf v = cond (leb (v .len) 64) 0 55

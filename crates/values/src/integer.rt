@@ -84,9 +84,9 @@ pub fn modulo(a: i32, n: i32) -> Integer
     if n < 1 {
         return Integer::Undefined;
     }
-    let r = a % n;
-    if r < 0 {
-        return Integer::Whole(r + n);
+    let m = a % n;
+    if m < 0 {
+        return Integer::Whole(m + n);
     }
-    Integer::Whole(r)
+    Integer::Whole(m)
 }

@@ -11,12 +11,9 @@ use super::words::part;
 use super::words::same;
 use super::words::word;
 ghost use mathlib.Core.Path.{_≡_};
-ghost use Prim.Native.Nat.{_+_, _<_, _^_};
-ghost use lib.ListN.{drop};
+ghost use Prim.Native.Nat.{_<_, _^_};
 ghost use Rattle.values.specs.Held.{keep};
-ghost use Rattle.values.specs.Order.{same};
-ghost use Rattle.values.specs.Span.{span};
-ghost use Rattle.values.specs.Sets.{first, rest, isMember, place, insertAt, insert, isPair, second, apply};
+ghost use Rattle.values.specs.Sets.{first, isMember, place, insertAt, insert, isPair, second, apply};
 
 // Where a member goes in a set: before the word at a place, or it is there already.
 pub enum Place {

@@ -7,20 +7,6 @@ use Rattle.words.proofs.Loops.{tests, below-at}
 use borrow.Author.Needs.{needs}
 use Rattle.reader.proofs.kinds.column.Statement.{statement}
 use Rattle.reader.proofs.kinds.column.Tie as tie
-use Rattle.reader.proofs.kinds.column.Reads as reads
-use Rattle.reader.proofs.kinds.column.Lts as lts
-
-mul-result : tie.Need-mul-result
-mul-result c = search needs
-
-add-result : tie.Need-add-result
-add-result c = search needs
-
-mul-result-2 : tie.Need-mul-result-2
-mul-result-2 c = search needs
-
-array-read-result : tie.Need-array-read-result
-array-read-result c = search needs
 
 cast-result : tie.Need-cast-result
 cast-result c = omega (arith, below-at 65536 table refl (6 * c .before .args .kind + c .before .args .j))
@@ -36,4 +22,4 @@ returns-2 c = sym (List·getD-eq-default table 0 {n = 6 * c .before .args .kind 
 pub column-spec : {M : Type 1} → statement M
 column-spec =
     tie.close
-    (tie.spec mul-result add-result mul-result-2 array-read-result cast-result returns returns-2)
+    (tie.spec (λ c. search needs) (λ c. search needs) (λ c. search needs) (λ c. search needs) cast-result returns returns-2)

@@ -3,11 +3,6 @@ use Rattle.words.proofs.Loops.{tests}
 use borrow.Author.Needs.{needs}
 use Rattle.reader.proofs.kinds.count_by.Statement.{statement}
 use Rattle.reader.proofs.kinds.count_by.Tie as tie
-use Rattle.reader.proofs.kinds.count_by.Reads as reads
-use Rattle.reader.proofs.kinds.count_by.Lts as lts
-
-add-from : tie.Need-add-from
-add-from c = search needs
 
 returns : tie.Need-returns
 unfolding countBy
@@ -29,9 +24,6 @@ returns-5 : tie.Need-returns-5
 unfolding countBy
 returns-5 c = search tests
 
-add-result : tie.Need-add-result
-add-result c = search needs
-
 returns-6 : tie.Need-returns-6
 unfolding countBy
 returns-6 c = search tests
@@ -39,4 +31,4 @@ returns-6 c = search tests
 pub count-by-spec : {M : Type 1} → statement M
 count-by-spec =
     tie.close
-    (tie.spec add-from returns returns-2 returns-3 returns-4 returns-5 add-result returns-6)
+    (tie.spec (λ c. search needs) returns returns-2 returns-3 returns-4 returns-5 (λ c. search needs) returns-6)

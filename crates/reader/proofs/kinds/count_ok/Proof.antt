@@ -1,30 +1,6 @@
 use borrow.Author.Needs.{needs}
 use Rattle.reader.proofs.kinds.count_ok.Statement.{statement}
 use Rattle.reader.proofs.kinds.count_ok.Tie as tie
-use Rattle.reader.proofs.kinds.count_ok.Reads as reads
-use Rattle.reader.proofs.kinds.count_ok.Lts as lts
-use Rattle.reader.proofs.kinds.count_by.Reads as count-by-reads
-use Rattle.reader.proofs.kinds.count_row.Reads as count-row-reads
-use Rattle.reader.proofs.kinds.operand_count.Reads as operand-count-reads
-use Rattle.words.proofs.word.Reads as word-reads
-
-word-requires : tie.Need-word-requires
-word-requires c κs = search needs
-
-operand-count-requires : tie.Need-operand-count-requires
-operand-count-requires c κs = search needs
-
-word-requires-2 : tie.Need-word-requires-2
-word-requires-2 c κs = search needs
-
-word-requires-3 : tie.Need-word-requires-3
-word-requires-3 c κs = search needs
-
-count-row-requires : tie.Need-count-row-requires
-count-row-requires c κs = search needs
-
-count-by-requires : tie.Need-count-by-requires
-count-by-requires c κs = search needs
 
 returns : tie.Need-returns
 returns c =
@@ -40,11 +16,11 @@ pub count-ok-spec : {M : Type 1} → statement M
 count-ok-spec =
     tie.close
     (tie.spec
-    word-requires
-    operand-count-requires
-    word-requires-2
-    word-requires-3
-    count-row-requires
-    count-by-requires
+    (λ c κs. search needs)
+    (λ c κs. search needs)
+    (λ c κs. search needs)
+    (λ c κs. search needs)
+    (λ c κs. search needs)
+    (λ c κs. search needs)
     returns
     returns-2)

@@ -1,9 +1,6 @@
 use Rattle.words.proofs.Loops.{tests}
-use borrow.Author.Needs.{needs}
 use Rattle.reader.proofs.kinds.is_name.Statement.{statement}
 use Rattle.reader.proofs.kinds.is_name.Tie as tie
-use Rattle.reader.proofs.kinds.is_name.Reads as reads
-use Rattle.reader.proofs.kinds.is_name.Lts as lts
 
 returns : tie.Need-returns
 returns c = search tests

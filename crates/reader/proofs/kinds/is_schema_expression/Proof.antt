@@ -1,10 +1,7 @@
 use Rattle.syntax.specs.Kinds.{ofSort}
 use Rattle.words.proofs.Loops.{tests}
-use borrow.Author.Needs.{needs}
 use Rattle.reader.proofs.kinds.is_schema_expression.Statement.{statement}
 use Rattle.reader.proofs.kinds.is_schema_expression.Tie as tie
-use Rattle.reader.proofs.kinds.is_schema_expression.Reads as reads
-use Rattle.reader.proofs.kinds.is_schema_expression.Lts as lts
 
 returns : tie.Need-returns
 unfolding ofSort

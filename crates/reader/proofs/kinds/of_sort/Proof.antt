@@ -3,25 +3,6 @@ use Rattle.words.proofs.Loops.{tests}
 use borrow.Author.Needs.{needs}
 use Rattle.reader.proofs.kinds.of_sort.Statement.{statement}
 use Rattle.reader.proofs.kinds.of_sort.Tie as tie
-use Rattle.reader.proofs.kinds.of_sort.Reads as reads
-use Rattle.reader.proofs.kinds.of_sort.Lts as lts
-use Rattle.reader.proofs.kinds.is_between.Reads as is-between-reads
-use Rattle.reader.proofs.kinds.is_schema_expression.Reads as is-schema-expression-reads
-
-is-between-requires : tie.Need-is-between-requires
-is-between-requires c κs = search needs
-
-is-schema-expression-requires : tie.Need-is-schema-expression-requires
-is-schema-expression-requires c κs = search needs
-
-is-between-requires-2 : tie.Need-is-between-requires-2
-is-between-requires-2 c κs = search needs
-
-is-between-requires-3 : tie.Need-is-between-requires-3
-is-between-requires-3 c κs = search needs
-
-is-between-requires-4 : tie.Need-is-between-requires-4
-is-between-requires-4 c κs = search needs
 
 returns : tie.Need-returns
 unfolding ofSort
@@ -58,11 +39,11 @@ pub of-sort-spec : {M : Type 1} → statement M
 of-sort-spec =
     tie.close
     (tie.spec
-    is-between-requires
-    is-schema-expression-requires
-    is-between-requires-2
-    is-between-requires-3
-    is-between-requires-4
+    (λ c κs. search needs)
+    (λ c κs. search needs)
+    (λ c κs. search needs)
+    (λ c κs. search needs)
+    (λ c κs. search needs)
     returns
     returns-2
     returns-3

@@ -3,16 +3,6 @@ use Rattle.words.proofs.Loops.{tests}
 use borrow.Author.Needs.{needs}
 use Rattle.reader.proofs.kinds.plain_ok.Statement.{statement}
 use Rattle.reader.proofs.kinds.plain_ok.Tie as tie
-use Rattle.reader.proofs.kinds.plain_ok.Reads as reads
-use Rattle.reader.proofs.kinds.plain_ok.Lts as lts
-use Rattle.reader.proofs.kinds.is_identifier.Reads as is-identifier-reads
-use Rattle.reader.proofs.kinds.is_name.Reads as is-name-reads
-
-is-identifier-requires : tie.Need-is-identifier-requires
-is-identifier-requires c κs = search needs
-
-is-name-requires : tie.Need-is-name-requires
-is-name-requires c κs = search needs
 
 returns : tie.Need-returns
 unfolding plainOk
@@ -42,8 +32,8 @@ pub plain-ok-spec : {M : Type 1} → statement M
 plain-ok-spec =
     tie.close
     (tie.spec
-    is-identifier-requires
-    is-name-requires
+    (λ c κs. search needs)
+    (λ c κs. search needs)
     returns
     returns-2
     returns-3

@@ -11,16 +11,10 @@ use native.Mathlib.Omega.{arith}
 use native.Mathlib.Nat.{add-sub-cancel}
 use Prim.Native.Nat.{ℕ, _+_, _-_, _≤_, _<_}
 use lib.ListN.{length}
-use mathlib.Core.Bool.{false, true}
 use mathlib.Core.Path.{_≡_, refl, sym, ap, _∙_}
 use borrow.Author.Needs.{needs}
 use Rattle.reader.proofs.limits.check_limits.Statement.{statement}
 use Rattle.reader.proofs.limits.check_limits.Tie as tie
-use Rattle.reader.proofs.limits.check_limits.Reads as reads
-use Rattle.reader.proofs.limits.check_limits.Lts as lts
-use Rattle.reader.proofs.limits.limit_at.Reads as limit-at-reads
-use Rattle.reader.proofs.repeats.globals_at.Reads as globals-at-reads
-use Rattle.words.proofs.word.Reads as word-reads
 
 abbrev Inv-loop : tie.InvT-loop
 Inv-loop doc up below₀ declared₀ globals₀ n k₀ below declared globals k =
@@ -30,15 +24,9 @@ Inv-loop doc up below₀ declared₀ globals₀ n k₀ below declared globals k 
 abbrev μ-loop : tie.MeasureT-loop
 μ-loop doc up below₀ declared₀ globals₀ n k₀ below declared globals k = n + 1 - k
 
-word-requires : tie.Need-word-requires Inv-loop μ-loop
-word-requires c κs = search needs
-
 loop-holds : tie.Need-loop-holds Inv-loop μ-loop
 unfolding total
 loop-holds c = (omega arith, omega arith, rw (add-sub-cancel, c .word .ensures .0), counted-none _, refl, omega arith)
-
-add-loop : tie.Need-add-loop Inv-loop μ-loop
-add-loop c = search needs
 
 slice-aggregate-limit-at : tie.Need-slice-aggregate-limit-at Inv-loop μ-loop
 slice-aggregate-limit-at c = sym (c .before .before .loop .inv .3 .below .size)
@@ -49,18 +37,12 @@ slice-aggregate-limit-at-2 c = sym (c .before .before .before .loop .inv .3 .dec
 limit-at-requires : tie.Need-limit-at-requires Inv-loop μ-loop
 limit-at-requires c κs = (c .before .before .before .before .before .before .before .pre, omega arith, omega (arith, c .before .before .before .before .word .ensures .0), c .before .before .before .loop .inv .3)
 
-cast-t16 : tie.Need-cast-t16 Inv-loop μ-loop
-cast-t16 c = search needs
-
 returns : tie.Need-returns Inv-loop μ-loop
 returns c =
     let d = c .before .before .before .before .before .before .before .before .before .before .before .args .doc .now in
     let l = c .before .before .before .before .before .before .before .loop in
     let e : limitNumber d (l .k) ≡ 17 = limit-eq d (l .k) ∙ rw (← (c .before .before .before .limit-at .ensures .0), c .if1 .taken) in
     ap (λ (v : ℕ). Refused v (l .k)) (sym e) ∙ scan-hit _ _ _ (omega arith) (omega (arith, e)) ∙ sym (l .inv .2)
-
-globals-at-requires : tie.Need-globals-at-requires Inv-loop μ-loop
-globals-at-requires c κs = search needs
 
 add-globals : tie.Need-add-globals Inv-loop μ-loop
 add-globals c =
@@ -69,9 +51,6 @@ add-globals c =
     let l = c .before .before .before .before .before .before .before .before .loop in
     omega (arith, globals-few d _ (s .pre) (l .k) (l .inv .0) (omega (arith, c .before .before .before .before .before .before .before .before .before .word .ensures .0)), ap length (c .globals-at .ensures))
 
-cast-t17 : tie.Need-cast-t17 Inv-loop μ-loop
-cast-t17 c = search needs
-
 returns-2 : tie.Need-returns-2 Inv-loop μ-loop
 returns-2 c =
     let d = c .before .before .before .before .before .before .before .before .before .before .before .before .before .args .doc .now in
@@ -79,9 +58,6 @@ returns-2 c =
     let g : 64 < globalsUpTo d (l .k) = omega (arith, globals-next d (l .k) (l .inv .0), l .inv .4, ap length (c .before .globals-at .ensures)) in
     let e : limitNumber d (l .k) ≡ 17 = limit-eq d (l .k) ∙ rw (← (c .before .before .before .before .before .limit-at .ensures .0), c .before .before .if1 .left, lt-ltb 64 (globalsUpTo d (l .k)) g) in
     ap (λ (v : ℕ). Refused v (l .k)) (sym e) ∙ scan-hit _ _ _ (omega arith) (omega (arith, e)) ∙ sym (l .inv .2)
-
-add-k : tie.Need-add-k Inv-loop μ-loop
-add-k c = search needs
 
 loop-less : tie.Need-loop-less Inv-loop μ-loop
 loop-less c = omega arith
@@ -105,19 +81,19 @@ check-limits-spec =
     (tie.spec
     Inv-loop
     μ-loop
-    word-requires
+    (λ c κs. search needs)
     loop-holds
-    add-loop
+    (λ c. search needs)
     slice-aggregate-limit-at
     slice-aggregate-limit-at-2
     limit-at-requires
-    cast-t16
+    (λ c. search needs)
     returns
-    globals-at-requires
+    (λ c κs. search needs)
     add-globals
-    cast-t17
+    (λ c. search needs)
     returns-2
-    add-k
+    (λ c. search needs)
     loop-less
     loop-again
     returns-3)

@@ -3,19 +3,6 @@ use borrow.Author.Tests.{eq-eqb, ne-eqb}
 use borrow.Author.Needs.{needs}
 use Rattle.reader.proofs.limits.is_nested.Statement.{statement}
 use Rattle.reader.proofs.limits.is_nested.Tie as tie
-use Rattle.reader.proofs.limits.is_nested.Reads as reads
-use Rattle.reader.proofs.limits.is_nested.Lts as lts
-use Rattle.reader.proofs.limits.texts_above.Reads as texts-above-reads
-use Rattle.reader.proofs.nodes.kind_at.Reads as kind-at-reads
-
-kind-at-requires : tie.Need-kind-at-requires
-kind-at-requires c κs = search needs
-
-texts-above-requires : tie.Need-texts-above-requires
-texts-above-requires c κs = search needs
-
-add-result : tie.Need-add-result
-add-result c = search needs
 
 returns : tie.Need-returns
 returns c =
@@ -27,4 +14,4 @@ returns-2 c = rw (← (c .before .kind-at .ensures .0), ne-eqb _ 10 (c .if1 .lef
 
 pub is-nested-spec : {M : Type 1} → statement M
 is-nested-spec =
-    tie.close (tie.spec kind-at-requires texts-above-requires add-result returns returns-2)
+    tie.close (tie.spec (λ c κs. search needs) (λ c κs. search needs) (λ c. search needs) returns returns-2)

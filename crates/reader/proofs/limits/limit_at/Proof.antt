@@ -1,19 +1,10 @@
 use Rattle.reader.proofs.CountLaws.{deep-eq, ancestors-short, crowded-eq, below-on}
 use native.Mathlib.Omega.{arith}
 use mathlib.Core.Bool.{false, true, false≢true}
-use mathlib.Core.Path.{_≡_, sym, _∙_}
+use mathlib.Core.Path.{sym, _∙_}
 use borrow.Author.Needs.{needs}
 use Rattle.reader.proofs.limits.limit_at.Statement.{statement}
 use Rattle.reader.proofs.limits.limit_at.Tie as tie
-use Rattle.reader.proofs.limits.limit_at.Reads as reads
-use Rattle.reader.proofs.limits.limit_at.Lts as lts
-use Rattle.reader.proofs.limits.crowd.Reads as crowd-reads
-use Rattle.reader.proofs.limits.has_above.Reads as has-above-reads
-use Rattle.reader.proofs.limits.is_nested.Reads as is-nested-reads
-use Rattle.reader.proofs.limits.widen.Reads as widen-reads
-
-has-above-requires : tie.Need-has-above-requires
-has-above-requires c κs = search needs
 
 returns : tie.Need-returns
 returns c =
@@ -30,25 +21,10 @@ returns-2 c =
     let s = c .before .before .before .before .before .before .before .before in
     (rw (deep-eq (s .args .doc .now) (s .args .k), ← (c .before .before .before .has-above .ensures), c .before .before .if1 .left, ← (c .before .is-nested .ensures), c .if2 .taken), λ z. absurd (false≢true (sym z)))
 
-widen-requires : tie.Need-widen-requires
-widen-requires c κs = search needs
-
-same-length : tie.Need-same-length
-same-length c = search needs
-
 returns-3 : tie.Need-returns-3
 returns-3 c =
     let s = c .before .before .before .before .before .before .before .before .before .before .before .before .before in
     (rw (deep-eq (s .args .doc .now) (s .args .k), ← (c .before .before .before .before .before .before .before .before .has-above .ensures), c .before .before .before .before .before .before .before .if1 .left, ← (c .before .before .before .before .before .before .is-nested .ensures), c .before .before .before .before .before .if2 .left, ← (c .before .before .before .widen .ensures .0), c .if3 .taken), λ z. absurd (false≢true (sym z)))
-
-crowd-requires : tie.Need-crowd-requires
-crowd-requires c κs = search needs
-
-same-length-2 : tie.Need-same-length-2
-same-length-2 c = search needs
-
-same-length-3 : tie.Need-same-length-3
-same-length-3 c = search needs
 
 returns-4 : tie.Need-returns-4
 returns-4 c =
@@ -65,14 +41,14 @@ pub limit-at-spec : {M : Type 1} → statement M
 limit-at-spec =
     tie.close
     (tie.spec
-    has-above-requires
+    (λ c κs. search needs)
     returns
     is-nested-requires
     returns-2
-    widen-requires
-    same-length
+    (λ c κs. search needs)
+    (λ c. search needs)
     returns-3
-    crowd-requires
-    same-length-2
-    same-length-3
+    (λ c κs. search needs)
+    (λ c. search needs)
+    (λ c. search needs)
     returns-4)

@@ -1,7 +1,7 @@
 use Rattle.reader.proofs.CountLaws.{table-parent, table-place, wide-count, declared-on, declared-same}
 use Rattle.reader.specs.Links.{places}
 use Rattle.syntax.specs.Repeats.{declared}
-use Rattle.syntax.specs.Nodes.{kindAt, parent}
+use Rattle.syntax.specs.Nodes.{kindAt}
 use borrow.Author.Tests.{eq-eqb, ne-eqb, lt-ltb, le-ltb}
 use lib.ListN.{length, getD}
 use native.Mathlib.Omega.{arith}
@@ -11,30 +11,6 @@ use mathlib.Core.Path.{_≡_, sym, _∙_}
 use borrow.Author.Needs.{needs}
 use Rattle.reader.proofs.limits.widen.Statement.{statement}
 use Rattle.reader.proofs.limits.widen.Tie as tie
-use Rattle.reader.proofs.limits.widen.Reads as reads
-use Rattle.reader.proofs.limits.widen.Lts as lts
-use Rattle.reader.proofs.nodes.kind_at.Reads as kind-at-reads
-use Rattle.reader.proofs.repeats.declared_at.Reads as declared-at-reads
-use Rattle.words.proofs.store.Reads as store-reads
-use Rattle.words.proofs.word.Reads as word-reads
-
-kind-at-requires : tie.Need-kind-at-requires
-kind-at-requires c κs = search needs
-
-word-requires : tie.Need-word-requires
-word-requires c κs = search needs
-
-declared-at-requires : tie.Need-declared-at-requires
-declared-at-requires c κs = search needs
-
-word-requires-2 : tie.Need-word-requires-2
-word-requires-2 c κs = search needs
-
-add-n : tie.Need-add-n
-add-n c = search needs
-
-same-length : tie.Need-same-length
-same-length c = search needs
 
 returns : tie.Need-returns
 returns c =
@@ -47,15 +23,6 @@ returns c =
     let t = c .before .before .before .before .word in
     let w = wide-count d k (s .pre .1) (s .args .declared .now) (s .pre .3) q (t .result) (table-parent d _ p k (t .result) h (t .ensures .0)) (table-place d _ p k (t .result) h (t .ensures .0)) in
     (rw (eq-eqb (kindAt d k) 11 q, ← w, ← (c .before .word2 .ensures .0), ← (c .before .before .before .declared-at .ensures), lt-ltb _ _ (c .if2 .taken)), λ z. absurd (false≢true (sym z)))
-
-cast-store : tie.Need-cast-store
-cast-store c = search needs
-
-store-requires : tie.Need-store-requires
-store-requires c κs = search needs
-
-same-length-2 : tie.Need-same-length-2
-same-length-2 c = search needs
 
 returns-2 : tie.Need-returns-2
 returns-2 c =
@@ -84,15 +51,15 @@ pub widen-spec : {M : Type 1} → statement M
 widen-spec =
     tie.close
     (tie.spec
-    kind-at-requires
-    word-requires
-    declared-at-requires
-    word-requires-2
-    add-n
-    same-length
+    (λ c κs. search needs)
+    (λ c κs. search needs)
+    (λ c κs. search needs)
+    (λ c κs. search needs)
+    (λ c. search needs)
+    (λ c. search needs)
     returns
-    cast-store
-    store-requires
-    same-length-2
+    (λ c. search needs)
+    (λ c κs. search needs)
+    (λ c. search needs)
     returns-2
     returns-3)

@@ -8,10 +8,6 @@ use mathlib.Core.Path.{_≡_, sym, _∙_}
 use borrow.Author.Needs.{needs}
 use Rattle.reader.proofs.links.check_uses.Statement.{statement}
 use Rattle.reader.proofs.links.check_uses.Tie as tie
-use Rattle.reader.proofs.links.check_uses.Reads as reads
-use Rattle.reader.proofs.links.check_uses.Lts as lts
-use Rattle.reader.proofs.links.use_number.Reads as use-number-reads
-use Rattle.words.proofs.word.Reads as word-reads
 
 abbrev Inv-loop : tie.InvT-loop
 Inv-loop doc used n k₀ k = (1 ≤ k) × (k ≤ n + 1) × (lowest doc (useNumber doc) ≡ scan (useNumber doc) k (n + 1 - k))
@@ -19,26 +15,11 @@ Inv-loop doc used n k₀ k = (1 ≤ k) × (k ≤ n + 1) × (lowest doc (useNumbe
 abbrev μ-loop : tie.MeasureT-loop
 μ-loop doc used n k₀ k = n + 1 - k
 
-word-requires : tie.Need-word-requires Inv-loop μ-loop
-word-requires c κs = search needs
-
 loop-holds : tie.Need-loop-holds Inv-loop μ-loop
 loop-holds c = (omega arith, omega arith, rw (add-sub-cancel, c .word .ensures .0))
 
-add-loop : tie.Need-add-loop Inv-loop μ-loop
-add-loop c = search needs
-
-use-number-requires : tie.Need-use-number-requires Inv-loop μ-loop
-use-number-requires c κs = search needs
-
-cast-t8 : tie.Need-cast-t8 Inv-loop μ-loop
-cast-t8 c = search needs
-
 returns : tie.Need-returns Inv-loop μ-loop
 returns c = rw (c .before .use-number .ensures) (scan-hit _ _ _ (omega arith) (omega arith) ∙ sym (c .before .before .before .loop .inv .2))
-
-add-k : tie.Need-add-k Inv-loop μ-loop
-add-k c = search needs
 
 loop-less : tie.Need-loop-less Inv-loop μ-loop
 loop-less c = omega arith
@@ -55,13 +36,13 @@ check-uses-spec =
     (tie.spec
     Inv-loop
     μ-loop
-    word-requires
+    (λ c κs. search needs)
     loop-holds
-    add-loop
-    use-number-requires
-    cast-t8
+    (λ c. search needs)
+    (λ c κs. search needs)
+    (λ c. search needs)
     returns
-    add-k
+    (λ c. search needs)
     loop-less
     loop-again
     returns-2)

@@ -9,10 +9,6 @@ use mathlib.Core.Path.{_≡_, refl, sym, _∙_}
 use borrow.Author.Needs.{needs}
 use Rattle.reader.proofs.links.link_node.Statement.{statement}
 use Rattle.reader.proofs.links.link_node.Tie as tie
-use Rattle.reader.proofs.links.link_node.Reads as reads
-use Rattle.reader.proofs.links.link_node.Lts as lts
-use Rattle.reader.proofs.kinds.operand_count.Reads as operand-count-reads
-use Rattle.reader.proofs.links.link_at.Reads as link-at-reads
 
 abbrev Inv-loop : tie.InvT-loop
 Inv-loop w k used₀ up₀ n i₀ used up i =
@@ -22,20 +18,8 @@ Inv-loop w k used₀ up₀ n i₀ used up i =
 abbrev μ-loop : tie.MeasureT-loop
 μ-loop w k used₀ up₀ n i₀ used up i = n + 1 - i
 
-operand-count-requires : tie.Need-operand-count-requires Inv-loop μ-loop
-operand-count-requires c κs = search needs
-
 loop-holds : tie.Need-loop-holds Inv-loop μ-loop
 loop-holds c = (omega arith, omega arith, refl, refl, rw (add-sub-cancel, c .operand-count .ensures), rw (add-sub-cancel, c .operand-count .ensures))
-
-add-loop : tie.Need-add-loop Inv-loop μ-loop
-add-loop c = search needs
-
-link-at-requires : tie.Need-link-at-requires Inv-loop μ-loop
-link-at-requires c κs = search needs
-
-add-i : tie.Need-add-i Inv-loop μ-loop
-add-i c = search needs
 
 loop-less : tie.Need-loop-less Inv-loop μ-loop
 loop-less c = omega arith
@@ -46,12 +30,6 @@ loop-again c =
     let t = c .before .before .before .before .link-at in
     (omega arith, omega arith, t .kept .1 .1 .1 .0 ∙ l .inv .2, t .kept .1 .1 .1 .1 .0 ∙ l .inv .3, l .inv .4 ∙ run-go _ _ _ _ (omega arith) ∙ rw (← (t .ensures .0)), l .inv .5 ∙ run-go _ _ _ _ (omega arith) ∙ rw (← (t .ensures .1)))
 
-same-length : tie.Need-same-length Inv-loop μ-loop
-same-length c = search needs
-
-same-length-2 : tie.Need-same-length-2 Inv-loop μ-loop
-same-length-2 c = search needs
-
 returns : tie.Need-returns Inv-loop μ-loop
 returns c = (sym (c .before .loop .inv .4 ∙ run-end _ _ _ _ (omega arith)), sym (c .before .loop .inv .5 ∙ run-end _ _ _ _ (omega arith)))
 
@@ -61,13 +39,13 @@ link-node-spec =
     (tie.spec
     Inv-loop
     μ-loop
-    operand-count-requires
+    (λ c κs. search needs)
     loop-holds
-    add-loop
-    link-at-requires
-    add-i
+    (λ c. search needs)
+    (λ c κs. search needs)
+    (λ c. search needs)
     loop-less
     loop-again
-    same-length
-    same-length-2
+    (λ c. search needs)
+    (λ c. search needs)
     returns)

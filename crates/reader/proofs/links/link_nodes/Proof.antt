@@ -9,11 +9,6 @@ use mathlib.Core.Path.{_≡_, refl, sym, _∙_}
 use borrow.Author.Needs.{needs}
 use Rattle.reader.proofs.links.link_nodes.Statement.{statement}
 use Rattle.reader.proofs.links.link_nodes.Tie as tie
-use Rattle.reader.proofs.links.link_nodes.Reads as reads
-use Rattle.reader.proofs.links.link_nodes.Lts as lts
-use Rattle.layout.proofs.part.Reads as part-reads
-use Rattle.reader.proofs.links.link_node.Reads as link-node-reads
-use Rattle.words.proofs.word.Reads as word-reads
 
 abbrev Inv-loop : tie.InvT-loop
 Inv-loop doc used₀ up₀ n k₀ used up k =
@@ -23,23 +18,8 @@ Inv-loop doc used₀ up₀ n k₀ used up k =
 abbrev μ-loop : tie.MeasureT-loop
 μ-loop doc used₀ up₀ n k₀ used up k = n + 1 - k
 
-word-requires : tie.Need-word-requires Inv-loop μ-loop
-word-requires c κs = search needs
-
 loop-holds : tie.Need-loop-holds Inv-loop μ-loop
 loop-holds c = (omega arith, omega arith, refl, refl, rw (add-sub-cancel, c .word .ensures .0), rw (add-sub-cancel, c .word .ensures .0))
-
-add-loop : tie.Need-add-loop Inv-loop μ-loop
-add-loop c = search needs
-
-part-requires : tie.Need-part-requires Inv-loop μ-loop
-part-requires c κs = search needs
-
-link-node-requires : tie.Need-link-node-requires Inv-loop μ-loop
-link-node-requires c κs = search needs
-
-add-k : tie.Need-add-k Inv-loop μ-loop
-add-k c = search needs
 
 loop-less : tie.Need-loop-less Inv-loop μ-loop
 loop-less c = omega arith
@@ -66,12 +46,12 @@ link-nodes-spec =
     (tie.spec
     Inv-loop
     μ-loop
-    word-requires
+    (λ c κs. search needs)
     loop-holds
-    add-loop
-    part-requires
-    link-node-requires
-    add-k
+    (λ c. search needs)
+    (λ c κs. search needs)
+    (λ c κs. search needs)
+    (λ c. search needs)
     loop-less
     loop-again
     same-length

@@ -4,19 +4,6 @@ use Rattle.words.proofs.Loops.{tests}
 use borrow.Author.Needs.{needs}
 use Rattle.reader.proofs.links.use_number.Statement.{statement}
 use Rattle.reader.proofs.links.use_number.Tie as tie
-use Rattle.reader.proofs.links.use_number.Reads as reads
-use Rattle.reader.proofs.links.use_number.Lts as lts
-use Rattle.reader.proofs.nodes.kind_at.Reads as kind-at-reads
-use Rattle.words.proofs.word.Reads as word-reads
-
-word-requires : tie.Need-word-requires
-word-requires c κs = search needs
-
-word-requires-2 : tie.Need-word-requires-2
-word-requires-2 c κs = search needs
-
-kind-at-requires : tie.Need-kind-at-requires
-kind-at-requires c κs = search needs
 
 returns : tie.Need-returns
 unfolding useNumber
@@ -50,9 +37,9 @@ pub use-number-spec : {M : Type 1} → statement M
 use-number-spec =
     tie.close
     (tie.spec
-    word-requires
-    word-requires-2
-    kind-at-requires
+    (λ c κs. search needs)
+    (λ c κs. search needs)
+    (λ c κs. search needs)
     returns
     returns-2
     returns-3

@@ -8,11 +8,6 @@ use mathlib.Core.Path.{_≡_, sym, _∙_}
 use borrow.Author.Needs.{needs}
 use Rattle.reader.proofs.nodes.check_nodes.Statement.{statement}
 use Rattle.reader.proofs.nodes.check_nodes.Tie as tie
-use Rattle.reader.proofs.nodes.check_nodes.Reads as reads
-use Rattle.reader.proofs.nodes.check_nodes.Lts as lts
-use Rattle.layout.proofs.part.Reads as part-reads
-use Rattle.reader.proofs.nodes.number_of.Reads as number-of-reads
-use Rattle.words.proofs.word.Reads as word-reads
 
 abbrev Inv-loop : tie.InvT-loop
 Inv-loop doc n k₀ k = (1 ≤ k) × (k ≤ n + 1) × (lowest doc (nodeNumber doc) ≡ scan (nodeNumber doc) k (n + 1 - k))
@@ -20,31 +15,13 @@ Inv-loop doc n k₀ k = (1 ≤ k) × (k ≤ n + 1) × (lowest doc (nodeNumber do
 abbrev μ-loop : tie.MeasureT-loop
 μ-loop doc n k₀ k = n + 1 - k
 
-word-requires : tie.Need-word-requires Inv-loop μ-loop
-word-requires c κs = search needs
-
 loop-holds : tie.Need-loop-holds Inv-loop μ-loop
 loop-holds c = (omega arith, omega arith, rw (add-sub-cancel, c .word .ensures .0))
-
-add-loop : tie.Need-add-loop Inv-loop μ-loop
-add-loop c = search needs
-
-part-requires : tie.Need-part-requires Inv-loop μ-loop
-part-requires c κs = search needs
-
-number-of-requires : tie.Need-number-of-requires Inv-loop μ-loop
-number-of-requires c κs = search needs
-
-cast-t8 : tie.Need-cast-t8 Inv-loop μ-loop
-cast-t8 c = search needs
 
 returns : tie.Need-returns Inv-loop μ-loop
 returns c =
     let e : c .before .number-of .result ≡ nodeNumber (c .before .before .before .before .before .before .before .args .doc .now) (c .before .before .before .before .loop .k) = cc in
     rw e (scan-hit _ _ _ (omega arith) (omega arith) ∙ sym (c .before .before .before .before .loop .inv .2))
-
-add-k : tie.Need-add-k Inv-loop μ-loop
-add-k c = search needs
 
 loop-less : tie.Need-loop-less Inv-loop μ-loop
 loop-less c = omega arith
@@ -63,14 +40,14 @@ check-nodes-spec =
     (tie.spec
     Inv-loop
     μ-loop
-    word-requires
+    (λ c κs. search needs)
     loop-holds
-    add-loop
-    part-requires
-    number-of-requires
-    cast-t8
+    (λ c. search needs)
+    (λ c κs. search needs)
+    (λ c κs. search needs)
+    (λ c. search needs)
     returns
-    add-k
+    (λ c. search needs)
     loop-less
     loop-again
     returns-2)

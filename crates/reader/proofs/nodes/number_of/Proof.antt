@@ -2,28 +2,6 @@ use borrow.Author.Tests.{lt-ltb, le-ltb}
 use borrow.Author.Needs.{needs}
 use Rattle.reader.proofs.nodes.number_of.Statement.{statement}
 use Rattle.reader.proofs.nodes.number_of.Tie as tie
-use Rattle.reader.proofs.nodes.number_of.Reads as reads
-use Rattle.reader.proofs.nodes.number_of.Lts as lts
-use Rattle.reader.proofs.kinds.column.Reads as column-reads
-use Rattle.reader.proofs.kinds.count_ok.Reads as count-ok-reads
-use Rattle.reader.proofs.nodes.lower_nodes.Reads as lower-nodes-reads
-use Rattle.reader.proofs.nodes.plain_words.Reads as plain-words-reads
-use Rattle.words.proofs.word.Reads as word-reads
-
-word-requires : tie.Need-word-requires
-word-requires c κs = search needs
-
-column-requires : tie.Need-column-requires
-column-requires c κs = search needs
-
-count-ok-requires : tie.Need-count-ok-requires
-count-ok-requires c κs = search needs
-
-plain-words-requires : tie.Need-plain-words-requires
-plain-words-requires c κs = search needs
-
-lower-nodes-requires : tie.Need-lower-nodes-requires
-lower-nodes-requires c κs = search needs
 
 returns : tie.Need-returns
 returns c =
@@ -52,11 +30,11 @@ pub number-of-spec : {M : Type 1} → statement M
 number-of-spec =
     tie.close
     (tie.spec
-    word-requires
-    column-requires
-    count-ok-requires
-    plain-words-requires
-    lower-nodes-requires
+    (λ c κs. search needs)
+    (λ c κs. search needs)
+    (λ c κs. search needs)
+    (λ c κs. search needs)
+    (λ c κs. search needs)
     returns
     returns-2
     returns-3

@@ -8,10 +8,6 @@ use mathlib.Core.Path.{_≡_, sym, _∙_}
 use borrow.Author.Needs.{needs}
 use Rattle.reader.proofs.nodes.plain_words.Statement.{statement}
 use Rattle.reader.proofs.nodes.plain_words.Tie as tie
-use Rattle.reader.proofs.nodes.plain_words.Reads as reads
-use Rattle.reader.proofs.nodes.plain_words.Lts as lts
-use Rattle.reader.proofs.kinds.operand_count.Reads as operand-count-reads
-use Rattle.reader.proofs.nodes.plain_at.Reads as plain-at-reads
 
 abbrev Inv-loop : tie.InvT-loop
 Inv-loop w n i₀ i = (i ≤ n + 1) × (plainWords w ≡ every (plainAt w) i (n + 1 - i))
@@ -19,20 +15,8 @@ Inv-loop w n i₀ i = (i ≤ n + 1) × (plainWords w ≡ every (plainAt w) i (n 
 abbrev μ-loop : tie.MeasureT-loop
 μ-loop w n i₀ i = n + 1 - i
 
-operand-count-requires : tie.Need-operand-count-requires Inv-loop μ-loop
-operand-count-requires c κs = search needs
-
 loop-holds : tie.Need-loop-holds Inv-loop μ-loop
 loop-holds c = (omega arith, rw (add-sub-cancel, c .operand-count .ensures))
-
-add-loop : tie.Need-add-loop Inv-loop μ-loop
-add-loop c = search needs
-
-plain-at-requires : tie.Need-plain-at-requires Inv-loop μ-loop
-plain-at-requires c κs = search needs
-
-add-i : tie.Need-add-i Inv-loop μ-loop
-add-i c = search needs
 
 loop-less : tie.Need-loop-less Inv-loop μ-loop
 loop-less c = omega arith
@@ -52,11 +36,11 @@ plain-words-spec =
     (tie.spec
     Inv-loop
     μ-loop
-    operand-count-requires
+    (λ c κs. search needs)
     loop-holds
-    add-loop
-    plain-at-requires
-    add-i
+    (λ c. search needs)
+    (λ c κs. search needs)
+    (λ c. search needs)
     loop-less
     loop-again
     returns

@@ -10,11 +10,6 @@ use mathlib.Core.Path.{_≡_, refl, sym, _∙_}
 use borrow.Author.Needs.{needs}
 use Rattle.reader.proofs.repeats.are_distinct.Statement.{statement}
 use Rattle.reader.proofs.repeats.are_distinct.Tie as tie
-use Rattle.reader.proofs.repeats.are_distinct.Reads as reads
-use Rattle.reader.proofs.repeats.are_distinct.Lts as lts
-use Rattle.reader.proofs.repeats.stands.Reads as stands-reads
-use Rattle.words.proofs.span.Reads as span-reads
-use Rattle.words.proofs.word.Reads as word-reads
 
 abbrev Inv-loop : tie.InvT-loop
 Inv-loop xs n i₀ i = (i ≤ n) × (distinct xs ≡ distinct (drop i xs))
@@ -25,18 +20,6 @@ abbrev μ-loop : tie.MeasureT-loop
 loop-holds : tie.Need-loop-holds Inv-loop μ-loop
 loop-holds c = (omega arith, refl)
 
-word-requires : tie.Need-word-requires Inv-loop μ-loop
-word-requires c κs = search needs
-
-add-span : tie.Need-add-span Inv-loop μ-loop
-add-span c = search needs
-
-span-requires : tie.Need-span-requires Inv-loop μ-loop
-span-requires c κs = search needs
-
-stands-requires : tie.Need-stands-requires Inv-loop μ-loop
-stands-requires c κs = search needs
-
 returns : tie.Need-returns Inv-loop μ-loop
 returns c =
     let x = c .before .before .before .before .before .before .before .args .xs .now in
@@ -44,9 +27,6 @@ returns c =
     let s = c .before .before .span .ensures ∙ take-rest x (i + 1) in
     let e : has (getD x i 0) (drop (i + 1) x) ≡ true = rw (s, c .before .before .before .word .ensures .0) at (sym (c .before .stands .ensures) ∙ c .if1 .taken) in
     distinct-off x i (omega arith) e ∙ sym (c .before .before .before .before .before .loop .inv .1)
-
-add-i : tie.Need-add-i Inv-loop μ-loop
-add-i c = search needs
 
 loop-less : tie.Need-loop-less Inv-loop μ-loop
 loop-less c = omega arith
@@ -69,12 +49,12 @@ are-distinct-spec =
     Inv-loop
     μ-loop
     loop-holds
-    word-requires
-    add-span
-    span-requires
-    stands-requires
+    (λ c κs. search needs)
+    (λ c. search needs)
+    (λ c κs. search needs)
+    (λ c κs. search needs)
     returns
-    add-i
+    (λ c. search needs)
     loop-less
     loop-again
     returns-2)

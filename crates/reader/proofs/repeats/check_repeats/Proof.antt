@@ -11,10 +11,6 @@ use mathlib.Core.Path.{_≡_, sym, _∙_}
 use borrow.Author.Needs.{needs}
 use Rattle.reader.proofs.repeats.check_repeats.Statement.{statement}
 use Rattle.reader.proofs.repeats.check_repeats.Tie as tie
-use Rattle.reader.proofs.repeats.check_repeats.Reads as reads
-use Rattle.reader.proofs.repeats.check_repeats.Lts as lts
-use Rattle.reader.proofs.repeats.repeat_number.Reads as repeat-number-reads
-use Rattle.words.proofs.word.Reads as word-reads
 
 abbrev Inv-loop : tie.InvT-loop
 Inv-loop doc up seen₀ names₀ n k₀ seen names k = (1 ≤ k) × (k ≤ n + 1) × (lowest doc (repeatNumber doc) ≡ scan (repeatNumber doc) k (n + 1 - k)) × Written doc k seen names
@@ -22,14 +18,8 @@ Inv-loop doc up seen₀ names₀ n k₀ seen names k = (1 ≤ k) × (k ≤ n + 1
 abbrev μ-loop : tie.MeasureT-loop
 μ-loop doc up seen₀ names₀ n k₀ seen names k = n + 1 - k
 
-word-requires : tie.Need-word-requires Inv-loop μ-loop
-word-requires c κs = search needs
-
 loop-holds : tie.Need-loop-holds Inv-loop μ-loop
 loop-holds c = (omega arith, omega arith, rw (add-sub-cancel, c .word .ensures .0), written-none _)
-
-add-loop : tie.Need-add-loop Inv-loop μ-loop
-add-loop c = search needs
 
 slice-aggregate-repeat-number : tie.Need-slice-aggregate-repeat-number Inv-loop μ-loop
 slice-aggregate-repeat-number c = sym (c .before .before .loop .inv .3 .globals .size)
@@ -40,14 +30,8 @@ slice-aggregate-repeat-number-2 c = sym (c .before .before .before .loop .inv .3
 repeat-number-requires : tie.Need-repeat-number-requires Inv-loop μ-loop
 repeat-number-requires c κs = ((c .before .before .before .before .before .before .before .pre, omega arith, omega (arith, c .before .before .before .before .word .ensures .0)), c .before .before .before .loop .inv .3)
 
-cast-t14 : tie.Need-cast-t14 Inv-loop μ-loop
-cast-t14 c = search needs
-
 returns : tie.Need-returns Inv-loop μ-loop
 returns c = rw (c .before .before .before .repeat-number .ensures .0) (scan-hit _ _ _ (omega arith) (omega (arith, c .before .before .before .repeat-number .ensures .0)) ∙ sym (c .before .before .before .before .before .before .before .loop .inv .2))
-
-add-k : tie.Need-add-k Inv-loop μ-loop
-add-k c = search needs
 
 loop-less : tie.Need-loop-less Inv-loop μ-loop
 loop-less c = omega arith
@@ -66,15 +50,15 @@ check-repeats-spec =
     (tie.spec
     Inv-loop
     μ-loop
-    word-requires
+    (λ c κs. search needs)
     loop-holds
-    add-loop
+    (λ c. search needs)
     slice-aggregate-repeat-number
     slice-aggregate-repeat-number-2
     repeat-number-requires
-    cast-t14
+    (λ c. search needs)
     returns
-    add-k
+    (λ c. search needs)
     loop-less
     loop-again
     returns-2)

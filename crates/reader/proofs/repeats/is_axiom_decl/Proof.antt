@@ -7,22 +7,6 @@ use mathlib.Core.Path.{_≡_, _∙_}
 use borrow.Author.Needs.{needs}
 use Rattle.reader.proofs.repeats.is_axiom_decl.Statement.{statement}
 use Rattle.reader.proofs.repeats.is_axiom_decl.Tie as tie
-use Rattle.reader.proofs.repeats.is_axiom_decl.Reads as reads
-use Rattle.reader.proofs.repeats.is_axiom_decl.Lts as lts
-use Rattle.reader.proofs.nodes.kind_at.Reads as kind-at-reads
-use Rattle.words.proofs.word.Reads as word-reads
-
-kind-at-requires : tie.Need-kind-at-requires
-kind-at-requires c κs = search needs
-
-word-requires : tie.Need-word-requires
-word-requires c κs = search needs
-
-word-requires-2 : tie.Need-word-requires-2
-word-requires-2 c κs = search needs
-
-kind-at-requires-2 : tie.Need-kind-at-requires-2
-kind-at-requires-2 c κs = search needs
 
 returns : tie.Need-returns
 unfolding isAxiomDecl
@@ -41,4 +25,4 @@ returns-2 c = rw (← (c .before .kind-at .ensures .0), ne-eqb _ 11 (c .if1 .lef
 pub is-axiom-decl-spec : {M : Type 1} → statement M
 is-axiom-decl-spec =
     tie.close
-    (tie.spec kind-at-requires word-requires word-requires-2 kind-at-requires-2 returns returns-2)
+    (tie.spec (λ c κs. search needs) (λ c κs. search needs) (λ c κs. search needs) (λ c κs. search needs) returns returns-2)

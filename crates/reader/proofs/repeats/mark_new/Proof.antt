@@ -3,16 +3,12 @@ use Rattle.reader.specs.Marks.{unmarked, marked}
 use lib.Dec.{eqb}
 use lib.ListN.{length, getD, set, drop}
 use native.Mathlib.Omega.{arith}
-use Prim.Native.Nat.{ℕ, _≤_, _-_}
+use Prim.Native.Nat.{_≤_, _-_}
 use mathlib.Core.Bool.{true, false, false≢true}
-use mathlib.Core.Path.{_≡_, refl, sym, ap, _∙_}
+use mathlib.Core.Path.{_≡_, refl, sym, _∙_}
 use borrow.Author.Needs.{needs}
 use Rattle.reader.proofs.repeats.mark_new.Statement.{statement}
 use Rattle.reader.proofs.repeats.mark_new.Tie as tie
-use Rattle.reader.proofs.repeats.mark_new.Reads as reads
-use Rattle.reader.proofs.repeats.mark_new.Lts as lts
-use Rattle.reader.proofs.repeats.mark_one.Reads as mark-one-reads
-use Rattle.words.proofs.word.Reads as word-reads
 
 abbrev Inv-loop : tie.InvT-loop
 Inv-loop ids seen₀ n i₀ seen i =
@@ -23,15 +19,6 @@ abbrev μ-loop : tie.MeasureT-loop
 
 loop-holds : tie.Need-loop-holds Inv-loop μ-loop
 loop-holds c = (omega arith, refl, refl, refl)
-
-word-requires : tie.Need-word-requires Inv-loop μ-loop
-word-requires c κs = search needs
-
-mark-one-requires : tie.Need-mark-one-requires Inv-loop μ-loop
-mark-one-requires c κs = search needs
-
-add-i : tie.Need-add-i Inv-loop μ-loop
-add-i c = search needs
 
 loop-less : tie.Need-loop-less Inv-loop μ-loop
 loop-less c = omega arith
@@ -73,9 +60,9 @@ mark-new-spec =
     Inv-loop
     μ-loop
     loop-holds
-    word-requires
-    mark-one-requires
-    add-i
+    (λ c κs. search needs)
+    (λ c κs. search needs)
+    (λ c. search needs)
     loop-less
     loop-again
     same-length

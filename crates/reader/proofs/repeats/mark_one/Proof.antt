@@ -1,24 +1,10 @@
 use borrow.Author.Tests.{eq-eqb}
 use lib.ListN.{List·getD-eq-default}
 use lib.Seq.{set-out}
-use mathlib.Core.Path.{sym, _∙_}
+use mathlib.Core.Path.{sym}
 use borrow.Author.Needs.{needs}
 use Rattle.reader.proofs.repeats.mark_one.Statement.{statement}
 use Rattle.reader.proofs.repeats.mark_one.Tie as tie
-use Rattle.reader.proofs.repeats.mark_one.Reads as reads
-use Rattle.reader.proofs.repeats.mark_one.Lts as lts
-
-slice-read-old : tie.Need-slice-read-old
-slice-read-old c = search needs
-
-slice-write-seen : tie.Need-slice-write-seen
-slice-write-seen c = search needs
-
-same-length : tie.Need-same-length
-same-length c = search needs
-
-returns : tie.Need-returns
-returns c = search needs
 
 returns-2 : tie.Need-returns-2
 returns-2 c =
@@ -26,4 +12,4 @@ returns-2 c =
     (sym (eq-eqb _ 0 (List·getD-eq-default (a .seen .now) 0 (c .if1 .left))), sym (set-out _ _ _ (c .if1 .left)))
 
 pub mark-one-spec : {M : Type 1} → statement M
-mark-one-spec = tie.close (tie.spec slice-read-old slice-write-seen same-length returns returns-2)
+mark-one-spec = tie.close (tie.spec (λ c. search needs) (λ c. search needs) (λ c. search needs) (λ c. search needs) returns-2)

@@ -1,32 +1,11 @@
 use Rattle.reader.proofs.WritingLaws.{repeat-eq, written-on}
-use Rattle.reader.specs.Marks.{Written, unmarked, marked, distinct}
+use Rattle.reader.specs.Marks.{unmarked, marked, distinct}
 use Rattle.syntax.specs.Repeats.{globals, schemas, parameters}
 use native.Mathlib.Omega.{arith}
-use mathlib.Core.Bool.{true, false}
-use mathlib.Core.Path.{_≡_, sym, _∙_}
+use mathlib.Core.Path.{_≡_}
 use borrow.Author.Needs.{needs}
 use Rattle.reader.proofs.repeats.repeat_number.Statement.{statement}
 use Rattle.reader.proofs.repeats.repeat_number.Tie as tie
-use Rattle.reader.proofs.repeats.repeat_number.Reads as reads
-use Rattle.reader.proofs.repeats.repeat_number.Lts as lts
-use Rattle.reader.proofs.repeats.are_distinct.Reads as are-distinct-reads
-use Rattle.reader.proofs.repeats.globals_at.Reads as globals-at-reads
-use Rattle.reader.proofs.repeats.mark_new.Reads as mark-new-reads
-use Rattle.reader.proofs.repeats.parameters_at.Reads as parameters-at-reads
-use Rattle.reader.proofs.repeats.repeats_in_text.Reads as repeats-in-text-reads
-use Rattle.reader.proofs.repeats.schemas_at.Reads as schemas-at-reads
-
-globals-at-requires : tie.Need-globals-at-requires
-globals-at-requires c κs = search needs
-
-mark-new-requires : tie.Need-mark-new-requires
-mark-new-requires c κs = search needs
-
-repeats-in-text-requires : tie.Need-repeats-in-text-requires
-repeats-in-text-requires c κs = search needs
-
-same-length : tie.Need-same-length
-same-length c = search needs
 
 returns : tie.Need-returns
 returns c =
@@ -35,24 +14,6 @@ returns c =
     let e = repeat-eq (a .doc .now) (a .up .now) (s .pre .0 .0) (a .k) (s .pre .0 .1) (s .pre .0 .2) (a .seen .now) (a .names .now) (s .pre .1) in
     let g : c .before .before .before .before .before .mark-new .result ≡ unmarked (globals (a .doc .now) (a .k)) (a .seen .now) = rw (c .before .before .before .before .before .before .before .globals-at .ensures) at (c .before .before .before .before .before .mark-new .ensures .0) in
     (rw (e, ← g, c .before .before .if1 .taken, ← (c .before .repeats-in-text .ensures), c .if2 .taken), λ z. absurd (omega (arith, z)))
-
-parameters-at-requires : tie.Need-parameters-at-requires
-parameters-at-requires c κs = search needs
-
-are-distinct-requires : tie.Need-are-distinct-requires
-are-distinct-requires c κs = search needs
-
-schemas-at-requires : tie.Need-schemas-at-requires
-schemas-at-requires c κs = search needs
-
-mark-new-requires-2 : tie.Need-mark-new-requires-2
-mark-new-requires-2 c κs = search needs
-
-same-length-2 : tie.Need-same-length-2
-same-length-2 c = search needs
-
-same-length-3 : tie.Need-same-length-3
-same-length-3 c = search needs
 
 returns-2 : tie.Need-returns-2
 returns-2 c =
@@ -69,12 +30,6 @@ returns-2 c =
     let n : c .before .before .before .mark-new2 .last .1 .0 ≡ marked (schemas d (a .k)) (a .names .now) = rw (c .before .before .before .before .before .schemas-at .ensures) at (c .before .before .before .mark-new2 .ensures .1 (c .if4 .taken)) in
     (rw (e, ← g, b .before .if1 .taken, ← (b .repeats-in-text .ensures), c .before .before .before .before .before .before .before .before .before .if2 .left, ← x, c .before .before .before .before .before .before .if3 .taken, ← m, c .if4 .taken), λ z. rw (h, n) o)
 
-same-length-4 : tie.Need-same-length-4
-same-length-4 c = search needs
-
-same-length-5 : tie.Need-same-length-5
-same-length-5 c = search needs
-
 returns-3 : tie.Need-returns-3
 returns-3 c =
     let s = c .before .before .before .before .before .before .before .before .before .before .before .before .before .before .before .before .before .before .before .before .before in
@@ -87,9 +42,6 @@ returns-3 c =
     let m : c .before .before .before .mark-new2 .result ≡ unmarked (schemas d (a .k)) (a .names .now) = rw (c .before .before .before .before .before .schemas-at .ensures) at (c .before .before .before .mark-new2 .ensures .0) in
     (rw (e, ← g, b .before .if1 .taken, ← (b .repeats-in-text .ensures), c .before .before .before .before .before .before .before .before .before .if2 .left, ← x, c .before .before .before .before .before .before .if3 .taken, ← m, c .if4 .left), λ z. absurd (omega (arith, z)))
 
-same-length-6 : tie.Need-same-length-6
-same-length-6 c = search needs
-
 returns-4 : tie.Need-returns-4
 returns-4 c =
     let s = c .before .before .before .before .before .before .before .before .before .before .before .before .before .before .before in
@@ -100,9 +52,6 @@ returns-4 c =
     let g : b .before .before .before .before .mark-new .result ≡ unmarked (globals d (a .k)) (a .seen .now) = rw (b .before .before .before .before .before .before .globals-at .ensures) at (b .before .before .before .before .mark-new .ensures .0) in
     let x : c .before .are-distinct .result ≡ distinct (parameters d (a .k)) = rw (c .before .before .parameters-at .ensures) at (c .before .are-distinct .ensures) in
     (rw (e, ← g, b .before .if1 .taken, ← (b .repeats-in-text .ensures), c .before .before .before .if2 .left, ← x, c .if3 .left), λ z. absurd (omega (arith, z)))
-
-same-length-7 : tie.Need-same-length-7
-same-length-7 c = search needs
 
 returns-5 : tie.Need-returns-5
 returns-5 c =
@@ -116,22 +65,22 @@ pub repeat-number-spec : {M : Type 1} → statement M
 repeat-number-spec =
     tie.close
     (tie.spec
-    globals-at-requires
-    mark-new-requires
-    repeats-in-text-requires
-    same-length
+    (λ c κs. search needs)
+    (λ c κs. search needs)
+    (λ c κs. search needs)
+    (λ c. search needs)
     returns
-    parameters-at-requires
-    are-distinct-requires
-    schemas-at-requires
-    mark-new-requires-2
-    same-length-2
-    same-length-3
+    (λ c κs. search needs)
+    (λ c κs. search needs)
+    (λ c κs. search needs)
+    (λ c κs. search needs)
+    (λ c. search needs)
+    (λ c. search needs)
     returns-2
-    same-length-4
-    same-length-5
+    (λ c. search needs)
+    (λ c. search needs)
     returns-3
-    same-length-6
+    (λ c. search needs)
     returns-4
-    same-length-7
+    (λ c. search needs)
     returns-5)

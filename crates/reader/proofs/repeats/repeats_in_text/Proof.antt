@@ -8,32 +8,6 @@ use mathlib.Core.Path.{_≡_, sym, _∙_}
 use borrow.Author.Needs.{needs}
 use Rattle.reader.proofs.repeats.repeats_in_text.Statement.{statement}
 use Rattle.reader.proofs.repeats.repeats_in_text.Tie as tie
-use Rattle.reader.proofs.repeats.repeats_in_text.Reads as reads
-use Rattle.reader.proofs.repeats.repeats_in_text.Lts as lts
-use Rattle.layout.proofs.part.Reads as part-reads
-use Rattle.reader.proofs.nodes.kind_at.Reads as kind-at-reads
-use Rattle.reader.proofs.repeats.are_distinct.Reads as are-distinct-reads
-use Rattle.reader.proofs.repeats.declared_at.Reads as declared-at-reads
-use Rattle.reader.proofs.repeats.shared_before.Reads as shared-before-reads
-use Rattle.words.proofs.word.Reads as word-reads
-
-kind-at-requires : tie.Need-kind-at-requires
-kind-at-requires c κs = search needs
-
-declared-at-requires : tie.Need-declared-at-requires
-declared-at-requires c κs = search needs
-
-word-requires : tie.Need-word-requires
-word-requires c κs = search needs
-
-are-distinct-requires : tie.Need-are-distinct-requires
-are-distinct-requires c κs = search needs
-
-part-requires : tie.Need-part-requires
-part-requires c κs = search needs
-
-shared-before-requires : tie.Need-shared-before-requires
-shared-before-requires c κs = search needs
 
 returns : tie.Need-returns
 returns c =
@@ -67,12 +41,12 @@ pub repeats-in-text-spec : {M : Type 1} → statement M
 repeats-in-text-spec =
     tie.close
     (tie.spec
-    kind-at-requires
-    declared-at-requires
-    word-requires
-    are-distinct-requires
-    part-requires
-    shared-before-requires
+    (λ c κs. search needs)
+    (λ c κs. search needs)
+    (λ c κs. search needs)
+    (λ c κs. search needs)
+    (λ c κs. search needs)
+    (λ c κs. search needs)
     returns
     returns-2
     returns-3)

@@ -9,10 +9,6 @@ use mathlib.Core.Path.{_≡_, refl, sym, _∙_}
 use borrow.Author.Needs.{needs}
 use Rattle.reader.proofs.repeats.share.Statement.{statement}
 use Rattle.reader.proofs.repeats.share.Tie as tie
-use Rattle.reader.proofs.repeats.share.Reads as reads
-use Rattle.reader.proofs.repeats.share.Lts as lts
-use Rattle.reader.proofs.repeats.stands.Reads as stands-reads
-use Rattle.words.proofs.word.Reads as word-reads
 
 abbrev Inv-loop : tie.InvT-loop
 Inv-loop xs ys n i₀ i = (i ≤ n) × (shares xs ys ≡ shares xs (drop i ys))
@@ -23,21 +19,12 @@ abbrev μ-loop : tie.MeasureT-loop
 loop-holds : tie.Need-loop-holds Inv-loop μ-loop
 loop-holds c = (omega arith, refl)
 
-word-requires : tie.Need-word-requires Inv-loop μ-loop
-word-requires c κs = search needs
-
-stands-requires : tie.Need-stands-requires Inv-loop μ-loop
-stands-requires c κs = search needs
-
 returns : tie.Need-returns Inv-loop μ-loop
 returns c =
     let a = c .before .before .before .before .before .before .before .args in
     let i = c .before .before .before .before .loop .i in
     let e : has (getD (a .ys .now) i 0) (a .xs .now) ≡ true = rw (c .before .before .word .ensures .0) at (sym (c .before .stands .ensures) ∙ c .if1 .taken) in
     shares-on (a .ys .now) i (a .xs .now) (omega arith) e ∙ sym (c .before .before .before .before .loop .inv .1)
-
-add-i : tie.Need-add-i Inv-loop μ-loop
-add-i c = search needs
 
 loop-less : tie.Need-loop-less Inv-loop μ-loop
 loop-less c = omega arith
@@ -61,10 +48,10 @@ share-spec =
     Inv-loop
     μ-loop
     loop-holds
-    word-requires
-    stands-requires
+    (λ c κs. search needs)
+    (λ c κs. search needs)
     returns
-    add-i
+    (λ c. search needs)
     loop-less
     loop-again
     returns-2)

@@ -2,34 +2,12 @@ use borrow.Author.Tests.{lt-ltb, le-ltb, eq-eqb, ne-eqb}
 use borrow.Author.Needs.{needs}
 use Rattle.reader.proofs.repeats.shared_at.Statement.{statement}
 use Rattle.reader.proofs.repeats.shared_at.Tie as tie
-use Rattle.reader.proofs.repeats.shared_at.Reads as reads
-use Rattle.reader.proofs.repeats.shared_at.Lts as lts
-use Rattle.reader.proofs.kinds.sort_at.Reads as sort-at-reads
-use Rattle.reader.proofs.nodes.kind_at.Reads as kind-at-reads
-use Rattle.reader.proofs.repeats.declared_at.Reads as declared-at-reads
-use Rattle.reader.proofs.repeats.share.Reads as share-reads
-use Rattle.words.proofs.word.Reads as word-reads
-
-sort-at-requires : tie.Need-sort-at-requires
-sort-at-requires c κs = search needs
-
-word-requires : tie.Need-word-requires
-word-requires c κs = search needs
 
 returns : tie.Need-returns
 returns c = rw (← (c .before .before .sort-at .ensures), le-ltb _ _ (c .if1 .taken))
 
 returns-2 : tie.Need-returns-2
 returns-2 c = rw (← (c .before .before .before .sort-at .ensures), lt-ltb _ _ (c .before .if1 .left), ← (c .before .before .word .ensures .0), le-ltb _ _ (c .if2 .taken))
-
-kind-at-requires : tie.Need-kind-at-requires
-kind-at-requires c κs = search needs
-
-declared-at-requires : tie.Need-declared-at-requires
-declared-at-requires c κs = search needs
-
-share-requires : tie.Need-share-requires
-share-requires c κs = search needs
 
 returns-3 : tie.Need-returns-3
 returns-3 c =
@@ -43,12 +21,12 @@ pub shared-at-spec : {M : Type 1} → statement M
 shared-at-spec =
     tie.close
     (tie.spec
-    sort-at-requires
-    word-requires
+    (λ c κs. search needs)
+    (λ c κs. search needs)
     returns
     returns-2
-    kind-at-requires
-    declared-at-requires
-    share-requires
+    (λ c κs. search needs)
+    (λ c κs. search needs)
+    (λ c κs. search needs)
     returns-3
     returns-4)

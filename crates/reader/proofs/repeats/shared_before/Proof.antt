@@ -9,10 +9,6 @@ use mathlib.Core.Path.{_≡_, sym, _∙_}
 use borrow.Author.Needs.{needs}
 use Rattle.reader.proofs.repeats.shared_before.Statement.{statement}
 use Rattle.reader.proofs.repeats.shared_before.Tie as tie
-use Rattle.reader.proofs.repeats.shared_before.Reads as reads
-use Rattle.reader.proofs.repeats.shared_before.Lts as lts
-use Rattle.reader.proofs.kinds.operand_count.Reads as operand-count-reads
-use Rattle.reader.proofs.repeats.shared_at.Reads as shared-at-reads
 
 abbrev Inv-loop : tie.InvT-loop
 Inv-loop doc k ids w n i₀ i = (i ≤ n + 1) × (some (sharedAt doc k ids w) 1 (length w - 1) ≡ some (sharedAt doc k ids w) i (n + 1 - i))
@@ -20,23 +16,11 @@ Inv-loop doc k ids w n i₀ i = (i ≤ n + 1) × (some (sharedAt doc k ids w) 1 
 abbrev μ-loop : tie.MeasureT-loop
 μ-loop doc k ids w n i₀ i = n + 1 - i
 
-operand-count-requires : tie.Need-operand-count-requires Inv-loop μ-loop
-operand-count-requires c κs = search needs
-
 loop-holds : tie.Need-loop-holds Inv-loop μ-loop
 loop-holds c = (omega arith, rw (add-sub-cancel, c .operand-count .ensures))
 
-add-loop : tie.Need-add-loop Inv-loop μ-loop
-add-loop c = search needs
-
-shared-at-requires : tie.Need-shared-at-requires Inv-loop μ-loop
-shared-at-requires c κs = search needs
-
 returns : tie.Need-returns Inv-loop μ-loop
 returns c = some-on _ _ _ (omega arith) (sym (c .before .shared-at .ensures) ∙ c .if1 .taken) ∙ sym (c .before .before .before .loop .inv .1)
-
-add-i : tie.Need-add-i Inv-loop μ-loop
-add-i c = search needs
 
 loop-less : tie.Need-loop-less Inv-loop μ-loop
 loop-less c = omega arith
@@ -53,12 +37,12 @@ shared-before-spec =
     (tie.spec
     Inv-loop
     μ-loop
-    operand-count-requires
+    (λ c κs. search needs)
     loop-holds
-    add-loop
-    shared-at-requires
+    (λ c. search needs)
+    (λ c κs. search needs)
     returns
-    add-i
+    (λ c. search needs)
     loop-less
     loop-again
     returns-2)

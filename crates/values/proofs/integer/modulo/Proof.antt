@@ -26,8 +26,8 @@ not-negative c =
 returns : tie.Need-returns
 returns c = low-remainder _ _ (rw (toZ-ofZ w32 _ (c .before .fits .n)) at (c .if1 .taken))
 
-rem-r : tie.Need-rem-r
-rem-r c =
+rem-m : tie.Need-rem-m
+rem-m c =
     let s = c .before in
     rw (toZ-ofZ w32 _ (s .fits .a), toZ-ofZ w32 _ (s .fits .n)) (div-safe _ _ (s .fits .a) (s .fits .n) (at-least-one c))
 
@@ -49,4 +49,4 @@ returns-3 c =
     rw (toZ-ofZ w32 _ (s .fits .a), toZ-ofZ w32 _ (s .fits .n), toZ-ofZ w32 _ (rem-fits _ (s .args .n) (s .fits .a))) (remainder-same _ _ (at-least-one (c .before)) (not-negative c))
 
 pub modulo-spec : {M : Type 1} → statement M
-modulo-spec = tie.close (tie.spec returns rem-r add-t5 returns-2 returns-3)
+modulo-spec = tie.close (tie.spec returns rem-m add-t5 returns-2 returns-3)
