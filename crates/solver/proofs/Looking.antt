@@ -52,10 +52,10 @@ module _ (s d : List ℕ) (r id : ℕ) (root : linkAt s r ≡ 0) where
   abbrev w : List ℕ
   w = frozen s
 
-  self : (n : ℕ) (L : Pairs ℕ) → Held s n L → r < n → rep eqb L r ≡ r
+  pub self : (n : ℕ) (L : Pairs ℕ) → Held s n L → r < n → rep eqb L r ≡ r
   self n L H l = stop-rep s n L H r l root
 
-  former-type : (n : ℕ) (P₀ L : Pairs ℕ) (S : Solved s n P₀ L) → r < n → 0 < tagAt w r → (X : SolutionOf s d n P₀) → X .σ r ≡ node (formerAt w r) (fromList (map (X .σ) (partsAt w r)))
+  pub former-type : (n : ℕ) (P₀ L : Pairs ℕ) (S : Solved s n P₀ L) → r < n → 0 < tagAt w r → (X : SolutionOf s d n P₀) → X .σ r ≡ node (formerAt w r) (fromList (map (X .σ) (partsAt w r)))
   former-type n P₀ L S l p X =
       let q = self n L (S .held) l in
       subst (λ z. 0 < tagAt w z → X .σ r ≡ node (formerAt w z) (fromList (map (X .σ) (partsAt w z)))) q (λ p′. formed s n P₀ L S r l p′ (plain X)) p
@@ -163,10 +163,10 @@ pub looking-few : (s d : List ℕ) (r : ℕ) → LookingRoot s d r → r < 768
 looking-few s d r K = let f = K .looking .held .few in let l = K .looking .made in omega arith
 
 module _ (s d : List ℕ) (i r id v : ℕ) (Q : Root s i r) (K : Looked s d r id v) where
-  below-r : (n : ℕ) (L : Pairs ℕ) → Held s n L → i < n → r < n
+  pub below-r : (n : ℕ) (L : Pairs ℕ) → Held s n L → i < n → r < n
   below-r n L H l = subst (λ z. z < n) (Q .is n L H l) (rep-below n L (H .inside) i l)
 
-  same-type : (n : ℕ) (P₀ L : Pairs ℕ) → Solved s n P₀ L → i < n → (X : SolutionOf s d n P₀) → X .σ r ≡ X .σ i
+  pub same-type : (n : ℕ) (P₀ L : Pairs ℕ) → Solved s n P₀ L → i < n → (X : SolutionOf s d n P₀) → X .σ r ≡ X .σ i
   same-type n P₀ L S l X = sym (ap (X .σ) (Q .is n L (S .held) l)) ∙ by-rep s n P₀ L S (plain X) i
 
   pub looked-root : Looked s d i id v

@@ -7,7 +7,7 @@ ghost use Rattle.solver.specs.Settled.{heap, leadWords, nameWords, parts
 ghost use Rattle.solver.specs.Merging.{Open, Turned, Popped, Tied, Tying, Drained, Asking, Merged};
 ghost use Rattle.solver.specs.Flat.{Sound, Straight, Flattened};
 ghost use Rattle.solver.specs.Written.{leadAt, nameAt, Copied, Wrote, Writing, Typed, Leading};
-ghost use Rattle.solver.specs.Answers.{Left, Placed, LookingRoot, Looking, Looked};
+ghost use Rattle.solver.specs.Answers.{Left, Placed, LookingRoot, Looking, Looked, Element};
 ghost use Rattle.solver.specs.Sizes.{cap, TypeSize, UnknownSize, Measuring, Measured, markAt, total, Size, One, Read, Round, Rounds, Cleared, Tested};
 ghost use Rattle.solver.specs.Calls.{put, Making, Made, Adding, Added, Tells, Known, Root, Runs, Two, Alike, Pushing, Pushed};
 
@@ -755,6 +755,47 @@ pub fn component(a: &[u32], d: &[u32], i: usize, id: usize) -> usize
         return unknown_component(a, d, r, id);
     }
     former_component(a, d, r, id)
+}
+
+// The element type of the unknown r, a representative: 769 plus the place of its words, and 0 where there is none.
+fn unknown_element(a: &[u32], d: &[u32], r: usize) -> usize
+    requires { ⌜ (LookingRoot (now a) (now d) r) × (tagAt (frozen (now a)) r ≡ 0) ⌝ }
+    ensures { λ v. ⌜ Element (now (a .entry)) (now (d .entry)) r v ⌝ }
+{
+    let q = word(a, LINKS + r);
+    if q < 769 {
+        return 0;
+    }
+    if type_word(a, d, q - 769) == 3 {
+        return q + 1;
+    }
+    0
+}
+
+// The element type of the former at r, a representative: its cell plus 1, and 0 where there is none.
+fn former_element(a: &[u32], d: &[u32], r: usize) -> usize
+    requires { ⌜ (LookingRoot (now a) (now d) r) × (0 < tagAt (frozen (now a)) r) ⌝ }
+    ensures { λ v. ⌜ Element (now (a .entry)) (now (d .entry)) r v ⌝ }
+{
+    if field(a, r, 0) != 3 {
+        return 0;
+    }
+    if field(a, r, 3) != 1 {
+        return 0;
+    }
+    part(a, r, 0) + 1
+}
+
+// The element type of cell i: its cell plus 1, or 769 plus the place of its words; 0: not a power in every solution.
+pub fn element(a: &[u32], d: &[u32], i: usize) -> usize
+    requires { ⌜ Looking (now a) (now d) i ⌝ }
+    ensures { λ v. ⌜ Element (now (a .entry)) (now (d .entry)) i v ⌝ }
+{
+    let r = find(a, i);
+    if field(a, r, 0) == 0 {
+        return unknown_element(a, d, r);
+    }
+    former_element(a, d, r)
 }
 
 // The first words of the type with the former at r.
