@@ -21,7 +21,7 @@ use Rattle.types.specs.Types.{Ty, Tys, node, tcons, tnil}
 use Rattle.solver.specs.Store.{frozen, tagAt, argAt, firstAt, countAt, run, partsAt, formerAt, view, Cell, Held, Solved}
 use Rattle.solver.specs.Calls.{Known, Root}
 use Rattle.solver.specs.Sizes.{Solution, Read}
-use Rattle.solver.specs.Answers.{Finite, Has, Placed}
+use Rattle.solver.specs.Answers.{Finite, Placed}
 use Rattle.solver.proofs.Links.{rep-below}
 use Rattle.solver.proofs.Words.{run-at, run-length}
 use Rattle.solver.proofs.Heads.{view-unk, view-shape, parts-length, head-five, not-five}
@@ -63,15 +63,3 @@ module _ (s : List ℕ) (n : ℕ) (P₀ L : Pairs ℕ) (S : Solved s n P₀ L) w
 
     pub formed : 0 < tagAt w (r i) → (X : Solution w n P₀) → X .σ i ≡ node (formerAt w (r i)) (fromList (map (X .σ) (partsAt w (r i))))
     formed p X = sym (by-rep s n P₀ L S X i) ∙ X .fits (r i) _ _ (view-shape w n (r i) b p)
-
-    pub found : (id j c : ℕ) → tagAt w (r i) ≡ 5 → j < countAt w (r i) → getD (run w (argAt w (r i)) (countAt w (r i))) j 0 ≡ id → getD w (firstAt w (r i) + j) 0 ≡ c →
-        (X : Solution w n P₀) → Has (X .σ) i id c
-    found id j c e q hit here X = record {
-      ids = run w (argAt w (r i)) (countAt w (r i));
-      parts = partsAt w (r i);
-      type = formed (omega arith) X ∙ ap (λ h. node h (fromList (map (X .σ) (partsAt w (r i))))) (head-five w (r i) e);
-      place = j;
-      fits = let z = parts-length w (r i) (S .held .cells (r i) b) in omega arith;
-      name = hit;
-      part = run-at w (firstAt w (r i)) (countAt w (r i)) j q ∙ here;
-    }

@@ -3,11 +3,11 @@ use mathlib.Core.Path.{_≡_, refl, sym, ap, ap₂, subst, _∙_}
 use mathlib.Core.Bool.{Bool, true, false}
 use mathlib.Core.List.{List, map}
 use mathlib.Core.Option.{Option, some, none}
-use Prim.Native.Nat.{ℕ, zero, suc, _+_, _≤_, _<_}
+use Prim.Native.Nat.{ℕ, zero, suc, _+_, _-_, _≤_, _<_}
 use native.Mathlib.Omega.{arith}
 use lib.Dec.{eqb}
 use lib.ListN.{length, getD, set, length-set}
-use lib.Seq.{getD-set-same, getD-set-other}
+use lib.Seq.{getD-set-same, getD-set-other, take-set-le}
 use borrow.Author.Tests.{eqb-true, eqb-false}
 use Rattle.types.proofs.Closed.{idem, rep-self}
 use Rattle.types.proofs.Find.{hops, next-none, next-some, root-hops}
@@ -18,11 +18,14 @@ use Rattle.types.proofs.Terms.{bool-no}
 use Rattle.types.specs.Classes.{Closed, Shape, Wf, next, rep}
 use Rattle.types.specs.Equations.{AllP, Pairs, Solves, end, pair}
 use Rattle.types.specs.Follows.{Follows, View}
-use Rattle.solver.specs.Store.{frozen, linkAt, linkOf, view, Cell, load, Both, Held, Solved}
-use Rattle.solver.specs.Flat.{Kept, Direct, Straight}
+use Rattle.solver.specs.Store.{frozen, linkAt, linkOf, tagAt, view, Cell, load, Both, Held, Solved}
+use Rattle.solver.specs.Flat.{Kept, Direct, Refers, Straight}
+use Rattle.types.specs.Types.{Ty}
+use Rattle.solver.specs.Settled.{lower, heap, wordAt, Reads, Readable, Pinned, Obeys}
+use Rattle.solver.proofs.Settling.{heap-kept}
 use Rattle.solver.specs.Calls.{Root}
 use Rattle.solver.proofs.Links.{WfN, rep-below}
-use Rattle.solver.proofs.Words.{frozen-set, link-new, link-same}
+use Rattle.solver.proofs.Words.{frozen-set, link-new, link-none, link-same}
 use Rattle.solver.proofs.Reading.{below-next}
 
 abbrev pick : Bool → ℕ → ℕ → ℕ
@@ -218,11 +221,69 @@ module _ (s : List ℕ) (i r : ℕ) (z : length s ≡ 16384) (f : i < 768) (fr :
   set-miss : (j : ℕ) → (j ≡ i → ⊥) → linkAt (set s (7168 + i) (suc r)) j ≡ linkAt s j
   set-miss j d = link-same s _ j j (getD-set-other s (7168 + i) (7168 + j) (suc r) 0 (λ e. d (omega arith)))
 
+  old : (linkAt s i ≡ 0 → ⊥) → (j : ℕ) → j ≡ i → 769 ≤ wordAt s j → ⊥
+  unfolding wordAt linkAt
+  old d j e v = d (link-none (getD s (7168 + i) 0) (subst (λ k. 769 ≤ getD s (7168 + k) 0) e v))
+
+  go-to : (linkAt s i ≡ 0 → ⊥) → (j : ℕ) → 769 ≤ wordAt s j → (b : Bool) → eqb j i ≡ b → wordAt (set s (7168 + i) (suc r)) j ≡ wordAt s j
+  unfolding wordAt
+  go-to d j v true e = absurd (old d j (eqb-true j i e) v)
+  go-to d j v false e = getD-set-other s (7168 + i) (7168 + j) (suc r) 0 (λ q. eqb-false j i e (omega arith))
+
+  go-from : (j : ℕ) → 769 ≤ wordAt (set s (7168 + i) (suc r)) j → (b : Bool) → eqb j i ≡ b → wordAt (set s (7168 + i) (suc r)) j ≡ wordAt s j
+  unfolding wordAt
+  go-from j v true e =
+      let q : wordAt (set s (7168 + i) (suc r)) j ≡ suc r = ap (λ k. getD (set s (7168 + i) (suc r)) (7168 + k) 0) (eqb-true j i e) ∙ getD-set-same s (7168 + i) (suc r) 0 (omega arith) in
+      absurd (omega arith)
+  go-from j v false e = getD-set-other s (7168 + i) (7168 + j) (suc r) 0 (λ q. eqb-false j i e (omega arith))
+
+  set-refers : (linkAt s i ≡ 0 → ⊥) → Refers s (set s (7168 + i) (suc r))
+  unfolding lower
+  set-refers d = record {
+    low = take-set-le 7168 s (7168 + i) (suc r) (omega arith);
+    to = λ j v. go-to d j v (eqb j i) refl;
+    from = λ j v. go-from j v (eqb j i) refl;
+  }
+
+pub refers-refl : (s : List ℕ) → Refers s s
+refers-refl s = record { low = refl; to = λ j v. refl; from = λ j v. refl }
+
+pub refers-on : (s t u : List ℕ) → Refers s t → Refers t u → Refers s u
+refers-on s t u a b = record {
+  low = b .low ∙ a .low;
+  to = λ j v. let e = a .to j v in b .to j (omega arith) ∙ e;
+  from = λ j v. let e = b .from j v in e ∙ a .from j (omega arith);
+}
+
+-- Solutions obey the one store where they obey the other.
+module _ (s t d : List ℕ) (n : ℕ) (K : Refers s t) where
+  low-heap : heap t d ≡ heap s d
+  low-heap = heap-kept s t d (K .low)
+
+  pub refers-pinned : frozen t ≡ frozen s → Pinned s d n → Pinned t d n
+  refers-pinned f P = record {
+    reads = λ i l v.
+        let e = K .from i v in
+        subst (λ z. Readable z (wordAt t i - 769)) (sym low-heap) (subst (λ z. Readable (heap s d) (z - 769)) (sym e) (P .reads i l (omega arith)));
+    bare = λ i l v. let e = K .from i v in ap (λ z. tagAt z i) f ∙ P .bare i l (omega arith);
+  }
+
+  pub refers-to : (σ : ℕ → Ty) → Obeys s d n σ → Obeys t d n σ
+  refers-to σ O i l v g R =
+      let e = K .from i v in
+      O i l (omega arith) g (subst (λ z. Reads (heap s d) (z - 769) g) e (subst (λ z. Reads z (wordAt t i - 769) g) low-heap R))
+
+  pub refers-from : (σ : ℕ → Ty) → Obeys t d n σ → Obeys s d n σ
+  refers-from σ O i l v g R =
+      let e = K .to i v in
+      O i l (omega arith) g (subst (λ z. Reads (heap t d) (z - 769) g) (sym e) (subst (λ z. Reads z (wordAt s i - 769) g) (sym low-heap) R))
+
 suc-inj : (a b : ℕ) → suc a ≡ suc b → a ≡ b
 suc-inj a b e = omega arith
 
 pub straightened : (s : List ℕ) (n i r : ℕ) → length s ≡ 16384 → i < 768 → r < 768 → Root s i r → (linkAt s i ≡ 0 → ⊥) → Straight s (set s (7168 + i) (suc r)) i n
 straightened s n i r z f fr Q d = record {
+  refers = set-refers s i r z f fr d;
   still = frozen-set s (7168 + i) (suc r) (omega arith);
   direct = λ j e.
       let m = suc-inj j r (sym e ∙ set-hit s i r z f fr) in
@@ -234,6 +295,7 @@ straightened s n i r z f fr Q d = record {
 
 pub straight-none : (s : List ℕ) (n i : ℕ) → linkAt s i ≡ 0 → Straight s s i n
 straight-none s n i e = record {
+  refers = refers-refl s;
   still = refl;
   direct = λ j q. absurd (let z = sym e ∙ q in omega arith);
   others = λ j d. refl;

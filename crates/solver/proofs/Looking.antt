@@ -7,7 +7,7 @@ use Prim.Native.Nat.{ℕ, zero, suc, _+_, _-_, _≤_, _<_}
 use native.Mathlib.Omega.{arith}
 use lib.Dec.{eqb}
 use lib.ListN.{length, getD}
-use borrow.Author.Tests.{ne-eqb}
+use borrow.Author.Tests.{eq-eqb, ne-eqb}
 use Rattle.types.specs.Classes.{rep}
 use Rattle.types.specs.Component.{pickType, componentType}
 use Rattle.types.specs.Equations.{In, Pairs, Solves}
@@ -19,12 +19,12 @@ use Rattle.solver.specs.Store.{frozen, linkAt, tagAt, argAt, firstAt, co
 use Rattle.solver.specs.Calls.{Known, Root}
 use Rattle.solver.specs.Sizes.{Solution}
 use Rattle.solver.specs.Settled.{heap, wordAt, Reads, Readable, Pinned, Found, Component}
-use Rattle.solver.specs.Answers.{Finite, Has, SolutionOf, Without, Looking, LookingRoot, Looked}
+use Rattle.solver.specs.Answers.{Finite, SolutionOf, Without, Looking, LookingRoot, Looked}
 use Rattle.solver.proofs.Links.{rep-below, stop-rep}
-use Rattle.solver.proofs.Words.{run-at}
+use Rattle.solver.proofs.Words.{run-at, run-length}
 use Rattle.solver.proofs.Heads.{parts-length, head-five, not-five, binding-inj}
 use Rattle.solver.proofs.Marking.{by-rep}
-use Rattle.solver.proofs.Answering.{found, formed, getD-in}
+use Rattle.solver.proofs.Answering.{formed, getD-in}
 use Rattle.solver.proofs.Opening.{solution-with, open-type}
 
 abbrev pub plain : {s d : List ℕ} {n : ℕ} {P₀ : Pairs ℕ} → SolutionOf s d n P₀ → Solution (frozen s) n P₀
@@ -46,6 +46,21 @@ none-of id (parameter i) gs d = refl
 none-of id power gs d = refl
 none-of id product gs d = refl
 none-of id (binding l) gs d = pick-not id l gs (d l refl)
+
+-- The component at the first place of its identifier.
+pick-at : (σ : ℕ → Ty) (id : ℕ) (l cs : List ℕ) (j : ℕ) → j < length l → j < length cs → getD l j 0 ≡ id → ((k : ℕ) → k < j → getD l k 0 ≡ id → ⊥) →
+    pickType id l (fromList (map σ cs)) ≡ some (σ (getD cs j 0))
+unfolding pickType fromList
+pick-at σ id [] cs j q r e h = absurd (omega arith)
+pick-at σ id (x ∷ l) [] j q r e h = absurd (omega arith)
+pick-at σ id (x ∷ l) (c ∷ cs) zero q r e h = ap (λ b. elim b as (λ z. Option Ty) [ true ↦ some (σ c) | false ↦ pickType id l (fromList (map σ cs)) ]) (eq-eqb x id e)
+pick-at σ id (x ∷ l) (c ∷ cs) (suc j) q r e h =
+    ap (λ b. elim b as (λ z. Option Ty) [ true ↦ some (σ c) | false ↦ pickType id l (fromList (map σ cs)) ]) (ne-eqb x id (λ z. h 0 (omega arith) z))
+    ∙ pick-at σ id l cs j (omega arith) (omega arith) e (λ k m z. h (suc k) (omega arith) z)
+
+component-at : (id : ℕ) (l : List ℕ) (gs : Tys) → componentType id (node (binding l) gs) ≡ pickType id l gs
+unfolding componentType identifiers
+component-at id l gs = refl
 
 -- At a representative r.
 module _ (s d : List ℕ) (r id : ℕ) (root : linkAt s r ≡ 0) where
@@ -77,12 +92,18 @@ module _ (s d : List ℕ) (r id : ℕ) (root : linkAt s r ≡ 0) where
   pub former-lacks : tagAt w r ≡ 5 → (In id (run w (argAt w r) (countAt w r)) → ⊥) → Looked s d r id 0
   former-lacks t h = former-none (omega arith) (λ n L H l ids q m. h (subst (In id) (binding-inj _ _ (sym q ∙ head-five w r t)) m))
 
-  pub former-some : (j c : ℕ) → c < 768 → tagAt w r ≡ 5 → j < countAt w r → getD (run w (argAt w r) (countAt w r)) j 0 ≡ id → getD w (firstAt w r + j) 0 ≡ c → Looked s d r id (c + 1)
-  former-some j c few t q hit here = record {
+  pub former-some : (j c : ℕ) → c < 768 → tagAt w r ≡ 5 → j < countAt w r → getD (run w (argAt w r) (countAt w r)) j 0 ≡ id →
+      ((k : ℕ) → k < j → getD (run w (argAt w r) (countAt w r)) k 0 ≡ id → ⊥) → getD w (firstAt w r + j) 0 ≡ c → Looked s d r id (c + 1)
+  former-some j c few t q hit first here = record {
     found = λ k e b n P₀ L S l X.
-        let y = self n L (S .held) l in
-        subst (Has (X .σ) r id) (omega arith) (subst (λ z. tagAt w z ≡ 5 → j < countAt w z → getD (run w (argAt w z) (countAt w z)) j 0 ≡ id → getD w (firstAt w z + j) 0 ≡ c → Has (X .σ) r id c) y
-        (λ t′ q′ h′ e′. found s n P₀ L S r l id j c t′ q′ h′ e′ (plain X)) t q hit here);
+        let C = S .held .cells r l in
+        let kc : c ≡ k = omega arith in
+        let pl = parts-length w r C in
+        let nl = run-length w (argAt w r) (countAt w r) (C .named t) in
+        ap (componentType id) (former-type n P₀ L S l (omega arith) X ∙ ap (λ h. node h (fromList (map (X .σ) (partsAt w r)))) (head-five w r t))
+        ∙ component-at id (run w (argAt w r) (countAt w r)) (fromList (map (X .σ) (partsAt w r)))
+        ∙ pick-at (X .σ) id (run w (argAt w r) (countAt w r)) (partsAt w r) j (omega arith) (omega arith) hit first
+        ∙ ap (λ y. some (X .σ y)) (run-at w (firstAt w r) (countAt w r) j q ∙ here ∙ kc);
     below = λ k e b n L H l.
         let C = H .cells r l in
         let o = C .older (getD (partsAt w r) j 0) (getD-in (partsAt w r) j (let z = parts-length w r C in omega arith)) in
@@ -171,9 +192,7 @@ module _ (s d : List ℕ) (i r id v : ℕ) (Q : Root s i r) (K : Looked s d r id
 
   pub looked-root : Looked s d i id v
   looked-root = record {
-    found = λ c e b n P₀ L S l X.
-        let h = K .found c e b n P₀ L S (below-r n L (S .held) l) X in
-        record { ids = h .ids; parts = h .parts; type = sym (same-type n P₀ L S l X) ∙ h .type; place = h .place; fits = h .fits; name = h .name; part = h .part };
+    found = λ c e b n P₀ L S l X. sym (ap (componentType id) (same-type n P₀ L S l X)) ∙ K .found c e b n P₀ L S (below-r n L (S .held) l) X;
     below = λ c e b n L H l. K .below c e b n L H (below-r n L H l);
     settled = λ e n P₀ L S P l X. subst (λ g. Found (heap s d) (v - 769) (componentType id g)) (same-type n P₀ L S l X) (K .settled e n P₀ L S P (below-r n L (S .held) l) X);
     place = λ e n L H P l. K .place e n L H P (below-r n L H l);

@@ -2,7 +2,7 @@
 use mathlib.Core.Path.{_≡_}
 use mathlib.Core.Bool.{Bool, true, false}
 use mathlib.Core.List.{List, [], _∷_, map}
-use mathlib.Core.Option.{none}
+use mathlib.Core.Option.{some, none}
 use Prim.Native.Nat.{ℕ, zero, suc, _+_, _-_, _≤_, _<_, _^_}
 use lib.Dec.{eqb}
 use lib.ListN.{length, getD}
@@ -21,20 +21,11 @@ use Rattle.solver.specs.Settled.{heap, wordAt, Reads, Readable, Pinned, 
 abbrev pub Finite : List ℕ → ℕ → Pairs ℕ → Type 0
 Finite w n L = (i : ℕ) → i < n → bounded (rep eqb L) (view w n) n i ≡ true
 
--- The component of an identifier in a type.
-pub record Has (σ : ℕ → Ty) (i id c : ℕ) : Type 0 where
-  pub ids : List ℕ
-  pub parts : List ℕ
-  pub type : σ i ≡ node (binding ids) (fromList (map σ parts))
-  pub place : ℕ
-  pub fits : place < length parts
-  pub name : getD ids place 0 ≡ id
-  pub part : getD parts place 0 ≡ c
-
 -- r is the first place of x in the list of k words, and k where it is not there.
 pub record Placed (l : List ℕ) (k x r : ℕ) : Type 0 where
   pub within : r ≤ k
   pub hit : r < k → getD l r 0 ≡ x
+  pub first : (j : ℕ) → j < r → getD l j 0 ≡ x → ⊥
   pub none : r ≡ k → In x l → ⊥
 
 -- A solution of a store with settled cells.
@@ -80,7 +71,7 @@ pub record LookingRoot (s d : List ℕ) (i : ℕ) : Type 0 where
 -- 35. c + 1, below 769: in every solution cell i is a binding where id has the type of cell c. 769 + p: in every solution it is one where id has the type
 -- whose words stand at p. 0: in some solution it is not.
 pub record Looked (s d : List ℕ) (i id v : ℕ) : Type 0 where
-  pub found : (c : ℕ) → v ≡ suc c → v < 769 → (n : ℕ) (P₀ L : Pairs ℕ) → Solved s n P₀ L → i < n → (X : SolutionOf s d n P₀) → Has (X .σ) i id c
+  pub found : (c : ℕ) → v ≡ suc c → v < 769 → (n : ℕ) (P₀ L : Pairs ℕ) → Solved s n P₀ L → i < n → (X : SolutionOf s d n P₀) → componentType id (X .σ i) ≡ some (X .σ c)
   pub below : (c : ℕ) → v ≡ suc c → v < 769 → (n : ℕ) (L : Pairs ℕ) → Held s n L → i < n → c < n
   pub settled : 769 ≤ v → (n : ℕ) (P₀ L : Pairs ℕ) → Solved s n P₀ L → Pinned s d n → i < n → (X : SolutionOf s d n P₀) → Found (heap s d) (v - 769) (componentType id (X .σ i))
   pub place : 769 ≤ v → (n : ℕ) (L : Pairs ℕ) → Held s n L → Pinned s d n → i < n → Readable (heap s d) (v - 769)

@@ -3,8 +3,8 @@ use Prim.Native.Nat.{ℕ, suc, _+_, _-_, _≤_, _<_}
 use native.Mathlib.Omega.{arith}
 use lib.ListN.{length}
 use Rattle.solver.specs.Store.{frozen, Solved}
-use Rattle.solver.specs.Flat.{Kept, Direct}
-use Rattle.solver.proofs.Flat.{kept-on, kept-start, direct-next}
+use Rattle.solver.specs.Flat.{Kept, Direct, Refers}
+use Rattle.solver.proofs.Flat.{kept-on, kept-start, direct-next, refers-refl, refers-on}
 use borrow.Author.Needs.{needs}
 use Rattle.types.specs.Equations.{Pairs}
 use Rattle.solver.proofs.flatten.Statement.{statement}
@@ -15,14 +15,14 @@ use Rattle.solver.proofs.shorten.Reads as shorten-reads
 
 abbrev Inv-loop : tie.InvT-loop
 Inv-loop a₀ n i₀ a i =
-    (i ≤ n) × (length a ≡ length a₀) × (frozen a ≡ frozen a₀) × ((P₀ L : Pairs ℕ) → Solved a₀ n P₀ L → Kept a n P₀ L) × ((j : ℕ) → j < i → Direct a j)
+    (i ≤ n) × (length a ≡ length a₀) × (frozen a ≡ frozen a₀) × ((P₀ L : Pairs ℕ) → Solved a₀ n P₀ L → Kept a n P₀ L) × ((j : ℕ) → j < i → Direct a j) × Refers a₀ a
 
 abbrev μ-loop : tie.MeasureT-loop
 μ-loop a₀ n i₀ a i = n - i
 
 -- src/lib.rt:466:5
 loop-holds : tie.Need-loop-holds Inv-loop μ-loop
-loop-holds c = (omega arith, refl, refl, kept-start _ _, λ j l. absurd (omega arith))
+loop-holds c = (omega arith, refl, refl, kept-start _ _, (λ j l. absurd (omega arith)), refers-refl _)
 
 -- src/lib.rt:467:9
 shorten-requires : tie.Need-shorten-requires Inv-loop μ-loop
@@ -45,7 +45,7 @@ loop-again c =
     let i = c .before .before .before .before .before .loop .inv in
     let t = c .before .before .before .before .loop-test .taken in
     let S = c .before .before .shorten in
-    (omega arith, S .kept .0 ∙ i .1, S .ensures .still ∙ i .2, kept-on _ _ _ _ _ (i .3) (S .ensures) t, direct-next _ _ _ _ (S .ensures) (i .4))
+    (omega arith, S .kept .0 ∙ i .1, S .ensures .still ∙ i .2, kept-on _ _ _ _ _ (i .3) (S .ensures) t, direct-next _ _ _ _ (S .ensures) (i .4), refers-on _ _ _ (i .5) (S .ensures .refers))
 
 -- src/lib.rt:461:1
 same-length : tie.Need-same-length Inv-loop μ-loop
@@ -53,7 +53,7 @@ same-length c = c .before .loop .inv .1
 
 -- src/lib.rt:461:1
 returns : tie.Need-returns Inv-loop μ-loop
-returns c = let l = c .loop-test .left in record { still = c .before .loop .inv .2; direct = λ i m. c .before .loop .inv .4 i (omega arith); keeps = c .before .loop .inv .3 }
+returns c = let l = c .loop-test .left in record { refers = c .before .loop .inv .5; still = c .before .loop .inv .2; direct = λ i m. c .before .loop .inv .4 i (omega arith); keeps = c .before .loop .inv .3 }
 
 pub flatten-spec : {M : Type 1} → statement M
 flatten-spec =

@@ -63,7 +63,7 @@ returns c =
     let K = s .pre .0 .looking in
     let f = part-few _ (s .args .d .now) _ (s .args .id) (s .pre .0 .root) (K .n) (K .L) (K .held) (K .made) (c .before .before .place .result) q in
     let e = c .part .ensures .0 in
-    former-some _ _ _ _ (s .pre .0 .root) (c .before .before .place .result) (c .part .result) (omega arith) (sym (c .before .before .before .before .before .before .field .ensures .0) ∙ c .before .before .before .before .before .if1 .taken) q (p .hit q) (sym (c .part .ensures .0))
+    former-some _ _ _ _ (s .pre .0 .root) (c .before .before .place .result) (c .part .result) (omega arith) (sym (c .before .before .before .before .before .before .field .ensures .0) ∙ c .before .before .before .before .before .if1 .taken) q (p .hit q) (p .first) (sym (c .part .ensures .0))
 
 -- src/lib.rt:689:9
 returns-2 : tie.Need-returns-2

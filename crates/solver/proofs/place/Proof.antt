@@ -38,6 +38,7 @@ returns c =
     record {
       within = omega arith;
       hit = λ q. run-at (frozen (c .before .before .before .before .before .args .a .now)) (c .before .before .before .before .before .args .p) (c .before .before .before .before .before .args .k) (c .before .before .before .loop .j) q ∙ sym (c .before .held .ensures .0) ∙ c .if1 .taken;
+      first = λ j l e. c .before .before .before .loop .inv .1 j l (sym (run-at (frozen (c .before .before .before .before .before .args .a .now)) (c .before .before .before .before .before .args .p) (c .before .before .before .before .before .args .k) j (omega arith)) ∙ e);
       none = λ e. absurd (omega arith);
     }
 
@@ -62,6 +63,7 @@ returns-2 c =
     record {
       within = omega arith;
       hit = λ q. absurd (omega arith);
+      first = λ j l e. c .before .loop .inv .1 j (omega arith) (sym (run-at w (s .args .p) (s .args .k) j (omega arith)) ∙ e);
       none = λ e m.
           let z = in-getD (s .args .x) (run w (s .args .p) (s .args .k)) m in
           let l = run-length w (s .args .p) (s .args .k) (s .pre .left) in
