@@ -180,7 +180,7 @@ module _ (doc : List ℕ) (r : readOf doc ≡ Readable) where
     pub document-paragraph : At doc paragraphs v
     document-paragraph = document-law doc r .each i p l v x .at
 
-    document-go : (let e = length (part doc (count doc)) in namesOf (paragraphsFrom doc (count doc) i (e - i))
+    pub document-go : (let e = length (part doc (count doc)) in namesOf (paragraphsFrom doc (count doc) i (e - i))
         ≡ paragraphNames (paragraphAt doc v) ++ namesOf (paragraphsFrom doc (count doc) (i + 1) (e - (i + 1))))
     unfolding namesOf
     document-go = rw (paragraphs-go doc (count doc) (length (part doc (count doc))) i l, ← x)

@@ -1,15 +1,15 @@
 -- The table that the code of finding 41 works with: for entry k, at 2 k, a given's identifier and the size that the state gives it; 0 and 0 else.
 use mathlib.Core.List.{List, [], _∷_}
-use mathlib.Core.Bool.{cond}
+use mathlib.Core.Bool.{true, cond}
 use Prim.Native.Nat.{ℕ, _+_, _*_, _-_}
 use lib.Dec.{eqb}
-use lib.ListN.{length, getD, set}
+use lib.ListN.{length, getD, set, drop}
 use Rattle.layout.specs.Layout.{part}
 use Rattle.syntax.specs.Nodes.{kindAt}
 use Rattle.values.specs.Form.{isValue}
 use Rattle.values.specs.Givens.{sizeOf}
-use Rattle.states.specs.Names.{Name}
-use Rattle.states.specs.States.{isSize}
+use Rattle.states.specs.Names.{Name, namesAs}
+use Rattle.states.specs.States.{isSize, entryFrom}
 
 -- a given's pair
 unfoldable pub putPair : ℕ → List ℕ → ℕ → List ℕ → List ℕ
@@ -30,3 +30,7 @@ givenBy table state k = cond (eqb (getD table (2 * k) 0) 0) 0 (cond (isSize (par
 
 unfoldable pub valueBy : List ℕ → List ℕ → ℕ → ℕ
 valueBy table state k = cond (eqb (getD table (2 * k) 0) 0) (cond (isValue (sizeOf table) (part state k)) 0 41) 0
+
+-- the entry of a name among those of line v, the first of which has entry k; 0 for none
+unfoldable pub linePlace : List ℕ → ℕ → ℕ → ℕ → ℕ
+linePlace doc v name k = cond (eqb (kindAt doc v) 11) (entryFrom (namesAs true (drop 2 (part doc v))) name k) 0

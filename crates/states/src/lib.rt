@@ -5,6 +5,7 @@ use words::word;
 
 mod entries;
 mod names;
+pub mod places;
 
 ghost use mathlib.Core.Path.{_≡_};
 ghost use Rattle.syntax.specs.Reading.{readOf};

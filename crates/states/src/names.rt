@@ -18,7 +18,7 @@ ghost use Rattle.states.specs.Names.{namesAs, lineNames, paragraphNames,
 ghost use Rattle.states.specs.Table.{putPair, putNames, lineCount};
 
 // The number of names that line k writes.
-fn line_count(doc: &[u32], k: usize) -> usize
+pub fn line_count(doc: &[u32], k: usize) -> usize
     requires { ⌜ At (now doc) lines k ⌝ }
     ensures { λ r. ⌜ (r ≡ lineCount (now (doc .entry)) k) × (r ≤ 8) ⌝ }
 {
@@ -30,7 +30,7 @@ fn line_count(doc: &[u32], k: usize) -> usize
 }
 
 // The number of names that the lines of Text t write.
-fn text_count(doc: &[u32], t: usize) -> usize
+pub fn text_count(doc: &[u32], t: usize) -> usize
     requires { ⌜ At (now doc) texts t ⌝ }
     ensures { λ r. ⌜ (r ≡ length (lineNames (linesFrom (now (doc .entry)) t 2 (length (part (now (doc .entry)) t) - 2)))) × (r ≤ 64) ⌝ }
 {
