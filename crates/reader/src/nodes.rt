@@ -9,8 +9,7 @@ use layout::part;
 use syntax::Reading;
 use words::word;
 ghost use mathlib.Core.Path.{_≡_};
-ghost use Prim.Native.Nat.{_≤_, _<_, _^_};
-ghost use Rattle.layout.specs.Layout.{count};
+ghost use Prim.Native.Nat.{_<_, _^_};
 ghost use Rattle.syntax.specs.Nodes.{kindAt, operandAt};
 ghost use Rattle.syntax.specs.Findings.{plainAt, plainWords, lowerAt, lowerNodes, numberOf, nodeNumber};
 ghost use Rattle.syntax.specs.Reading.{lowest};
@@ -106,7 +105,6 @@ fn number_of(doc: &[u32], k: usize, w: &[u32]) -> u32
 
 // The first finding among the nodes.
 pub fn check_nodes(doc: &[u32]) -> Reading
-    requires { ⌜ count (now doc) ≤ 1024 ⌝ }
     ensures { λ r. ⌜ r ≡ lowest (now (doc .entry)) (nodeNumber (now (doc .entry))) ⌝ }
 {
     let n = word(doc, 0);

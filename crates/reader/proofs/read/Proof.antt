@@ -1,13 +1,8 @@
 use Rattle.syntax.specs.Reading.{readOf}
-use Rattle.syntax.specs.Nodes.{documentForm}
-use Rattle.layout.proofs.Laws.{laid}
 use mathlib.Core.Path.{sym, _∙_}
 use borrow.Author.Needs.{needs}
 use Rattle.reader.proofs.read.Statement.{statement}
 use Rattle.reader.proofs.read.Tie as tie
-
-check-nodes-requires : tie.Need-check-nodes-requires
-check-nodes-requires c κs = laid documentForm _ (sym (c .before .laid-out .ensures) ∙ c .if1 .taken) .few
 
 check-uses-and-tree-requires : tie.Need-check-uses-and-tree-requires
 check-uses-and-tree-requires c κs = (sym (c .before .before .before .before .laid-out .ensures) ∙ c .before .before .before .if1 .taken, sym (c .before .before .check-nodes .ensures) ∙ c .enum-told .given .1)
@@ -29,7 +24,7 @@ read-spec =
     tie.close
     (tie.spec
     (λ c κs. search needs)
-    check-nodes-requires
+    (λ c κs. search needs)
     (λ c. search needs)
     check-uses-and-tree-requires
     returns
