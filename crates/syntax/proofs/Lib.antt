@@ -1,7 +1,9 @@
 pub mod Scan
 pub mod Accepted
-pub mod Operands
 pub mod Parents
+pub mod Operands
+pub mod DepthLaws
+pub mod WithinLimits
 pub mod Marked
 pub mod LowerNodes
 pub mod TreeMarked

@@ -9,9 +9,12 @@ use Rattle.syntax.specs.Kinds.{between}
 use Rattle.syntax.specs.Nodes.{kindAt, parent, ancestors}
 use Rattle.syntax.specs.Repeats.{globals, declaredIn}
 
--- more than 12 nodes from the Document down to k, both counted
+-- the number of nodes from the Document down to k, both counted; more than 12 of them
+abbrev pub depth : List ℕ → ℕ → ℕ
+depth doc k = 1 + length (ancestors doc k)
+
 abbrev pub tooDeep : List ℕ → ℕ → Bool
-tooDeep doc k = ltb 12 (1 + length (ancestors doc k))
+tooDeep doc k = ltb 12 (depth doc k)
 
 -- the number of Texts among some nodes
 unfoldable pub textsAmong : List ℕ → List ℕ → ℕ
