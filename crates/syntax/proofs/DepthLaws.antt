@@ -6,15 +6,16 @@ use Prim.Native.Nat.{ℕ, zero, suc, _+_, _≤_}
 use native.Mathlib.Omega.{arith}
 use lib.Dec.{eqb}
 use lib.ListN.{length}
-use borrow.Author.Tests.{eq-eqb, ne-eqb, eqb-true, eqb-false}
+use borrow.Author.Tests.{ne-eqb, eqb-false}
+use Rattle.words.specs.Loops.{has}
 use Rattle.layout.specs.Layout.{count}
-use Rattle.syntax.specs.Nodes.{parent, above, ancestors}
+use Rattle.syntax.specs.Nodes.{children, parent, above, ancestors}
 use Rattle.syntax.specs.Limits.{depth}
 use Rattle.syntax.specs.Reading.{readOf}
 use Rattle.syntax.specs.declared.Reading.the-variants.{Readable}
 use Rattle.syntax.specs.Promise.{Lower}
-use Rattle.syntax.proofs.Accepted.{Nodes, readable, used-once}
-use Rattle.syntax.proofs.Parents.{parent-only, parent-most, parent-rises}
+use Rattle.syntax.proofs.Accepted.{Nodes, Document, readable, used-once}
+use Rattle.syntax.proofs.Parents.{child-lower, parent-only, parent-most, parent-rises}
 
 above-next : (doc : List ℕ) (n k a : ℕ) → parent doc k ≡ a → (a ≡ 0 → ⊥) → above doc (suc n) k ≡ a ∷ above doc n a
 unfolding above
@@ -42,23 +43,28 @@ above-any doc s (suc n) (suc m) k p q = go (eqb (parent doc k) 0) (eqb-false (pa
     go true f g = refl
     go false f g = ap (_∷_ (parent doc k)) (g (parent-rises doc s k (f refl)))
 
-module _ (doc : List ℕ) (k s v : ℕ) (m : k ≤ count doc) (l : Lower doc k s v) where
-  -- an operand's parent is its node
-  pub operand-parent : parent doc v ≡ k
-  operand-parent =
-      let b = l .below in
-      let h = l .at .some in
-      parent-only doc v (used-once doc (readable doc (l .at .read)) v h (omega arith)) k (omega arith) m (l .child)
+-- a child's parent is the node that has it
+module _ (doc : List ℕ) (d : Document doc) (k v : ℕ) (p : 1 ≤ k) (q : k ≤ count doc) (e : has v (children doc k) ≡ true) where
+  pub child-parent : parent doc v ≡ k
+  child-parent =
+      let c = child-lower doc (d .nodes) k v p q e in
+      parent-only doc v (used-once doc d v (c .0) (omega arith)) k p q e
 
-  pub ancestors-next : ancestors doc v ≡ k ∷ ancestors doc k
-  ancestors-next =
-      let b = l .below in
-      let n = readable doc (l .at .read) .nodes in
-      let f = n .laid .few in
-      above-next doc 1023 v k operand-parent (omega arith) ∙ ap (_∷_ k) (above-any doc n 1023 1024 k (omega arith) (omega arith))
+  pub ancestors-child : ancestors doc v ≡ k ∷ ancestors doc k
+  ancestors-child =
+      let f = d .nodes .laid .few in
+      above-next doc 1023 v k child-parent (omega arith) ∙ ap (_∷_ k) (above-any doc (d .nodes) 1023 1024 k (omega arith) (omega arith))
+
+-- the same of an operand
+module _ (doc : List ℕ) (k s v : ℕ) (m : k ≤ count doc) (l : Lower doc k s v) where
+  pub operand-parent : parent doc v ≡ k
+  operand-parent = let b = l .below in child-parent doc (readable doc (l .at .read)) k v (omega arith) m (l .child)
+
+  pub operand-ancestors : ancestors doc v ≡ k ∷ ancestors doc k
+  operand-ancestors = let b = l .below in ancestors-child doc (readable doc (l .at .read)) k v (omega arith) m (l .child)
 
   pub deeper : depth doc v ≡ suc (depth doc k)
-  deeper = rw ancestors-next (omega arith)
+  deeper = rw operand-ancestors (omega arith)
 
 -- the last node is the Document, and none lies above it
 pub ancestors-last : (doc : List ℕ) → readOf doc ≡ Readable → ancestors doc (count doc) ≡ []

@@ -16,7 +16,10 @@ pub mod TreeText
 pub mod TreeParagraph
 pub mod Occurrences
 pub mod TreeChildren
+pub mod SumsBelow
+pub mod Crowding
 pub mod TreeAmong
 pub mod TreeNumbered
 pub mod TreeNodes
+pub mod NameCounts
 pub mod TreeWords
