@@ -22,4 +22,5 @@ pub mod TreeAmong
 pub mod TreeNumbered
 pub mod TreeNodes
 pub mod NameCounts
+pub mod LimitedTree
 pub mod TreeWords
