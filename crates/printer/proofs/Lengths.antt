@@ -9,9 +9,9 @@ use lib.ListN.{length, getD, take, drop, replicate, length-append, length-take, 
 use lib.Seq.{getD-append-add}
 use Rattle.words.specs.Loops.{total, joined}
 use Rattle.layout.specs.Layout.{count, lengthAt, offsetAt, part}
-use Rattle.checker.specs.Dictionary.{Entry, Dictionary, entryWords, entries, entryPairs, allWords, laidOutWords, dictionaryWords, dictionaryLength}
-use Rattle.checker.specs.Check.{Answer, accepted, refused}
-use Rattle.checker.specs.Areas.{findingOf, dictionaryAfter}
+use Rattle.typing.specs.Dictionary.{Entry, Dictionary, entryWords, entries, entryPairs, allWords, laidOutWords, dictionaryWords, dictionaryLength}
+use Rattle.typing.specs.Check.{Answer, accepted, refused}
+use Rattle.typing.specs.Areas.{findingOf, dictionaryAfter}
 use Rattle.printer.specs.Decimal.{decimal}
 use Rattle.printer.specs.Lines.{acceptedBytes, refusedBytes, atBytes, spaced, numbers, entryLine, dictionarySize, entryLines, acceptedLines, refusedLine}
 use Rattle.printer.specs.Print.{printOf}

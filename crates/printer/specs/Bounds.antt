@@ -1,10 +1,10 @@
 -- What the bound on the printed length speaks of.
 use mathlib.Core.List.{List, [], _∷_}
 use Prim.Native.Nat.{ℕ, _+_, _*_, _^_, _≤_, _<_}
-use Rattle.checker.specs.declared.Finding.{Finding}
-use Rattle.checker.specs.declared.Finding.the-variants.{Accepted, Refused}
-use Rattle.checker.specs.Dictionary.{dictionaryLength}
-use Rattle.checker.specs.Check.{Answer, accepted, refused}
+use Rattle.typing.specs.declared.Finding.{Finding}
+use Rattle.typing.specs.declared.Finding.the-variants.{Accepted, Refused}
+use Rattle.typing.specs.Dictionary.{dictionaryLength}
+use Rattle.typing.specs.Check.{Answer, accepted, refused}
 
 -- words of 32 bits
 pub data Words : List ℕ → Type 0 where
