@@ -9,3 +9,7 @@ pub mod Paragraphs
 pub mod Run
 pub mod Marked
 pub mod Claims
+pub mod Steps
+pub mod Worked
+pub mod Blocks
+pub mod Ready

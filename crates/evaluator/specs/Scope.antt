@@ -32,3 +32,8 @@ refer n none generic = stop 54 n
 refer n (more a xs) generic = stop 54 n
 refer n none unknown = stop 51 n
 refer n (more a xs) unknown = stop 51 n
+
+-- a Ref with actuals
+unfoldable pub hasActuals : Exprs → Bool
+hasActuals none = false
+hasActuals (more a xs) = true

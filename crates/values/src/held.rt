@@ -29,7 +29,8 @@ pub fn empty() -> Held
     }
 }
 
-fn copy(w: &[u32], out: &mut [u32], at: usize)
+// Copies words to a place of an area.
+pub fn copy(w: &[u32], out: &mut [u32], at: usize)
     requires { ⌜ at + length (now w) ≤ length (now out) ⌝ }
     ensures { λ _. ⌜ now (out .exit) ≡ sets (now (out .entry)) at (now (w .entry)) ⌝ }
 {
