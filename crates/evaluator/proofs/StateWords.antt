@@ -22,7 +22,7 @@ words-take (suc n) [] h i = omega arith
 words-take (suc n) (w ∷ ws) h zero = h 0
 words-take (suc n) (w ∷ ws) h (suc i) = words-take n ws (λ j. h (suc j)) i
 
-words-part : (ws : List ℕ) (k : ℕ) → Words ws → Words (part ws k)
+pub words-part : (ws : List ℕ) (k : ℕ) → Words ws → Words (part ws k)
 unfolding part
 words-part ws k h = go (eqb k 0)
   where
