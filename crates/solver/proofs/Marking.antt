@@ -294,26 +294,26 @@ same-solved s t a n P₀ L S = record {
 }
 
 -- A mark.
-module _ (s : List ℕ) (i v : ℕ) (size : length s ≡ 16384) (l : i < 768) where
-  pub mark-same : Same s (set s (7936 + i) v)
+module _ (s : List ℕ) (i v : ℕ) (size : length s ≡ 52224) (l : i < 1024) where
+  pub mark-same : Same s (set s (40960 + i) v)
   unfolding lower wordAt
   mark-same = record {
-    low = take-set-le 7168 s (7936 + i) v (omega arith);
-    refs = λ j m. getD-set-other s (7936 + i) (7168 + j) v 0 (λ e. omega arith);
-    size = length-set s (7936 + i) v;
-    still = frozen-set s (7936 + i) v (omega arith);
-    links = λ j m. link-same s _ j j (getD-set-other s (7936 + i) (7168 + j) v 0 (λ e. omega arith));
+    low = take-set-le 39936 s (40960 + i) v (omega arith);
+    refs = λ j m. getD-set-other s (40960 + i) (39936 + j) v 0 (λ e. omega arith);
+    size = length-set s (40960 + i) v;
+    still = frozen-set s (40960 + i) v (omega arith);
+    links = λ j m. link-same s _ j j (getD-set-other s (40960 + i) (39936 + j) v 0 (λ e. omega arith));
   }
 
-  pub mark-hit : markAt (set s (7936 + i) v) i ≡ v
+  pub mark-hit : markAt (set s (40960 + i) v) i ≡ v
   unfolding markAt
-  mark-hit = getD-set-same s (7936 + i) v 0 (omega arith)
+  mark-hit = getD-set-same s (40960 + i) v 0 (omega arith)
 
-  pub mark-miss : (j : ℕ) → (j ≡ i → ⊥) → markAt (set s (7936 + i) v) j ≡ markAt s j
+  pub mark-miss : (j : ℕ) → (j ≡ i → ⊥) → markAt (set s (40960 + i) v) j ≡ markAt s j
   unfolding markAt
-  mark-miss j d = getD-set-other s (7936 + i) (7936 + j) v 0 (λ e. d (omega arith))
+  mark-miss j d = getD-set-other s (40960 + i) (40960 + j) v 0 (λ e. d (omega arith))
 
-  bare-low : (m : ℕ) → m ≤ i → bare (set s (7936 + i) v) m ≡ bare s m
+  bare-low : (m : ℕ) → m ≤ i → bare (set s (40960 + i) v) m ≡ bare s m
   unfolding bare
   bare-low zero q = refl
   bare-low (suc m) q = ap₂ (λ x y. sizeOf x 0 + y) (mark-miss m (λ e. omega arith)) (bare-low m (omega arith))
@@ -324,18 +324,18 @@ module _ (s : List ℕ) (i v : ℕ) (size : length s ≡ 16384) (l : i < 768) wh
   pos-0 (suc x) d = refl
 
   module _ (free : markAt s i ≡ 0) (some : v ≡ 0 → ⊥) where
-    term-new : sizeOf (markAt (set s (7936 + i) v) i) 0 ≡ 0
+    term-new : sizeOf (markAt (set s (40960 + i) v) i) 0 ≡ 0
     term-new = pos-0 _ (λ e. some (sym mark-hit ∙ e))
 
     term-old : sizeOf (markAt s i) 0 ≡ 1
     unfolding sizeOf
     term-old = ap (λ x. sizeOf x 0) free
 
-    pub bare-mark : (m : ℕ) → i < m → bare (set s (7936 + i) v) m + 1 ≡ bare s m
+    pub bare-mark : (m : ℕ) → i < m → bare (set s (40960 + i) v) m + 1 ≡ bare s m
     unfolding bare
     bare-mark zero q = absurd (omega arith)
     bare-mark (suc m) q = ⊎-elim
-        (λ e. subst (λ z. sizeOf (markAt (set s (7936 + i) v) z) 0 + bare (set s (7936 + i) v) z + 1 ≡ sizeOf (markAt s z) 0 + bare s z) e
+        (λ e. subst (λ z. sizeOf (markAt (set s (40960 + i) v) z) 0 + bare (set s (40960 + i) v) z + 1 ≡ sizeOf (markAt s z) 0 + bare s z) e
         (omega (arith, term-new, term-old, bare-low i (omega arith))))
         (λ p. omega (arith, bare-mark m p, ap (λ x. sizeOf x 0) (mark-miss m (λ e. omega arith))))
         (eq-or-lt-of-le q′)
@@ -344,20 +344,20 @@ module _ (s : List ℕ) (i v : ℕ) (size : length s ≡ 16384) (l : i < 768) wh
         q′ = omega arith
 
   -- Marks stay right where the new one is.
-  pub marks-set : (n : ℕ) (L : Pairs ℕ) → Sized (frozen s) n L i v → Marks s n L → Marks (set s (7936 + i) v) n L
+  pub marks-set : (n : ℕ) (L : Pairs ℕ) → Sized (frozen s) n L i v → Marks s n L → Marks (set s (40960 + i) v) n L
   marks-set n L z M = record { right = λ j q d. go j q d (eqb j i) refl }
     where
-      e : frozen (set s (7936 + i) v) ≡ frozen s
-      e = frozen-set s (7936 + i) v (omega arith)
+      e : frozen (set s (40960 + i) v) ≡ frozen s
+      e = frozen-set s (40960 + i) v (omega arith)
 
-      go : (j : ℕ) → j < n → (markAt (set s (7936 + i) v) j ≡ 0 → ⊥) → (b : Bool) → eqb j i ≡ b → Sized (frozen (set s (7936 + i) v)) n L j (markAt (set s (7936 + i) v) j)
+      go : (j : ℕ) → j < n → (markAt (set s (40960 + i) v) j ≡ 0 → ⊥) → (b : Bool) → eqb j i ≡ b → Sized (frozen (set s (40960 + i) v)) n L j (markAt (set s (40960 + i) v) j)
       go j q d true t =
           let ji = eqb-true j i t in
-          subst (λ y. Sized (frozen (set s (7936 + i) v)) n L y (markAt (set s (7936 + i) v) y)) (sym ji)
-          (subst (λ y. Sized y n L i (markAt (set s (7936 + i) v) i)) (sym e) (subst (λ y. Sized (frozen s) n L i y) (sym mark-hit) z))
+          subst (λ y. Sized (frozen (set s (40960 + i) v)) n L y (markAt (set s (40960 + i) v) y)) (sym ji)
+          (subst (λ y. Sized y n L i (markAt (set s (40960 + i) v) i)) (sym e) (subst (λ y. Sized (frozen s) n L i y) (sym mark-hit) z))
       go j q d false t =
           let m = mark-miss j (eqb-false j i t) in
-          subst (λ y. Sized y n L j (markAt (set s (7936 + i) v) j)) (sym e) (subst (λ y. Sized (frozen s) n L j y) (sym m) (M .right j q (λ y. d (m ∙ y))))
+          subst (λ y. Sized y n L j (markAt (set s (40960 + i) v) j)) (sym e) (subst (λ y. Sized (frozen s) n L j y) (sym m) (M .right j q (λ y. d (m ∙ y))))
 
 pub size-unk : (s : List ℕ) (r : ℕ) → tagAt (frozen s) r ≡ 0 → 1 ≡ sizeAt s r
 unfolding sizeAt sizeOf
@@ -374,7 +374,7 @@ size-shape s r d = go (tagAt (frozen s) r) d
 pub known-root : (s : List ℕ) (i r : ℕ) → Known s i → Root s i r → Known s r
 known-root s i r k q = record { n = k .n; L = k .L; held = k .held; made = subst (λ z. z < k .n) (q .is (k .n) (k .L) (k .held) (k .made)) (rep-below (k .n) (k .L) (k .held .inside) i (k .made)) }
 
-pub few-cell : (s : List ℕ) (i : ℕ) → Known s i → i < 768
+pub few-cell : (s : List ℕ) (i : ℕ) → Known s i → i < 1024
 few-cell s i k = let f = k .held .few in let l = k .made in omega arith
 
 pub one-none : (s : List ℕ) (i : ℕ) → (markAt s i ≡ 0 → (n : ℕ) (L : Pairs ℕ) → Held s n L → i < n → sizeAt s (rep eqb L i) ≡ 0) → One s s i 0
@@ -390,7 +390,7 @@ one-none s i h = record {
   is = λ d. absurd (d refl);
 }
 
-pub one-some : (s : List ℕ) (i v : ℕ) → Known s i → markAt s i ≡ 0 → (v ≡ 0 → ⊥) → Size s i v → One s (set s (7936 + i) v) i 1
+pub one-some : (s : List ℕ) (i v : ℕ) → Known s i → markAt s i ≡ 0 → (v ≡ 0 → ⊥) → Size s i v → One s (set s (40960 + i) v) i 1
 one-some s i v k e d z = record {
   same = mark-same s i v (k .held .size) (few-cell s i k);
   few = omega arith;

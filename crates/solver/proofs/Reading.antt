@@ -155,24 +155,24 @@ unfolding partWords
 rest-done H w at l e R = let q = R .end in omega arith
 
 -- The two areas as one list.
-pub lower-length : (s : List ℕ) → length s ≡ 16384 → length (lower s) ≡ 7168
+pub lower-length : (s : List ℕ) → length s ≡ 52224 → length (lower s) ≡ 39936
 unfolding lower
 lower-length s e = simp length-take (omega arith)
 
-pub heap-length : (s d : List ℕ) → length s ≡ 16384 → length (heap s d) ≡ 7168 + length d
+pub heap-length : (s d : List ℕ) → length s ≡ 52224 → length (heap s d) ≡ 39936 + length d
 unfolding heap
 heap-length s d e = length-append (lower s) d ∙ ap (λ z. z + length d) (lower-length s e)
 
-pub heap-low : (s d : List ℕ) (p : ℕ) → length s ≡ 16384 → p < 7168 → getD (heap s d) p 0 ≡ getD s p 0
+pub heap-low : (s d : List ℕ) (p : ℕ) → length s ≡ 52224 → p < 39936 → getD (heap s d) p 0 ≡ getD s p 0
 unfolding heap lower
-heap-low s d p e l = List·getD-append (lower s) d 0 p (let z = lower-length s e in omega arith) ∙ getD-take 7168 s p 0 l
+heap-low s d p e l = List·getD-append (lower s) d 0 p (let z = lower-length s e in omega arith) ∙ getD-take 39936 s p 0 l
 
-pub heap-high : (s d : List ℕ) (p : ℕ) → length s ≡ 16384 → 7168 ≤ p → getD (heap s d) p 0 ≡ getD d (p - 7168) 0
+pub heap-high : (s d : List ℕ) (p : ℕ) → length s ≡ 52224 → 39936 ≤ p → getD (heap s d) p 0 ≡ getD d (p - 39936) 0
 unfolding heap
 heap-high s d p e l =
     let z = lower-length s e in
-    let q : p ≡ length (lower s) + (p - 7168) = omega arith in
-    ap (λ k. getD (lower s ++ d) k 0) q ∙ getD-append-add (lower s) d (p - 7168) 0
+    let q : p ≡ length (lower s) + (p - 39936) = omega arith in
+    ap (λ k. getD (lower s ++ d) k 0) q ∙ getD-append-add (lower s) d (p - 39936) 0
 
 -- Walking over the parts: n of them, j passed, a name takes w words, the whole ends at e.
 pub record Scan (H : List ℕ) (w at n j e : ℕ) : Type 0 where

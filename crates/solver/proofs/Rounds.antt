@@ -31,10 +31,10 @@ pub round-known : (s t : List ℕ) (n k i : ℕ) → RoundTo s t n k i → Read 
 round-known s t n k i R D l = record { n = n; L = D .L; held = same-held s t (R .same) n (D .L) (D .held); made = l }
 
 module _ (s t u : List ℕ) (n k i d : ℕ) (R : RoundTo s t n k i) (D : Read s n) (l : i < n) (O : One t u i d) where
-  few-i : i < 768
+  few-i : i < 1024
   few-i = let f = D .held .few in omega arith
 
-  size : length t ≡ 16384
+  size : length t ≡ 52224
   size = R .same .size ∙ D .held .size
 
   last : (j : ℕ) → j < i + 1 → (j ≡ i) ⊎ (j < i)

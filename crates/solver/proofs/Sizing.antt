@@ -71,7 +71,7 @@ measured-unknown s d i r v Q t U = record {
       (λ q. U .free q ∙ sym (ap cap (ap size (m-by s d i r Q n L σ M l) ∙ E r (r-below s i r Q n L (M .marked) l) t (Q .free) q) ∙ cap-low 1 (omega arith)))
       (λ q. let R = m-readable s d i r Q n L σ M l q in
       U .settled q .is (R .type) (R .reads) ∙ sym (ap (λ g. cap (size g)) (m-settled s d i r Q n L σ M l q (R .type) (R .reads))))
-      (lt-or-ge (wordAt s r) 769);
+      (lt-or-ge (wordAt s r) 1025);
   few = U .few;
 }
 

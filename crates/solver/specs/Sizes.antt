@@ -24,7 +24,7 @@ pub record TypeSize (s d : List ℕ) (p v : ℕ) : Type 0 where
   pub few : v ≤ 33
 
 unfoldable pub markAt : List ℕ → ℕ → ℕ
-markAt s i = getD s (7936 + i) 0
+markAt s i = getD s (40960 + i) 0
 
 unfoldable pub unless : ℕ → ℕ → ℕ
 unless zero v = 0
@@ -64,9 +64,9 @@ pub record Marks (s : List ℕ) (n : ℕ) (L : Pairs ℕ) : Type 0 where
 pub record Same (s s′ : List ℕ) : Type 0 where
   pub size : length s′ ≡ length s
   pub still : frozen s′ ≡ frozen s
-  pub links : (i : ℕ) → i < 768 → linkAt s′ i ≡ linkAt s i
+  pub links : (i : ℕ) → i < 1024 → linkAt s′ i ≡ linkAt s i
   pub low : lower s′ ≡ lower s
-  pub refs : (i : ℕ) → i < 768 → wordAt s′ i ≡ wordAt s i
+  pub refs : (i : ℕ) → i < 1024 → wordAt s′ i ≡ wordAt s i
 
 pub record Read (s : List ℕ) (n : ℕ) : Type 0 where
   pub L : Pairs ℕ
@@ -91,7 +91,7 @@ pub record One (s s′ : List ℕ) (i k : ℕ) : Type 0 where
   pub stuck : k ≡ 0 → markAt s i ≡ 0 → (n : ℕ) (L : Pairs ℕ) → Held s n L → i < n → sizeAt s (rep eqb L i) ≡ 0
   pub free : (k ≡ 0 → ⊥) → markAt s i ≡ 0
   pub value : ℕ
-  pub words : (k ≡ 0 → ⊥) → s′ ≡ set s (7936 + i) value
+  pub words : (k ≡ 0 → ⊥) → s′ ≡ set s (40960 + i) value
   pub some : (k ≡ 0 → ⊥) → value ≡ 0 → ⊥
   pub is : (k ≡ 0 → ⊥) → (n : ℕ) (L : Pairs ℕ) → Held s n L → i < n → value ≡ sizeAt s (rep eqb L i)
 
@@ -143,12 +143,12 @@ pub record Model (s d : List ℕ) (n : ℕ) (L : Pairs ℕ) (σ : ℕ → Ty) : 
 
 -- σ gives types of size 1 to the cells that are left open.
 abbrev pub Least : List ℕ → ℕ → (ℕ → Ty) → Type 0
-Least s n σ = (i : ℕ) → i < n → tagAt (frozen s) i ≡ 0 → linkAt s i ≡ 0 → wordAt s i < 769 → size (σ i) ≡ 1
+Least s n σ = (i : ℕ) → i < n → tagAt (frozen s) i ≡ 0 → linkAt s i ≡ 0 → wordAt s i < 1025 → size (σ i) ≡ 1
 
 -- The size of the unknown r, which is no link.
 pub record UnknownSize (s d : List ℕ) (r v : ℕ) : Type 0 where
-  pub free : wordAt s r < 769 → v ≡ 1
-  pub settled : 769 ≤ wordAt s r → TypeSize s d (wordAt s r - 769) v
+  pub free : wordAt s r < 1025 → v ≡ 1
+  pub settled : 1025 ≤ wordAt s r → TypeSize s d (wordAt s r - 1025) v
   pub few : v ≤ 33
 
 pub record Measuring (s d : List ℕ) (i : ℕ) : Type 0 where

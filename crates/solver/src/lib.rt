@@ -11,9 +11,9 @@ ghost use Rattle.solver.specs.Answers.{Left, Placed, LookingRoot, Lookin
 ghost use Rattle.solver.specs.Sizes.{cap, TypeSize, UnknownSize, Measuring, Measured, markAt, total, Size, One, Read, Round, Rounds, Cleared, Tested};
 ghost use Rattle.solver.specs.Calls.{put, Making, Made, Adding, Added, Tells, Known, Root, Runs, Two, Alike, Pushing, Pushed};
 
-const CELLS: usize = 768;
+const CELLS: usize = 1024;
 
-const LINKS: usize = 7168;
+const LINKS: usize = 39936;
 
 const MARKS: usize = LINKS + CELLS;
 
@@ -21,7 +21,7 @@ const PAIRS: usize = MARKS + CELLS;
 
 const SECONDS: usize = PAIRS + 1;
 
-const RECORDS: usize = PAIRS + 2 * 1536;
+const RECORDS: usize = PAIRS + 2 * 2048;
 
 const ARGUMENTS: usize = RECORDS + 1;
 
@@ -77,10 +77,10 @@ fn part(a: &[u32], i: usize, j: usize) -> usize
 // The link of cell k: 0 where it is a representative.
 fn link(a: &[u32], k: usize) -> usize
     requires { ⌜ k < 2 ^ 32 ⌝ }
-    ensures { λ r. ⌜ (r ≡ linkAt (now (a .entry)) k) × (r < 769) ⌝ }
+    ensures { λ r. ⌜ (r ≡ linkAt (now (a .entry)) k) × (r < 1025) ⌝ }
 {
     let v = word(a, LINKS + k);
-    if v < 769 {
+    if v < 1025 {
         return v;
     }
     0
@@ -88,8 +88,8 @@ fn link(a: &[u32], k: usize) -> usize
 
 // Links cell x to y.
 fn set_link(a: &mut [u32], x: usize, y: usize)
-    requires { ⌜ (x < 768) × (y < 768) ⌝ }
-    ensures { λ _. ⌜ now (a .exit) ≡ set (now (a .entry)) (7168 + x) (suc y) ⌝ }
+    requires { ⌜ (x < 1024) × (y < 1024) ⌝ }
+    ensures { λ _. ⌜ now (a .exit) ≡ set (now (a .entry)) (39936 + x) (suc y) ⌝ }
 {
     store(a, LINKS + x, (y + 1) as u32);
 }
@@ -110,7 +110,7 @@ pub fn find(a: &[u32], i: usize) -> usize
 
 // The type word at the place p: in the caller's part of the area, or in the dictionary.
 fn type_word(a: &[u32], d: &[u32], p: usize) -> usize
-    requires { ⌜ length (now a) ≡ 16384 ⌝ }
+    requires { ⌜ length (now a) ≡ 52224 ⌝ }
     ensures { λ r. ⌜ (r ≡ getD (heap (now (a .entry)) (now (d .entry))) p 0) × (r < 2 ^ 32) ⌝ }
 {
     if p < LINKS {
@@ -144,7 +144,7 @@ fn name_words(t: usize) -> usize
 
 // The number of parts of the type at p, whose tag is t.
 fn parts_of(a: &[u32], d: &[u32], t: usize, p: usize) -> usize
-    requires { ⌜ (length (now a) ≡ 16384) × (p < 2 ^ 40) ⌝ }
+    requires { ⌜ (length (now a) ≡ 52224) × (p < 2 ^ 40) ⌝ }
     ensures { λ r. ⌜ (r ≡ partsOf t (getD (heap (now (a .entry)) (now (d .entry))) (p + 1) 0)) × (r < 2 ^ 32) ⌝ }
 {
     if t == 3 {
@@ -321,11 +321,11 @@ fn settle(a: &mut [u32], d: &[u32], r: usize, p: usize) -> bool
     ensures { λ b. ⌜ Pin (now (a .entry)) (now (a .exit)) (now (d .entry)) r p b ⌝ }
 {
     let q = word(a, LINKS + r);
-    if q < 769 {
-        store(a, LINKS + r, (769 + p) as u32);
+    if q < 1025 {
+        store(a, LINKS + r, (1025 + p) as u32);
         return true;
     }
-    same_type(a, d, p, q - 769)
+    same_type(a, d, p, q - 1025)
 }
 
 // Cell c is given the type at p: an unknown refers to it, a former's parts are given its parts.
@@ -359,8 +359,8 @@ pub fn pin(a: &mut [u32], d: &[u32], c: usize, p: usize) -> bool
 
 // Pair number k of those that are pending.
 fn push(a: &mut [u32], k: usize, p: usize, q: usize)
-    requires { ⌜ (k < 1536) × (p < 2 ^ 32) × (q < 2 ^ 32) ⌝ }
-    ensures { λ _. ⌜ now (a .exit) ≡ set (set (now (a .entry)) (8704 + 2 * k) p) (8705 + 2 * k) q ⌝ }
+    requires { ⌜ (k < 2048) × (p < 2 ^ 32) × (q < 2 ^ 32) ⌝ }
+    ensures { λ _. ⌜ now (a .exit) ≡ set (set (now (a .entry)) (41984 + 2 * k) p) (41985 + 2 * k) q ⌝ }
 {
     store(a, PAIRS + 2 * k, p as u32);
     store(a, SECONDS + 2 * k, q as u32);
@@ -389,10 +389,10 @@ fn tie(a: &mut [u32], d: &[u32], x: usize, y: usize) -> bool
 {
     let q = word(a, LINKS + x);
     set_link(a, x, y);
-    if q < 769 {
+    if q < 1025 {
         return true;
     }
-    pin(a, d, y, q - 769)
+    pin(a, d, y, q - 1025)
 }
 
 // The representatives x and y, of the newest pair, are merged.
@@ -472,7 +472,7 @@ pub fn merge(a: &mut [u32], d: &[u32], x: usize, y: usize) -> bool
 
 // Writes cell n.
 fn put_cell(a: &mut [u32], n: usize, tag: u32, arg: u32, first: u32, count: u32)
-    requires { ⌜ n < 768 ⌝ }
+    requires { ⌜ n < 1024 ⌝ }
     ensures { λ _. ⌜ now (a .exit) ≡ put (now (a .entry)) n tag arg first count ⌝ }
 {
     store(a, LINKS + n, 0);
@@ -493,10 +493,10 @@ pub fn new_cell(a: &mut [u32], n: usize, tag: u32, arg: u32, first: u32, count: 
 
 // A new unknown, cell number n.
 pub fn new_unknown(a: &mut [u32], n: usize)
-    requires { ⌜ Making (now a) n 0 0 3072 0 ⌝ }
-    ensures { λ _. ⌜ Made (now (a .entry)) (now (a .exit)) n 0 0 3072 0 ⌝ }
+    requires { ⌜ Making (now a) n 0 0 4096 0 ⌝ }
+    ensures { λ _. ⌜ Made (now (a .entry)) (now (a .exit)) n 0 0 4096 0 ⌝ }
 {
-    new_cell(a, n, 0, 0, 3072, 0);
+    new_cell(a, n, 0, 0, 4096, 0);
 }
 
 // The settled type at p enters as cell n, which refers to its words.
@@ -505,7 +505,7 @@ pub fn new_settled(a: &mut [u32], d: &[u32], n: usize, p: usize)
     ensures { λ _. ⌜ Entered (now (a .entry)) (now (a .exit)) (now (d .entry)) n p ⌝ }
 {
     new_unknown(a, n);
-    store(a, LINKS + n, (769 + p) as u32);
+    store(a, LINKS + n, (1025 + p) as u32);
 }
 
 // A word more in the runs, at top: the caller's ghost count of cells is n.
@@ -610,7 +610,7 @@ fn clear_marks(a: &mut [u32], n: usize)
 }
 
 fn all_marked(a: &[u32], n: usize) -> bool
-    requires { ⌜ n ≤ 768 ⌝ }
+    requires { ⌜ n ≤ 1024 ⌝ }
     ensures { λ r. ⌜ Tells r ((i : ℕ) → i < n → markAt (now (a .entry)) i ≡ 0 → ⊥) ⌝ }
 {
     let mut i = 0;
@@ -639,10 +639,10 @@ fn unknown_size(a: &[u32], d: &[u32], r: usize) -> usize
     ensures { λ v. ⌜ UnknownSize (now (a .entry)) (now (d .entry)) r v ⌝ }
 {
     let q = word(a, LINKS + r);
-    if q < 769 {
+    if q < 1025 {
         return 1;
     }
-    type_size(a, d, q - 769)
+    type_size(a, d, q - 1025)
 }
 
 // The size of the type of cell i, at most 33. The marks are those of `finite`.
@@ -669,13 +669,13 @@ pub fn cell_size(a: &[u32], d: &[u32], i: usize) -> usize
 
 // Cell r is an unknown, and refers to no type.
 fn is_open(a: &[u32], r: usize) -> bool
-    requires { ⌜ r < 768 ⌝ }
-    ensures { λ b. ⌜ Tells b ((tagAt (frozen (now (a .entry))) r ≡ 0) × (wordAt (now (a .entry)) r < 769)) ⌝ }
+    requires { ⌜ r < 1024 ⌝ }
+    ensures { λ b. ⌜ Tells b ((tagAt (frozen (now (a .entry))) r ≡ 0) × (wordAt (now (a .entry)) r < 1025)) ⌝ }
 {
     if field(a, r, 0) != 0 {
         return false;
     }
-    if word(a, LINKS + r) < 769 {
+    if word(a, LINKS + r) < 1025 {
         return true;
     }
     false
@@ -729,23 +729,23 @@ fn former_component(a: &[u32], d: &[u32], r: usize, id: usize) -> usize
     0
 }
 
-// The component id of the unknown r, a representative: 769 plus the place of its type, and 0 where there is none.
+// The component id of the unknown r, a representative: 1025 plus the place of its type, and 0 where there is none.
 fn unknown_component(a: &[u32], d: &[u32], r: usize, id: usize) -> usize
     requires { ⌜ (LookingRoot (now a) (now d) r) × (tagAt (frozen (now a)) r ≡ 0) ⌝ }
     ensures { λ v. ⌜ Looked (now (a .entry)) (now (d .entry)) r id v ⌝ }
 {
     let q = word(a, LINKS + r);
-    if q < 769 {
+    if q < 1025 {
         return 0;
     }
-    let p = settled_component(a, d, q - 769, id);
+    let p = settled_component(a, d, q - 1025, id);
     if p == 0 {
         return 0;
     }
-    769 + p
+    1025 + p
 }
 
-// The component id of cell i: its cell plus 1, or 769 plus the place of its type; 0: not in every solution.
+// The component id of cell i: its cell plus 1, or 1025 plus the place of its type; 0: not in every solution.
 pub fn component(a: &[u32], d: &[u32], i: usize, id: usize) -> usize
     requires { ⌜ Looking (now a) (now d) i ⌝ }
     ensures { λ v. ⌜ Looked (now (a .entry)) (now (d .entry)) i id v ⌝ }
@@ -757,16 +757,16 @@ pub fn component(a: &[u32], d: &[u32], i: usize, id: usize) -> usize
     former_component(a, d, r, id)
 }
 
-// The element type of the unknown r, a representative: 769 plus the place of its words, and 0 where there is none.
+// The element type of the unknown r, a representative: 1025 plus the place of its words, and 0 where there is none.
 fn unknown_element(a: &[u32], d: &[u32], r: usize) -> usize
     requires { ⌜ (LookingRoot (now a) (now d) r) × (tagAt (frozen (now a)) r ≡ 0) ⌝ }
     ensures { λ v. ⌜ Element (now (a .entry)) (now (d .entry)) r v ⌝ }
 {
     let q = word(a, LINKS + r);
-    if q < 769 {
+    if q < 1025 {
         return 0;
     }
-    if type_word(a, d, q - 769) == 3 {
+    if type_word(a, d, q - 1025) == 3 {
         return q + 1;
     }
     0
@@ -786,7 +786,7 @@ fn former_element(a: &[u32], d: &[u32], r: usize) -> usize
     part(a, r, 0) + 1
 }
 
-// The element type of cell i: its cell plus 1, or 769 plus the place of its words; 0: not a power in every solution.
+// The element type of cell i: its cell plus 1, or 1025 plus the place of its words; 0: not a power in every solution.
 pub fn element(a: &[u32], d: &[u32], i: usize) -> usize
     requires { ⌜ Looking (now a) (now d) i ⌝ }
     ensures { λ v. ⌜ Element (now (a .entry)) (now (d .entry)) i v ⌝ }
@@ -821,7 +821,7 @@ fn put_lead(a: &[u32], out: &mut [u32], at: usize, r: usize) -> usize
 
 // The identifier of part j of the former at r, if it has identifiers.
 fn put_name(a: &[u32], out: &mut [u32], at: usize, r: usize, j: usize) -> usize
-    requires { ⌜ (r < 768) × (j < 2 ^ 32) × (at < 2 ^ 40) ⌝ }
+    requires { ⌜ (r < 1024) × (j < 2 ^ 32) × (at < 2 ^ 40) ⌝ }
     ensures { λ e. ⌜ Wrote (now (out .entry)) (now (out .exit)) at e (nameAt (frozen (now (a .entry))) r j) ⌝ }
 {
     if field(a, r, 0) == 5 {
@@ -852,7 +852,7 @@ pub fn write(a: &[u32], d: &[u32], out: &mut [u32], at: usize, i: usize) -> usiz
 {
     let r = find(a, i);
     if field(a, r, 0) == 0 {
-        return put_type(a, d, out, at, word(a, LINKS + r) - 769);
+        return put_type(a, d, out, at, word(a, LINKS + r) - 1025);
     }
     let k = field(a, r, 3);
     let mut m = put_lead(a, out, at, r);

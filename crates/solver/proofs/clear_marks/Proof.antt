@@ -49,12 +49,12 @@ loop-again c =
     let p = s .pre .held in
     let e = c .before .before .store .ensures in
     let t = c .before .before .before .before .loop-test .taken in
-    let z : length a ≡ 16384 = v .1 .size ∙ p .size in
-    let l : i < 768 = let f = p .few in omega arith in (
+    let z : length a ≡ 52224 = v .1 .size ∙ p .size in
+    let l : i < 1024 = let f = p .few in omega arith in (
       omega arith,
-      subst (λ y. Same (s .args .a .now) y) (sym e) (same-on (s .args .a .now) a (set a (7936 + i) 0) (v .1) (mark-same a i 0 z l)),
+      subst (λ y. Same (s .args .a .now) y) (sym e) (same-on (s .args .a .now) a (set a (40960 + i) 0) (v .1) (mark-same a i 0 z l)),
       subst (λ y. (j : ℕ) → j < i + 1 → markAt y j ≡ 0) (sym e)
-          (below-more (λ j. markAt (set a (7936 + i) 0) j ≡ 0) i (λ j q. mark-miss a i 0 z l j (λ w. omega arith) ∙ v .2 j q) (mark-hit a i 0 z l)),
+          (below-more (λ j. markAt (set a (40960 + i) 0) j ≡ 0) i (λ j q. mark-miss a i 0 z l j (λ w. omega arith) ∙ v .2 j q) (mark-hit a i 0 z l)),
     )
 
 -- src/lib.rt:312:1

@@ -59,7 +59,7 @@ returns c =
     let e = c .before .before .part .ensures .0 in
     let m = c .before .before .before .before .before .field .ensures .0 in (
       total-stop _ _ (frozen (s .args .a .now)) _ _ (c .before .before .before .before .loop .j) (c .before .before .before .loop-test .taken) (let q = C .room in omega arith)
-          (unfold markAt in (ap (λ z. getD (s .args .a .now) (7936 + z) 0) (sym e) ∙ sym (c .before .word .ensures .0) ∙ c .if1 .taken)) ∙ sym (i .2),
+          (unfold markAt in (ap (λ z. getD (s .args .a .now) (40960 + z) 0) (sym e) ∙ sym (c .before .word .ensures .0) ∙ c .if1 .taken)) ∙ sym (i .2),
       omega arith,
     )
 
@@ -91,7 +91,7 @@ loop-again c =
     let m = c .before .before .before .before .before .before .field .ensures .0 in
     let k = c .capped .ensures in
     let v : c .before .before .word .result ≡ markAt (s .args .a .now) (getD w (firstAt w (s .args .r) + c .before .before .before .before .before .loop .j) 0) =
-    c .before .before .word .ensures .0 ∙ ap (λ z. getD (s .args .a .now) (7936 + z) 0) (c .before .before .before .part .ensures .0) in (
+    c .before .before .word .ensures .0 ∙ ap (λ z. getD (s .args .a .now) (40960 + z) 0) (c .before .before .before .part .ensures .0) in (
       omega arith,
       subst (λ z. z ≤ 33) (sym k) (cap-le _),
       i .2 ∙ total-go (s .args .a .now) (c .before .before .before .before .before .loop .sum) w (firstAt w (s .args .r)) _ (c .before .before .before .before .before .loop .j) (c .before .before .before .before .loop-test .taken) (let q = C .room in omega arith)
