@@ -1,6 +1,6 @@
 -- The tree of a readable document is within the limits: `Limited`, by induction from lower nodes.
 use mathlib.Core.Path.{_≡_, refl, sym, _∙_}
-use mathlib.Core.Bool.{true, false, cond}
+use mathlib.Core.Bool.{true, false}
 use mathlib.Core.Logic.{⊎-elim}
 use mathlib.Core.List.{List, [], _∷_, _++_, append-nil}
 use Prim.Native.Nat.{ℕ, zero, suc, _+_, _-_, _≤_, _<_}
@@ -10,8 +10,8 @@ use lib.ListN.{length, length-append}
 use borrow.Author.Tests.{ne-eqb}
 use Rattle.layout.specs.Layout.{count, part}
 use Rattle.syntax.specs.Kinds.{expressions, schemaExpressions, predicates, texts, lines, paragraphs, includes}
-use Rattle.syntax.specs.Nodes.{kindAt, operandAt, ancestors}
-use Rattle.syntax.specs.Limits.{textsAmong, isClosing}
+use Rattle.syntax.specs.Nodes.{kindAt, operandAt}
+use Rattle.syntax.specs.Limits.{isClosing, nodesLeft, textsLeft}
 use Rattle.syntax.specs.Reading.{readOf}
 use Rattle.syntax.specs.declared.Reading.the-variants.{Readable}
 use Rattle.syntax.specs.Promise.{At, Lower}
@@ -22,8 +22,7 @@ use Rattle.syntax.specs.TreeNumbers.{exprNumbers, exprsNumbers, predNumb
 use Rattle.syntax.specs.Limited.{textDeclares, FewNodes, LimitedExpr, LimitedExprs, LimitedPred, LimitedText, LimitedLines, LimitedInclude}
 use Rattle.syntax.specs.Limited.{LimitedSchema, LimitedParagraph, LimitedParagraphs, LimitedDocument}
 use Rattle.syntax.proofs.Accepted.{readable, last-document}
-use Rattle.syntax.proofs.DepthLaws.{operand-ancestors, ancestors-last}
-use Rattle.syntax.proofs.WithinLimits.{within-limits}
+use Rattle.syntax.proofs.PathLaws.{node-left, text-left, nodes-next, texts-same, texts-next, all-left}
 use Rattle.syntax.proofs.TreeShape.{all-at, _▹_, gather-keeps}
 use Rattle.syntax.proofs.TreeExpr.{expr-range, expr-reference, expr-number, expr-integers, expr-members, expr-power, expr-application, expr-selection}
 use Rattle.syntax.proofs.TreeExpr.{expr-theta, expr-schemaSet, expr-arithmetic, expr-comprehension}
@@ -37,40 +36,11 @@ use Rattle.syntax.proofs.TreeNodes.{each-numbered}
 use Rattle.syntax.proofs.Crowding.{few-below}
 use Rattle.syntax.proofs.NameCounts.{text-few, globals-counted}
 
--- how many nodes may stand on a path down from node k, k counted; how many Texts
-unfoldable nodesLeft : List ℕ → ℕ → ℕ
-nodesLeft doc k = 12 - length (ancestors doc k)
-
-unfoldable textsLeft : List ℕ → ℕ → ℕ
-textsLeft doc k = 4 - textsAmong doc (ancestors doc k)
-
-module _ (doc : List ℕ) (s k : ℕ) (h : At doc s k) where
-  node-left : 1 ≤ nodesLeft doc k
-  unfolding nodesLeft
-  node-left = let d = within-limits doc (readable doc (h .read)) k (h .some) (h .most) .deep in omega arith
-
-  text-left : kindAt doc k ≡ 10 → 1 ≤ textsLeft doc k
-  unfolding textsLeft
-  text-left e = let d = within-limits doc (readable doc (h .read)) k (h .some) (h .most) .nested e in omega arith
-
-  -- x are the nodes below a closing node k
-  few-nodes : isClosing (kindAt doc k) ≡ true → (x : List ℕ) → x ++ (k ∷ []) ≡ numbersAt doc k → FewNodes x
-  few-nodes c x e =
-      let f : length (x ++ (k ∷ [])) ≤ 25 = rw e (few-below doc (readable doc (h .read)) k c (h .some) (h .most)) in
-      omega (arith, length-append x (k ∷ []))
-
-module _ (doc : List ℕ) (k : ℕ) (m : k ≤ count doc) where
-  nodes-next : (s v : ℕ) → Lower doc k s v → nodesLeft doc v ≡ nodesLeft doc k - 1
-  unfolding nodesLeft
-  nodes-next s v l = rw (operand-ancestors doc k s v m l) (omega arith)
-
-  texts-same : eqb (kindAt doc k) 10 ≡ false → (s v : ℕ) → Lower doc k s v → textsLeft doc v ≡ textsLeft doc k
-  unfolding textsLeft textsAmong
-  texts-same e s v l = rw (operand-ancestors doc k s v m l, e) (omega arith)
-
-  texts-next : kindAt doc k ≡ 10 → (s v : ℕ) → Lower doc k s v → textsLeft doc v ≡ textsLeft doc k - 1
-  unfolding textsLeft textsAmong
-  texts-next e s v l = rw (operand-ancestors doc k s v m l, e) (omega arith)
+-- x are the nodes below a closing node k
+few-nodes : (doc : List ℕ) (s k : ℕ) → At doc s k → isClosing (kindAt doc k) ≡ true → (x : List ℕ) → x ++ (k ∷ []) ≡ numbersAt doc k → FewNodes x
+few-nodes doc s k h c x e =
+    let f : length (x ++ (k ∷ [])) ≤ 25 = rw e (few-below doc (readable doc (h .read)) k c (h .some) (h .most)) in
+    omega (arith, length-append x (k ∷ []))
 
 -- the claim at node k, for each sort
 pub record LimitedAt (doc : List ℕ) (k n m : ℕ) : Type 0 where
@@ -314,13 +284,16 @@ all-limited : (doc : List ℕ) (i k : ℕ) → k < i → Here doc k
 all-limited doc zero k h = absurd (omega arith)
 all-limited doc (suc i) k h = limited doc k (λ j l. all-limited doc i j (omega arith))
 
+-- the tree at any node, by what is left there
+pub each-limited : (doc : List ℕ) (k : ℕ) → LimitedAt doc k (nodesLeft doc k) (textsLeft doc k)
+each-limited doc k = all-limited doc (suc k) k (omega arith)
+
 -- below the Document 11 nodes are left, and 4 Texts
 paragraph-left : (doc : List ℕ) → readOf doc ≡ Readable → (v : ℕ) → Lower doc (count doc) paragraphs v → LimitedAt doc v 11 4
-unfolding nodesLeft textsLeft textsAmong
 paragraph-left doc r v o =
-    let N = count doc in
+    let a = all-left doc r in
     let e = last-document doc (readable doc r) in
-    rw (ancestors-last doc r) at (beside doc N (λ j l. all-limited doc N j l) (omega arith) (rw e refl) paragraphs v o)
+    rw (a .0, a .1) at (beside doc (count doc) (λ j l. each-limited doc j) (omega arith) (rw e refl) paragraphs v o)
 
 pub tree-limited : (doc : List ℕ) → readOf doc ≡ Readable → LimitedDocument (treeOf doc)
 unfolding LimitedDocument paragraphsFrom LimitedParagraphs
