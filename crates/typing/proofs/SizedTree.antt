@@ -4,7 +4,7 @@ use mathlib.Core.Logic.{⊎-elim}
 use mathlib.Core.List.{List, [], _∷_}
 use Prim.Native.Nat.{ℕ, zero, suc, _+_, _-_, _≤_, _<_}
 use native.Mathlib.Omega.{arith}
-use lib.ListN.{length, getD}
+use lib.ListN.{length}
 use Rattle.words.specs.Loops.{every}
 use Rattle.layout.specs.Layout.{count, part}
 use Rattle.syntax.specs.Kinds.{cell, expressions, schemaExpressions, predicates, texts, lines, paragraphs, includes}
@@ -13,7 +13,7 @@ use Rattle.syntax.specs.Reading.{readOf}
 use Rattle.syntax.specs.declared.Reading.the-variants.{Readable}
 use Rattle.syntax.specs.Promise.{At, Lower}
 use Rattle.syntax.specs.Tree.{Expr, Exprs, none, more, Pred, Lines, end, Paragraph, exprsLength, Document, document}
-use Rattle.syntax.specs.Decode.{gather, exprAt, predAt, textAt, includeAt, lineAt, schemaAt, paragraphAt, exprsFrom, linesFrom, paragraphsFrom, treeOf}
+use Rattle.syntax.specs.Decode.{exprAt, predAt, textAt, includeAt, lineAt, schemaAt, paragraphAt, exprsFrom, linesFrom, paragraphsFrom, treeOf}
 use Rattle.syntax.specs.Decode.{membersOf, relationOf}
 use Rattle.syntax.proofs.Accepted.{readable}
 use Rattle.syntax.proofs.TreeCounts.{at-least, at-most}
