@@ -1,0 +1,6 @@
+pub mod Walks
+pub mod Updates
+pub mod Cells
+pub mod Growing
+pub mod Equating
+pub mod Naming
