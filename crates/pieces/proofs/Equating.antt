@@ -31,7 +31,7 @@ mutual
   unders-same U τ τ′ h nil i = refl
   unders-same U τ τ′ h (cons a ts) i = λ z. tcons (under-same U τ τ′ h a (i .0) z) (unders-same U τ τ′ h ts (i .1) z)
 
-same-back : (s s′ : List ℕ) → Same s s′ → Same s′ s
+pub same-back : (s s′ : List ℕ) → Same s s′ → Same s′ s
 same-back s s′ K = record { size = sym (K .size); still = sym (K .still); links = λ i l. sym (K .links i l); low = sym (K .low); refs = λ i l. sym (K .refs i l) }
 
 module _ (s u d : List ℕ) (n x y : ℕ) (P₀ : Pairs ℕ) (H t : Items) (U₀ U : List ℕ) (ρ : Pairs ℕ) (Q : Piece s d n P₀ H t U₀ U ρ) (lx : x < n) (ly : y < n)

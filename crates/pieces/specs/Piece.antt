@@ -64,3 +64,12 @@ pub record Later (s s′ d : List ℕ) (n n′ : ℕ) (P₀ P₀′ : Pairs ℕ)
   pub solutions : (σ : ℕ → Ty) → Solution s′ d n′ P₀′ σ → Solution s d n P₀ σ
   pub items : (τ : Table) → Meets (H ⨾ t′) τ → Meets (H ⨾ t) τ
   pub unknowns : (τ : Table) (σ : ℕ → Ty) → Matches ρ′ τ σ → Matches ρ τ σ
+
+-- Between pieces: some table meets the items H, and they depend on the unknowns U alone.
+pub record Steady (H : Items) (U : List ℕ) : Type 0 where
+  pub local : Local H U
+  pub some : (τ : Table) × Meets H τ
+
+-- Every table that meets H can be changed outside U to one that meets c too.
+abbrev pub Extends : Items → Items → List ℕ → Type 0
+Extends H c U = (τ : Table) → Meets H τ → (τ′ : Table) × Meets (H ⨾ c) τ′ × SameOn U τ′ τ
