@@ -219,13 +219,13 @@ module _ (s : List ℕ) (n t a f c : ℕ) (size : length s ≡ 52224) (l : n < 1
   pub t-at : tagAt w′ n ≡ t
   t-at = here 0 (46080 + 4 * n) t (omega arith) put-t
 
-  a-at : argAt w′ n ≡ a
+  pub a-at : argAt w′ n ≡ a
   a-at = here 1 (46081 + 4 * n) a (omega arith) put-a
 
-  f-at : firstAt w′ n ≡ f
+  pub f-at : firstAt w′ n ≡ f
   f-at = here 2 (46082 + 4 * n) f (omega arith) put-f
 
-  c-at : countAt w′ n ≡ c
+  pub c-at : countAt w′ n ≡ c
   c-at = here 3 (46083 + 4 * n) c (omega arith) put-c
 
   pub there : (i j : ℕ) → i < n → j < 4 → fieldAt w′ i j ≡ fieldAt w i j
@@ -318,10 +318,10 @@ module _ (s : List ℕ) (n top x : ℕ) (A : Adding s n top) where
   abbrev v′ : List ℕ
   v′ = frozen (set s (46080 + top) x)
 
-  word-other : (p : ℕ) → (p ≡ top → ⊥) → getD v′ p 0 ≡ getD v p 0
+  pub word-other : (p : ℕ) → (p ≡ top → ⊥) → getD v′ p 0 ≡ getD v p 0
   word-other p d = frozen-at _ p ∙ getD-set-other s (46080 + top) (46080 + p) x 0 (λ e. d (omega arith)) ∙ sym (frozen-at s p)
 
-  fields-same : (i j : ℕ) → i < n → j < 4 → fieldAt v′ i j ≡ fieldAt v i j
+  pub fields-same : (i j : ℕ) → i < n → j < 4 → fieldAt v′ i j ≡ fieldAt v i j
   unfolding fieldAt
   fields-same i j m q = word-other (4 * i + j) (λ e. let z = A .above .low in let y = A .solved .held .few in omega arith)
 

@@ -29,6 +29,7 @@ use Rattle.solver.proofs.Heads.{view-shape}
 use Rattle.solver.proofs.Marking.{cap-low, cap-high}
 use Rattle.solver.proofs.Growing.{lt-or-ge}
 use Rattle.solver.proofs.Answering.{getD-in}
+use Rattle.solver.proofs.Summing.{part-size}
 use Rattle.solver.specs.Calls.{Root}
 
 pub sets-append : (l : List ℕ) (i : ℕ) (a b : List ℕ) → sets l i (a ++ b) ≡ sets (sets l i a) (i + length a) b
@@ -173,12 +174,6 @@ module _ (s : List ℕ) (n : ℕ) (L : Pairs ℕ) (R : Marked s n L) (i : ℕ) (
       let h = view-shape w₀ n x x-below known in
       tree-same (rep eqb L) (view w₀ n) (λ j. node int tnil) n (suc n) i d (bounded-mono (rep eqb L) (view w₀ n) n i d)
       ∙ (unfold typeOf typeOfView in (ap (typeOfView (λ c. typeOf (rep eqb L) (view w₀ n) (λ j. node int tnil) n c) (node int tnil)) h))
-
-  part-size : (T : ℕ → Ty) (c : ℕ) (cs : List ℕ) → In c cs → size (T c) ≤ sizes (fromList (map T cs))
-  unfolding fromList size
-  part-size T c [] j = absurd j
-  part-size T c (d ∷ cs) (inl e) = omega (arith, ap (λ z. size (T z)) e)
-  part-size T c (d ∷ cs) (inr j) = omega (arith, part-size T c cs j)
 
   -- The marks fall.
   pub mark-falls : markAt s i ≤ 32 → (c : ℕ) → In c (partsAt w₀ x) → (c < n) × (markAt s c < markAt s i)

@@ -8,7 +8,7 @@ ghost use Rattle.solver.specs.Merging.{Open, Turned, Popped, Tied, Tying
 ghost use Rattle.solver.specs.Flat.{Sound, Straight, Flattened};
 ghost use Rattle.solver.specs.Written.{leadAt, nameAt, Copied, Wrote, Writing, Typed, Leading};
 ghost use Rattle.solver.specs.Answers.{Left, Placed, LookingRoot, Looking, Looked, Element};
-ghost use Rattle.solver.specs.Sizes.{cap, TypeSize, UnknownSize, Measuring, Measured, markAt, total, Size, One, Read, Round, Rounds, Cleared, Tested};
+ghost use Rattle.solver.specs.Sizes.{cap, TypeSize, UnknownSize, Measuring, Measured, arityAt, Read, Visiting, Visited, Visits, Cleared, TestedFrom, Tested};
 ghost use Rattle.solver.specs.Calls.{put, Making, Made, Adding, Added, Tells, Known, Root, Runs, Two, Alike, Pushing, Pushed};
 
 const CELLS: usize = 1024;
@@ -28,6 +28,9 @@ const ARGUMENTS: usize = RECORDS + 1;
 const FIRSTS: usize = RECORDS + 2;
 
 const COUNTS: usize = RECORDS + 3;
+
+// The mark of a cell that is being visited, past every size.
+const VISITING: usize = 34;
 
 pub struct Step {
     pub fine: bool,
@@ -526,101 +529,82 @@ fn capped(x: usize) -> usize
     33
 }
 
-// The size of the former at r over its parts, and 0 where a part has no mark.
-fn sum_parts(a: &[u32], r: usize) -> usize
-    requires { ⌜ Known (now a) r ⌝ }
-    ensures { λ v. ⌜ (v ≡ total (now (a .entry)) 1 (partsAt (frozen (now (a .entry))) r)) × (v ≤ 33) ⌝ }
+// The number of parts of cell r: an unknown has none.
+fn arity(a: &[u32], r: usize) -> usize
+    requires { ⌜ r < 1024 ⌝ }
+    ensures { λ k. ⌜ (k ≡ arityAt (frozen (now (a .entry))) r) × (k < 2 ^ 32) ⌝ }
 {
-    let m = field(a, r, 3);
+    if field(a, r, 0) == 0 {
+        return 0;
+    }
+    field(a, r, 3)
+}
+
+// Visits the representative r, once: its parts, then r gets its size as mark. False: r is met below itself.
+fn visit(a: &mut [u32], r: usize) -> bool
+    requires { ⌜ Visiting (now a) r ⌝ }
+    ensures { λ b. ⌜ Visited (now (a .entry)) (now (a .exit)) r b ⌝ }
+{
+    let v = word(a, MARKS + r);
+    if v == VISITING {
+        return false;
+    }
+    if v != 0 {
+        return true;
+    }
+    let k = arity(a, r);
+    store(a, MARKS + r, VISITING as u32);
     let mut sum = 1;
     let mut j = 0;
-    while j < m {
-        let v = word(a, MARKS + part(a, r, j));
-        if v == 0 {
-            return 0;
+    while j < k {
+        let c = find(a, part(a, r, j));
+        if visit(a, c) {
+            sum = capped(sum + word(a, MARKS + c));
+            j += 1;
+        } else {
+            return false;
         }
-        sum = capped(sum + v);
-        j += 1;
     }
-    sum
+    store(a, MARKS + r, sum as u32);
+    true
 }
 
-// The size of cell i, and 0 where a part has no mark.
-fn size_of(a: &[u32], i: usize) -> usize
-    requires { ⌜ Known (now a) i ⌝ }
-    ensures { λ v. ⌜ Size (now (a .entry)) i v ⌝ }
-{
-    let r = find(a, i);
-    if field(a, r, 0) == 0 {
-        return 1;
-    }
-    sum_parts(a, r)
-}
-
-// Marks cell i, if it has no mark and can have one: 1.
-fn mark_one(a: &mut [u32], i: usize) -> usize
-    requires { ⌜ Known (now a) i ⌝ }
-    ensures { λ k. ⌜ One (now (a .entry)) (now (a .exit)) i k ⌝ }
-{
-    if word(a, MARKS + i) != 0 {
-        return 0;
-    }
-    let v = size_of(a, i);
-    if v == 0 {
-        return 0;
-    }
-    store(a, MARKS + i, v as u32);
-    1
-}
-
-// A round over the n cells: how many were marked.
-fn mark_round(a: &mut [u32], n: usize) -> usize
+// Visits the classes of the n cells from `from` on, and marks the cells.
+fn visit_all(a: &mut [u32], from: usize, n: usize) -> bool
     requires { ⌜ Read (now a) n ⌝ }
-    ensures { λ k. ⌜ Round (now (a .entry)) (now (a .exit)) n k ⌝ }
+    ensures { λ b. ⌜ Visits (now (a .entry)) (now (a .exit)) from n b ⌝ }
 {
-    let mut k = 0;
-    let mut i = 0;
+    let mut i = from;
     while i < n {
-        k += mark_one(a, i);
-        i += 1;
+        let r = find(a, i);
+        if visit(a, r) {
+            store(a, MARKS + i, word(a, MARKS + r) as u32);
+            i += 1;
+        } else {
+            return false;
+        }
     }
-    k
+    true
 }
 
-// Rounds until nothing changes.
-fn mark_all(a: &mut [u32], n: usize)
+fn clear_marks(a: &mut [u32], from: usize, n: usize)
     requires { ⌜ Read (now a) n ⌝ }
-    ensures { λ _. ⌜ Rounds (now (a .entry)) (now (a .exit)) n ⌝ }
+    ensures { λ _. ⌜ Cleared (now (a .entry)) (now (a .exit)) from n ⌝ }
 {
-    let mut k = 1;
-    while k != 0 {
-        k = mark_round(a, n);
-    }
-}
-
-fn clear_marks(a: &mut [u32], n: usize)
-    requires { ⌜ Read (now a) n ⌝ }
-    ensures { λ _. ⌜ Cleared (now (a .entry)) (now (a .exit)) n ⌝ }
-{
-    let mut i = 0;
+    let mut i = from;
     while i < n {
         store(a, MARKS + i, 0);
         i += 1;
     }
 }
 
-fn all_marked(a: &[u32], n: usize) -> bool
-    requires { ⌜ n ≤ 1024 ⌝ }
-    ensures { λ r. ⌜ Tells r ((i : ℕ) → i < n → markAt (now (a .entry)) i ≡ 0 → ⊥) ⌝ }
+// Do the n cells from `from` on have finite types? Each of them is visited once; visits nest at most as deep as there are cells.
+pub fn finite_from(a: &mut [u32], from: usize, n: usize) -> bool
+    requires { ⌜ Read (now a) n ⌝ }
+    ensures { λ r. ⌜ TestedFrom (now (a .entry)) (now (a .exit)) from n r ⌝ }
 {
-    let mut i = 0;
-    while i < n {
-        if word(a, MARKS + i) == 0 {
-            return false;
-        }
-        i += 1;
-    }
-    true
+    clear_marks(a, from, n);
+    visit_all(a, from, n)
 }
 
 // Do all n cells have finite types?
@@ -628,9 +612,7 @@ pub fn finite(a: &mut [u32], n: usize) -> bool
     requires { ⌜ Read (now a) n ⌝ }
     ensures { λ r. ⌜ Tested (now (a .entry)) (now (a .exit)) n r ⌝ }
 {
-    clear_marks(a, n);
-    mark_all(a, n);
-    all_marked(a, n)
+    finite_from(a, 0, n)
 }
 
 // The size of the unknown r, a representative, at most 33.
