@@ -2,7 +2,7 @@
 use mathlib.Core.Path.{_≡_}
 use mathlib.Core.List.{List, map}
 use Prim.Native.Nat.{ℕ, zero, suc, _+_, _*_, _≤_, _<_, _^_}
-use lib.ListN.{length}
+use lib.ListN.{length, getD}
 use Rattle.types.specs.Equations.{In, Pairs}
 use Rattle.types.specs.Finite.{fromList}
 use Rattle.types.specs.Follows.{unk}
@@ -70,6 +70,24 @@ pub record Formed (s s′ : List ℕ) (n top t v m cell n′ top′ : ℕ) : Typ
   pub next : n′ ≡ suc n
   pub above : Above (frozen s′) (suc n) top′
   pub few : top′ ≤ top + m + m
+
+-- Part number j of m, the cell c, may be written to the run at `top`, and its identifier to the run after that.
+pub record Putting (s : List ℕ) (n top m j c : ℕ) : Type 0 where
+  pub P₀ : Pairs ℕ
+  pub L : Pairs ℕ
+  pub solved : Solved s n P₀ L
+  pub above : Above (frozen s) n top
+  pub made : c < n
+  pub within : j < m
+  pub room : top + m + m ≤ 6144
+
+pub record PutPart (s s′ d : List ℕ) (n top m j w at c : ℕ) : Type 0 where
+  pub builds : Builds s s′ d n n
+  pub above : Above (frozen s′) n top
+  pub fit : load (frozen s′) n ≡ load (frozen s) n
+  pub part : getD (frozen s′) (top + j) 0 ≡ c
+  pub name : w ≡ 1 → getD (frozen s′) (top + m + j) 0 ≡ getD (heap s d) at 0
+  pub others : (q : ℕ) → (q ≡ top + j → ⊥) → (q ≡ top + m + j → ⊥) → getD (frozen s′) q 0 ≡ getD (frozen s) q 0
 
 -- What entering asks of the store of n cells, whose runs end at `top`: room for x formers, and the k cells of the row.
 pub record Room (s d : List ℕ) (n top x row k : ℕ) : Type 0 where
