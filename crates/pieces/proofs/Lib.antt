@@ -1,6 +1,5 @@
 pub mod Walks
 pub mod Updates
-pub mod Cells
 pub mod Growing
 pub mod Equating
 pub mod Naming

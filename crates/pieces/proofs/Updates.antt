@@ -26,5 +26,3 @@ put-miss x g f y d = go (eqb y x) refl
     go true e = absurd (d (eqb-true y x e))
     go false e = refl
 
-pub put-below : (n : ℕ) (g : Ty) (f : ℕ → Ty) (i : ℕ) → i < n → put n g f i ≡ f i
-put-below n g f i l = put-miss n g f i (λ e. omega arith)
