@@ -22,10 +22,24 @@ use Rattle.solver.specs.Parts.{Names, Rest}
 use Rattle.solver.specs.Settled.{lower, heap, leadWords, nameWords, partsOf, Areas, Ends, Fits, Reading, Reads}
 use Rattle.solver.specs.Growth.{argOf, unknowns, Builds, Forming, Formed, Grows, InRow, Instance, Instanced, Instances, InstancedParts, Instancing, InstancingParts, Putting, PutPart, Room}
 use Rattle.solver.proofs.Words.{frozen-length, run-cons}
-use Rattle.solver.proofs.Growing.{run-frame}
+use Rattle.solver.proofs.Growing.{made-above, made-load, run-frame}
 use Rattle.solver.proofs.Settling.{heap-kept}
-use Rattle.solver.proofs.Reading.{Part, heap-length, is-binding, lead-1, lead-3, like-yes, name-5, part-next, parts-4, parts-are, place-low, rest-start, second-at, tag-at, words-some}
-use Rattle.solver.proofs.Extending.{above-wide, added-above, added-builds, added-here, added-load, added-other, builds-on, builds-refl, fits-old, former-builds, former-type, made-above, made-load}
+use Rattle.solver.proofs.Reading.{Part, heap-length, is-binding, lead-1, lead-3, like-yes, name-5, part-next, parts-3, parts-4, parts-are, place-low, rest-start, second-at, tag-at, words-some}
+use Rattle.solver.proofs.Extending.{above-wide, added-above, added-builds, added-here, added-load, added-other, builds-on, builds-refl, fits-old, former-builds, former-type}
+
+-- Room for more is room for less. A type in the dictionary has at most 32 formers (finding 38), so room for 32 is enough.
+pub room-less : (s d : List ℕ) (n top x y row k : ℕ) → x ≤ y → Room s d n top y row k → Room s d n top x row k
+room-less s d n top x y row k l A = record {
+  P₀ = A .P₀;
+  L = A .L;
+  solved = A .solved;
+  above = A .above;
+  few = A .few;
+  row-made = A .row-made;
+  cells = let z = A .cells in omega arith;
+  words = let z = A .words in omega arith;
+  fit = let z = A .fit in omega arith;
+}
 
 -- The row.
 nth-in : (first k i c : ℕ) → suc c ≡ first + i → 1 ≤ i → i ≤ k → nth (unknowns first k) i ≡ some (unknown c)
@@ -189,17 +203,7 @@ module _ (s d : List ℕ) (n top p row k : ℕ) (I : Instancing s d n top p row 
         e = p + length (words (node h gs));
         rest = rest-start (heap s d) p h gs R t w at et ew ea;
         count = (let z : partCountType gs + 0 ≡ partCountType gs = omega arith in z) ∙ sym (count h gs R);
-        room = record {
-          P₀ = A .P₀;
-          L = A .L;
-          solved = A .solved;
-          above = A .above;
-          few = A .few;
-          row-made = A .row-made;
-          cells = let z = A .cells in omega arith;
-          words = let z = A .words in omega arith;
-          fit = let z = A .fit in omega arith;
-        };
+        room = room-less s d n top (sizes gs) (suc (sizes gs)) row k (omega arith) A;
         ahead = let z = A .words in omega arith;
       }
 
@@ -244,6 +248,7 @@ module _ (s d : List ℕ) (n top p row k : ℕ) (I : Instancing s d n top p row 
                 plain = λ l. sym (arg-none t v (T + m) (ap leadWords (let u : t ≡ 1 = omega arith in u) ∙ lead-1));
                 powers = λ e. sym (arg-none t v (T + m) (ap leadWords e ∙ lead-3));
                 products = λ e. sym (arg-word t v (T + m) (λ u. omega arith) (λ u. let i = ap leadWords e ∙ lead-4 in omega arith)) ∙ ev ∙ sym (em ∙ parts-4 t _ e);
+                one = λ e. em ∙ parts-3 t _ e;
                 low = lw;
                 room = omega arith;
                 named-low = λ e. let i = arg-5 t v (T + m) e in omega arith;
@@ -390,17 +395,7 @@ module _ (s d : List ℕ) (n top at w m j row k : ℕ) (A : InstancingParts s d 
     first-c l (tcons g gs) e R q A′ = record {
       type = g;
       reads = part-next (heap s d) w at l g gs e R .reads;
-      room = record {
-        P₀ = A′ .P₀;
-        L = A′ .L;
-        solved = A′ .solved;
-        above = A′ .above;
-        few = A′ .few;
-        row-made = A′ .row-made;
-        cells = let z = A′ .cells in omega arith;
-        words = let z = A′ .words in omega arith;
-        fit = let z = A′ .fit in omega arith;
-      };
+      room = room-less s d n top (size g) (size g + sizes gs) row k (omega arith) A′;
     }
 
     pub first-ask : Instancing s d n top (at + w) row k

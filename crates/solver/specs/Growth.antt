@@ -107,7 +107,8 @@ pub record Instancing (s d : List ℕ) (n top p row k : ℕ) : Type 0 where
   pub reads : Reads (heap s d) p type
   pub room : Room s d n top (size type) row k
 
--- ENTER: the type g at p stands at `cell`, with the row's cells for its parameters (document 01: a generic Ref's type has its unknowns or actuals in place).
+-- ENTER: cell `cell` stands for the type g, with the row's cells for its parameters (document 01: a Ref has its name's type, and each parameter of a generic Ref
+-- without actuals is an unknown type).
 pub record Instance (s s′ : List ℕ) (n top row k cell n′ top′ : ℕ) (g : Ty) : Type 0 where
   pub type : (σ : ℕ → Ty) → Fits (frozen s′) n′ σ → σ cell ≡ under σ (instance (unknowns row k) g)
   pub cells : n′ ≤ n + size g
