@@ -12,7 +12,8 @@ use Rattle.typing.specs.Dictionary.{Entry, Dictionary, blank, _▸_, entryWords
 use Rattle.typing.proofs.DictionaryLaid.{pairs-length}
 use Rattle.dictionary.specs.Holds.{Holds}
 use Rattle.dictionary.specs.Growth.{sizeAt, lifted, offsetRaised, pairAdded, grown, Appended}
-use Rattle.dictionary.proofs.Places.{laid-length, length-last, words-last, length-more, count-held, size-held}
+use Rattle.dictionary.proofs.Places.{laid-length, length-last, words-last, count-held, size-held}
+use Rattle.dictionary.proofs.Monotone.{length-more}
 use Rattle.dictionary.proofs.LiftLaws.{lifted-lists, sets-seam, drop-zeros}
 use Rattle.dictionary.proofs.PairLaws.{offsets-raised, pair-added, pairs-last}
 

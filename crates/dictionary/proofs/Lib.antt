@@ -1,5 +1,6 @@
 -- Laws of an area that holds a dictionary: where its entries stand, what a lookup finds, and how it grows.
 pub mod Places
+pub mod Monotone
 pub mod LookupLaws
 pub mod LiftLaws
 pub mod PairLaws

@@ -1,7 +1,7 @@
 -- Where the entries of a dictionary stand in an area that holds it, and how many words it takes.
 use mathlib.Core.Path.{_≡_, sym, ap, _∙_}
 use mathlib.Core.List.{List, [], _∷_, _++_, append-assoc, append-nil}
-use Prim.Native.Nat.{ℕ, suc, _+_, _*_, _-_, _≤_}
+use Prim.Native.Nat.{ℕ, suc, _+_, _*_, _-_}
 use native.Mathlib.Omega.{arith}
 use mathlib.Core.Bool.{Bool, cond}
 use lib.Dec.{eqb}
@@ -30,21 +30,6 @@ length-last es e = let h = length-append es (e ∷ []) in omega (arith, h)
 pub words-last : (es : List Entry) (e : Entry) → allWords (es ++ (e ∷ [])) ≡ allWords es ++ entryWords e
 unfolding allWords
 words-last es e = words-append es (e ∷ []) ∙ ap (λ (w : List ℕ). allWords es ++ w) (append-nil (entryWords e))
-
--- A further entry takes its words and a pair.
-pub length-more : (D : Dictionary) (e : Entry) → dictionaryLength (D ▸ e) ≡ dictionaryLength D + 2 + length (entryWords e)
-unfolding dictionaryWords entries
-length-more D e =
-    let es = entries D in
-    let a = laid-length (es ++ (e ∷ [])) in
-    let b = laid-length es in
-    let n = length-last es e in
-    let w = ap length (words-last es e) ∙ length-append (allWords es) (entryWords e) in
-    omega (arith, a, b, n, w)
-
--- Dictionaries grow: where a later one fits its area, so does each before it.
-pub length-grows : (D : Dictionary) (e : Entry) → dictionaryLength D ≤ dictionaryLength (D ▸ e)
-length-grows D e = let h = length-more D e in omega (arith, h)
 
 -- the entry after fs in an area that begins with the words of fs, e and bs
 module _ (fs bs : List Entry) (e : Entry) (rest d : List ℕ) (q : d ≡ laidOutWords (fs ++ (e ∷ bs)) ++ rest) where
