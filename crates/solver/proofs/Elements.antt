@@ -20,7 +20,8 @@ use Rattle.solver.proofs.Heads.{code, coded, tag-code, parts-length}
 use Rattle.solver.proofs.Marking.{by-rep}
 use Rattle.solver.proofs.Answering.{getD-in}
 use Rattle.solver.proofs.Opening.{solution-with, open-type}
-use Rattle.solver.proofs.Reading.{Rest, the-rest, part-next, tag-at, reads-one}
+use Rattle.solver.specs.Parts.{Rest}
+use Rattle.solver.proofs.Reading.{the-rest, part-next, tag-at, reads-one}
 use Rattle.solver.proofs.Looking.{plain, self, former-type}
 
 node-1 : (h k : Former) (a b : Tys) → node h a ≡ node k b → h ≡ k

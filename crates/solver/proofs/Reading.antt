@@ -21,12 +21,13 @@ use Rattle.types.specs.Words.{second, words, partWords}
 use mathlib.Core.Option.{Option, some, none}
 use Rattle.types.specs.Component.{pickType, componentType}
 use Rattle.types.proofs.Words.{words-one}
+use Rattle.solver.specs.Parts.{Names, Rest}
 use Rattle.solver.specs.Settled.{lower, heap, Reads, Readable, Areas, Meeting, SameNames, leadWords, nameWords, partsOf}
 
 pub reads-one : (H : List ℕ) (p : ℕ) (g k : Ty) → Reads H p g → Reads H p k → g ≡ k
 reads-one H p g k R S = words-one g k (R .formed) (S .formed) (R .after) (S .after) (sym (R .words-at) ∙ S .words-at) .0
 
-words-some : (g : Ty) → 0 < length (words g)
+pub words-some : (g : Ty) → 0 < length (words g)
 unfolding words
 words-some (node h gs) = omega arith
 
@@ -40,18 +41,6 @@ inside H p g R = omega (arith, words-some g, ap length (R .words-at), length-app
 -- What stands after a beginning.
 pub drop-on : (H : List ℕ) (p : ℕ) (xs ys : List ℕ) → drop p H ≡ xs ++ ys → drop (p + length xs) H ≡ ys
 drop-on H p xs ys e = sym (drop-drop (length xs) p H) ∙ ap (drop (length xs)) e ∙ drop-at xs ys (length xs) refl
-
-abbrev pub Names : ℕ → List ℕ → Tys → Type 0
-Names zero l gs = l ≡ []
-Names (suc w) l gs = (w ≡ 0) × (length l ≡ partCountType gs)
-
--- Parts gs, with the names l, stand at `at`, and end at e. A name takes w words.
-pub record Rest (H : List ℕ) (w at : ℕ) (l : List ℕ) (gs : Tys) (e : ℕ) : Type 0 where
-  pub formed : FormedTypes Arity gs
-  pub names : Names w l gs
-  pub after : List ℕ
-  pub words-at : drop at H ≡ partWords l gs ++ after
-  pub end : e ≡ at + length (partWords l gs)
 
 module _ (H : List ℕ) (p : ℕ) (h : Former) (gs : Tys) (R : Reads H p (node h gs)) where
   all-words : drop p H ≡ (tag h ∷ second h (partCountType gs)) ++ (partWords (identifiers h) gs ++ R .after)

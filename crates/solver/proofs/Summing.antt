@@ -11,7 +11,8 @@ use Rattle.types.specs.Formed.{partCountType}
 use Rattle.types.specs.Words.{words}
 use Rattle.solver.specs.Settled.{heap, Reads, leadWords, nameWords, partsOf}
 use Rattle.solver.specs.Sizes.{cap}
-use Rattle.solver.proofs.Reading.{Rest, rest-start, part-next, parts-are, tag-at, inside, place-low}
+use Rattle.solver.specs.Parts.{Rest}
+use Rattle.solver.proofs.Reading.{rest-start, part-next, parts-are, tag-at, inside, place-low}
 use Rattle.solver.proofs.Marking.{cap-cases, cap-add, cap-part}
 
 -- n parts, j passed; sum with the sizes of the others is m, up to 33.
