@@ -23,6 +23,7 @@ use Rattle.pieces.proofs.Walks.{items-earlier}
 -- Tables that agree on the unknowns of a term give it one type.
 mutual
   unfolding under Each
+
   pub under-same : (U : List ℕ) (τ τ′ : Table) → ((x : ℕ) → In x U → τ x ≡ τ′ x) → (a : Term) → Each (λ x. In x U) a → under τ a ≡ under τ′ a
   under-same U τ τ′ h (unknown x) i = h x i
   under-same U τ τ′ h (con k ts) i = ap (node k) (unders-same U τ τ′ h ts i)

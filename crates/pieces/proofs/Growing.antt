@@ -160,8 +160,7 @@ module _ (s s′ d : List ℕ) (n : ℕ) (A : Making s n 0 0 4096 0) (M : Made s
         let E = at (τ x) (q .0) (q .1) in
         (E .0 .τ, extended s s′ d n (suc n) G P₀ H t U₀ U ρ Q (q .0) (q .1) (E .0), (sym (E .1), extended-matches s s′ d n (suc n) G P₀ H t U₀ U ρ Q τ (q .0) (E .0) (q .2)));
     complete = λ σ S τ₀ h.
-        let q = Q .complete σ (back σ S) τ₀ h in
-        (
+        let q = Q .complete σ (back σ S) τ₀ h in (
           put x (σ n) (q .0),
           now-met (put x (σ n) (q .0)) (Q .local (q .0) (put x (σ n) (q .0)) (λ y i. sym (put-miss x (σ n) (q .0) y (apart y i))) (q .1)),
           (put-hit x (σ n) (q .0), all-zip ρ (λ y c k e. put-miss x (σ n) (q .0) y (apart y (k .0)) ∙ e) (Q .tracked) (q .2)),

@@ -4,3 +4,4 @@ pub mod Growing
 pub mod Equating
 pub mod Naming
 pub mod Closing
+pub mod Comparing

@@ -25,4 +25,3 @@ put-miss x g f y d = go (eqb y x) refl
     go : (b : Bool) → eqb y x ≡ b → choose b g (f y) ≡ f y
     go true e = absurd (d (eqb-true y x e))
     go false e = refl
-
