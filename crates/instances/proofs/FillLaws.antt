@@ -1,10 +1,8 @@
 -- Types with types for their parameters: instances under an assignment, and well-formed types.
 use Prim.Native.Nat.{ℕ, zero, suc}
-use mathlib.Core.Option.{Option, some, none}
 use mathlib.Core.Path.{_≡_, refl, ap, ap₂, sym, subst, _∙_}
-use native.Mathlib.Omega.{arith}
 use Rattle.types.specs.Former.{Former, int, given, parameter, power, product, binding, tag}
-use Rattle.types.specs.Types.{Ty, Tys, node, tnil, tcons, Term, Terms, nil, cons, under, unders}
+use Rattle.types.specs.Types.{Ty, Tys, node, tnil, tcons, Terms, nil, cons, under, unders}
 use Rattle.types.specs.Formed.{FormedType, FormedTypes, partCountType}
 use Rattle.types.specs.Instance.{nth, actual, instanceFormer, instance, instances}
 use Rattle.instances.specs.Fill.{nthType, actualType, fillFormer, fill, fills}

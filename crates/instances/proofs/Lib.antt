@@ -1,6 +1,8 @@
 pub mod FillLaws
-pub mod FillReading
+pub mod Rows
+pub mod FillSizes
+pub mod FillWords
 pub mod Copying
 pub mod Moving
-pub mod Resembling
+pub mod AlikeLaws
 pub mod Saving

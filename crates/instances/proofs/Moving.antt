@@ -1,10 +1,10 @@
 -- Words written over a part of an area: what is read there, and elsewhere.
-use mathlib.Core.Path.{_≡_, refl, sym, ap, ap₂, subst, _∙_}
+use mathlib.Core.Path.{_≡_, refl, sym, ap, _∙_}
 use mathlib.Core.List.{List, [], _∷_, _++_}
-use mathlib.Core.Logic.{_⊎_, inl, inr, ⊎-elim}
-use Prim.Native.Nat.{ℕ, zero, suc, _+_, _*_, _-_, _≤_, _<_}
+use mathlib.Core.Logic.{⊎-elim}
+use Prim.Native.Nat.{ℕ, zero, suc, _+_, _≤_, _<_}
 use native.Mathlib.Omega.{arith}
-use lib.ListN.{length, getD, set, take, drop, length-set, take-append-drop, length-append}
+use lib.ListN.{length, getD, set, take, drop, length-set, take-append-drop}
 use lib.Seq.{sets, length-sets, getD-set-same, getD-set-other, getD-take, ext-getD, take-at}
 use Rattle.types.specs.Types.{Ty}
 use Rattle.types.specs.Formed.{WellFormed}
@@ -15,7 +15,7 @@ use Rattle.solver.specs.Sizes.{markAt}
 use Rattle.solver.specs.Written.{Wrote}
 use Rattle.solver.proofs.Words.{run-at, run-length, link-same, frozen-length}
 use Rattle.solver.proofs.Reading.{word-in, inside, heap-length, heap-low, heap-high}
-use Rattle.solver.proofs.Growing.{frozen-at, lt-or-ge}
+use Rattle.solver.proofs.Growing.{frozen-at, run-frame}
 use Rattle.instances.specs.Moved.{Below, Alike}
 
 -- Writing leaves what lies before and after.
@@ -43,9 +43,18 @@ sets-run l at ws r =
     let e = run-length (sets l at ws) at (length ws) (omega arith) in
     ext-getD 0 (run (sets l at ws) at (length ws)) ws e (λ j q. let y : j < length ws = omega arith in run-at (sets l at ws) at (length ws) j y ∙ sets-in l at ws j r y)
 
+-- Words stay where later ones are written after them.
+pub run-before : (l : List ℕ) (at : ℕ) (ws : List ℕ) (p k : ℕ) → p + k ≤ at → p + k ≤ length l → run (sets l at ws) p k ≡ run l p k
+run-before l at ws p k b r =
+    let z = length-sets l at ws in
+    run-frame l (sets l at ws) p k r (omega arith) (λ i m q. sets-before l at ws i (omega arith))
+
 pub lower-at : (s : List ℕ) (i : ℕ) → i < 39936 → getD (lower s) i 0 ≡ getD s i 0
 unfolding lower
 lower-at s i l = getD-take 39936 s i 0 l
+
+pub lower-words : (s s′ : List ℕ) → lower s′ ≡ lower s → (i : ℕ) → i < 39936 → getD s′ i 0 ≡ getD s i 0
+lower-words s s′ e i l = sym (lower-at s′ i l) ∙ ap (λ z. getD z i 0) e ∙ lower-at s i l
 
 -- A type is read where its words stand.
 pub reads-at : (H : List ℕ) (p : ℕ) (g : Ty) → WellFormed g → p + length (words g) ≤ length H → ((j : ℕ) → j < length (words g) → getD H (p + j) 0 ≡ getD (words g) j 0) → Reads H p g

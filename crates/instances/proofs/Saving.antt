@@ -1,20 +1,21 @@
 -- A store saved and restored is alike.
-use mathlib.Core.Path.{_≡_, refl, sym, ap, ap₂, subst, _∙_}
-use mathlib.Core.List.{List, [], _∷_, _++_}
-use Prim.Native.Nat.{ℕ, zero, suc, _+_, _*_, _-_, _≤_, _<_}
+use mathlib.Core.Path.{_≡_, sym, ap, ap₂, _∙_}
+use mathlib.Core.List.{List, _++_}
+use Prim.Native.Nat.{ℕ, _+_, _*_, _-_, _≤_, _<_}
 use native.Mathlib.Omega.{arith}
 use lib.ListN.{length, getD, length-append, List·getD-append}
 use lib.Seq.{sets, length-sets, getD-append-add, ext-getD}
 use Rattle.solver.specs.Store.{frozen, fieldAt, run}
+use Rattle.solver.specs.Calls.{Above}
 use Rattle.solver.specs.Settled.{lower, wordAt}
 use Rattle.solver.specs.Written.{Wrote}
 use Rattle.solver.proofs.Words.{run-at, run-length}
 use Rattle.solver.proofs.Reading.{lower-length}
 use Rattle.solver.proofs.Growing.{frozen-at}
 use Rattle.solver.proofs.Writer.{sets-append}
-use Rattle.instances.specs.Moved.{AllBelow, StillRead, Alike, saved, restored}
-use Rattle.instances.proofs.Moving.{sets-before, sets-in, lower-at}
-use Rattle.instances.proofs.Resembling.{still-read}
+use Rattle.instances.specs.Moved.{AllBelow, StillRead, Alike, saved, restored, Resumed}
+use Rattle.instances.proofs.Moving.{sets-before, sets-in, sets-run, lower-at}
+use Rattle.instances.proofs.AlikeLaws.{still-read, alike-solved, alike-above, alike-pinned, alike-below, alike-obeys, alike-obeys-back, alike-solution, alike-solution-back}
 
 module _ (s : List ℕ) (n top : ℕ) (size : length s ≡ 52224) (few : n ≤ 1024) (low : 4096 ≤ top) (high : top ≤ 6144) where
   links-length : length (run s 39936 n) ≡ n
@@ -46,6 +47,12 @@ module _ (s : List ℕ) (n top : ℕ) (size : length s ≡ 52224) (few : n ≤ 1
             ∙ sets-append (sets o₀ at (run s 39936 n)) (at + length (run s 39936 n)) (run s 46080 (4 * n)) (run s 50176 (top - 4096)));
         end = omega arith;
       }
+
+  -- Where they were written they stand.
+  pub saved-stands : (out out′ : List ℕ) (at e : ℕ) → at + (5 * n + (top - 4096)) ≤ length out → Wrote out out′ at e (saved s n top) → run out′ at (5 * n + (top - 4096)) ≡ saved s n top
+  saved-stands out out′ at e r W =
+      let z = saved-length in
+      ap₂ (λ o k. run o at k) (W .area) (sym z) ∙ sets-run out at (saved s n top) (omega arith)
 
   -- The words of a saved store.
   pub saved-links : (i : ℕ) → i < n → getD (saved s n top) i 0 ≡ getD s (39936 + i) 0
@@ -157,3 +164,21 @@ module _ (s : List ℕ) (n top : ℕ) (size : length s ≡ 52224) (few : n ≤ 1
           let z : 46080 + p ≡ 50176 + (p - 4096) = omega arith in
           frozen-at (restored t n top from at) p ∙ ap (λ k. getD (restored t n top from at) k 0) z ∙ at-run (p - 4096) (omega arith) ∙ sym (frozen-at s p ∙ ap (λ k. getD s k 0) z);
     }
+
+    -- THE STORE IS TAKEN UP AGAIN: whatever happened to it in between, and to the words from `base` on, it has the cells, equations and solutions of s.
+    module _ (d : List ℕ) (base : ℕ) (r : base ≤ 39936) (kept : (i : ℕ) → i < base → getD t i 0 ≡ getD s i 0) (under : AllBelow s d n base) (over : Above (frozen s) n top) where
+      pub resumed : Resumed s (restored t n top from at) d n top base
+      resumed =
+          let Z = restored-still d base r kept under in
+          let u = restored t n top from at in
+          record {
+            alike = restored-alike;
+            solved = λ P₀ L S. alike-solved s u n top restored-alike P₀ L over S;
+            above = alike-above s u n top restored-alike over;
+            pinned = λ P. alike-pinned s u n top restored-alike d Z P;
+            below = λ P. alike-below s u n top restored-alike d Z base P under;
+            obeys = λ σ P O. alike-obeys s u n top restored-alike d Z σ P O;
+            obeyed = λ σ O. alike-obeys-back s u n top restored-alike d Z σ O;
+            solutions = λ P₀ L S P X. alike-solution s u n top restored-alike d Z P₀ L over S P X;
+            solved-before = λ P₀ L S X. alike-solution-back s u n top restored-alike d Z P₀ L over S X;
+          }

@@ -7,8 +7,11 @@ use lib.ListN.{length, getD}
 use lib.Seq.{sets}
 use Rattle.types.specs.Types.{Ty}
 use Rattle.types.specs.Words.{words}
-use Rattle.solver.specs.Store.{frozen, fieldAt, run}
-use Rattle.solver.specs.Settled.{heap, wordAt, Reads}
+use Rattle.types.specs.Equations.{Pairs}
+use Rattle.solver.specs.Store.{frozen, fieldAt, run, Solved}
+use Rattle.solver.specs.Calls.{Above}
+use Rattle.solver.specs.Settled.{heap, wordAt, Reads, Pinned, Obeys}
+use Rattle.solver.specs.Answers.{SolutionOf}
 
 -- The words of g at p lie below `at`, or in the dictionary.
 abbrev pub Below : ℕ → ℕ → Ty → Type 0
@@ -36,3 +39,15 @@ saved s n top = run s 39936 n ++ (run s 46080 (4 * n) ++ run s 50176 (top - 4096
 -- The area s with the store whose words stand in `from` at `at`.
 unfoldable pub restored : List ℕ → ℕ → ℕ → List ℕ → ℕ → List ℕ
 restored s n top from at = sets (sets (sets s 39936 (run from at n)) 46080 (run from (at + n) (4 * n))) 50176 (run from (at + n + 4 * n) (top - 4096))
+
+-- The store s is taken up again in s′, with the same cells, equations and solutions; its settled types lie below `base` or in the dictionary.
+pub record Resumed (s s′ d : List ℕ) (n top base : ℕ) : Type 0 where
+  pub alike : Alike s s′ n top
+  pub solved : (P₀ L : Pairs ℕ) → Solved s n P₀ L → Solved s′ n P₀ L
+  pub above : Above (frozen s′) n top
+  pub pinned : Pinned s d n → Pinned s′ d n
+  pub below : Pinned s d n → AllBelow s′ d n base
+  pub obeys : (σ : ℕ → Ty) → Pinned s d n → Obeys s d n σ → Obeys s′ d n σ
+  pub obeyed : (σ : ℕ → Ty) → Obeys s′ d n σ → Obeys s d n σ
+  pub solutions : (P₀ L : Pairs ℕ) → Solved s n P₀ L → Pinned s d n → SolutionOf s d n P₀ → SolutionOf s′ d n P₀
+  pub solved-before : (P₀ L : Pairs ℕ) → Solved s n P₀ L → SolutionOf s′ d n P₀ → SolutionOf s d n P₀

@@ -1,18 +1,17 @@
-use mathlib.Core.Path.{_≡_, refl, sym, ap, subst, _∙_}
+use mathlib.Core.Path.{sym, ap, _∙_}
 use native.Mathlib.Omega.{arith}
-use Prim.Native.Nat.{suc, _+_, _-_, _≤_}
-use lib.ListN.{length, getD}
+use Prim.Native.Nat.{_+_, _-_, _≤_, ℕ, _<_}
+use lib.ListN.{length}
 use Rattle.types.specs.Types.{Ty, Tys, size, tnil}
-use Rattle.types.specs.Words.{words}
-use Rattle.solver.specs.Settled.{heap, leadWords, Reads, Reading}
+use Rattle.solver.specs.Settled.{heap, Reads}
 use Rattle.solver.specs.Sizes.{cap}
-use Rattle.solver.proofs.Reading.{heap-length, place-low, place-few}
+use Rattle.solver.proofs.Reading.{heap-length, place-few}
 use Rattle.solver.proofs.Marking.{cap-le}
 use Rattle.instances.specs.Fill.{nthType, actualType, fill}
 use Rattle.instances.specs.Filled.{Row}
-use Rattle.instances.proofs.FillReading.{parameter-fill, Totalling, total-start, TotalStep, total-step, total-end}
+use Rattle.instances.proofs.Rows.{parameter-fill}
+use Rattle.instances.proofs.FillSizes.{Totalling, total-start, total-step, total-end}
 use borrow.Author.Needs.{needs}
-use Prim.Native.Nat.{ℕ, _<_}
 use borrow.Fn.Kinds.{In}
 use borrow.Fn.PlainCycle.{Measures, is, falls, and}
 use Rattle.instances.proofs.filled_size.Reads as filled-size

@@ -1,20 +1,16 @@
 use Rattle.solver.proofs.Words.{run-length}
-use mathlib.Core.Path.{_≡_, refl, sym, ap, subst, _∙_}
+use mathlib.Core.Path.{_≡_, refl, sym, ap, _∙_}
 use native.Mathlib.Omega.{arith}
-use Prim.Native.Nat.{suc, _+_, _-_, _≤_}
-use lib.ListN.{length, getD, length-append}
+use Prim.Native.Nat.{_+_, _-_, ℕ, _<_}
+use lib.ListN.{length, length-append}
 use lib.Seq.{sets}
 use Rattle.types.specs.Types.{Ty, Tys}
-use Rattle.types.specs.Words.{words}
 use Rattle.solver.specs.Store.{run}
-use Rattle.solver.specs.Settled.{heap, leadWords, Reads, Reading}
-use Rattle.solver.specs.Written.{Wrote}
+use Rattle.solver.specs.Settled.{heap, Reads}
 use Rattle.solver.proofs.Reading.{heap-length, place-few}
-use Rattle.instances.specs.Fill.{fill}
 use Rattle.instances.specs.Filled.{Row}
-use Rattle.instances.proofs.FillReading.{body, fill-words, lead-inside, Emitting, emit-start, EmitStep, emit-step, emit-end, wrote-all}
+use Rattle.instances.proofs.FillWords.{body, fill-words, lead-inside, Emitting, emit-start, emit-step, emit-end, wrote-all}
 use borrow.Author.Needs.{needs}
-use Prim.Native.Nat.{ℕ, _<_}
 use borrow.Fn.Kinds.{In}
 use borrow.Fn.PlainCycle.{Measures, is, falls, and}
 use Rattle.instances.proofs.write_filled.Reads as write-filled

@@ -1,9 +1,9 @@
-use mathlib.Core.Path.{_≡_, refl, sym, ap, _∙_}
+use mathlib.Core.Path.{_≡_, sym, ap, _∙_}
 use native.Mathlib.Omega.{arith}
 use Prim.Native.Nat.{suc, _+_, _-_}
 use lib.ListN.{getD}
 use Rattle.instances.specs.Filled.{placeOf}
-use Rattle.instances.proofs.FillReading.{place-some, place-past, place-zero}
+use Rattle.instances.proofs.Rows.{place-some, place-past, place-zero}
 use borrow.Author.Needs.{needs}
 use Rattle.instances.proofs.actual.Statement.{statement}
 use Rattle.instances.proofs.actual.Tie as tie
@@ -11,23 +11,18 @@ use Rattle.instances.proofs.actual.Reads as reads
 use Rattle.instances.proofs.actual.Lts as lts
 use Rattle.words.proofs.word.Reads as word-reads
 
--- src/lib.rt:34:9
 returns : tie.Need-returns
 returns c = let row = c .before .before .args .row .now in sym (ap (placeOf row) (c .if1 .taken) ∙ place-zero row)
 
--- src/lib.rt:36:13
 sub-k : tie.Need-sub-k
 sub-k c = search needs
 
--- src/lib.rt:38:16
 word-requires : tie.Need-word-requires
 word-requires c κs = search needs
 
--- src/lib.rt:38:16
 add-result : tie.Need-add-result
 add-result c = search needs
 
--- src/lib.rt:38:9
 returns-2 : tie.Need-returns-2
 returns-2 c =
     let s = c .before .before .before .before .args in
@@ -37,7 +32,6 @@ returns-2 c =
     let w : c .word .result + 1 ≡ suc (getD row (s .i - 1) 0) = (let e = c .word .ensures .0 in omega arith) in
     w ∙ sym (ap (placeOf row) z ∙ place-some row (s .i - 1) (c .before .if2 .taken))
 
--- src/lib.rt:30:1
 returns-3 : tie.Need-returns-3
 returns-3 c =
     let s = c .before .before .before .args in

@@ -1,12 +1,11 @@
-use mathlib.Core.Path.{_≡_, refl, sym, ap, subst, _∙_}
+use mathlib.Core.Path.{_≡_, sym, ap, _∙_}
 use native.Mathlib.Omega.{arith}
-use Prim.Native.Nat.{ℕ, suc, _+_, _-_}
-use Rattle.types.specs.Types.{Ty, Tys, size}
+use Prim.Native.Nat.{suc, _-_}
+use Rattle.types.specs.Types.{size}
 use Rattle.solver.specs.Settled.{heap}
 use Rattle.solver.specs.Sizes.{cap}
 use Rattle.solver.proofs.Summing.{cap-small}
-use Rattle.instances.specs.Filled.{Row, placeOf}
-use Rattle.instances.proofs.FillReading.{Given, row-some, actual-none, actual-some, parameter-size}
+use Rattle.instances.proofs.Rows.{row-some, actual-none, actual-some, parameter-size}
 use borrow.Author.Needs.{needs}
 use Rattle.instances.proofs.actual_size.Statement.{statement}
 use Rattle.instances.proofs.actual_size.Tie as tie
@@ -15,11 +14,9 @@ use Rattle.instances.proofs.actual_size.Lts as lts
 use Rattle.instances.proofs.actual.Reads as actual-reads
 use Rattle.solver.proofs.type_size.Reads as type-size-reads
 
--- src/lib.rt:48:9
 actual-requires : tie.Need-actual-requires
 actual-requires c κs = search needs
 
--- src/lib.rt:50:9
 returns : tie.Need-returns
 returns c =
     let s = c .before .before .before .before .before .args in
@@ -28,11 +25,9 @@ returns c =
       few = omega arith;
     }
 
--- src/lib.rt:52:21
 sub-type-size : tie.Need-sub-type-size
 sub-type-size c = search needs
 
--- src/lib.rt:52:5
 type-size-requires : tie.Need-type-size-requires
 type-size-requires c κs =
     let s = c .before .before .before .before .before .args in
@@ -42,7 +37,6 @@ type-size-requires c κs =
     let G = row-some (heap (s .a .now) (s .d .now)) (s .row .now) (P .types) (s .i) (q - 1) (P .stand) (sym (c .before .actual .ensures) ∙ (let z : q ≡ suc (q - 1) = omega arith in z)) in
     record { areas = P .areas; readable = record { type = G .type; reads = G .reads } }
 
--- src/lib.rt:44:1
 returns-2 : tie.Need-returns-2
 returns-2 c =
     let s = c .before .before .before .before .before .before .args in

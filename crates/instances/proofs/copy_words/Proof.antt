@@ -1,7 +1,7 @@
 use mathlib.Core.Path.{_≡_, refl, sym, ap, subst, _∙_}
 use native.Mathlib.Omega.{arith}
-use Prim.Native.Nat.{ℕ, suc, _+_, _-_, _≤_}
-use lib.ListN.{length, set, length-set}
+use Prim.Native.Nat.{_+_, _-_, _≤_}
+use lib.ListN.{length, length-set}
 use Rattle.solver.specs.Store.{run}
 use Rattle.instances.proofs.Copying.{Copied, copied-start, copied-step, copied-end}
 use borrow.Author.Needs.{needs}
@@ -18,39 +18,30 @@ Inv-loop a₀ at from first k j₀ a j = (j ≤ k) × (length a ≡ length a₀)
 abbrev μ-loop : tie.MeasureT-loop
 μ-loop a₀ at from first k j₀ a j = k - j
 
--- src/lib.rt:134:5
 loop-holds : tie.Need-loop-holds Inv-loop μ-loop
 loop-holds c = let s = c .before .before .args in (omega arith, refl, copied-start (s .a .now) (s .at) (run (s .from .now) (s .first) (s .k)))
 
--- src/lib.rt:135:18
 add-store : tie.Need-add-store Inv-loop μ-loop
 add-store c = search needs
 
--- src/lib.rt:135:37
 add-word : tie.Need-add-word Inv-loop μ-loop
 add-word c = search needs
 
--- src/lib.rt:135:26
 word-requires : tie.Need-word-requires Inv-loop μ-loop
 word-requires c κs = search needs
 
--- src/lib.rt:135:26
 cast-store : tie.Need-cast-store Inv-loop μ-loop
 cast-store c = search needs
 
--- src/lib.rt:135:9
 store-requires : tie.Need-store-requires Inv-loop μ-loop
 store-requires c κs = search needs
 
--- src/lib.rt:136:9
 add-j : tie.Need-add-j Inv-loop μ-loop
 add-j c = search needs
 
--- src/lib.rt:134:5
 loop-less : tie.Need-loop-less Inv-loop μ-loop
 loop-less c = let l = c .before .before .before .before .before .loop-test .taken in omega arith
 
--- src/lib.rt:134:5
 loop-again : tie.Need-loop-again Inv-loop μ-loop
 loop-again c =
     let s = c .before .before .before .before .before .before .before .before .before .args in
@@ -64,11 +55,9 @@ loop-again c =
           (copied-step (s .a .now) (L .a) (s .at) (s .from .now) (s .first) (s .k) (L .j) (c .before .before .before .word .result) (P .0) l (c .before .before .before .word .ensures .0) (L .inv .2)),
     )
 
--- src/lib.rt:129:1
 same-length : tie.Need-same-length Inv-loop μ-loop
 same-length c = c .before .loop .inv .1
 
--- src/lib.rt:129:1
 returns : tie.Need-returns Inv-loop μ-loop
 returns c =
     let s = c .before .before .before .before .args in

@@ -1,10 +1,9 @@
 use mathlib.Core.Path.{_≡_, refl, sym, ap, subst, _∙_}
 use native.Mathlib.Omega.{arith}
-use Prim.Native.Nat.{ℕ, suc, _+_, _-_, _≤_}
-use lib.ListN.{length, set, length-set}
+use Prim.Native.Nat.{_+_, _-_, _≤_}
+use lib.ListN.{length, length-set}
 use Rattle.solver.specs.Store.{run}
 use Rattle.solver.specs.Settled.{heap}
-use Rattle.solver.specs.Written.{Wrote}
 use Rattle.solver.proofs.Words.{run-length}
 use Rattle.instances.proofs.Copying.{Copied, copied-start, copied-step, copied-end}
 use borrow.Author.Needs.{needs}
@@ -21,39 +20,30 @@ Inv-loop a d p k out₀ at j₀ out j = (j ≤ k) × (length out ≡ length out�
 abbrev μ-loop : tie.MeasureT-loop
 μ-loop a d p k out₀ at j₀ out j = k - j
 
--- src/lib.rt:84:5
 loop-holds : tie.Need-loop-holds Inv-loop μ-loop
 loop-holds c = let s = c .before .before .before .args in (omega arith, refl, copied-start (s .out .now) (s .at) (run (heap (s .a .now) (s .d .now)) (s .p) (s .k)))
 
--- src/lib.rt:85:20
 add-store : tie.Need-add-store Inv-loop μ-loop
 add-store c = search needs
 
--- src/lib.rt:85:44
 add-type-word : tie.Need-add-type-word Inv-loop μ-loop
 add-type-word c = search needs
 
--- src/lib.rt:85:28
 type-word-requires : tie.Need-type-word-requires Inv-loop μ-loop
 type-word-requires c κs = search needs
 
--- src/lib.rt:85:28
 cast-store : tie.Need-cast-store Inv-loop μ-loop
 cast-store c = search needs
 
--- src/lib.rt:85:9
 store-requires : tie.Need-store-requires Inv-loop μ-loop
 store-requires c κs = search needs
 
--- src/lib.rt:86:9
 add-j : tie.Need-add-j Inv-loop μ-loop
 add-j c = search needs
 
--- src/lib.rt:84:5
 loop-less : tie.Need-loop-less Inv-loop μ-loop
 loop-less c = let l = c .before .before .before .before .before .loop-test .taken in omega arith
 
--- src/lib.rt:84:5
 loop-again : tie.Need-loop-again Inv-loop μ-loop
 loop-again c =
     let s = c .before .before .before .before .before .before .before .before .before .before .args in
@@ -67,15 +57,12 @@ loop-again c =
           (copied-step (s .out .now) (L .out) (s .at) (heap (s .a .now) (s .d .now)) (s .p) (s .k) (L .j) (c .before .before .before .type-word .result) (P .1) l (c .before .before .before .type-word .ensures .0) (L .inv .2)),
     )
 
--- src/lib.rt:88:5
 add-result : tie.Need-add-result Inv-loop μ-loop
 add-result c = search needs
 
--- src/lib.rt:79:1
 same-length : tie.Need-same-length Inv-loop μ-loop
 same-length c = c .before .loop .inv .1
 
--- src/lib.rt:79:1
 returns : tie.Need-returns Inv-loop μ-loop
 returns c =
     let s = c .before .before .before .before .before .args in

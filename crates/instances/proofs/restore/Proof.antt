@@ -1,4 +1,4 @@
-use mathlib.Core.Path.{_≡_, ap, _∙_}
+use mathlib.Core.Path.{ap, _∙_}
 use Prim.Native.Nat.{_+_, _*_, _-_}
 use lib.Seq.{sets}
 use Rattle.solver.specs.Store.{run}
@@ -10,43 +10,33 @@ use Rattle.instances.proofs.restore.Reads as reads
 use Rattle.instances.proofs.restore.Lts as lts
 use Rattle.instances.proofs.copy_words.Reads as copy-words-reads
 
--- src/lib.rt:161:13
 mul-m : tie.Need-mul-m
 mul-m c = search needs
 
--- src/lib.rt:162:13
 sub-k : tie.Need-sub-k
 sub-k c = search needs
 
--- src/lib.rt:163:5
 copy-words-requires : tie.Need-copy-words-requires
 copy-words-requires c κs = search needs
 
--- src/lib.rt:164:34
 add-copy-words : tie.Need-add-copy-words
 add-copy-words c = search needs
 
--- src/lib.rt:164:5
 copy-words-requires-2 : tie.Need-copy-words-requires-2
 copy-words-requires-2 c κs = search needs
 
--- src/lib.rt:165:31
 add-copy-words-2 : tie.Need-add-copy-words-2
 add-copy-words-2 c = search needs
 
--- src/lib.rt:165:31
 add-copy-words-3 : tie.Need-add-copy-words-3
 add-copy-words-3 c = search needs
 
--- src/lib.rt:165:5
 copy-words-requires-3 : tie.Need-copy-words-requires-3
 copy-words-requires-3 c κs = search needs
 
--- src/lib.rt:157:1
 same-length : tie.Need-same-length
 same-length c = search needs
 
--- src/lib.rt:157:1
 returns : tie.Need-returns
 unfolding restored
 returns c =

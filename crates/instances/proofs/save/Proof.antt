@@ -1,5 +1,4 @@
 use Rattle.instances.proofs.Saving.{saved-area}
-use mathlib.Core.Path.{sym}
 use borrow.Author.Needs.{needs}
 use Rattle.instances.proofs.save.Statement.{statement}
 use Rattle.instances.proofs.save.Tie as tie
@@ -7,55 +6,42 @@ use Rattle.instances.proofs.save.Reads as reads
 use Rattle.instances.proofs.save.Lts as lts
 use Rattle.instances.proofs.copy_words.Reads as copy-words-reads
 
--- src/lib.rt:148:13
 mul-m : tie.Need-mul-m
 mul-m c = search needs
 
--- src/lib.rt:149:13
 sub-k : tie.Need-sub-k
 sub-k c = search needs
 
--- src/lib.rt:150:5
 copy-words-requires : tie.Need-copy-words-requires
 copy-words-requires c κs = search needs
 
--- src/lib.rt:151:21
 add-copy-words : tie.Need-add-copy-words
 add-copy-words c = search needs
 
--- src/lib.rt:151:5
 copy-words-requires-2 : tie.Need-copy-words-requires-2
 copy-words-requires-2 c κs = search needs
 
--- src/lib.rt:152:21
 add-copy-words-2 : tie.Need-add-copy-words-2
 add-copy-words-2 c = search needs
 
--- src/lib.rt:152:21
 add-copy-words-3 : tie.Need-add-copy-words-3
 add-copy-words-3 c = search needs
 
--- src/lib.rt:152:5
 copy-words-requires-3 : tie.Need-copy-words-requires-3
 copy-words-requires-3 c κs = search needs
 
--- src/lib.rt:153:5
 add-result : tie.Need-add-result
 add-result c = search needs
 
--- src/lib.rt:153:5
 add-result-2 : tie.Need-add-result-2
 add-result-2 c = search needs
 
--- src/lib.rt:153:5
 add-result-3 : tie.Need-add-result-3
 add-result-3 c = search needs
 
--- src/lib.rt:144:1
 same-length : tie.Need-same-length
 same-length c = search needs
 
--- src/lib.rt:144:1
 returns : tie.Need-returns
 returns c =
     let s = c .before .before .before .before .before .before .before .before .before .before .before .before .before .before .args in

@@ -1,20 +1,18 @@
-use mathlib.Core.List.{_++_}
-use lib.ListN.{drop}
+use mathlib.Core.List.{_++_, [], _∷_}
+use lib.ListN.{drop, length, getD}
 use mathlib.Core.Path.{_≡_, refl, sym, ap, subst, _∙_}
-use mathlib.Core.List.{[], _∷_}
 use native.Mathlib.Omega.{arith}
-use Prim.Native.Nat.{ℕ, suc, _+_, _-_, _≤_}
-use lib.ListN.{length, getD}
-use Rattle.types.specs.Types.{Ty, Tys, node, tnil}
-use Rattle.types.specs.Former.{parameter}
+use Prim.Native.Nat.{suc, _+_, _-_}
+use Rattle.types.specs.Types.{tnil}
 use Rattle.types.specs.Words.{words}
 use Rattle.solver.specs.Store.{run}
-use Rattle.solver.specs.Settled.{heap, Reads}
+use Rattle.solver.specs.Settled.{heap}
 use Rattle.solver.specs.Written.{Wrote}
 use Rattle.solver.proofs.Reading.{place-few, inside}
 use Rattle.instances.specs.Fill.{nthType, actualType, fill}
-use Rattle.instances.specs.Filled.{Row, placeOf}
-use Rattle.instances.proofs.FillReading.{Given, row-some, actual-none, actual-some, parameter-fill, parameter-words, run-words}
+use Rattle.instances.specs.Filled.{placeOf}
+use Rattle.instances.proofs.Rows.{row-some, actual-none, actual-some, parameter-fill, parameter-words}
+use Rattle.instances.proofs.FillWords.{run-words}
 use borrow.Author.Needs.{needs}
 use Rattle.instances.proofs.write_actual.Statement.{statement}
 use Rattle.instances.proofs.write_actual.Tie as tie
@@ -25,19 +23,15 @@ use Rattle.instances.proofs.put_words.Reads as put-words-reads
 use Rattle.solver.proofs.put_type.Reads as put-type-reads
 use Rattle.solver.proofs.type_word.Reads as type-word-reads
 
--- src/lib.rt:96:41
 add-type-word : tie.Need-add-type-word
 add-type-word c = let P = c .before .before .before .before .pre .0 in let f = place-few _ _ _ _ (P .filling .actuals .areas) (P .filling .reads) in omega arith
 
--- src/lib.rt:96:25
 type-word-requires : tie.Need-type-word-requires
 type-word-requires c κs = c .before .before .before .before .pre .0 .filling .actuals .areas .size
 
--- src/lib.rt:96:9
 actual-requires : tie.Need-actual-requires
 actual-requires c κs = search needs
 
--- src/lib.rt:98:9
 put-words-requires : tie.Need-put-words-requires
 put-words-requires c κs =
     let s = c .before .before .before .before .before .before .before .before .args in
@@ -50,11 +44,9 @@ put-words-requires c κs =
     let r = P .room in
     (F .actuals .areas .size, omega arith, omega arith, omega arith)
 
--- src/lib.rt:98:9
 same-length : tie.Need-same-length
 same-length c = search needs
 
--- src/lib.rt:98:9
 returns : tie.Need-returns
 returns c =
     let s = c .before .before .before .before .before .before .before .before .before .before .before .args in
@@ -69,11 +61,9 @@ returns c =
           subst (λ z. Wrote (s .out .now) (c .before .before .put-words .last .1 .1 .1 .1 .0) (s .at) (c .before .before .put-words .result) z) e (c .before .before .put-words .ensures);
     }
 
--- src/lib.rt:100:29
 sub-put-type : tie.Need-sub-put-type
 sub-put-type c = search needs
 
--- src/lib.rt:100:5
 put-type-requires : tie.Need-put-type-requires
 put-type-requires c κs =
     let s = c .before .before .before .before .before .before .before .before .args in
@@ -85,11 +75,9 @@ put-type-requires c κs =
     let G = row-some (heap (s .a .now) (s .d .now)) (s .row .now) (A .types) (c .before .before .before .type-word .result) (q - 1) (A .stand) (sym (c .before .before .actual .ensures) ∙ (let z : q ≡ suc (q - 1) = omega arith in z)) in
     (record { areas = A .areas; readable = record { type = G .type; reads = G .reads } }, omega arith)
 
--- src/lib.rt:92:1
 same-length-2 : tie.Need-same-length-2
 same-length-2 c = search needs
 
--- src/lib.rt:92:1
 returns-2 : tie.Need-returns-2
 returns-2 c =
     let s = c .before .before .before .before .before .before .before .before .before .before .before .args in

@@ -1,21 +1,19 @@
 -- Stores that are alike have the same solutions.
-use mathlib.Core.Path.{_≡_, refl, sym, ap, ap₂, subst, _∙_}
-use mathlib.Core.Bool.{true, false}
-use mathlib.Core.List.{List, [], _∷_, _++_}
-use mathlib.Core.Logic.{_⊎_, inl, inr, ⊎-elim}
-use Prim.Native.Nat.{ℕ, zero, suc, _+_, _*_, _-_, _≤_, _<_}
+use mathlib.Core.Path.{_≡_, sym, subst, _∙_}
+use mathlib.Core.List.{List}
+use mathlib.Core.Logic.{inl, inr, ⊎-elim}
+use Prim.Native.Nat.{ℕ, _+_, _-_, _≤_, _<_}
 use native.Mathlib.Omega.{arith}
-use lib.Dec.{eqb}
 use lib.ListN.{length, getD}
 use lib.Seq.{sets}
 use borrow.Author.Tests.{le-ltb}
 use Rattle.types.specs.Equations.{Pairs}
-use Rattle.types.specs.Follows.{View, shape, unk}
+use Rattle.types.specs.Follows.{unk}
 use Rattle.types.specs.Types.{Ty}
 use Rattle.types.specs.Words.{words}
-use Rattle.solver.specs.Store.{frozen, linkPart, linkAt, fieldAt, tagAt, argAt, firstAt, countAt, Cell, view, load, Held, Solved}
+use Rattle.solver.specs.Store.{frozen, linkAt, Cell, view, Held, Solved}
 use Rattle.solver.specs.Calls.{Above}
-use Rattle.solver.specs.Settled.{lower, heap, wordAt, Reads, Readable, Pinned, Obeys, Fits}
+use Rattle.solver.specs.Settled.{heap, wordAt, Reads, Readable, Pinned, Obeys, Fits}
 use Rattle.solver.specs.Answers.{SolutionOf}
 use Rattle.solver.proofs.Words.{link-same, frozen-length}
 use Rattle.solver.proofs.Reading.{reads-one}
