@@ -28,6 +28,11 @@ const FIRST_RUN: usize = 4096;
 
 const RUNS: usize = RECORDS + FIRST_RUN;
 
+// The tag of a parameter, and its words: the tag, the number.
+const PARAMETER: usize = 6;
+
+const PARAMETER_WORDS: usize = 2;
+
 // The place of the i-th actual's type plus 1, and 0 where there is none.
 fn actual(row: &[u32], i: usize) -> usize
     ensures { λ r. ⌜ r ≡ placeOf (now (row .entry)) i ⌝ }
@@ -60,7 +65,7 @@ pub fn filled_size(a: &[u32], d: &[u32], p: usize, row: &[u32]) -> usize
     ensures { λ v. ⌜ FilledSize (now (a .entry)) (now (d .entry)) p (now (row .entry)) v ⌝ }
 {
     let t = type_word(a, d, p);
-    if t == 6 {
+    if t == PARAMETER {
         return actual_size(a, d, row, type_word(a, d, p + 1));
     }
     let w = name_words(t);
@@ -97,7 +102,7 @@ fn write_actual(a: &[u32], d: &[u32], p: usize, row: &[u32], out: &mut [u32], at
 {
     let q = actual(row, type_word(a, d, p + 1));
     if q == 0 {
-        return put_words(a, d, p, 2, out, at);
+        return put_words(a, d, p, PARAMETER_WORDS, out, at);
     }
     put_type(a, d, out, at, q - 1)
 }
@@ -115,7 +120,7 @@ pub fn write_filled(
     ensures { λ e. ⌜ FillWrote (now (a .entry)) (now (d .entry)) p (now (row .entry)) (now (out .entry)) (now (out .exit)) at e ⌝ }
 {
     let t = type_word(a, d, p);
-    if t == 6 {
+    if t == PARAMETER {
         return write_actual(a, d, p, row, out, at);
     }
     let w = name_words(t);
