@@ -120,7 +120,7 @@ pub fn find(a: &[u32], i: usize) -> usize
 }
 
 // The type word at the place p: in the caller's part of the area, or in the dictionary.
-fn type_word(a: &[u32], d: &[u32], p: usize) -> usize
+pub fn type_word(a: &[u32], d: &[u32], p: usize) -> usize
     requires { ⌜ length (now a) ≡ 52224 ⌝ }
     ensures { λ r. ⌜ (r ≡ getD (heap (now (a .entry)) (now (d .entry))) p 0) × (r < 2 ^ 32) ⌝ }
 {
@@ -131,7 +131,7 @@ fn type_word(a: &[u32], d: &[u32], p: usize) -> usize
 }
 
 // The words of a type before its parts, by its tag.
-fn lead_words(t: usize) -> usize
+pub fn lead_words(t: usize) -> usize
     ensures { λ r. ⌜ (r ≡ leadWords t) × (r ≤ 2) × (0 < r) ⌝ }
 {
     if t == 1 {
@@ -144,7 +144,7 @@ fn lead_words(t: usize) -> usize
 }
 
 // The words of a part's name, by the tag.
-fn name_words(t: usize) -> usize
+pub fn name_words(t: usize) -> usize
     ensures { λ r. ⌜ (r ≡ nameWords t) × (r ≤ 1) ⌝ }
 {
     if t == 5 {
@@ -154,7 +154,7 @@ fn name_words(t: usize) -> usize
 }
 
 // The number of parts of the type at p, whose tag is t.
-fn parts_of(a: &[u32], d: &[u32], t: usize, p: usize) -> usize
+pub fn parts_of(a: &[u32], d: &[u32], t: usize, p: usize) -> usize
     requires { ⌜ (length (now a) ≡ 52224) × (p < 2 ^ 40) ⌝ }
     ensures { λ r. ⌜ (r ≡ partsOf t (getD (heap (now (a .entry)) (now (d .entry))) (p + 1) 0)) × (r < 2 ^ 32) ⌝ }
 {
@@ -171,7 +171,7 @@ fn parts_of(a: &[u32], d: &[u32], t: usize, p: usize) -> usize
 }
 
 // The end of the type words at p.
-fn skip(a: &[u32], d: &[u32], p: usize) -> usize
+pub fn skip(a: &[u32], d: &[u32], p: usize) -> usize
     requires { ⌜ Reading (now a) (now d) p ⌝ }
     ensures { λ e. ⌜ Ends (now (a .entry)) (now (d .entry)) p e ⌝ }
 {
@@ -188,7 +188,7 @@ fn skip(a: &[u32], d: &[u32], p: usize) -> usize
 }
 
 // The size of the type at p, at most 33.
-fn type_size(a: &[u32], d: &[u32], p: usize) -> usize
+pub fn type_size(a: &[u32], d: &[u32], p: usize) -> usize
     requires { ⌜ Reading (now a) (now d) p ⌝ }
     ensures { λ v. ⌜ TypeSize (now (a .entry)) (now (d .entry)) p v ⌝ }
 {
@@ -662,7 +662,7 @@ pub fn enter(
 }
 
 // Sizes stop at 33.
-fn capped(x: usize) -> usize
+pub fn capped(x: usize) -> usize
     ensures { λ r. ⌜ r ≡ cap x ⌝ }
 {
     if x < 33 {
@@ -956,7 +956,7 @@ fn put_name(a: &[u32], out: &mut [u32], at: usize, r: usize, j: usize) -> usize
 }
 
 // The type whose words stand at p, from `at` on: where it ends.
-fn put_type(a: &[u32], d: &[u32], out: &mut [u32], at: usize, p: usize) -> usize
+pub fn put_type(a: &[u32], d: &[u32], out: &mut [u32], at: usize, p: usize) -> usize
     requires { ⌜ (Reading (now a) (now d) p) × (at < 2 ^ 40) ⌝ }
     ensures { λ e. ⌜ Copied (now (a .entry)) (now (d .entry)) (now (out .entry)) (now (out .exit)) at p e ⌝ }
 {
