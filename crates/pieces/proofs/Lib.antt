@@ -5,3 +5,4 @@ pub mod Equating
 pub mod Naming
 pub mod Closing
 pub mod Comparing
+pub mod Between

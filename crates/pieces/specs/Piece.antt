@@ -73,3 +73,15 @@ pub record Steady (H : Items) (U : List ℕ) : Type 0 where
 -- Every table that meets H can be changed outside U to one that meets c too.
 abbrev pub Extends : Items → Items → List ℕ → Type 0
 Extends H c U = (τ : Table) → Meets H τ → (τ′ : Table) × Meets (H ⨾ c) τ′ × SameOn U τ′ τ
+
+-- ITEMS BETWEEN PIECES: c passes after H, some table meets both, and nothing said before changes. U′ are the unknowns mentioned then, the new ones Mine.
+pub record Walked (H c : Items) (U U′ : List ℕ) (Mine : ℕ → Type 0) : Type 0 where
+  pub goes : Passes c (Meets H)
+  pub steady : Steady (H ⨾ c) U′
+  pub extends : Extends H c U
+  pub wider : (x : ℕ) → In x U → In x U′
+  pub new : (x : ℕ) → In x U′ → In x U ⊎ Mine x
+
+-- The term a has the type g in every table that meets H.
+abbrev pub Settled : Items → Term → Ty → Type 0
+Settled H a g = (τ : Table) → Meets H τ → under τ a ≡ g
