@@ -1,0 +1,6 @@
+pub mod RowLaws
+pub mod TableLaws
+pub mod InsertLaws
+pub mod MergeLaws
+pub mod CarryLaws
+pub mod ScopeLaws

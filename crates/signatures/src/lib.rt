@@ -1,0 +1,2 @@
+// Signatures and scopes as rows of the work area, an identifier and the place of its type each: specs/Rows.antt.
+pub mod tables;
