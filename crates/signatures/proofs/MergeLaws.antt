@@ -46,14 +46,20 @@ module _ (ps : List (ℕ × ℕ)) (w : List ℕ) (s m : ℕ) where
   unfolding renameRows
   rename-start = ap (renameRows ps) (rows-done w (s + 2 * m) m m (omega arith))
 
-  pub rename-go : (j : ℕ) → j < m → (x y : ℕ) → x ≡ renamed ps (getD w (s + 2 * j) 0) → y ≡ getD w (s + 2 * j + 1) 0
+  rename-at : (j : ℕ) → j < m → (x y : ℕ) → x ≡ renamed ps (getD w (s + 2 * j) 0) → y ≡ getD w (s + 2 * j + 1) 0
       → renameRows ps (rows w (s + 2 * j) (m - j)) ≡ insertRow x y (renameRows ps (rows w (s + 2 * (j + 1)) (m - (j + 1))))
   unfolding renameRows
-  rename-go j h x y e f =
+  rename-at j h x y e f =
       let l = renameRows ps (rows w (s + 2 * (j + 1)) (m - (j + 1))) in
       ap (renameRows ps) (rows-from w s m j h)
       ∙ ap (λ (a : ℕ). insertRow a (getD w (s + 2 * j + 1) 0) l) (sym e)
       ∙ ap (λ (a : ℕ). insertRow x a l) (sym f)
+
+  pub rename-go : (j : ℕ) → 0 < j → j ≤ m → (x y : ℕ) → x ≡ renamed ps (getD w (s + 2 * (j - 1)) 0) → y ≡ getD w (s + 2 * (j - 1) + 1) 0
+      → renameRows ps (rows w (s + 2 * (j - 1)) (m - (j - 1))) ≡ insertRow x y (renameRows ps (rows w (s + 2 * j) (m - j)))
+  rename-go j h l x y e f =
+      let g : j - 1 + 1 ≡ j = omega arith in
+      rename-at (j - 1) (omega arith) x y e f ∙ ap (λ (n : ℕ). insertRow x y (renameRows ps (rows w (s + 2 * n) (m - n)))) g
 
   pub rename-end : renameRows ps (rows w (s + 2 * 0) (m - 0)) ≡ renameRows ps (rows w s m)
   rename-end = ap (renameRows ps) (sym (rows-all w s m))

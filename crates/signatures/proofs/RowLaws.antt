@@ -82,6 +82,15 @@ sets-rows w b (suc j) rs =
     ∙ sets-rows w (suc (suc b)) j rs
     ∙ ap (λ (k : ℕ). sets w k (flat rs)) e
 
+-- rows written after rows
+pub sets-flat : (rs qs : List (ℕ × ℕ)) (w : List ℕ) (b : ℕ) → sets w b (flat (rs ++ qs)) ≡ sets (sets w b (flat rs)) (b + 2 * length rs) (flat qs)
+unfolding flat
+sets-flat [] qs w b = let e : b ≡ b + 2 * 0 = omega arith in ap (λ (k : ℕ). sets w k (flat qs)) e
+sets-flat (r ∷ rs) qs w b =
+    let u = set (set w b (r .0)) (suc b) (r .1) in
+    let e : suc (suc b) + 2 * length rs ≡ b + 2 * suc (length rs) = omega arith in
+    sets-flat rs qs u (suc (suc b)) ∙ ap (λ (k : ℕ). sets (sets u (suc (suc b)) (flat rs)) k (flat qs)) e
+
 -- rows written and read back
 pub rows-written : (rs : List (ℕ × ℕ)) (w : List ℕ) (b : ℕ) → b + 2 * length rs ≤ length w → rows (sets w b (flat rs)) b (length rs) ≡ rs
 unfolding pairsFrom flat

@@ -6,12 +6,12 @@ use mathlib.Core.List.{List, [], _∷_, _++_, append-nil}
 use Prim.Native.Nat.{ℕ, zero, suc, _+_, _*_, _≤_, _<_}
 use native.Mathlib.Omega.{arith}
 use lib.Dec.{ltb, eqb}
-use lib.ListN.{length, getD}
+use lib.ListN.{length, getD, length-append}
 use lib.Seq.{sets, length-sets}
 use borrow.Author.Tests.{eq-eqb, ne-eqb, lt-ltb, le-ltb}
 use Rattle.signatures.specs.Rows.{rows, flat, insertRow}
 use Rattle.signatures.specs.Tables.{Table}
-use Rattle.signatures.proofs.RowLaws.{sets-sets, sets-rows, flat-length, rows-length, rows-written, rows-beside, getD-below, getD-above}
+use Rattle.signatures.proofs.RowLaws.{sets-sets, sets-rows, flat-length, rows-length, rows-written, rows-beside, sets-flat, getD-below, getD-above}
 
 -- a row more at most
 pub insert-count : (i p : ℕ) (rs : List (ℕ × ℕ)) → (length rs ≤ length (insertRow i p rs)) × (length (insertRow i p rs) ≤ suc (length rs))
@@ -52,6 +52,11 @@ module _ (w : List ℕ) (b : ℕ) where
         words = sym (ap (λ (l : List (ℕ × ℕ)). sets w b (flat l)) (sym (append-nil (rows w b m))) ∙ sets-rows w b m []);
         count = sym (rows-length w b m);
       }
+
+  -- no rows
+  pub table-none : (rs : List (ℕ × ℕ)) → rs ≡ [] → Table w w b rs 0
+  unfolding flat
+  table-none rs e = record { words = ap (λ (l : List (ℕ × ℕ)). sets w b (flat l)) (sym e); count = ap length (sym e) }
 
   -- and rows after the first j of them, written
   pub table-after : (v : List ℕ) (j n : ℕ) (rs : List (ℕ × ℕ)) → v ≡ sets w (b + 2 * j) (flat rs) → n ≡ j + length rs → (all : List (ℕ × ℕ))
@@ -104,6 +109,20 @@ module _ (w : List ℕ) (b : ℕ) where
         let l = flat-length rs in
         ap (λ (u : List ℕ). getD u x 0) (t .words)
         ∙ ⊎-elim (λ y. getD-above (flat rs) w b x (omega arith)) (λ y. getD-below (flat rs) w b x (omega arith)) a
+
+    -- a row more at the end
+    pub table-snoc : (u : List ℕ) (x y : ℕ) → u ≡ sets v (b + 2 * n) (x ∷ y ∷ []) → Table w u b (rs ++ ((x, y) ∷ [])) (n + 1)
+    unfolding flat
+    table-snoc u x y e =
+        let c = t .count in
+        let l : length (rs ++ ((x, y) ∷ [])) ≡ length rs + 1 = length-append rs ((x, y) ∷ []) in
+        record {
+          words =
+              e ∙ ap (λ (k : ℕ). sets v (b + 2 * k) (x ∷ y ∷ [])) (t .count)
+              ∙ ap (λ (z : List ℕ). sets z (b + 2 * length rs) (x ∷ y ∷ [])) (t .words)
+              ∙ sym (sets-flat rs ((x, y) ∷ []) w b);
+          count = omega arith;
+        }
 
 -- a loop's turn: the table at v is all that is new since w, and an identifier more is inserted
 pub record Turned (w v u : List ℕ) (b n i p r : ℕ) : Type 0 where

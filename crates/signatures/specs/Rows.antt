@@ -2,7 +2,7 @@
 use mathlib.Core.Bool.{Bool, false, _||_, cond, not}
 use mathlib.Core.List.{List, [], _∷_}
 use mathlib.Core.Option.{Option, some, none as nothing}
-use Prim.Native.Nat.{ℕ, zero, suc, _+_, _*_}
+use Prim.Native.Nat.{ℕ, zero, suc, _+_, _-_, _*_, _/_}
 use lib.Dec.{ltb, eqb}
 use lib.ListN.{length, getD}
 use Rattle.syntax.specs.Decode.{pairsFrom}
@@ -55,6 +55,10 @@ strokeRows k (r ∷ rs) = (decorate k (r .0), r .1) ∷ strokeRows k rs
 unfoldable pub renameRows : List (ℕ × ℕ) → List (ℕ × ℕ) → List (ℕ × ℕ)
 renameRows ps [] = []
 renameRows ps (r ∷ rs) = insertRow (renamed ps (r .0)) (r .1) (renameRows ps rs)
+
+-- the pairs (old, new) of an Include, which the words of its part are from `first` on
+abbrev pub renames : List ℕ → ℕ → List (ℕ × ℕ)
+renames w first = pairsFrom w first ((length w - first) / 2)
 
 -- 37, on rows
 unfoldable pub strokedRows : ℕ → List (ℕ × ℕ) → Bool

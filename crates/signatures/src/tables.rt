@@ -25,7 +25,7 @@ pub fn find(work: &[u32], base: usize, m: usize, id: usize) -> usize
 }
 
 // A row at the word `at`.
-fn put_row(work: &mut [u32], at: usize, id: usize, place: usize)
+pub fn put_row(work: &mut [u32], at: usize, id: usize, place: usize)
     requires { ⌜ (at < 2 ^ 63) × (id < 2 ^ 32) × (place < 2 ^ 32) ⌝ }
     ensures { λ _. ⌜ now (work .exit) ≡ sets (now (work .entry)) at (id ∷ place ∷ []) ⌝ }
 {
