@@ -1,6 +1,6 @@
 use mathlib.Core.Path.{_≡_, refl, sym, ap, subst, _∙_}
 use mathlib.Core.List.{List}
-use Prim.Native.Nat.{ℕ, _+_, _-_, _*_, _≤_, _<_, _^_}
+use Prim.Native.Nat.{ℕ, _+_, _-_, _*_, _≤_, _<_}
 use native.Mathlib.Omega.{arith}
 use lib.ListN.{length, getD}
 use Rattle.typing.specs.Signatures.{renamed}
@@ -11,11 +11,6 @@ use Rattle.signatures.proofs.MergeLaws.{rename-start, rename-go, rename
 use borrow.Author.Needs.{needs}
 use Rattle.signatures.proofs.includes.rename.Statement.{statement}
 use Rattle.signatures.proofs.includes.rename.Tie as tie
-use Rattle.signatures.proofs.includes.rename.Reads as reads
-use Rattle.signatures.proofs.includes.rename.Lts as lts
-use Rattle.signatures.proofs.includes.renamed.Reads as renamed-reads
-use Rattle.signatures.proofs.tables.insert.Reads as insert-reads
-use Rattle.words.proofs.word.Reads as word-reads
 
 abbrev Inv-loop : tie.InvT-loop
 Inv-loop work₀ source m base part first n₀ j₀ work n j =
@@ -25,7 +20,6 @@ Inv-loop work₀ source m base part first n₀ j₀ work n j =
 abbrev μ-loop : tie.MeasureT-loop
 μ-loop work₀ source m base part first n₀ j₀ work n j = j
 
--- src/includes.rt:81:5
 loop-holds : tie.Need-loop-holds Inv-loop μ-loop
 loop-holds c =
     let a = c .before .before .args in
@@ -33,46 +27,15 @@ loop-holds c =
     let ps = renames (a .part .now) (a .first) in
     (omega arith, omega arith, refl, table-none w (a .base) (renameRows ps (rows w (a .source + 2 * a .m) (a .m - a .m))) (rename-start ps w (a .source) (a .m)))
 
--- src/includes.rt:82:9
-sub-j : tie.Need-sub-j Inv-loop μ-loop
-sub-j c = search needs
-
--- src/includes.rt:83:27
-mul-at : tie.Need-mul-at Inv-loop μ-loop
-mul-at c = search needs
-
--- src/includes.rt:83:18
-add-at : tie.Need-add-at Inv-loop μ-loop
-add-at c = search needs
-
--- src/includes.rt:84:13
-word-requires : tie.Need-word-requires Inv-loop μ-loop
-word-requires c κs = search needs
-
--- src/includes.rt:85:32
-add-word : tie.Need-add-word Inv-loop μ-loop
-add-word c = search needs
-
--- src/includes.rt:85:13
-word-requires-2 : tie.Need-word-requires-2 Inv-loop μ-loop
-word-requires-2 c κs = search needs
-
--- src/includes.rt:86:13
-renamed-requires : tie.Need-renamed-requires Inv-loop μ-loop
-renamed-requires c κs = search needs
-
--- src/includes.rt:87:9
 insert-requires : tie.Need-insert-requires Inv-loop μ-loop
 insert-requires c κs =
     let l = c .before .before .before .before .before .before .before .loop in
     let p = c .before .before .before .before .before .before .before .before .before .before .pre .0 .room in
     (omega (arith, l .inv .1, l .inv .2, c .before .before .before .before .before .before .loop-test .taken), c .before .renamed .ensures .1, c .before .before .word2 .ensures .1)
 
--- src/includes.rt:81:5
 loop-less : tie.Need-loop-less Inv-loop μ-loop
 loop-less c = omega arith
 
--- src/includes.rt:81:5
 loop-again : tie.Need-loop-again Inv-loop μ-loop
 loop-again c =
     let s = c .before .before .before .before .before .before .before .before .before .before .before .before .before in
@@ -100,11 +63,9 @@ loop-again c =
           (sym (rename-go ps w (a .source) (a .m) (l .j) h (l .inv .0) (i .result) (y .result) e f)) g,
     )
 
--- src/includes.rt:75:1
 same-length : tie.Need-same-length Inv-loop μ-loop
 same-length c = c .before .loop .inv .2
 
--- src/includes.rt:75:1
 returns : tie.Need-returns Inv-loop μ-loop
 returns c =
     let a = c .before .before .before .before .args in
@@ -122,13 +83,13 @@ rename-spec =
     Inv-loop
     μ-loop
     loop-holds
-    sub-j
-    mul-at
-    add-at
-    word-requires
-    add-word
-    word-requires-2
-    renamed-requires
+    (λ c. search needs)
+    (λ c. search needs)
+    (λ c. search needs)
+    (λ c κs. search needs)
+    (λ c. search needs)
+    (λ c κs. search needs)
+    (λ c κs. search needs)
     insert-requires
     loop-less
     loop-again

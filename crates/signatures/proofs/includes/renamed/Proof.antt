@@ -1,17 +1,12 @@
-use mathlib.Core.Path.{_≡_, refl, sym, ap, subst, _∙_}
-use mathlib.Core.List.{List}
-use Prim.Native.Nat.{ℕ, _+_, _-_, _*_, _≤_, _<_, _^_}
+use mathlib.Core.Path.{_≡_, refl, sym, _∙_}
+use Prim.Native.Nat.{_-_, _≤_}
 use native.Mathlib.Omega.{arith}
-use lib.ListN.{length, getD}
 use Rattle.typing.specs.Signatures.{renamed}
 use Rattle.signatures.specs.Rows.{renames}
 use Rattle.signatures.proofs.IncludeLaws.{renamed-hit, renamed-go, renamed-end}
 use borrow.Author.Needs.{needs}
 use Rattle.signatures.proofs.includes.renamed.Statement.{statement}
 use Rattle.signatures.proofs.includes.renamed.Tie as tie
-use Rattle.signatures.proofs.includes.renamed.Reads as reads
-use Rattle.signatures.proofs.includes.renamed.Lts as lts
-use Rattle.words.proofs.word.Reads as word-reads
 
 abbrev Inv-loop : tie.InvT-loop
 Inv-loop part first id e i₀ i = (i ≤ e) × (renamed (renames part first) id ≡ renamed (renames part i) id)
@@ -19,27 +14,9 @@ Inv-loop part first id e i₀ i = (i ≤ e) × (renamed (renames part first) id 
 abbrev μ-loop : tie.MeasureT-loop
 μ-loop part first id e i₀ i = e - i
 
--- src/includes.rt:67:5
 loop-holds : tie.Need-loop-holds Inv-loop μ-loop
 loop-holds c = (omega arith, refl)
 
--- src/includes.rt:67:15
-sub-loop : tie.Need-sub-loop Inv-loop μ-loop
-sub-loop c = search needs
-
--- src/includes.rt:68:12
-word-requires : tie.Need-word-requires Inv-loop μ-loop
-word-requires c κs = search needs
-
--- src/includes.rt:69:31
-add-word : tie.Need-add-word Inv-loop μ-loop
-add-word c = search needs
-
--- src/includes.rt:69:13
-word-requires-2 : tie.Need-word-requires-2 Inv-loop μ-loop
-word-requires-2 c κs = search needs
-
--- src/includes.rt:69:13
 returns : tie.Need-returns Inv-loop μ-loop
 returns c =
     let a = c .before .before .before .before .before .before .args in
@@ -47,22 +24,15 @@ returns c =
     let x = sym (c .before .before .word .ensures .0) ∙ c .before .if1 .taken in
     (c .word2 .ensures .0 ∙ sym (l .inv .1 ∙ renamed-hit (a .part .now) (l .i) (a .id) (c .before .before .before .loop-test .taken) x), c .word2 .ensures .1)
 
--- src/includes.rt:71:9
-add-i : tie.Need-add-i Inv-loop μ-loop
-add-i c = search needs
-
--- src/includes.rt:67:5
 loop-less : tie.Need-loop-less Inv-loop μ-loop
 loop-less c = omega arith
 
--- src/includes.rt:67:5
 loop-again : tie.Need-loop-again Inv-loop μ-loop
 loop-again c =
     let a = c .before .before .before .before .before .args in
     let l = c .before .before .before .loop in
     (omega arith, l .inv .1 ∙ renamed-go (a .part .now) (l .i) (a .id) (c .before .before .loop-test .taken) (λ q. c .if1 .left (c .before .word .ensures .0 ∙ q)))
 
--- src/includes.rt:61:1
 returns-2 : tie.Need-returns-2 Inv-loop μ-loop
 returns-2 c =
     let s = c .before .before .before in
@@ -76,12 +46,12 @@ renamed-spec =
     Inv-loop
     μ-loop
     loop-holds
-    sub-loop
-    word-requires
-    add-word
-    word-requires-2
+    (λ c. search needs)
+    (λ c κs. search needs)
+    (λ c. search needs)
+    (λ c κs. search needs)
     returns
-    add-i
+    (λ c. search needs)
     loop-less
     loop-again
     returns-2)

@@ -1,18 +1,12 @@
 use borrow.Author.Tests.{not-true, not-false}
-use mathlib.Core.Path.{_≡_, refl, sym, ap, subst, _∙_}
-use mathlib.Core.List.{List}
-use Prim.Native.Nat.{ℕ, _+_, _-_, _*_, _≤_, _<_, _^_}
+use mathlib.Core.Path.{_≡_, sym, _∙_}
+use Prim.Native.Nat.{_+_, _-_, _*_, _≤_}
 use native.Mathlib.Omega.{arith}
-use lib.ListN.{length, getD}
 use Rattle.signatures.specs.Rows.{rows, strokedRows}
 use Rattle.signatures.proofs.IncludeLaws.{stroked-start, stroked-on, stroked-go, stroked-end}
 use borrow.Author.Needs.{needs}
 use Rattle.signatures.proofs.includes.some_stroked.Statement.{statement}
 use Rattle.signatures.proofs.includes.some_stroked.Tie as tie
-use Rattle.signatures.proofs.includes.some_stroked.Reads as reads
-use Rattle.signatures.proofs.includes.some_stroked.Lts as lts
-use Rattle.signatures.proofs.includes.takes.Reads as takes-reads
-use Rattle.words.proofs.word.Reads as word-reads
 
 abbrev Inv-loop : tie.InvT-loop
 Inv-loop work base m k j₀ j = (j ≤ m) × (strokedRows k (rows work base m) ≡ strokedRows k (rows work (base + 2 * j) (m - j)))
@@ -20,27 +14,9 @@ Inv-loop work base m k j₀ j = (j ≤ m) × (strokedRows k (rows work base m) �
 abbrev μ-loop : tie.MeasureT-loop
 μ-loop work base m k j₀ j = m - j
 
--- src/includes.rt:34:5
 loop-holds : tie.Need-loop-holds Inv-loop μ-loop
 loop-holds c = let a = c .before .args in (omega arith, stroked-start (a .work .now) (a .base) (a .m) (a .k))
 
--- src/includes.rt:35:40
-mul-word : tie.Need-mul-word Inv-loop μ-loop
-mul-word c = search needs
-
--- src/includes.rt:35:33
-add-word : tie.Need-add-word Inv-loop μ-loop
-add-word c = search needs
-
--- src/includes.rt:35:22
-word-requires : tie.Need-word-requires Inv-loop μ-loop
-word-requires c κs = search needs
-
--- src/includes.rt:35:13
-takes-requires : tie.Need-takes-requires Inv-loop μ-loop
-takes-requires c κs = search needs
-
--- src/includes.rt:36:13
 returns : tie.Need-returns Inv-loop μ-loop
 returns c =
     let a = c .before .before .before .before .before .before .args in
@@ -48,15 +24,9 @@ returns c =
     let t = c .before .takes in
     sym (l .inv .1 ∙ stroked-on (a .work .now) (a .base) (a .m) (a .k) (l .j) (c .before .before .before .loop-test .taken) (c .before .before .word .result) (c .before .before .word .ensures .0) (sym (t .ensures) ∙ not-true (t .result) (c .if1 .taken)))
 
--- src/includes.rt:38:9
-add-j : tie.Need-add-j Inv-loop μ-loop
-add-j c = search needs
-
--- src/includes.rt:34:5
 loop-less : tie.Need-loop-less Inv-loop μ-loop
 loop-less c = omega arith
 
--- src/includes.rt:34:5
 loop-again : tie.Need-loop-again Inv-loop μ-loop
 loop-again c =
     let a = c .before .before .before .before .before .before .args in
@@ -64,7 +34,6 @@ loop-again c =
     let t = c .before .takes in
     (omega arith, l .inv .1 ∙ stroked-go (a .work .now) (a .base) (a .m) (a .k) (l .j) (c .before .before .before .loop-test .taken) (c .before .before .word .result) (c .before .before .word .ensures .0) (sym (t .ensures) ∙ not-false (t .result) (c .if1 .left)))
 
--- src/includes.rt:29:1
 returns-2 : tie.Need-returns-2 Inv-loop μ-loop
 returns-2 c =
     let a = c .before .before .before .args in
@@ -78,12 +47,12 @@ some-stroked-spec =
     Inv-loop
     μ-loop
     loop-holds
-    mul-word
-    add-word
-    word-requires
-    takes-requires
+    (λ c. search needs)
+    (λ c. search needs)
+    (λ c κs. search needs)
+    (λ c κs. search needs)
     returns
-    add-j
+    (λ c. search needs)
     loop-less
     loop-again
     returns-2)

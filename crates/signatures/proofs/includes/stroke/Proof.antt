@@ -1,9 +1,8 @@
 use Rattle.typing.specs.Strokes.{takes}
-use mathlib.Core.Path.{_≡_, refl, sym, ap, subst, _∙_}
-use mathlib.Core.List.{List}
-use Prim.Native.Nat.{ℕ, _+_, _-_, _*_, _≤_, _<_, _^_}
+use mathlib.Core.Path.{_≡_, refl, sym, ap, _∙_}
+use Prim.Native.Nat.{_+_, _-_, _*_, _≤_}
 use native.Mathlib.Omega.{arith}
-use lib.ListN.{length, getD}
+use lib.ListN.{length}
 use mathlib.Core.Bool.{false}
 use lib.Seq.{sets}
 use Rattle.signatures.specs.Rows.{rows, flat, strokeRows, strokedRows}
@@ -11,10 +10,6 @@ use Rattle.signatures.proofs.IncludeLaws.{stroke-fits, stroked-start, s
 use borrow.Author.Needs.{needs}
 use Rattle.signatures.proofs.includes.stroke.Statement.{statement}
 use Rattle.signatures.proofs.includes.stroke.Tie as tie
-use Rattle.signatures.proofs.includes.stroke.Reads as reads
-use Rattle.signatures.proofs.includes.stroke.Lts as lts
-use Rattle.signatures.proofs.tables.put_row.Reads as put-row-reads
-use Rattle.words.proofs.word.Reads as word-reads
 
 abbrev Inv-loop : tie.InvT-loop
 Inv-loop work₀ base m k j₀ work j =
@@ -24,38 +19,15 @@ Inv-loop work₀ base m k j₀ work j =
 abbrev μ-loop : tie.MeasureT-loop
 μ-loop work₀ base m k j₀ work j = m - j
 
--- src/includes.rt:51:5
 loop-holds : tie.Need-loop-holds Inv-loop μ-loop
 loop-holds c =
     let s = c .before in
     let a = s .args in
     (omega arith, refl, sym (stroked-start (a .work .now) (a .base) (a .m) (a .k)) ∙ s .pre .2, stroking-start (a .work .now) (a .base) (a .m) (a .k))
 
--- src/includes.rt:52:25
-mul-at : tie.Need-mul-at Inv-loop μ-loop
-mul-at c = search needs
-
--- src/includes.rt:52:18
-add-at : tie.Need-add-at Inv-loop μ-loop
-add-at c = search needs
-
--- src/includes.rt:53:13
-word-requires : tie.Need-word-requires Inv-loop μ-loop
-word-requires c κs = search needs
-
--- src/includes.rt:54:32
-add-word : tie.Need-add-word Inv-loop μ-loop
-add-word c = search needs
-
--- src/includes.rt:54:13
-word-requires-2 : tie.Need-word-requires-2 Inv-loop μ-loop
-word-requires-2 c κs = search needs
-
--- src/includes.rt:55:27
 add-put-row : tie.Need-add-put-row Inv-loop μ-loop
 add-put-row c = omega (arith, c .before .before .before .word .ensures .1)
 
--- src/includes.rt:55:9
 put-row-requires : tie.Need-put-row-requires Inv-loop μ-loop
 put-row-requires c κs =
     let s = c .before .before .before .before .before .before .before .before in
@@ -65,15 +37,9 @@ put-row-requires c κs =
     let t = ap (takes (a .k)) (x .ensures .0) ∙ stroked-first (l .work) (a .base) (a .m) (a .k) (l .j) (c .before .before .before .before .before .loop-test .taken) (l .inv .2) in
     (omega arith, stroke-fits (a .k) (x .result) (s .pre .1) (x .ensures .1) t, c .before .word2 .ensures .1)
 
--- src/includes.rt:56:9
-add-j : tie.Need-add-j Inv-loop μ-loop
-add-j c = search needs
-
--- src/includes.rt:51:5
 loop-less : tie.Need-loop-less Inv-loop μ-loop
 loop-less c = omega arith
 
--- src/includes.rt:51:5
 loop-again : tie.Need-loop-again Inv-loop μ-loop
 loop-again c =
     let a = c .before .before .before .before .before .before .before .before .before .before .before .args in
@@ -88,11 +54,9 @@ loop-again c =
       l .inv .3 ∙ stroking-go (l .work) (a .base) (a .m) (a .k) (l .j) h (t .last .0) (x .result) (y .result) (x .ensures .0) (y .ensures .0) (t .ensures),
     )
 
--- src/includes.rt:46:1
 same-length : tie.Need-same-length Inv-loop μ-loop
 same-length c = c .before .loop .inv .1
 
--- src/includes.rt:46:1
 returns : tie.Need-returns Inv-loop μ-loop
 returns c =
     let a = c .before .before .before .args in
@@ -106,14 +70,14 @@ stroke-spec =
     Inv-loop
     μ-loop
     loop-holds
-    mul-at
-    add-at
-    word-requires
-    add-word
-    word-requires-2
+    (λ c. search needs)
+    (λ c. search needs)
+    (λ c κs. search needs)
+    (λ c. search needs)
+    (λ c κs. search needs)
     add-put-row
     put-row-requires
-    add-j
+    (λ c. search needs)
     loop-less
     loop-again
     same-length

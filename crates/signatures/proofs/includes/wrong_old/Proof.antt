@@ -1,20 +1,13 @@
-use mathlib.Core.Path.{_≡_, refl, sym, ap, subst, _∙_}
-use mathlib.Core.List.{List}
-use Prim.Native.Nat.{ℕ, _+_, _-_, _*_, _≤_, _<_, _^_}
+use mathlib.Core.Path.{_≡_, refl, sym, ap, _∙_}
+use Prim.Native.Nat.{_+_, _-_, _≤_}
 use native.Mathlib.Omega.{arith}
-use lib.ListN.{length, getD}
 use mathlib.Core.Bool.{Bool, true, false, _||_}
 use Rattle.typing.specs.Signatures.{hasOld}
-use Rattle.signatures.specs.Rows.{rows, renames, hasRow, wrongOldRows}
+use Rattle.signatures.specs.Rows.{rows, renames, wrongOldRows}
 use Rattle.signatures.proofs.IncludeLaws.{has-found, has-none, wrong-absent, wrong-next, wrong-end}
 use borrow.Author.Needs.{needs}
 use Rattle.signatures.proofs.includes.wrong_old.Statement.{statement}
 use Rattle.signatures.proofs.includes.wrong_old.Tie as tie
-use Rattle.signatures.proofs.includes.wrong_old.Reads as reads
-use Rattle.signatures.proofs.includes.wrong_old.Lts as lts
-use Rattle.signatures.proofs.includes.has_old.Reads as has-old-reads
-use Rattle.signatures.proofs.tables.find.Reads as find-reads
-use Rattle.words.proofs.word.Reads as word-reads
 
 abbrev Inv-loop : tie.InvT-loop
 Inv-loop work base m part first e i₀ i = (i ≤ e) × (wrongOldRows (renames part first) (rows work base m) ≡ wrongOldRows (renames part i) (rows work base m))
@@ -22,23 +15,12 @@ Inv-loop work base m part first e i₀ i = (i ≤ e) × (wrongOldRows (renames p
 abbrev μ-loop : tie.MeasureT-loop
 μ-loop work base m part first e i₀ i = e - i
 
--- src/includes.rt:115:5
 loop-holds : tie.Need-loop-holds Inv-loop μ-loop
 loop-holds c = (omega arith, refl)
 
--- src/includes.rt:115:15
 sub-loop : tie.Need-sub-loop Inv-loop μ-loop
 sub-loop c = omega arith
 
--- src/includes.rt:116:13
-word-requires : tie.Need-word-requires Inv-loop μ-loop
-word-requires c κs = search needs
-
--- src/includes.rt:117:12
-find-requires : tie.Need-find-requires Inv-loop μ-loop
-find-requires c κs = search needs
-
--- src/includes.rt:118:13
 returns : tie.Need-returns Inv-loop μ-loop
 returns c =
     let a = c .before .before .before .before .before .before .before .args in
@@ -48,15 +30,6 @@ returns c =
     let x = c .before .before .word in
     sym (l .inv .1 ∙ wrong-absent (a .part .now) (l .i) rs (c .before .before .before .loop-test .taken) (x .result) (x .ensures .0) (has-none (x .result) rs (f .absent (omega arith))))
 
--- src/includes.rt:120:9
-add-i : tie.Need-add-i Inv-loop μ-loop
-add-i c = search needs
-
--- src/includes.rt:121:12
-has-old-requires : tie.Need-has-old-requires Inv-loop μ-loop
-has-old-requires c κs = search needs
-
--- src/includes.rt:122:13
 returns-2 : tie.Need-returns-2 Inv-loop μ-loop
 returns-2 c =
     let a = c .before .before .before .before .before .before .before .before .before .args in
@@ -70,11 +43,9 @@ returns-2 c =
     ∙ wrong-next (a .part .now) (l .i) rs (c .before .before .before .before .before .loop-test .taken) (x .result) (x .ensures .0) (has-found (x .result) _ rs (f .there (omega arith)))
     ∙ ap (λ (b : Bool). b || wrongOldRows (renames (a .part .now) (l .i + 2)) rs) o)
 
--- src/includes.rt:115:5
 loop-less : tie.Need-loop-less Inv-loop μ-loop
 loop-less c = omega arith
 
--- src/includes.rt:115:5
 loop-again : tie.Need-loop-again Inv-loop μ-loop
 loop-again c =
     let a = c .before .before .before .before .before .before .before .before .before .args in
@@ -89,7 +60,6 @@ loop-again c =
           ∙ ap (λ (b : Bool). b || wrongOldRows (renames (a .part .now) (l .i + 2)) rs) o,
     )
 
--- src/includes.rt:109:1
 returns-3 : tie.Need-returns-3 Inv-loop μ-loop
 returns-3 c =
     let a = c .before .before .before .before .args in
@@ -104,11 +74,11 @@ wrong-old-spec =
     μ-loop
     loop-holds
     sub-loop
-    word-requires
-    find-requires
+    (λ c κs. search needs)
+    (λ c κs. search needs)
     returns
-    add-i
-    has-old-requires
+    (λ c. search needs)
+    (λ c κs. search needs)
     returns-2
     loop-less
     loop-again

@@ -1,25 +1,18 @@
-use mathlib.Core.List.{[], _∷_, _++_}
+use mathlib.Core.List.{[], _∷_, _++_, List}
 use Rattle.syntax.specs.Decode.{pairsFrom}
 use Rattle.signatures.proofs.InsertLaws.{rows-more}
-use Rattle.signatures.proofs.TableLaws.{table-none}
-use Rattle.signatures.specs.Rows.{flat}
+use Rattle.signatures.proofs.TableLaws.{table-none, table-word, table-snoc}
+use Rattle.signatures.specs.Rows.{flat, rows}
 use lib.Seq.{sets}
 use mathlib.Core.Path.{_≡_, refl, sym, ap, subst, _∙_}
-use mathlib.Core.List.{List}
-use Prim.Native.Nat.{ℕ, _+_, _-_, _*_, _≤_, _<_, _^_}
+use Prim.Native.Nat.{ℕ, _+_, _-_, _*_, _≤_, _<_}
 use native.Mathlib.Omega.{arith}
 use lib.ListN.{length, getD}
-use Rattle.signatures.specs.Rows.{rows}
 use Rattle.signatures.specs.Tables.{Table}
 use Rattle.signatures.proofs.RowLaws.{rows-length}
-use Rattle.signatures.proofs.TableLaws.{table-word, table-snoc}
 use borrow.Author.Needs.{needs}
 use Rattle.signatures.proofs.scopes.push.Statement.{statement}
 use Rattle.signatures.proofs.scopes.push.Tie as tie
-use Rattle.signatures.proofs.scopes.push.Reads as reads
-use Rattle.signatures.proofs.scopes.push.Lts as lts
-use Rattle.signatures.proofs.tables.put_row.Reads as put-row-reads
-use Rattle.words.proofs.word.Reads as word-reads
 
 abbrev Inv-loop : tie.InvT-loop
 Inv-loop work₀ base n source m top j₀ work j = (j ≤ m) × (length work ≡ length work₀) × Table work₀ work (base + 2 * n) (rows work₀ source j) j
@@ -27,62 +20,15 @@ Inv-loop work₀ base n source m top j₀ work j = (j ≤ m) × (length work ≡
 abbrev μ-loop : tie.MeasureT-loop
 μ-loop work₀ base n source m top j₀ work j = m - j
 
--- src/scopes.rt:25:22
-mul-top : tie.Need-mul-top Inv-loop μ-loop
-mul-top c = search needs
-
--- src/scopes.rt:25:15
-add-top : tie.Need-add-top Inv-loop μ-loop
-add-top c = search needs
-
--- src/scopes.rt:27:5
 loop-holds : tie.Need-loop-holds Inv-loop μ-loop
 unfolding pairsFrom
 loop-holds c =
     let a = c .before .args in
     (omega arith, refl, table-none (a .work .now) (a .base + 2 * a .n) (rows (a .work .now) (a .source) 0) refl)
 
--- src/scopes.rt:28:27
-mul-at : tie.Need-mul-at Inv-loop μ-loop
-mul-at c = search needs
-
--- src/scopes.rt:28:18
-add-at : tie.Need-add-at Inv-loop μ-loop
-add-at c = search needs
-
--- src/scopes.rt:29:13
-word-requires : tie.Need-word-requires Inv-loop μ-loop
-word-requires c κs = search needs
-
--- src/scopes.rt:30:32
-add-word : tie.Need-add-word Inv-loop μ-loop
-add-word c = search needs
-
--- src/scopes.rt:30:13
-word-requires-2 : tie.Need-word-requires-2 Inv-loop μ-loop
-word-requires-2 c κs = search needs
-
--- src/scopes.rt:31:29
-mul-put-row : tie.Need-mul-put-row Inv-loop μ-loop
-mul-put-row c = search needs
-
--- src/scopes.rt:31:23
-add-put-row : tie.Need-add-put-row Inv-loop μ-loop
-add-put-row c = search needs
-
--- src/scopes.rt:31:9
-put-row-requires : tie.Need-put-row-requires Inv-loop μ-loop
-put-row-requires c κs = search needs
-
--- src/scopes.rt:32:9
-add-j : tie.Need-add-j Inv-loop μ-loop
-add-j c = search needs
-
--- src/scopes.rt:27:5
 loop-less : tie.Need-loop-less Inv-loop μ-loop
 loop-less c = omega arith
 
--- src/scopes.rt:27:5
 loop-again : tie.Need-loop-again Inv-loop μ-loop
 loop-again c =
     let s = c .before .before .before .before .before .before .before .before .before .before .before in
@@ -105,15 +51,9 @@ loop-again c =
           (ap (λ (k : ℕ). rs ++ ((k, y .result) ∷ [])) e ∙ ap (λ (k : ℕ). rs ++ ((getD w (a .source + 2 * l .j) 0, k) ∷ [])) f ∙ sym (rows-more w (a .source) (l .j))) g,
     )
 
--- src/scopes.rt:34:5
-add-result : tie.Need-add-result Inv-loop μ-loop
-add-result c = search needs
-
--- src/scopes.rt:21:1
 same-length : tie.Need-same-length Inv-loop μ-loop
 same-length c = c .before .loop .inv .1
 
--- src/scopes.rt:21:1
 returns : tie.Need-returns Inv-loop μ-loop
 returns c =
     let a = c .before .before .before .args in
@@ -131,20 +71,20 @@ push-spec =
     (tie.spec
     Inv-loop
     μ-loop
-    mul-top
-    add-top
+    (λ c. search needs)
+    (λ c. search needs)
     loop-holds
-    mul-at
-    add-at
-    word-requires
-    add-word
-    word-requires-2
-    mul-put-row
-    add-put-row
-    put-row-requires
-    add-j
+    (λ c. search needs)
+    (λ c. search needs)
+    (λ c κs. search needs)
+    (λ c. search needs)
+    (λ c κs. search needs)
+    (λ c. search needs)
+    (λ c. search needs)
+    (λ c κs. search needs)
+    (λ c. search needs)
     loop-less
     loop-again
-    add-result
+    (λ c. search needs)
     same-length
     returns)

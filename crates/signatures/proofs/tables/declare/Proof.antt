@@ -1,19 +1,15 @@
-use mathlib.Core.Path.{_≡_, refl, sym, ap, subst, _∙_}
+use mathlib.Core.Path.{_≡_, refl, sym, subst, _∙_}
 use mathlib.Core.List.{List}
-use Prim.Native.Nat.{ℕ, _+_, _-_, _*_, _≤_, _<_}
+use Prim.Native.Nat.{ℕ, _+_, _-_, _≤_, _<_}
 use native.Mathlib.Omega.{arith}
 use lib.ListN.{length, drop}
-use Rattle.signatures.specs.Rows.{rows, insertRow, declareRows}
+use Rattle.signatures.specs.Rows.{rows, declareRows}
 use Rattle.signatures.specs.Tables.{Table}
 use Rattle.signatures.proofs.TableLaws.{table-self, turned}
 use Rattle.signatures.proofs.MergeLaws.{declare-go, declare-end}
 use borrow.Author.Needs.{needs}
 use Rattle.signatures.proofs.tables.declare.Statement.{statement}
 use Rattle.signatures.proofs.tables.declare.Tie as tie
-use Rattle.signatures.proofs.tables.declare.Reads as reads
-use Rattle.signatures.proofs.tables.declare.Lts as lts
-use Rattle.signatures.proofs.tables.insert.Reads as insert-reads
-use Rattle.words.proofs.word.Reads as word-reads
 
 abbrev Inv-loop : tie.InvT-loop
 Inv-loop work₀ base m part first place e n₀ i₀ work n i =
@@ -23,29 +19,17 @@ Inv-loop work₀ base m part first place e n₀ i₀ work n i =
 abbrev μ-loop : tie.MeasureT-loop
 μ-loop work₀ base m part first place e n₀ i₀ work n i = e - i
 
--- src/tables.rt:102:5
 loop-holds : tie.Need-loop-holds Inv-loop μ-loop
 loop-holds c =
     let a = c .before .before .args in
     (omega arith, omega arith, refl, table-self (a .work .now) (a .base) (a .m), refl)
 
--- src/tables.rt:103:13
-word-requires : tie.Need-word-requires Inv-loop μ-loop
-word-requires c κs = search needs
-
--- src/tables.rt:104:9
 insert-requires : tie.Need-insert-requires Inv-loop μ-loop
 insert-requires c κs = (omega arith, c .before .word .ensures .1, c .before .before .before .before .before .before .pre .1)
 
--- src/tables.rt:105:9
-add-i : tie.Need-add-i Inv-loop μ-loop
-add-i c = search needs
-
--- src/tables.rt:102:5
 loop-less : tie.Need-loop-less Inv-loop μ-loop
 loop-less c = omega arith
 
--- src/tables.rt:102:5
 loop-again : tie.Need-loop-again Inv-loop μ-loop
 loop-again c =
     let s = c .before .before .before .before .before .before .before .before .before in
@@ -63,11 +47,9 @@ loop-again c =
       l .inv .4 ∙ declare-go (a .part .now) (a .place) (l .i) (rows (l .work) (a .base) (l .n)) h (x .result) (x .ensures .0) (rows (t .last .0) (a .base) (t .result)) (g .new),
     )
 
--- src/tables.rt:95:1
 same-length : tie.Need-same-length Inv-loop μ-loop
 same-length c = c .before .loop .inv .2
 
--- src/tables.rt:95:1
 returns : tie.Need-returns Inv-loop μ-loop
 returns c =
     let a = c .before .before .before .before .args in
@@ -82,9 +64,9 @@ declare-spec =
     Inv-loop
     μ-loop
     loop-holds
-    word-requires
+    (λ c κs. search needs)
     insert-requires
-    add-i
+    (λ c. search needs)
     loop-less
     loop-again
     same-length

@@ -1,20 +1,15 @@
-use lib.ListN.{getD}
-use mathlib.Core.Path.{_≡_, refl, sym, ap, subst, _∙_}
+use lib.ListN.{getD, length}
+use mathlib.Core.Path.{_≡_, refl, sym, subst, _∙_}
 use mathlib.Core.List.{List}
 use Prim.Native.Nat.{ℕ, _+_, _-_, _*_, _≤_, _<_}
 use native.Mathlib.Omega.{arith}
-use lib.ListN.{length}
-use Rattle.signatures.specs.Rows.{rows, insertRow, mergeRows}
+use Rattle.signatures.specs.Rows.{rows, mergeRows}
 use Rattle.signatures.specs.Tables.{Table}
-use Rattle.signatures.proofs.TableLaws.{table-self, table-length, table-word, turned}
+use Rattle.signatures.proofs.TableLaws.{table-self, table-word, turned}
 use Rattle.signatures.proofs.MergeLaws.{merge-start, merge-go, merge-end}
 use borrow.Author.Needs.{needs}
 use Rattle.signatures.proofs.tables.merge.Statement.{statement}
 use Rattle.signatures.proofs.tables.merge.Tie as tie
-use Rattle.signatures.proofs.tables.merge.Reads as reads
-use Rattle.signatures.proofs.tables.merge.Lts as lts
-use Rattle.signatures.proofs.tables.insert.Reads as insert-reads
-use Rattle.words.proofs.word.Reads as word-reads
 
 abbrev Inv-loop : tie.InvT-loop
 Inv-loop work₀ source k base m n₀ j₀ work n j =
@@ -24,45 +19,14 @@ Inv-loop work₀ source k base m n₀ j₀ work n j =
 abbrev μ-loop : tie.MeasureT-loop
 μ-loop work₀ source k base m n₀ j₀ work n j = k - j
 
--- src/tables.rt:84:5
 loop-holds : tie.Need-loop-holds Inv-loop μ-loop
 loop-holds c =
     let a = c .before .args in
     (omega arith, omega arith, refl, table-self (a .work .now) (a .base) (a .m), merge-start (a .work .now) (a .source) (a .k) (rows (a .work .now) (a .base) (a .m)))
 
--- src/tables.rt:85:27
-mul-at : tie.Need-mul-at Inv-loop μ-loop
-mul-at c = search needs
-
--- src/tables.rt:85:18
-add-at : tie.Need-add-at Inv-loop μ-loop
-add-at c = search needs
-
--- src/tables.rt:86:13
-word-requires : tie.Need-word-requires Inv-loop μ-loop
-word-requires c κs = search needs
-
--- src/tables.rt:87:32
-add-word : tie.Need-add-word Inv-loop μ-loop
-add-word c = search needs
-
--- src/tables.rt:87:13
-word-requires-2 : tie.Need-word-requires-2 Inv-loop μ-loop
-word-requires-2 c κs = search needs
-
--- src/tables.rt:88:9
-insert-requires : tie.Need-insert-requires Inv-loop μ-loop
-insert-requires c κs = search needs
-
--- src/tables.rt:89:9
-add-j : tie.Need-add-j Inv-loop μ-loop
-add-j c = search needs
-
--- src/tables.rt:84:5
 loop-less : tie.Need-loop-less Inv-loop μ-loop
 loop-less c = omega arith
 
--- src/tables.rt:84:5
 loop-again : tie.Need-loop-again Inv-loop μ-loop
 loop-again c =
     let s = c .before .before .before .before .before .before .before .before .before .before .before in
@@ -86,11 +50,9 @@ loop-again c =
       l .inv .4 ∙ merge-go w (a .source) (a .k) (l .j) h (x .result) (y .result) e f (rows (l .work) (a .base) (l .n)) (rows (t .last .0) (a .base) (t .result)) (g .new),
     )
 
--- src/tables.rt:78:1
 same-length : tie.Need-same-length Inv-loop μ-loop
 same-length c = c .before .loop .inv .2
 
--- src/tables.rt:78:1
 returns : tie.Need-returns Inv-loop μ-loop
 returns c =
     let a = c .before .before .before .args in
@@ -105,13 +67,13 @@ merge-spec =
     Inv-loop
     μ-loop
     loop-holds
-    mul-at
-    add-at
-    word-requires
-    add-word
-    word-requires-2
-    insert-requires
-    add-j
+    (λ c. search needs)
+    (λ c. search needs)
+    (λ c κs. search needs)
+    (λ c. search needs)
+    (λ c κs. search needs)
+    (λ c κs. search needs)
+    (λ c. search needs)
     loop-less
     loop-again
     same-length

@@ -1,6 +1,6 @@
 use mathlib.Core.Path.{_≡_, refl, sym, _∙_}
 use mathlib.Core.List.{_∷_}
-use Prim.Native.Nat.{_+_, _-_, _*_, _≤_, _<_, _^_}
+use Prim.Native.Nat.{_-_, _≤_, _<_, _^_}
 use native.Mathlib.Omega.{arith}
 use lib.ListN.{length}
 use lib.Seq.{sets}
@@ -9,10 +9,6 @@ use Rattle.signatures.proofs.InsertLaws.{shifted, shift-start, shift-go
 use borrow.Author.Needs.{needs}
 use Rattle.signatures.proofs.tables.put_before.Statement.{statement}
 use Rattle.signatures.proofs.tables.put_before.Tie as tie
-use Rattle.signatures.proofs.tables.put_before.Reads as reads
-use Rattle.signatures.proofs.tables.put_before.Lts as lts
-use Rattle.signatures.proofs.tables.put_row.Reads as put-row-reads
-use Rattle.words.proofs.word.Reads as word-reads
 
 abbrev Inv-loop : tie.InvT-loop
 Inv-loop work₀ at k id place i₀ p₀ j₀ work i p j =
@@ -22,45 +18,11 @@ Inv-loop work₀ at k id place i₀ p₀ j₀ work i p j =
 abbrev μ-loop : tie.MeasureT-loop
 μ-loop work₀ at k id place i₀ p₀ j₀ work i p j = k - j
 
--- src/tables.rt:44:5
 loop-holds : tie.Need-loop-holds Inv-loop μ-loop
 loop-holds c =
     let a = c .before .args in
     (omega arith, c .before .pre .1, c .before .pre .2, refl, shift-start (a .work .now) (a .at) (a .k) (a .id) (a .place))
 
--- src/tables.rt:45:22
-mul-q : tie.Need-mul-q Inv-loop μ-loop
-mul-q c = search needs
-
--- src/tables.rt:45:17
-add-q : tie.Need-add-q Inv-loop μ-loop
-add-q c = search needs
-
--- src/tables.rt:46:13
-word-requires : tie.Need-word-requires Inv-loop μ-loop
-word-requires c κs = search needs
-
--- src/tables.rt:47:28
-add-word : tie.Need-add-word Inv-loop μ-loop
-add-word c = search needs
-
--- src/tables.rt:47:13
-word-requires-2 : tie.Need-word-requires-2 Inv-loop μ-loop
-word-requires-2 c κs = search needs
-
--- src/tables.rt:48:9
-put-row-requires : tie.Need-put-row-requires Inv-loop μ-loop
-put-row-requires c κs = search needs
-
--- src/tables.rt:51:9
-add-j : tie.Need-add-j Inv-loop μ-loop
-add-j c = search needs
-
--- src/tables.rt:44:5
-loop-less : tie.Need-loop-less Inv-loop μ-loop
-loop-less c = search needs
-
--- src/tables.rt:44:5
 loop-again : tie.Need-loop-again Inv-loop μ-loop
 loop-again c =
     let a = c .before .before .before .before .before .before .before .before .before .before .before .args in
@@ -75,23 +37,9 @@ loop-again c =
       l .inv .4 ∙ shift-go (l .work) (a .at) (a .k) (l .j) (l .i) (l .p) (c .before .before .before .before .before .before .before .before .loop-test .taken) (t .last .0) (t .ensures) (x .result) (y .result) (x .ensures .0) (y .ensures .0),
     )
 
--- src/tables.rt:53:24
-mul-put-row : tie.Need-mul-put-row Inv-loop μ-loop
-mul-put-row c = search needs
-
--- src/tables.rt:53:19
-add-put-row : tie.Need-add-put-row Inv-loop μ-loop
-add-put-row c = search needs
-
--- src/tables.rt:53:5
-put-row-requires-2 : tie.Need-put-row-requires-2 Inv-loop μ-loop
-put-row-requires-2 c κs = search needs
-
--- src/tables.rt:37:1
 same-length : tie.Need-same-length Inv-loop μ-loop
 same-length c = c .before .before .put-row2 .kept .0 ∙ c .before .before .before .before .before .loop .inv .3
 
--- src/tables.rt:37:1
 returns : tie.Need-returns Inv-loop μ-loop
 returns c =
     let a = c .before .before .before .before .before .before .before .args in
@@ -106,17 +54,17 @@ put-before-spec =
     Inv-loop
     μ-loop
     loop-holds
-    mul-q
-    add-q
-    word-requires
-    add-word
-    word-requires-2
-    put-row-requires
-    add-j
-    loop-less
+    (λ c. search needs)
+    (λ c. search needs)
+    (λ c κs. search needs)
+    (λ c. search needs)
+    (λ c κs. search needs)
+    (λ c κs. search needs)
+    (λ c. search needs)
+    (λ c. search needs)
     loop-again
-    mul-put-row
-    add-put-row
-    put-row-requires-2
+    (λ c. search needs)
+    (λ c. search needs)
+    (λ c κs. search needs)
     same-length
     returns)
