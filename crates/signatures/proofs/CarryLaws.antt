@@ -116,6 +116,16 @@ module _ (R : Term → ℕ → Type 0) where
       go true = h .1
       go false = tt
 
+  pub both-some : (o : Option Term) (p : ℕ) → Both R o (some p) → (t : Term) × (o ≡ some t) × R t p
+  unfolding Both
+  both-some nothing p h = absurd h
+  both-some (some t) p h = (t, refl, h)
+
+  pub both-none : (o : Option Term) → Both R o nothing → o ≡ nothing
+  unfolding Both
+  both-none nothing h = refl
+  both-none (some t) h = absurd h
+
   -- 37
   pub carries-stroked : (k : ℕ) (s : Signature) (rs : List (ℕ × ℕ)) → Carries R s rs → someStroked k s ≡ strokedRows k rs
   unfolding someStroked strokedRows Carries
@@ -138,3 +148,11 @@ module _ (R : Term → ℕ → Type 0) where
       let c = carries-count (renameAll ps (strokeAll k s)) (renameRows ps (strokeRows k rs)) (carries-rename ps (strokeAll k s) (strokeRows k rs) q) in
       let d = carries-count s rs h in
       cc
+
+-- places that stand for terms in another way, as after a change of the words
+pub carries-other : (R Q : Term → ℕ → Type 0) → ((t : Term) (p : ℕ) → R t p → Q t p) → (s : Signature) (rs : List (ℕ × ℕ)) → Carries R s rs → Carries Q s rs
+unfolding Carries
+carries-other R Q f noNames [] h = tt
+carries-other R Q f noNames (r ∷ rs) h = absurd h
+carries-other R Q f (naming i t s) [] h = absurd h
+carries-other R Q f (naming i t s) (r ∷ rs) h = (h .0, f t (r .1) (h .1), carries-other R Q f s rs (h .2))

@@ -6,3 +6,4 @@ pub mod IncludeLaws
 pub mod BringLaws
 pub mod CarryLaws
 pub mod ScopeLaws
+pub mod CallLaws

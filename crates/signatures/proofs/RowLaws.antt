@@ -7,8 +7,8 @@ use mathlib.Core.Option.{Option, some, none as nothing}
 use Prim.Native.Nat.{ℕ, zero, suc, _+_, _*_, _≤_, _<_}
 use native.Mathlib.Omega.{arith}
 use lib.Dec.{ltb, eqb}
-use lib.ListN.{length, getD, set, length-set}
-use lib.Seq.{sets, length-sets, getD-set-same, getD-set-other, set-getD, set-set, set-comm}
+use lib.ListN.{length, getD, set, take, drop, length-set}
+use lib.Seq.{sets, length-sets, getD-set-same, getD-set-other, set-getD, set-set, set-comm, take-set-le, drop-set-lt}
 use Rattle.syntax.specs.Decode.{pairsFrom}
 use Rattle.signatures.specs.Rows.{rows, flat, orPlace, placeIn}
 
@@ -20,6 +20,14 @@ getD-below (v ∷ vs) w i k h = getD-below vs (set w i v) (suc i) k (omega arith
 pub getD-above : (vs w : List ℕ) (i k : ℕ) → i + length vs ≤ k → getD (sets w i vs) k 0 ≡ getD w k 0
 getD-above [] w i k h = refl
 getD-above (v ∷ vs) w i k h = getD-above vs (set w i v) (suc i) k (omega arith) ∙ getD-set-other w i k v 0 (λ e. omega arith)
+
+pub take-sets : (vs w : List ℕ) (i n : ℕ) → n ≤ i → take n (sets w i vs) ≡ take n w
+take-sets [] w i n h = refl
+take-sets (v ∷ vs) w i n h = take-sets vs (set w i v) (suc i) n (omega arith) ∙ take-set-le n w i v h
+
+pub drop-sets : (vs w : List ℕ) (i n : ℕ) → i + length vs ≤ n → drop n (sets w i vs) ≡ drop n w
+drop-sets [] w i n h = refl
+drop-sets (v ∷ vs) w i n h = drop-sets vs (set w i v) (suc i) n (omega arith) ∙ drop-set-lt n w i v (omega arith)
 
 set-sets : (vs w : List ℕ) (i k x : ℕ) → k < i → set (sets w i vs) k x ≡ sets (set w k x) i vs
 set-sets [] w i k x h = refl

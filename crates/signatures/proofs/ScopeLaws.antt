@@ -69,6 +69,14 @@ module _ (R : Term → ℕ → Type 0) (D : Dictionary) where
   stacked-parameters (i ∷ is) k Γ [] st h q = absurd h
   stacked-parameters (i ∷ is) k Γ (r ∷ rs) st h q = stacked-parameters is (suc k) (local i (powerOf (parameterOf k)) Γ) rs (r ∷ st) (h .2) (h .0, h .1, q)
 
+pub stacked-other : (R Q : Term → ℕ → Type 0) (D : Dictionary) → ((t : Term) (p : ℕ) → R t p → Q t p) → (Γ : Scope) (rs : List (ℕ × ℕ))
+    → Stacked R Γ rs D → Stacked Q Γ rs D
+unfolding Stacked
+stacked-other R Q D f (globals E) [] h = h
+stacked-other R Q D f (globals E) (r ∷ rs) h = absurd h
+stacked-other R Q D f (local i t Γ) [] h = absurd h
+stacked-other R Q D f (local i t Γ) (r ∷ rs) h = (h .0, f t (r .1) (h .1), stacked-other R Q D f Γ rs (h .2))
+
 -- the newest row of a stack is the last of its table
 pub newest-last : (i : ℕ) (w : List ℕ) (b n : ℕ) → newest i (stack w b n) ≡ placeIn i (rows w b n)
 unfolding newest stack placeIn pairsFrom

@@ -6,12 +6,13 @@ use mathlib.Core.List.{List, [], _∷_, _++_, append-nil}
 use Prim.Native.Nat.{ℕ, zero, suc, _+_, _*_, _≤_, _<_}
 use native.Mathlib.Omega.{arith}
 use lib.Dec.{ltb, eqb}
-use lib.ListN.{length, getD, length-append}
+use lib.ListN.{length, getD, take, drop, length-append}
 use lib.Seq.{sets, length-sets}
 use borrow.Author.Tests.{eq-eqb, ne-eqb, lt-ltb, le-ltb}
-use Rattle.signatures.specs.Rows.{rows, flat, insertRow}
+use Rattle.typing.specs.Signatures.{renamed}
+use Rattle.signatures.specs.Rows.{rows, flat, insertRow, mergeRows, declareRows, renameRows}
 use Rattle.signatures.specs.Tables.{Table}
-use Rattle.signatures.proofs.RowLaws.{sets-sets, sets-rows, flat-length, rows-length, rows-written, rows-beside, sets-flat, getD-below, getD-above}
+use Rattle.signatures.proofs.RowLaws.{sets-sets, sets-rows, flat-length, rows-length, rows-written, rows-beside, sets-flat, getD-below, getD-above, take-sets, drop-sets}
 
 -- a row more at most
 pub insert-count : (i p : ℕ) (rs : List (ℕ × ℕ)) → (length rs ≤ length (insertRow i p rs)) × (length (insertRow i p rs) ≤ suc (length rs))
@@ -25,6 +26,30 @@ insert-count i p (r ∷ rs) = go (eqb i (r .0)) (ltb i (r .0)) (insert-count i p
     go true b h = (omega arith, omega arith)
     go false true h = (omega arith, omega arith)
     go false false h = (omega arith, omega arith)
+
+pub merge-count : (xs rs : List (ℕ × ℕ)) → length (mergeRows xs rs) ≤ length xs + length rs
+unfolding mergeRows
+merge-count [] rs = omega arith
+merge-count (x ∷ xs) rs =
+    let a = merge-count xs (insertRow (x .0) (x .1) rs) in
+    let b = insert-count (x .0) (x .1) rs .1 in
+    omega arith
+
+pub declare-count : (is : List ℕ) (p : ℕ) (rs : List (ℕ × ℕ)) → length (declareRows is p rs) ≤ length is + length rs
+unfolding declareRows
+declare-count [] p rs = omega arith
+declare-count (i ∷ is) p rs =
+    let a = declare-count is p (insertRow i p rs) in
+    let b = insert-count i p rs .1 in
+    omega arith
+
+pub rename-count : (ps rs : List (ℕ × ℕ)) → length (renameRows ps rs) ≤ length rs
+unfolding renameRows
+rename-count ps [] = omega arith
+rename-count ps (r ∷ rs) =
+    let a = rename-count ps rs in
+    let b = insert-count (renamed ps (r .0)) (r .1) (renameRows ps rs) .1 in
+    omega arith
 
 -- by the identifier of the first row
 module _ (i p : ℕ) (r : ℕ × ℕ) (rs : List (ℕ × ℕ)) where
@@ -79,6 +104,15 @@ module _ (w : List ℕ) (b : ℕ) where
     pub table-beside : (m s k : ℕ) → n ≤ m → (b + 2 * m ≤ s) ⊎ (s + 2 * k ≤ b) → rows v s k ≡ rows w s k
     table-beside m s k h a =
         ap (λ (u : List ℕ). rows u s k) (t .words) ∙ rows-beside rs w b m s k (subst (λ (z : ℕ). z ≤ m) (t .count) h) a
+
+    pub table-below : (k : ℕ) → k ≤ b → take k v ≡ take k w
+    table-below k h = ap (take k) (t .words) ∙ take-sets (flat rs) w b k h
+
+    pub table-above : (k : ℕ) → b + 2 * n ≤ k → drop k v ≡ drop k w
+    table-above k h =
+        let c = t .count in
+        let l = flat-length rs in
+        ap (drop k) (t .words) ∙ drop-sets (flat rs) w b k (omega arith)
 
     -- rows written over it that are no fewer
     pub table-over : (u : List ℕ) (qs : List (ℕ × ℕ)) (r : ℕ) → length rs ≤ length qs → Table v u b qs r → Table w u b qs r
