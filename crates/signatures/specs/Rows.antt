@@ -56,7 +56,8 @@ unfoldable pub renameRows : List (ℕ × ℕ) → List (ℕ × ℕ) → List (�
 renameRows ps [] = []
 renameRows ps (r ∷ rs) = insertRow (renamed ps (r .0)) (r .1) (renameRows ps rs)
 
--- the pairs (old, new) of an Include, which the words of its part are from `first` on
+-- The pairs (old, new) of an Include are the words of its part from `first` on. With a actuals `first` is a + 4, and these are the pairs of the tree
+-- (syntax's include-law, word for word).
 abbrev pub renames : List ℕ → ℕ → List (ℕ × ℕ)
 renames w first = pairsFrom w first ((length w - first) / 2)
 

@@ -91,7 +91,8 @@ pub fn merge(work: &mut [u32], source: usize, k: usize, base: usize, m: usize) -
     n
 }
 
-// The identifiers that the words of a node's part are from `first` on, all with one place, inserted into the table of m rows at base.
+// The identifiers that the words of a node's part are from `first` on (in a Decl, 2), all with one place, inserted into the table of m rows at
+// base. The number of rows then.
 pub fn declare(
     work: &mut [u32],
     base: usize,
