@@ -1,7 +1,7 @@
 -- Texts put one after the other are one text put.
 use mathlib.Core.Path.{_≡_, refl, sym, ap, subst, _∙_}
 use mathlib.Core.List.{List, [], _∷_, _++_}
-use mathlib.Core.Bool.{Bool, true, false}
+use mathlib.Core.Bool.{Bool, true, false, cond}
 use Prim.Native.Nat.{ℕ, zero, suc, _+_, _-_, _≤_, _<_, min}
 use native.Mathlib.Omega.{arith}
 use lib.Dec.{ltb}
@@ -105,3 +105,11 @@ module _ {t b c : List ℕ} {n m : ℕ} (cleared : b ≡ zeros n) (p : Put t b 0
       let over = le-ltb (length t) n (omega arith) in
       let same : length c ≡ n = omega arith in
       record { bytes = rw over (e ∙ ap zeros same); count = rw over refl }
+
+pub printed-within : {t b : List ℕ} {n r : ℕ} → Printed t n r b → r ≤ n
+unfolding printedLength
+printed-within {t} {b} {n} {r} p = go (ltb (length t) n) refl (p .count)
+  where
+    go : (x : Bool) → ltb (length t) n ≡ x → r ≡ cond x (length t) 0 → r ≤ n
+    go true e h = let l = ltb-true (length t) n e in omega arith
+    go false e h = omega arith
