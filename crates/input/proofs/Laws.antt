@@ -8,8 +8,10 @@ use native.Mathlib.Numerals.{add-one}
 use native.Mathlib.Nat.{div-add-mod'}
 use lib.ListN.{length, getD, set, take, drop}
 use lib.Seq.{set-at, take-at}
-use borrow.Author.Tests.{eq-eqb, ne-eqb, le-leb, lt-leb}
+use lib.Dec.{eqb}
+use borrow.Author.Tests.{eq-eqb, ne-eqb, le-leb, lt-leb, leb-true}
 use Rattle.words.specs.Loops.{joined}
+use Rattle.words.proofs.Loops.{and-right}
 use Rattle.words.proofs.Lists.{joined-last, drop-next}
 use Rattle.input.specs.Input.{wordAt, firstWords, wordsOf, areWords, wordsAfter}
 
@@ -40,7 +42,7 @@ store-next bytes area i h =
     ∙ ap (λ (z : List ℕ). z ++ rest) (words-next bytes i)
 
 -- the front of an area that the words were written to
-pub words-front : (bytes rest : List ℕ) → take (length bytes / 4) (wordsOf bytes ++ rest) ≡ wordsOf bytes
+words-front : (bytes rest : List ℕ) → take (length bytes / 4) (wordsOf bytes ++ rest) ≡ wordsOf bytes
 unfolding wordsOf
 words-front bytes rest = take-at (wordsOf bytes) rest (length bytes / 4) (first-length bytes (length bytes / 4))
 
@@ -70,3 +72,16 @@ module _ (bytes area : List ℕ) where
   pub all-written : true ≡ areWords bytes (length area) → wordsOf bytes ++ drop (length bytes / 4) area ≡ wordsAfter bytes area
   unfolding wordsAfter
   all-written e = rw (← e)
+
+-- what a caller of take_words knows where it answers true
+module _ (bytes : List ℕ) where
+  pub words-room : (room : ℕ) → areWords bytes room ≡ true → length bytes / 4 ≤ room
+  unfolding areWords
+  words-room room e =
+      let l = leb-true (length bytes) (4 * room) (and-right (eqb (length bytes % 4) 0) _ e) in
+      let t = div-add-mod' (length bytes) 4 in
+      omega arith
+
+  pub words-taken : (area : List ℕ) → areWords bytes (length area) ≡ true → take (length bytes / 4) (wordsAfter bytes area) ≡ wordsOf bytes
+  unfolding wordsAfter
+  words-taken area e = rw e (words-front bytes (drop (length bytes / 4) area))
