@@ -4,8 +4,8 @@ use Prim.Native.Nat.{ℕ, _+_, _*_, _/_, _%_}
 use lib.Dec.{eqb}
 use Rattle.syntax.specs.declared.Reading.{Reading}
 use Rattle.syntax.specs.declared.Reading.the-variants.{Readable, Refused}
-use Rattle.checker.specs.declared.Finding.{Finding}
-use Rattle.checker.specs.declared.Finding.the-variants.{Accepted, Refused as Refused′}
+use Rattle.typing.specs.declared.Finding.{Finding}
+use Rattle.typing.specs.declared.Finding.the-variants.{Accepted, Refused as Refused′}
 
 -- 0 where there is none, else number × 2^32 + place
 unfoldable pub codeOf : Reading → ℕ

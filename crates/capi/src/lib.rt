@@ -1,6 +1,6 @@
 // The calls for C and Rust. Each gives its finding as one number.
-use checker::Finding;
 use syntax::Reading;
+use typing::Finding;
 ghost use mathlib.Core.Path.{_≡_};
 ghost use lib.ListN.{length};
 ghost use Rattle.syntax.specs.Reading.{readOf};

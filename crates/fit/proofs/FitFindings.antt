@@ -16,8 +16,8 @@ use Rattle.values.specs.Typed.{isOf}
 use Rattle.types.specs.Types.{Ty, size}
 use Rattle.types.specs.Formed.{WellFormed as Formed}
 use Rattle.types.specs.Words.{words}
-use Rattle.checker.specs.Dictionary.{Dictionary, ofGlobal, nameIn}
-use Rattle.checker.specs.Check.{Answer, accepted, refused, checkOf}
+use Rattle.typing.specs.Dictionary.{Dictionary, ofGlobal, nameIn}
+use Rattle.typing.specs.Check.{Answer, accepted, refused, checkOf}
 use Rattle.states.specs.Names.{Name, documentNames}
 use Rattle.states.specs.Decode.{valueOf}
 use Rattle.states.specs.States.{nameAt, sizesIn, stateOf}

@@ -20,21 +20,21 @@ use Rattle.types.specs.Unify.{zipTerms, replaceAll, weight, isUnknown, flex, ri
 use Rattle.types.specs.Component.{has as has′, hasType, pick, pickType, component, componentType}
 use Rattle.types.specs.Instance.{nth, actual, instanceFormer, instance}
 use Rattle.types.specs.Words.{second, words}
-use Rattle.checker.specs.Strokes.{decorate, takes}
-use Rattle.checker.specs.Unknowns.{slot, row}
-use Rattle.checker.specs.Dictionary.{entryWords, entries, entryPairs, allWords, laidOutWords, dictionaryWords, nameIn, schemaIn}
-use Rattle.checker.specs.Signatures.{countNames, namesOf, termsOf, bindingOf, withNames, componentsOf, orElse, termIn, hasName, insertName}
-use Rattle.checker.specs.Signatures.{merge, declare, strokeAll, renamed, renameAll, someStroked, hasOld, wrongOld, wrongNames}
-use Rattle.checker.specs.Scopes.{nameAt, schemaNamed, withParameters, enter, brought, includeSignature, includeNode, linesSignature}
-use Rattle.checker.specs.Scopes.{textSignature, inside, schemaSignature}
-use Rattle.checker.specs.Conditions.{refuseIf, sameType, mergeDeclared, mergeNames, newName, newNames, smallTypes, fewNames, typesOf, arePowers}
-use Rattle.checker.specs.Conditions.{areMembers, freshRow}
-use Rattle.checker.specs.Rules.{referenceItems, thetaName, thetaNames, typeInScope, thetaSignature, thetaItems, includeRule, exprItems}
-use Rattle.checker.specs.Rules.{schemaItems, paragraphItems}
-use Rattle.checker.specs.Entries.{addGivens, addSignature, extend, paragraphNode}
-use Rattle.checker.specs.Solving.{andThen, answer, passIf, selected, isSmall, isClosed, solveFrom, addUnknown, termUnknowns, unknowns, solve}
-use Rattle.checker.specs.Solving.{tableOf}
-use Rattle.checker.specs.Check.{fitting, settle, checkParagraphs, paragraphsOf, afterReading, checkOf}
+use Rattle.typing.specs.Strokes.{decorate, takes}
+use Rattle.typing.specs.Unknowns.{slot, row}
+use Rattle.typing.specs.Dictionary.{entryWords, entries, entryPairs, allWords, laidOutWords, dictionaryWords, nameIn, schemaIn}
+use Rattle.typing.specs.Signatures.{countNames, namesOf, termsOf, bindingOf, withNames, componentsOf, orElse, termIn, hasName, insertName}
+use Rattle.typing.specs.Signatures.{merge, declare, strokeAll, renamed, renameAll, someStroked, hasOld, wrongOld, wrongNames}
+use Rattle.typing.specs.Scopes.{nameAt, schemaNamed, withParameters, enter, brought, includeSignature, includeNode, linesSignature}
+use Rattle.typing.specs.Scopes.{textSignature, inside, schemaSignature}
+use Rattle.typing.specs.Conditions.{refuseIf, sameType, mergeDeclared, mergeNames, newName, newNames, smallTypes, fewNames, typesOf, arePowers}
+use Rattle.typing.specs.Conditions.{areMembers, freshRow}
+use Rattle.typing.specs.Rules.{referenceItems, thetaName, thetaNames, typeInScope, thetaSignature, thetaItems, includeRule, exprItems}
+use Rattle.typing.specs.Rules.{schemaItems, paragraphItems}
+use Rattle.typing.specs.Entries.{addGivens, addSignature, extend, paragraphNode}
+use Rattle.typing.specs.Solving.{andThen, answer, passIf, selected, isSmall, isClosed, solveFrom, addUnknown, termUnknowns, unknowns, solve}
+use Rattle.typing.specs.Solving.{tableOf}
+use Rattle.typing.specs.Check.{fitting, settle, checkParagraphs, paragraphsOf, afterReading, checkOf}
 use Rattle.values.specs.Integer.{signed, wordOf}
 use Rattle.values.specs.Value.{count, encode, encodes}
 use Rattle.values.specs.Order.{compareWord, orElse as orElse′, compare, isLess, isSame, same}

@@ -4,8 +4,8 @@ use mathlib.Core.List.{List}
 use Prim.Native.Nat.{ℕ, _≤_, _<_}
 use lib.ListN.{length}
 use Rattle.syntax.specs.Decode.{treeOf}
-use Rattle.checker.specs.Dictionary.{Dictionary}
-use Rattle.checker.specs.Check.{Answer, accepted, refused, checkOf}
+use Rattle.typing.specs.Dictionary.{Dictionary}
+use Rattle.typing.specs.Check.{Answer, accepted, refused, checkOf}
 use Rattle.states.specs.Names.{Name, documentNames}
 use Rattle.evaluator.specs.Claims.{IllFormed, WellFormed}
 use Rattle.fit.specs.Fit.{typeNumber}

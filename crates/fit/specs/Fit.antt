@@ -10,8 +10,8 @@ use Rattle.syntax.specs.declared.Reading.{Reading}
 use Rattle.syntax.specs.declared.Reading.the-variants.{Readable, Refused}
 use Rattle.types.specs.Words.{words}
 use Rattle.values.specs.Typed.{isOf}
-use Rattle.checker.specs.Dictionary.{Dictionary, Named, unnamed, ofLocal, ofGlobal, nameIn}
-use Rattle.checker.specs.Check.{Answer, accepted, refused, checkOf}
+use Rattle.typing.specs.Dictionary.{Dictionary, Named, unnamed, ofLocal, ofGlobal, nameIn}
+use Rattle.typing.specs.Check.{Answer, accepted, refused, checkOf}
 use Rattle.states.specs.Names.{Name, documentNames}
 use Rattle.states.specs.States.{nameAt, sizesIn, stateOf}
 use Rattle.states.specs.Decode.{valueOf}

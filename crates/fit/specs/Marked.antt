@@ -2,8 +2,8 @@
 use mathlib.Core.Path.{_≡_}
 use mathlib.Core.List.{List, [], _∷_}
 use Prim.Native.Nat.{ℕ}
-use Rattle.checker.specs.Dictionary.{dictionaryWords}
-use Rattle.checker.specs.Check.{Answer, accepted, refused}
+use Rattle.typing.specs.Dictionary.{dictionaryWords}
+use Rattle.typing.specs.Check.{Answer, accepted, refused}
 use Rattle.evaluator.specs.Marked.{coded}
 use Rattle.fit.specs.Fit.{fitOf}
 

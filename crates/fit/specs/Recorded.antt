@@ -3,7 +3,7 @@ use mathlib.Core.Path.{_≡_}
 use mathlib.Core.List.{List, [], _∷_}
 use Prim.Native.Nat.{ℕ}
 use Rattle.types.specs.Types.{Ty}
-use Rattle.checker.specs.Dictionary.{Dictionary, ofGlobal, nameIn}
+use Rattle.typing.specs.Dictionary.{Dictionary, ofGlobal, nameIn}
 use Rattle.states.specs.Names.{Name}
 use Rattle.states.specs.States.{State}
 use Rattle.fit.specs.HasType.{Has}

@@ -1,6 +1,6 @@
 -- Every marked case holds.
 use mathlib.Core.List.{List, [], _∷_, _++_}
-use Rattle.checker.proofs.Marked as checks
+use Rattle.typing.proofs.Marked as checks
 use Rattle.printer.specs.Marked as prints
 use Rattle.printer.proofs.Printed.{documents-print}
 use Rattle.evaluator.specs.Marked as runs

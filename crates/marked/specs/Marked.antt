@@ -1,11 +1,11 @@
 -- Document 01's marked cases as one table (document 01, "Marked, as one table and one claim about the definitions"). A row says what is given and what
 -- must come: a document checked, a document whose finding is printed, or a document and a state run. The rows stand in the crates whose definitions
--- they are about: `checker` (1 3 1 1, the printed input, {} = {}, 1 = {1}, x in {}, sizes 32 and 33), `printer` (the printed input's lines),
+-- they are about: `typing` (1 3 1 1, the printed input, {} = {}, 1 = {1}, x in {}, sizes 32 and 33), `printer` (the printed input's lines),
 -- `evaluator` ({2,1}, −7 mod 2, 2,147,483,647 + 1, 31 and 32 numbers, and a row for each reading).
 use mathlib.Core.Path.{_≡_}
 use mathlib.Core.List.{List, [], _∷_, _++_}
-use Rattle.checker.specs.Check.{checkOf}
-use Rattle.checker.proofs.Marked as checks
+use Rattle.typing.specs.Check.{checkOf}
+use Rattle.typing.proofs.Marked as checks
 use Rattle.printer.specs.Print.{printedOf}
 use Rattle.printer.specs.Marked as prints
 use Rattle.evaluator.specs.Marked as runs

@@ -9,10 +9,10 @@ use borrow.Author.Tests.{lt-ltb}
 use lib.ListN.{length, take, drop, replicate, length-append, length-take, length-drop, length-replicate}
 use Rattle.words.specs.Loops.{total, joined}
 use Rattle.layout.specs.Layout.{count, lengthAt, offsetAt, part}
-use Rattle.checker.specs.Dictionary.{dictionaryWords, dictionaryLength}
-use Rattle.checker.specs.Check.{Answer, accepted, refused, checkOf}
-use Rattle.checker.specs.Areas.{findingOf, dictionaryAfter, Checked}
-use Rattle.checker.specs.declared.Finding.{Finding}
+use Rattle.typing.specs.Dictionary.{dictionaryWords, dictionaryLength}
+use Rattle.typing.specs.Check.{Answer, accepted, refused, checkOf}
+use Rattle.typing.specs.Areas.{findingOf, dictionaryAfter, Checked}
+use Rattle.typing.specs.declared.Finding.{Finding}
 use Rattle.printer.specs.Decimal.{decimal}
 use Rattle.printer.specs.Lines.{acceptedBytes, refusedBytes, atBytes, spaced, numbers, entryLine, dictionarySize, entryLines, acceptedLines, refusedLine}
 use Rattle.printer.specs.Print.{printOf, printedAnswer}

@@ -8,7 +8,7 @@ use lib.ListN.{length, getD, length-append}
 use lib.Seq.{getD-append-add}
 use Rattle.words.specs.Loops.{total}
 use Rattle.layout.specs.Layout.{count, lengthAt}
-use Rattle.checker.specs.Dictionary.{Entry, Dictionary, entryWords, entries, entryPairs, allWords, laidOutWords, dictionaryWords, dictionaryLength}
+use Rattle.typing.specs.Dictionary.{Entry, Dictionary, entryWords, entries, entryPairs, allWords, laidOutWords, dictionaryWords, dictionaryLength}
 use Rattle.printer.specs.Lines.{dictionarySize}
 
 -- the words that count, pairs and entries of these lengths take

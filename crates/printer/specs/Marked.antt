@@ -2,8 +2,8 @@
 use mathlib.Core.Path.{_≡_}
 use mathlib.Core.List.{List, [], _∷_}
 use Prim.Native.Nat.{ℕ}
-use Rattle.checker.specs.declared.Finding.{Finding}
-use Rattle.checker.specs.declared.Finding.the-variants.{Accepted, Refused}
+use Rattle.typing.specs.declared.Finding.{Finding}
+use Rattle.typing.specs.declared.Finding.the-variants.{Accepted, Refused}
 use Rattle.printer.specs.Print.{printOf, printedOf}
 
 pub record Case : Type 0 where

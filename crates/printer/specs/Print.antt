@@ -1,10 +1,10 @@
 -- The printed finding of a check: bytes, from the finding and the dictionary's words.
 use mathlib.Core.List.{List}
 use Prim.Native.Nat.{ℕ}
-use Rattle.checker.specs.Check.{Answer, checkOf}
-use Rattle.checker.specs.Areas.{findingOf, dictionaryAfter}
-use Rattle.checker.specs.declared.Finding.{Finding}
-use Rattle.checker.specs.declared.Finding.the-variants.{Accepted, Refused}
+use Rattle.typing.specs.Check.{Answer, checkOf}
+use Rattle.typing.specs.Areas.{findingOf, dictionaryAfter}
+use Rattle.typing.specs.declared.Finding.{Finding}
+use Rattle.typing.specs.declared.Finding.the-variants.{Accepted, Refused}
 use Rattle.printer.specs.Lines.{acceptedLines, refusedLine}
 
 unfoldable pub printOf : Finding → List ℕ → List ℕ

@@ -4,9 +4,9 @@ mod lines;
 mod numbers;
 
 use buffer::clear;
-use checker::Finding;
 use lines::put_accepted;
 use lines::put_refused;
+use typing::Finding;
 ghost use lib.ListN.{length};
 ghost use Rattle.printer.specs.Print.{printOf};
 ghost use Rattle.printer.specs.Buffer.{Put, Printed};

@@ -11,11 +11,11 @@ use Rattle.syntax.specs.Decode.{treeOf}
 use Rattle.syntax.specs.declared.Reading.{Reading}
 use Rattle.syntax.specs.declared.Reading.the-variants.{Readable, Refused as Unreadable}
 use Rattle.types.specs.Types.{ℤ}
-use Rattle.checker.specs.Dictionary.{Dictionary, blank}
-use Rattle.checker.specs.Check.{accepted, paragraphsOf, checkOf}
-use Rattle.checker.specs.Verdicts.{Accepts}
-use Rattle.checker.specs.AcceptedTypes.{HasType}
-use Rattle.checker.proofs.CheckRight.{accepted-says}
+use Rattle.typing.specs.Dictionary.{Dictionary, blank}
+use Rattle.typing.specs.Check.{accepted, paragraphsOf, checkOf}
+use Rattle.typing.specs.Verdicts.{Accepts}
+use Rattle.typing.specs.AcceptedTypes.{HasType}
+use Rattle.typing.proofs.CheckRight.{accepted-says}
 use Rattle.fit.specs.Recorded.{Fits}
 use Rattle.fit.specs.Fit.{fitOf}
 use Rattle.evaluator.specs.Outcomes.{Event, Outcome}

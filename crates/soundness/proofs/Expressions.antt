@@ -14,14 +14,14 @@ use Rattle.syntax.specs.Tree as Tree
 use Rattle.values.specs.Value.{Value, Values, nil, count}
 use Rattle.types.specs.Types.{Ty, Term, under, unders}
 use Rattle.types.proofs.Instance.{instance-none}
-use Rattle.checker.specs.Unknowns.{Table, slot, unknownAt, row}
-use Rattle.checker.specs.Dictionary.{Dictionary, blank, Named}
-use Rattle.checker.specs.Items.{Items, refusal, Meets}
-use Rattle.checker.specs.Conditions.{mergeDeclared, typesOf, arePowers, areMembers, freshRow}
-use Rattle.checker.specs.Signatures.{Signature, noNames, insertName, declare}
-use Rattle.checker.specs.Scopes.{Scope, enter, linesSignature, textSignature, inside}
-use Rattle.checker.specs.Rules.{referenceItems, exprItems, exprsItems, predItems, textItems, linesItems}
-use Rattle.checker.specs.ExpressionNodes.{InExpr, InExprs, InPred, InText, InLines}
+use Rattle.typing.specs.Unknowns.{Table, slot, unknownAt, row}
+use Rattle.typing.specs.Dictionary.{Dictionary, blank, Named}
+use Rattle.typing.specs.Items.{Items, refusal, Meets}
+use Rattle.typing.specs.Conditions.{mergeDeclared, typesOf, arePowers, areMembers, freshRow}
+use Rattle.typing.specs.Signatures.{Signature, noNames, insertName, declare}
+use Rattle.typing.specs.Scopes.{Scope, enter, linesSignature, textSignature, inside}
+use Rattle.typing.specs.Rules.{referenceItems, exprItems, exprsItems, predItems, textItems, linesItems}
+use Rattle.typing.specs.ExpressionNodes.{InExpr, InExprs, InPred, InText, InLines}
 use Rattle.fit.specs.HasType.{Has, isInteger, isSet, isTuple, MembersHave, noMember, aMember, PartsHave, noPart, aPart}
 use Rattle.evaluator.specs.Outcomes.{Outcome, _>>=_, pure}
 use Rattle.evaluator.specs.Scope.{refer, Meaning}

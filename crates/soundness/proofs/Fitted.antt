@@ -23,19 +23,19 @@ use Rattle.types.specs.Former as Former
 use Rattle.types.specs.Types.{Ty, node, tnil, Term, under, size}
 use Rattle.types.specs.Formed.{WellFormed}
 use Rattle.types.specs.Words.{words}
-use Rattle.checker.specs.Unknowns.{Table, unknownAt, givenSet}
-use Rattle.checker.specs.Items.{Meets}
-use Rattle.checker.specs.Dictionary.{Dictionary, blank, _▸_, nameEntry, schemaEntry, Named, ofGlobal, nameIn}
-use Rattle.checker.specs.Conditions.{mergeDeclared}
-use Rattle.checker.specs.Entries.{addGivens, extend}
-use Rattle.checker.specs.Signatures.{Signature, noNames, insertName, termIn, declare}
-use Rattle.checker.specs.Scopes.{Scope, globals, linesSignature, textSignature}
-use Rattle.checker.specs.Rules.{textItems, linesItems, paragraphItems}
-use Rattle.checker.specs.Verdicts.{Accepts}
-use Rattle.checker.specs.WellFormed.{FormedDictionary, FormedAnswer}
-use Rattle.checker.specs.Check.{Answer, accepted, refused, paragraphsOf, checkOf}
-use Rattle.checker.proofs.CheckRight.{accepted-says}
-use Rattle.checker.proofs.FormedCheck.{check-formed}
+use Rattle.typing.specs.Unknowns.{Table, unknownAt, givenSet}
+use Rattle.typing.specs.Items.{Meets}
+use Rattle.typing.specs.Dictionary.{Dictionary, blank, _▸_, nameEntry, schemaEntry, Named, ofGlobal, nameIn}
+use Rattle.typing.specs.Conditions.{mergeDeclared}
+use Rattle.typing.specs.Entries.{addGivens, extend}
+use Rattle.typing.specs.Signatures.{Signature, noNames, insertName, termIn, declare}
+use Rattle.typing.specs.Scopes.{Scope, globals, linesSignature, textSignature}
+use Rattle.typing.specs.Rules.{textItems, linesItems, paragraphItems}
+use Rattle.typing.specs.Verdicts.{Accepts}
+use Rattle.typing.specs.WellFormed.{FormedDictionary, FormedAnswer}
+use Rattle.typing.specs.Check.{Answer, accepted, refused, paragraphsOf, checkOf}
+use Rattle.typing.proofs.CheckRight.{accepted-says}
+use Rattle.typing.proofs.FormedCheck.{check-formed}
 use Rattle.fit.specs.HasType.{Has, isElement, isSet, MembersHave, noMember, aMember}
 use Rattle.fit.specs.Recorded.{Every, none, also, OfRecorded, Fits}
 use Rattle.fit.specs.Fit.{recordedWords, typeNumber, fitTypes, fitState, fitChecked, fitOf}

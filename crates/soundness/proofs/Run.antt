@@ -10,18 +10,18 @@ use lib.ListN.{length}
 use Rattle.syntax.specs.Tree.{Lines, end, declaration, inclusion, Paragraph, given, axiomatic, schema, abbreviation, constraint, text, Document, document}
 use Rattle.values.specs.Value.{Value}
 use Rattle.types.specs.Types.{Ty, Term, under}
-use Rattle.checker.specs.Unknowns.{Table, slot, unknownAt, givenSet}
-use Rattle.checker.specs.Items.{Any, Meets, Passes}
-use Rattle.checker.specs.Dictionary.{Dictionary, blank, _▸_, nameEntry, schemaEntry, Named, ofGlobal, nameIn}
-use Rattle.checker.specs.Conditions.{mergeDeclared, newNames}
-use Rattle.checker.specs.Entries.{addGivens, extend}
-use Rattle.checker.specs.Signatures.{Signature, noNames, insertName, termIn, declare}
-use Rattle.checker.specs.Scopes.{Scope, globals, nameAt, enter, withParameters, linesSignature, textSignature, inside}
-use Rattle.checker.specs.Rules.{textItems, linesItems, paragraphItems}
-use Rattle.checker.specs.ExpressionNodes.{InText, InLines, InParagraph}
-use Rattle.checker.specs.Verdicts.{Accepts}
-use Rattle.checker.specs.AcceptedTypes.{HasType}
-use Rattle.checker.proofs.OneType.{one-type, extend-same}
+use Rattle.typing.specs.Unknowns.{Table, slot, unknownAt, givenSet}
+use Rattle.typing.specs.Items.{Any, Meets, Passes}
+use Rattle.typing.specs.Dictionary.{Dictionary, blank, _▸_, nameEntry, schemaEntry, Named, ofGlobal, nameIn}
+use Rattle.typing.specs.Conditions.{mergeDeclared, newNames}
+use Rattle.typing.specs.Entries.{addGivens, extend}
+use Rattle.typing.specs.Signatures.{Signature, noNames, insertName, termIn, declare}
+use Rattle.typing.specs.Scopes.{Scope, globals, nameAt, enter, withParameters, linesSignature, textSignature, inside}
+use Rattle.typing.specs.Rules.{textItems, linesItems, paragraphItems}
+use Rattle.typing.specs.ExpressionNodes.{InText, InLines, InParagraph}
+use Rattle.typing.specs.Verdicts.{Accepts}
+use Rattle.typing.specs.AcceptedTypes.{HasType}
+use Rattle.typing.proofs.OneType.{one-type, extend-same}
 use Rattle.fit.specs.HasType.{Has}
 use Rattle.fit.specs.Recorded.{Every, none, also, OfRecorded, Fits}
 use Rattle.evaluator.specs.Outcomes.{Outcome, _>>=_}

@@ -10,13 +10,13 @@ use borrow.Author.Tests.{eqb-true, eqb-false, eq-eqb}
 use Rattle.syntax.specs.Tree.{Lines, end, declaration, inclusion}
 use Rattle.values.specs.Value.{Value}
 use Rattle.types.specs.Types.{Ty, Term, under}
-use Rattle.checker.specs.Unknowns.{Table, unknownAt}
-use Rattle.checker.specs.Items.{Meets}
-use Rattle.checker.specs.Dictionary.{Dictionary, blank, _▸_, nameEntry, schemaEntry, Named, unnamed, ofLocal, ofGlobal, nameIn}
-use Rattle.checker.specs.Conditions.{sameType, mergeDeclared}
-use Rattle.checker.specs.Entries.{addSignature}
-use Rattle.checker.specs.Signatures.{Signature, noNames, naming, orElse, termIn, insertName, merge, declare}
-use Rattle.checker.specs.Scopes.{Scope, globals, local, nameAt, enter, includeSignature, linesSignature}
+use Rattle.typing.specs.Unknowns.{Table, unknownAt}
+use Rattle.typing.specs.Items.{Meets}
+use Rattle.typing.specs.Dictionary.{Dictionary, blank, _▸_, nameEntry, schemaEntry, Named, unnamed, ofLocal, ofGlobal, nameIn}
+use Rattle.typing.specs.Conditions.{sameType, mergeDeclared}
+use Rattle.typing.specs.Entries.{addSignature}
+use Rattle.typing.specs.Signatures.{Signature, noNames, naming, orElse, termIn, insertName, merge, declare}
+use Rattle.typing.specs.Scopes.{Scope, globals, local, nameAt, enter, includeSignature, linesSignature}
 use Rattle.fit.specs.HasType.{Has}
 use Rattle.evaluator.specs.Scope.{bind, Meaning, valued, generic, pick, lookup}
 use Rattle.evaluator.specs.Scope as Run

@@ -6,9 +6,9 @@ use Rattle.syntax.specs.Tree.{Paragraph}
 use Rattle.syntax.specs.Decode.{treeOf}
 use Rattle.values.specs.Value.{Value}
 use Rattle.types.specs.Types.{Ty}
-use Rattle.checker.specs.Dictionary.{blank}
-use Rattle.checker.specs.AcceptedTypes.{HasType}
-use Rattle.checker.specs.Check.{paragraphsOf}
+use Rattle.typing.specs.Dictionary.{blank}
+use Rattle.typing.specs.AcceptedTypes.{HasType}
+use Rattle.typing.specs.Check.{paragraphsOf}
 use Rattle.evaluator.specs.Claims.{Listed}
 use Rattle.evaluator.specs.Run.{Ran}
 use Rattle.evaluator.specs.declared.Finding.the-variants.{Refused}
