@@ -1,15 +1,15 @@
 -- Rows that stand for a signature do so after each operation, and answer as it does.
-use mathlib.Core.Path.{_≡_, refl, sym, ap, subst, _∙_}
-use mathlib.Core.Bool.{Bool, true, false, cond, _||_, not}
+use mathlib.Core.Path.{_≡_, refl, sym, ap, subst}
+use mathlib.Core.Bool.{Bool, true, false, cond}
 use mathlib.Core.List.{List, [], _∷_}
 use mathlib.Core.Option.{Option, some, none as nothing}
 use Prim.Native.Nat.{ℕ, suc}
 use lib.Dec.{ltb, eqb}
 use lib.ListN.{length}
 use Rattle.types.specs.Types.{Term}
-use Rattle.typing.specs.Strokes.{decorate, takes}
+use Rattle.typing.specs.Strokes.{decorate}
 use Rattle.typing.specs.Signatures.{Signature, noNames, naming, countNames, namesOf, orElse, termIn, hasName, insertName, merge, declare, strokeAll}
-use Rattle.typing.specs.Signatures.{renamed, renameAll, someStroked, hasOld, wrongOld, wrongNames}
+use Rattle.typing.specs.Signatures.{renamed, renameAll, someStroked, wrongOld, wrongNames}
 use Rattle.signatures.specs.Rows.{identifiersOf, orPlace, placeIn, hasRow, insertRow, mergeRows, declareRows, strokeRows, renameRows}
 use Rattle.signatures.specs.Rows.{strokedRows, wrongOldRows, wrongRows}
 use Rattle.signatures.specs.Carried.{Carries}

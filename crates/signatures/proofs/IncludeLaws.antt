@@ -1,15 +1,14 @@
 -- The loops over strokes and rename pairs, one turn at a time, and finding 37 put together.
-use mathlib.Core.Path.{_≡_, refl, sym, ap, subst, _∙_}
+use mathlib.Core.Path.{_≡_, refl, sym, ap, _∙_}
 use mathlib.Core.Bool.{Bool, true, false, cond, _||_, not, false≢true}
 use mathlib.Core.List.{List, [], _∷_}
 use mathlib.Core.Option.{Option, some, none as nothing}
-use Prim.Native.Nat.{ℕ, zero, suc, _+_, _-_, _*_, _%_, _≤_, _<_, _^_}
+use Prim.Native.Nat.{ℕ, suc, _+_, _-_, _*_, _%_, _≤_, _<_, _^_}
 use native.Mathlib.Omega.{arith}
 use lib.Dec.{ltb, eqb}
 use lib.ListN.{length, getD}
 use lib.Seq.{sets}
 use borrow.Author.Tests.{eq-eqb, ne-eqb, eqb-true}
-use Rattle.syntax.specs.Decode.{pairsFrom}
 use Rattle.syntax.specs.Identifiers.{strokeOf}
 use Rattle.syntax.proofs.TreeLists.{pairs-go, pairs-end}
 use Rattle.typing.specs.Strokes.{decorate, takes}

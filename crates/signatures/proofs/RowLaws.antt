@@ -1,14 +1,14 @@
 -- Rows in words: read back, left alone by writes elsewhere, and one row more.
-use mathlib.Core.Path.{_≡_, refl, sym, ap, subst, _∙_}
+use mathlib.Core.Path.{_≡_, refl, ap, _∙_}
 use mathlib.Core.Bool.{Bool, true, false, cond}
-use mathlib.Core.Logic.{_⊎_, inl, inr, ⊎-elim}
+use mathlib.Core.Logic.{_⊎_, inl, inr}
 use mathlib.Core.List.{List, [], _∷_, _++_}
 use mathlib.Core.Option.{Option, some, none as nothing}
 use Prim.Native.Nat.{ℕ, zero, suc, _+_, _*_, _≤_, _<_}
 use native.Mathlib.Omega.{arith}
-use lib.Dec.{ltb, eqb}
+use lib.Dec.{eqb}
 use lib.ListN.{length, getD, set, take, drop, length-set}
-use lib.Seq.{sets, length-sets, getD-set-same, getD-set-other, set-getD, set-set, set-comm, take-set-le, drop-set-lt}
+use lib.Seq.{sets, getD-set-same, getD-set-other, set-getD, set-set, set-comm, take-set-le, drop-set-lt}
 use Rattle.syntax.specs.Decode.{pairsFrom}
 use Rattle.signatures.specs.Rows.{rows, flat, orPlace, placeIn}
 

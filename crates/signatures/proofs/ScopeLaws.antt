@@ -1,7 +1,6 @@
 -- Stacks of rows that stand for a scope: looked up from the newest row down, and with the rows of a signature pushed.
 use mathlib.Core.Path.{_≡_, refl, sym, ap, subst, _∙_}
 use mathlib.Core.Bool.{Bool, true, false, cond}
-use mathlib.Core.Logic.{_⊎_, inl, inr}
 use mathlib.Core.List.{List, [], _∷_}
 use mathlib.Core.Option.{Option, some, none as nothing}
 use Prim.Native.Nat.{ℕ, zero, suc, _+_, _*_, _≤_, _<_}
@@ -12,12 +11,12 @@ use lib.Seq.{sets}
 use Rattle.syntax.specs.Decode.{pairsFrom}
 use Rattle.types.specs.Types.{Term}
 use Rattle.typing.specs.Unknowns.{powerOf, parameterOf}
-use Rattle.typing.specs.Dictionary.{Dictionary, Named, ofLocal, nameIn, schemaIn}
+use Rattle.typing.specs.Dictionary.{Dictionary, ofLocal, nameIn, schemaIn}
 use Rattle.typing.specs.Signatures.{Signature, noNames, naming}
 use Rattle.typing.specs.Scopes.{Scope, globals, local, nameAt, schemaNamed, enter, withParameters}
 use Rattle.signatures.specs.Rows.{rows, flat, placeIn, stack, newest, pushRows}
 use Rattle.signatures.specs.Carried.{Carries, Stacked}
-use Rattle.signatures.proofs.RowLaws.{rows-last, rows-length, rows-written, rows-next, place-last, getD-below}
+use Rattle.signatures.proofs.RowLaws.{rows-last, rows-written, rows-next, place-last, getD-below}
 
 -- what a name is, by the place of its newest row
 unfoldable pub Resolves : (Term → ℕ → Type 0) → ℕ → Scope → Dictionary → Option ℕ → Type 0

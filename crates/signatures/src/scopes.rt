@@ -1,7 +1,6 @@
 // Scopes: rows pushed on a stack, where tables::find looks a name up.
 use crate::tables::put_row;
 use words::word;
-ghost use mathlib.Core.Path.{_≡_};
 ghost use Prim.Native.Nat.{_+_, _*_, _≤_, _<_, _^_};
 ghost use mathlib.Core.List.{[], _∷_};
 ghost use lib.ListN.{length};

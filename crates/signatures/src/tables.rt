@@ -4,7 +4,7 @@ use words::word;
 ghost use mathlib.Core.Path.{_≡_};
 ghost use Prim.Native.Nat.{_+_, _-_, _*_, _≤_, _<_, _^_};
 ghost use mathlib.Core.List.{[], _∷_};
-ghost use lib.ListN.{length, getD, drop};
+ghost use lib.ListN.{length, drop};
 ghost use lib.Seq.{sets};
 ghost use Rattle.signatures.specs.Rows.{rows, flat, insertRow, mergeRows, declareRows};
 ghost use Rattle.signatures.specs.Tables.{Table, Finds, Beside};
