@@ -208,7 +208,7 @@ pub fn type_size(a: &[u32], d: &[u32], p: usize) -> usize
 }
 
 // The types at p and q are one.
-fn same_type(a: &[u32], d: &[u32], p: usize, q: usize) -> bool
+pub fn same_type(a: &[u32], d: &[u32], p: usize, q: usize) -> bool
     requires { ⌜ Readings (now a) (now d) p q ⌝ }
     ensures { λ r. ⌜ SameType (now (a .entry)) (now (d .entry)) p q r ⌝ }
 {
