@@ -6,12 +6,14 @@ use Prim.Native.Nat.{ℕ, suc, _+_, _*_, _≤_, _<_}
 use lib.ListN.{length, getD}
 use Rattle.types.specs.Equations.{In}
 use Rattle.types.specs.Types.{Ty, Term, Each}
+use Rattle.typing.specs.Dictionary.{Dictionary}
 use Rattle.typing.specs.Items.{Items, Meets, Refuses}
 use Rattle.typing.specs.Signatures.{Signature, termIn}
-use Rattle.typing.specs.Conditions.{sameType, mergeDeclared, mergeNames}
+use Rattle.typing.specs.Conditions.{sameType, mergeDeclared, mergeNames, newNames}
 use Rattle.solver.specs.Settled.{heap, Reads, Readable, Areas}
 use Rattle.signatures.specs.Rows.{rows}
 use Rattle.signatures.specs.Carried.{Carries}
+use Rattle.dictionary.specs.Holds.{Holds}
 use Rattle.pieces.specs.Piece.{Steady, Walked, Settled}
 
 -- The term t has one type in every table that meets H, and its words stand at the place p.
@@ -56,3 +58,8 @@ pub record RowsTold (s d w : List ℕ) (base m source k : ℕ) (fine : Bool) : T
       Carries (TypedAt s d H U) r (rows w base m) → Walked H (mergeNames n q r) U U (λ x. ⊥)
   pub stops : fine ≡ false → (H : Items) (U : List ℕ) (n : ℕ) (q r : Signature) → Steady H U → Carries (TypedAt s d H U) q (rows w source k) →
       Carries (TypedAt s d H U) r (rows w base m) → Refuses (mergeNames n q r) (Meets H) 36 n
+
+-- 36, second case: no identifier of the list is global by an earlier paragraph (document 01, finding 36; R16).
+pub record NewTold (d is : List ℕ) (fine : Bool) : Type 0 where
+  pub goes : fine ≡ true → (D : Dictionary) (H : Items) (U : List ℕ) (n : ℕ) → Holds D d → Steady H U → Walked H (newNames n is D) U U (λ x. ⊥)
+  pub stops : fine ≡ false → (D : Dictionary) (H : Items) (U : List ℕ) (n : ℕ) → Holds D d → Steady H U → Refuses (newNames n is D) (Meets H) 36 n

@@ -1,8 +1,11 @@
 // Finding 36: the signatures of lines, and of a Conjunction's two sides, beside each other. specs/Merging.antt says what is asked and told.
+use dictionary::lookup::entry_of_name;
 use signatures::tables::find;
 use words::word;
-ghost use lib.ListN.{drop};
-ghost use Rattle.merging.specs.Merging.{DeclaredAsk, OneTold, DeclaredTold, RowsAsk, RowsTold};
+ghost use lib.ListN.{length, drop};
+ghost use Prim.Native.Nat.{_+_, _*_, _≤_};
+ghost use Rattle.signatures.specs.Rows.{rows, identifiersOf};
+ghost use Rattle.merging.specs.Merging.{DeclaredAsk, OneTold, DeclaredTold, RowsAsk, RowsTold, NewTold};
 
 // The type at p is that of the row with this identifier among the m at base, if there is one.
 fn agrees(a: &[u32], d: &[u32], work: &[u32], base: usize, m: usize, id: usize, p: usize) -> bool
@@ -65,6 +68,33 @@ pub fn rows_agree(
         word(work, source + 1),
     ) {
         return rows_agree(a, d, work, base, m, source + 2, k - 1);
+    }
+    false
+}
+
+// No identifier among the words from j on of the part has an entry in the dictionary.
+pub fn names_new(d: &[u32], part: &[u32], j: usize) -> bool
+    ensures { λ r. ⌜ NewTold (now (d .entry)) (drop j (now (part .entry))) r ⌝ }
+{
+    if part.len() <= j {
+        return true;
+    }
+    if entry_of_name(d, word(part, j)) == 0 {
+        return names_new(d, part, j + 1);
+    }
+    false
+}
+
+// The same of the k rows at source.
+pub fn rows_new(d: &[u32], work: &[u32], source: usize, k: usize) -> bool
+    requires { ⌜ source + 2 * k ≤ length (now work) ⌝ }
+    ensures { λ r. ⌜ NewTold (now (d .entry)) (identifiersOf (rows (now (work .entry)) source k)) r ⌝ }
+{
+    if k == 0 {
+        return true;
+    }
+    if entry_of_name(d, word(work, source)) == 0 {
+        return rows_new(d, work, source + 2, k - 1);
     }
     false
 }
