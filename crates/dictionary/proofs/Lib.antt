@@ -5,3 +5,4 @@ pub mod LookupLaws
 pub mod LiftLaws
 pub mod PairLaws
 pub mod GrowthLaws
+pub mod WaitingLaws

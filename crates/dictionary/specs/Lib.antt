@@ -2,3 +2,4 @@
 pub mod Holds
 pub mod Lookup
 pub mod Growth
+pub mod Waiting
