@@ -26,8 +26,8 @@ use Rattle.solver.proofs.Settling.{heap-kept}
 use Rattle.solver.proofs.Growing.{lt-or-ge}
 use Rattle.solver.proofs.Sizing.{high}
 
--- Any area of 16,384 words is a store with no cells.
-pub start : (s : List ℕ) → length s ≡ 16384 → Solved s 0 end end
+-- Any area of 52,224 words is a store with no cells.
+pub start : (s : List ℕ) → length s ≡ 52224 → Solved s 0 end end
 unfolding load
 start s e = record {
   held = record {
@@ -45,7 +45,7 @@ start s e = record {
 }
 
 -- What `finite` does not change: what solutions obey.
-module _ (s s′ d : List ℕ) (n : ℕ) (K : Same s s′) (few : n ≤ 768) where
+module _ (s s′ d : List ℕ) (n : ℕ) (K : Same s s′) (few : n ≤ 1024) where
   low-heap : heap s′ d ≡ heap s d
   low-heap = heap-kept s s′ d (K .low)
 
@@ -53,14 +53,14 @@ module _ (s s′ d : List ℕ) (n : ℕ) (K : Same s s′) (few : n ≤ 768) whe
   same-pinned P = record {
     reads = λ i l v.
         let e = K .refs i (omega arith) in
-        subst (λ z. Readable z (wordAt s′ i - 769)) (sym low-heap) (subst (λ z. Readable (heap s d) (z - 769)) (sym e) (P .reads i l (omega arith)));
+        subst (λ z. Readable z (wordAt s′ i - 1025)) (sym low-heap) (subst (λ z. Readable (heap s d) (z - 1025)) (sym e) (P .reads i l (omega arith)));
     bare = λ i l v. let e = K .refs i (omega arith) in ap (λ z. tagAt z i) (K .still) ∙ P .bare i l (omega arith);
   }
 
   pub same-obeys : (σ : ℕ → Ty) → Obeys s d n σ → Obeys s′ d n σ
   same-obeys σ O i l v g R =
       let e = K .refs i (omega arith) in
-      O i l (omega arith) g (subst (λ z. Reads (heap s d) (z - 769) g) e (subst (λ z. Reads z (wordAt s′ i - 769) g) low-heap R))
+      O i l (omega arith) g (subst (λ z. Reads (heap s d) (z - 1025) g) e (subst (λ z. Reads z (wordAt s′ i - 1025) g) low-heap R))
 
 -- `finite` true: each solution is one of the marked store.
 pub model : (s s′ d : List ℕ) (n : ℕ) → Tested s s′ n true → (P₀ L : Pairs ℕ) → Solved s n P₀ L → Pinned s d n → (X : SolutionOf s d n P₀) → Model s′ d n L (X .σ)
@@ -82,7 +82,7 @@ pub least : (s : List ℕ) (n : ℕ) (L : Pairs ℕ) → Held s n L → Resolved
 least s n L H R σ i l t k v =
     let q = stop-rep s n L H i l k in
     let z = R i l (ap (tagAt (frozen s)) q ∙ t) in
-    let y : 769 ≤ wordAt s i = subst (λ u. 769 ≤ wordAt s u) q z in absurd (omega arith)
+    let y : 1025 ≤ wordAt s i = subst (λ u. 1025 ≤ wordAt s u) q z in absurd (omega arith)
 
 -- `finite` true, nothing left open: the size that `cell_size` gives is that of the cell's type in every solution (finding 38), and `write` may be asked for up to 32.
 module _ (s s′ d : List ℕ) (n : ℕ) (T : Tested s s′ n true) (Z : Left s′ n false) (P₀ L : Pairs ℕ) (S : Solved s n P₀ L) (P : Pinned s d n) (X : SolutionOf s d n P₀) where

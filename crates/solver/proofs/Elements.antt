@@ -20,7 +20,8 @@ use Rattle.solver.proofs.Heads.{code, coded, tag-code, parts-length}
 use Rattle.solver.proofs.Marking.{by-rep}
 use Rattle.solver.proofs.Answering.{getD-in}
 use Rattle.solver.proofs.Opening.{solution-with, open-type}
-use Rattle.solver.proofs.Reading.{Rest, the-rest, part-next, tag-at, reads-one}
+use Rattle.solver.specs.Parts.{Rest}
+use Rattle.solver.proofs.Reading.{the-rest, part-next, tag-at, reads-one}
 use Rattle.solver.proofs.Looking.{plain, self, former-type}
 
 node-1 : (h k : Former) (a b : Tys) → node h a ≡ node k b → h ≡ k
@@ -112,7 +113,7 @@ module _ (s d : List ℕ) (r : ℕ) (root : linkAt s r ≡ 0) where
       let y = run-at w (firstAt w r) (countAt w r) 0 (omega arith) in
       omega arith
 
-  pub is-power : (c : ℕ) → c < 768 → tagAt w r ≡ 3 → countAt w r ≡ 1 → c ≡ getD w (firstAt w r + 0) 0 → Element s d r (c + 1)
+  pub is-power : (c : ℕ) → c < 1024 → tagAt w r ≡ 3 → countAt w r ≡ 1 → c ≡ getD w (firstAt w r + 0) 0 → Element s d r (c + 1)
   is-power c few t k e = record {
     found = λ x q b n P₀ L S l X.
         let xc : c ≡ x = omega arith in
@@ -129,30 +130,30 @@ module _ (s d : List ℕ) (r : ℕ) (root : linkAt s r ≡ 0) where
   int-no : (g : Ty) → ℤ ≡ powerOf g → ⊥
   int-no g e = let z : _≡_ {A = ℕ} 0 1 = cc in omega arith
 
-  pub open-no : tagAt w r ≡ 0 → wordAt s r < 769 → Element s d r 0
+  pub open-no : tagAt w r ≡ 0 → wordAt s r < 1025 → Element s d r 0
   open-no t v = no-power (λ n P₀ L S P l F g e.
       let q = self s d r 0 root n L (S .held) l in
-      int-no g (sym (open-type s d n P₀ L S P F ℤ r l (ap (tagAt w) q ∙ t) (subst (λ z. wordAt s z < 769) (sym q) v)) ∙ e))
+      int-no g (sym (open-type s d n P₀ L S P F ℤ r l (ap (tagAt w) q ∙ t) (subst (λ z. wordAt s z < 1025) (sym q) v)) ∙ e))
 
-  module _ (v : 769 ≤ wordAt s r) where
-    pub settled-no : (getD (heap s d) (wordAt s r - 769) 0 ≡ 3 → ⊥) → Element s d r 0
+  module _ (v : 1025 ≤ wordAt s r) where
+    pub settled-no : (getD (heap s d) (wordAt s r - 1025) 0 ≡ 3 → ⊥) → Element s d r 0
     settled-no ne = no-power (λ n P₀ L S P l F g e.
         let D = P .reads r l v in
-        power-not (heap s d) (wordAt s r - 769) (D .type) g (D .reads) ne (sym (solution-with s d n P₀ L S P F ℤ .obeys r l v (D .type) (D .reads)) ∙ e))
+        power-not (heap s d) (wordAt s r - 1025) (D .type) g (D .reads) ne (sym (solution-with s d n P₀ L S P F ℤ .obeys r l v (D .type) (D .reads)) ∙ e))
 
-    pub settled-yes : (x : ℕ) → x ≡ wordAt s r + 1 → getD (heap s d) (wordAt s r - 769) 0 ≡ 3 → Element s d r x
+    pub settled-yes : (x : ℕ) → x ≡ wordAt s r + 1 → getD (heap s d) (wordAt s r - 1025) 0 ≡ 3 → Element s d r x
     settled-yes x ex t = record {
       found = λ c e b. absurd (omega arith);
       below = λ c e b. absurd (omega arith);
       settled = λ e n P₀ L S P l X g R.
           let D = P .reads r l v in
-          let W = power-of (heap s d) (wordAt s r - 769) (D .type) (D .reads) t in
-          let z : wordAt s r - 769 + 1 ≡ x - 769 = omega arith in
-          X .obeys r l v (D .type) (D .reads) ∙ W .is ∙ ap powerOf (reads-one (heap s d) (x - 769) (W .part) g (subst (λ y. Reads (heap s d) y (W .part)) z (W .reads)) R);
+          let W = power-of (heap s d) (wordAt s r - 1025) (D .type) (D .reads) t in
+          let z : wordAt s r - 1025 + 1 ≡ x - 1025 = omega arith in
+          X .obeys r l v (D .type) (D .reads) ∙ W .is ∙ ap powerOf (reads-one (heap s d) (x - 1025) (W .part) g (subst (λ y. Reads (heap s d) y (W .part)) z (W .reads)) R);
       place = λ e n L H P l.
           let D = P .reads r l v in
-          let W = power-of (heap s d) (wordAt s r - 769) (D .type) (D .reads) t in
-          let z : wordAt s r - 769 + 1 ≡ x - 769 = omega arith in
+          let W = power-of (heap s d) (wordAt s r - 1025) (D .type) (D .reads) t in
+          let z : wordAt s r - 1025 + 1 ≡ x - 1025 = omega arith in
           record { type = W .part; reads = subst (λ y. Reads (heap s d) y (W .part)) z (W .reads) };
       absent = λ e. absurd (omega arith);
     }

@@ -75,6 +75,7 @@ module _ (w w′ : List ℕ) (i : ℕ) (C : Cell w i) (A : Agree w w′ i) where
     plain = λ l. a ∙ C .plain (let e = t in omega arith);
     powers = λ l. a ∙ C .powers (sym t ∙ l);
     products = λ l. a ∙ C .products (sym t ∙ l) ∙ sym c;
+    one = λ l. c ∙ C .one (sym t ∙ l);
     low = let q = C .low in let e = f in omega arith;
     room = let q = C .room in let e = f in let k = c in let s = A .size in omega arith;
     named-low = λ l. let q = C .named-low (sym t ∙ l) in let e = a in omega arith;
@@ -123,7 +124,7 @@ next-new n end h i l = refl
 next-new n (pair a b L) h i l = next-c a b i n L (h .0 .0) l (next-new n L (h .1) i l) (eqb i a) refl
 
 -- The invariant over a store that has the old cells, and more.
-module _ (s s′ : List ℕ) (n n′ : ℕ) (size : length s′ ≡ length s) (wide : n ≤ n′) (few : n′ ≤ 768) (room : load (frozen s′) n′ < 1536)
+module _ (s s′ : List ℕ) (n n′ : ℕ) (size : length s′ ≡ length s) (wide : n ≤ n′) (few : n′ ≤ 1024) (room : load (frozen s′) n′ < 2048)
     (cells : (i : ℕ) → i < n′ → Cell (frozen s′) i) (same : (i : ℕ) → i < n → linkAt s′ i ≡ linkAt s i) (fresh : (i : ℕ) → n ≤ i → i < n′ → linkAt s′ i ≡ 0)
     (old : (i : ℕ) → i < n → view (frozen s′) n′ i ≡ view (frozen s) n i) where
   pub solved-grow : (P₀ L : Pairs ℕ) → Solved s n P₀ L → Solved s′ n′ P₀ L
@@ -152,59 +153,59 @@ unfolding load
 load-same w w′ zero h = refl
 load-same w w′ (suc n) h = let e = h n (omega arith) in let r = load-same w w′ n (λ i l. h i (omega arith)) in omega arith
 
-pub frozen-at : (s : List ℕ) (k : ℕ) → getD (frozen s) k 0 ≡ getD s (11776 + k) 0
+pub frozen-at : (s : List ℕ) (k : ℕ) → getD (frozen s) k 0 ≡ getD s (46080 + k) 0
 unfolding frozen
-frozen-at s k = getD-drop 11776 s k 0
+frozen-at s k = getD-drop 46080 s k 0
 
 -- The words of a new cell.
-module _ (s : List ℕ) (n t a f c : ℕ) (size : length s ≡ 16384) (l : n < 768) where
+module _ (s : List ℕ) (n t a f c : ℕ) (size : length s ≡ 52224) (l : n < 1024) where
   abbrev s1 : List ℕ
-  s1 = set s (7168 + n) 0
+  s1 = set s (39936 + n) 0
 
   abbrev s2 : List ℕ
-  s2 = set s1 (11776 + 4 * n) t
+  s2 = set s1 (46080 + 4 * n) t
 
   abbrev s3 : List ℕ
-  s3 = set s2 (11777 + 4 * n) a
+  s3 = set s2 (46081 + 4 * n) a
 
   abbrev s4 : List ℕ
-  s4 = set s3 (11778 + 4 * n) f
+  s4 = set s3 (46082 + 4 * n) f
 
-  pub put-other : (p : ℕ) → (p ≡ 7168 + n → ⊥) → (p ≡ 11776 + 4 * n → ⊥) → (p ≡ 11777 + 4 * n → ⊥) → (p ≡ 11778 + 4 * n → ⊥) → (p ≡ 11779 + 4 * n → ⊥) → getD (put s n t a f c) p 0 ≡ getD s p 0
+  pub put-other : (p : ℕ) → (p ≡ 39936 + n → ⊥) → (p ≡ 46080 + 4 * n → ⊥) → (p ≡ 46081 + 4 * n → ⊥) → (p ≡ 46082 + 4 * n → ⊥) → (p ≡ 46083 + 4 * n → ⊥) → getD (put s n t a f c) p 0 ≡ getD s p 0
   unfolding put
   put-other p d₀ d₁ d₂ d₃ d₄ =
-      getD-set-other s4 (11779 + 4 * n) p c 0 d₄ ∙ getD-set-other s3 (11778 + 4 * n) p f 0 d₃ ∙ getD-set-other s2 (11777 + 4 * n) p a 0 d₂
-      ∙ getD-set-other s1 (11776 + 4 * n) p t 0 d₁ ∙ getD-set-other s (7168 + n) p 0 0 d₀
+      getD-set-other s4 (46083 + 4 * n) p c 0 d₄ ∙ getD-set-other s3 (46082 + 4 * n) p f 0 d₃ ∙ getD-set-other s2 (46081 + 4 * n) p a 0 d₂
+      ∙ getD-set-other s1 (46080 + 4 * n) p t 0 d₁ ∙ getD-set-other s (39936 + n) p 0 0 d₀
 
   pub put-length : length (put s n t a f c) ≡ length s
   unfolding put
   put-length = simp length-set
 
-  pub put-0 : getD (put s n t a f c) (7168 + n) 0 ≡ 0
+  pub put-0 : getD (put s n t a f c) (39936 + n) 0 ≡ 0
   unfolding put
   put-0 =
-      getD-set-other s4 (11779 + 4 * n) (7168 + n) c 0 (λ e. omega arith) ∙ getD-set-other s3 (11778 + 4 * n) (7168 + n) f 0 (λ e. omega arith)
-      ∙ getD-set-other s2 (11777 + 4 * n) (7168 + n) a 0 (λ e. omega arith) ∙ getD-set-other s1 (11776 + 4 * n) (7168 + n) t 0 (λ e. omega arith) ∙ getD-set-same s (7168 + n) 0 0 (omega arith)
+      getD-set-other s4 (46083 + 4 * n) (39936 + n) c 0 (λ e. omega arith) ∙ getD-set-other s3 (46082 + 4 * n) (39936 + n) f 0 (λ e. omega arith)
+      ∙ getD-set-other s2 (46081 + 4 * n) (39936 + n) a 0 (λ e. omega arith) ∙ getD-set-other s1 (46080 + 4 * n) (39936 + n) t 0 (λ e. omega arith) ∙ getD-set-same s (39936 + n) 0 0 (omega arith)
 
-  put-t : getD (put s n t a f c) (11776 + 4 * n) 0 ≡ t
+  put-t : getD (put s n t a f c) (46080 + 4 * n) 0 ≡ t
   unfolding put
   put-t =
-      getD-set-other s4 (11779 + 4 * n) (11776 + 4 * n) c 0 (λ e. omega arith) ∙ getD-set-other s3 (11778 + 4 * n) (11776 + 4 * n) f 0 (λ e. omega arith)
-      ∙ getD-set-other s2 (11777 + 4 * n) (11776 + 4 * n) a 0 (λ e. omega arith) ∙ getD-set-same s1 (11776 + 4 * n) t 0 (simp length-set (omega arith))
+      getD-set-other s4 (46083 + 4 * n) (46080 + 4 * n) c 0 (λ e. omega arith) ∙ getD-set-other s3 (46082 + 4 * n) (46080 + 4 * n) f 0 (λ e. omega arith)
+      ∙ getD-set-other s2 (46081 + 4 * n) (46080 + 4 * n) a 0 (λ e. omega arith) ∙ getD-set-same s1 (46080 + 4 * n) t 0 (simp length-set (omega arith))
 
-  put-a : getD (put s n t a f c) (11777 + 4 * n) 0 ≡ a
+  put-a : getD (put s n t a f c) (46081 + 4 * n) 0 ≡ a
   unfolding put
   put-a =
-      getD-set-other s4 (11779 + 4 * n) (11777 + 4 * n) c 0 (λ e. omega arith) ∙ getD-set-other s3 (11778 + 4 * n) (11777 + 4 * n) f 0 (λ e. omega arith)
-      ∙ getD-set-same s2 (11777 + 4 * n) a 0 (simp length-set (omega arith))
+      getD-set-other s4 (46083 + 4 * n) (46081 + 4 * n) c 0 (λ e. omega arith) ∙ getD-set-other s3 (46082 + 4 * n) (46081 + 4 * n) f 0 (λ e. omega arith)
+      ∙ getD-set-same s2 (46081 + 4 * n) a 0 (simp length-set (omega arith))
 
-  put-f : getD (put s n t a f c) (11778 + 4 * n) 0 ≡ f
+  put-f : getD (put s n t a f c) (46082 + 4 * n) 0 ≡ f
   unfolding put
-  put-f = getD-set-other s4 (11779 + 4 * n) (11778 + 4 * n) c 0 (λ e. omega arith) ∙ getD-set-same s3 (11778 + 4 * n) f 0 (simp length-set (omega arith))
+  put-f = getD-set-other s4 (46083 + 4 * n) (46082 + 4 * n) c 0 (λ e. omega arith) ∙ getD-set-same s3 (46082 + 4 * n) f 0 (simp length-set (omega arith))
 
-  put-c : getD (put s n t a f c) (11779 + 4 * n) 0 ≡ c
+  put-c : getD (put s n t a f c) (46083 + 4 * n) 0 ≡ c
   unfolding put
-  put-c = getD-set-same s4 (11779 + 4 * n) c 0 (simp length-set (omega arith))
+  put-c = getD-set-same s4 (46083 + 4 * n) c 0 (simp length-set (omega arith))
 
   abbrev w : List ℕ
   w = frozen s
@@ -212,36 +213,36 @@ module _ (s : List ℕ) (n t a f c : ℕ) (size : length s ≡ 16384) (l : n < 7
   abbrev w′ : List ℕ
   w′ = frozen (put s n t a f c)
 
-  here : (j q v : ℕ) → 11776 + (4 * n + j) ≡ q → getD (put s n t a f c) q 0 ≡ v → fieldAt w′ n j ≡ v
+  here : (j q v : ℕ) → 46080 + (4 * n + j) ≡ q → getD (put s n t a f c) q 0 ≡ v → fieldAt w′ n j ≡ v
   unfolding fieldAt
   here j q v e h = frozen-at (put s n t a f c) (4 * n + j) ∙ ap (λ z. getD (put s n t a f c) z 0) e ∙ h
 
   pub t-at : tagAt w′ n ≡ t
-  t-at = here 0 (11776 + 4 * n) t (omega arith) put-t
+  t-at = here 0 (46080 + 4 * n) t (omega arith) put-t
 
   a-at : argAt w′ n ≡ a
-  a-at = here 1 (11777 + 4 * n) a (omega arith) put-a
+  a-at = here 1 (46081 + 4 * n) a (omega arith) put-a
 
   f-at : firstAt w′ n ≡ f
-  f-at = here 2 (11778 + 4 * n) f (omega arith) put-f
+  f-at = here 2 (46082 + 4 * n) f (omega arith) put-f
 
   c-at : countAt w′ n ≡ c
-  c-at = here 3 (11779 + 4 * n) c (omega arith) put-c
+  c-at = here 3 (46083 + 4 * n) c (omega arith) put-c
 
   pub there : (i j : ℕ) → i < n → j < 4 → fieldAt w′ i j ≡ fieldAt w i j
   unfolding fieldAt
   there i j m q =
       frozen-at (put s n t a f c) (4 * i + j)
-      ∙ put-other (11776 + (4 * i + j)) (λ e. omega arith) (λ e. omega arith) (λ e. omega arith) (λ e. omega arith) (λ e. omega arith)
+      ∙ put-other (46080 + (4 * i + j)) (λ e. omega arith) (λ e. omega arith) (λ e. omega arith) (λ e. omega arith) (λ e. omega arith)
       ∙ sym (frozen-at s (4 * i + j))
 
-  pub runs : (p : ℕ) → 3072 ≤ p → getD w′ p 0 ≡ getD w p 0
+  pub runs : (p : ℕ) → 4096 ≤ p → getD w′ p 0 ≡ getD w p 0
   runs p m =
       frozen-at (put s n t a f c) p
-      ∙ put-other (11776 + p) (λ e. omega arith) (λ e. omega arith) (λ e. omega arith) (λ e. omega arith) (λ e. omega arith)
+      ∙ put-other (46080 + p) (λ e. omega arith) (λ e. omega arith) (λ e. omega arith) (λ e. omega arith) (λ e. omega arith)
       ∙ sym (frozen-at s p)
 
-  sizes : length w′ ≡ 4608
+  sizes : length w′ ≡ 6144
   sizes = frozen-length (put s n t a f c) (put-length ∙ size)
 
   agree : (i : ℕ) → i < n → Cell w i → Agree w w′ i
@@ -252,7 +253,7 @@ module _ (s : List ℕ) (n t a f c : ℕ) (size : length s ≡ 16384) (l : n < 7
     names = λ e p q r. runs p (let z = C .named-low e in omega arith);
   }
 
-  run-new : (at k : ℕ) → 3072 ≤ at → at + k ≤ 4608 → run w′ at k ≡ run w at k
+  run-new : (at k : ℕ) → 4096 ≤ at → at + k ≤ 6144 → run w′ at k ≡ run w at k
   run-new at k m q = run-frame w w′ at k (let z = frozen-length s size in omega arith) (let z = sizes in omega arith) (λ p r x. runs p (omega arith))
 
   module _ (M : Making s n t a f c) where
@@ -273,6 +274,7 @@ module _ (s : List ℕ) (n t a f c : ℕ) (size : length s ≡ 16384) (l : n < 7
       plain = λ m. a-at ∙ M .plain (let e = t-at in omega arith);
       powers = λ m. a-at ∙ M .powers (sym t-at ∙ m);
       products = λ m. a-at ∙ M .products (sym t-at ∙ m) ∙ sym c-at;
+      one = λ m. c-at ∙ M .one (sym t-at ∙ m);
       low = let e = f-at in let q = M .low in omega arith;
       room = let e = f-at in let k = c-at in let z = sizes in let q = M .room in omega arith;
       named-low = λ m. let e = a-at in let q = M .named-low (sym t-at ∙ m) in omega arith;
@@ -289,7 +291,7 @@ module _ (s : List ℕ) (n t a f c : ℕ) (size : length s ≡ 16384) (l : n < 7
     old-view : (i : ℕ) → i < n → view w′ (suc n) i ≡ view w n i
     old-view i m = view-agree w w′ i (cells-old i m) (agree i m (cells-old i m)) n (suc n) m (omega arith)
 
-    load-new : load w′ (suc n) < 1536
+    load-new : load w′ (suc n) < 2048
     unfolding load
     load-new = let e = load-same w w′ n (λ i m. there i 3 m (omega arith)) in let k = c-at in let q = M .fit in omega arith
 
@@ -302,31 +304,31 @@ module _ (s : List ℕ) (n t a f c : ℕ) (size : length s ≡ 16384) (l : n < 7
     }
       where
         same-links : (i : ℕ) → i < n → linkAt (put s n t a f c) i ≡ linkAt s i
-        same-links i m = link-same s _ i i (put-other (7168 + i) (λ e. omega arith) (λ e. omega arith) (λ e. omega arith) (λ e. omega arith) (λ e. omega arith))
+        same-links i m = link-same s _ i i (put-other (39936 + i) (λ e. omega arith) (λ e. omega arith) (λ e. omega arith) (λ e. omega arith) (λ e. omega arith))
 
         new-link : (i : ℕ) → n ≤ i → i < suc n → linkAt (put s n t a f c) i ≡ 0
         new-link i m q = let e : i ≡ n = omega arith in rw e (link-new _ n 0 (omega arith) put-0)
 
 -- A word more in the runs.
 module _ (s : List ℕ) (n top x : ℕ) (A : Adding s n top) where
-  size′ : length s ≡ 16384
+  size′ : length s ≡ 52224
   size′ = A .solved .held .size
 
   abbrev v : List ℕ
   v = frozen s
 
   abbrev v′ : List ℕ
-  v′ = frozen (set s (11776 + top) x)
+  v′ = frozen (set s (46080 + top) x)
 
-  word-other : (p : ℕ) → (p ≡ top → ⊥) → getD v′ p 0 ≡ getD v p 0
-  word-other p d = frozen-at _ p ∙ getD-set-other s (11776 + top) (11776 + p) x 0 (λ e. d (omega arith)) ∙ sym (frozen-at s p)
+  pub word-other : (p : ℕ) → (p ≡ top → ⊥) → getD v′ p 0 ≡ getD v p 0
+  word-other p d = frozen-at _ p ∙ getD-set-other s (46080 + top) (46080 + p) x 0 (λ e. d (omega arith)) ∙ sym (frozen-at s p)
 
-  fields-same : (i j : ℕ) → i < n → j < 4 → fieldAt v′ i j ≡ fieldAt v i j
+  pub fields-same : (i j : ℕ) → i < n → j < 4 → fieldAt v′ i j ≡ fieldAt v i j
   unfolding fieldAt
   fields-same i j m q = word-other (4 * i + j) (λ e. let z = A .above .low in let y = A .solved .held .few in omega arith)
 
   sizes′ : length v′ ≡ length v
-  sizes′ = frozen-length (set s (11776 + top) x) (length-set s (11776 + top) x ∙ size′) ∙ sym (frozen-length s size′)
+  sizes′ = frozen-length (set s (46080 + top) x) (length-set s (46080 + top) x ∙ size′) ∙ sym (frozen-length s size′)
 
   agree′ : (i : ℕ) → i < n → Agree v v′ i
   agree′ i m = record {
@@ -342,11 +344,11 @@ module _ (s : List ℕ) (n top x : ℕ) (A : Adding s n top) where
   old′ : (i : ℕ) → i < n → view v′ n i ≡ view v n i
   old′ i m = view-agree v v′ i (cells′ i m) (agree′ i m) n n m (omega arith)
 
-  pub added : Added s (set s (11776 + top) x) n top x
+  pub added : Added s (set s (46080 + top) x) n top x
   added = record {
     words = refl;
-    grown = solved-grow s (set s (11776 + top) x) n n (length-set s (11776 + top) x) (omega arith) (A .solved .held .few)
-        (subst (λ z. z < 1536) (sym (load-same v v′ n (λ i m. fields-same i 3 m (omega arith)))) (A .solved .held .room))
+    grown = solved-grow s (set s (46080 + top) x) n n (length-set s (46080 + top) x) (omega arith) (A .solved .held .few)
+        (subst (λ z. z < 2048) (sym (load-same v v′ n (λ i m. fields-same i 3 m (omega arith)))) (A .solved .held .room))
         (λ i m. cell-agree v v′ i (cells′ i m) (agree′ i m)) same-links (λ i p q. absurd (omega arith)) old′;
     old = old′;
     above = record {
@@ -357,5 +359,43 @@ module _ (s : List ℕ) (n top x : ℕ) (A : Adding s n top) where
     };
   }
     where
-      same-links : (i : ℕ) → i < n → linkAt (set s (11776 + top) x) i ≡ linkAt s i
-      same-links i m = link-same s _ i i (getD-set-other s (11776 + top) (7168 + i) x 0 (λ e. let y = A .solved .held .few in omega arith))
+      same-links : (i : ℕ) → i < n → linkAt (set s (46080 + top) x) i ≡ linkAt s i
+      same-links i m = link-same s _ i i (getD-set-other s (46080 + top) (39936 + i) x 0 (λ e. let y = A .solved .held .few in omega arith))
+
+-- Where the runs of the cells end, with a new cell, and the cells and parts together.
+module _ (s s′ : List ℕ) (n t a f c : ℕ) (M : Making s n t a f c) (N : Made s s′ n t a f c) where
+  abbrev sz : length s ≡ 52224
+  sz = M .solved .held .size
+
+  old-field : (i j : ℕ) → i < n → j < 4 → fieldAt (frozen s′) i j ≡ fieldAt (frozen s) i j
+  old-field i j l m = ap (λ z. fieldAt (frozen z) i j) (N .words) ∙ there s n t a f c sz (M .few) i j l m
+
+  new-tag : tagAt (frozen s′) n ≡ t
+  new-tag = ap (λ z. tagAt (frozen z) n) (N .words) ∙ t-at s n t a f c sz (M .few)
+
+  new-arg : argAt (frozen s′) n ≡ a
+  new-arg = ap (λ z. argAt (frozen z) n) (N .words) ∙ a-at s n t a f c sz (M .few)
+
+  new-first : firstAt (frozen s′) n ≡ f
+  new-first = ap (λ z. firstAt (frozen z) n) (N .words) ∙ f-at s n t a f c sz (M .few)
+
+  new-count : countAt (frozen s′) n ≡ c
+  new-count = ap (λ z. countAt (frozen z) n) (N .words) ∙ c-at s n t a f c sz (M .few)
+
+  pub made-load : load (frozen s′) (suc n) ≡ load (frozen s) n + 1 + c
+  unfolding load
+  made-load = let e = load-same (frozen s) (frozen s′) n (λ i l. old-field i 3 l (omega arith)) in let k = new-count in omega arith
+
+  pub made-above : (top : ℕ) → Above (frozen s) n top → f + c ≤ top → (t ≡ 5 → a + c ≤ top) → Above (frozen s′) (suc n) top
+  made-above top B p q = record {
+    low = B .low;
+    parts = λ i l. ⊎-elim
+        (λ e. let x = ap (firstAt (frozen s′)) e in let y = ap (countAt (frozen s′)) e in let u = new-first in let v = new-count in omega arith)
+        (λ m. let z = B .parts i m in let u = old-field i 2 m (omega arith) in let v = old-field i 3 m (omega arith) in omega arith)
+        (eq-or-lt-of-le (let z : i ≤ n = omega arith in z));
+    names = λ i l g. ⊎-elim
+        (λ e. let x = ap (argAt (frozen s′)) e in let y = ap (countAt (frozen s′)) e in let u = new-arg in let v = new-count in
+        let z = q (sym new-tag ∙ ap (tagAt (frozen s′)) (sym e) ∙ g) in omega arith)
+        (λ m. let z = B .names i m (sym (old-field i 0 m (omega arith)) ∙ g) in let u = old-field i 1 m (omega arith) in let v = old-field i 3 m (omega arith) in omega arith)
+        (eq-or-lt-of-le (let z : i ≤ n = omega arith in z));
+  }

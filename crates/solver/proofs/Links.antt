@@ -120,11 +120,11 @@ module _ (s : List ℕ) (n : ℕ) (L : Pairs ℕ) (H : Held s n L) where
   far-more zero k l h = far-0 k l h (linkAt s k) refl
   far-more (suc f) k l h = far-c f k l h (λ j m q. far-more f j m q) (linkAt s k) refl
 
-  short : (k : ℕ) → k < n → hops eqb L k ≤ 768
+  short : (k : ℕ) → k < n → hops eqb L k ≤ 1024
   short k l = omega (arith, few-hops L k, few-links n L (H .wf) (H .inside), H .few)
 
-  pub far-less : (k j : ℕ) → k < n → linkAt s k ≡ suc j → far s 769 j < far s 769 k
+  pub far-less : (k j : ℕ) → k < n → linkAt s k ≡ suc j → far s 1025 j < far s 1025 k
   unfolding far
   far-less k j l e =
       let m = hop-below k j l e in
-      omega (arith, far-more 768 j m (short j m), ap (λ v. farOf v (λ i. far s 768 i)) e)
+      omega (arith, far-more 1024 j m (short j m), ap (λ v. farOf v (λ i. far s 1024 i)) e)

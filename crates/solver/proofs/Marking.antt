@@ -1,4 +1,4 @@
--- Marks: sums that stop at 33, rounds, and what is left without a mark.
+-- Marks: sums that stop at 33, sizes, and what a mark changes.
 use mathlib.Core.Path.{_≡_, refl, sym, ap, ap₂, subst, _∙_}
 use mathlib.Core.Bool.{Bool, true, false}
 use mathlib.Core.List.{List, [], _∷_, map}
@@ -13,10 +13,8 @@ use Rattle.solver.specs.Settled.{lower, wordAt}
 use borrow.Author.Tests.{eqb-true, eqb-false, lt-ltb, le-ltb}
 use Rattle.types.proofs.Classify.{build}
 use Rattle.types.proofs.Closed.{idem}
-use Rattle.types.proofs.Finite.{all-of, bounded-mono, depth, finite-bounded, solution, solution-sat, tree-same}
+use Rattle.types.proofs.Finite.{all-of, depth, solution, solution-sat, tree-by, tree-same}
 use Rattle.types.proofs.Rational.{rep-sat}
-use Rattle.types.proofs.Steps.{stuck-no}
-use Rattle.types.proofs.Terms.{bool-no}
 use Rattle.types.proofs.Transfer.{follows-holds}
 use Rattle.types.specs.Classes.{Closed, rep}
 use Rattle.types.specs.Equations.{AllP, In, InP, Pairs, Solves, end, pair}
@@ -24,8 +22,8 @@ use Rattle.types.specs.Finite.{allb, bounded, boundedView, fromList, typeOf, ty
 use Rattle.types.specs.Follows.{Follows, View, shape, unk}
 use Rattle.types.specs.Former.{Former, int}
 use Rattle.types.specs.Types.{Ty, Tys, node, size, sizes, tcons, tnil}
-use Rattle.solver.specs.Store.{frozen, linkAt, fieldAt, tagAt, firstAt, countAt, run, partsAt, formerAt, view, Cell, load, Both, Held, Solved}
-use Rattle.solver.specs.Sizes.{cap, markAt, unless, total, sizeOf, sizeAt, bare, typeAt, Sized, Marks, Same, Solution, Size, One}
+use Rattle.solver.specs.Store.{frozen, linkAt, fieldAt, tagAt, firstAt, countAt, run, partsAt, formerAt, view, Cell, load, free, Both, Held, Solved}
+use Rattle.solver.specs.Sizes.{cap, markAt, bare, typeAt, Sized, Marks, Same, Solution}
 use Rattle.solver.specs.Calls.{Known, Root}
 use Rattle.solver.proofs.Links.{rep-below, upto, upto-in, upto-len}
 use Rattle.solver.proofs.Words.{frozen-set, run-cons, link-same}
@@ -64,69 +62,6 @@ cap-part x y =
 
 one-more : (x : ℕ) → 1 + x ≡ suc x
 one-more x = omega arith
-
--- The sum of the marks.
-pub sums : List ℕ → List ℕ → ℕ
-sums s [] = 0
-sums s (c ∷ cs) = markAt s c + sums s cs
-
-pub record Unmarked (s : List ℕ) (cs : List ℕ) : Type 0 where
-  pub c : ℕ
-  pub is : In c cs
-  pub free : markAt s c ≡ 0
-
-unmarked-c : (s : List ℕ) (c : ℕ) (cs : List ℕ) (v : ℕ) → (v ≡ 0 → Unmarked s cs) → (m : ℕ) → markAt s c ≡ m → unless m v ≡ 0 → Unmarked s (c ∷ cs)
-unfolding unless
-unmarked-c s c cs v ih zero e q = record { c = c; is = inl refl; free = e }
-unmarked-c s c cs v ih (suc m) e q = let u = ih q in record { c = u .c; is = inr (u .is); free = u .free }
-
-pub unmarked : (s : List ℕ) (acc : ℕ) (cs : List ℕ) → 0 < acc → total s acc cs ≡ 0 → Unmarked s cs
-unfolding total
-unmarked s acc [] p e = absurd (omega arith)
-unmarked s acc (c ∷ cs) p e = unmarked-c s c cs _ (λ q. unmarked s (cap (acc + markAt s c)) cs (cap-pos _ (omega arith)) q) (markAt s c) refl e
-
-abbrev pub Full : List ℕ → ℕ → List ℕ → ℕ → Type 0
-Full s acc cs v = ((c : ℕ) → In c cs → markAt s c ≡ 0 → ⊥) × (v ≡ cap (acc + sums s cs))
-
-full-c : (s : List ℕ) (acc c : ℕ) (cs : List ℕ) (v : ℕ) → ((v ≡ 0 → ⊥) → Full s (cap (acc + markAt s c)) cs v) → (m : ℕ) → markAt s c ≡ m → (unless m v ≡ 0 → ⊥) → Full s acc (c ∷ cs) (unless m v)
-unfolding unless sums
-full-c s acc c cs v ih zero e q = absurd (q refl)
-full-c s acc c cs v ih (suc m) e q =
-    let u = ih q in (
-      λ d i z. ⊎-elim (λ w. let y : suc m ≡ 0 = sym e ∙ ap (markAt s) (sym w) ∙ z in omega arith) (λ w. u .0 d w z) i,
-      u .1 ∙ cap-add acc (markAt s c) (sums s cs),
-    )
-
-pub full : (s : List ℕ) (acc : ℕ) (cs : List ℕ) → acc ≤ 33 → (total s acc cs ≡ 0 → ⊥) → Full s acc cs (total s acc cs)
-unfolding total sums
-full s acc [] l q = (λ c i z. i, cap-cases (acc + 0) (acc ≡ cap (acc + 0)) (λ m e. omega arith) (λ m e. omega arith))
-full s acc (c ∷ cs) l q = full-c s acc c cs _ (λ r. full s (cap (acc + markAt s c)) cs (cap-le _) r) (markAt s c) refl q
-
--- One step of the sum over a run.
-pub total-end : (s : List ℕ) (acc : ℕ) (w : List ℕ) (at m j : ℕ) → m ≤ j → acc ≡ total s acc (run w (at + j) (m - j))
-unfolding total run
-total-end s acc w at m j l = let e : m - j ≡ 0 = omega arith in rw e
-
-module _ (s : List ℕ) (acc : ℕ) (w : List ℕ) (at m j : ℕ) (l : j < m) (r : at + m ≤ length w) where
-  cons : run w (at + j) (m - j) ≡ getD w (at + j) 0 ∷ run w (at + (j + 1)) (m - (j + 1))
-  cons =
-      let e : m - j ≡ suc (m - (j + 1)) = omega arith in
-      let q : at + (j + 1) ≡ suc (at + j) = omega arith in
-      rw (e, q) (run-cons w (at + j) (m - (j + 1)) (omega arith))
-
-  pub total-stop : markAt s (getD w (at + j) 0) ≡ 0 → 0 ≡ total s acc (run w (at + j) (m - j))
-  unfolding total unless
-  total-stop e = rw (cons, total, e)
-
-  unless-pos : (x v : ℕ) → (x ≡ 0 → ⊥) → unless x v ≡ v
-  unfolding unless
-  unless-pos zero v h = absurd (h refl)
-  unless-pos (suc x) v h = refl
-
-  pub total-go : (markAt s (getD w (at + j) 0) ≡ 0 → ⊥) →
-      total s acc (run w (at + j) (m - j)) ≡ total s (cap (acc + markAt s (getD w (at + j) 0))) (run w (at + (j + 1)) (m - (j + 1)))
-  unfolding total
-  total-go h = rw (cons, total) (unless-pos _ _ h)
 
 upto-below : (n i : ℕ) → In i (upto n) → i < n
 upto-below zero i h = absurd h
@@ -167,12 +102,11 @@ module _ (s : List ℕ) (n : ℕ) (L : Pairs ℕ) (H : Held s n L) where
       subst (λ k. bounded r Vw k i ≡ true) (upto-len n)
       (depth r Vw (upto n) (λ j m. upto-in n (r j) (rep-below n L (H .inside) j (upto-below n j m))) kids-v d i (upto-in n i l) e)
 
-  -- The value of a cell whose parts are marked.
-  module _ (M : Marks s n L) (i : ℕ) (l : i < n) where
+  module _ (i : ℕ) (l : i < n) where
     x-below : r i < n
     x-below = rep-below n L (H .inside) i l
 
-    sized-unk : tagAt w (r i) ≡ 0 → Sized w n L i 1
+    pub sized-unk : tagAt w (r i) ≡ 0 → Sized w n L i 1
     unfolding typeAt size
     sized-unk e =
         let vu = view-unk w n (r i) x-below e in
@@ -182,60 +116,30 @@ module _ (s : List ℕ) (n : ℕ) (L : Pairs ℕ) (H : Held s n L) where
         let q = tree-same r Vw (λ j. node int tnil) n 1 i d o ∙ h in
         record { finite = d; size = sym (ap (λ z. cap (size z)) q ∙ cap-low 1 (omega arith)) }
 
-    -- The sizes of the parts are their marks, up to 33.
-    sum-c : (acc : ℕ) (cs : List ℕ) → ((c : ℕ) → In c cs → markAt s c ≡ cap (size (typeAt w n L c))) →
-        cap (acc + sums s cs) ≡ cap (acc + sizes (fromList (map (typeAt w n L) cs)))
-    unfolding sums fromList size
-    sum-c acc [] h = refl
-    sum-c acc (c ∷ cs) h =
-        let e = sum-c (acc + markAt s c) cs (λ d j. h d (inr j)) in
-        let m = h c (inl refl) in
-        let g = size (typeAt w n L c) in
-        let t = sizes (fromList (map (typeAt w n L) cs)) in
-        let a : acc + (markAt s c + sums s cs) ≡ acc + markAt s c + sums s cs = omega arith in
-        let b : acc + markAt s c + t ≡ acc + t + cap g = omega arith in
-        let d : acc + t + g ≡ acc + (g + t) = omega arith in
-        ap cap a ∙ e ∙ ap cap b ∙ cap-part (acc + t) g ∙ ap cap d
-
-    sized-shape : 0 < tagAt w (r i) → (v : ℕ) → Full s 1 (partsAt w (r i)) v → Sized w n L i v
+    -- A former whose parts have finite types.
+    pub sized-shape : 0 < tagAt w (r i) → ((c : ℕ) → In c (partsAt w (r i)) → bounded r Vw n c ≡ true) → (v : ℕ) → v ≡ cap (1 + sizes (fromList (map (typeAt w n L) (partsAt w (r i))))) →
+        Sized w n L i v
     unfolding typeAt size
-    sized-shape p v F =
+    sized-shape p f v e =
         let vs = view-shape w n (r i) x-below p in
-        let z : ((c : ℕ) → In c (partsAt w (r i)) → Sized w n L c (markAt s c)) = λ c j. M .right c (kids (r i) x-below c j) (F .0 c j) in
-        let o : bounded r Vw (suc n) i ≡ true = unfold bounded boundedView in (ap (boundedView (λ c. bounded r Vw n c)) vs ∙ all-of (λ c. bounded r Vw n c) (partsAt w (r i)) (λ c j. z c j .finite)) in
+        let o : bounded r Vw (suc n) i ≡ true = unfold bounded boundedView in (ap (boundedView (λ c. bounded r Vw n c)) vs ∙ all-of (λ c. bounded r Vw n c) (partsAt w (r i)) f) in
         let d = deep (suc n) i l o in
         let h : typeOf r Vw (λ j. node int tnil) (suc n) i ≡ node (formerAt w (r i)) (fromList (map (λ c. typeOf r Vw (λ j. node int tnil) n c) (partsAt w (r i)))) =
         unfold typeOf typeOfView in (ap (typeOfView (λ c. typeOf r Vw (λ j. node int tnil) n c) (node int tnil)) vs) in
         let q = tree-same r Vw (λ j. node int tnil) n (suc n) i d o ∙ h in
-        record { finite = d; size = F .1 ∙ sum-c 1 (partsAt w (r i)) (λ c j. z c j .size) ∙ ap cap (one-more _) ∙ sym (ap (λ y. cap (size y)) q) }
+        record { finite = d; size = e ∙ ap cap (one-more _) ∙ sym (ap (λ y. cap (size y)) q) }
 
-    sized-c : (t : ℕ) → tagAt w (r i) ≡ t → (sizeOf t (total s 1 (partsAt w (r i))) ≡ 0 → ⊥) → Sized w n L i (sizeOf t (total s 1 (partsAt w (r i))))
-    unfolding sizeOf
-    sized-c zero e q = sized-unk e
-    sized-c (suc t) e q = sized-shape (omega arith) _ (full s 1 (partsAt w (r i)) (omega arith) q)
+  by-class : (d i j : ℕ) → r i ≡ r j → bounded r Vw d i ≡ bounded r Vw d j
+  unfolding bounded
+  by-class zero i j e = refl
+  by-class (suc d) i j e = ap (λ z. boundedView (λ c. bounded r Vw d c) (Vw z)) e
 
-    pub sized-step : (sizeAt s (r i) ≡ 0 → ⊥) → Sized w n L i (sizeAt s (r i))
-    unfolding sizeAt
-    sized-step q = sized-c (tagAt w (r i)) refl q
-
-  -- A cell that stays without a mark has a part without one.
-  stuck-c : (i : ℕ) → (t : ℕ) → tagAt w (r i) ≡ t → sizeOf t (total s 1 (partsAt w (r i))) ≡ 0 → (0 < tagAt w (r i)) × Unmarked s (partsAt w (r i))
-  unfolding sizeOf
-  stuck-c i zero e q = absurd (omega arith)
-  stuck-c i (suc t) e q = (omega arith, unmarked s 1 (partsAt w (r i)) (omega arith) q)
-
-  pub stuck-part : (i : ℕ) → sizeAt s (r i) ≡ 0 → (0 < tagAt w (r i)) × Unmarked s (partsAt w (r i))
-  unfolding sizeAt
-  stuck-part i q = stuck-c i (tagAt w (r i)) refl q
-
-  pub endless : ((i : ℕ) → i < n → markAt s i ≡ 0 → sizeAt s (r i) ≡ 0) → (i : ℕ) → i < n → markAt s i ≡ 0 → (d : ℕ) → bounded r Vw d i ≡ true → ⊥
-  endless h i l e d o = stuck-no r Vw (λ j. (j < n) × (markAt s j ≡ 0)) step d i (l, e) o
-    where
-      step : (j : ℕ) → (j < n) × (markAt s j ≡ 0) → (k : Former) × (cs : List ℕ) × (c : ℕ) × (Vw (r j) ≡ shape k cs) × In c cs × ((c < n) × (markAt s c ≡ 0))
-      step j q =
-          let b = rep-below n L (H .inside) j (q .0) in
-          let u = stuck-part j (h j (q .0) (q .1)) in
-          (formerAt w (r j), partsAt w (r j), u .1 .c, view-shape w n (r j) b (u .0), u .1 .is, (kids (r j) b (u .1 .c) (u .1 .is), u .1 .free))
+  -- A cell has the size of its representative.
+  pub sized-class : (i v : ℕ) → Sized w n L (r i) v → Sized w n L i v
+  unfolding typeAt
+  sized-class i v z =
+      let e = idem ℕ eqb eqb-true eqb-false L (H .wf) i in
+      record { finite = sym (by-class n (r i) i e) ∙ z .finite; size = z .size ∙ ap (λ y. cap (size y)) (tree-by r Vw (λ j. node int tnil) n (r i) i e) }
 
 -- What finite solutions say.
 gs-inj : (a b : List Ty) → fromList a ≡ fromList b → a ≡ b
@@ -255,9 +159,6 @@ sat-all σ R f (pair a b L) h = (f a b (h .0), sat-all σ R f L (h .1))
 module _ (s : List ℕ) (n : ℕ) (P₀ L : Pairs ℕ) (S : Solved s n P₀ L) where
   pub by-rep : (X : Solution (frozen s) n P₀) → (i : ℕ) → X .σ (rep eqb L i) ≡ X .σ i
   by-rep X i = rep-sat ℕ eqb eqb-true eqb-false (X .σ) L (sat-all (X .σ) _ (follows-holds build mk-c (view (frozen s) n) P₀ (X .σ) (X .fits) (X .sat)) L (S .follows)) i
-
-  pub solution-ok : Solution (frozen s) n P₀ → (i : ℕ) → (d : ℕ) × (bounded (rep eqb L) (view (frozen s) n) d i ≡ true)
-  solution-ok X i = (size (X .σ i), finite-bounded (rep eqb L) (view (frozen s) n) (X .σ) (X .fits) (by-rep X) (size (X .σ i)) i (omega arith))
 
   -- A solution, with τ at the unknowns.
   unfoldable pub solve-with : (τ : ℕ → Ty) → ((i : ℕ) → i < n → bounded (rep eqb L) (view (frozen s) n) n i ≡ true) → Solution (frozen s) n P₀
@@ -294,111 +195,85 @@ same-solved s t a n P₀ L S = record {
 }
 
 -- A mark.
-module _ (s : List ℕ) (i v : ℕ) (size : length s ≡ 16384) (l : i < 768) where
-  pub mark-same : Same s (set s (7936 + i) v)
+module _ (s : List ℕ) (i v : ℕ) (size : length s ≡ 52224) (l : i < 1024) where
+  pub mark-same : Same s (set s (40960 + i) v)
   unfolding lower wordAt
   mark-same = record {
-    low = take-set-le 7168 s (7936 + i) v (omega arith);
-    refs = λ j m. getD-set-other s (7936 + i) (7168 + j) v 0 (λ e. omega arith);
-    size = length-set s (7936 + i) v;
-    still = frozen-set s (7936 + i) v (omega arith);
-    links = λ j m. link-same s _ j j (getD-set-other s (7936 + i) (7168 + j) v 0 (λ e. omega arith));
+    low = take-set-le 39936 s (40960 + i) v (omega arith);
+    refs = λ j m. getD-set-other s (40960 + i) (39936 + j) v 0 (λ e. omega arith);
+    size = length-set s (40960 + i) v;
+    still = frozen-set s (40960 + i) v (omega arith);
+    links = λ j m. link-same s _ j j (getD-set-other s (40960 + i) (39936 + j) v 0 (λ e. omega arith));
   }
 
-  pub mark-hit : markAt (set s (7936 + i) v) i ≡ v
+  pub mark-hit : markAt (set s (40960 + i) v) i ≡ v
   unfolding markAt
-  mark-hit = getD-set-same s (7936 + i) v 0 (omega arith)
+  mark-hit = getD-set-same s (40960 + i) v 0 (omega arith)
 
-  pub mark-miss : (j : ℕ) → (j ≡ i → ⊥) → markAt (set s (7936 + i) v) j ≡ markAt s j
+  pub mark-miss : (j : ℕ) → (j ≡ i → ⊥) → markAt (set s (40960 + i) v) j ≡ markAt s j
   unfolding markAt
-  mark-miss j d = getD-set-other s (7936 + i) (7936 + j) v 0 (λ e. d (omega arith))
+  mark-miss j d = getD-set-other s (40960 + i) (40960 + j) v 0 (λ e. d (omega arith))
 
-  bare-low : (m : ℕ) → m ≤ i → bare (set s (7936 + i) v) m ≡ bare s m
+  bare-low : (m : ℕ) → m ≤ i → bare (set s (40960 + i) v) m ≡ bare s m
   unfolding bare
   bare-low zero q = refl
-  bare-low (suc m) q = ap₂ (λ x y. sizeOf x 0 + y) (mark-miss m (λ e. omega arith)) (bare-low m (omega arith))
+  bare-low (suc m) q = ap₂ (λ x y. free x 1 + y) (mark-miss m (λ e. omega arith)) (bare-low m (omega arith))
 
-  pos-0 : (x : ℕ) → (x ≡ 0 → ⊥) → sizeOf x 0 ≡ 0
-  unfolding sizeOf
-  pos-0 zero d = absurd (d refl)
-  pos-0 (suc x) d = refl
+  free-0 : (x : ℕ) → (x ≡ 0 → ⊥) → free x 1 ≡ 0
+  unfolding free
+  free-0 zero d = absurd (d refl)
+  free-0 (suc x) d = refl
 
-  module _ (free : markAt s i ≡ 0) (some : v ≡ 0 → ⊥) where
-    term-new : sizeOf (markAt (set s (7936 + i) v) i) 0 ≡ 0
-    term-new = pos-0 _ (λ e. some (sym mark-hit ∙ e))
+  pub bare-less : (v ≡ 0 → ⊥) → (m : ℕ) → bare (set s (40960 + i) v) m ≤ bare s m
+  unfolding bare
+  bare-less some zero = omega arith
+  bare-less some (suc m) = go (eqb m i) refl (bare-less some m)
+    where
+      go : (b : Bool) → eqb m i ≡ b → bare (set s (40960 + i) v) m ≤ bare s m → free (markAt (set s (40960 + i) v) m) 1 + bare (set s (40960 + i) v) m ≤ free (markAt s m) 1 + bare s m
+      go true t h = let e = ap (markAt (set s (40960 + i) v)) (eqb-true m i t) ∙ mark-hit in let z = free-0 (markAt (set s (40960 + i) v) m) (λ y. some (sym e ∙ y)) in omega arith
+      go false t h = let e = ap (λ x. free x 1) (mark-miss m (eqb-false m i t)) in omega arith
 
-    term-old : sizeOf (markAt s i) 0 ≡ 1
-    unfolding sizeOf
-    term-old = ap (λ x. sizeOf x 0) free
+  module _ (none : markAt s i ≡ 0) (some : v ≡ 0 → ⊥) where
+    term-new : free (markAt (set s (40960 + i) v) i) 1 ≡ 0
+    term-new = free-0 _ (λ e. some (sym mark-hit ∙ e))
 
-    pub bare-mark : (m : ℕ) → i < m → bare (set s (7936 + i) v) m + 1 ≡ bare s m
+    term-old : free (markAt s i) 1 ≡ 1
+    unfolding free
+    term-old = ap (λ x. free x 1) none
+
+    pub bare-mark : (m : ℕ) → i < m → bare (set s (40960 + i) v) m + 1 ≡ bare s m
     unfolding bare
     bare-mark zero q = absurd (omega arith)
     bare-mark (suc m) q = ⊎-elim
-        (λ e. subst (λ z. sizeOf (markAt (set s (7936 + i) v) z) 0 + bare (set s (7936 + i) v) z + 1 ≡ sizeOf (markAt s z) 0 + bare s z) e
+        (λ e. subst (λ z. free (markAt (set s (40960 + i) v) z) 1 + bare (set s (40960 + i) v) z + 1 ≡ free (markAt s z) 1 + bare s z) e
         (omega (arith, term-new, term-old, bare-low i (omega arith))))
-        (λ p. omega (arith, bare-mark m p, ap (λ x. sizeOf x 0) (mark-miss m (λ e. omega arith))))
+        (λ p. omega (arith, bare-mark m p, ap (λ x. free x 1) (mark-miss m (λ e. omega arith))))
         (eq-or-lt-of-le q′)
       where
         q′ : i ≤ m
         q′ = omega arith
 
   -- Marks stay right where the new one is.
-  pub marks-set : (n : ℕ) (L : Pairs ℕ) → Sized (frozen s) n L i v → Marks s n L → Marks (set s (7936 + i) v) n L
-  marks-set n L z M = record { right = λ j q d. go j q d (eqb j i) refl }
+  pub marks-set : (n : ℕ) (L : Pairs ℕ) → ((v ≡ 34 → ⊥) → Sized (frozen s) n L i v) → Marks s n L → Marks (set s (40960 + i) v) n L
+  marks-set n L z M = record { right = λ j q d f. go j q d f (eqb j i) refl }
     where
-      e : frozen (set s (7936 + i) v) ≡ frozen s
-      e = frozen-set s (7936 + i) v (omega arith)
+      e : frozen (set s (40960 + i) v) ≡ frozen s
+      e = frozen-set s (40960 + i) v (omega arith)
 
-      go : (j : ℕ) → j < n → (markAt (set s (7936 + i) v) j ≡ 0 → ⊥) → (b : Bool) → eqb j i ≡ b → Sized (frozen (set s (7936 + i) v)) n L j (markAt (set s (7936 + i) v) j)
-      go j q d true t =
+      go : (j : ℕ) → j < n → (markAt (set s (40960 + i) v) j ≡ 0 → ⊥) → (markAt (set s (40960 + i) v) j ≡ 34 → ⊥) → (b : Bool) → eqb j i ≡ b →
+          Sized (frozen (set s (40960 + i) v)) n L j (markAt (set s (40960 + i) v) j)
+      go j q d f true t =
           let ji = eqb-true j i t in
-          subst (λ y. Sized (frozen (set s (7936 + i) v)) n L y (markAt (set s (7936 + i) v) y)) (sym ji)
-          (subst (λ y. Sized y n L i (markAt (set s (7936 + i) v) i)) (sym e) (subst (λ y. Sized (frozen s) n L i y) (sym mark-hit) z))
-      go j q d false t =
+          let h = ap (markAt (set s (40960 + i) v)) ji ∙ mark-hit in
+          subst (λ y. Sized (frozen (set s (40960 + i) v)) n L y (markAt (set s (40960 + i) v) y)) (sym ji)
+          (subst (λ y. Sized y n L i (markAt (set s (40960 + i) v) i)) (sym e) (subst (λ y. Sized (frozen s) n L i y) (sym mark-hit) (z (λ y. f (h ∙ y)))))
+      go j q d f false t =
           let m = mark-miss j (eqb-false j i t) in
-          subst (λ y. Sized y n L j (markAt (set s (7936 + i) v) j)) (sym e) (subst (λ y. Sized (frozen s) n L j y) (sym m) (M .right j q (λ y. d (m ∙ y))))
-
-pub size-unk : (s : List ℕ) (r : ℕ) → tagAt (frozen s) r ≡ 0 → 1 ≡ sizeAt s r
-unfolding sizeAt sizeOf
-size-unk s r e = sym (ap (λ t. sizeOf t (total s 1 (partsAt (frozen s) r))) e)
-
-pub size-shape : (s : List ℕ) (r : ℕ) → (tagAt (frozen s) r ≡ 0 → ⊥) → total s 1 (partsAt (frozen s) r) ≡ sizeAt s r
-unfolding sizeAt
-size-shape s r d = go (tagAt (frozen s) r) d
-  where
-    go : (t : ℕ) → (t ≡ 0 → ⊥) → total s 1 (partsAt (frozen s) r) ≡ sizeOf t (total s 1 (partsAt (frozen s) r))
-    go zero d′ = absurd (d′ refl)
-    go (suc t) d′ = unfold sizeOf in refl
+          subst (λ y. Sized y n L j (markAt (set s (40960 + i) v) j)) (sym e)
+          (subst (λ y. Sized (frozen s) n L j y) (sym m) (M .right j q (λ y. d (m ∙ y)) (λ y. f (m ∙ y))))
 
 pub known-root : (s : List ℕ) (i r : ℕ) → Known s i → Root s i r → Known s r
 known-root s i r k q = record { n = k .n; L = k .L; held = k .held; made = subst (λ z. z < k .n) (q .is (k .n) (k .L) (k .held) (k .made)) (rep-below (k .n) (k .L) (k .held .inside) i (k .made)) }
 
-pub few-cell : (s : List ℕ) (i : ℕ) → Known s i → i < 768
+pub few-cell : (s : List ℕ) (i : ℕ) → Known s i → i < 1024
 few-cell s i k = let f = k .held .few in let l = k .made in omega arith
-
-pub one-none : (s : List ℕ) (i : ℕ) → (markAt s i ≡ 0 → (n : ℕ) (L : Pairs ℕ) → Held s n L → i < n → sizeAt s (rep eqb L i) ≡ 0) → One s s i 0
-one-none s i h = record {
-  same = same-refl s;
-  few = omega arith;
-  none = λ e. refl;
-  stuck = λ e z. h z;
-  free = λ d. absurd (d refl);
-  value = 0;
-  words = λ d. absurd (d refl);
-  some = λ d. absurd (d refl);
-  is = λ d. absurd (d refl);
-}
-
-pub one-some : (s : List ℕ) (i v : ℕ) → Known s i → markAt s i ≡ 0 → (v ≡ 0 → ⊥) → Size s i v → One s (set s (7936 + i) v) i 1
-one-some s i v k e d z = record {
-  same = mark-same s i v (k .held .size) (few-cell s i k);
-  few = omega arith;
-  none = λ q. absurd (omega arith);
-  stuck = λ q. absurd (omega arith);
-  free = λ q. e;
-  value = v;
-  words = λ q. refl;
-  some = λ q. d;
-  is = λ q. z .is;
-}

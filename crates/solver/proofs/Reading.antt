@@ -21,12 +21,13 @@ use Rattle.types.specs.Words.{second, words, partWords}
 use mathlib.Core.Option.{Option, some, none}
 use Rattle.types.specs.Component.{pickType, componentType}
 use Rattle.types.proofs.Words.{words-one}
+use Rattle.solver.specs.Parts.{Names, Rest}
 use Rattle.solver.specs.Settled.{lower, heap, Reads, Readable, Areas, Meeting, SameNames, leadWords, nameWords, partsOf}
 
 pub reads-one : (H : List ℕ) (p : ℕ) (g k : Ty) → Reads H p g → Reads H p k → g ≡ k
 reads-one H p g k R S = words-one g k (R .formed) (S .formed) (R .after) (S .after) (sym (R .words-at) ∙ S .words-at) .0
 
-words-some : (g : Ty) → 0 < length (words g)
+pub words-some : (g : Ty) → 0 < length (words g)
 unfolding words
 words-some (node h gs) = omega arith
 
@@ -40,18 +41,6 @@ inside H p g R = omega (arith, words-some g, ap length (R .words-at), length-app
 -- What stands after a beginning.
 pub drop-on : (H : List ℕ) (p : ℕ) (xs ys : List ℕ) → drop p H ≡ xs ++ ys → drop (p + length xs) H ≡ ys
 drop-on H p xs ys e = sym (drop-drop (length xs) p H) ∙ ap (drop (length xs)) e ∙ drop-at xs ys (length xs) refl
-
-abbrev pub Names : ℕ → List ℕ → Tys → Type 0
-Names zero l gs = l ≡ []
-Names (suc w) l gs = (w ≡ 0) × (length l ≡ partCountType gs)
-
--- Parts gs, with the names l, stand at `at`, and end at e. A name takes w words.
-pub record Rest (H : List ℕ) (w at : ℕ) (l : List ℕ) (gs : Tys) (e : ℕ) : Type 0 where
-  pub formed : FormedTypes Arity gs
-  pub names : Names w l gs
-  pub after : List ℕ
-  pub words-at : drop at H ≡ partWords l gs ++ after
-  pub end : e ≡ at + length (partWords l gs)
 
 module _ (H : List ℕ) (p : ℕ) (h : Former) (gs : Tys) (R : Reads H p (node h gs)) where
   all-words : drop p H ≡ (tag h ∷ second h (partCountType gs)) ++ (partWords (identifiers h) gs ++ R .after)
@@ -155,24 +144,24 @@ unfolding partWords
 rest-done H w at l e R = let q = R .end in omega arith
 
 -- The two areas as one list.
-pub lower-length : (s : List ℕ) → length s ≡ 16384 → length (lower s) ≡ 7168
+pub lower-length : (s : List ℕ) → length s ≡ 52224 → length (lower s) ≡ 39936
 unfolding lower
 lower-length s e = simp length-take (omega arith)
 
-pub heap-length : (s d : List ℕ) → length s ≡ 16384 → length (heap s d) ≡ 7168 + length d
+pub heap-length : (s d : List ℕ) → length s ≡ 52224 → length (heap s d) ≡ 39936 + length d
 unfolding heap
 heap-length s d e = length-append (lower s) d ∙ ap (λ z. z + length d) (lower-length s e)
 
-pub heap-low : (s d : List ℕ) (p : ℕ) → length s ≡ 16384 → p < 7168 → getD (heap s d) p 0 ≡ getD s p 0
+pub heap-low : (s d : List ℕ) (p : ℕ) → length s ≡ 52224 → p < 39936 → getD (heap s d) p 0 ≡ getD s p 0
 unfolding heap lower
-heap-low s d p e l = List·getD-append (lower s) d 0 p (let z = lower-length s e in omega arith) ∙ getD-take 7168 s p 0 l
+heap-low s d p e l = List·getD-append (lower s) d 0 p (let z = lower-length s e in omega arith) ∙ getD-take 39936 s p 0 l
 
-pub heap-high : (s d : List ℕ) (p : ℕ) → length s ≡ 16384 → 7168 ≤ p → getD (heap s d) p 0 ≡ getD d (p - 7168) 0
+pub heap-high : (s d : List ℕ) (p : ℕ) → length s ≡ 52224 → 39936 ≤ p → getD (heap s d) p 0 ≡ getD d (p - 39936) 0
 unfolding heap
 heap-high s d p e l =
     let z = lower-length s e in
-    let q : p ≡ length (lower s) + (p - 7168) = omega arith in
-    ap (λ k. getD (lower s ++ d) k 0) q ∙ getD-append-add (lower s) d (p - 7168) 0
+    let q : p ≡ length (lower s) + (p - 39936) = omega arith in
+    ap (λ k. getD (lower s ++ d) k 0) q ∙ getD-append-add (lower s) d (p - 39936) 0
 
 -- Walking over the parts: n of them, j passed, a name takes w words, the whole ends at e.
 pub record Scan (H : List ℕ) (w at n j e : ℕ) : Type 0 where

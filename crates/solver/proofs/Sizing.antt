@@ -20,15 +20,10 @@ use Rattle.solver.specs.Calls.{Root}
 use Rattle.solver.specs.Settled.{heap, wordAt}
 use Rattle.solver.specs.Sizes.{cap, markAt, typeAt, Model, Least, UnknownSize, Measuring, Measured}
 use Rattle.solver.specs.Answers.{Looking}
-use Rattle.solver.proofs.Words.{run-cons}
 use Rattle.solver.proofs.Growing.{lt-or-ge}
 use Rattle.solver.proofs.Marking.{cap-low, cap-high}
-use Rattle.solver.proofs.Summing.{cap-step, cap-small}
+use Rattle.solver.proofs.Summing.{ToAdd, add-start, size-some}
 use Rattle.solver.proofs.Writer.{r-below, r-cell, m-by, m-type, m-settled, m-readable}
-
-size-some : (g : Ty) → 1 ≤ size g
-unfolding size
-size-some (node h gs) = omega arith
 
 sizes-le : (T U : ℕ → Ty) (cs : List ℕ) → ((c : ℕ) → size (T c) ≤ size (U c)) → sizes (fromList (map T cs)) ≤ sizes (fromList (map U cs))
 unfolding size fromList
@@ -71,44 +66,20 @@ measured-unknown s d i r v Q t U = record {
       (λ q. U .free q ∙ sym (ap cap (ap size (m-by s d i r Q n L σ M l) ∙ E r (r-below s i r Q n L (M .marked) l) t (Q .free) q) ∙ cap-low 1 (omega arith)))
       (λ q. let R = m-readable s d i r Q n L σ M l q in
       U .settled q .is (R .type) (R .reads) ∙ sym (ap (λ g. cap (size g)) (m-settled s d i r Q n L σ M l q (R .type) (R .reads))))
-      (lt-or-ge (wordAt s r) 769);
+      (lt-or-ge (wordAt s r) 1025);
   few = U .few;
 }
 
 -- The parts from number j on are still to be added to sum.
 abbrev pub Adding : List ℕ → (ℕ → Ty) → ℕ → ℕ → ℕ → ℕ → ℕ → Type 0
-Adding s σ i r k j sum = cap (sum + sizes (fromList (map σ (run (frozen s) (firstAt (frozen s) r + j) (k - j))))) ≡ cap (size (σ i))
+Adding s σ i r k j sum = ToAdd σ (frozen s) (firstAt (frozen s) r) k j sum (size (σ i))
 
 pub adding-start : (s d : List ℕ) (i r k : ℕ) → Root s i r → k ≡ countAt (frozen s) r → 0 < tagAt (frozen s) r → (n : ℕ) (L : Pairs ℕ) (σ : ℕ → Ty) → Model s d n L σ → i < n → Adding s σ i r k 0 1
 unfolding size
 adding-start s d i r k Q ek p n L σ M l =
     let w = frozen s in
-    let a : firstAt w r + 0 ≡ firstAt w r = omega arith in
-    let b : k - 0 ≡ countAt w r = omega arith in
     let g = ap size (m-type s d i r Q n L σ M l p) in
-    ap₂ (λ x y. cap (1 + sizes (fromList (map σ (run w x y))))) a b ∙ ap cap (omega arith)
-
-pub adding-step : (s : List ℕ) (σ : ℕ → Ty) (i r k j sum x c v : ℕ) → Cell (frozen s) r → k ≡ countAt (frozen s) r → j < k → c ≡ getD (frozen s) (firstAt (frozen s) r + j) 0 →
-    v ≡ cap (size (σ c)) → x ≡ cap (sum + v) → Adding s σ i r k j sum → Adding s σ i r k (j + 1) x
-unfolding size fromList
-adding-step s σ i r k j sum x c v C ek l ec ev ex A =
-    let w = frozen s in
-    let at = firstAt w r in
-    let e : k - j ≡ suc (k - (j + 1)) = omega arith in
-    let q : at + (j + 1) ≡ suc (at + j) = omega arith in
-    let room = C .room in
-    let cons : run w (at + j) (k - j) ≡ c ∷ run w (at + (j + 1)) (k - (j + 1)) =
-    ap (run w (at + j)) e ∙ run-cons w (at + j) (k - (j + 1)) (omega arith) ∙ ap₂ (λ y z. y ∷ run w z (k - (j + 1))) (sym ec) (sym q) in
-    let t = sizes (fromList (map σ (run w (at + (j + 1)) (k - (j + 1))))) in
-    ap (λ y. cap (y + t)) (ex ∙ ap (λ y. cap (sum + y)) ev) ∙ cap-step sum (size (σ c)) t
-    ∙ sym (ap (λ y. cap (sum + sizes (fromList (map σ y)))) cons) ∙ A
-
-pub adding-end : (s : List ℕ) (σ : ℕ → Ty) (i r k j sum : ℕ) → k ≤ j → sum ≤ 33 → Adding s σ i r k j sum → sum ≡ cap (size (σ i))
-unfolding size fromList run
-adding-end s σ i r k j sum l f A =
-    let e : k - j ≡ 0 = omega arith in
-    sym (cap-small sum f) ∙ ap cap (let z : sum ≡ sum + 0 = omega arith in z)
-    ∙ sym (ap (λ y. cap (sum + sizes (fromList (map σ (run (frozen s) (firstAt (frozen s) r + j) y))))) e) ∙ A
+    add-start σ w (firstAt w r) k ∙ ap (λ y. cap (1 + sizes (fromList (map σ (run w (firstAt w r) y))))) ek ∙ ap cap (omega arith)
 
 pub looking-of : (s d : List ℕ) (i : ℕ) → Measuring s d i → Looking s d i
 looking-of s d i K = record { n = K .n; L = K .L; held = K .marked .held; pinned = K .pinned; made = K .made; few = K .few }

@@ -1,17 +1,23 @@
--- The size of a type, from its words.
+-- The size of a type, from its words, and from the sizes of its parts.
 use mathlib.Core.Path.{_≡_, refl, sym, ap, ap₂, subst, _∙_}
-use mathlib.Core.List.{List, [], _∷_, _++_}
+use mathlib.Core.List.{List, [], _∷_, _++_, map}
+use mathlib.Core.Logic.{inl, inr}
 use Prim.Native.Nat.{ℕ, zero, suc, _+_, _-_, _≤_, _<_}
 use native.Mathlib.Omega.{arith}
 use lib.ListN.{length, getD, set, take, drop, length-append}
 use lib.Seq.{sets}
+use Rattle.types.specs.Equations.{In}
+use Rattle.types.specs.Finite.{fromList}
 use Rattle.types.specs.Former.{Former, identifiers, tag}
 use Rattle.types.specs.Types.{Ty, Tys, node, tnil, tcons, size, sizes}
 use Rattle.types.specs.Formed.{partCountType}
 use Rattle.types.specs.Words.{words}
+use Rattle.solver.specs.Store.{run}
 use Rattle.solver.specs.Settled.{heap, Reads, leadWords, nameWords, partsOf}
 use Rattle.solver.specs.Sizes.{cap}
-use Rattle.solver.proofs.Reading.{Rest, rest-start, part-next, parts-are, tag-at, inside, place-low}
+use Rattle.solver.proofs.Words.{run-cons}
+use Rattle.solver.specs.Parts.{Rest}
+use Rattle.solver.proofs.Reading.{rest-start, part-next, parts-are, tag-at, inside, place-low}
 use Rattle.solver.proofs.Marking.{cap-cases, cap-add, cap-part}
 
 -- n parts, j passed; sum with the sizes of the others is m, up to 33.
@@ -81,6 +87,44 @@ sum-end-c n j sum m (tcons g gs) q s lt f = absurd (omega arith)
 
 pub sum-end : (H : List ℕ) (w at n j sum m : ℕ) → Summing H w at n j sum m → n ≤ j → sum ≤ 33 → sum ≡ cap m
 sum-end H w at n j sum m S lt f = sum-end-c n j sum m (S .gs) (S .left) (S .same) lt f
+
+-- The sizes of a cell's parts: those from number j on, of the k at the place `at`, are still to be added to sum. With them it is m, up to 33.
+abbrev pub ToAdd : (ℕ → Ty) → List ℕ → ℕ → ℕ → ℕ → ℕ → ℕ → Type 0
+ToAdd T w at k j sum m = cap (sum + sizes (fromList (map T (run w (at + j) (k - j))))) ≡ cap m
+
+pub add-start : (T : ℕ → Ty) (w : List ℕ) (at k : ℕ) → ToAdd T w at k 0 1 (1 + sizes (fromList (map T (run w at k))))
+add-start T w at k =
+    let a : at + 0 ≡ at = omega arith in
+    let b : k - 0 ≡ k = omega arith in
+    ap₂ (λ x y. cap (1 + sizes (fromList (map T (run w x y))))) a b
+
+pub add-step : (T : ℕ → Ty) (w : List ℕ) (at k j sum m x c v : ℕ) → at + k ≤ length w → j < k → c ≡ getD w (at + j) 0 → v ≡ cap (size (T c)) → x ≡ cap (sum + v) →
+    ToAdd T w at k j sum m → ToAdd T w at k (j + 1) x m
+unfolding size fromList
+add-step T w at k j sum m x c v room l ec ev ex A =
+    let e : k - j ≡ suc (k - (j + 1)) = omega arith in
+    let q : at + (j + 1) ≡ suc (at + j) = omega arith in
+    let cons : run w (at + j) (k - j) ≡ c ∷ run w (at + (j + 1)) (k - (j + 1)) =
+    ap (run w (at + j)) e ∙ run-cons w (at + j) (k - (j + 1)) (omega arith) ∙ ap₂ (λ y z. y ∷ run w z (k - (j + 1))) (sym ec) (sym q) in
+    let t = sizes (fromList (map T (run w (at + (j + 1)) (k - (j + 1))))) in
+    ap (λ y. cap (y + t)) (ex ∙ ap (λ y. cap (sum + y)) ev) ∙ cap-step sum (size (T c)) t
+    ∙ sym (ap (λ y. cap (sum + sizes (fromList (map T y)))) cons) ∙ A
+
+pub add-end : (T : ℕ → Ty) (w : List ℕ) (at k j sum m : ℕ) → k ≤ j → sum ≤ 33 → ToAdd T w at k j sum m → sum ≡ cap m
+unfolding size fromList run
+add-end T w at k j sum m l f A =
+    let e : k - j ≡ 0 = omega arith in
+    sym (cap-small sum f) ∙ ap cap (let z : sum ≡ sum + 0 = omega arith in z) ∙ sym (ap (λ y. cap (sum + sizes (fromList (map T (run w (at + j) y))))) e) ∙ A
+
+pub size-some : (g : Ty) → 1 ≤ size g
+unfolding size
+size-some (node h gs) = omega arith
+
+pub part-size : (T : ℕ → Ty) (c : ℕ) (cs : List ℕ) → In c cs → size (T c) ≤ sizes (fromList (map T cs))
+unfolding fromList size
+part-size T c [] j = absurd j
+part-size T c (d ∷ cs) (inl e) = omega (arith, ap (λ z. size (T z)) e)
+part-size T c (d ∷ cs) (inr j) = omega (arith, part-size T c cs j)
 
 -- Copying words: the j-th of them.
 drop-next : (l : List ℕ) (j : ℕ) → j < length l → drop j l ≡ getD l j 0 ∷ drop (suc j) l

@@ -23,7 +23,8 @@ use Rattle.solver.proofs.Links.{rep-below}
 use Rattle.solver.proofs.Words.{run-cons, run-length, run-at}
 use Rattle.solver.proofs.Heads.{view-shape}
 use Rattle.solver.proofs.Answering.{getD-in}
-use Rattle.solver.proofs.Reading.{Rest, Part, part-next, rest-start, place-low, inside, like-tag}
+use Rattle.solver.specs.Parts.{Rest}
+use Rattle.solver.proofs.Reading.{Part, part-next, rest-start, place-low, inside, like-tag}
 use Rattle.solver.proofs.Settling.{heap-kept, kept-refl, kept-on, kept-held}
 
 tcons-0 : (a b : Ty) (x y : Tys) → tcons a x ≡ tcons b y → a ≡ b

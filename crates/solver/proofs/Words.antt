@@ -11,28 +11,28 @@ use Rattle.types.specs.Classes.{zipN}
 use Rattle.types.specs.Equations.{Pairs, end, pair}
 use Rattle.solver.specs.Store.{frozen, linkPart, linkAt, run, pending}
 
-pub frozen-length : (s : List ℕ) → length s ≡ 16384 → length (frozen s) ≡ 4608
+pub frozen-length : (s : List ℕ) → length s ≡ 52224 → length (frozen s) ≡ 6144
 unfolding frozen
 frozen-length s e = simp length-drop (omega arith)
 
-pub frozen-set : (s : List ℕ) (i v : ℕ) → i < 11776 → frozen (set s i v) ≡ frozen s
+pub frozen-set : (s : List ℕ) (i v : ℕ) → i < 46080 → frozen (set s i v) ≡ frozen s
 unfolding frozen
-frozen-set s i v l = drop-set-lt 11776 s i v l
+frozen-set s i v l = drop-set-lt 46080 s i v l
 
 -- A link word.
-pub link-part : (v : ℕ) → v < 769 → linkPart v ≡ v
+pub link-part : (v : ℕ) → v < 1025 → linkPart v ≡ v
 unfolding linkPart
-link-part v l = rw (linkPart, lt-ltb v 769 l)
+link-part v l = rw (linkPart, lt-ltb v 1025 l)
 
-pub link-none : (v : ℕ) → 769 ≤ v → linkPart v ≡ 0
+pub link-none : (v : ℕ) → 1025 ≤ v → linkPart v ≡ 0
 unfolding linkPart
-link-none v l = rw (linkPart, le-ltb v 769 l)
+link-none v l = rw (linkPart, le-ltb v 1025 l)
 
-pub link-same : (s t : List ℕ) (i j : ℕ) → getD t (7168 + j) 0 ≡ getD s (7168 + i) 0 → linkAt t j ≡ linkAt s i
+pub link-same : (s t : List ℕ) (i j : ℕ) → getD t (39936 + j) 0 ≡ getD s (39936 + i) 0 → linkAt t j ≡ linkAt s i
 unfolding linkAt
 link-same s t i j e = ap linkPart e
 
-pub link-new : (s : List ℕ) (i v : ℕ) → v < 769 → getD s (7168 + i) 0 ≡ v → linkAt s i ≡ v
+pub link-new : (s : List ℕ) (i v : ℕ) → v < 1025 → getD s (39936 + i) 0 ≡ v → linkAt s i ≡ v
 unfolding linkAt
 link-new s i v l e = ap linkPart e ∙ link-part v l
 
@@ -57,46 +57,46 @@ pub run-cons : (w : List ℕ) (at k : ℕ) → at < length w → run w at (suc k
 unfolding run
 run-cons w at k l = ap (take (suc k)) (drop-cons w at 0 l)
 
-pub pending-set : (s : List ℕ) (k i v : ℕ) → 8704 + 2 * k ≤ i → pending (set s i v) k ≡ pending s k
+pub pending-set : (s : List ℕ) (k i v : ℕ) → 41984 + 2 * k ≤ i → pending (set s i v) k ≡ pending s k
 unfolding pending
 pending-set s zero i v l = refl
 pending-set s (suc k) i v l =
-    let a = getD-set-other s i (8704 + 2 * k) v 0 (λ e. omega arith) in
-    let b = getD-set-other s i (8705 + 2 * k) v 0 (λ e. omega arith) in
+    let a = getD-set-other s i (41984 + 2 * k) v 0 (λ e. omega arith) in
+    let b = getD-set-other s i (41985 + 2 * k) v 0 (λ e. omega arith) in
     let r = pending-set s k i v (omega arith) in
     cc
 
-pub pending-low : (s : List ℕ) (k i v : ℕ) → i < 8704 → pending (set s i v) k ≡ pending s k
+pub pending-low : (s : List ℕ) (k i v : ℕ) → i < 41984 → pending (set s i v) k ≡ pending s k
 unfolding pending
 pending-low s zero i v l = refl
 pending-low s (suc k) i v l =
-    let a = getD-set-other s i (8704 + 2 * k) v 0 (λ e. omega arith) in
-    let b = getD-set-other s i (8705 + 2 * k) v 0 (λ e. omega arith) in
+    let a = getD-set-other s i (41984 + 2 * k) v 0 (λ e. omega arith) in
+    let b = getD-set-other s i (41985 + 2 * k) v 0 (λ e. omega arith) in
     let r = pending-low s k i v l in
     cc
 
 -- One more pair.
 abbrev pub pushed : List ℕ → ℕ → ℕ → ℕ → List ℕ
-pushed s k p q = set (set s (8704 + 2 * k) p) (8705 + 2 * k) q
+pushed s k p q = set (set s (41984 + 2 * k) p) (41985 + 2 * k) q
 
-module _ (s : List ℕ) (k p q : ℕ) (size : length s ≡ 16384) (l : k < 1536) where
+module _ (s : List ℕ) (k p q : ℕ) (size : length s ≡ 52224) (l : k < 2048) where
   pub push-pending : pending (pushed s k p q) (suc k) ≡ pair p q (pending s k)
   unfolding pending
   push-pending =
-      let e = length-set s (8704 + 2 * k) p in
-      let a = getD-set-other (set s (8704 + 2 * k) p) (8705 + 2 * k) (8704 + 2 * k) q 0 (λ z. omega arith) in
-      let a′ = getD-set-same s (8704 + 2 * k) p 0 (omega arith) in
-      let b = getD-set-same (set s (8704 + 2 * k) p) (8705 + 2 * k) q 0 (omega arith) in
-      let r = pending-set (set s (8704 + 2 * k) p) k (8705 + 2 * k) q (omega arith) in
-      let r′ = pending-set s k (8704 + 2 * k) p (omega arith) in
+      let e = length-set s (41984 + 2 * k) p in
+      let a = getD-set-other (set s (41984 + 2 * k) p) (41985 + 2 * k) (41984 + 2 * k) q 0 (λ z. omega arith) in
+      let a′ = getD-set-same s (41984 + 2 * k) p 0 (omega arith) in
+      let b = getD-set-same (set s (41984 + 2 * k) p) (41985 + 2 * k) q 0 (omega arith) in
+      let r = pending-set (set s (41984 + 2 * k) p) k (41985 + 2 * k) q (omega arith) in
+      let r′ = pending-set s k (41984 + 2 * k) p (omega arith) in
       cc
 
   pub push-frozen : frozen (pushed s k p q) ≡ frozen s
   push-frozen = frozen-set _ _ _ (omega arith) ∙ frozen-set _ _ _ (omega arith)
 
-  pub push-front : (i : ℕ) → i < 8704 → getD (pushed s k p q) i 0 ≡ getD s i 0
+  pub push-front : (i : ℕ) → i < 41984 → getD (pushed s k p q) i 0 ≡ getD s i 0
   push-front i m =
-      getD-set-other (set s (8704 + 2 * k) p) (8705 + 2 * k) i q 0 (λ z. omega arith) ∙ getD-set-other s (8704 + 2 * k) i p 0 (λ z. omega arith)
+      getD-set-other (set s (41984 + 2 * k) p) (41985 + 2 * k) i q 0 (λ z. omega arith) ∙ getD-set-other s (41984 + 2 * k) i p 0 (λ z. omega arith)
 
 -- What is left to push after j of m pairs.
 unfoldable pub left : List ℕ → ℕ → ℕ → ℕ → List ℕ → ℕ → ℕ → Option (Pairs ℕ)
@@ -112,7 +112,7 @@ pub left-end : (w : List ℕ) (f g m : ℕ) (s : List ℕ) (k j : ℕ) → m ≤
 unfolding left run zipN
 left-end w f g m s k j l = let e : m - j ≡ 0 = omega arith in rw e
 
-pub left-step : (w : List ℕ) (f g m : ℕ) (s : List ℕ) (k j : ℕ) → length s ≡ 16384 → k + j < 1536 → j < m → f + m ≤ length w → g + m ≤ length w →
+pub left-step : (w : List ℕ) (f g m : ℕ) (s : List ℕ) (k j : ℕ) → length s ≡ 52224 → k + j < 2048 → j < m → f + m ≤ length w → g + m ≤ length w →
     left w f g m (pushed s (k + j) (getD w (f + j) 0) (getD w (g + j) 0)) k (j + 1) ≡ left w f g m s k j
 unfolding left zipN
 left-step w f g m s k j size l jm lf lg =

@@ -29,6 +29,7 @@ use Rattle.solver.proofs.Heads.{view-shape}
 use Rattle.solver.proofs.Marking.{cap-low, cap-high}
 use Rattle.solver.proofs.Growing.{lt-or-ge}
 use Rattle.solver.proofs.Answering.{getD-in}
+use Rattle.solver.proofs.Summing.{part-size}
 use Rattle.solver.specs.Calls.{Root}
 
 pub sets-append : (l : List ℕ) (i : ℕ) (a b : List ℕ) → sets l i (a ++ b) ≡ sets (sets l i a) (i + length a) b
@@ -174,12 +175,6 @@ module _ (s : List ℕ) (n : ℕ) (L : Pairs ℕ) (R : Marked s n L) (i : ℕ) (
       tree-same (rep eqb L) (view w₀ n) (λ j. node int tnil) n (suc n) i d (bounded-mono (rep eqb L) (view w₀ n) n i d)
       ∙ (unfold typeOf typeOfView in (ap (typeOfView (λ c. typeOf (rep eqb L) (view w₀ n) (λ j. node int tnil) n c) (node int tnil)) h))
 
-  part-size : (T : ℕ → Ty) (c : ℕ) (cs : List ℕ) → In c cs → size (T c) ≤ sizes (fromList (map T cs))
-  unfolding fromList size
-  part-size T c [] j = absurd j
-  part-size T c (d ∷ cs) (inl e) = omega (arith, ap (λ z. size (T z)) e)
-  part-size T c (d ∷ cs) (inr j) = omega (arith, part-size T c cs j)
-
   -- The marks fall.
   pub mark-falls : markAt s i ≤ 32 → (c : ℕ) → In c (partsAt w₀ x) → (c < n) × (markAt s c < markAt s i)
   unfolding size
@@ -205,7 +200,7 @@ module _ (s : List ℕ) (i r : ℕ) (Q : Root s i r) (n : ℕ) (L : Pairs ℕ) (
   pub r-below : r < n
   r-below = subst (λ z. z < n) q (rep-below n L (R .held .inside) i l)
 
-  pub r-few : r < 768
+  pub r-few : r < 1024
   r-few = let f = R .held .few in let b = r-below in omega arith
 
   pub r-cell : Cell (frozen s) r
@@ -220,8 +215,8 @@ module _ (s : List ℕ) (i r : ℕ) (Q : Root s i r) (n : ℕ) (L : Pairs ℕ) (
       let h = subst (λ y. In y (partsAt (frozen s) r)) (run-at (frozen s) (firstAt (frozen s) r) (countAt (frozen s) r) j jc ∙ sym e) m in
       mark-falls s n L R i l (subst (λ z. 0 < tagAt (frozen s) z) (sym q) known) small c (subst (λ y. In c (partsAt (frozen s) y)) (sym q) h)
 
-  pub r-settled : Resolved s n L → tagAt (frozen s) r ≡ 0 → 769 ≤ wordAt s r
-  r-settled h t = subst (λ z. 769 ≤ wordAt s z) q (h i l (ap (tagAt (frozen s)) q ∙ t))
+  pub r-settled : Resolved s n L → tagAt (frozen s) r ≡ 0 → 1025 ≤ wordAt s r
+  r-settled h t = subst (λ z. 1025 ≤ wordAt s z) q (h i l (ap (tagAt (frozen s)) q ∙ t))
 
 -- And in a solution.
 module _ (s d : List ℕ) (i r : ℕ) (Q : Root s i r) (n : ℕ) (L : Pairs ℕ) (σ : ℕ → Ty) (M : Model s d n L σ) (l : i < n) where
@@ -239,10 +234,10 @@ module _ (s d : List ℕ) (i r : ℕ) (Q : Root s i r) (n : ℕ) (L : Pairs ℕ)
   pub m-length : 0 < tagAt (frozen s) r → (k : ℕ) → k ≡ countAt (frozen s) r → length (words (σ i)) ≡ length (leadAt (frozen s) r) + length (rest σ (frozen s) r 0 k)
   m-length p k ek = ap length (m-words p k ek) ∙ length-append (leadAt (frozen s) r) (rest σ (frozen s) r 0 k)
 
-  pub m-settled : 769 ≤ wordAt s r → (g : Ty) → Reads (heap s d) (wordAt s r - 769) g → σ i ≡ g
+  pub m-settled : 1025 ≤ wordAt s r → (g : Ty) → Reads (heap s d) (wordAt s r - 1025) g → σ i ≡ g
   m-settled v g R = m-by ∙ M .obeys r (r-below s i r Q n L (M .marked) l) v g R
 
-  pub m-readable : 769 ≤ wordAt s r → Readable (heap s d) (wordAt s r - 769)
+  pub m-readable : 1025 ≤ wordAt s r → Readable (heap s d) (wordAt s r - 1025)
   m-readable v = M .pinned .reads r (r-below s i r Q n L (M .marked) l) v
 
 pub wrote-one : (out : List ℕ) (at v : ℕ) (ws : List ℕ) → ws ≡ v ∷ [] → Wrote out (set out at v) at (at + 1) ws

@@ -40,6 +40,7 @@ pub record Differ (s d : List ℕ) (n : ℕ) (P₀ : Pairs ℕ) : Type 0 where
   pub other : SolutionOf s d n P₀
   pub cell : ℕ
   pub made : cell < n
+  pub bare : tagAt (frozen s) cell ≡ 0
   pub differ : one .σ cell ≡ other .σ cell → ⊥
 
 -- 34. True: two solutions differ at a cell. False: each cell's type is the same in all of them.
@@ -68,13 +69,13 @@ pub record LookingRoot (s d : List ℕ) (i : ℕ) : Type 0 where
   pub looking : Looking s d i
   pub root : linkAt s i ≡ 0
 
--- 35. c + 1, below 769: in every solution cell i is a binding where id has the type of cell c. 769 + p: in every solution it is one where id has the type
+-- 35. c + 1, below 1025: in every solution cell i is a binding where id has the type of cell c. 1025 + p: in every solution it is one where id has the type
 -- whose words stand at p. 0: in some solution it is not.
 pub record Looked (s d : List ℕ) (i id v : ℕ) : Type 0 where
-  pub found : (c : ℕ) → v ≡ suc c → v < 769 → (n : ℕ) (P₀ L : Pairs ℕ) → Solved s n P₀ L → i < n → (X : SolutionOf s d n P₀) → componentType id (X .σ i) ≡ some (X .σ c)
-  pub below : (c : ℕ) → v ≡ suc c → v < 769 → (n : ℕ) (L : Pairs ℕ) → Held s n L → i < n → c < n
-  pub settled : 769 ≤ v → (n : ℕ) (P₀ L : Pairs ℕ) → Solved s n P₀ L → Pinned s d n → i < n → (X : SolutionOf s d n P₀) → Found (heap s d) (v - 769) (componentType id (X .σ i))
-  pub place : 769 ≤ v → (n : ℕ) (L : Pairs ℕ) → Held s n L → Pinned s d n → i < n → Readable (heap s d) (v - 769)
+  pub found : (c : ℕ) → v ≡ suc c → v < 1025 → (n : ℕ) (P₀ L : Pairs ℕ) → Solved s n P₀ L → i < n → (X : SolutionOf s d n P₀) → componentType id (X .σ i) ≡ some (X .σ c)
+  pub below : (c : ℕ) → v ≡ suc c → v < 1025 → (n : ℕ) (L : Pairs ℕ) → Held s n L → i < n → c < n
+  pub settled : 1025 ≤ v → (n : ℕ) (P₀ L : Pairs ℕ) → Solved s n P₀ L → Pinned s d n → i < n → (X : SolutionOf s d n P₀) → Found (heap s d) (v - 1025) (componentType id (X .σ i))
+  pub place : 1025 ≤ v → (n : ℕ) (L : Pairs ℕ) → Held s n L → Pinned s d n → i < n → Readable (heap s d) (v - 1025)
   pub absent : v ≡ 0 → (n : ℕ) (P₀ L : Pairs ℕ) → Solved s n P₀ L → Pinned s d n → i < n → Finite (frozen s) n L → Without s d n P₀ i id
 
 -- A power of g.
@@ -86,11 +87,11 @@ pub record NoPower (s d : List ℕ) (n : ℕ) (P₀ : Pairs ℕ) (i : ℕ) : Typ
   pub solution : SolutionOf s d n P₀
   pub lacks : (g : Ty) → solution .σ i ≡ powerOf g → ⊥
 
--- The element type of cell i. c + 1, below 769: in every solution cell i is the power of the type of cell c. 769 + p: in every solution it is the power
+-- The element type of cell i. c + 1, below 1025: in every solution cell i is the power of the type of cell c. 1025 + p: in every solution it is the power
 -- of the type whose words stand at p. 0: in some solution it is no power.
 pub record Element (s d : List ℕ) (i v : ℕ) : Type 0 where
-  pub found : (c : ℕ) → v ≡ suc c → v < 769 → (n : ℕ) (P₀ L : Pairs ℕ) → Solved s n P₀ L → i < n → (X : SolutionOf s d n P₀) → X .σ i ≡ powerOf (X .σ c)
-  pub below : (c : ℕ) → v ≡ suc c → v < 769 → (n : ℕ) (L : Pairs ℕ) → Held s n L → i < n → c < n
-  pub settled : 769 ≤ v → (n : ℕ) (P₀ L : Pairs ℕ) → Solved s n P₀ L → Pinned s d n → i < n → (X : SolutionOf s d n P₀) → (g : Ty) → Reads (heap s d) (v - 769) g → X .σ i ≡ powerOf g
-  pub place : 769 ≤ v → (n : ℕ) (L : Pairs ℕ) → Held s n L → Pinned s d n → i < n → Readable (heap s d) (v - 769)
+  pub found : (c : ℕ) → v ≡ suc c → v < 1025 → (n : ℕ) (P₀ L : Pairs ℕ) → Solved s n P₀ L → i < n → (X : SolutionOf s d n P₀) → X .σ i ≡ powerOf (X .σ c)
+  pub below : (c : ℕ) → v ≡ suc c → v < 1025 → (n : ℕ) (L : Pairs ℕ) → Held s n L → i < n → c < n
+  pub settled : 1025 ≤ v → (n : ℕ) (P₀ L : Pairs ℕ) → Solved s n P₀ L → Pinned s d n → i < n → (X : SolutionOf s d n P₀) → (g : Ty) → Reads (heap s d) (v - 1025) g → X .σ i ≡ powerOf g
+  pub place : 1025 ≤ v → (n : ℕ) (L : Pairs ℕ) → Held s n L → Pinned s d n → i < n → Readable (heap s d) (v - 1025)
   pub absent : v ≡ 0 → (n : ℕ) (P₀ L : Pairs ℕ) → Solved s n P₀ L → Pinned s d n → i < n → Finite (frozen s) n L → NoPower s d n P₀ i

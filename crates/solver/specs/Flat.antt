@@ -25,8 +25,8 @@ Direct s i = (j : ℕ) → linkAt s i ≡ suc j → linkAt s j ≡ 0
 -- The same cells refer to the same types.
 pub record Refers (s s′ : List ℕ) : Type 0 where
   pub low : lower s′ ≡ lower s
-  pub to : (j : ℕ) → 769 ≤ wordAt s j → wordAt s′ j ≡ wordAt s j
-  pub from : (j : ℕ) → 769 ≤ wordAt s′ j → wordAt s′ j ≡ wordAt s j
+  pub to : (j : ℕ) → 1025 ≤ wordAt s j → wordAt s′ j ≡ wordAt s j
+  pub from : (j : ℕ) → 1025 ≤ wordAt s′ j → wordAt s′ j ≡ wordAt s j
 
 pub record Straight (s s′ : List ℕ) (i n : ℕ) : Type 0 where
   pub refers : Refers s s′

@@ -1,19 +1,19 @@
--- The places of the store, from its capacity: 768 cells, 1,536 cells and parts together (each may be pending once), 1,536 words of parts and identifiers.
--- The store takes 9,216 words, the last of the caller's 16,384. docs/DECISIONS.md derives the capacity from document 01's limits.
+-- The places of the store, from its capacity: 1,024 cells, 2,048 cells and parts together (each may be pending once), 2,048 words of parts and identifiers.
+-- The store takes 12,288 words, the last of the caller's 52,224. docs/DECISIONS.md derives the capacity from document 01's limits.
 use mathlib.Core.Path.{_≡_, refl}
 use Prim.Native.Nat.{ℕ, _+_, _*_, _-_}
 
 abbrev pub area : ℕ
-area = 16384
+area = 52224
 
 abbrev pub cells : ℕ
-cells = 768
+cells = 1024
 
 abbrev pub load : ℕ
-load = 1536
+load = 2048
 
 abbrev pub runs : ℕ
-runs = 1536
+runs = 2048
 
 -- The words of the store: a link and a mark for each cell, two for each pending pair, four for each cell, the runs.
 abbrev pub store : ℕ
@@ -23,13 +23,13 @@ abbrev pub base : ℕ
 base = area - store
 
 pub record Places : Type 0 where
-  pub links : base ≡ 7168
-  pub marks : base + cells ≡ 7936
-  pub pairs : base + 2 * cells ≡ 8704
-  pub records : base + 2 * cells + 2 * load ≡ 11776
+  pub links : base ≡ 39936
+  pub marks : base + cells ≡ 40960
+  pub pairs : base + 2 * cells ≡ 41984
+  pub records : base + 2 * cells + 2 * load ≡ 46080
   -- In the frozen part: the cells, then the runs.
-  pub runs-at : 4 * cells ≡ 3072
-  pub frozen : 4 * cells + runs ≡ 4608
+  pub runs-at : 4 * cells ≡ 4096
+  pub frozen : 4 * cells + runs ≡ 6144
 
 pub places : Places
 places = record { links = refl; marks = refl; pairs = refl; records = refl; runs-at = refl; frozen = refl }

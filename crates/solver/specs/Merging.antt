@@ -38,7 +38,7 @@ NoSolution s d n P₀ = (σ : ℕ → Ty) → Fits (frozen s) n σ → Solves σ
 pub record Turned (s s′ d : List ℕ) (k : ℕ) (fine : Bool) (r : ℕ) : Type 0 where
   pub still : frozen s′ ≡ frozen s
   pub low : lower s′ ≡ lower s
-  pub falls : fine ≡ true → weight s′ 768 + r < weight s 768 + k
+  pub falls : fine ≡ true → weight s′ 1024 + r < weight s 1024 + k
   pub goes : fine ≡ true → (n : ℕ) (P₀ L : Pairs ℕ) → Busy s n P₀ L k → Pinned s d n → Next s′ n P₀ r
   pub same : fine ≡ true → (n : ℕ) (P₀ L : Pairs ℕ) → Busy s n P₀ L k → Pinned s d n → Same s s′ d n P₀
   pub stops : fine ≡ false → (n : ℕ) (P₀ L : Pairs ℕ) → Busy s n P₀ L k → Pinned s d n → NoSolution s d n P₀
@@ -46,16 +46,16 @@ pub record Turned (s s′ d : List ℕ) (k : ℕ) (fine : Bool) (r : ℕ) : Type
 -- Two representatives, of the pair that was popped.
 pub record Popped (s d : List ℕ) (k x y : ℕ) : Type 0 where
   pub reading : Open s d (suc k)
-  pub left : Root s (getD s (8704 + 2 * k) 0) x
-  pub right : Root s (getD s (8705 + 2 * k) 0) y
+  pub left : Root s (getD s (41984 + 2 * k) 0) x
+  pub right : Root s (getD s (41985 + 2 * k) 0) y
   pub apart : x ≡ y → ⊥
 
 -- The unknown x, a representative, may be linked to y: with the link there is a reading.
 pub record Tying (s d : List ℕ) (x y : ℕ) : Type 0 where
   pub n : ℕ
   pub L : Pairs ℕ
-  pub size : length s ≡ 16384
-  pub held : Held (set s (7168 + x) (suc y)) n L
+  pub size : length s ≡ 52224
+  pub held : Held (set s (39936 + x) (suc y)) n L
   pub pinned : Pinned s d n
   pub few : length d < 2 ^ 31
   pub left : x < n
@@ -63,10 +63,10 @@ pub record Tying (s d : List ℕ) (x y : ℕ) : Type 0 where
 
 -- x is linked to y, and y is given the type that x refers to, if it does.
 pub record Tied (s s′ d : List ℕ) (x y : ℕ) (fine : Bool) : Type 0 where
-  pub kept : Kept (set s (7168 + x) (suc y)) s′
-  pub same : fine ≡ true → (n : ℕ) (L : Pairs ℕ) → Held (set s (7168 + x) (suc y)) n L → Pinned s d n → x < n → y < n → (P₀ : Pairs ℕ) →
+  pub kept : Kept (set s (39936 + x) (suc y)) s′
+  pub same : fine ≡ true → (n : ℕ) (L : Pairs ℕ) → Held (set s (39936 + x) (suc y)) n L → Pinned s d n → x < n → y < n → (P₀ : Pairs ℕ) →
       ((σ : ℕ → Ty) → Fits (frozen s) n σ → Solves σ P₀ → Solves σ L × (σ x ≡ σ y)) → Same s s′ d n P₀
-  pub stops : fine ≡ false → (n : ℕ) (L : Pairs ℕ) → Held (set s (7168 + x) (suc y)) n L → Pinned s d n → x < n → y < n → (P₀ : Pairs ℕ) →
+  pub stops : fine ≡ false → (n : ℕ) (L : Pairs ℕ) → Held (set s (39936 + x) (suc y)) n L → Pinned s d n → x < n → y < n → (P₀ : Pairs ℕ) →
       ((σ : ℕ → Ty) → Fits (frozen s) n σ → Solves σ P₀ → Solves σ L × (σ x ≡ σ y)) → NoSolution s d n P₀
 
 pub record Done (s : List ℕ) (n : ℕ) (P₀ : Pairs ℕ) : Type 0 where

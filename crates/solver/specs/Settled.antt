@@ -1,5 +1,5 @@
--- Settled cells: an unknown cell whose link word refers to type words. The words stand in the caller's part of the area (places below 7168) or in the
--- dictionary d (place 7168 + k is word k of d).
+-- Settled cells: an unknown cell whose link word refers to type words. The words stand in the caller's part of the area (places below 39936) or in the
+-- dictionary d (place 39936 + k is word k of d).
 use mathlib.Core.Path.{_≡_}
 use mathlib.Core.Bool.{Bool, true, false}
 use mathlib.Core.List.{List, [], _∷_, _++_, map}
@@ -15,11 +15,11 @@ use Rattle.types.specs.Words.{words}
 use Rattle.types.specs.Equations.{Pairs, Solves}
 use Rattle.types.specs.Finite.{fromList}
 use Rattle.types.specs.Follows.{View, shape, unk}
-use Rattle.solver.specs.Store.{frozen, linkAt, tagAt, argAt, countAt, run, formerAt, Cell, view, Held, Solved}
-use Rattle.solver.specs.Calls.{Tells, Making}
+use Rattle.solver.specs.Store.{frozen, linkAt, tagAt, argAt, countAt, run, formerAt, Cell, view, load, Held, Solved}
+use Rattle.solver.specs.Calls.{Above, Tells, Making}
 
 unfoldable pub lower : List ℕ → List ℕ
-lower s = take 7168 s
+lower s = take 39936 s
 
 unfoldable pub heap : List ℕ → List ℕ → List ℕ
 heap s d = lower s ++ d
@@ -36,7 +36,7 @@ pub record Readable (H : List ℕ) (p : ℕ) : Type 0 where
 
 -- What a function that reads type words asks of the two areas.
 pub record Areas (s d : List ℕ) : Type 0 where
-  pub size : length s ≡ 16384
+  pub size : length s ≡ 52224
   pub few : length d < 2 ^ 32
 
 pub record Reading (s d : List ℕ) (p : ℕ) : Type 0 where
@@ -70,16 +70,16 @@ pub record Ends (s d : List ℕ) (p e : ℕ) : Type 0 where
 
 -- The link word of cell i.
 unfoldable pub wordAt : List ℕ → ℕ → ℕ
-wordAt s i = getD s (7168 + i) 0
+wordAt s i = getD s (39936 + i) 0
 
 -- Settled cells are unknowns, and refer to type words.
 pub record Pinned (s d : List ℕ) (n : ℕ) : Type 0 where
-  pub reads : (i : ℕ) → i < n → 769 ≤ wordAt s i → Readable (heap s d) (wordAt s i - 769)
-  pub bare : (i : ℕ) → i < n → 769 ≤ wordAt s i → tagAt (frozen s) i ≡ 0
+  pub reads : (i : ℕ) → i < n → 1025 ≤ wordAt s i → Readable (heap s d) (wordAt s i - 1025)
+  pub bare : (i : ℕ) → i < n → 1025 ≤ wordAt s i → tagAt (frozen s) i ≡ 0
 
 -- σ gives each settled cell the type that it refers to.
 abbrev pub Obeys : List ℕ → List ℕ → ℕ → (ℕ → Ty) → Type 0
-Obeys s d n σ = (i : ℕ) → i < n → 769 ≤ wordAt s i → (g : Ty) → Reads (heap s d) (wordAt s i - 769) g → σ i ≡ g
+Obeys s d n σ = (i : ℕ) → i < n → 1025 ≤ wordAt s i → (g : Ty) → Reads (heap s d) (wordAt s i - 1025) g → σ i ≡ g
 
 -- σ gives each cell with a former the type that its parts make.
 abbrev pub Fits : List ℕ → ℕ → (ℕ → Ty) → Type 0
@@ -97,7 +97,7 @@ pub record SameType (s d : List ℕ) (p q : ℕ) (b : Bool) : Type 0 where
 -- Cell r has a former, and p is the place of a type.
 pub record Meeting (s d : List ℕ) (r p : ℕ) : Type 0 where
   pub areas : Areas s d
-  pub few : r < 768
+  pub few : r < 1024
   pub cell : Cell (frozen s) r
   pub shaped : 0 < tagAt (frozen s) r
   pub readable : Readable (heap s d) p
@@ -124,7 +124,7 @@ pub record Kept (s s′ : List ℕ) : Type 0 where
   pub low : lower s′ ≡ lower s
   pub still : frozen s′ ≡ frozen s
   pub links : (i : ℕ) → linkAt s′ i ≡ linkAt s i
-  pub rest : (i : ℕ) → 7936 ≤ i → getD s′ i 0 ≡ getD s i 0
+  pub rest : (i : ℕ) → 40960 ≤ i → getD s′ i 0 ≡ getD s i 0
 
 -- What `pin` asks: a store with settled cells, and the place of a type.
 pub record Pinning (s d : List ℕ) (c p : ℕ) : Type 0 where
@@ -159,7 +159,7 @@ pub record Settling (s d : List ℕ) (r p : ℕ) : Type 0 where
 
 -- A settled type may enter as cell n.
 pub record Entering (s d : List ℕ) (n p : ℕ) : Type 0 where
-  pub making : Making s n 0 0 3072 0
+  pub making : Making s n 0 0 4096 0
   pub pinned : Pinned s d n
   pub few : length d < 2 ^ 31
   pub readable : Readable (heap s d) p
@@ -174,6 +174,8 @@ pub record Entered (s s′ d : List ℕ) (n p : ℕ) : Type 0 where
   pub before : (σ : ℕ → Ty) → Obeys s′ d (suc n) σ → Obeys s d n σ
   pub type : (g : Ty) → Reads (heap s d) p g → (σ : ℕ → Ty) → Obeys s′ d (suc n) σ → σ n ≡ g
   pub after : (g : Ty) → Reads (heap s d) p g → (σ : ℕ → Ty) → Obeys s d n σ → σ n ≡ g → Obeys s′ d (suc n) σ
+  pub fit : load (frozen s′) (suc n) ≡ load (frozen s) n + 1
+  pub above : (top : ℕ) → Above (frozen s) n top → Above (frozen s′) (suc n) top
 
 -- The type of the option stands at r.
 pub record Found (H : List ℕ) (r : ℕ) (o : Option Ty) : Type 0 where

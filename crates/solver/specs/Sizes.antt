@@ -6,12 +6,13 @@ use Prim.Native.Nat.{ℕ, zero, suc, _+_, _*_, _-_, _≤_, _<_, _^_}
 use lib.Dec.{eqb, ltb}
 use lib.ListN.{length, getD, set}
 use Rattle.types.specs.Classes.{rep}
-use Rattle.types.specs.Equations.{Pairs, Solves}
+use Rattle.types.specs.Equations.{In, Pairs, Solves}
 use Rattle.types.specs.Finite.{bounded, fromList, typeOf}
 use Rattle.types.specs.Follows.{View, shape, unk}
 use Rattle.types.specs.Former.{Former, int}
 use Rattle.types.specs.Types.{Ty, node, size, tnil}
-use Rattle.solver.specs.Store.{frozen, linkAt, tagAt, partsAt, view, Held, Solved}
+use Rattle.solver.specs.Store.{frozen, linkAt, tagAt, countAt, partsAt, view, free, Held, Solved}
+use Rattle.solver.specs.Calls.{Known}
 use Rattle.solver.specs.Settled.{lower, heap, wordAt, Reads, Pinned, Obeys, Fits}
 
 -- Sizes stop at 33.
@@ -24,28 +25,20 @@ pub record TypeSize (s d : List ℕ) (p v : ℕ) : Type 0 where
   pub few : v ≤ 33
 
 unfoldable pub markAt : List ℕ → ℕ → ℕ
-markAt s i = getD s (7936 + i) 0
-
-unfoldable pub unless : ℕ → ℕ → ℕ
-unless zero v = 0
-unless (suc m) v = v
-
--- The size with these parts, and 0 where one of them has no mark.
-unfoldable pub total : List ℕ → ℕ → List ℕ → ℕ
-total s acc [] = acc
-total s acc (c ∷ cs) = unless (markAt s c) (total s (cap (acc + markAt s c)) cs)
-
-unfoldable pub sizeOf : ℕ → ℕ → ℕ
-sizeOf zero v = 1
-sizeOf (suc t) v = v
-
-unfoldable pub sizeAt : List ℕ → ℕ → ℕ
-sizeAt s r = sizeOf (tagAt (frozen s) r) (total s 1 (partsAt (frozen s) r))
+markAt s i = getD s (40960 + i) 0
 
 -- The cells with no mark.
 unfoldable pub bare : List ℕ → ℕ → ℕ
 bare s zero = 0
-bare s (suc i) = sizeOf (markAt s i) 0 + bare s i
+bare s (suc i) = free (markAt s i) 1 + bare s i
+
+-- The number of parts, by the tag: an unknown has none.
+unfoldable pub arityOf : ℕ → ℕ → ℕ
+arityOf zero k = 0
+arityOf (suc t) k = k
+
+abbrev pub arityAt : List ℕ → ℕ → ℕ
+arityAt w r = arityOf (tagAt w r) (countAt w r)
 
 -- The type of cell i, with ℤ for what is unknown, under the links L.
 unfoldable pub typeAt : List ℕ → ℕ → Pairs ℕ → ℕ → Ty
@@ -56,62 +49,70 @@ pub record Sized (w : List ℕ) (n : ℕ) (L : Pairs ℕ) (i v : ℕ) : Type 0 w
   pub finite : bounded (rep eqb L) (view w n) n i ≡ true
   pub size : v ≡ cap (size (typeAt w n L i))
 
--- Marks are right.
+-- Marks of cells that have been visited are right; 34 marks those that are being visited.
 pub record Marks (s : List ℕ) (n : ℕ) (L : Pairs ℕ) : Type 0 where
-  pub right : (i : ℕ) → i < n → (markAt s i ≡ 0 → ⊥) → Sized (frozen s) n L i (markAt s i)
+  pub right : (i : ℕ) → i < n → (markAt s i ≡ 0 → ⊥) → (markAt s i ≡ 34 → ⊥) → Sized (frozen s) n L i (markAt s i)
 
 -- Cells and links are kept.
 pub record Same (s s′ : List ℕ) : Type 0 where
   pub size : length s′ ≡ length s
   pub still : frozen s′ ≡ frozen s
-  pub links : (i : ℕ) → i < 768 → linkAt s′ i ≡ linkAt s i
+  pub links : (i : ℕ) → i < 1024 → linkAt s′ i ≡ linkAt s i
   pub low : lower s′ ≡ lower s
-  pub refs : (i : ℕ) → i < 768 → wordAt s′ i ≡ wordAt s i
+  pub refs : (i : ℕ) → i < 1024 → wordAt s′ i ≡ wordAt s i
 
 pub record Read (s : List ℕ) (n : ℕ) : Type 0 where
   pub L : Pairs ℕ
   pub held : Held s n L
 
--- r is a cell with a former.
-pub record Summed (s : List ℕ) (r : ℕ) : Type 0 where
-  pub n : ℕ
-  pub L : Pairs ℕ
-  pub held : Held s n L
-  pub made : r < n
+-- What the visit of the representative r asks.
+pub record Visiting (s : List ℕ) (r : ℕ) : Type 0 where
+  pub known : Known s r
+  pub root : linkAt s r ≡ 0
 
-pub record Size (s : List ℕ) (i v : ℕ) : Type 0 where
-  pub is : (n : ℕ) (L : Pairs ℕ) → Held s n L → i < n → v ≡ sizeAt s (rep eqb L i)
-  pub small : v ≤ 33
+-- m is one number for each class, and falls from a former to its parts: the sizes of a solution do so.
+pub record Falls (w : List ℕ) (n : ℕ) (L : Pairs ℕ) (m : ℕ → ℕ) : Type 0 where
+  pub classes : (i : ℕ) → m (rep eqb L i) ≡ m i
+  pub parts : (r : ℕ) → r < n → 0 < tagAt w r → (c : ℕ) → In c (partsAt w r) → m c < m r
 
--- Cell i: k is 1 where it gets its mark, v.
-pub record One (s s′ : List ℕ) (i k : ℕ) : Type 0 where
+-- From s to s′ cells were marked, and the visits that began since have ended.
+pub record Onward (s s′ : List ℕ) : Type 0 where
   pub same : Same s s′
-  pub few : k ≤ 1
-  pub none : k ≡ 0 → s′ ≡ s
-  pub stuck : k ≡ 0 → markAt s i ≡ 0 → (n : ℕ) (L : Pairs ℕ) → Held s n L → i < n → sizeAt s (rep eqb L i) ≡ 0
-  pub free : (k ≡ 0 → ⊥) → markAt s i ≡ 0
-  pub value : ℕ
-  pub words : (k ≡ 0 → ⊥) → s′ ≡ set s (7936 + i) value
-  pub some : (k ≡ 0 → ⊥) → value ≡ 0 → ⊥
-  pub is : (k ≡ 0 → ⊥) → (n : ℕ) (L : Pairs ℕ) → Held s n L → i < n → value ≡ sizeAt s (rep eqb L i)
+  pub fewer : bare s′ 1024 ≤ bare s 1024
+  pub kept : (i : ℕ) → (markAt s i ≡ 0 → ⊥) → markAt s′ i ≡ markAt s i
+  pub ended : (i : ℕ) → markAt s′ i ≡ 34 → markAt s i ≡ 34
 
--- A round over n cells, k of them marked.
-pub record Round (s s′ : List ℕ) (n k : ℕ) : Type 0 where
-  pub same : Same s s′
-  pub marks : (L : Pairs ℕ) → Held s n L → Marks s n L → Marks s′ n L
-  pub fewer : bare s′ n + k ≡ bare s n
-  pub none : k ≡ 0 → s′ ≡ s
-  pub stuck : k ≡ 0 → (i : ℕ) → i < n → markAt s i ≡ 0 → (L : Pairs ℕ) → Held s n L → sizeAt s (rep eqb L i) ≡ 0
+-- The cell r has been visited.
+pub record Reached (s s′ : List ℕ) (r : ℕ) : Type 0 where
+  pub onward : Onward s s′
+  pub marked : markAt s′ r ≡ 0 → ⊥
+  pub done : markAt s′ r ≡ 34 → ⊥
+  pub marks : (n : ℕ) (L : Pairs ℕ) → Held s n L → r < n → Marks s n L → Marks s′ n L
 
--- Rounds until nothing changes.
-pub record Rounds (s s′ : List ℕ) (n : ℕ) : Type 0 where
+-- THE VISIT of the representative r. False: a cell was met below itself, so that no m falls in this way.
+pub record Visited (s s′ : List ℕ) (r : ℕ) (fine : Bool) : Type 0 where
   pub same : Same s s′
-  pub marks : (L : Pairs ℕ) → Held s n L → Marks s n L → Marks s′ n L
-  pub stuck : (i : ℕ) → i < n → markAt s′ i ≡ 0 → (L : Pairs ℕ) → Held s n L → sizeAt s′ (rep eqb L i) ≡ 0
+  pub goes : fine ≡ true → Reached s s′ r
+  pub stops : fine ≡ false → (n : ℕ) (L : Pairs ℕ) → Held s n L → r < n → (m : ℕ → ℕ) → Falls (frozen s) n L m → ((i : ℕ) → i < n → markAt s i ≡ 34 → m r < m i) → ⊥
 
-pub record Cleared (s s′ : List ℕ) (n : ℕ) : Type 0 where
+-- The marks of the cells before `from` are their sizes.
+abbrev pub Before : List ℕ → ℕ → ℕ → Pairs ℕ → Type 0
+Before s from n L = (i : ℕ) → i < from → Sized (frozen s) n L i (markAt s i)
+
+-- No cell is being visited.
+abbrev pub Calm : List ℕ → ℕ → Type 0
+Calm s n = (i : ℕ) → i < n → markAt s i ≡ 34 → ⊥
+
+-- The visits of the n cells from `from` on.
+pub record Visits (s s′ : List ℕ) (from n : ℕ) (fine : Bool) : Type 0 where
   pub same : Same s s′
-  pub none : (i : ℕ) → i < n → markAt s′ i ≡ 0
+  pub goes : fine ≡ true → (L : Pairs ℕ) → Held s n L → Marks s n L → Calm s n → Before s from n L → (i : ℕ) → i < n → Sized (frozen s) n L i (markAt s′ i)
+  pub stops : fine ≡ false → (L : Pairs ℕ) → Held s n L → Calm s n → (m : ℕ → ℕ) → Falls (frozen s) n L m → ⊥
+
+pub record Cleared (s s′ : List ℕ) (from n : ℕ) : Type 0 where
+  pub same : Same s s′
+  pub none : (i : ℕ) → from ≤ i → i < n → markAt s′ i ≡ 0
+  pub kept : (i : ℕ) → i < from → markAt s′ i ≡ markAt s i
 
 -- A solution in finite types of the cells, and of the equations P₀.
 pub record Solution (w : List ℕ) (n : ℕ) (P₀ : Pairs ℕ) : Type 0 where
@@ -128,6 +129,12 @@ pub record Tested (s s′ : List ℕ) (n : ℕ) (fine : Bool) : Type 0 where
   pub solves : fine ≡ true → (P₀ L : Pairs ℕ) → Solved s n P₀ L → Solution (frozen s) n P₀
   pub endless : fine ≡ false → (P₀ L : Pairs ℕ) → Solved s n P₀ L → Solution (frozen s) n P₀ → ⊥
 
+-- The same where only the cells from `from` on are tested: those before have been, and their marks are still their sizes.
+pub record TestedFrom (s s′ : List ℕ) (from n : ℕ) (fine : Bool) : Type 0 where
+  pub same : Same s s′
+  pub sizes : fine ≡ true → (L : Pairs ℕ) → Held s n L → Before s from n L → (i : ℕ) → i < n → Sized (frozen s) n L i (markAt s′ i)
+  pub endless : fine ≡ false → (P₀ L : Pairs ℕ) → Solved s n P₀ L → Before s from n L → Solution (frozen s) n P₀ → ⊥
+
 -- `finite` has answered true.
 pub record Marked (s : List ℕ) (n : ℕ) (L : Pairs ℕ) : Type 0 where
   pub held : Held s n L
@@ -143,12 +150,12 @@ pub record Model (s d : List ℕ) (n : ℕ) (L : Pairs ℕ) (σ : ℕ → Ty) : 
 
 -- σ gives types of size 1 to the cells that are left open.
 abbrev pub Least : List ℕ → ℕ → (ℕ → Ty) → Type 0
-Least s n σ = (i : ℕ) → i < n → tagAt (frozen s) i ≡ 0 → linkAt s i ≡ 0 → wordAt s i < 769 → size (σ i) ≡ 1
+Least s n σ = (i : ℕ) → i < n → tagAt (frozen s) i ≡ 0 → linkAt s i ≡ 0 → wordAt s i < 1025 → size (σ i) ≡ 1
 
 -- The size of the unknown r, which is no link.
 pub record UnknownSize (s d : List ℕ) (r v : ℕ) : Type 0 where
-  pub free : wordAt s r < 769 → v ≡ 1
-  pub settled : 769 ≤ wordAt s r → TypeSize s d (wordAt s r - 769) v
+  pub free : wordAt s r < 1025 → v ≡ 1
+  pub settled : 1025 ≤ wordAt s r → TypeSize s d (wordAt s r - 1025) v
   pub few : v ≤ 33
 
 pub record Measuring (s d : List ℕ) (i : ℕ) : Type 0 where

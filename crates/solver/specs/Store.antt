@@ -1,10 +1,10 @@
--- The store of cells, in the caller's work area of 16,384 words (specs/Layout has how the places follow from the capacity):
---   0     .. 7167   the caller's: scopes, signatures, and type words that cells refer to
---   7168  .. 7935   link of cell i: 0 none, j + 1 to cell j; 769 + p: the cell is settled, and its type words stand at the place p
---   7936  .. 8703   mark of cell i: 0 not marked, else the size of its type, at most 33
---   8704  .. 11775  pending pairs, two words each
---   11776 .. 14847  cell i at 4 i: tag, argument, first part, number of parts     (from here on: the frozen part, which no solving changes)
---   14848 .. 16383  runs: the parts of cells, the identifiers of bindings; places in it count from 11776
+-- The store of cells, in the caller's work area of 52,224 words (specs/Layout has how the places follow from the capacity):
+--   0     .. 39935   the caller's: scopes, signatures, and type words that cells refer to
+--   39936  .. 40959   link of cell i: 0 none, j + 1 to cell j; 1025 + p: the cell is settled, and its type words stand at the place p
+--   40960  .. 41983   mark of cell i: 0 not marked, else the size of its type, at most 33
+--   41984  .. 46079  pending pairs, two words each
+--   46080 .. 50175  cell i at 4 i: tag, argument, first part, number of parts     (from here on: the frozen part, which no solving changes)
+--   50176 .. 52223  runs: the parts of cells, the identifiers of bindings; places in it count from 46080
 -- Tags are those of type words: 1 ℤ, 2 given, 3 power, 4 product, 5 binding (argument: the place of its identifiers), 6 parameter; 0 is an unknown.
 use mathlib.Core.Path.{_≡_}
 use mathlib.Core.Bool.{Bool, true, false}
@@ -20,14 +20,14 @@ use Rattle.types.specs.Follows.{Clash, Follows, View, shape, unk}
 use Rattle.types.specs.Former.{formerOf, Former, binding, given, int, parameter, power, product}
 
 unfoldable pub frozen : List ℕ → List ℕ
-frozen s = drop 11776 s
+frozen s = drop 46080 s
 
 -- A link word that is no link leaves the cell a representative.
 unfoldable pub linkPart : ℕ → ℕ
-linkPart v = elim (ltb v 769) [ true ↦ v | false ↦ 0 ]
+linkPart v = elim (ltb v 1025) [ true ↦ v | false ↦ 0 ]
 
 unfoldable pub linkAt : List ℕ → ℕ → ℕ
-linkAt s i = linkPart (getD s (7168 + i) 0)
+linkAt s i = linkPart (getD s (39936 + i) 0)
 
 -- Word j of cell i.
 unfoldable pub fieldAt : List ℕ → ℕ → ℕ → ℕ
@@ -62,15 +62,16 @@ viewOf (suc t) h ps = shape h ps
 unfoldable pub view : List ℕ → ℕ → ℕ → View ℕ
 view w n i = elim (ltb i n) [ true ↦ viewOf (tagAt w i) (formerAt w i) (partsAt w i) | false ↦ unk ]
 
--- What a cell keeps to: its runs lie in the area, its parts are older, and equal formers have equal words.
+-- What a cell keeps to: its runs lie in the area, its parts are older, a power has one part, and equal formers have equal words.
 pub record Cell (w : List ℕ) (i : ℕ) : Type 0 where
   pub tags : tagAt w i ≤ 6
   pub plain : tagAt w i < 2 → argAt w i ≡ 0
   pub powers : tagAt w i ≡ 3 → argAt w i ≡ 0
   pub products : tagAt w i ≡ 4 → argAt w i ≡ countAt w i
-  pub low : 3072 ≤ firstAt w i
+  pub one : tagAt w i ≡ 3 → countAt w i ≡ 1
+  pub low : 4096 ≤ firstAt w i
   pub room : firstAt w i + countAt w i ≤ length w
-  pub named-low : tagAt w i ≡ 5 → 3072 ≤ argAt w i
+  pub named-low : tagAt w i ≡ 5 → 4096 ≤ argAt w i
   pub named : tagAt w i ≡ 5 → argAt w i + countAt w i ≤ length w
   pub older : (c : ℕ) → In c (partsAt w i) → c < i
 
@@ -97,9 +98,9 @@ Both n a b = (a < n) × (b < n)
 
 -- The area s holds n cells, and the links L.
 pub record Held (s : List ℕ) (n : ℕ) (L : Pairs ℕ) : Type 0 where
-  pub size : length s ≡ 16384
-  pub few : n ≤ 768
-  pub room : load (frozen s) n < 1536
+  pub size : length s ≡ 52224
+  pub few : n ≤ 1024
+  pub room : load (frozen s) n < 2048
   pub cells : (i : ℕ) → i < n → Cell (frozen s) i
   pub links : (i : ℕ) → i < n → next eqb L i ≡ linkOf (linkAt s i)
   pub wf : Wf eqb L
@@ -115,7 +116,7 @@ pub record Solved (s : List ℕ) (n : ℕ) (P₀ L : Pairs ℕ) : Type 0 where
 -- The k pending pairs, the newest first.
 unfoldable pub pending : List ℕ → ℕ → Pairs ℕ
 pending s zero = end
-pending s (suc k) = pair (getD s (8704 + 2 * k) 0) (getD s (8705 + 2 * k) 0) (pending s k)
+pending s (suc k) = pair (getD s (41984 + 2 * k) 0) (getD s (41985 + 2 * k) 0) (pending s k)
 
 -- The invariant while k pairs are pending.
 pub record Busy (s : List ℕ) (n : ℕ) (P₀ L : Pairs ℕ) (k : ℕ) : Type 0 where
@@ -125,4 +126,4 @@ pub record Busy (s : List ℕ) (n : ℕ) (P₀ L : Pairs ℕ) (k : ℕ) : Type 0
   pub due : AllP (Follows (view (frozen s) n) P₀) (pending s k)
   pub cells : AllP (Both n) (pending s k)
   pub asked : AllP (Both n) P₀
-  pub fit : weight s n + k ≤ 1536
+  pub fit : weight s n + k ≤ 2048

@@ -8,12 +8,13 @@ ghost use Rattle.solver.specs.Merging.{Open, Turned, Popped, Tied, Tying
 ghost use Rattle.solver.specs.Flat.{Sound, Straight, Flattened};
 ghost use Rattle.solver.specs.Written.{leadAt, nameAt, Copied, Wrote, Writing, Typed, Leading};
 ghost use Rattle.solver.specs.Answers.{Left, Placed, LookingRoot, Looking, Looked, Element};
-ghost use Rattle.solver.specs.Sizes.{cap, TypeSize, UnknownSize, Measuring, Measured, markAt, total, Size, One, Read, Round, Rounds, Cleared, Tested};
+ghost use Rattle.solver.specs.Sizes.{cap, TypeSize, UnknownSize, Measuring, Measured, arityAt, Read, Visiting, Visited, Visits, Cleared, TestedFrom, Tested};
+ghost use Rattle.solver.specs.Growth.{argOf, InRow, Forming, Formed, Putting, PutPart, Instancing, Instanced, InstancingParts, InstancedParts};
 ghost use Rattle.solver.specs.Calls.{put, Making, Made, Adding, Added, Tells, Known, Root, Runs, Two, Alike, Pushing, Pushed};
 
-const CELLS: usize = 768;
+const CELLS: usize = 1024;
 
-const LINKS: usize = 7168;
+const LINKS: usize = 39936;
 
 const MARKS: usize = LINKS + CELLS;
 
@@ -21,7 +22,7 @@ const PAIRS: usize = MARKS + CELLS;
 
 const SECONDS: usize = PAIRS + 1;
 
-const RECORDS: usize = PAIRS + 2 * 1536;
+const RECORDS: usize = PAIRS + 2 * 2048;
 
 const ARGUMENTS: usize = RECORDS + 1;
 
@@ -29,9 +30,19 @@ const FIRSTS: usize = RECORDS + 2;
 
 const COUNTS: usize = RECORDS + 3;
 
+// The mark of a cell that is being visited, past every size.
+const VISITING: usize = 34;
+
 pub struct Step {
     pub fine: bool,
     pub left: usize,
+}
+
+// A cell, the number of cells, and where their runs end.
+pub struct Grown {
+    pub cell: usize,
+    pub cells: usize,
+    pub top: usize,
 }
 
 // The word at i, and 0 past the end.
@@ -77,10 +88,10 @@ fn part(a: &[u32], i: usize, j: usize) -> usize
 // The link of cell k: 0 where it is a representative.
 fn link(a: &[u32], k: usize) -> usize
     requires { ⌜ k < 2 ^ 32 ⌝ }
-    ensures { λ r. ⌜ (r ≡ linkAt (now (a .entry)) k) × (r < 769) ⌝ }
+    ensures { λ r. ⌜ (r ≡ linkAt (now (a .entry)) k) × (r < 1025) ⌝ }
 {
     let v = word(a, LINKS + k);
-    if v < 769 {
+    if v < 1025 {
         return v;
     }
     0
@@ -88,8 +99,8 @@ fn link(a: &[u32], k: usize) -> usize
 
 // Links cell x to y.
 fn set_link(a: &mut [u32], x: usize, y: usize)
-    requires { ⌜ (x < 768) × (y < 768) ⌝ }
-    ensures { λ _. ⌜ now (a .exit) ≡ set (now (a .entry)) (7168 + x) (suc y) ⌝ }
+    requires { ⌜ (x < 1024) × (y < 1024) ⌝ }
+    ensures { λ _. ⌜ now (a .exit) ≡ set (now (a .entry)) (39936 + x) (suc y) ⌝ }
 {
     store(a, LINKS + x, (y + 1) as u32);
 }
@@ -109,8 +120,8 @@ pub fn find(a: &[u32], i: usize) -> usize
 }
 
 // The type word at the place p: in the caller's part of the area, or in the dictionary.
-fn type_word(a: &[u32], d: &[u32], p: usize) -> usize
-    requires { ⌜ length (now a) ≡ 16384 ⌝ }
+pub fn type_word(a: &[u32], d: &[u32], p: usize) -> usize
+    requires { ⌜ length (now a) ≡ 52224 ⌝ }
     ensures { λ r. ⌜ (r ≡ getD (heap (now (a .entry)) (now (d .entry))) p 0) × (r < 2 ^ 32) ⌝ }
 {
     if p < LINKS {
@@ -120,7 +131,7 @@ fn type_word(a: &[u32], d: &[u32], p: usize) -> usize
 }
 
 // The words of a type before its parts, by its tag.
-fn lead_words(t: usize) -> usize
+pub fn lead_words(t: usize) -> usize
     ensures { λ r. ⌜ (r ≡ leadWords t) × (r ≤ 2) × (0 < r) ⌝ }
 {
     if t == 1 {
@@ -133,7 +144,7 @@ fn lead_words(t: usize) -> usize
 }
 
 // The words of a part's name, by the tag.
-fn name_words(t: usize) -> usize
+pub fn name_words(t: usize) -> usize
     ensures { λ r. ⌜ (r ≡ nameWords t) × (r ≤ 1) ⌝ }
 {
     if t == 5 {
@@ -143,8 +154,8 @@ fn name_words(t: usize) -> usize
 }
 
 // The number of parts of the type at p, whose tag is t.
-fn parts_of(a: &[u32], d: &[u32], t: usize, p: usize) -> usize
-    requires { ⌜ (length (now a) ≡ 16384) × (p < 2 ^ 40) ⌝ }
+pub fn parts_of(a: &[u32], d: &[u32], t: usize, p: usize) -> usize
+    requires { ⌜ (length (now a) ≡ 52224) × (p < 2 ^ 40) ⌝ }
     ensures { λ r. ⌜ (r ≡ partsOf t (getD (heap (now (a .entry)) (now (d .entry))) (p + 1) 0)) × (r < 2 ^ 32) ⌝ }
 {
     if t == 3 {
@@ -160,7 +171,7 @@ fn parts_of(a: &[u32], d: &[u32], t: usize, p: usize) -> usize
 }
 
 // The end of the type words at p.
-fn skip(a: &[u32], d: &[u32], p: usize) -> usize
+pub fn skip(a: &[u32], d: &[u32], p: usize) -> usize
     requires { ⌜ Reading (now a) (now d) p ⌝ }
     ensures { λ e. ⌜ Ends (now (a .entry)) (now (d .entry)) p e ⌝ }
 {
@@ -177,7 +188,7 @@ fn skip(a: &[u32], d: &[u32], p: usize) -> usize
 }
 
 // The size of the type at p, at most 33.
-fn type_size(a: &[u32], d: &[u32], p: usize) -> usize
+pub fn type_size(a: &[u32], d: &[u32], p: usize) -> usize
     requires { ⌜ Reading (now a) (now d) p ⌝ }
     ensures { λ v. ⌜ TypeSize (now (a .entry)) (now (d .entry)) p v ⌝ }
 {
@@ -197,7 +208,7 @@ fn type_size(a: &[u32], d: &[u32], p: usize) -> usize
 }
 
 // The types at p and q are one.
-fn same_type(a: &[u32], d: &[u32], p: usize, q: usize) -> bool
+pub fn same_type(a: &[u32], d: &[u32], p: usize, q: usize) -> bool
     requires { ⌜ Readings (now a) (now d) p q ⌝ }
     ensures { λ r. ⌜ SameType (now (a .entry)) (now (d .entry)) p q r ⌝ }
 {
@@ -321,11 +332,11 @@ fn settle(a: &mut [u32], d: &[u32], r: usize, p: usize) -> bool
     ensures { λ b. ⌜ Pin (now (a .entry)) (now (a .exit)) (now (d .entry)) r p b ⌝ }
 {
     let q = word(a, LINKS + r);
-    if q < 769 {
-        store(a, LINKS + r, (769 + p) as u32);
+    if q < 1025 {
+        store(a, LINKS + r, (1025 + p) as u32);
         return true;
     }
-    same_type(a, d, p, q - 769)
+    same_type(a, d, p, q - 1025)
 }
 
 // Cell c is given the type at p: an unknown refers to it, a former's parts are given its parts.
@@ -359,8 +370,8 @@ pub fn pin(a: &mut [u32], d: &[u32], c: usize, p: usize) -> bool
 
 // Pair number k of those that are pending.
 fn push(a: &mut [u32], k: usize, p: usize, q: usize)
-    requires { ⌜ (k < 1536) × (p < 2 ^ 32) × (q < 2 ^ 32) ⌝ }
-    ensures { λ _. ⌜ now (a .exit) ≡ set (set (now (a .entry)) (8704 + 2 * k) p) (8705 + 2 * k) q ⌝ }
+    requires { ⌜ (k < 2048) × (p < 2 ^ 32) × (q < 2 ^ 32) ⌝ }
+    ensures { λ _. ⌜ now (a .exit) ≡ set (set (now (a .entry)) (41984 + 2 * k) p) (41985 + 2 * k) q ⌝ }
 {
     store(a, PAIRS + 2 * k, p as u32);
     store(a, SECONDS + 2 * k, q as u32);
@@ -389,10 +400,10 @@ fn tie(a: &mut [u32], d: &[u32], x: usize, y: usize) -> bool
 {
     let q = word(a, LINKS + x);
     set_link(a, x, y);
-    if q < 769 {
+    if q < 1025 {
         return true;
     }
-    pin(a, d, y, q - 769)
+    pin(a, d, y, q - 1025)
 }
 
 // The representatives x and y, of the newest pair, are merged.
@@ -472,7 +483,7 @@ pub fn merge(a: &mut [u32], d: &[u32], x: usize, y: usize) -> bool
 
 // Writes cell n.
 fn put_cell(a: &mut [u32], n: usize, tag: u32, arg: u32, first: u32, count: u32)
-    requires { ⌜ n < 768 ⌝ }
+    requires { ⌜ n < 1024 ⌝ }
     ensures { λ _. ⌜ now (a .exit) ≡ put (now (a .entry)) n tag arg first count ⌝ }
 {
     store(a, LINKS + n, 0);
@@ -493,10 +504,10 @@ pub fn new_cell(a: &mut [u32], n: usize, tag: u32, arg: u32, first: u32, count: 
 
 // A new unknown, cell number n.
 pub fn new_unknown(a: &mut [u32], n: usize)
-    requires { ⌜ Making (now a) n 0 0 3072 0 ⌝ }
-    ensures { λ _. ⌜ Made (now (a .entry)) (now (a .exit)) n 0 0 3072 0 ⌝ }
+    requires { ⌜ Making (now a) n 0 0 4096 0 ⌝ }
+    ensures { λ _. ⌜ Made (now (a .entry)) (now (a .exit)) n 0 0 4096 0 ⌝ }
 {
-    new_cell(a, n, 0, 0, 3072, 0);
+    new_cell(a, n, 0, 0, 4096, 0);
 }
 
 // The settled type at p enters as cell n, which refers to its words.
@@ -505,7 +516,7 @@ pub fn new_settled(a: &mut [u32], d: &[u32], n: usize, p: usize)
     ensures { λ _. ⌜ Entered (now (a .entry)) (now (a .exit)) (now (d .entry)) n p ⌝ }
 {
     new_unknown(a, n);
-    store(a, LINKS + n, (769 + p) as u32);
+    store(a, LINKS + n, (1025 + p) as u32);
 }
 
 // A word more in the runs, at top: the caller's ghost count of cells is n.
@@ -516,8 +527,142 @@ pub fn add_word(a: &mut [u32], n: usize, top: usize, x: u32)
     store(a, RECORDS + top, x);
 }
 
+// The cell of parameter v in the row of k cells from `first` on, plus 1: 0 where the tag is no parameter's, or the row has no cell for it.
+fn row_cell(t: usize, v: usize, first: usize, k: usize) -> usize
+    requires { ⌜ first + k < 2 ^ 40 ⌝ }
+    ensures { λ r. ⌜ InRow t v first k r ⌝ }
+{
+    if t != 6 {
+        return 0;
+    }
+    if v == 0 {
+        return 0;
+    }
+    if k < v {
+        return 0;
+    }
+    first + v
+}
+
+// The argument of a cell with the tag t: the word v after the tag, or the place of the identifiers.
+fn argument(t: usize, v: usize, ids: usize) -> usize
+    ensures { λ r. ⌜ r ≡ argOf t v ids ⌝ }
+{
+    if t == 5 {
+        return ids;
+    }
+    if lead_words(t) == 1 {
+        return 0;
+    }
+    v
+}
+
+// A former, cell number n, over the m cells that stand at `top`, its identifiers after them.
+fn enter_former(a: &mut [u32], n: usize, top: usize, t: usize, v: usize, m: usize) -> Grown
+    requires { ⌜ Forming (now a) n top t v m ⌝ }
+    ensures { λ r. ⌜ Formed (now (a .entry)) (now (a .exit)) n top t v m (r .cell) (r .cells) (r .top) ⌝ }
+{
+    let ids = top + m;
+    let arg = argument(t, v, ids);
+    new_cell(a, n, t as u32, arg as u32, top as u32, m as u32);
+    if t == 5 {
+        return Grown {
+            cell: n,
+            cells: n + 1,
+            top: ids + m,
+        };
+    }
+    Grown {
+        cell: n,
+        cells: n + 1,
+        top: ids,
+    }
+}
+
+// Part number j of m, the cell c, in the run at `top`. Its identifier, if it has one, stands at `at`, and goes to the run after that.
+fn put_part(
+    a: &mut [u32],
+    d: &[u32],
+    n: usize,
+    top: usize,
+    m: usize,
+    j: usize,
+    w: usize,
+    at: usize,
+    c: usize,
+)
+    requires { ⌜ Putting (now a) n top m j c ⌝ }
+    ensures { λ _. ⌜ PutPart (now (a .entry)) (now (a .exit)) (now (d .entry)) n top m j w at c ⌝ }
+{
+    add_word(a, n, top + j, c as u32);
+    if w == 1 {
+        let id = type_word(a, d, at);
+        add_word(a, n, top + m + j, id as u32);
+    }
+}
+
+// The parts at `at`, from number j of m on: their cells stand at the top that is returned, their identifiers after them.
+fn enter_parts(
+    a: &mut [u32],
+    d: &[u32],
+    n: usize,
+    top: usize,
+    at: usize,
+    w: usize,
+    m: usize,
+    j: usize,
+    row: usize,
+    k: usize,
+) -> Grown
+    requires { ⌜ InstancingParts (now a) (now d) n top at w m j row k ⌝ }
+    ensures { λ r. ⌜ InstancedParts (now (a .entry)) (now (a .exit)) (now (d .entry)) n top at w m j row k (r .cells) (r .top) ⌝ }
+{
+    if m <= j {
+        return Grown {
+            cell: n,
+            cells: n,
+            top: top,
+        };
+    }
+    let first = enter(a, d, n, top, at + w, row, k);
+    let e = skip(a, d, at + w);
+    let others = enter_parts(a, d, first.cells, first.top, e, w, m, j + 1, row, k);
+    put_part(a, d, others.cells, others.top, m, j, w, at, first.cell);
+    others
+}
+
+// The type at p enters as new cells, where parameter i is cell row + i - 1, if i is at most k. The cells are n, and their runs end at `top`.
+pub fn enter(
+    a: &mut [u32],
+    d: &[u32],
+    n: usize,
+    top: usize,
+    p: usize,
+    row: usize,
+    k: usize,
+) -> Grown
+    requires { ⌜ Instancing (now a) (now d) n top p row k ⌝ }
+    ensures { λ r. ⌜ Instanced (now (a .entry)) (now (a .exit)) (now (d .entry)) n top p row k (r .cell) (r .cells) (r .top) ⌝ }
+{
+    let t = type_word(a, d, p);
+    let v = type_word(a, d, p + 1);
+    let c = row_cell(t, v, row, k);
+    if c != 0 {
+        return Grown {
+            cell: c - 1,
+            cells: n,
+            top: top,
+        };
+    }
+    let m = parts_of(a, d, t, p);
+    let at = p + lead_words(t);
+    let w = name_words(t);
+    let parts = enter_parts(a, d, n, top, at, w, m, 0, row, k);
+    enter_former(a, parts.cells, parts.top, t, v, m)
+}
+
 // Sizes stop at 33.
-fn capped(x: usize) -> usize
+pub fn capped(x: usize) -> usize
     ensures { λ r. ⌜ r ≡ cap x ⌝ }
 {
     if x < 33 {
@@ -526,101 +671,82 @@ fn capped(x: usize) -> usize
     33
 }
 
-// The size of the former at r over its parts, and 0 where a part has no mark.
-fn sum_parts(a: &[u32], r: usize) -> usize
-    requires { ⌜ Known (now a) r ⌝ }
-    ensures { λ v. ⌜ (v ≡ total (now (a .entry)) 1 (partsAt (frozen (now (a .entry))) r)) × (v ≤ 33) ⌝ }
+// The number of parts of cell r: an unknown has none.
+fn arity(a: &[u32], r: usize) -> usize
+    requires { ⌜ r < 1024 ⌝ }
+    ensures { λ k. ⌜ (k ≡ arityAt (frozen (now (a .entry))) r) × (k < 2 ^ 32) ⌝ }
 {
-    let m = field(a, r, 3);
+    if field(a, r, 0) == 0 {
+        return 0;
+    }
+    field(a, r, 3)
+}
+
+// Visits the representative r, once: its parts, then r gets its size as mark. False: r is met below itself.
+fn visit(a: &mut [u32], r: usize) -> bool
+    requires { ⌜ Visiting (now a) r ⌝ }
+    ensures { λ b. ⌜ Visited (now (a .entry)) (now (a .exit)) r b ⌝ }
+{
+    let v = word(a, MARKS + r);
+    if v == VISITING {
+        return false;
+    }
+    if v != 0 {
+        return true;
+    }
+    let k = arity(a, r);
+    store(a, MARKS + r, VISITING as u32);
     let mut sum = 1;
     let mut j = 0;
-    while j < m {
-        let v = word(a, MARKS + part(a, r, j));
-        if v == 0 {
-            return 0;
+    while j < k {
+        let c = find(a, part(a, r, j));
+        if visit(a, c) {
+            sum = capped(sum + word(a, MARKS + c));
+            j += 1;
+        } else {
+            return false;
         }
-        sum = capped(sum + v);
-        j += 1;
     }
-    sum
+    store(a, MARKS + r, sum as u32);
+    true
 }
 
-// The size of cell i, and 0 where a part has no mark.
-fn size_of(a: &[u32], i: usize) -> usize
-    requires { ⌜ Known (now a) i ⌝ }
-    ensures { λ v. ⌜ Size (now (a .entry)) i v ⌝ }
-{
-    let r = find(a, i);
-    if field(a, r, 0) == 0 {
-        return 1;
-    }
-    sum_parts(a, r)
-}
-
-// Marks cell i, if it has no mark and can have one: 1.
-fn mark_one(a: &mut [u32], i: usize) -> usize
-    requires { ⌜ Known (now a) i ⌝ }
-    ensures { λ k. ⌜ One (now (a .entry)) (now (a .exit)) i k ⌝ }
-{
-    if word(a, MARKS + i) != 0 {
-        return 0;
-    }
-    let v = size_of(a, i);
-    if v == 0 {
-        return 0;
-    }
-    store(a, MARKS + i, v as u32);
-    1
-}
-
-// A round over the n cells: how many were marked.
-fn mark_round(a: &mut [u32], n: usize) -> usize
+// Visits the classes of the n cells from `from` on, and marks the cells.
+fn visit_all(a: &mut [u32], from: usize, n: usize) -> bool
     requires { ⌜ Read (now a) n ⌝ }
-    ensures { λ k. ⌜ Round (now (a .entry)) (now (a .exit)) n k ⌝ }
+    ensures { λ b. ⌜ Visits (now (a .entry)) (now (a .exit)) from n b ⌝ }
 {
-    let mut k = 0;
-    let mut i = 0;
+    let mut i = from;
     while i < n {
-        k += mark_one(a, i);
-        i += 1;
+        let r = find(a, i);
+        if visit(a, r) {
+            store(a, MARKS + i, word(a, MARKS + r) as u32);
+            i += 1;
+        } else {
+            return false;
+        }
     }
-    k
+    true
 }
 
-// Rounds until nothing changes.
-fn mark_all(a: &mut [u32], n: usize)
+fn clear_marks(a: &mut [u32], from: usize, n: usize)
     requires { ⌜ Read (now a) n ⌝ }
-    ensures { λ _. ⌜ Rounds (now (a .entry)) (now (a .exit)) n ⌝ }
+    ensures { λ _. ⌜ Cleared (now (a .entry)) (now (a .exit)) from n ⌝ }
 {
-    let mut k = 1;
-    while k != 0 {
-        k = mark_round(a, n);
-    }
-}
-
-fn clear_marks(a: &mut [u32], n: usize)
-    requires { ⌜ Read (now a) n ⌝ }
-    ensures { λ _. ⌜ Cleared (now (a .entry)) (now (a .exit)) n ⌝ }
-{
-    let mut i = 0;
+    let mut i = from;
     while i < n {
         store(a, MARKS + i, 0);
         i += 1;
     }
 }
 
-fn all_marked(a: &[u32], n: usize) -> bool
-    requires { ⌜ n ≤ 768 ⌝ }
-    ensures { λ r. ⌜ Tells r ((i : ℕ) → i < n → markAt (now (a .entry)) i ≡ 0 → ⊥) ⌝ }
+// Do the n cells from `from` on have finite types? Each of them is visited once; visits nest at most as deep as there are cells.
+pub fn finite_from(a: &mut [u32], from: usize, n: usize) -> bool
+    requires { ⌜ Read (now a) n ⌝ }
+    ensures { λ r. ⌜ TestedFrom (now (a .entry)) (now (a .exit)) from n r ⌝ }
 {
-    let mut i = 0;
-    while i < n {
-        if word(a, MARKS + i) == 0 {
-            return false;
-        }
-        i += 1;
-    }
-    true
+    clear_marks(a, from, n);
+    visit_all(a, from, n)
 }
 
 // Do all n cells have finite types?
@@ -628,9 +754,7 @@ pub fn finite(a: &mut [u32], n: usize) -> bool
     requires { ⌜ Read (now a) n ⌝ }
     ensures { λ r. ⌜ Tested (now (a .entry)) (now (a .exit)) n r ⌝ }
 {
-    clear_marks(a, n);
-    mark_all(a, n);
-    all_marked(a, n)
+    finite_from(a, 0, n)
 }
 
 // The size of the unknown r, a representative, at most 33.
@@ -639,10 +763,10 @@ fn unknown_size(a: &[u32], d: &[u32], r: usize) -> usize
     ensures { λ v. ⌜ UnknownSize (now (a .entry)) (now (d .entry)) r v ⌝ }
 {
     let q = word(a, LINKS + r);
-    if q < 769 {
+    if q < 1025 {
         return 1;
     }
-    type_size(a, d, q - 769)
+    type_size(a, d, q - 1025)
 }
 
 // The size of the type of cell i, at most 33. The marks are those of `finite`.
@@ -669,13 +793,13 @@ pub fn cell_size(a: &[u32], d: &[u32], i: usize) -> usize
 
 // Cell r is an unknown, and refers to no type.
 fn is_open(a: &[u32], r: usize) -> bool
-    requires { ⌜ r < 768 ⌝ }
-    ensures { λ b. ⌜ Tells b ((tagAt (frozen (now (a .entry))) r ≡ 0) × (wordAt (now (a .entry)) r < 769)) ⌝ }
+    requires { ⌜ r < 1024 ⌝ }
+    ensures { λ b. ⌜ Tells b ((tagAt (frozen (now (a .entry))) r ≡ 0) × (wordAt (now (a .entry)) r < 1025)) ⌝ }
 {
     if field(a, r, 0) != 0 {
         return false;
     }
-    if word(a, LINKS + r) < 769 {
+    if word(a, LINKS + r) < 1025 {
         return true;
     }
     false
@@ -729,23 +853,23 @@ fn former_component(a: &[u32], d: &[u32], r: usize, id: usize) -> usize
     0
 }
 
-// The component id of the unknown r, a representative: 769 plus the place of its type, and 0 where there is none.
+// The component id of the unknown r, a representative: 1025 plus the place of its type, and 0 where there is none.
 fn unknown_component(a: &[u32], d: &[u32], r: usize, id: usize) -> usize
     requires { ⌜ (LookingRoot (now a) (now d) r) × (tagAt (frozen (now a)) r ≡ 0) ⌝ }
     ensures { λ v. ⌜ Looked (now (a .entry)) (now (d .entry)) r id v ⌝ }
 {
     let q = word(a, LINKS + r);
-    if q < 769 {
+    if q < 1025 {
         return 0;
     }
-    let p = settled_component(a, d, q - 769, id);
+    let p = settled_component(a, d, q - 1025, id);
     if p == 0 {
         return 0;
     }
-    769 + p
+    1025 + p
 }
 
-// The component id of cell i: its cell plus 1, or 769 plus the place of its type; 0: not in every solution.
+// The component id of cell i: its cell plus 1, or 1025 plus the place of its type; 0: not in every solution.
 pub fn component(a: &[u32], d: &[u32], i: usize, id: usize) -> usize
     requires { ⌜ Looking (now a) (now d) i ⌝ }
     ensures { λ v. ⌜ Looked (now (a .entry)) (now (d .entry)) i id v ⌝ }
@@ -757,16 +881,16 @@ pub fn component(a: &[u32], d: &[u32], i: usize, id: usize) -> usize
     former_component(a, d, r, id)
 }
 
-// The element type of the unknown r, a representative: 769 plus the place of its words, and 0 where there is none.
+// The element type of the unknown r, a representative: 1025 plus the place of its words, and 0 where there is none.
 fn unknown_element(a: &[u32], d: &[u32], r: usize) -> usize
     requires { ⌜ (LookingRoot (now a) (now d) r) × (tagAt (frozen (now a)) r ≡ 0) ⌝ }
     ensures { λ v. ⌜ Element (now (a .entry)) (now (d .entry)) r v ⌝ }
 {
     let q = word(a, LINKS + r);
-    if q < 769 {
+    if q < 1025 {
         return 0;
     }
-    if type_word(a, d, q - 769) == 3 {
+    if type_word(a, d, q - 1025) == 3 {
         return q + 1;
     }
     0
@@ -786,7 +910,7 @@ fn former_element(a: &[u32], d: &[u32], r: usize) -> usize
     part(a, r, 0) + 1
 }
 
-// The element type of cell i: its cell plus 1, or 769 plus the place of its words; 0: not a power in every solution.
+// The element type of cell i: its cell plus 1, or 1025 plus the place of its words; 0: not a power in every solution.
 pub fn element(a: &[u32], d: &[u32], i: usize) -> usize
     requires { ⌜ Looking (now a) (now d) i ⌝ }
     ensures { λ v. ⌜ Element (now (a .entry)) (now (d .entry)) i v ⌝ }
@@ -821,7 +945,7 @@ fn put_lead(a: &[u32], out: &mut [u32], at: usize, r: usize) -> usize
 
 // The identifier of part j of the former at r, if it has identifiers.
 fn put_name(a: &[u32], out: &mut [u32], at: usize, r: usize, j: usize) -> usize
-    requires { ⌜ (r < 768) × (j < 2 ^ 32) × (at < 2 ^ 40) ⌝ }
+    requires { ⌜ (r < 1024) × (j < 2 ^ 32) × (at < 2 ^ 40) ⌝ }
     ensures { λ e. ⌜ Wrote (now (out .entry)) (now (out .exit)) at e (nameAt (frozen (now (a .entry))) r j) ⌝ }
 {
     if field(a, r, 0) == 5 {
@@ -832,7 +956,7 @@ fn put_name(a: &[u32], out: &mut [u32], at: usize, r: usize, j: usize) -> usize
 }
 
 // The type whose words stand at p, from `at` on: where it ends.
-fn put_type(a: &[u32], d: &[u32], out: &mut [u32], at: usize, p: usize) -> usize
+pub fn put_type(a: &[u32], d: &[u32], out: &mut [u32], at: usize, p: usize) -> usize
     requires { ⌜ (Reading (now a) (now d) p) × (at < 2 ^ 40) ⌝ }
     ensures { λ e. ⌜ Copied (now (a .entry)) (now (d .entry)) (now (out .entry)) (now (out .exit)) at p e ⌝ }
 {
@@ -852,7 +976,7 @@ pub fn write(a: &[u32], d: &[u32], out: &mut [u32], at: usize, i: usize) -> usiz
 {
     let r = find(a, i);
     if field(a, r, 0) == 0 {
-        return put_type(a, d, out, at, word(a, LINKS + r) - 769);
+        return put_type(a, d, out, at, word(a, LINKS + r) - 1025);
     }
     let k = field(a, r, 3);
     let mut m = put_lead(a, out, at, r);

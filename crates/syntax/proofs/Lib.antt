@@ -4,6 +4,7 @@ pub mod Parents
 pub mod Operands
 pub mod DepthLaws
 pub mod WithinLimits
+pub mod PathLaws
 pub mod Marked
 pub mod LowerNodes
 pub mod TreeMarked
@@ -23,4 +24,5 @@ pub mod TreeNumbered
 pub mod TreeNodes
 pub mod NameCounts
 pub mod LimitedTree
+pub mod LimitedMore
 pub mod TreeWords

@@ -12,7 +12,8 @@ use Rattle.solver.specs.Answers.{Looking}
 use Rattle.solver.proofs.Marking.{cap-le}
 use Rattle.solver.proofs.Looking.{looking-root}
 use Rattle.solver.proofs.Writer.{r-few, r-below, r-cell, r-part}
-use Rattle.solver.proofs.Sizing.{measured-high, measured-unknown, Adding, adding-start, adding-step, adding-end, looking-of}
+use Rattle.solver.proofs.Sizing.{measured-high, measured-unknown, Adding, adding-start, looking-of}
+use Rattle.solver.proofs.Summing.{add-step, add-end}
 use borrow.Author.Needs.{needs}
 use Prim.Native.Nat.{ℕ, _<_}
 use borrow.Fn.Kinds.{In}
@@ -125,12 +126,12 @@ cell-size-loop-again t c = let s = c .before .before .before .before .before .be
       omega arith,
       λ n L σ M E l.
           let b = r-part _ _ _ (c .before .before .before .before .before .before .before .before .find .ensures) n L (M .marked) l p (omega arith) _ (c .before .before .before .before .before .field2 .ensures .0) (c .before .before .before .before .loop .j) t (c .before .before .part .result) (c .before .before .part .ensures .0) in
-          adding-step _ σ _ _ _ _ _ _ _ _ (r-cell _ _ _ (c .before .before .before .before .before .before .before .before .find .ensures) n L (M .marked) l) (c .before .before .before .before .before .field2 .ensures .0) t (c .before .before .part .ensures .0) (c .before .cell-size .ensures .is n L σ M E (b .0)) (c .capped .ensures)
+          add-step σ _ _ _ _ _ _ _ _ _ (let z = r-cell _ _ _ (c .before .before .before .before .before .before .before .before .find .ensures) n L (M .marked) l .room in let y = c .before .before .before .before .before .field2 .ensures .0 in omega arith) t (c .before .before .part .ensures .0) (c .before .cell-size .ensures .is n L σ M E (b .0)) (c .capped .ensures)
           (c .before .before .before .before .loop .inv .2 n L σ M E l),
     )
 
 cell-size-returns-3 : (t : ℕ) → cell-size-lts.Need-returns-3 (cell-size-calls t) (cell-size-at t) cell-size.Post cell-size-Inv-loop cell-size-μ-loop
-cell-size-returns-3 t c = record { is = λ n L σ M E l. adding-end _ σ _ _ _ _ _ (c .loop-test .left) (c .before .loop .inv .1) (c .before .loop .inv .2 n L σ M E l); few = c .before .loop .inv .1 }
+cell-size-returns-3 t c = record { is = λ n L σ M E l. add-end σ _ _ _ _ _ _ (c .loop-test .left) (c .before .loop .inv .1) (c .before .loop .inv .2 n L σ M E l); few = c .before .loop .inv .1 }
 
 pub +cell-size-spec : {M : Type 1} → statement M
 +cell-size-spec = close μ-cell-size λ t. cell-size-lts.spec (cell-size-calls t) (cell-size-at t) cell-size.Post

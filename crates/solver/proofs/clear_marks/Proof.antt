@@ -1,11 +1,7 @@
-use mathlib.Core.Path.{_≡_, refl, sym, ap, subst, _∙_}
-use Prim.Native.Nat.{ℕ, suc, _+_, _-_, _≤_, _<_}
+use mathlib.Core.Path.{_≡_, sym, subst}
+use Prim.Native.Nat.{_+_, _-_}
 use native.Mathlib.Omega.{arith}
-use lib.ListN.{length}
-use borrow.Author.Count.{below-more}
-use Rattle.solver.specs.Sizes.{markAt, Same}
-use Rattle.solver.proofs.Marking.{same-refl, same-on, mark-same, mark-hit, mark-miss}
-use lib.ListN.{set}
+use Rattle.solver.proofs.Visiting.{ClearTo, clear-start, clear-step, clear-end}
 use borrow.Author.Needs.{needs}
 use Rattle.solver.proofs.clear_marks.Statement.{statement}
 use Rattle.solver.proofs.clear_marks.Tie as tie
@@ -14,56 +10,37 @@ use Rattle.solver.proofs.clear_marks.Lts as lts
 use Rattle.solver.proofs.store.Reads as store-reads
 
 abbrev Inv-loop : tie.InvT-loop
-Inv-loop a₀ n i₀ a i = (i ≤ n) × Same a₀ a × ((j : ℕ) → j < i → markAt a j ≡ 0)
+Inv-loop a₀ from n i₀ a i = ClearTo a₀ a from i
 
 abbrev μ-loop : tie.MeasureT-loop
-μ-loop a₀ n i₀ a i = n - i
+μ-loop a₀ from n i₀ a i = n - i
 
--- src/lib.rt:317:5
 loop-holds : tie.Need-loop-holds Inv-loop μ-loop
-loop-holds c = (omega arith, same-refl _, λ j l. absurd (omega arith))
+loop-holds c = clear-start _ _
 
--- src/lib.rt:318:18
 add-store : tie.Need-add-store Inv-loop μ-loop
-add-store c = search needs
+add-store c = let f = c .before .before .before .before .pre .held .few in let t = c .before .loop-test .taken in omega arith
 
--- src/lib.rt:318:9
 store-requires : tie.Need-store-requires Inv-loop μ-loop
 store-requires c κs = search needs
 
--- src/lib.rt:319:9
 add-i : tie.Need-add-i Inv-loop μ-loop
-add-i c = search needs
+add-i c = let f = c .before .before .before .before .before .before .before .pre .held .few in let t = c .before .before .before .before .loop-test .taken in omega arith
 
--- src/lib.rt:317:5
 loop-less : tie.Need-loop-less Inv-loop μ-loop
-loop-less c = omega arith
+loop-less c = let t = c .before .before .before .before .loop-test .taken in omega arith
 
--- src/lib.rt:317:5
 loop-again : tie.Need-loop-again Inv-loop μ-loop
 loop-again c =
-    let i = c .before .before .before .before .before .loop .i in
-    let a = c .before .before .before .before .before .loop .a in
     let s = c .before .before .before .before .before .before .before in
-    let v = c .before .before .before .before .before .loop .inv in
-    let p = s .pre .held in
-    let e = c .before .before .store .ensures in
-    let t = c .before .before .before .before .loop-test .taken in
-    let z : length a ≡ 16384 = v .1 .size ∙ p .size in
-    let l : i < 768 = let f = p .few in omega arith in (
-      omega arith,
-      subst (λ y. Same (s .args .a .now) y) (sym e) (same-on (s .args .a .now) a (set a (7936 + i) 0) (v .1) (mark-same a i 0 z l)),
-      subst (λ y. (j : ℕ) → j < i + 1 → markAt y j ≡ 0) (sym e)
-          (below-more (λ j. markAt (set a (7936 + i) 0) j ≡ 0) i (λ j q. mark-miss a i 0 z l j (λ w. omega arith) ∙ v .2 j q) (mark-hit a i 0 z l)),
-    )
+    let i = c .before .before .before .before .before .loop .i in
+    subst (λ z. ClearTo (s .args .a .now) z (s .args .from) (i + 1)) (sym (c .before .before .store .ensures)) (clear-step _ _ _ _ i (c .before .before .before .before .before .loop .inv) (s .pre) (c .before .before .before .before .loop-test .taken))
 
--- src/lib.rt:312:1
 same-length : tie.Need-same-length Inv-loop μ-loop
-same-length c = c .before .loop .inv .1 .size
+same-length c = c .before .loop .inv .cleared .same .size
 
--- src/lib.rt:312:1
 returns : tie.Need-returns Inv-loop μ-loop
-returns c = record { same = c .before .loop .inv .1; none = λ j l. c .before .loop .inv .2 j (let t = c .loop-test .left in omega arith) }
+returns c = clear-end _ _ _ _ _ (c .loop-test .left) (c .before .loop .inv)
 
 pub clear-marks-spec : {M : Type 1} → statement M
 clear-marks-spec =

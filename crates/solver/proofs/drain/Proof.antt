@@ -14,7 +14,7 @@ abbrev Inv-loop : tie.InvT-loop
 Inv-loop a₀ d k₀ a k = Draining a₀ a d k
 
 abbrev μ-loop : tie.MeasureT-loop
-μ-loop a₀ d k₀ a k = weight a 768 + k
+μ-loop a₀ d k₀ a k = weight a 1024 + k
 
 -- src/lib.rt:397:5
 loop-holds : tie.Need-loop-holds Inv-loop μ-loop

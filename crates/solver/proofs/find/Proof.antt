@@ -14,10 +14,10 @@ use Rattle.solver.proofs.find.Lts as lts
 use Rattle.solver.proofs.link.Reads as link-reads
 
 abbrev Inv-loop : tie.InvT-loop
-Inv-loop a i k₀ l₀ k l = (l ≡ linkAt a k) × (l < 769) × ((n : ℕ) (L : Pairs ℕ) → Held a n L → i < n → (k < n) × (rep eqb L k ≡ rep eqb L i))
+Inv-loop a i k₀ l₀ k l = (l ≡ linkAt a k) × (l < 1025) × ((n : ℕ) (L : Pairs ℕ) → Held a n L → i < n → (k < n) × (rep eqb L k ≡ rep eqb L i))
 
 abbrev μ-loop : tie.MeasureT-loop
-μ-loop a i k₀ l₀ k l = far a 769 k
+μ-loop a i k₀ l₀ k l = far a 1025 k
 
 -- src/lib.rt:63:9
 link-requires : tie.Need-link-requires Inv-loop μ-loop

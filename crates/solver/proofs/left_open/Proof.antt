@@ -18,7 +18,7 @@ use Rattle.solver.proofs.find.Reads as find-reads
 use Rattle.solver.proofs.is_open.Reads as is-open-reads
 
 abbrev Inv-loop : tie.InvT-loop
-Inv-loop a n i₀ i = (j : ℕ) → j < i → (L : Pairs ℕ) → Held a n L → tagAt (frozen a) (rep eqb L j) ≡ 0 → 769 ≤ wordAt a (rep eqb L j)
+Inv-loop a n i₀ i = (j : ℕ) → j < i → (L : Pairs ℕ) → Held a n L → tagAt (frozen a) (rep eqb L j) ≡ 0 → 1025 ≤ wordAt a (rep eqb L j)
 
 abbrev μ-loop : tie.MeasureT-loop
 μ-loop a n i₀ i = n - i

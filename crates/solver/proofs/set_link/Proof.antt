@@ -31,7 +31,7 @@ same-length c = search needs
 
 -- src/lib.rt:80:1
 returns : tie.Need-returns
-returns c = c .before .before .store .ensures ∙ ap (set (c .before .before .before .before .before .args .a .now) (7168 + c .before .before .before .before .before .args .x)) (add-suc (c .before .before .before .before .before .args .y))
+returns c = c .before .before .store .ensures ∙ ap (set (c .before .before .before .before .before .args .a .now) (39936 + c .before .before .before .before .before .args .x)) (add-suc (c .before .before .before .before .before .args .y))
 
 pub set-link-spec : {M : Type 1} → statement M
 set-link-spec =

@@ -46,7 +46,7 @@ pin-requires c κs =
     let s = c .before .before .before .before .before .before .before .before .before .before in
     let e = c .before .before .before .before .before .before .word .ensures .0 in
     let l = c .before .if1 .left in
-    pinning-as _ _ _ _ _ _ (c .before .before .before .before .set-link .ensures) (ap (λ z. z - 769) e) (pinning-y _ _ _ _ (s .pre) (omega arith))
+    pinning-as _ _ _ _ _ _ (c .before .before .before .before .set-link .ensures) (ap (λ z. z - 1025) e) (pinning-y _ _ _ _ (s .pre) (omega arith))
 
 -- src/lib.rt:345:1
 same-length-2 : tie.Need-same-length-2
@@ -59,7 +59,7 @@ returns-2 c =
     let s = c .before .before .before .before .before .before .before .before .before .before .before .before .before in
     let e = c .before .before .before .before .before .before .before .before .before .word .ensures .0 in
     let l = c .before .before .before .before .if1 .left in
-    tied-some _ _ _ _ (s .pre) _ _ (omega arith) (pin-from _ _ _ _ _ _ _ _ (c .before .before .before .before .before .before .before .set-link .ensures) (ap (λ z. z - 769) e) (c .before .before .pin .ensures))
+    tied-some _ _ _ _ (s .pre) _ _ (omega arith) (pin-from _ _ _ _ _ _ _ _ (c .before .before .before .before .before .before .before .set-link .ensures) (ap (λ z. z - 1025) e) (c .before .before .pin .ensures))
 
 pub tie-spec : {M : Type 1} → statement M
 tie-spec =

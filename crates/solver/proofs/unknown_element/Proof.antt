@@ -43,7 +43,7 @@ returns-2 c = let s = c .before .before .before .before .before .before in
     let e = c .before .before .before .word .ensures .0 in
     let l = c .before .before .if1 .left in
     settled-yes _ _ _ (s .pre .0 .root) (omega arith) _ (ap (λ z. z + 1) e)
-    (sym (ap (λ z. getD (heap (s .args .a .now) (s .args .d .now)) (z - 769) 0) e) ∙ sym (c .before .type-word .ensures .0) ∙ c .if2 .taken)
+    (sym (ap (λ z. getD (heap (s .args .a .now) (s .args .d .now)) (z - 1025) 0) e) ∙ sym (c .before .type-word .ensures .0) ∙ c .if2 .taken)
 
 -- src/lib.rt:761:1
 returns-3 : tie.Need-returns-3
@@ -52,7 +52,7 @@ returns-3 c = let s = c .before .before .before .before .before .before in
     let e = c .before .before .before .word .ensures .0 in
     let l = c .before .before .if1 .left in
     settled-no _ _ _ (s .pre .0 .root) (omega arith)
-    (λ t. c .if2 .left (c .before .type-word .ensures .0 ∙ ap (λ z. getD (heap (s .args .a .now) (s .args .d .now)) (z - 769) 0) e ∙ t))
+    (λ t. c .if2 .left (c .before .type-word .ensures .0 ∙ ap (λ z. getD (heap (s .args .a .now) (s .args .d .now)) (z - 1025) 0) e ∙ t))
 
 pub unknown-element-spec : {M : Type 1} → statement M
 unknown-element-spec =

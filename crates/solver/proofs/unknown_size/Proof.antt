@@ -36,7 +36,7 @@ type-size-requires c κs = let s = c .before .before .before .before in
     let l = c .if1 .left in
     record {
       areas = record { size = K .held .size; few = let f = K .few in omega arith };
-      readable = subst (λ z. Readable (heap (s .args .a .now) (s .args .d .now)) (z - 769)) (sym e) (K .pinned .reads _ (K .made) (omega arith));
+      readable = subst (λ z. Readable (heap (s .args .a .now) (s .args .d .now)) (z - 1025)) (sym e) (K .pinned .reads _ (K .made) (omega arith));
     }
 
 -- src/lib.rt:637:1
@@ -47,7 +47,7 @@ returns-2 c = let s = c .before .before .before .before .before in
     let l = c .before .if1 .left in
     record {
       free = λ q. absurd (omega arith);
-      settled = λ q. subst (λ z. TypeSize (s .args .a .now) (s .args .d .now) (z - 769) (c .type-size .result)) e (c .type-size .ensures);
+      settled = λ q. subst (λ z. TypeSize (s .args .a .now) (s .args .d .now) (z - 1025) (c .type-size .result)) e (c .type-size .ensures);
       few = c .type-size .ensures .few;
     }
 

@@ -1,0 +1,514 @@
+-- The visits: a cell is marked after its parts, and one that is met below itself has no size.
+use mathlib.Core.Path.{_≡_, refl, sym, ap, ap₂, subst, _∙_}
+use mathlib.Core.Bool.{Bool, true, false}
+use mathlib.Core.List.{List, [], _∷_, map}
+use mathlib.Core.Logic.{_⊎_, inl, inr, ⊎-elim}
+use Prim.Native.Nat.{ℕ, zero, suc, _+_, _-_, _≤_, _<_}
+use native.Mathlib.Omega.{arith}
+use native.Mathlib.Nat.{eq-or-lt-of-le, eq-zero-or-pos}
+use lib.Dec.{eqb}
+use lib.ListN.{length, getD, set}
+use borrow.Author.Tests.{eqb-true, eqb-false}
+use Rattle.types.proofs.Terms.{bool-no}
+use Rattle.types.specs.Classes.{rep}
+use Rattle.types.specs.Equations.{In, Pairs}
+use Rattle.types.specs.Finite.{bounded, fromList}
+use Rattle.types.specs.Types.{Ty, size, sizes}
+use Rattle.solver.specs.Store.{frozen, linkAt, tagAt, firstAt, countAt, run, partsAt, formerAt, view, Cell, Held, Solved}
+use Rattle.solver.specs.Calls.{Known, Root}
+use Rattle.solver.specs.Sizes.{cap, markAt, bare, arityOf, arityAt, typeAt, Sized, Marks, Same, Read, Visiting, Falls, Onward, Reached, Visited, Before, Calm, Visits, Cleared, Solution, TestedFrom, Tested}
+use Rattle.solver.proofs.Links.{rep-below, stop-rep}
+use Rattle.solver.proofs.Words.{run-at, run-length}
+use Rattle.solver.proofs.Heads.{view-shape}
+use Rattle.solver.proofs.Growing.{lt-or-ge}
+use Rattle.solver.proofs.Answering.{getD-in, in-getD}
+use Rattle.solver.proofs.Marking.{cap-le, cap-pos, cap-low, sized-unk, sized-shape, sized-class, by-rep, solve, same-refl, same-on, same-held, same-solved, mark-same, mark-hit, mark-miss, bare-mark, bare-less, marks-set, known-root}
+use Rattle.solver.proofs.Summing.{ToAdd, add-start, add-step, add-end, part-size, size-some}
+
+onward-refl : (s : List ℕ) → Onward s s
+onward-refl s = record { same = same-refl s; fewer = omega arith; kept = λ i d. refl; ended = λ i e. e }
+
+onward-on : (s t u : List ℕ) → Onward s t → Onward t u → Onward s u
+onward-on s t u a b = record {
+  same = same-on s t u (a .same) (b .same);
+  fewer = let x = a .fewer in let y = b .fewer in omega arith;
+  kept = λ i d. b .kept i (λ e. d (sym (a .kept i d) ∙ e)) ∙ a .kept i d;
+  ended = λ i e. a .ended i (b .ended i e);
+}
+
+pub visited-as : (s t : List ℕ) (r : ℕ) (a b : Bool) → a ≡ b → Visited s t r a → Visited s t r b
+visited-as s t r a b e Y = subst (λ z. Visited s t r z) e Y
+
+-- A cell that has a mark.
+pub visited-again : (s : List ℕ) (r : ℕ) → markAt s r ≡ 34 → Visited s s r false
+visited-again s r e = record { same = same-refl s; goes = λ q. absurd (bool-no false q refl); stops = λ q n L H l m F B. let z = B r l e in omega arith }
+
+pub visited-before : (s : List ℕ) (r : ℕ) → (markAt s r ≡ 0 → ⊥) → (markAt s r ≡ 34 → ⊥) → Visited s s r true
+visited-before s r d f = record {
+  same = same-refl s;
+  goes = λ q. record { onward = onward-refl s; marked = d; done = f; marks = λ n L H l M. M };
+  stops = λ q. absurd (bool-no true refl q);
+}
+
+-- j of the k parts of r have been visited.
+pub record Sum (w : List ℕ) (n : ℕ) (L : Pairs ℕ) (r k j sum : ℕ) : Type 0 where
+  pub finite : (i : ℕ) → i < j → bounded (rep eqb L) (view w n) n (getD w (firstAt w r + i) 0) ≡ true
+  pub left : ToAdd (typeAt w n L) w (firstAt w r) k j sum (1 + sizes (fromList (map (typeAt w n L) (run w (firstAt w r) k))))
+
+pub record Parts (s t : List ℕ) (r k j sum : ℕ) : Type 0 where
+  pub onward : Onward s t
+  pub few : sum ≤ 33
+  pub some : 0 < sum
+  pub sums : (n : ℕ) (L : Pairs ℕ) → Held s n L → r < n → Marks s n L → Marks t n L × Sum (frozen s) n L r k j sum
+
+pub parts-start : (s : List ℕ) (r k : ℕ) → Parts s s r k 0 1
+parts-start s r k = record {
+  onward = onward-refl s;
+  few = omega arith;
+  some = omega arith;
+  sums = λ n L H l M. (M, record { finite = λ i q. absurd (omega arith); left = add-start (typeAt (frozen s) n L) (frozen s) (firstAt (frozen s) r) k });
+}
+
+arity-unknown : (t k : ℕ) → t ≡ 0 → arityOf t k ≡ 0
+unfolding arityOf
+arity-unknown zero k e = refl
+arity-unknown (suc t) k e = absurd (omega arith)
+
+arity-former : (t k : ℕ) → 0 < t → arityOf t k ≡ k
+unfolding arityOf
+arity-former zero k p = absurd (omega arith)
+arity-former (suc t) k p = refl
+
+pub arity-0 : (w : List ℕ) (r : ℕ) → tagAt w r ≡ 0 → 0 ≡ arityAt w r
+arity-0 w r e = sym (arity-unknown _ _ e)
+
+pub arity-count : (w : List ℕ) (r : ℕ) → 0 < tagAt w r → countAt w r ≡ arityAt w r
+arity-count w r p = sym (arity-former _ _ p)
+
+-- Part j of the cell r.
+module _ (s : List ℕ) (r k j : ℕ) (ek : k ≡ arityAt (frozen s) r) (lt : j < k) (n : ℕ) (L : Pairs ℕ) (H : Held s n L) (l : r < n) where
+  former : 0 < tagAt (frozen s) r
+  former = ⊎-elim (λ z. let y = arity-0 (frozen s) r z in absurd (omega arith)) (λ p. p) (eq-zero-or-pos (tagAt (frozen s) r))
+
+  count : k ≡ countAt (frozen s) r
+  count = ek ∙ sym (arity-count (frozen s) r former)
+
+  part-in : In (getD (frozen s) (firstAt (frozen s) r + j) 0) (partsAt (frozen s) r)
+  part-in =
+      let c = count in
+      let jc : j < countAt (frozen s) r = omega arith in
+      let z = run-length (frozen s) (firstAt (frozen s) r) (countAt (frozen s) r) (H .cells r l .room) in
+      subst (λ y. In y (partsAt (frozen s) r)) (run-at (frozen s) (firstAt (frozen s) r) (countAt (frozen s) r) j jc) (getD-in (partsAt (frozen s) r) j (omega arith))
+
+  pub part-below : getD (frozen s) (firstAt (frozen s) r + j) 0 < n
+  part-below = let o = H .cells r l .older _ part-in in omega arith
+
+  room : firstAt (frozen s) r + k ≤ length (frozen s)
+  room = let z = H .cells r l .room in let c = count in omega arith
+
+-- One part more: t before its visit, c its representative, x the new sum.
+module _ (s t : List ℕ) (r k j sum : ℕ) (P : Parts s t r k j sum) (ek : k ≡ arityAt (frozen s) r) (lt : j < k) (p c : ℕ) (ep : p ≡ getD (frozen t) (firstAt (frozen t) r + j) 0) (Q : Root t p c)
+    (u : List ℕ) where
+  still : frozen t ≡ frozen s
+  still = P .onward .same .still
+
+  ep′ : p ≡ getD (frozen s) (firstAt (frozen s) r + j) 0
+  ep′ = ep ∙ ap (λ w. getD w (firstAt w r + j) 0) still
+
+  module _ (n : ℕ) (L : Pairs ℕ) (H : Held s n L) (l : r < n) where
+    pub p-below : p < n
+    p-below = subst (λ z. z < n) (sym ep′) (part-below s r k j ek lt n L H l)
+
+    Ht : Held t n L
+    Ht = same-held s t (P .onward .same) n L H
+
+    pub c-is : rep eqb L p ≡ c
+    c-is = Q .is n L Ht p-below
+
+    pub c-below : c < n
+    c-below = subst (λ z. z < n) c-is (rep-below n L (H .inside) p p-below)
+
+  step-sum : (Y : Visited t u c true) (v x : ℕ) → v ≡ markAt u c → x ≡ cap (sum + v) → (n : ℕ) (L : Pairs ℕ) → Held s n L → r < n → Marks s n L → Marks u n L × Sum (frozen s) n L r k (j + 1) x
+  step-sum Y v x ev ex n L H l M =
+      let S = P .sums n L H l M in
+      let R = Y .goes refl in
+      let Mu = R .marks n L (Ht n L H l) (c-below n L H l) (S .0) in
+      let us = R .onward .same .still ∙ still in
+      let zc : Sized (frozen s) n L c (markAt u c) = subst (λ w. Sized w n L c (markAt u c)) us (Mu .right c (c-below n L H l) (R .marked) (R .done)) in
+      let zp : Sized (frozen s) n L p (markAt u c) = sized-class s n L H p (markAt u c) (subst (λ y. Sized (frozen s) n L y (markAt u c)) (sym (c-is n L H l)) zc) in (
+        Mu,
+        record {
+          finite = λ i q. ⊎-elim
+              (λ e. ap (λ y. bounded (rep eqb L) (view (frozen s) n) n (getD (frozen s) (firstAt (frozen s) r + y) 0)) e ∙ ap (bounded (rep eqb L) (view (frozen s) n) n) (sym ep′) ∙ zp .finite)
+              (λ y. S .1 .finite i y)
+              (eq-or-lt-of-le (let z : i ≤ j = omega arith in z));
+          left = add-step (typeAt (frozen s) n L) (frozen s) (firstAt (frozen s) r) k j sum _ x p v (room s r k j ek lt n L H l) lt ep′ (ev ∙ zp .size) ex (S .1 .left);
+        },
+      )
+
+  pub parts-step : (Y : Visited t u c true) (v x : ℕ) → v ≡ markAt u c → x ≡ cap (sum + v) → Parts s u r k (j + 1) x
+  parts-step Y v x ev ex = record {
+    onward = onward-on s t u (P .onward) (Y .goes refl .onward);
+    few = subst (λ z. z ≤ 33) (sym ex) (cap-le _);
+    some = subst (λ z. 0 < z) (sym ex) (cap-pos _ (let z = P .some in omega arith));
+    sums = step-sum Y v x ev ex;
+  }
+
+  -- The visit of the part met a cell below itself: so would one of r, which was not marked in s₀.
+  module _ (s₀ : List ℕ) (few : r < 1024) (size : length s₀ ≡ 52224) (begun : s ≡ set s₀ (40960 + r) 34) (Y : Visited t u c false) where
+    begun-same : Same s₀ s
+    begun-same = subst (λ z. Same s₀ z) (sym begun) (mark-same s₀ r 34 size few)
+
+    below : (n : ℕ) (L : Pairs ℕ) → Held s₀ n L → r < n → (m : ℕ → ℕ) → Falls (frozen s₀) n L m → ((i : ℕ) → i < n → markAt s₀ i ≡ 34 → m r < m i) → (i : ℕ) → i < n → markAt t i ≡ 34 → m c < m i
+    below n L H₀ l m F B i il e = go (eqb i r) refl
+      where
+        H : Held s n L
+        H = same-held s₀ s begun-same n L H₀
+
+        mp : m p < m r
+        mp = F .parts r l (subst (λ w. 0 < tagAt w r) (begun-same .still) (former s r k j ek lt n L H l)) p
+            (subst (λ w. In p (partsAt w r)) (begun-same .still) (subst (λ y. In y (partsAt (frozen s) r)) (sym ep′) (part-in s r k j ek lt n L H l)))
+
+        mc : m c < m r
+        mc = let a = ap m (c-is n L H l) in let b = F .classes p in let z = mp in omega arith
+
+        es : markAt s i ≡ 34
+        es = P .onward .ended i e
+
+        go : (b : Bool) → eqb i r ≡ b → m c < m i
+        go true q = subst (λ y. m c < m y) (sym (eqb-true i r q)) mc
+        go false q = let z = B i il (sym (mark-miss s₀ r 34 size few i (eqb-false i r q)) ∙ ap (λ y. markAt y i) (sym begun) ∙ es) in let y = mc in omega arith
+
+    pub parts-stop : Visited s₀ u r false
+    parts-stop = record {
+      same = same-on s₀ s u begun-same (same-on s t u (P .onward .same) (Y .same));
+      goes = λ q. absurd (bool-no false q refl);
+      stops = λ q n L H₀ l m F B.
+          let H = same-held s₀ s begun-same n L H₀ in
+          Y .stops refl n L (Ht n L H l) (c-below n L H l) m (subst (λ w. Falls w n L m) (sym (still ∙ begun-same .still)) F) (below n L H₀ l m F B);
+    }
+
+-- All parts have been visited: r gets its mark.
+module _ (s₀ s t : List ℕ) (r k j sum : ℕ) (W : Visiting s₀ r) (none : markAt s₀ r ≡ 0) (begun : s ≡ set s₀ (40960 + r) 34) (P : Parts s t r k j sum) (ek : k ≡ arityAt (frozen s₀) r) (le : k ≤ j) where
+  few-r : r < 1024
+  few-r = let f = W .known .held .few in let l = W .known .made in omega arith
+
+  size₀ : length s₀ ≡ 52224
+  size₀ = W .known .held .size
+
+  s-same : Same s₀ s
+  s-same = subst (λ z. Same s₀ z) (sym begun) (mark-same s₀ r 34 size₀ few-r)
+
+  size-t : length t ≡ 52224
+  size-t = P .onward .same .size ∙ s-same .size ∙ size₀
+
+  miss : (i : ℕ) → (i ≡ r → ⊥) → markAt s i ≡ markAt s₀ i
+  miss i d = ap (λ y. markAt y i) begun ∙ mark-miss s₀ r 34 size₀ few-r i d
+
+  abbrev u : List ℕ
+  u = set t (40960 + r) sum
+
+  pos-sum : sum ≡ 0 → ⊥
+  pos-sum e = let z = P .some in omega arith
+
+  end-onward : Onward s₀ u
+  end-onward = record {
+    same = same-on s₀ s u s-same (same-on s t u (P .onward .same) (mark-same t r sum size-t few-r));
+    fewer =
+        let a = bare-less t r sum size-t few-r pos-sum 1024 in
+        let b = P .onward .fewer in
+        let c = ap (λ z. bare z 1024) begun in
+        let d = bare-mark s₀ r 34 size₀ few-r none (λ e. omega arith) 1024 few-r in
+        omega arith;
+    kept = λ i d.
+        let ne : (i ≡ r → ⊥) = λ e. d (ap (markAt s₀) e ∙ none) in
+        mark-miss t r sum size-t few-r i ne ∙ P .onward .kept i (λ e. d (sym (miss i ne) ∙ e)) ∙ miss i ne;
+    ended = λ i e. go i e (eqb i r) refl;
+  }
+    where
+      go : (i : ℕ) → markAt u i ≡ 34 → (b : Bool) → eqb i r ≡ b → markAt s₀ i ≡ 34
+      go i e true q = let z : sum ≡ 34 = sym (mark-hit t r sum size-t few-r) ∙ ap (markAt u) (sym (eqb-true i r q)) ∙ e in let f = P .few in absurd (omega arith)
+      go i e false q = let ne = eqb-false i r q in sym (miss i ne) ∙ P .onward .ended i (sym (mark-miss t r sum size-t few-r i ne) ∙ e)
+
+  module _ (n : ℕ) (L : Pairs ℕ) (H₀ : Held s₀ n L) (l : r < n) (M₀ : Marks s₀ n L) where
+    Hs : Held s n L
+    Hs = same-held s₀ s s-same n L H₀
+
+    Ms : Marks s n L
+    Ms = subst (λ z. Marks z n L) (sym begun) (marks-set s₀ r 34 size₀ few-r n L (λ d. absurd (d refl)) M₀)
+
+    S : Sum (frozen s₀) n L r k j sum
+    S = subst (λ w. Sum w n L r k j sum) (s-same .still) (P .sums n L Hs l Ms .1)
+
+    abbrev w : List ℕ
+    w = frozen s₀
+
+    total : sum ≡ cap (1 + sizes (fromList (map (typeAt w n L) (run w (firstAt w r) k))))
+    total = add-end (typeAt w n L) w (firstAt w r) k j sum _ le (P .few) (S .left)
+
+    root-r : rep eqb L r ≡ r
+    root-r = stop-rep s₀ n L H₀ r l (W .root)
+
+    unknown : tagAt w r ≡ 0 → Sized w n L r sum
+    unfolding run fromList size
+    unknown e =
+        let k0 : k ≡ 0 = ek ∙ sym (arity-0 w r e) in
+        let z : sum ≡ 1 = total ∙ ap (λ y. cap (1 + sizes (fromList (map (typeAt w n L) (run w (firstAt w r) y))))) k0 ∙ cap-low 1 (omega arith) in
+        subst (λ y. Sized w n L r y) (sym z) (sized-unk s₀ n L H₀ r l (ap (tagAt w) root-r ∙ e))
+
+    formed : 0 < tagAt w r → Sized w n L r sum
+    formed p =
+        let kc : k ≡ countAt w r = ek ∙ sym (arity-count w r p) in
+        let y = run-length w (firstAt w r) (countAt w r) (H₀ .cells r l .room) in
+        sized-shape s₀ n L H₀ r l (subst (λ z. 0 < tagAt w z) (sym root-r) p)
+        (subst (λ z. (c : ℕ) → In c (partsAt w z) → bounded (rep eqb L) (view w n) n c ≡ true) (sym root-r) (λ c i.
+        let g = in-getD c (partsAt w r) i in
+        let lc = g .1 in
+        let q : g .0 < countAt w r = omega arith in
+        ap (bounded (rep eqb L) (view w n) n) (sym (g .2) ∙ run-at w (firstAt w r) (countAt w r) (g .0) q) ∙ S .finite (g .0) (omega arith)))
+        sum
+        (total ∙ ap (λ z. cap (1 + sizes (fromList (map (typeAt w n L) (run w (firstAt w r) z))))) kc
+        ∙ ap (λ z. cap (1 + sizes (fromList (map (typeAt w n L) (partsAt w z))))) (sym root-r))
+
+    end-marks : Marks u n L
+    end-marks =
+        let z = ⊎-elim unknown formed (eq-zero-or-pos (tagAt w r)) in
+        marks-set t r sum size-t few-r n L (λ d. subst (λ y. Sized y n L r sum) (sym (P .onward .same .still ∙ s-same .still)) z) (P .sums n L Hs l Ms .0)
+
+  pub parts-end : Visited s₀ u r true
+  parts-end = record {
+    same = end-onward .same;
+    goes = λ q. record {
+      onward = end-onward;
+      marked = λ e. pos-sum (sym (mark-hit t r sum size-t few-r) ∙ e);
+      done = λ e. let z = sym (mark-hit t r sum size-t few-r) ∙ e in let f = P .few in omega arith;
+      marks = end-marks;
+    };
+    stops = λ q. absurd (bool-no true refl q);
+  }
+
+-- In the visit of r, which had no mark in s₀ and has 34 in s.
+module _ (s₀ s : List ℕ) (r k : ℕ) (W : Visiting s₀ r) (none : markAt s₀ r ≡ 0) (begun : s ≡ set s₀ (40960 + r) 34) (ek : k ≡ arityAt (frozen s₀) r) where
+  few-cell-r : r < 1024
+  few-cell-r = let f = W .known .held .few in let l = W .known .made in omega arith
+
+  marked-same : Same s₀ s
+  marked-same = subst (λ z. Same s₀ z) (sym begun) (mark-same s₀ r 34 (W .known .held .size) few-cell-r)
+
+  es : k ≡ arityAt (frozen s) r
+  es = ek ∙ ap (λ w. arityAt w r) (sym (marked-same .still))
+
+  reading : Held s (W .known .n) (W .known .L)
+  reading = same-held s₀ s marked-same (W .known .n) (W .known .L) (W .known .held)
+
+  module _ (t : List ℕ) (j sum : ℕ) (P : Parts s t r k j sum) where
+    pub visit-size : length t ≡ length s₀
+    visit-size = P .onward .same .size ∙ marked-same .size
+
+    pub visit-fewer : bare t 1024 < bare s₀ 1024
+    visit-fewer =
+        let a = P .onward .fewer in
+        let b = ap (λ z. bare z 1024) begun in
+        let c = bare-mark s₀ r 34 (W .known .held .size) few-cell-r none (λ e. omega arith) 1024 few-cell-r in
+        omega arith
+
+    module _ (lt : j < k) (p : ℕ) (ep : p ≡ getD (frozen t) (firstAt (frozen t) r + j) 0) where
+      pub visit-known : Known t p
+      visit-known = record {
+        n = W .known .n;
+        L = W .known .L;
+        held = same-held s t (P .onward .same) (W .known .n) (W .known .L) reading;
+        made = subst (λ z. z < W .known .n) (sym (ep ∙ ap (λ w. getD w (firstAt w r + j) 0) (P .onward .same .still))) (part-below s r k j es lt (W .known .n) (W .known .L) reading (W .known .made));
+      }
+
+      module _ (c : ℕ) (Q : Root t p c) where
+        pub visit-part : Visiting t c
+        visit-part = record { known = known-root t p c visit-known Q; root = Q .free }
+
+        pub visit-step : (u : List ℕ) → Visited t u c true → (v x : ℕ) → v ≡ markAt u c → x ≡ cap (sum + v) → Parts s u r k (j + 1) x
+        visit-step u Y v x ev ex = parts-step s t r k j sum P es lt p c ep Q u Y v x ev ex
+
+        pub visit-stop : (u : List ℕ) → Visited t u c false → Visited s₀ u r false
+        visit-stop u Y = parts-stop s t r k j sum P es lt p c ep Q u s₀ few-cell-r (W .known .held .size) begun Y
+
+-- The cells from `from` to i have been marked.
+pub record Seen (s t : List ℕ) (from n i : ℕ) : Type 0 where
+  pub same : Same s t
+  pub low : from ≤ i
+  pub kept : (j : ℕ) → j < from → (markAt s j ≡ 0 → ⊥) → markAt t j ≡ markAt s j
+  pub calm : Calm s n → Calm t n
+  pub done : (j : ℕ) → from ≤ j → j < i → (markAt t j ≡ 0 → ⊥) × (markAt t j ≡ 34 → ⊥)
+  pub marks : (L : Pairs ℕ) → Held s n L → Marks s n L → Marks t n L
+
+pub seen-start : (s : List ℕ) (from n : ℕ) → Seen s s from n from
+seen-start s from n = record {
+  same = same-refl s;
+  low = omega arith;
+  kept = λ j l d. refl;
+  calm = λ C. C;
+  done = λ j a b. absurd (omega arith);
+  marks = λ L H M. M;
+}
+
+module _ (s t : List ℕ) (from n i : ℕ) (X : Seen s t from n i) (D : Read s n) (l : i < n) (r : ℕ) (Q : Root t i r) (u : List ℕ) where
+  H-at : (L : Pairs ℕ) → Held s n L → Held t n L
+  H-at L H = same-held s t (X .same) n L H
+
+  r-is : (L : Pairs ℕ) → Held s n L → rep eqb L i ≡ r
+  r-is L H = Q .is n L (H-at L H) l
+
+  r-made : (L : Pairs ℕ) → Held s n L → r < n
+  r-made L H = subst (λ z. z < n) (r-is L H) (rep-below n L (H .inside) i l)
+
+  pub seen-visiting : Visiting t r
+  seen-visiting = record { known = record { n = n; L = D .L; held = H-at (D .L) (D .held); made = r-made (D .L) (D .held) }; root = Q .free }
+
+  pub seen-stop : Visited t u r false → Visits s u from n false
+  seen-stop Y = record {
+    same = same-on s t u (X .same) (Y .same);
+    goes = λ q. absurd (bool-no false q refl);
+    stops = λ q L H C m F. Y .stops refl n L (H-at L H) (r-made L H) m (subst (λ w. Falls w n L m) (sym (X .same .still)) F) (λ j m e. absurd (X .calm C j m e));
+  }
+
+  module _ (Y : Visited t u r true) (v : ℕ) (ev : v ≡ markAt u r) where
+    few-i : i < 1024
+    few-i = let f = D .held .few in omega arith
+
+    R : Reached t u r
+    R = Y .goes refl
+
+    size-u : length u ≡ 52224
+    size-u = Y .same .size ∙ X .same .size ∙ D .held .size
+
+    abbrev u′ : List ℕ
+    u′ = set u (40960 + i) v
+
+    hit : markAt u′ i ≡ markAt u r
+    hit = mark-hit u i v size-u few-i ∙ ev
+
+    miss-i : (j : ℕ) → (j ≡ i → ⊥) → markAt u′ j ≡ markAt u j
+    miss-i j d = mark-miss u i v size-u few-i j d
+
+    step-calm : Calm s n → Calm u′ n
+    step-calm C j m e = go (eqb j i) refl
+      where
+        go : (b : Bool) → eqb j i ≡ b → ⊥
+        go true q = R .done (sym hit ∙ ap (markAt u′) (sym (eqb-true j i q)) ∙ e)
+        go false q = X .calm C j m (R .onward .ended j (sym (miss-i j (eqb-false j i q)) ∙ e))
+
+    step-done : (j : ℕ) → from ≤ j → j < i + 1 → (markAt u′ j ≡ 0 → ⊥) × (markAt u′ j ≡ 34 → ⊥)
+    step-done j a b = ⊎-elim
+        (λ e. let h = ap (markAt u′) e ∙ hit in (λ z. R .marked (sym h ∙ z), λ z. R .done (sym h ∙ z)))
+        (λ q. let d = X .done j a q in let h = miss-i j (λ e. omega arith) ∙ R .onward .kept j (d .0) in (λ z. d .0 (sym h ∙ z), λ z. d .1 (sym h ∙ z)))
+        (eq-or-lt-of-le (let z : j ≤ i = omega arith in z))
+
+    step-marks : (L : Pairs ℕ) → Held s n L → Marks s n L → Marks u′ n L
+    step-marks L H M =
+        let Ht = H-at L H in
+        let Hu = same-held t u (Y .same) n L Ht in
+        let Mu = R .marks n L Ht (r-made L H) (X .marks L H M) in
+        let z = Mu .right r (r-made L H) (R .marked) (R .done) in
+        marks-set u i v size-u few-i n L
+        (λ d. sized-class u n L Hu i v (subst (λ y. Sized (frozen u) n L y v) (sym (r-is L H)) (subst (λ y. Sized (frozen u) n L r y) (sym ev) z))) Mu
+
+    pub seen-step : Seen s u′ from n (i + 1)
+    seen-step = record {
+      same = same-on s t u′ (X .same) (same-on t u u′ (Y .same) (mark-same u i v size-u few-i));
+      low = let z = X .low in omega arith;
+      kept = λ j m d.
+          let k = X .kept j m d in
+          let low = X .low in
+          miss-i j (λ e. omega arith) ∙ R .onward .kept j (λ e. d (sym k ∙ e)) ∙ k;
+      calm = step-calm;
+      done = step-done;
+      marks = step-marks;
+    }
+
+-- A size is a mark of a visited cell.
+sized-some : (w : List ℕ) (n : ℕ) (L : Pairs ℕ) (i v : ℕ) → Sized w n L i v → v ≡ 0 → ⊥
+sized-some w n L i v z e = let p = cap-pos (size (typeAt w n L i)) (size-some (typeAt w n L i)) in let q = z .size in omega arith
+
+sized-less : (w : List ℕ) (n : ℕ) (L : Pairs ℕ) (i v : ℕ) → Sized w n L i v → v ≡ 34 → ⊥
+sized-less w n L i v z e = let p = cap-le (size (typeAt w n L i)) in let q = z .size in omega arith
+
+pub seen-end : (s t : List ℕ) (from n i : ℕ) → n ≤ i → Seen s t from n i → Visits s t from n true
+seen-end s t from n i le X = record {
+  same = X .same;
+  goes = λ q L H M C B j l. ⊎-elim
+      (λ y. let z = B j y in subst (λ v. Sized (frozen s) n L j v) (sym (X .kept j y (sized-some _ n L j _ z))) z)
+      (λ y. let d = X .done j y (omega arith) in subst (λ w. Sized w n L j (markAt t j)) (X .same .still) (X .marks L H M .right j l (d .0) (d .1)))
+      (lt-or-ge j from);
+  stops = λ q. absurd (bool-no true refl q);
+}
+
+-- The marks from `from` to i are cleared.
+pub record ClearTo (s t : List ℕ) (from i : ℕ) : Type 0 where
+  pub low : from ≤ i
+  pub cleared : Cleared s t from i
+
+pub clear-start : (s : List ℕ) (from : ℕ) → ClearTo s s from from
+clear-start s from = record { low = omega arith; cleared = record { same = same-refl s; none = λ j a b. absurd (omega arith); kept = λ j l. refl } }
+
+pub clear-step : (s t : List ℕ) (from n i : ℕ) → ClearTo s t from i → Read s n → i < n → ClearTo s (set t (40960 + i) 0) from (i + 1)
+clear-step s t from n i C D l =
+    let size : length t ≡ 52224 = C .cleared .same .size ∙ D .held .size in
+    let few : i < 1024 = let f = D .held .few in omega arith in
+    let low = C .low in
+    record {
+      low = omega arith;
+      cleared = record {
+        same = same-on s t _ (C .cleared .same) (mark-same t i 0 size few);
+        none = λ j a b. ⊎-elim
+            (λ e. ap (markAt (set t (40960 + i) 0)) e ∙ mark-hit t i 0 size few)
+            (λ q. mark-miss t i 0 size few j (λ e. omega arith) ∙ C .cleared .none j a q)
+            (eq-or-lt-of-le (let z : j ≤ i = omega arith in z));
+        kept = λ j q. mark-miss t i 0 size few j (λ e. omega arith) ∙ C .cleared .kept j q;
+      };
+    }
+
+pub clear-end : (s t : List ℕ) (from n i : ℕ) → n ≤ i → ClearTo s t from i → Cleared s t from n
+clear-end s t from n i le C = record { same = C .cleared .same; none = λ j a b. C .cleared .none j a (omega arith); kept = C .cleared .kept }
+
+-- The sizes of a solution fall.
+pub solution-falls : (s : List ℕ) (n : ℕ) (P₀ L : Pairs ℕ) → Solved s n P₀ L → (X : Solution (frozen s) n P₀) → Falls (frozen s) n L (λ i. size (X .σ i))
+unfolding size
+solution-falls s n P₀ L S X = record {
+  classes = λ i. ap size (by-rep s n P₀ L S X i);
+  parts = λ r l p c i. let e = ap size (X .fits r _ _ (view-shape (frozen s) n r l p)) in let z = part-size (X .σ) c (partsAt (frozen s) r) i in omega arith;
+}
+
+module _ (s t u : List ℕ) (from n : ℕ) (C : Cleared s t from n) (fine : Bool) (Y : Visits t u from n fine) (L : Pairs ℕ) (H : Held s n L) (B : Before s from n L) where
+  cleared-held : Held t n L
+  cleared-held = same-held s t (C .same) n L H
+
+  before : Before t from n L
+  before i l = subst (λ w. Sized w n L i (markAt t i)) (sym (C .same .still)) (subst (λ v. Sized (frozen s) n L i v) (sym (C .kept i l)) (B i l))
+
+  cleared-calm : Calm t n
+  cleared-calm i l e = ⊎-elim (λ y. sized-less _ n L i _ (before i y) e) (λ y. let z = C .none i y l in omega arith) (lt-or-ge i from)
+
+  cleared-marks : Marks t n L
+  cleared-marks = record { right = λ i l d f. ⊎-elim (λ y. before i y) (λ y. absurd (d (C .none i y l))) (lt-or-ge i from) }
+
+  pub cleared-sizes : fine ≡ true → (i : ℕ) → i < n → Sized (frozen s) n L i (markAt u i)
+  cleared-sizes e i l = subst (λ w. Sized w n L i (markAt u i)) (C .same .still) (Y .goes e L cleared-held cleared-marks cleared-calm before i l)
+
+  pub cleared-stops : fine ≡ false → (m : ℕ → ℕ) → Falls (frozen s) n L m → ⊥
+  cleared-stops e m F = Y .stops e L cleared-held cleared-calm m (subst (λ w. Falls w n L m) (sym (C .same .still)) F)
+
+pub tested-from : (s t u : List ℕ) (from n : ℕ) → Cleared s t from n → (fine : Bool) → Visits t u from n fine → TestedFrom s u from n fine
+tested-from s t u from n C fine Y = record {
+  same = same-on s t u (C .same) (Y .same);
+  sizes = λ e L H B i l. cleared-sizes s t u from n C fine Y L H B e i l;
+  endless = λ e P₀ L S B X. cleared-stops s t u from n C fine Y L (S .held) B e _ (solution-falls s n P₀ L S X);
+}
+
+pub tested : (s u : List ℕ) (n : ℕ) (fine : Bool) → TestedFrom s u 0 n fine → Tested s u n fine
+tested s u n fine T = record {
+  same = T .same;
+  still = T .same .still;
+  grown = λ P₀ L S. same-solved s u (T .same) n P₀ L S;
+  sizes = λ e P₀ L S i l. T .sizes e L (S .held) (λ j m. absurd (omega arith)) i l;
+  solves = λ e P₀ L S. solve s n P₀ L S (λ i l. T .sizes e L (S .held) (λ j m. absurd (omega arith)) i l .finite);
+  endless = λ e P₀ L S X. T .endless e P₀ L S (λ j m. absurd (omega arith)) X;
+}

@@ -1,0 +1,28 @@
+use Rattle.solver.proofs.Marking.{same-held}
+use Rattle.solver.proofs.Visiting.{tested-from}
+use borrow.Author.Needs.{needs}
+use Rattle.solver.proofs.finite_from.Statement.{statement}
+use Rattle.solver.proofs.finite_from.Tie as tie
+use Rattle.solver.proofs.finite_from.Reads as reads
+use Rattle.solver.proofs.finite_from.Lts as lts
+use Rattle.solver.proofs.clear_marks.Reads as clear-marks-reads
+use Rattle.solver.proofs.visit_all.Reads as visit-all-reads
+
+-- src/lib.rt:606:5
+clear-marks-requires : tie.Need-clear-marks-requires
+clear-marks-requires c κs = search needs
+
+-- src/lib.rt:607:5
+visit-all-requires : tie.Need-visit-all-requires
+visit-all-requires c κs = let P = c .before .before .before .before .before .before .pre in record { L = P .L; held = same-held _ _ (c .before .before .before .clear-marks .ensures .same) _ _ (P .held) }
+
+-- src/lib.rt:602:1
+same-length : tie.Need-same-length
+same-length c = search needs
+
+-- src/lib.rt:602:1
+returns : tie.Need-returns
+returns c = tested-from _ _ _ _ _ (c .before .before .before .before .before .before .clear-marks .ensures) _ (c .before .before .visit-all .ensures)
+
+pub finite-from-spec : {M : Type 1} → statement M
+finite-from-spec = tie.close (tie.spec clear-marks-requires visit-all-requires same-length returns)
