@@ -31,11 +31,11 @@ use Rattle.syntax.proofs.TreeExpr.{expr-comprehension}
 use Rattle.syntax.proofs.TreePred.{pred-quantified}
 use Rattle.syntax.proofs.TreeText.{text-kind, text-law, line-range, line-declaration, line-inclusion, include-law, as-include}
 use Rattle.syntax.proofs.TreeLists.{lines-go, lines-end}
-use Rattle.evaluator.specs.Outcomes.{Outcome, _>>=_, pure, stop, keep, after}
-use Rattle.evaluator.specs.Scope.{Scope, bind, valued}
-use Rattle.evaluator.specs.Operations.{add, asSet}
-use Rattle.evaluator.specs.Assignments.{Domains, noMore, domain, domains, Body, Flow, go, halt, next, each, assign, flowOf, truthOf, gathered}
-use Rattle.evaluator.specs.Rules.{evalExpr, evalPred, evalLines, overText, stopInclude}
+use Rattle.evaluation.specs.Outcomes.{Outcome, _>>=_, pure, stop, keep, after}
+use Rattle.evaluation.specs.Scope.{Scope, bind, valued}
+use Rattle.evaluation.specs.Operations.{add, asSet}
+use Rattle.evaluation.specs.Assignments.{Domains, noMore, domain, domains, Body, Flow, go, halt, next, each, assign, flowOf, truthOf, gathered}
+use Rattle.evaluation.specs.Rules.{evalExpr, evalPred, evalLines, overText, stopInclude}
 use Rattle.evaluator.specs.Steps.{bodyIf, bodyAt, turnAt, verdictOf}
 use Rattle.evaluator.specs.declared.worked.Worked.{Worked}
 use Rattle.evaluator.specs.Worked.{narrow, allNarrow, Holds, Told, fine, ceased, Valued, Judged, Flowed, Gathered, Stops}

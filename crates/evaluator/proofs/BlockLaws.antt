@@ -16,8 +16,8 @@ use lib.Seq.{sets, sets-eq, take-append-le, take-at, drop-at, getD-take, getD-dr
 use borrow.Author.Tests.{eq-eqb, ne-eqb, eqb-true, eqb-false}
 use Rattle.values.specs.Value.{Value, Values, encode}
 use Rattle.values.specs.Value as Value
-use Rattle.evaluator.specs.Scope.{Meaning, valued, generic, unknown, Scope, empty, bind, lookup, pick, refer, hasActuals}
-use Rattle.evaluator.specs.Assignments.{Domains, noMore, domain, domains}
+use Rattle.evaluation.specs.Scope.{Meaning, valued, generic, unknown, Scope, empty, bind, lookup, pick, refer, hasActuals}
+use Rattle.evaluation.specs.Assignments.{Domains, noMore, domain, domains}
 use Rattle.evaluator.specs.Blocks.{field, Lies, Stored, Means, inState, inWork, isGeneric, Scoped, hidden, named, Pending, more, lastBlock, headed}
 use Rattle.evaluator.specs.Blocks as Blocks
 use Rattle.evaluator.specs.Blocks.{valueOf, Pushed}

@@ -12,9 +12,9 @@ use Rattle.values.specs.Value as Value
 use Rattle.values.specs.Span.{span}
 use Rattle.values.specs.declared.held.Held.{Held}
 use Rattle.values.proofs.Encoding.{span-value}
-use Rattle.evaluator.specs.Outcomes.{Outcome, _>>=_, pure}
-use Rattle.evaluator.specs.Scope.{Scope, bind, valued}
-use Rattle.evaluator.specs.Assignments.{Domains, noMore, domain, Flow, go, halt, next, each, assign}
+use Rattle.evaluation.specs.Outcomes.{Outcome, _>>=_, pure}
+use Rattle.evaluation.specs.Scope.{Scope, bind, valued}
+use Rattle.evaluation.specs.Assignments.{Domains, noMore, domain, Flow, go, halt, next, each, assign}
 use Rattle.evaluator.specs.Steps.{turnAt}
 use Rattle.evaluator.specs.declared.worked.Worked.{Worked}
 use Rattle.evaluator.specs.Worked.{Holds, Told, fine, ceased, Flowed}

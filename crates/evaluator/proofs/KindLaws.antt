@@ -17,9 +17,9 @@ use Rattle.syntax.specs.Decode.{unlisted, makers, exprAt, predAt}
 use Rattle.syntax.proofs.TreeShape.{AllFrom, all-at, _▹_, sub, as-made}
 use Rattle.syntax.proofs.TreeExpr.{expr-range, expr-number, expr-node}
 use Rattle.syntax.proofs.TreePred.{pred-range, pred-truth}
-use Rattle.evaluator.specs.Outcomes.{Outcome, pure, stop}
-use Rattle.evaluator.specs.Scope.{Scope}
-use Rattle.evaluator.specs.Rules.{evalExpr, evalPred}
+use Rattle.evaluation.specs.Outcomes.{Outcome, pure, stop}
+use Rattle.evaluation.specs.Scope.{Scope}
+use Rattle.evaluation.specs.Rules.{evalExpr, evalPred}
 use Rattle.evaluator.specs.declared.worked.Worked.{Worked}
 use Rattle.evaluator.specs.Worked.{Told, fine, Valued, Judged, Stops}
 use Rattle.evaluator.proofs.ToldLaws.{stop-told}

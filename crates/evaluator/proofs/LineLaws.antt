@@ -21,11 +21,11 @@ use Rattle.syntax.specs.Decode.{exprAt, includeAt, lineAt, linesFrom}
 use Rattle.syntax.proofs.DepthLaws.{deeper}
 use Rattle.syntax.proofs.TreeText.{text-kind, text-law, line-range, line-declaration, line-inclusion, include-law}
 use Rattle.syntax.proofs.TreeLists.{lines-go, lines-end}
-use Rattle.evaluator.specs.Outcomes.{Event, Outcome, done, stopped, _>>=_, pure, stop, after}
-use Rattle.evaluator.specs.Scope.{Scope}
-use Rattle.evaluator.specs.Operations.{asSet}
-use Rattle.evaluator.specs.Assignments.{Domains, noMore, domain, domains, Flow, assign}
-use Rattle.evaluator.specs.Rules.{evalExpr, evalLines, stopInclude}
+use Rattle.evaluation.specs.Outcomes.{Event, Outcome, done, stopped, _>>=_, pure, stop, after}
+use Rattle.evaluation.specs.Scope.{Scope}
+use Rattle.evaluation.specs.Operations.{asSet}
+use Rattle.evaluation.specs.Assignments.{Domains, noMore, domain, domains, Flow, assign}
+use Rattle.evaluation.specs.Rules.{evalExpr, evalLines, stopInclude}
 use Rattle.evaluator.specs.Steps.{turnAt}
 use Rattle.evaluator.specs.declared.worked.Worked.{Worked}
 use Rattle.evaluator.specs.Worked.{Holds, Told, fine, ceased, Valued, Flowed, Stops}

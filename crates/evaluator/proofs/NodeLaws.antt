@@ -29,11 +29,11 @@ use Rattle.syntax.proofs.TreeCounts.{at-least, at-most}
 use Rattle.syntax.proofs.TreeExpr.{expr-range, expr-reference, expr-number, expr-integers, expr-members, expr-power, expr-application, expr-selection, expr-theta, expr-schemaSet, expr-arithmetic, expr-comprehension}
 use Rattle.syntax.proofs.TreePred.{pred-range, pred-truth, pred-relation, pred-not, pred-connected, pred-quantified}
 use Rattle.syntax.proofs.TreeLists.{exprs-go, exprs-end, exprs-length}
-use Rattle.evaluator.specs.Outcomes.{Outcome, _>>=_, pure, stop, keep}
-use Rattle.evaluator.specs.Outcomes as Outcomes
-use Rattle.evaluator.specs.Scope.{Scope, lookup, refer, hasActuals}
-use Rattle.evaluator.specs.Operations.{add, connect}
-use Rattle.evaluator.specs.Rules.{evalExpr, evalExprs, evalMembers, evalPred, test}
+use Rattle.evaluation.specs.Outcomes.{Outcome, _>>=_, pure, stop, keep}
+use Rattle.evaluation.specs.Outcomes as Outcomes
+use Rattle.evaluation.specs.Scope.{Scope, lookup, refer, hasActuals}
+use Rattle.evaluation.specs.Operations.{add, connect}
+use Rattle.evaluation.specs.Rules.{evalExpr, evalExprs, evalMembers, evalPred, test}
 use Rattle.evaluator.specs.Steps.{arithmeticOf, atMostOf, imageOf, decisionOf}
 use Rattle.evaluator.specs.declared.worked.Worked.{Worked}
 use Rattle.evaluator.specs.declared.worked.Both.{Both}

@@ -26,7 +26,7 @@ use Rattle.syntax.specs.Tree.{plus, minus, times, quotient, remainder, and, or,
 use Rattle.syntax.specs.Decode.{operatorOf, connectiveOf, quantifierOf}
 use Rattle.evaluator.specs.declared.operations.Decision.the-variants.{Known, Right}
 use Rattle.evaluator.specs.Steps.{decisionOf, verdictOf, arithmeticOf, atMostOf, integerTest, imageOf}
-use Rattle.evaluator.specs.Rules.{amongMembers}
+use Rattle.evaluation.specs.Rules.{amongMembers}
 use Rattle.evaluator.proofs.ToldLaws.{at-stop, at-pure}
 use Rattle.values.specs.SetValues.{sameValue, isIn, insertValue, insertBy, Image, found, misfit, undefined, applyValue}
 use Rattle.values.specs.declared.held.Held.{Held}
@@ -36,9 +36,9 @@ use Rattle.values.proofs.Holding.{held-part, held-words, held-len, keep-fits}
 use Rattle.values.proofs.IntegerValues.{number-value}
 use Rattle.words.proofs.Loops.{and-left, and-right}
 use Rattle.values.proofs.Encoding.{span-value}
-use Rattle.evaluator.specs.Members.{wordCount}
-use Rattle.evaluator.specs.Outcomes.{Outcome, _>>=_, pure, stop, keepIf, keep}
-use Rattle.evaluator.specs.Operations.{asInteger, asSet, asTuple, addIf, add, image, findPair, keepInteger, calculate}
+use Rattle.evaluation.specs.Members.{wordCount}
+use Rattle.evaluation.specs.Outcomes.{Outcome, _>>=_, pure, stop, keepIf, keep}
+use Rattle.evaluation.specs.Operations.{asInteger, asSet, asTuple, addIf, add, image, findPair, keepInteger, calculate}
 use Rattle.evaluator.specs.declared.worked.Worked.{Worked}
 use Rattle.evaluator.specs.Worked.{narrow, allNarrow, Holds, Told, fine, ceased, Valued, Judged, Gathered, Stops}
 

@@ -26,10 +26,10 @@ use Rattle.values.proofs.Elements.{elements-words}
 use Rattle.states.specs.Names.{Name}
 use Rattle.states.specs.Decode.{valuesFrom, valueByShape, valueAt, valueOf}
 use Rattle.states.specs.States.{nameAt, sizesIn, isSize, givenNumber, valueNumber, entryFrom, entryValue, valueIn}
-use Rattle.evaluator.specs.Claims.{WellFormed}
+use Rattle.evaluation.specs.Claims.{WellFormed}
 use Rattle.evaluator.specs.Worked.{narrow, allNarrow, Holds}
-use Rattle.evaluator.proofs.Decoding.{Words, words-drop}
-use Rattle.evaluator.proofs.StateWords.{words-part, state-words, state-given}
+use Rattle.evaluation.proofs.Decoding.{Words, words-drop}
+use Rattle.evaluation.proofs.StateWords.{words-part, state-words, state-given}
 
 -- ---- decoded integers are of 32 bits
 narrow-from : (f : List ℕ → ℕ) (g : List ℕ → Value) → ((u : List ℕ) → Words u → narrow (g u) ≡ true) → (n : ℕ) (ws : List ℕ) → Words ws → allNarrow (valuesFrom f g n ws) ≡ true

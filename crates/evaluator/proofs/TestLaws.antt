@@ -25,10 +25,10 @@ use Rattle.syntax.specs.Decode.{Node, unlisted, makers, exprAt, exprsFrom, memb
 use Rattle.syntax.proofs.TreeShape.{AllFrom, all-at, _▹_, sub, as-made}
 use Rattle.syntax.proofs.TreeExpr.{expr-range, expr-integers, expr-power, expr-members, expr-node}
 use Rattle.syntax.proofs.TreeLists.{exprs-go, exprs-end, exprs-length}
-use Rattle.evaluator.specs.Outcomes.{Outcome, _>>=_, pure, stop}
-use Rattle.evaluator.specs.Scope.{Scope}
-use Rattle.evaluator.specs.Operations.{asSet, asTuple, allPass, countIf, sameCount}
-use Rattle.evaluator.specs.Rules.{evalExpr, amongMembers, testExpr, testExprs, test}
+use Rattle.evaluation.specs.Outcomes.{Outcome, _>>=_, pure, stop}
+use Rattle.evaluation.specs.Scope.{Scope}
+use Rattle.evaluation.specs.Operations.{asSet, asTuple, allPass, countIf, sameCount}
+use Rattle.evaluation.specs.Rules.{evalExpr, amongMembers, testExpr, testExprs, test}
 use Rattle.evaluator.specs.Steps.{integerTest}
 use Rattle.evaluator.specs.declared.worked.Worked.{Worked}
 use Rattle.evaluator.specs.Worked.{narrow, allNarrow, Holds, Told, fine, ceased, Valued, Judged, Stops}

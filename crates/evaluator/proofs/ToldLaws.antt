@@ -4,7 +4,7 @@ use mathlib.Core.Bool.{Bool, true, false}
 use mathlib.Core.List.{List, []}
 use Prim.Native.Nat.{ℕ}
 use Rattle.values.specs.Value.{Value}
-use Rattle.evaluator.specs.Outcomes.{Event, Outcome, after, _>>=_, pure, stop}
+use Rattle.evaluation.specs.Outcomes.{Event, Outcome, after, _>>=_, pure, stop}
 use Rattle.evaluator.specs.declared.worked.Worked.{Worked}
 use Rattle.evaluator.specs.declared.worked.Both.{Both}
 use Rattle.evaluator.specs.Worked.{Told, fine, ceased, Holds, Stops, Pair, both, first, second}

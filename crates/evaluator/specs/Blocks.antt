@@ -9,8 +9,8 @@ use lib.ListN.{length, getD, set, take, drop}
 use Rattle.values.specs.Value.{Value, Values, encode}
 use Rattle.values.specs.Value as Value
 use Rattle.values.specs.Lookup.{valueAt}
-use Rattle.evaluator.specs.Scope.{Meaning, valued, generic, Scope, empty, bind}
-use Rattle.evaluator.specs.Assignments.{Domains, noMore, domain}
+use Rattle.evaluation.specs.Scope.{Meaning, valued, generic, Scope, empty, bind}
+use Rattle.evaluation.specs.Assignments.{Domains, noMore, domain}
 use Rattle.evaluator.specs.Worked.{narrow}
 
 -- word j of block b

@@ -15,10 +15,10 @@ use Rattle.syntax.specs.Nodes.{kindAt, operandAt}
 use Rattle.syntax.specs.Promise.{At, Lower}
 use Rattle.syntax.specs.Tree.{Lines}
 use Rattle.syntax.specs.Decode.{exprAt, predAt}
-use Rattle.evaluator.specs.Outcomes.{Outcome, _>>=_}
-use Rattle.evaluator.specs.Scope.{Scope}
-use Rattle.evaluator.specs.Assignments.{Domains, noMore, domain, Flow, Body, assign, each}
-use Rattle.evaluator.specs.Rules.{evalExpr, evalPred, evalLines}
+use Rattle.evaluation.specs.Outcomes.{Outcome, _>>=_}
+use Rattle.evaluation.specs.Scope.{Scope}
+use Rattle.evaluation.specs.Assignments.{Domains, noMore, domain, Flow, Body, assign, each}
+use Rattle.evaluation.specs.Rules.{evalExpr, evalPred, evalLines}
 use Rattle.evaluator.specs.Steps.{turnAt}
 use Rattle.evaluator.specs.declared.worked.Worked.{Worked}
 use Rattle.evaluator.specs.Worked.{allNarrow, Holds, Told, Valued, Judged, Flowed}

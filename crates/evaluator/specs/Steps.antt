@@ -8,12 +8,12 @@ use Rattle.values.specs.Value.{Value}
 use Rattle.syntax.specs.Tree.{Connective, and, or, implies, Quantifier, forall, exists}
 use Rattle.syntax.specs.Nodes.{kindAt, operandAt}
 use Rattle.syntax.specs.Decode.{exprAt, predAt, operatorOf, quantifierOf}
-use Rattle.evaluator.specs.Outcomes.{Outcome, _>>=_, pure, keep}
-use Rattle.evaluator.specs.Operations.{asInteger, asSet, add, findPair, keepInteger, calculate}
-use Rattle.evaluator.specs.Assignments.{go, Body, flowOf}
+use Rattle.evaluation.specs.Outcomes.{Outcome, _>>=_, pure, keep}
+use Rattle.evaluation.specs.Operations.{asInteger, asSet, add, findPair, keepInteger, calculate}
+use Rattle.evaluation.specs.Assignments.{go, Body, flowOf}
 use Rattle.evaluator.specs.declared.operations.Decision.{Decision}
 use Rattle.evaluator.specs.declared.operations.Decision.the-variants.{Known, Right}
-use Rattle.evaluator.specs.Rules.{evalExpr, evalPred}
+use Rattle.evaluation.specs.Rules.{evalExpr, evalPred}
 
 -- arithmetic of kind q, ≤, ℤ's test, Apply
 unfoldable pub arithmeticOf : ℕ → ℕ → Value → Value → Outcome Value

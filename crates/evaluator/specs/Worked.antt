@@ -8,8 +8,8 @@ use Rattle.values.specs.Integer.{in32}
 use Rattle.values.specs.Value.{Value, int, element, set, tuple, Values, nil, cons, count, encode, encodes}
 use Rattle.values.specs.Held.{keep}
 use Rattle.values.specs.declared.held.Held.{Held}
-use Rattle.evaluator.specs.Outcomes.{Event, Outcome, done, stopped}
-use Rattle.evaluator.specs.Assignments.{Flow, go, halt}
+use Rattle.evaluation.specs.Outcomes.{Event, Outcome, done, stopped}
+use Rattle.evaluation.specs.Assignments.{Flow, go, halt}
 use Rattle.evaluator.specs.declared.worked.Worked.{Worked}
 use Rattle.evaluator.specs.declared.worked.Both.{Both}
 

@@ -15,9 +15,9 @@ ghost use Rattle.values.specs.Value as Value;
 ghost use lib.ListN.{length, drop};
 ghost use lib.Seq.{sets};
 ghost use Rattle.syntax.specs.Tree.{Exprs};
-ghost use Rattle.evaluator.specs.Scope.{Scope, lookup, refer, hasActuals};
+ghost use Rattle.evaluation.specs.Scope.{Scope, lookup, refer, hasActuals};
 ghost use Rattle.evaluator.specs.Worked.{Holds, Told, Valued};
-ghost use Rattle.evaluator.specs.Assignments.{noMore, domains};
+ghost use Rattle.evaluation.specs.Assignments.{noMore, domains};
 ghost use Rattle.evaluator.specs.Blocks.{Scoped, Pending, Pushed, lastBlock, headed, valueOf};
 
 // The last of the first n blocks that is in scope under a name, counted from 1; 0 where there is none.

@@ -31,10 +31,10 @@ ghost use Rattle.values.specs.Value.{Value, Values, nil, int, encode};
 ghost use Rattle.values.specs.Value as Value;
 ghost use Rattle.values.specs.SetValues.{sameValue};
 ghost use Rattle.syntax.specs.Decode.{operatorOf, connectiveOf, quantifierOf};
-ghost use Rattle.evaluator.specs.Outcomes.{pure, keep};
-ghost use Rattle.evaluator.specs.Operations.{add, keepInteger, calculate};
+ghost use Rattle.evaluation.specs.Outcomes.{pure, keep};
+ghost use Rattle.evaluation.specs.Operations.{add, keepInteger, calculate};
 ghost use Rattle.evaluator.specs.Steps.{decisionOf, verdictOf, arithmeticOf, atMostOf, integerTest, imageOf};
-ghost use Rattle.evaluator.specs.Rules.{amongMembers};
+ghost use Rattle.evaluation.specs.Rules.{amongMembers};
 ghost use Rattle.evaluator.specs.Worked.{narrow, Holds, Told, Valued, Judged, Gathered};
 
 // A value that is complete: over 64 words is 55.

@@ -21,8 +21,8 @@ use Rattle.typing.specs.Check.{Answer, accepted, refused, checkOf}
 use Rattle.states.specs.Names.{Name, documentNames}
 use Rattle.states.specs.Decode.{valueOf}
 use Rattle.states.specs.States.{nameAt, sizesIn, stateOf}
-use Rattle.evaluator.specs.Claims.{WellFormed}
-use Rattle.evaluator.proofs.StatePlace.{scan-found, state-ill, state-well}
+use Rattle.evaluation.specs.Claims.{WellFormed}
+use Rattle.evaluation.proofs.StatePlace.{scan-found, state-ill, state-well}
 use Rattle.fit.specs.Fit.{recordedWords, typeNumber, fitTypes, fitState, fitChecked, fitOf}
 use Rattle.fit.specs.HasType.{Has}
 use Rattle.fit.specs.Claims.{Finds, unchecked, illFormed, mistyped, fits}

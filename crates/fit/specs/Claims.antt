@@ -7,7 +7,7 @@ use Rattle.syntax.specs.Decode.{treeOf}
 use Rattle.typing.specs.Dictionary.{Dictionary}
 use Rattle.typing.specs.Check.{Answer, accepted, refused, checkOf}
 use Rattle.states.specs.Names.{Name, documentNames}
-use Rattle.evaluator.specs.Claims.{IllFormed, WellFormed}
+use Rattle.evaluation.specs.Claims.{IllFormed, WellFormed}
 use Rattle.fit.specs.Fit.{typeNumber}
 
 pub data Finds (doc state : List ℕ) (d w : ℕ) (ns : List Name) : Answer → Type 0 where

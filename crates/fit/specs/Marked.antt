@@ -4,7 +4,7 @@ use mathlib.Core.List.{List, [], _∷_}
 use Prim.Native.Nat.{ℕ}
 use Rattle.typing.specs.Dictionary.{dictionaryWords}
 use Rattle.typing.specs.Check.{Answer, accepted, refused}
-use Rattle.evaluator.specs.Marked.{coded}
+use Rattle.evaluation.specs.Marked.{coded}
 use Rattle.fit.specs.Fit.{fitOf}
 
 pub data Seen : Type 0 where

@@ -3,8 +3,8 @@ use mathlib.Core.List.{List, [], _∷_, _++_}
 use Rattle.typing.proofs.Marked as checks
 use Rattle.printer.specs.Marked as prints
 use Rattle.printer.proofs.Printed.{documents-print}
-use Rattle.evaluator.specs.Marked as runs
-use Rattle.evaluator.proofs.Marked.{marked-hold}
+use Rattle.evaluation.specs.Marked as runs
+use Rattle.evaluation.proofs.Marked.{marked-hold}
 use Rattle.marked.specs.Marked.{Row, checkedRows, printedRows, ranRows, marked, Holds, AllHold}
 
 both : (rs ss : List Row) → AllHold rs → AllHold ss → AllHold (rs ++ ss)

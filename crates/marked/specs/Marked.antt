@@ -8,7 +8,7 @@ use Rattle.typing.specs.Check.{checkOf}
 use Rattle.typing.proofs.Marked as checks
 use Rattle.printer.specs.Print.{printedOf}
 use Rattle.printer.specs.Marked as prints
-use Rattle.evaluator.specs.Marked as runs
+use Rattle.evaluation.specs.Marked as runs
 
 pub data Row : Type 0 where
   checked : checks.Row → Row

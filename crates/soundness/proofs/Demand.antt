@@ -18,15 +18,15 @@ use Rattle.typing.specs.AcceptedTypes.{HasType}
 use Rattle.typing.proofs.CheckRight.{accepted-says}
 use Rattle.fit.specs.Recorded.{Fits}
 use Rattle.fit.specs.Fit.{fitOf}
-use Rattle.evaluator.specs.Outcomes.{Event, Outcome}
+use Rattle.evaluation.specs.Outcomes.{Event, Outcome}
 use Rattle.states.specs.Names.{namesOf, documentNames}
 use Rattle.states.specs.States.{State, stateOf, valueIn}
-use Rattle.evaluator.specs.Paragraphs.{Step, onward, failed, runDocument}
-use Rattle.evaluator.specs.Claims.{Listed, empty, finished, ceased}
-use Rattle.evaluator.specs.Run.{Ran, ran, ending, runState, runWork, runRead, runOf}
-use Rattle.evaluator.specs.declared.Finding.{Finding}
-use Rattle.evaluator.specs.declared.Finding.the-variants.{Holds, Fails, Refused}
-use Rattle.evaluator.proofs.StatePlace.{state-ill}
+use Rattle.evaluation.specs.Paragraphs.{Step, onward, failed, runDocument}
+use Rattle.evaluation.specs.Claims.{Listed, empty, finished, ceased}
+use Rattle.evaluation.specs.Run.{Ran, ran, ending, runState, runWork, runRead, runOf}
+use Rattle.evaluation.specs.declared.Finding.{Finding}
+use Rattle.evaluation.specs.declared.Finding.the-variants.{Holds, Fails, Refused}
+use Rattle.evaluation.proofs.StatePlace.{state-ill}
 use Rattle.soundness.specs.Demand.{OfItsType, Sound}
 use Rattle.soundness.proofs.Values.{Typed}
 use Rattle.soundness.proofs.Run.{paragraphs-sound}

@@ -24,13 +24,13 @@ use Rattle.typing.specs.AcceptedTypes.{HasType}
 use Rattle.typing.proofs.OneType.{one-type, extend-same}
 use Rattle.fit.specs.HasType.{Has}
 use Rattle.fit.specs.Recorded.{Every, none, also, OfRecorded, Fits}
-use Rattle.evaluator.specs.Outcomes.{Outcome, _>>=_}
-use Rattle.evaluator.specs.Scope.{bind, valued, generic, lookup}
-use Rattle.evaluator.specs.Scope as Run
+use Rattle.evaluation.specs.Outcomes.{Outcome, _>>=_}
+use Rattle.evaluation.specs.Scope.{bind, valued, generic, lookup}
+use Rattle.evaluation.specs.Scope as Run
 use Rattle.states.specs.Names.{Name, namesAs, lineNames, paragraphNames, namesOf}
 use Rattle.states.specs.States.{State}
-use Rattle.evaluator.specs.Paragraphs.{Step, onward, failed, then, unless, bindGivens, testNames, testLines, runParagraph, runParagraphs, runDocument}
-use Rattle.evaluator.proofs.Outcomes.{bind-good, pure-good, choose-good}
+use Rattle.evaluation.specs.Paragraphs.{Step, onward, failed, then, unless, bindGivens, testNames, testLines, runParagraph, runParagraphs, runDocument}
+use Rattle.evaluation.proofs.Outcomes.{bind-good, pure-good, choose-good}
 use Rattle.soundness.proofs.Values.{Typed}
 use Rattle.soundness.proofs.Scopes.{overRecorded, name-added, names-stay, lines-stay, merge-fits, merges-next, added, asGlobal, asGeneric, asUnknown, ScopeFits, scope-more, scope-change, scope-settled, scope-record}
 use Rattle.soundness.proofs.Expressions.{expr-typed, pred-typed, test-typed, include-typed}

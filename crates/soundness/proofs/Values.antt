@@ -14,11 +14,11 @@ use Rattle.types.specs.Former as Former
 use Rattle.types.specs.Types.{Ty, node, Tys, tnil, tcons}
 use Rattle.fit.specs.HasType.{Has, isInteger, isElement, isSet, isTuple, MembersHave, noMember, aMember, PartsHave, noPart, aPart}
 use Rattle.values.specs.SetValues.{sameValue, insertBy, insertValue, Image, found, misfit, undefined, applyValue}
-use Rattle.evaluator.specs.Members.{wordCount}
-use Rattle.evaluator.specs.Outcomes.{Outcome, keepIf, keep}
-use Rattle.evaluator.specs.Operations.{asInteger, asSet, asTuple, addIf, add, image, findPair, keepInteger}
-use Rattle.evaluator.specs.Claims.{empty, entry, Good, finished}
-use Rattle.evaluator.proofs.Outcomes.{pure-good, stop-good, choose-good}
+use Rattle.evaluation.specs.Members.{wordCount}
+use Rattle.evaluation.specs.Outcomes.{Outcome, keepIf, keep}
+use Rattle.evaluation.specs.Operations.{asInteger, asSet, asTuple, addIf, add, image, findPair, keepInteger}
+use Rattle.evaluation.specs.Claims.{empty, entry, Good, finished}
+use Rattle.evaluation.proofs.Outcomes.{pure-good, stop-good, choose-good}
 
 abbrev pub integerType : Ty
 integerType = node Former.int tnil

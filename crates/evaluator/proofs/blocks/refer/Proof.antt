@@ -1,6 +1,6 @@
 use mathlib.Core.Path.{_∙_, sym, ap, subst}
 use Rattle.values.specs.Held.{keep}
-use Rattle.evaluator.specs.Scope.{lookup}
+use Rattle.evaluation.specs.Scope.{lookup}
 use Rattle.evaluator.proofs.BlockLaws.{Found, lookup-found, refer-unknown, refer-generic, refer-actuals, refer-value}
 use Prim.Native.Nat.{ℕ}
 use borrow.Author.Needs.{needs}

@@ -3,7 +3,7 @@ use mir.Syntax.{w32}
 use mir.Val.{SFits}
 use mir.ValLaws.{toZ-ofZ}
 use Rattle.values.specs.declared.integer.Integer.{Integer}
-use Rattle.evaluator.specs.Operations.{keepInteger}
+use Rattle.evaluation.specs.Operations.{keepInteger}
 use Rattle.evaluator.specs.Worked.{Told, Valued}
 use mathlib.Core.Path.{_∙_, sym}
 use Rattle.evaluator.proofs.OperationLaws.{arithmetic-left, arithmetic-right, arithmetic-both}

@@ -1,7 +1,7 @@
 use Rattle.evaluator.proofs.OperationLaws.{other-plus}
 use mir.Syntax.{w32}
 use mir.ValLaws.{toZ-ofZ}
-use Rattle.evaluator.specs.Operations.{calculate}
+use Rattle.evaluation.specs.Operations.{calculate}
 use borrow.Author.Needs.{needs}
 use Rattle.evaluator.proofs.operations.calculate.Statement.{statement}
 use Rattle.evaluator.proofs.operations.calculate.Tie as tie

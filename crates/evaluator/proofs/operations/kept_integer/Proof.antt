@@ -2,7 +2,7 @@ use mir.Syntax.{w32}
 use mir.Val.{SFits}
 use mir.ValLaws.{toZ-ofZ}
 use native.Mathlib.Omega.{arith}
-use Rattle.evaluator.specs.Operations.{keepInteger}
+use Rattle.evaluation.specs.Operations.{keepInteger}
 use Rattle.evaluator.proofs.ToldLaws.{stop-told}
 use Rattle.evaluator.proofs.OperationLaws.{keep-fine}
 use borrow.Author.Needs.{needs}

@@ -1,4 +1,4 @@
-use Rattle.evaluator.specs.Scope.{empty}
+use Rattle.evaluation.specs.Scope.{empty}
 use mathlib.Core.Path.{_≡_, refl, sym, ap, subst, _∙_}
 use mathlib.Core.Bool.{true, false, true≢false}
 use Prim.Native.Nat.{ℕ, _+_}
@@ -9,7 +9,7 @@ use Rattle.values.specs.Value as Value
 use Rattle.evaluator.specs.Worked.{Holds}
 use Rattle.evaluator.specs.Blocks.{Scoped}
 use Rattle.evaluator.specs.Blocks as Blocks
-use Rattle.evaluator.specs.Assignments.{noMore}
+use Rattle.evaluation.specs.Assignments.{noMore}
 use Rattle.evaluator.proofs.NodeLaws.{in-words}
 use Rattle.evaluator.proofs.AssignLaws.{compr-scoping, compr-stop, compr-go, few-declared, lines-start}
 -- The answers of `compr`.

@@ -3,10 +3,10 @@ use Prim.Native.Nat.{ℕ, _+_}
 use native.Mathlib.Omega.{arith}
 use Rattle.syntax.specs.Decode.{quantifierOf}
 use Rattle.evaluator.specs.Steps.{verdictOf}
-use Rattle.evaluator.specs.Scope.{empty}
+use Rattle.evaluation.specs.Scope.{empty}
 use Rattle.evaluator.specs.Blocks.{Scoped}
 use Rattle.evaluator.specs.Blocks as Blocks
-use Rattle.evaluator.specs.Assignments.{noMore}
+use Rattle.evaluation.specs.Assignments.{noMore}
 use Rattle.evaluator.proofs.NodeLaws.{in-words}
 use Rattle.evaluator.proofs.AssignLaws.{quant-scoping, quant-stop, quant-go, lines-start}
 -- The answers of `quant`.

@@ -1,4 +1,4 @@
-use Rattle.evaluator.specs.Scope.{lookup, refer}
+use Rattle.evaluation.specs.Scope.{lookup, refer}
 use mathlib.Core.Path.{subst}
 use Prim.Native.Nat.{ℕ}
 use lib.ListN.{getD}

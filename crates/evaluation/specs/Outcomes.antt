@@ -5,7 +5,7 @@ use mathlib.Core.Bool.{Bool, true, false}
 use Prim.Native.Nat.{ℕ}
 use lib.Dec.{leb}
 use Rattle.values.specs.Value.{Value}
-use Rattle.evaluator.specs.Members.{wordCount}
+use Rattle.evaluation.specs.Members.{wordCount}
 
 -- an expression's node was worked out to a value
 pub data Event : Type 0 where

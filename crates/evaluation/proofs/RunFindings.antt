@@ -12,17 +12,17 @@ use Rattle.syntax.specs.Reading.{readOf}
 use Rattle.syntax.specs.Decode.{treeOf}
 use Rattle.syntax.specs.declared.Reading.{Reading}
 use Rattle.syntax.specs.declared.Reading.the-variants.{Readable, Refused as Unreadable}
-use Rattle.evaluator.specs.Outcomes.{Outcome, _>>=_}
-use Rattle.evaluator.specs.Scope.{Scope}
+use Rattle.evaluation.specs.Outcomes.{Outcome, _>>=_}
+use Rattle.evaluation.specs.Scope.{Scope}
 use Rattle.states.specs.Names.{documentNames}
 use Rattle.states.specs.States.{State, stateOf, valueIn}
-use Rattle.evaluator.specs.Paragraphs.{Step, onward, failed, then, testNames, testLines, runParagraph, runParagraphs, runDocument}
-use Rattle.evaluator.specs.Run.{Ran, ran, ending, runState, runWork, runRead, runOf}
-use Rattle.evaluator.specs.declared.Finding.the-variants.{Refused}
-use Rattle.evaluator.specs.Claims.{Good, finished, ceased, Short, Trouble, Finds, unreadable, noRoom, illFormed, holds, fails, troubled, WellFormed}
-use Rattle.evaluator.proofs.Outcomes.{bind-good, pure-good, choose-good}
-use Rattle.evaluator.proofs.Findings.{Fine, include-fine, expr-fine, pred-fine, test-fine}
-use Rattle.evaluator.proofs.StatePlace.{state-ill, state-well}
+use Rattle.evaluation.specs.Paragraphs.{Step, onward, failed, then, testNames, testLines, runParagraph, runParagraphs, runDocument}
+use Rattle.evaluation.specs.Run.{Ran, ran, ending, runState, runWork, runRead, runOf}
+use Rattle.evaluation.specs.declared.Finding.the-variants.{Refused}
+use Rattle.evaluation.specs.Claims.{Good, finished, ceased, Short, Trouble, Finds, unreadable, noRoom, illFormed, holds, fails, troubled, WellFormed}
+use Rattle.evaluation.proofs.Outcomes.{bind-good, pure-good, choose-good}
+use Rattle.evaluation.proofs.Findings.{Fine, include-fine, expr-fine, pred-fine, test-fine}
+use Rattle.evaluation.proofs.StatePlace.{state-ill, state-well}
 
 bind-fine : {A B : Type 0} {m : Outcome A} {f : A → Outcome B} → Fine m → ((a : A) → Fine (f a)) → Fine (m >>= f)
 bind-fine h k = bind-good h (λ a _. k a)

@@ -4,10 +4,10 @@ use mathlib.Core.List.{List, [], _∷_, _++_}
 use Prim.Native.Nat.{ℕ, _+_, _*_, _-_, _^_}
 use lib.ListN.{length}
 use Rattle.values.specs.Value.{encode}
-use Rattle.evaluator.specs.Outcomes.{Event, worked}
-use Rattle.evaluator.specs.Run.{Ran, runOf}
-use Rattle.evaluator.specs.declared.Finding.{Finding}
-use Rattle.evaluator.specs.declared.Finding.the-variants.{Holds, Fails, Refused}
+use Rattle.evaluation.specs.Outcomes.{Event, worked}
+use Rattle.evaluation.specs.Run.{Ran, runOf}
+use Rattle.evaluation.specs.declared.Finding.{Finding}
+use Rattle.evaluation.specs.declared.Finding.the-variants.{Holds, Fails, Refused}
 
 -- count, pairs and entries from the entries' words
 abbrev pairsOf : ℕ → List (List ℕ) → List ℕ

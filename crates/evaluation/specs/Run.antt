@@ -8,12 +8,12 @@ use Rattle.syntax.specs.Reading.{readOf}
 use Rattle.syntax.specs.Decode.{treeOf}
 use Rattle.syntax.specs.declared.Reading.{Reading}
 use Rattle.syntax.specs.declared.Reading.the-variants.{Readable, Refused as Unreadable}
-use Rattle.evaluator.specs.Outcomes.{Event, Outcome, done, stopped}
+use Rattle.evaluation.specs.Outcomes.{Event, Outcome, done, stopped}
 use Rattle.states.specs.Names.{documentNames}
 use Rattle.states.specs.States.{stateOf, valueIn}
-use Rattle.evaluator.specs.Paragraphs.{Step, onward, failed, runDocument}
-use Rattle.evaluator.specs.declared.Finding.{Finding}
-use Rattle.evaluator.specs.declared.Finding.the-variants.{Holds, Fails, Refused}
+use Rattle.evaluation.specs.Paragraphs.{Step, onward, failed, runDocument}
+use Rattle.evaluation.specs.declared.Finding.{Finding}
+use Rattle.evaluation.specs.declared.Finding.the-variants.{Holds, Fails, Refused}
 
 -- the finding, and beside it the list: node and value of each expression, each time it is worked out
 pub record Ran : Type 0 where

@@ -11,10 +11,10 @@ use Rattle.syntax.specs.Tree.{comprehension, Exprs, none, more, Pred, truth, eq
 use Rattle.syntax.specs.Tree.{declaration, inclusion, Include, include, exprsLength}
 use Rattle.syntax.specs.Tree as Tree
 use Rattle.values.specs.SetValues.{sameValue, isIn}
-use Rattle.evaluator.specs.Outcomes.{Outcome, _>>=_, pure, stop, keep}
-use Rattle.evaluator.specs.Scope.{Scope, lookup, refer}
-use Rattle.evaluator.specs.Operations.{asInteger, asSet, asTuple, add, findPair, keepInteger, calculate, connect, allPass, sameCount}
-use Rattle.evaluator.specs.Assignments.{Domains, noMore, domains, Flow, go, Body, assign, flowOf, truthOf, gathered}
+use Rattle.evaluation.specs.Outcomes.{Outcome, _>>=_, pure, stop, keep}
+use Rattle.evaluation.specs.Scope.{Scope, lookup, refer}
+use Rattle.evaluation.specs.Operations.{asInteger, asSet, asTuple, add, findPair, keepInteger, calculate, connect, allPass, sameCount}
+use Rattle.evaluation.specs.Assignments.{Domains, noMore, domains, Flow, go, Body, assign, flowOf, truthOf, gathered}
 
 -- Member against any other E than ℤ, Power, Product: s is its value, which must be a set, 51 at its node n (R26: words are compared)
 unfoldable pub amongMembers : ℕ → Value → Value → Outcome Bool

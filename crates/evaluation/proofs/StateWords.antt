@@ -13,8 +13,8 @@ use Rattle.values.specs.Form.{isValue}
 use Rattle.states.specs.Names.{Name}
 use Rattle.states.specs.Decode.{valueOf}
 use Rattle.states.specs.States.{nameAt, sizesIn, valueNumber, entryFrom, entryValue, valueIn}
-use Rattle.evaluator.specs.Claims.{WellFormed}
-use Rattle.evaluator.proofs.Decoding.{Words, words-drop, value-read}
+use Rattle.evaluation.specs.Claims.{WellFormed}
+use Rattle.evaluation.proofs.Decoding.{Words, words-drop, value-read}
 
 words-take : (n : ℕ) (ws : List ℕ) → Words ws → Words (take n ws)
 words-take zero ws h i = omega arith

@@ -9,12 +9,12 @@ use Rattle.syntax.specs.Tree.{Document}
 use Rattle.syntax.specs.Reading.{readOf}
 use Rattle.syntax.specs.Decode.{treeOf}
 use Rattle.syntax.specs.declared.Reading.the-variants.{Readable, Refused as Unreadable}
-use Rattle.evaluator.specs.Members.{wordCount}
-use Rattle.evaluator.specs.Outcomes.{Event, worked, Outcome, done, stopped}
+use Rattle.evaluation.specs.Members.{wordCount}
+use Rattle.evaluation.specs.Outcomes.{Event, worked, Outcome, done, stopped}
 use Rattle.states.specs.Names.{Name, documentNames}
 use Rattle.states.specs.States.{isPaired, givenNumber, valueNumber, stateOf}
-use Rattle.evaluator.specs.Run.{Ran, ran}
-use Rattle.evaluator.specs.declared.Finding.the-variants.{Holds, Fails, Refused}
+use Rattle.evaluation.specs.Run.{Ran, ran}
+use Rattle.evaluation.specs.declared.Finding.the-variants.{Holds, Fails, Refused}
 
 pub data Listed (E : ℕ → Value → Type 0) : List Event → Type 0 where
   empty : Listed E []

@@ -8,13 +8,13 @@ use Rattle.values.specs.Value.{Value}
 use Rattle.values.specs.declared.integer.Integer.{Integer}
 use Rattle.values.specs.declared.integer.Integer.the-variants.{Whole, Undefined, Outside}
 use Rattle.syntax.specs.Tree.{Expr, reference, number, integers, set, tuple, product, power, application, selection, theta, schemaSet, arithmetic, comprehension, Exprs, none, more, exprNode}
-use Rattle.evaluator.specs.Members.{wordCount}
-use Rattle.evaluator.specs.Outcomes.{Event, worked, Outcome, done, stopped, after, _>>=_, keepIf, keep}
-use Rattle.evaluator.specs.Scope.{Scope, Meaning, valued, generic, unknown, refer}
-use Rattle.evaluator.specs.Operations.{keepInteger}
-use Rattle.evaluator.specs.Rules.{evalExpr}
-use Rattle.evaluator.specs.Claims.{Last, last}
-use Rattle.evaluator.specs.Claims as Claims
+use Rattle.evaluation.specs.Members.{wordCount}
+use Rattle.evaluation.specs.Outcomes.{Event, worked, Outcome, done, stopped, after, _>>=_, keepIf, keep}
+use Rattle.evaluation.specs.Scope.{Scope, Meaning, valued, generic, unknown, refer}
+use Rattle.evaluation.specs.Operations.{keepInteger}
+use Rattle.evaluation.specs.Rules.{evalExpr}
+use Rattle.evaluation.specs.Claims.{Last, last}
+use Rattle.evaluation.specs.Claims as Claims
 
 after-last : (n : ℕ) (t : List Event) {m : Outcome Value} → Last n m → Last n (after t m)
 unfolding after

@@ -10,8 +10,8 @@ use Rattle.values.specs.declared.integer.Integer.the-variants.{Whole, Undefined
 use Rattle.syntax.specs.Tree.{Operator, plus, minus, times, Connective, and, or, implies}
 use Rattle.syntax.specs.Tree as Tree
 use Rattle.values.specs.SetValues.{insertValue, Image, found, misfit, undefined, applyValue}
-use Rattle.evaluator.specs.Members.{wordCount}
-use Rattle.evaluator.specs.Outcomes.{Outcome, _>>=_, pure, stop, keep}
+use Rattle.evaluation.specs.Members.{wordCount}
+use Rattle.evaluation.specs.Outcomes.{Outcome, _>>=_, pure, stop, keep}
 
 -- 51: a value of a sort that the operation at node n cannot use
 unfoldable pub asInteger : ℕ → Value → Outcome ℤ

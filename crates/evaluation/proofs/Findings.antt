@@ -15,14 +15,14 @@ use Rattle.syntax.specs.Tree.{comprehension, Exprs, none, more, Pred, truth, eq
 use Rattle.syntax.specs.Tree.{declaration, inclusion, Include, include}
 use Rattle.syntax.specs.Tree as Tree
 use Rattle.values.specs.SetValues.{Image, found, misfit, undefined, applyValue}
-use Rattle.evaluator.specs.Members.{wordCount}
-use Rattle.evaluator.specs.Outcomes.{Outcome, _>>=_, pure, stop, keepIf, keep}
-use Rattle.evaluator.specs.Scope.{Scope, Meaning, valued, generic, unknown, refer}
-use Rattle.evaluator.specs.Operations.{asInteger, asSet, asTuple, addIf, add, image, findPair, keepInteger, connect, allPass, countIf, sameCount}
-use Rattle.evaluator.specs.Assignments.{Domains, noMore, domain, Flow, go, halt, Body, next, each, assign}
-use Rattle.evaluator.specs.Rules.{amongMembers, stopInclude, evalExpr, evalExprs, evalMembers, evalPred, overText, evalLines, testExpr, testExprs}
-use Rattle.evaluator.specs.Claims.{Listed, empty, entry, Good, finished, ceased, Short, Trouble}
-use Rattle.evaluator.proofs.Outcomes.{bind-good, pure-good, stop-good, choose-good}
+use Rattle.evaluation.specs.Members.{wordCount}
+use Rattle.evaluation.specs.Outcomes.{Outcome, _>>=_, pure, stop, keepIf, keep}
+use Rattle.evaluation.specs.Scope.{Scope, Meaning, valued, generic, unknown, refer}
+use Rattle.evaluation.specs.Operations.{asInteger, asSet, asTuple, addIf, add, image, findPair, keepInteger, connect, allPass, countIf, sameCount}
+use Rattle.evaluation.specs.Assignments.{Domains, noMore, domain, Flow, go, halt, Body, next, each, assign}
+use Rattle.evaluation.specs.Rules.{amongMembers, stopInclude, evalExpr, evalExprs, evalMembers, evalPred, overText, evalLines, testExpr, testExprs}
+use Rattle.evaluation.specs.Claims.{Listed, empty, entry, Good, finished, ceased, Short, Trouble}
+use Rattle.evaluation.proofs.Outcomes.{bind-good, pure-good, stop-good, choose-good}
 
 -- an outcome of which only this is said
 abbrev pub Fine : {A : Type 0} → Outcome A → Type 0

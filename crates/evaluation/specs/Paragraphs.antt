@@ -4,9 +4,9 @@ use mathlib.Core.Bool.{Bool, true, false}
 use Prim.Native.Nat.{ℕ}
 use Rattle.values.specs.Value.{Value}
 use Rattle.syntax.specs.Tree.{Text, text, Lines, end, declaration, inclusion, Paragraph, given, axiomatic, schema, abbreviation, constraint, Document, document}
-use Rattle.evaluator.specs.Outcomes.{Outcome, _>>=_, pure}
-use Rattle.evaluator.specs.Scope.{Scope, empty, bind, valued, generic}
-use Rattle.evaluator.specs.Rules.{evalExpr, evalPred, test, stopInclude}
+use Rattle.evaluation.specs.Outcomes.{Outcome, _>>=_, pure}
+use Rattle.evaluation.specs.Scope.{Scope, empty, bind, valued, generic}
+use Rattle.evaluation.specs.Rules.{evalExpr, evalPred, test, stopInclude}
 use Rattle.states.specs.States.{State}
 
 -- what a paragraph, or a line of one, leaves: the names so far, or a failure at a node

@@ -15,7 +15,7 @@ use Rattle.syntax.proofs.Scan.{scan-none, then-none, never}
 use Rattle.values.specs.Form.{isValue}
 use Rattle.states.specs.Names.{Name}
 use Rattle.states.specs.States.{nameAt, sizesIn, isSize, givenNumber, valueNumber, isPaired, entriesOf, stateIf, stateOf}
-use Rattle.evaluator.specs.Claims.{IllFormed, pairs, given, other, WellFormed}
+use Rattle.evaluation.specs.Claims.{IllFormed, pairs, given, other, WellFormed}
 
 -- what a scan that finds has found: the first number other than 0, and where
 pub record Found (f : ℕ → ℕ) (i m v p : ℕ) : Type 0 where

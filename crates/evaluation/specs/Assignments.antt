@@ -4,8 +4,8 @@ use mathlib.Core.Bool.{Bool, true, false}
 use Prim.Native.Nat.{ℕ}
 use Rattle.values.specs.Value.{Values, nil, cons}
 use Rattle.syntax.specs.Tree.{Quantifier, forall, exists}
-use Rattle.evaluator.specs.Outcomes.{Outcome, _>>=_, pure}
-use Rattle.evaluator.specs.Scope.{Scope, bind, valued}
+use Rattle.evaluation.specs.Outcomes.{Outcome, _>>=_, pure}
+use Rattle.evaluation.specs.Scope.{Scope, bind, valued}
 
 -- the identifiers with the sets that they run through
 pub data Domains : Type 0 where

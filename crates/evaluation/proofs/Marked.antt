@@ -18,19 +18,19 @@ use Rattle.values.specs.Order.{compareWord, orElse, compare, isLess, isSame, sa
 use Rattle.values.specs.Givens.{elementsFrom, elements, smallSize, sizeFrom, sizeOf}
 use Rattle.values.specs.Form.{elementShape, groupShape, shapeOf, follows, nextFits, groupEnd, byShape, valueLength, isValue}
 use Rattle.values.specs.SetValues.{sameValue, isIn, insertBy, insertValue, applyValue}
-use Rattle.evaluator.specs.Members.{wordCount}
-use Rattle.evaluator.specs.Outcomes.{after, _>>=_, keepIf, keep}
-use Rattle.evaluator.specs.Scope.{pick, lookup, refer}
-use Rattle.evaluator.specs.Operations.{asInteger, asSet, asTuple, addIf, add, image, findPair, keepInteger, calculate, connect, allPass, countIf, sameCount}
-use Rattle.evaluator.specs.Assignments.{domains, next, each, assign, flowOf, truthOf, gathered}
-use Rattle.evaluator.specs.Rules.{amongMembers, stopInclude, evalExpr, evalExprs, evalMembers, evalPred, overText, evalLines, testExpr, testExprs}
+use Rattle.evaluation.specs.Members.{wordCount}
+use Rattle.evaluation.specs.Outcomes.{after, _>>=_, keepIf, keep}
+use Rattle.evaluation.specs.Scope.{pick, lookup, refer}
+use Rattle.evaluation.specs.Operations.{asInteger, asSet, asTuple, addIf, add, image, findPair, keepInteger, calculate, connect, allPass, countIf, sameCount}
+use Rattle.evaluation.specs.Assignments.{domains, next, each, assign, flowOf, truthOf, gathered}
+use Rattle.evaluation.specs.Rules.{amongMembers, stopInclude, evalExpr, evalExprs, evalMembers, evalPred, overText, evalLines, testExpr, testExprs}
 use Rattle.states.specs.Names.{namesAs, lineNames, paragraphNames, namesOf, documentNames}
 use Rattle.states.specs.Decode.{valuesFrom, valueByShape, valueAt, valueOf}
 use Rattle.states.specs.States.{sizeTable, sizesIn, isSize, givenNumber, valueNumber, isPaired, entriesOf, stateIf, stateOf, entryFrom, entryValue, valueIn}
-use Rattle.evaluator.specs.Paragraphs.{then, unless, bindGivens, testNames, testLines, runParagraph, runParagraphs, runDocument}
-use Rattle.evaluator.specs.Run.{ending, runState, runWork, runRead, runOf}
-use Rattle.evaluator.specs.Marked.{lastNode, lastWords, marked}
-use Rattle.evaluator.specs.Marked.{Hold, none, more}
+use Rattle.evaluation.specs.Paragraphs.{then, unless, bindGivens, testNames, testLines, runParagraph, runParagraphs, runDocument}
+use Rattle.evaluation.specs.Run.{ending, runState, runWork, runRead, runOf}
+use Rattle.evaluation.specs.Marked.{lastNode, lastWords, marked}
+use Rattle.evaluation.specs.Marked.{Hold, none, more}
 
 pub marked-hold : Hold marked
 unfolding

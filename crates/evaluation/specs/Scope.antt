@@ -5,7 +5,7 @@ use Prim.Native.Nat.{ℕ}
 use lib.Dec.{eqb}
 use Rattle.values.specs.Value.{Value}
 use Rattle.syntax.specs.Tree.{Exprs, none, more}
-use Rattle.evaluator.specs.Outcomes.{Outcome, stop, keep}
+use Rattle.evaluation.specs.Outcomes.{Outcome, stop, keep}
 
 pub data Meaning : Type 0 where
   valued : Value → Meaning

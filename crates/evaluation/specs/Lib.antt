@@ -1,0 +1,11 @@
+-- Document 01, "States and runs", in reading order.
+pub mod Members
+pub mod Outcomes
+pub mod Scope
+pub mod Operations
+pub mod Assignments
+pub mod Rules
+pub mod Paragraphs
+pub mod Run
+pub mod Marked
+pub mod Claims
