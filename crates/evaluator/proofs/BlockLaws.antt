@@ -11,8 +11,8 @@ use native.Mathlib.Numerals.{add-one}
 use mathlib.Core.Logic.{⊎-elim}
 use Rattle.words.proofs.Lists.{drop-next}
 use Rattle.values.specs.declared.held.Held.{Held}
-use Rattle.values.proofs.Holding.{held-words}
-use lib.Seq.{sets, sets-eq, take-append-le, take-at, drop-at, getD-take, getD-drop, getD-set-same, getD-set-other, take-set-le, drop-set-lt, take-take, drop-drop}
+use Rattle.values.proofs.Holding.{held-words, held-len}
+use lib.Seq.{sets, sets-eq, length-sets, take-append-le, take-at, drop-at, getD-take, getD-drop, getD-set-same, getD-set-other, take-set-le, drop-set-lt, take-take, drop-drop}
 use borrow.Author.Tests.{eq-eqb, ne-eqb, eqb-true, eqb-false}
 use Rattle.values.specs.Value.{Value, Values, encode}
 use Rattle.values.specs.Value as Value
@@ -27,6 +27,7 @@ use Rattle.syntax.specs.Tree.{Exprs}
 use Rattle.syntax.specs.Tree as Tree
 use Rattle.evaluator.specs.declared.worked.Worked.{Worked}
 use Rattle.evaluator.specs.Worked.{Holds, Told, Valued, Stops}
+use Rattle.evaluator.specs.Ready.{Leaves}
 use Rattle.evaluator.proofs.ToldLaws.{stop-told}
 use Rattle.evaluator.proofs.OperationLaws.{keep-fine}
 
@@ -320,3 +321,51 @@ module _ (w0 w1 w2 w3 x : List ℕ) (b j : ℕ) (v : Held) (e1 : w1 ≡ headed w
             rw (m, drop-next x j h)
             (more name (same-part (68 * (b + 1)) w2 w3 k (68 * b + 4) (length (encode (Value.set vs))) (omega arith) ∙ lies) s (g .narrow) next);
       }
+
+-- ---- a new name
+module _ (w0 w1 w2 : List ℕ) (n name : ℕ) (v : Held) (e1 : w1 ≡ sets w0 (68 * n + 4) (v .words)) (e2 : w2 ≡ headed w1 n name 2 (68 * n + 4) (v .len)) (long : 68 * (n + 1) ≤ length w0) where
+  value-kept : take (68 * n) w2 ≡ take (68 * n) w0
+  value-kept =
+      let a : take (68 * n) w2 ≡ take (68 * n) w1 = (rw e2 (head-take w1 n name 2 (68 * n + 4) (v .len))) in
+      let b : take (68 * n) w1 ≡ take (68 * n) w0 = (rw e1 (take-sets (v .words) w0 (68 * n) (68 * n + 4) (omega arith))) in
+      a ∙ b
+
+  pub bind-value : Leaves n w0 w2 ((state : List ℕ) (scope : Scope) (x : Value) → Scoped state w0 n scope → Holds v x → Scoped state w2 (n + 1) (bind name (valued x) scope))
+  bind-value =
+      let l1 : 68 * n + 4 ≤ length w1 = omega (arith, ap length e1, length-sets w0 (68 * n + 4) (v .words)) in
+      let tag : field w2 n 0 ≡ name = (rw e2 (head-name w1 n name 2 (68 * n + 4) (v .len) l1)) in
+      let class : field w2 n 1 ≡ 2 = (rw e2 (head-class w1 n name 2 (68 * n + 4) (v .len) l1)) in
+      let place : field w2 n 2 ≡ 68 * n + 4 = (rw e2 (head-place w1 n name 2 (68 * n + 4) (v .len) l1)) in
+      let size : field w2 n 3 ≡ v .len = (rw e2 (head-length w1 n name 2 (68 * n + 4) (v .len) l1)) in
+      let above : drop (68 * n + 4) w2 ≡ drop (68 * n + 4) w1 = (rw e2 (head-drop w1 n name 2 (68 * n + 4) (v .len))) in
+      record {
+        kept = value-kept;
+        told = λ state scope x sc h.
+            let s = h .short in
+            let len : v .len ≡ length (encode x) = held-len v (encode x) (h .words) (h .short) in
+            let lies : Lies w1 (68 * n + 4) (encode x) = (rw e1 (copied w0 (68 * n + 4) v x h (omega arith))) in
+            rw (add-one n)
+            (named (scoped-same state w0 w2 n value-kept sc) tag
+            (inWork {v = x} class (rw (place, size) (omega arith))
+            (rw (place, size) (record { words = ap (λ (y : List ℕ). take (v .len) y) above ∙ ap (λ (j : ℕ). take j (drop (68 * n + 4) w1)) len ∙ lies; short = h .short; narrow = h .narrow }))));
+      }
+
+module _ (w0 w1 : List ℕ) (n name class at len : ℕ) (e1 : w1 ≡ headed w0 n name class at len) (long : 68 * (n + 1) ≤ length w0) where
+  head-kept : take (68 * n) w1 ≡ take (68 * n) w0
+  head-kept = rw e1 (head-take w0 n name class at len)
+
+  pub bind-generic : class ≡ 3 → Leaves n w0 w1 ((state : List ℕ) (scope : Scope) → Scoped state w0 n scope → Scoped state w1 (n + 1) (bind name generic scope))
+  bind-generic c =
+      let l : 68 * n + 4 ≤ length w0 = omega arith in
+      let tag : field w1 n 0 ≡ name = (rw e1 (head-name w0 n name class at len l)) in
+      let kind : field w1 n 1 ≡ class = (rw e1 (head-class w0 n name class at len l)) in
+      record { kept = head-kept; told = λ state scope sc. rw (add-one n) (named (scoped-same state w0 w1 n head-kept sc) tag (isGeneric (kind ∙ c))) }
+
+  pub bind-entry : class ≡ 1 → Leaves n w0 w1 ((state : List ℕ) (scope : Scope) (x : Value) → Scoped state w0 n scope → Stored (take len (drop at state)) x → Scoped state w1 (n + 1) (bind name (valued x) scope))
+  bind-entry c =
+      let l : 68 * n + 4 ≤ length w0 = omega arith in
+      let tag : field w1 n 0 ≡ name = (rw e1 (head-name w0 n name class at len l)) in
+      let kind : field w1 n 1 ≡ class = (rw e1 (head-class w0 n name class at len l)) in
+      let place : field w1 n 2 ≡ at = (rw e1 (head-place w0 n name class at len l)) in
+      let size : field w1 n 3 ≡ len = (rw e1 (head-length w0 n name class at len l)) in
+      record { kept = head-kept; told = λ state scope x sc s. rw (add-one n) (named (scoped-same state w0 w1 n head-kept sc) tag (inState {v = x} (kind ∙ c) (rw (place, size) s))) }

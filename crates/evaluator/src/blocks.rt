@@ -9,16 +9,18 @@ use values::lookup::value_at;
 use words::store;
 use words::word;
 ghost use mathlib.Core.Path.{_≡_};
-ghost use Prim.Native.Nat.{_+_, _*_, _-_, _≤_, _<_, _^_};
-ghost use Rattle.values.specs.Value.{Values};
+ghost use Prim.Native.Nat.{ℕ, _+_, _*_, _-_, _≤_, _<_, _^_};
+ghost use mathlib.Core.List.{List};
+ghost use Rattle.values.specs.Value.{Value, Values};
 ghost use Rattle.values.specs.Value as Value;
-ghost use lib.ListN.{length, drop};
+ghost use lib.ListN.{length, take, drop};
 ghost use lib.Seq.{sets};
 ghost use Rattle.syntax.specs.Tree.{Exprs};
-ghost use Rattle.evaluation.specs.Scope.{Scope, lookup, refer, hasActuals};
+ghost use Rattle.evaluation.specs.Scope.{Scope, valued, generic, bind, lookup, refer, hasActuals};
 ghost use Rattle.evaluator.specs.Worked.{Holds, Told, Valued};
 ghost use Rattle.evaluation.specs.Assignments.{noMore, domains};
-ghost use Rattle.evaluator.specs.Blocks.{Scoped, Pending, Pushed, lastBlock, headed, valueOf};
+ghost use Rattle.evaluator.specs.Ready.{Leaves};
+ghost use Rattle.evaluator.specs.Blocks.{Stored, Scoped, Pending, Pushed, lastBlock, headed, valueOf};
 
 // The last of the first n blocks that is in scope under a name, counted from 1; 0 where there is none.
 fn find(work: &[u32], n: usize, name: usize) -> usize
@@ -112,4 +114,30 @@ pub fn put_domains(work: &mut [u32], b: usize, x: &[u32], j: usize, v: Held)
     put_head(work, b, word(x, j), 0, 0, 0);
     put_value(work, b, v);
     put_domains(work, b + 1, x, j + 1, v);
+}
+
+// A new name in block n, with a value by value.
+pub fn put_name(work: &mut [u32], n: usize, name: usize, v: Held)
+    requires { ⌜ (68 * (n + 1) ≤ length (now work)) × (n ≤ 239) × (name < 2 ^ 32) × (v .len < 2 ^ 32) ⌝ }
+    ensures { λ _. ⌜ Leaves n (now (work .entry)) (now (work .exit)) ((state : List ℕ) (scope : Scope) (x : Value) → Scoped state (now (work .entry)) n scope → Holds v x → Scoped state (now (work .exit)) (n + 1) (bind name (valued x) scope)) ⌝ }
+{
+    let len = v.len;
+    put_value(work, n, v);
+    put_head(work, n, name, 2, 68 * n + 4, len);
+}
+
+// A new name in block n, whose value lies in the state.
+pub fn put_entry(work: &mut [u32], n: usize, name: usize, at: usize, len: usize)
+    requires { ⌜ (68 * (n + 1) ≤ length (now work)) × (n ≤ 239) × (name < 2 ^ 32) × (at < 2 ^ 32) × (len < 2 ^ 32) ⌝ }
+    ensures { λ _. ⌜ Leaves n (now (work .entry)) (now (work .exit)) ((state : List ℕ) (scope : Scope) (x : Value) → Scoped state (now (work .entry)) n scope → Stored (take len (drop at state)) x → Scoped state (now (work .exit)) (n + 1) (bind name (valued x) scope)) ⌝ }
+{
+    put_head(work, n, name, 1, at, len);
+}
+
+// A new name in block n: an abbreviation with parameters.
+pub fn put_generic(work: &mut [u32], n: usize, name: usize)
+    requires { ⌜ (68 * (n + 1) ≤ length (now work)) × (n ≤ 239) × (name < 2 ^ 32) ⌝ }
+    ensures { λ _. ⌜ Leaves n (now (work .entry)) (now (work .exit)) ((state : List ℕ) (scope : Scope) → Scoped state (now (work .entry)) n scope → Scoped state (now (work .exit)) (n + 1) (bind name generic scope)) ⌝ }
+{
+    put_head(work, n, name, 3, 0, 0);
 }

@@ -25,7 +25,6 @@ abbrev put-domains-below : ℕ → In 2 put-domains-kinds.ps
 put-domains-below t =
     and 2 put-domains-kinds.ps (falls 2 put-domains-kinds.ps _<_ μ-put-domains t) put-domains.Pre
 
--- src/blocks.rt:110:9
 put-domains-returns : (t : ℕ) → put-domains-lts.Need-returns (
   word-reads.Asked,
   word-reads.Learnt,
@@ -38,7 +37,6 @@ put-domains-returns : (t : ℕ) → put-domains-lts.Need-returns (
 ) (put-domains-at t) put-domains.Post
 put-domains-returns t c = pushed-none _ _ _ _ _ (c .if1 .taken)
 
--- src/blocks.rt:112:23
 put-domains-word-requires : (t : ℕ) → put-domains-lts.Need-word-requires (
   word-reads.Asked,
   word-reads.Learnt,
@@ -51,7 +49,6 @@ put-domains-word-requires : (t : ℕ) → put-domains-lts.Need-word-requires (
 ) (put-domains-at t) put-domains.Post
 put-domains-word-requires t c κs = search needs
 
--- src/blocks.rt:112:5
 put-domains-put-head-requires : (t : ℕ) → put-domains-lts.Need-put-head-requires (
   word-reads.Asked,
   word-reads.Learnt,
@@ -64,7 +61,6 @@ put-domains-put-head-requires : (t : ℕ) → put-domains-lts.Need-put-head-requ
 ) (put-domains-at t) put-domains.Post
 put-domains-put-head-requires t c κs = search needs
 
--- src/blocks.rt:113:5
 put-domains-put-value-requires : (t : ℕ) → put-domains-lts.Need-put-value-requires (
   word-reads.Asked,
   word-reads.Learnt,
@@ -77,7 +73,6 @@ put-domains-put-value-requires : (t : ℕ) → put-domains-lts.Need-put-value-re
 ) (put-domains-at t) put-domains.Post
 put-domains-put-value-requires t c κs = search needs
 
--- src/blocks.rt:114:23
 put-domains-add-put-domains : (t : ℕ) → put-domains-lts.Need-add-put-domains (
   word-reads.Asked,
   word-reads.Learnt,
@@ -90,7 +85,6 @@ put-domains-add-put-domains : (t : ℕ) → put-domains-lts.Need-add-put-domains
 ) (put-domains-at t) put-domains.Post
 put-domains-add-put-domains t c = search needs
 
--- src/blocks.rt:114:33
 put-domains-add-put-domains-2 : (t : ℕ) → put-domains-lts.Need-add-put-domains-2 (
   word-reads.Asked,
   word-reads.Learnt,
@@ -103,7 +97,6 @@ put-domains-add-put-domains-2 : (t : ℕ) → put-domains-lts.Need-add-put-domai
 ) (put-domains-at t) put-domains.Post
 put-domains-add-put-domains-2 t c = search needs
 
--- src/blocks.rt:114:5
 put-domains-put-domains-requires : (t : ℕ) → put-domains-lts.Need-put-domains-requires (
   word-reads.Asked,
   word-reads.Learnt,
@@ -116,7 +109,6 @@ put-domains-put-domains-requires : (t : ℕ) → put-domains-lts.Need-put-domain
 ) (put-domains-at t) put-domains.Post
 put-domains-put-domains-requires t c κs = (omega arith, (omega arith, omega arith, omega arith))
 
--- src/blocks.rt:105:1
 put-domains-same-length : (t : ℕ) → put-domains-lts.Need-same-length (
   word-reads.Asked,
   word-reads.Learnt,
@@ -129,7 +121,6 @@ put-domains-same-length : (t : ℕ) → put-domains-lts.Need-same-length (
 ) (put-domains-at t) put-domains.Post
 put-domains-same-length t c = search needs
 
--- src/blocks.rt:105:1
 put-domains-returns-2 : (t : ℕ) → put-domains-lts.Need-returns-2 (
   word-reads.Asked,
   word-reads.Learnt,

@@ -3,29 +3,22 @@ use Rattle.evaluator.specs.Steps.{decisionOf}
 use borrow.Author.Needs.{needs}
 use Rattle.evaluator.proofs.operations.decides.Statement.{statement}
 use Rattle.evaluator.proofs.operations.decides.Tie as tie
-use Rattle.evaluator.proofs.operations.decides.Reads as reads
-use Rattle.evaluator.proofs.operations.decides.Lts as lts
 
--- src/operations.rt:259:13
 returns : tie.Need-returns
 unfolding decisionOf
 returns c = rw (c .before .if1 .taken, c .if2 .taken)
 
--- src/operations.rt:261:9
 returns-2 : tie.Need-returns-2
 unfolding decisionOf
 returns-2 c = rw (c .before .if1 .taken, c .if2 .left)
 
--- src/operations.rt:264:9
 returns-3 : tie.Need-returns-3
 returns-3 c = rw (c .if3 .taken) (right-side _ (c .before .if1 .left))
 
--- src/operations.rt:267:9
 returns-4 : tie.Need-returns-4
 unfolding decisionOf
 returns-4 c = rw (c .if4 .taken, c .before .if3 .left)
 
--- src/operations.rt:254:1
 returns-5 : tie.Need-returns-5
 returns-5 c = rw (c .before .if3 .left) (decided-false _ (c .before .before .if1 .left) (c .if4 .left))
 

@@ -4,19 +4,14 @@ use Rattle.evaluator.specs.Steps.{verdictOf}
 use borrow.Author.Needs.{needs}
 use Rattle.evaluator.proofs.operations.verdict.Statement.{statement}
 use Rattle.evaluator.proofs.operations.verdict.Tie as tie
-use Rattle.evaluator.proofs.operations.verdict.Reads as reads
-use Rattle.evaluator.proofs.operations.verdict.Lts as lts
 
--- src/operations.rt:277:9
 returns : tie.Need-returns
 unfolding verdictOf
 returns c = rw (c .if1 .taken)
 
--- src/operations.rt:280:9
 returns-2 : tie.Need-returns-2
 returns-2 c = rw (c .if2 .taken) (forall-verdict _ (c .before .if1 .left) true)
 
--- src/operations.rt:273:1
 returns-3 : tie.Need-returns-3
 returns-3 c = rw (c .if2 .left) (forall-verdict _ (c .before .if1 .left) false)
 
