@@ -3,11 +3,11 @@ use mathlib.Core.Path.{_≡_, refl, sym, ap, ap₂, subst, _∙_}
 use mathlib.Core.Bool.{Bool, true, false}
 use mathlib.Core.List.{List, [], _∷_, map}
 use mathlib.Core.Logic.{_⊎_, inl, inr, ⊎-elim}
-use Prim.Native.Nat.{ℕ, zero, suc, _+_, _*_, _-_, _≤_, _<_}
+use Prim.Native.Nat.{ℕ, zero, suc, _+_, _-_, _≤_, _<_}
 use native.Mathlib.Omega.{arith}
 use native.Mathlib.Nat.{eq-or-lt-of-le, eq-zero-or-pos}
-use lib.Dec.{eqb, ltb}
-use lib.ListN.{length, getD, set, length-set}
+use lib.Dec.{eqb}
+use lib.ListN.{length, set, length-set}
 use lib.Seq.{getD-set-same, getD-set-other, take-set-le}
 use Rattle.solver.specs.Settled.{lower, wordAt}
 use borrow.Author.Tests.{eqb-true, eqb-false, lt-ltb, le-ltb}
@@ -17,16 +17,16 @@ use Rattle.types.proofs.Finite.{all-of, depth, solution, solution-sat, tree-by,
 use Rattle.types.proofs.Rational.{rep-sat}
 use Rattle.types.proofs.Transfer.{follows-holds}
 use Rattle.types.specs.Classes.{Closed, rep}
-use Rattle.types.specs.Equations.{AllP, In, InP, Pairs, Solves, end, pair}
-use Rattle.types.specs.Finite.{allb, bounded, boundedView, fromList, typeOf, typeOfView}
+use Rattle.types.specs.Equations.{AllP, In, Pairs, Solves, end, pair}
+use Rattle.types.specs.Finite.{bounded, boundedView, fromList, typeOf, typeOfView}
 use Rattle.types.specs.Follows.{Follows, View, shape, unk}
 use Rattle.types.specs.Former.{Former, int}
-use Rattle.types.specs.Types.{Ty, Tys, node, size, sizes, tcons, tnil}
-use Rattle.solver.specs.Store.{frozen, linkAt, fieldAt, tagAt, firstAt, countAt, run, partsAt, formerAt, view, Cell, load, free, Both, Held, Solved}
+use Rattle.types.specs.Types.{Ty, node, size, sizes, tnil}
+use Rattle.solver.specs.Store.{frozen, tagAt, partsAt, formerAt, view, free, Held, Solved}
 use Rattle.solver.specs.Sizes.{cap, markAt, bare, typeAt, Sized, Marks, Same, Solution}
 use Rattle.solver.specs.Calls.{Known, Root}
 use Rattle.solver.proofs.Links.{rep-below, upto, upto-in, upto-len}
-use Rattle.solver.proofs.Words.{frozen-set, run-cons, link-same}
+use Rattle.solver.proofs.Words.{frozen-set, link-same}
 use Rattle.solver.proofs.Heads.{view-unk, view-shape}
 use Rattle.solver.proofs.Linking.{held-same}
 use Rattle.solver.proofs.Growing.{view-made, lt-or-ge}

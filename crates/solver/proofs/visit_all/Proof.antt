@@ -3,7 +3,8 @@ use Prim.Native.Nat.{_+_, _-_}
 use native.Mathlib.Omega.{arith}
 use Rattle.solver.specs.Sizes.{markAt}
 use Rattle.solver.proofs.Marking.{same-held}
-use Rattle.solver.proofs.Visiting.{Seen, visited-as, seen-start, seen-visiting, seen-step, seen-stop, seen-end}
+use Rattle.solver.proofs.Visiting.{visited-as}
+use Rattle.solver.proofs.Testing.{Seen, seen-start, seen-visiting, seen-step, seen-stop, seen-end}
 use borrow.Author.Needs.{needs}
 use Rattle.solver.proofs.visit_all.Statement.{statement}
 use Rattle.solver.proofs.visit_all.Tie as tie
