@@ -17,7 +17,7 @@ use Rattle.solver.proofs.Accepted.{start, same-pinned}
 use Rattle.solver.proofs.Answering.{in-getD}
 use Rattle.solver.proofs.Words.{run-at, run-length, frozen-length}
 use Rattle.solver.proofs.Extending.{added-builds, added-load, added-other, added-here, made-grows, made-load, made-above}
-use Rattle.tower.specs.Ready.{Ready, Row, Rowing, Rowed, Room, Built, Forming, Applying, Applied}
+use Rattle.tower.specs.Ready.{Ready, Row, Rowing, Rowed, Room, Built, Forming, Applying, Applied, Towering, Towered}
 
 -- An area with no cells.
 pub ready-start : (s d : List ℕ) → length s ≡ 52224 → Ready s d 0 4096 0
@@ -283,13 +283,13 @@ levels-start s t d e B = record {
   made = omega arith;
 }
 
-pub levels-applying : (s d : List ℕ) (n top x i levels : ℕ) → Levels s d n top x i → i < levels → levels ≤ 32 → length d < 2 ^ 31 → Applying s d n top x
-levels-applying s d n top x i levels Y l m f = record {
+pub levels-applying : (s d t : List ℕ) (n top x i start levels : ℕ) → Levels s d n top x i → i < levels → Towering t d start levels → Applying s d n top x
+levels-applying s d t n top x i start levels Y l T = record {
   ready = Y .ready;
-  cells = let z = Y .cells in omega arith;
-  words = let z = Y .cells in let y = Y .words in omega arith;
+  cells = let z = Y .cells in let m = T .within in omega arith;
+  words = let z = Y .cells in let y = Y .words in let m = T .within in omega arith;
   made = Y .made;
-  few = f;
+  few = T .few;
 }
 
 pub levels-step : (s t d : List ℕ) (n top x i : ℕ) (b : Bool) → Levels s d n top x i → b ≡ true → Applied s t d n top b → Levels t d (n + 11) (top + 34) (n + 8) (i + 1)
@@ -299,3 +299,6 @@ levels-step s t d n top x i b Y e A = record {
   words = let z = Y .words in omega arith;
   made = omega arith;
 }
+
+pub levels-end : (s d : List ℕ) (n top x i levels : ℕ) (b : Bool) → Levels s d n top x i → i ≡ levels → Towered s d levels b
+levels-end s d n top x i levels b Y e q = ready-as s d n (1 + 11 * levels) top (4096 + 34 * levels) 0 0 (let z = Y .cells in omega arith) (let z = Y .words in omega arith) refl (Y .ready)

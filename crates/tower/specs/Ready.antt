@@ -67,6 +67,17 @@ pub record Applying (s d : List ℕ) (n top x : ℕ) : Type 0 where
 abbrev pub Applied : List ℕ → List ℕ → List ℕ → ℕ → ℕ → Bool → Type 0
 Applied s s′ d n top fine = fine ≡ true → Ready s d n top 0 → Ready s′ d (n + 11) (top + 34) 0
 
+-- A tower of so many levels over ℤ (1) or an unknown (0).
+pub record Towering (s d : List ℕ) (start levels : ℕ) : Type 0 where
+  pub size : length s ≡ 52224
+  pub few : length d < 2 ^ 31
+  pub plain : start < 2
+  pub some : 1 ≤ levels
+  pub within : levels ≤ 32
+
+abbrev pub Towered : List ℕ → List ℕ → ℕ → Bool → Type 0
+Towered s d levels fine = fine ≡ true → Ready s d (1 + 11 * levels) (4096 + 34 * levels) 0
+
 -- The store is built, and x one of its cells.
 pub record Asked (s d : List ℕ) (n x : ℕ) : Type 0 where
   pub top : ℕ

@@ -1,10 +1,8 @@
 // The tower f (f (.. (f 1))) of applications of a generic f : ℙ (X × T), where T has 24 copies of X in a size of 32: nine levels, as deep as a document may be.
-// The tree of its type has more than 24⁹ parts, over 10¹²; the solver has 100 cells. stdout holds the outcome.
+// The tree of its type has more than 24⁹ parts, over 10¹²; the store has 100 cells. stdout holds the outcomes: one level, nine, and nine tied to their own number.
 use libc::STDOUT_FILENO;
-ghost use mathlib.Core.Path.{_≡_};
-ghost use Prim.Native.Nat.{ℕ, _+_, _≤_, _<_, _^_};
-ghost use lib.ListN.{length};
-ghost use Rattle.tower.specs.Ready.{Rowing, Rowed, Room, Built, Forming, Applying, Applied, Asked};
+ghost use Prim.Native.Nat.{_<_};
+ghost use Rattle.tower.specs.Ready.{Rowing, Rowed, Room, Built, Forming, Applying, Applied, Towering, Towered, Asked};
 
 const LEVELS: usize = 9;
 
@@ -108,11 +106,12 @@ fn ask(a: &mut [u32], d: &[u32], n: usize, x: usize) -> Outcome
     Outcome::Cycle
 }
 
-// The tower of so many levels, from the number's type ℤ on.
-fn tower(a: &mut [u32], d: &[u32], levels: usize) -> Outcome
-    requires { ⌜ (length (now a) ≡ 52224) × (length (now d) < 2 ^ 31) × (levels ≤ 32) ⌝ }
+// The levels over the type of cell 0, ℤ or an unknown. The last one's type is the third cell from the end.
+fn build(a: &mut [u32], d: &[u32], start: u32, levels: usize) -> bool
+    requires { ⌜ Towering (now a) (now d) start levels ⌝ }
+    ensures { λ r. ⌜ Towered (now (a .exit)) (now (d .entry)) levels r ⌝ }
 {
-    former(a, 0, RUNS, INTEGER, 0, 0, 0, 0);
+    former(a, 0, RUNS, start, 0, 0, 0, 0);
     let mut n = 1;
     let mut top = RUNS;
     let mut x = 0;
@@ -124,16 +123,32 @@ fn tower(a: &mut [u32], d: &[u32], levels: usize) -> Outcome
             top += PARTS;
             i += 1;
         } else {
-            return Outcome::Clash;
+            return false;
         }
     }
-    ask(a, d, n, x)
+    true
 }
 
-fn main() {
-    let mut a = [0u32; 52224];
-    let d = [0u32; 1];
-    match tower(&mut a, &d, LEVELS) {
+// The tower; with a tie, its type is to be that of its own number.
+fn tower(a: &mut [u32], d: &[u32], start: u32, levels: usize, tie: bool) -> Outcome
+    requires { ⌜ Towering (now a) (now d) start levels ⌝ }
+{
+    if build(a, d, start, levels) {
+        let n = 1 + CELLS * levels;
+        let x = n - 3;
+        if tie {
+            if solver::merge(a, d, 0, x) {
+                return ask(a, d, n, x);
+            }
+            return Outcome::Clash;
+        }
+        return ask(a, d, n, x);
+    }
+    Outcome::Clash
+}
+
+fn show(outcome: Outcome) {
+    match outcome {
         Outcome::Clash => {
             io::write_all(STDOUT_FILENO, b"clash\n");
         }
@@ -142,10 +157,21 @@ fn main() {
         }
         Outcome::Solved { size } => {
             if size < 33 {
-                io::write_all(STDOUT_FILENO, b"solved, size at most 32\n");
+                io::write_all(STDOUT_FILENO, b"solved, size ");
+                io::print_decimal(STDOUT_FILENO, size as u64);
+                io::write_all(STDOUT_FILENO, b"\n");
             } else {
                 io::write_all(STDOUT_FILENO, b"solved, size over 32\n");
             }
         }
     }
+}
+
+fn main() {
+    let mut a = [0u32; 52224];
+    let d = [0u32; 1];
+    show(tower(&mut a, &d, INTEGER, 1, false));
+    show(tower(&mut a, &d, INTEGER, LEVELS, false));
+    show(tower(&mut a, &d, INTEGER, LEVELS, true));
+    show(tower(&mut a, &d, UNKNOWN, LEVELS, true));
 }

@@ -1,94 +1,92 @@
-use Prim.Native.Nat.{_≤_, _-_}
+use mathlib.Core.Bool.{true}
 use native.Mathlib.Omega.{arith}
-use Rattle.tower.proofs.Building.{form-plain, ready-start, Levels, levels-start, levels-applying, levels-step}
+use Rattle.tower.proofs.Building.{asking, ready-merge, merged-as}
 use borrow.Author.Needs.{needs}
 use Rattle.tower.proofs.tower.Statement.{statement}
 use Rattle.tower.proofs.tower.Tie as tie
 use Rattle.tower.proofs.tower.Reads as reads
 use Rattle.tower.proofs.tower.Lts as lts
+use Rattle.solver.proofs.merge.Reads as merge-reads
 use Rattle.tower.proofs.ask.Reads as ask-reads
-use Rattle.tower.proofs.former.Reads as former-reads
-use Rattle.tower.proofs.level.Reads as level-reads
+use Rattle.tower.proofs.build.Reads as build-reads
 
-abbrev Inv-loop : tie.InvT-loop
-Inv-loop a₀ d levels n₀ top₀ x₀ i₀ a n top x i = (i ≤ levels) × Levels a d n top x i
+-- src/main.rt:136:8
+build-requires : tie.Need-build-requires
+build-requires c κs = search needs
 
-abbrev μ-loop : tie.MeasureT-loop
-μ-loop a₀ d levels n₀ top₀ x₀ i₀ a n top x i = levels - i
+-- src/main.rt:137:21
+mul-n : tie.Need-mul-n
+mul-n c = let w = c .before .before .before .before .before .before .before .pre .within in omega arith
 
--- src/main.rt:115:5
-former-requires : tie.Need-former-requires Inv-loop μ-loop
-former-requires c κs = form-plain _ _ _ 1 (record { d = c .before .before .before .args .d .now; ready = ready-start _ _ (c .before .before .before .pre .0); cells = omega arith; words = omega arith }) (omega arith)
+-- src/main.rt:137:17
+add-n : tie.Need-add-n
+add-n c = let w = c .before .before .before .before .before .before .before .pre .within in omega arith
 
--- src/main.rt:120:5
-loop-holds : tie.Need-loop-holds Inv-loop μ-loop
-loop-holds c = (omega arith, levels-start _ _ _ (c .before .before .before .before .before .before .pre .0) (c .before .before .former .ensures))
+-- src/main.rt:138:17
+sub-x : tie.Need-sub-x
+sub-x c = let w = c .before .before .before .before .before .before .before .pre .some in omega arith
 
--- src/main.rt:121:12
-level-requires : tie.Need-level-requires Inv-loop μ-loop
-level-requires c κs = levels-applying _ _ _ _ _ _ _ (c .before .before .loop .inv .1) (c .before .loop-test .taken) (c .before .before .before .before .before .before .before .before .before .pre .2) (c .before .before .before .before .before .before .before .before .before .pre .1)
+-- src/main.rt:140:16
+merge-requires : tie.Need-merge-requires
+merge-requires c κs = let P = c .before .before .before .before .before .before .before .before .before .pre in let s = P .some in asking _ _ _ _ _ _ (c .before .before .before .before .before .build .ensures (c .before .before .if1 .taken)) (omega arith) (omega arith) (P .few)
 
--- src/main.rt:122:17
-add-x : tie.Need-add-x Inv-loop μ-loop
-add-x c = let z = c .before .before .before .before .before .before .loop .inv .1 .cells in let l = c .before .before .before .before .before .loop-test .taken in let h = c .before .before .before .before .before .before .before .before .before .before .before .before .before .pre .2 in omega arith
+-- src/main.rt:141:17
+ask-requires : tie.Need-ask-requires
+ask-requires c κs = let P = c .before .before .before .before .before .before .before .before .before .before .before .before .before .before .pre in let s = P .some in
+    record { top = _; ready = ready-merge _ _ _ _ _ _ _ (c .before .before .before .before .before .before .before .before .before .before .build .ensures (c .before .before .before .before .before .before .before .if1 .taken)) (omega arith) (omega arith) (merged-as _ _ _ _ _ _ true (c .before .if3 .taken) (c .before .before .before .before .merge .ensures)); made = omega arith; few = P .few }
 
--- src/main.rt:123:13
-add-n : tie.Need-add-n Inv-loop μ-loop
-add-n c = let z = c .before .before .before .before .before .before .loop .inv .1 .cells in let l = c .before .before .before .before .before .loop-test .taken in let h = c .before .before .before .before .before .before .before .before .before .before .before .before .before .pre .2 in omega arith
-
--- src/main.rt:124:13
-add-top : tie.Need-add-top Inv-loop μ-loop
-add-top c = let z = c .before .before .before .before .before .before .loop .inv .1 .words in let l = c .before .before .before .before .before .loop-test .taken in let h = c .before .before .before .before .before .before .before .before .before .before .before .before .before .pre .2 in omega arith
-
--- src/main.rt:125:13
-add-i : tie.Need-add-i Inv-loop μ-loop
-add-i c = let l = c .before .before .before .before .before .loop-test .taken in let h = c .before .before .before .before .before .before .before .before .before .before .before .before .before .pre .2 in omega arith
-
--- src/main.rt:120:5
-loop-less : tie.Need-loop-less Inv-loop μ-loop
-loop-less c = let l = c .before .before .before .before .before .loop-test .taken in omega arith
-
--- src/main.rt:120:5
-loop-again : tie.Need-loop-again Inv-loop μ-loop
-loop-again c = let l = c .before .before .before .before .before .loop-test .taken in (omega arith, levels-step _ _ _ _ _ _ _ _ (c .before .before .before .before .before .before .loop .inv .1) (c .if1 .taken) (c .before .before .before .level .ensures))
-
--- src/main.rt:127:13
-same-length : tie.Need-same-length Inv-loop μ-loop
+-- src/main.rt:141:17
+same-length : tie.Need-same-length
 same-length c = search needs
 
--- src/main.rt:127:13
-returns : tie.Need-returns Inv-loop μ-loop
+-- src/main.rt:141:17
+returns : tie.Need-returns
 returns c = search needs
 
--- src/main.rt:130:5
-ask-requires : tie.Need-ask-requires Inv-loop μ-loop
-ask-requires c κs = record { top = c .before .before .loop .top; ready = c .before .before .loop .inv .1 .ready; made = c .before .before .loop .inv .1 .made; few = c .before .before .before .before .before .before .before .before .before .pre .1 }
-
--- src/main.rt:112:1
-same-length-2 : tie.Need-same-length-2 Inv-loop μ-loop
+-- src/main.rt:143:13
+same-length-2 : tie.Need-same-length-2
 same-length-2 c = search needs
 
--- src/main.rt:112:1
-returns-2 : tie.Need-returns-2 Inv-loop μ-loop
+-- src/main.rt:143:13
+returns-2 : tie.Need-returns-2
 returns-2 c = search needs
+
+-- src/main.rt:145:9
+ask-requires-2 : tie.Need-ask-requires-2
+ask-requires-2 c κs = let P = c .before .before .before .before .before .before .before .before .before .pre in let s = P .some in record { top = _; ready = (c .before .before .before .before .before .build .ensures (c .before .before .if1 .taken)); made = omega arith; few = P .few }
+
+-- src/main.rt:145:9
+same-length-3 : tie.Need-same-length-3
+same-length-3 c = search needs
+
+-- src/main.rt:145:9
+returns-3 : tie.Need-returns-3
+returns-3 c = search needs
+
+-- src/main.rt:133:1
+same-length-4 : tie.Need-same-length-4
+same-length-4 c = search needs
+
+-- src/main.rt:133:1
+returns-4 : tie.Need-returns-4
+returns-4 c = search needs
 
 pub tower-spec : {M : Type 1} → statement M
 tower-spec =
     tie.close
     (tie.spec
-    Inv-loop
-    μ-loop
-    former-requires
-    loop-holds
-    level-requires
-    add-x
+    build-requires
+    mul-n
     add-n
-    add-top
-    add-i
-    loop-less
-    loop-again
+    sub-x
+    merge-requires
+    ask-requires
     same-length
     returns
-    ask-requires
     same-length-2
-    returns-2)
+    returns-2
+    ask-requires-2
+    same-length-3
+    returns-3
+    same-length-4
+    returns-4)
