@@ -1,55 +1,18 @@
-//! Finds the proved library's archive and which calls of calls.txt it has, and
-//! writes the table of those that are linked. The archive is the one that
-//! Z_LIB names, else target/staticlib/libcapi.a of the project.
+//! Writes the table of those calls of calls.txt that are linked: the crate
+//! grillsonnet, which links the proved library's archive, says which it has.
 
-use std::collections::BTreeSet;
 use std::path::{Path, PathBuf};
-use std::process::Command;
 
 fn main() {
-    println!("cargo:rerun-if-env-changed=Z_LIB");
-    println!("cargo:rerun-if-changed=calls.txt");
-    println!("cargo:rerun-if-changed=build.rs");
-    let archive = archive();
-    println!("cargo:rerun-if-changed={}", archive.display());
-    let symbols = symbols(&archive);
+    println!("cargo::rerun-if-changed=calls.txt");
+    println!("cargo::rerun-if-changed=build.rs");
+    let told = |name: &str| std::env::var(name).expect("the crate grillsonnet tells it");
+    let archive = PathBuf::from(told("DEP_CAPI_ARCHIVE"));
+    let symbols: Vec<String> = told("DEP_CAPI_CALLS").split(' ').map(str::to_string).collect();
     let table = std::fs::read_to_string("calls.txt").expect("calls.txt");
     let calls: Vec<Call> = table.lines().filter_map(Call::parse).collect();
     let out = PathBuf::from(std::env::var("OUT_DIR").expect("OUT_DIR")).join("linked.rs");
     std::fs::write(out, linked(&archive, &calls, &symbols)).expect("linked.rs");
-    if calls.iter().any(|call| symbols.contains(&call.symbol)) {
-        link(&archive);
-    }
-}
-
-fn archive() -> PathBuf {
-    let path = match std::env::var("Z_LIB") {
-        Ok(path) if !path.is_empty() => PathBuf::from(path),
-        _ => PathBuf::from("../../target/staticlib/libcapi.a"),
-    };
-    path.canonicalize().unwrap_or(path)
-}
-
-/// The functions that the archive defines.
-fn symbols(archive: &Path) -> BTreeSet<String> {
-    if !archive.exists() {
-        return BTreeSet::new();
-    }
-    let output = Command::new("nm").arg("--defined-only").arg(archive).output().expect("nm runs");
-    let text = String::from_utf8_lossy(&output.stdout).into_owned();
-    let name = |line: &str| match line.split_whitespace().collect::<Vec<_>>()[..] {
-        [_, "T" | "W", name] => Some(name.to_string()),
-        _ => None,
-    };
-    text.lines().filter_map(name).collect()
-}
-
-fn link(archive: &Path) {
-    let directory = archive.parent().expect("the archive's directory");
-    let stem = archive.file_stem().expect("a name").to_string_lossy().into_owned();
-    let name = stem.strip_prefix("lib").expect("the archive is called lib*.a");
-    println!("cargo:rustc-link-search=native={}", directory.display());
-    println!("cargo:rustc-link-lib=static={name}");
 }
 
 struct Call {
@@ -75,26 +38,14 @@ impl Call {
         self.operands.iter().any(|each| each == operand)
     }
 
-    /// The declaration, and a function that hands the slices over.
+    /// A function that hands the slices over and gives the answer as the one
+    /// number that the library gave.
     fn code(&self) -> String {
         let Call { symbol, operands, .. } = self;
-        let pointer = |operand: &str| match operand {
-            "document" | "state" => "*const u32",
-            _ => "*mut u32",
-        };
-        let taken: Vec<String> =
-            operands.iter().map(|o| format!("{o}: {}, {o}_words: usize", pointer(o))).collect();
-        let given: Vec<String> = operands
-            .iter()
-            .map(|o| match pointer(o) {
-                "*const u32" => format!("s.{o}.as_ptr(), s.{o}.len()"),
-                _ => format!("s.{o}.as_mut_ptr(), s.{o}.len()"),
-            })
-            .collect();
+        let function = symbol.strip_prefix("z_").expect("a call is called z_*");
+        let given: Vec<String> = operands.iter().map(|operand| format!("s.{operand}")).collect();
         format!(
-            "extern \"C\" {{ fn {symbol}({}) -> u64; }}\n\
-             fn call_{symbol}(s: &mut Slices) -> u64 {{ unsafe {{ {symbol}({}) }} }}\n",
-            taken.join(", "),
+            "fn call_{symbol}(s: &mut Slices) -> u64 {{ grillsonnet::{function}({}).code() }}\n",
             given.join(", ")
         )
     }
@@ -112,13 +63,12 @@ impl Call {
     }
 }
 
-fn linked(archive: &Path, calls: &[Call], symbols: &BTreeSet<String>) -> String {
+fn linked(archive: &Path, calls: &[Call], symbols: &[String]) -> String {
     let (there, absent): (Vec<&Call>, Vec<&Call>) =
         calls.iter().partition(|call| symbols.contains(&call.symbol));
     let mut code = String::new();
     there.iter().for_each(|call| code += &call.code());
     code += &format!("pub const ARCHIVE: &str = {:?};\n", archive.display().to_string());
-    code += &format!("pub const ARCHIVE_FOUND: bool = {};\n", archive.exists());
     let names: Vec<&str> = absent.iter().map(|call| call.symbol.as_str()).collect();
     code += &format!("pub const NOT_LINKED: &[&str] = &{names:?};\n");
     code += "pub const CALLS: &[Call] = &[\n";

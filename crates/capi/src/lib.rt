@@ -1,9 +1,13 @@
 // The calls for C and Rust. Each gives its finding as one number.
 use syntax::Reading;
+use typing::Finding;
 ghost use mathlib.Core.Path.{_≡_};
+ghost use lib.ListN.{length};
 ghost use Rattle.syntax.specs.Reading.{readOf};
 ghost use Rattle.states.specs.States.{stateCheckOf};
-ghost use Rattle.capi.specs.Code.{codeOf};
+ghost use Rattle.printer.specs.Print.{printOf};
+ghost use Rattle.printer.specs.Buffer.{Printed};
+ghost use Rattle.capi.specs.Code.{codeOf, findingOf};
 
 // A finding as one number: 0 where there is none, else number * 2^32 + place.
 fn code_of(r: Reading) -> u64
@@ -29,4 +33,26 @@ pub extern "C" fn z_state(doc: &[u32], state: &[u32]) -> u64
     ensures { λ n. ⌜ n ≡ codeOf (stateCheckOf (now (doc .entry)) (now (state .entry))) ⌝ }
 {
     code_of(states::check_state(doc, state))
+}
+
+// The finding of a check that a number codes.
+fn finding_of(code: u64) -> Finding
+    ensures { λ f. ⌜ f ≡ findingOf code ⌝ }
+{
+    if code == 0 {
+        return Finding::Accepted;
+    }
+    Finding::Refused {
+        number: (code / 4294967296) as u32,
+        place: (code % 4294967296) as u32,
+    }
+}
+
+// The printed finding of a check and its dictionary as a string of C: its length; 0 where it and the zero that ends it have no room, and then the
+// buffer is all zero.
+#[no_mangle]
+pub extern "C" fn z_print(finding: u64, dict: &[u32], out: &mut [u8]) -> usize
+    ensures { λ r. ⌜ Printed (printOf (findingOf finding) (now (dict .entry))) (length (now (out .entry))) r (now (out .exit)) ⌝ }
+{
+    printer::print_finding(finding_of(finding), dict, out)
 }

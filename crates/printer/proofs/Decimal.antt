@@ -7,7 +7,7 @@ use native.Mathlib.Omega.{arith}
 use native.Mathlib.Nat.{div-add-mod', mod-lt, pow-suc}
 use lib.Dec.{ltb}
 use lib.ListN.{length, getD, length-append}
-use borrow.Author.Tests.{ltb-true, ltb-false}
+use borrow.Author.Tests.{ltb-true, ltb-false, lt-ltb, le-ltb}
 use Rattle.printer.specs.Decimal.{digits, decimal, shown, Digits, none, digit}
 
 -- the digits of n by its last digit
@@ -121,3 +121,28 @@ digits-few (suc d) n (suc k) h l = go (ltb n 10) refl k l (λ x y. digits-few d 
 pub word-few : (n : ℕ) → n < 2 ^ 32 → length (decimal n) ≤ 10
 unfolding decimal
 word-few n h = digits-few (suc n) n 10 (omega arith) (omega arith)
+
+-- room for more digits changes nothing
+digits-room : (d e n : ℕ) → n < d → n < e → digits d n ≡ digits e n
+unfolding digits
+digits-room zero e n h l = absurd (omega arith)
+digits-room (suc d) zero n h l = absurd (omega arith)
+digits-room (suc d) (suc e) n h l = go (ltb n 10) refl (λ p q. digits-room d e (n / 10) p q)
+  where
+    go : (b : Bool) → ltb n 10 ≡ b → (n / 10 < d → n / 10 < e → digits d (n / 10) ≡ digits e (n / 10)) → last b d n ≡ last b e n
+    go true x ih = refl
+    go false x ih =
+        let k = ltb-false n 10 x in
+        let t = tenth n in
+        ap (λ (z : List ℕ). z ++ ((48 + n % 10) ∷ [])) (ih (omega arith) (omega arith))
+
+-- one digit; more digits: those of the tenth, then the last
+pub decimal-one : (n : ℕ) → n < 10 → decimal n ≡ (48 + n) ∷ []
+unfolding decimal digits
+decimal-one n h = ap (λ (b : Bool). last b n n) (lt-ltb n 10 h)
+
+pub decimal-more : (n : ℕ) → 10 ≤ n → decimal n ≡ decimal (n / 10) ++ ((48 + n % 10) ∷ [])
+unfolding decimal digits
+decimal-more n h =
+    let t = tenth n in
+    ap (λ (b : Bool). last b n n) (le-ltb n 10 h) ∙ (ap (λ (z : List ℕ). z ++ ((48 + n % 10) ∷ [])) (digits-room n (suc (n / 10)) (n / 10) (omega arith) (omega arith)))

@@ -1,22 +1,25 @@
--- How long the printed lines are: eleven bytes a word are enough, and 33 for the rest.
+-- How long the printed lines are: eleven bytes a word are enough, and 34 for the rest with a zero after them.
 use mathlib.Core.Path.{_≡_, refl, sym, ap, subst, _∙_}
 use mathlib.Core.List.{List, [], _∷_, _++_, append-assoc}
 use mathlib.Core.Bool.{Bool, true, false, cond}
 use Prim.Native.Nat.{ℕ, zero, suc, _+_, _*_, _-_, _^_, _≤_, _<_}
 use native.Mathlib.Omega.{arith}
 use lib.Dec.{eqb}
-use lib.ListN.{length, getD, take, drop, replicate, length-append, length-take, length-drop}
-use lib.Seq.{getD-append-add}
+use borrow.Author.Tests.{lt-ltb}
+use lib.ListN.{length, take, drop, replicate, length-append, length-take, length-drop, length-replicate}
 use Rattle.words.specs.Loops.{total, joined}
 use Rattle.layout.specs.Layout.{count, lengthAt, offsetAt, part}
-use Rattle.typing.specs.Dictionary.{Entry, Dictionary, entryWords, entries, entryPairs, allWords, laidOutWords, dictionaryWords, dictionaryLength}
-use Rattle.typing.specs.Check.{Answer, accepted, refused}
-use Rattle.typing.specs.Areas.{findingOf, dictionaryAfter}
+use Rattle.typing.specs.Dictionary.{dictionaryWords, dictionaryLength}
+use Rattle.typing.specs.Check.{Answer, accepted, refused, checkOf}
+use Rattle.typing.specs.Areas.{findingOf, dictionaryAfter, Checked}
+use Rattle.typing.specs.declared.Finding.{Finding}
 use Rattle.printer.specs.Decimal.{decimal}
 use Rattle.printer.specs.Lines.{acceptedBytes, refusedBytes, atBytes, spaced, numbers, entryLine, dictionarySize, entryLines, acceptedLines, refusedLine}
-use Rattle.printer.specs.Print.{printOf}
-use Rattle.printer.specs.Bounds.{Words, none, word, Within, enough}
+use Rattle.printer.specs.Print.{printOf, printedAnswer}
+use Rattle.printer.specs.Buffer.{printedBytes, printedLength, Printed}
+use Rattle.printer.specs.Bounds.{Words, none, word, OfWords, placed, enough}
 use Rattle.printer.proofs.Decimal.{word-few}
+use Rattle.printer.proofs.SizeLaws.{taken, taken-length, size-length}
 
 words-take : (n : ℕ) {ws : List ℕ} → Words ws → Words (take n ws)
 words-take zero h = none
@@ -78,55 +81,54 @@ lines-length {d} h i (suc m) =
     let c = lines-length h (suc i) m in
     simp length-append (omega arith)
 
-pub accepted-length : (d : List ℕ) → Words d → dictionarySize d < 2 ^ 32 → length (acceptedLines d) ≤ 11 * dictionarySize d + 20
-unfolding acceptedLines acceptedBytes entryLines dictionarySize
+count-word : {d : List ℕ} → Words d → count d < 2 ^ 32
+count-word none = omega arith
+count-word (word l h) = l
+
+accepted-length : (d : List ℕ) → Words d → dictionarySize d < 2 ^ 32 → length (acceptedLines d) ≤ 11 * taken d + 20
+unfolding acceptedLines acceptedBytes entryLines
 accepted-length d h l =
     let a = lines-length h 1 (count d) in
-    let b = spaced-length (word {w = 1 + 2 * count d + total (lengthAt d) 1 (count d)} l (word {w = count d} (omega arith) none)) in
+    let b = spaced-length (word {w = dictionarySize d} l (word {w = count d} (count-word h) none)) in
     simp length-append (omega arith)
 
-pub refused-length : (n p : ℕ) → n < 2 ^ 32 → p < 2 ^ 32 → length (refusedLine n p) ≤ 33
+refused-length : (n p : ℕ) → n < 2 ^ 32 → p < 2 ^ 32 → length (refusedLine n p) ≤ 33
 unfolding refusedLine refusedBytes atBytes
 refused-length n p h l =
     let a = spaced-length (word h none) in
     let b = spaced-length (word l none) in
     simp length-append (omega arith)
 
--- the size of a dictionary in its area is the number of its words
-pairs-total : (es : List Entry) (o i : ℕ) (pre rest : List ℕ) → length pre + 1 ≡ 2 * i → total (λ k. getD (pre ++ (entryPairs es o ++ rest)) (2 * k) 0) i (length es) ≡ length (allWords es)
-unfolding entryPairs total allWords
-pairs-total [] o i pre rest h = refl
-pairs-total (e ∷ es) o i pre rest h =
-    let l = length (entryWords e) in
-    let again : (pre ++ (o ∷ l ∷ [])) ++ (entryPairs es (o + l) ++ rest) ≡ pre ++ (o ∷ l ∷ (entryPairs es (o + l) ++ rest)) = append-assoc pre (o ∷ l ∷ []) _ in
-    let ih = pairs-total es (o + l) (suc i) (pre ++ (o ∷ l ∷ [])) rest (simp length-append (omega arith)) in
-    let head : getD (pre ++ (o ∷ l ∷ (entryPairs es (o + l) ++ rest))) (2 * i) 0 ≡ l = subst (λ (n : ℕ). getD (pre ++ (o ∷ l ∷ (entryPairs es (o + l) ++ rest))) n 0 ≡ l) h (getD-append-add pre _ 1 0) in
-    let tail = subst (λ (z : List ℕ). total (λ k. getD z (2 * k) 0) (suc i) (length es) ≡ length (allWords es)) again ih in
-    let n = length-append (entryWords e) (allWords es) in
-    omega (arith, head, tail)
-
-pairs-length : (es : List Entry) (o : ℕ) → length (entryPairs es o) ≡ 2 * length es
-unfolding entryPairs
-pairs-length [] o = refl
-pairs-length (e ∷ es) o = let h = pairs-length es (o + length (entryWords e)) in omega arith
-
-pub size-length : (D : Dictionary) (zs : List ℕ) → dictionarySize (dictionaryWords D ++ zs) ≡ dictionaryLength D
-unfolding dictionarySize dictionaryWords laidOutWords
-size-length D zs =
-    let es = entries D in
-    let o = 1 + 2 * length es in
-    let a = pairs-total es o 1 (length es ∷ []) (allWords es ++ zs) refl in
-    let b = pairs-length es o in
-    let c = length-append (entryPairs es o) (allWords es) in
-    let again : length es ∷ ((entryPairs es o ++ allWords es) ++ zs) ≡ length es ∷ (entryPairs es o ++ (allWords es ++ zs)) = ap (λ (z : List ℕ). length es ∷ z) (append-assoc (entryPairs es o) (allWords es) zs) in
-    let t = subst (λ (z : List ℕ). total (λ k. getD z (2 * k) 0) 1 (length es) ≡ length (allWords es)) (sym again) a in
-    omega (arith, t)
-
--- the bound: for every answer and every area of n words
-pub print-length : (a : Answer) (n : ℕ) → n < 2 ^ 32 → Within a n → Words (dictionaryAfter a n) → length (printOf (findingOf a) (dictionaryAfter a n)) ≤ enough n
-unfolding printOf findingOf dictionaryAfter Within
-print-length (accepted D) n l f h =
-    let e = size-length D (replicate (n - dictionaryLength D) 0) in
+answer-length : (a : Answer) (n : ℕ) → n < 2 ^ 32 → length (dictionaryAfter a n) ≡ n → Words (dictionaryAfter a n) → OfWords (findingOf a)
+    → length (printedAnswer a n) < enough n
+unfolding printedAnswer printOf findingOf dictionaryAfter
+answer-length (accepted D) n l e h v =
+    let zs : List ℕ = replicate (n - dictionaryLength D) 0 in
+    let z : length zs ≡ n - dictionaryLength D = length-replicate _ _ in
+    let c = length-append (dictionaryWords D) zs in
+    let s = size-length D zs in
+    let t = taken-length D zs in
     let k = accepted-length _ h (omega arith) in
     omega arith
-print-length (refused m p) n l f h = let k = refused-length m p (f .0) (f .1) in omega arith
+answer-length (refused m p) n l e h (placed x y) = let k = refused-length m p x y in omega arith
+
+-- what the check call leaves: a finding, and a dictionary area of n words
+module _ {doc dict work : List ℕ} {n w : ℕ} {f : Finding} (c : Checked doc n w f dict work) (l : n < 2 ^ 32) (e : length dict ≡ n) (h : Words dict) (v : OfWords f) where
+  -- its lines leave a byte of a buffer of `enough n`
+  pub print-length : length (printOf f dict) < enough n
+  unfolding printedAnswer
+  print-length =
+      let a = checkOf doc n w in
+      let r = c .recorded in
+      rw (c .finding, r) (answer-length a n l (sym (ap length r) ∙ e) (subst Words r h) (subst OfWords (c .finding) v))
+
+  -- so in such a buffer they stand whole
+  pub print-whole : {size r : ℕ} {out : List ℕ} → enough n ≤ size → Printed (printOf f dict) size r out
+      → (r ≡ length (printOf f dict)) × (out ≡ printOf f dict ++ replicate (size - r) 0)
+  unfolding printedBytes printedLength
+  print-whole {size} {r} {out} room p =
+      let t = printOf f dict in
+      let k = print-length in
+      let fits = lt-ltb (length t) size (omega arith) in
+      let q : r ≡ length t = p .count ∙ rw fits refl in
+      (q, p .bytes ∙ rw (fits, q) refl)

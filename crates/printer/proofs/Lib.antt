@@ -1,4 +1,7 @@
+pub mod PutLaws
+pub mod LineLaws
 pub mod Decimal
+pub mod SizeLaws
 pub mod Lengths
 pub mod Marked
 pub mod Printed

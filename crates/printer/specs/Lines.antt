@@ -1,9 +1,11 @@
 -- The printed lines (document 01, "The printed finding"). Words and numbers are parted by one space, byte 32; a line ends in byte 10.
 use mathlib.Core.List.{List, [], _∷_, _++_}
-use Prim.Native.Nat.{ℕ, zero, suc, _+_, _*_}
+use mathlib.Core.Bool.{cond}
+use Prim.Native.Nat.{ℕ, _+_}
+use lib.Dec.{eqb}
 use lib.ListN.{take, drop}
-use Rattle.words.specs.Loops.{total, joined}
-use Rattle.layout.specs.Layout.{count, lengthAt, part}
+use Rattle.words.specs.Loops.{joined}
+use Rattle.layout.specs.Layout.{count, offsetAt, lengthAt, part}
 use Rattle.printer.specs.Decimal.{decimal}
 
 -- "accepted", "refused", "at"
@@ -30,9 +32,9 @@ numbers (w ∷ ws) = decimal w ++ spaced ws
 unfoldable pub entryLine : List ℕ → List ℕ
 entryLine w = numbers (take 3 w) ++ (32 ∷ 58 ∷ (spaced (drop 3 w) ++ (10 ∷ [])))
 
--- the words of a dictionary that stands at the beginning of its area: count, pairs and entries
+-- the words of a dictionary that stands at the beginning of its area: the last entry ends them, the count where there is none
 unfoldable pub dictionarySize : List ℕ → ℕ
-dictionarySize d = 1 + 2 * count d + total (lengthAt d) 1 (count d)
+dictionarySize d = cond (eqb (count d) 0) 1 (offsetAt d (count d) + lengthAt d (count d))
 
 unfoldable pub entryLines : List ℕ → List ℕ
 entryLines d = joined (λ k. entryLine (part d k)) 1 (count d)

@@ -11,10 +11,10 @@ use lib.Seq.{take-set-le}
 use Rattle.types.specs.Equations.{Pairs, Solves}
 use Rattle.types.specs.Follows.{unk}
 use Rattle.types.specs.Types.{Ty}
-use Rattle.solver.specs.Store.{frozen, linkAt, tagAt, view, viewOf, Held, Solved}
-use Rattle.solver.specs.Calls.{put, Making, Made}
+use Rattle.solver.specs.Store.{frozen, linkAt, tagAt, load, view, viewOf, Held, Solved}
+use Rattle.solver.specs.Calls.{put, Above, Making, Made}
 use Rattle.solver.specs.Settled.{lower, heap, Reads, Readable, wordAt, Pinned, Obeys, Fits, Kept, Pinning, Pin, Settling, Entering, Entered}
-use Rattle.solver.proofs.Growing.{put-other, put-length, put-0, there, t-at, made}
+use Rattle.solver.proofs.Growing.{put-other, put-length, put-0, there, t-at, made, made-above, made-load}
 use Rattle.solver.proofs.Words.{link-new}
 use Rattle.solver.proofs.Settling.{heap-kept, settled, settled-before, settled-type, settled-after, kept-held}
 use Rattle.solver.proofs.Tying.{solved-kept}
@@ -130,6 +130,8 @@ module _ (s d : List ℕ) (n p : ℕ) (E : Entering s d n p) (M : Made s (put s 
     before = λ σ O. made-before s d n 0 0 4096 0 sz few σ (settled-before t d n p S few-word (suc n) σ O);
     type = λ g R σ O. settled-type t d n p S few-word (suc n) (omega arith) g (rd g R) σ O;
     after = λ g R σ O e. settled-after t d n p S few-word (suc n) g (rd g R) σ (made-after s d n 0 0 4096 0 sz few σ O) e;
+    fit = ap (λ w. load w (suc n)) (X .kept .still) ∙ made-load s t n 0 0 4096 0 (E .making) M ∙ (let z : load (frozen s) n + 1 + 0 ≡ load (frozen s) n + 1 = omega arith in z);
+    above = λ top B. subst (λ w. Above w (suc n) top) (sym (X .kept .still)) (made-above s t n 0 0 4096 0 (E .making) M top B (let z = B .low in omega arith) (λ e. absurd (omega arith)));
   }
     where
       few-word : wordAt t n < 1025

@@ -19,22 +19,23 @@ use Rattle.types.specs.Types.{Ty, node, tnil}
 use Rattle.solver.specs.Store.{frozen, tagAt, argAt, firstAt, countAt, fieldAt, partsAt, formerAt, run, view, viewOf, load, Both, Cell, Held, Solved}
 use Rattle.solver.specs.Calls.{put, Making, Made, Above, Adding, Added}
 use Rattle.solver.specs.Settled.{lower, heap, wordAt, Reads, Readable, Fits, Obeys, Pinned, Entering, Entered}
+use Rattle.solver.specs.Answers.{SolutionOf}
 use Rattle.solver.specs.Growth.{Extension, Grows, Builds}
 use Rattle.solver.proofs.Heads.{view-shape, view-unk}
-use Rattle.solver.proofs.Growing.{lt-or-ge, view-made, frozen-at, there, t-at, a-at, f-at, c-at, load-same, word-other, fields-same}
+use Rattle.solver.proofs.Growing.{lt-or-ge, view-made, frozen-at, load-same, word-other, fields-same}
 use Rattle.solver.proofs.Reading.{reads-one}
 use Rattle.solver.proofs.Entering.{made-low, made-pinned, made-before, made-after}
 use Rattle.solver.proofs.Settling.{heap-kept}
 
 -- Two assignments that are the same below n.
-abbrev Agree : ℕ → (ℕ → Ty) → (ℕ → Ty) → Type 0
-Agree n τ σ = (i : ℕ) → i < n → τ i ≡ σ i
+abbrev pub SameBelow : ℕ → (ℕ → Ty) → (ℕ → Ty) → Type 0
+SameBelow n τ σ = (i : ℕ) → i < n → τ i ≡ σ i
 
-pub solves-same : (n : ℕ) (σ τ : ℕ → Ty) → Agree n τ σ → (P : Pairs ℕ) → AllP (Both n) P → Solves σ P → Solves τ P
+pub solves-same : (n : ℕ) (σ τ : ℕ → Ty) → SameBelow n τ σ → (P : Pairs ℕ) → AllP (Both n) P → Solves σ P → Solves τ P
 solves-same n σ τ e end b S = tt
 solves-same n σ τ e (pair x y P) b S = (e x (b .0 .0) ∙ S .0 ∙ sym (e y (b .0 .1)), solves-same n σ τ e P (b .1) (S .1))
 
-pub obeys-same : (s d : List ℕ) (n : ℕ) (σ τ : ℕ → Ty) → Agree n τ σ → Obeys s d n σ → Obeys s d n τ
+pub obeys-same : (s d : List ℕ) (n : ℕ) (σ τ : ℕ → Ty) → SameBelow n τ σ → Obeys s d n σ → Obeys s d n τ
 obeys-same s d n σ τ e O i l v g R = e i l ∙ O i l v g R
 
 -- RESTRICTION: what fits the new store fits the old.
@@ -47,6 +48,15 @@ restrict s s′ d n n′ G σ F O = (fits-old (frozen s) (frozen s′) n n′ (G
 -- EXTENSION keeps the equations between old cells solved.
 pub extends-solves : (s s′ d : List ℕ) (n n′ : ℕ) (σ : ℕ → Ty) (E : Extension s′ d n n′ σ) (P₀ L : Pairs ℕ) → Solved s n P₀ L → Solves σ P₀ → Solves (E .τ) P₀
 extends-solves s s′ d n n′ σ E P₀ L S = solves-same n σ (E .τ) (E .same) P₀ (S .asked)
+
+-- Both for solutions, in their three parts.
+pub solution-restricts : (s s′ d : List ℕ) (n n′ : ℕ) (P₀ : Pairs ℕ) → Grows s s′ d n n′ → SolutionOf s′ d n′ P₀ → SolutionOf s d n P₀
+solution-restricts s s′ d n n′ P₀ G X = record { σ = X .σ; fits = fits-old (frozen s) (frozen s′) n n′ (G .old) (X .σ) (X .fits); sat = X .sat; obeys = G .before (X .σ) (X .obeys) }
+
+pub solution-extends : (s s′ d : List ℕ) (n n′ : ℕ) (P₀ L : Pairs ℕ) → Solved s n P₀ L → Grows s s′ d n n′ → (X : SolutionOf s d n P₀) → (Y : SolutionOf s′ d n′ P₀) × SameBelow n (Y .σ) (X .σ)
+solution-extends s s′ d n n′ P₀ L S G X =
+    let E = G .extends (X .σ) (X .fits) (X .obeys) in
+    (record { σ = E .τ; fits = E .fits; sat = extends-solves s s′ d n n′ (X .σ) E P₀ L S (X .sat); obeys = E .obeys }, E .same)
 
 pub grows-refl : (s d : List ℕ) (n : ℕ) → Grows s s d n n
 grows-refl s d n = record {
@@ -85,7 +95,7 @@ builds-on s t u d n m k G K = record {
 
 -- Uniqueness: where the new cells are formers, the old ones decide them.
 module _ (w : List ℕ) (n n′ : ℕ) (cells : (i : ℕ) → i < n′ → Cell w i) (shaped : (i : ℕ) → n ≤ i → i < n′ → view w n′ i ≡ unk → ⊥) (σ τ : ℕ → Ty) (F : Fits w n′ σ) (G : Fits w n′ τ)
-    (e : Agree n σ τ) where
+    (e : SameBelow n σ τ) where
   tag-some : (i : ℕ) → n ≤ i → i < n′ → 0 < tagAt w i
   tag-some i a b = go (tagAt w i) refl
     where
@@ -105,12 +115,16 @@ module _ (w : List ℕ) (n n′ : ℕ) (cells : (i : ℕ) → i < n′ → Cell 
   pub only : (i : ℕ) → i < n′ → σ i ≡ τ i
   only i m = only-c n′ i m m
 
+pub builds-only : (s s′ d : List ℕ) (n n′ : ℕ) (P₀ L : Pairs ℕ) → Solved s n P₀ L → Builds s s′ d n n′ → (σ τ : ℕ → Ty) → Fits (frozen s′) n′ σ → Fits (frozen s′) n′ τ → SameBelow n σ τ →
+    SameBelow n′ σ τ
+builds-only s s′ d n n′ P₀ L S B σ τ F G e = only (frozen s′) n n′ (B .grows .solved P₀ L S .held .cells) (B .shaped) σ τ F G e
+
 -- One cell more, n, and the type g there.
 module _ (n : ℕ) (g : Ty) (σ : ℕ → Ty) where
   extended : ℕ → Ty
   extended i = elim (ltb i n) as (λ z. Ty) [ true ↦ σ i | false ↦ g ]
 
-  extended-old : Agree n extended σ
+  extended-old : SameBelow n extended σ
   unfolding extended
   extended-old i l = rw (extended, lt-ltb i n l)
 
@@ -323,41 +337,3 @@ above-wide w n top top′ B l = record {
   parts = λ i m. let z = B .parts i m in omega arith;
   names = λ i m q. let z = B .names i m q in omega arith;
 }
-
--- Where the runs of the cells end, with a new cell, and the cells and parts together.
-module _ (s s′ : List ℕ) (n t a f c : ℕ) (M : Making s n t a f c) (N : Made s s′ n t a f c) where
-  abbrev sz : length s ≡ 52224
-  sz = M .solved .held .size
-
-  old-field : (i j : ℕ) → i < n → j < 4 → fieldAt (frozen s′) i j ≡ fieldAt (frozen s) i j
-  old-field i j l m = ap (λ z. fieldAt (frozen z) i j) (N .words) ∙ there s n t a f c sz (M .few) i j l m
-
-  new-tag : tagAt (frozen s′) n ≡ t
-  new-tag = ap (λ z. tagAt (frozen z) n) (N .words) ∙ t-at s n t a f c sz (M .few)
-
-  new-arg : argAt (frozen s′) n ≡ a
-  new-arg = ap (λ z. argAt (frozen z) n) (N .words) ∙ a-at s n t a f c sz (M .few)
-
-  new-first : firstAt (frozen s′) n ≡ f
-  new-first = ap (λ z. firstAt (frozen z) n) (N .words) ∙ f-at s n t a f c sz (M .few)
-
-  new-count : countAt (frozen s′) n ≡ c
-  new-count = ap (λ z. countAt (frozen z) n) (N .words) ∙ c-at s n t a f c sz (M .few)
-
-  pub made-load : load (frozen s′) (suc n) ≡ load (frozen s) n + 1 + c
-  unfolding load
-  made-load = let e = load-same (frozen s) (frozen s′) n (λ i l. old-field i 3 l (omega arith)) in let k = new-count in omega arith
-
-  pub made-above : (top : ℕ) → Above (frozen s) n top → f + c ≤ top → (t ≡ 5 → a + c ≤ top) → Above (frozen s′) (suc n) top
-  made-above top B p q = record {
-    low = B .low;
-    parts = λ i l. ⊎-elim
-        (λ e. let x = ap (firstAt (frozen s′)) e in let y = ap (countAt (frozen s′)) e in let u = new-first in let v = new-count in omega arith)
-        (λ m. let z = B .parts i m in let u = old-field i 2 m (omega arith) in let v = old-field i 3 m (omega arith) in omega arith)
-        (eq-or-lt-of-le (let z : i ≤ n = omega arith in z));
-    names = λ i l g. ⊎-elim
-        (λ e. let x = ap (argAt (frozen s′)) e in let y = ap (countAt (frozen s′)) e in let u = new-arg in let v = new-count in
-        let z = q (sym new-tag ∙ ap (tagAt (frozen s′)) (sym e) ∙ g) in omega arith)
-        (λ m. let z = B .names i m (sym (old-field i 0 m (omega arith)) ∙ g) in let u = old-field i 1 m (omega arith) in let v = old-field i 3 m (omega arith) in omega arith)
-        (eq-or-lt-of-le (let z : i ≤ n = omega arith in z));
-  }

@@ -75,6 +75,7 @@ module _ (w w′ : List ℕ) (i : ℕ) (C : Cell w i) (A : Agree w w′ i) where
     plain = λ l. a ∙ C .plain (let e = t in omega arith);
     powers = λ l. a ∙ C .powers (sym t ∙ l);
     products = λ l. a ∙ C .products (sym t ∙ l) ∙ sym c;
+    one = λ l. c ∙ C .one (sym t ∙ l);
     low = let q = C .low in let e = f in omega arith;
     room = let q = C .room in let e = f in let k = c in let s = A .size in omega arith;
     named-low = λ l. let q = C .named-low (sym t ∙ l) in let e = a in omega arith;
@@ -219,13 +220,13 @@ module _ (s : List ℕ) (n t a f c : ℕ) (size : length s ≡ 52224) (l : n < 1
   pub t-at : tagAt w′ n ≡ t
   t-at = here 0 (46080 + 4 * n) t (omega arith) put-t
 
-  pub a-at : argAt w′ n ≡ a
+  a-at : argAt w′ n ≡ a
   a-at = here 1 (46081 + 4 * n) a (omega arith) put-a
 
-  pub f-at : firstAt w′ n ≡ f
+  f-at : firstAt w′ n ≡ f
   f-at = here 2 (46082 + 4 * n) f (omega arith) put-f
 
-  pub c-at : countAt w′ n ≡ c
+  c-at : countAt w′ n ≡ c
   c-at = here 3 (46083 + 4 * n) c (omega arith) put-c
 
   pub there : (i j : ℕ) → i < n → j < 4 → fieldAt w′ i j ≡ fieldAt w i j
@@ -273,6 +274,7 @@ module _ (s : List ℕ) (n t a f c : ℕ) (size : length s ≡ 52224) (l : n < 1
       plain = λ m. a-at ∙ M .plain (let e = t-at in omega arith);
       powers = λ m. a-at ∙ M .powers (sym t-at ∙ m);
       products = λ m. a-at ∙ M .products (sym t-at ∙ m) ∙ sym c-at;
+      one = λ m. c-at ∙ M .one (sym t-at ∙ m);
       low = let e = f-at in let q = M .low in omega arith;
       room = let e = f-at in let k = c-at in let z = sizes in let q = M .room in omega arith;
       named-low = λ m. let e = a-at in let q = M .named-low (sym t-at ∙ m) in omega arith;
@@ -359,3 +361,41 @@ module _ (s : List ℕ) (n top x : ℕ) (A : Adding s n top) where
     where
       same-links : (i : ℕ) → i < n → linkAt (set s (46080 + top) x) i ≡ linkAt s i
       same-links i m = link-same s _ i i (getD-set-other s (46080 + top) (39936 + i) x 0 (λ e. let y = A .solved .held .few in omega arith))
+
+-- Where the runs of the cells end, with a new cell, and the cells and parts together.
+module _ (s s′ : List ℕ) (n t a f c : ℕ) (M : Making s n t a f c) (N : Made s s′ n t a f c) where
+  abbrev sz : length s ≡ 52224
+  sz = M .solved .held .size
+
+  old-field : (i j : ℕ) → i < n → j < 4 → fieldAt (frozen s′) i j ≡ fieldAt (frozen s) i j
+  old-field i j l m = ap (λ z. fieldAt (frozen z) i j) (N .words) ∙ there s n t a f c sz (M .few) i j l m
+
+  new-tag : tagAt (frozen s′) n ≡ t
+  new-tag = ap (λ z. tagAt (frozen z) n) (N .words) ∙ t-at s n t a f c sz (M .few)
+
+  new-arg : argAt (frozen s′) n ≡ a
+  new-arg = ap (λ z. argAt (frozen z) n) (N .words) ∙ a-at s n t a f c sz (M .few)
+
+  new-first : firstAt (frozen s′) n ≡ f
+  new-first = ap (λ z. firstAt (frozen z) n) (N .words) ∙ f-at s n t a f c sz (M .few)
+
+  new-count : countAt (frozen s′) n ≡ c
+  new-count = ap (λ z. countAt (frozen z) n) (N .words) ∙ c-at s n t a f c sz (M .few)
+
+  pub made-load : load (frozen s′) (suc n) ≡ load (frozen s) n + 1 + c
+  unfolding load
+  made-load = let e = load-same (frozen s) (frozen s′) n (λ i l. old-field i 3 l (omega arith)) in let k = new-count in omega arith
+
+  pub made-above : (top : ℕ) → Above (frozen s) n top → f + c ≤ top → (t ≡ 5 → a + c ≤ top) → Above (frozen s′) (suc n) top
+  made-above top B p q = record {
+    low = B .low;
+    parts = λ i l. ⊎-elim
+        (λ e. let x = ap (firstAt (frozen s′)) e in let y = ap (countAt (frozen s′)) e in let u = new-first in let v = new-count in omega arith)
+        (λ m. let z = B .parts i m in let u = old-field i 2 m (omega arith) in let v = old-field i 3 m (omega arith) in omega arith)
+        (eq-or-lt-of-le (let z : i ≤ n = omega arith in z));
+    names = λ i l g. ⊎-elim
+        (λ e. let x = ap (argAt (frozen s′)) e in let y = ap (countAt (frozen s′)) e in let u = new-arg in let v = new-count in
+        let z = q (sym new-tag ∙ ap (tagAt (frozen s′)) (sym e) ∙ g) in omega arith)
+        (λ m. let z = B .names i m (sym (old-field i 0 m (omega arith)) ∙ g) in let u = old-field i 1 m (omega arith) in let v = old-field i 3 m (omega arith) in omega arith)
+        (eq-or-lt-of-le (let z : i ≤ n = omega arith in z));
+  }

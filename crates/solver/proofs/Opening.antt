@@ -93,12 +93,13 @@ module _ (s d : List ℕ) (n : ℕ) (P₀ L : Pairs ℕ) (S : Solved s n P₀ L)
   unfolding solution-with
   open-type g i l e v = at-unk (pick s d n P g) i l e ∙ pick-open s d n P g (r i) v
 
-  pub two-left : (i : ℕ) → i < n → tagAt w (r i) ≡ 0 → wordAt s (r i) < 1025 → Differ s d n P₀
-  two-left i l e v = record {
+  pub two-left : (i : ℕ) → i < n → tagAt w i ≡ 0 → tagAt w (r i) ≡ 0 → wordAt s (r i) < 1025 → Differ s d n P₀
+  two-left i l bare e v = record {
     one = solution-with ℤ;
     other = solution-with ℙℤ;
     cell = i;
     made = l;
+    bare = bare;
     differ = λ q. let p : ℤ ≡ ℙℤ = sym (open-type ℤ i l e v) ∙ q ∙ open-type ℙℤ i l e v in let z : _≡_ {A = ℕ} 0 1 = cc in omega arith;
   }
 
@@ -140,7 +141,10 @@ module _ (s d : List ℕ) (n : ℕ) (P₀ L : Pairs ℕ) (S : Solved s n P₀ L)
 -- The scan.
 pub left-yes : (s : List ℕ) (n i x : ℕ) → i < n → Root s i x → tagAt (frozen s) x ≡ 0 → wordAt s x < 1025 → Left s n true
 left-yes s n i x l Q e v = record {
-  several = λ f d P₀ L S P F. let q = Q .is n L (S .held) l in two-left s d n P₀ L S P F i l (ap (tagAt (frozen s)) q ∙ e) (subst (λ z. wordAt s z < 1025) (sym q) v);
+  several = λ f d P₀ L S P F.
+      let k = subst (λ z. z < n) (Q .is n L (S .held) l) (rep-below n L (S .held .inside) i l) in
+      let q = stop-rep s n L (S .held) x k (Q .free) in
+      two-left s d n P₀ L S P F x k e (ap (tagAt (frozen s)) q ∙ e) (subst (λ z. wordAt s z < 1025) (sym q) v);
   one = λ f. absurd (bool-no true refl f);
   resolved = λ f. absurd (bool-no true refl f);
 }

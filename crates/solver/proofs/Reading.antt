@@ -27,7 +27,7 @@ use Rattle.solver.specs.Settled.{lower, heap, Reads, Readable, Areas, Me
 pub reads-one : (H : List ℕ) (p : ℕ) (g k : Ty) → Reads H p g → Reads H p k → g ≡ k
 reads-one H p g k R S = words-one g k (R .formed) (S .formed) (R .after) (S .after) (sym (R .words-at) ∙ S .words-at) .0
 
-words-some : (g : Ty) → 0 < length (words g)
+pub words-some : (g : Ty) → 0 < length (words g)
 unfolding words
 words-some (node h gs) = omega arith
 

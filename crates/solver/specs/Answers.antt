@@ -40,6 +40,7 @@ pub record Differ (s d : List ℕ) (n : ℕ) (P₀ : Pairs ℕ) : Type 0 where
   pub other : SolutionOf s d n P₀
   pub cell : ℕ
   pub made : cell < n
+  pub bare : tagAt (frozen s) cell ≡ 0
   pub differ : one .σ cell ≡ other .σ cell → ⊥
 
 -- 34. True: two solutions differ at a cell. False: each cell's type is the same in all of them.

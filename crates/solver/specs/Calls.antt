@@ -27,6 +27,7 @@ pub record Making (s : List ℕ) (n t a f c : ℕ) : Type 0 where
   pub plain : t < 2 → a ≡ 0
   pub powers : t ≡ 3 → a ≡ 0
   pub products : t ≡ 4 → a ≡ c
+  pub one : t ≡ 3 → c ≡ 1
   pub low : 4096 ≤ f
   pub room : f + c ≤ 6144
   pub named-low : t ≡ 5 → 4096 ≤ a

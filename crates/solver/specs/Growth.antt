@@ -2,7 +2,7 @@
 use mathlib.Core.Path.{_≡_}
 use mathlib.Core.List.{List, map}
 use Prim.Native.Nat.{ℕ, zero, suc, _+_, _*_, _≤_, _<_, _^_}
-use lib.ListN.{length}
+use lib.ListN.{length, getD}
 use Rattle.types.specs.Equations.{In, Pairs}
 use Rattle.types.specs.Finite.{fromList}
 use Rattle.types.specs.Follows.{unk}
@@ -71,6 +71,24 @@ pub record Formed (s s′ : List ℕ) (n top t v m cell n′ top′ : ℕ) : Typ
   pub above : Above (frozen s′) (suc n) top′
   pub few : top′ ≤ top + m + m
 
+-- Part number j of m, the cell c, may be written to the run at `top`, and its identifier to the run after that.
+pub record Putting (s : List ℕ) (n top m j c : ℕ) : Type 0 where
+  pub P₀ : Pairs ℕ
+  pub L : Pairs ℕ
+  pub solved : Solved s n P₀ L
+  pub above : Above (frozen s) n top
+  pub made : c < n
+  pub within : j < m
+  pub room : top + m + m ≤ 6144
+
+pub record PutPart (s s′ d : List ℕ) (n top m j w at c : ℕ) : Type 0 where
+  pub builds : Builds s s′ d n n
+  pub above : Above (frozen s′) n top
+  pub fit : load (frozen s′) n ≡ load (frozen s) n
+  pub part : getD (frozen s′) (top + j) 0 ≡ c
+  pub name : w ≡ 1 → getD (frozen s′) (top + m + j) 0 ≡ getD (heap s d) at 0
+  pub others : (q : ℕ) → (q ≡ top + j → ⊥) → (q ≡ top + m + j → ⊥) → getD (frozen s′) q 0 ≡ getD (frozen s) q 0
+
 -- What entering asks of the store of n cells, whose runs end at `top`: room for x formers, and the k cells of the row.
 pub record Room (s d : List ℕ) (n top x row k : ℕ) : Type 0 where
   pub P₀ : Pairs ℕ
@@ -89,7 +107,8 @@ pub record Instancing (s d : List ℕ) (n top p row k : ℕ) : Type 0 where
   pub reads : Reads (heap s d) p type
   pub room : Room s d n top (size type) row k
 
--- ENTER: the type g at p stands at `cell`, with the row's cells for its parameters (document 01: a generic Ref's type has its unknowns or actuals in place).
+-- ENTER: cell `cell` stands for the type g, with the row's cells for its parameters (document 01: a Ref has its name's type, and each parameter of a generic Ref
+-- without actuals is an unknown type).
 pub record Instance (s s′ : List ℕ) (n top row k cell n′ top′ : ℕ) (g : Ty) : Type 0 where
   pub type : (σ : ℕ → Ty) → Fits (frozen s′) n′ σ → σ cell ≡ under σ (instance (unknowns row k) g)
   pub cells : n′ ≤ n + size g

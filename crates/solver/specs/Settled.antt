@@ -15,8 +15,8 @@ use Rattle.types.specs.Words.{words}
 use Rattle.types.specs.Equations.{Pairs, Solves}
 use Rattle.types.specs.Finite.{fromList}
 use Rattle.types.specs.Follows.{View, shape, unk}
-use Rattle.solver.specs.Store.{frozen, linkAt, tagAt, argAt, countAt, run, formerAt, Cell, view, Held, Solved}
-use Rattle.solver.specs.Calls.{Tells, Making}
+use Rattle.solver.specs.Store.{frozen, linkAt, tagAt, argAt, countAt, run, formerAt, Cell, view, load, Held, Solved}
+use Rattle.solver.specs.Calls.{Above, Tells, Making}
 
 unfoldable pub lower : List ℕ → List ℕ
 lower s = take 39936 s
@@ -174,6 +174,8 @@ pub record Entered (s s′ d : List ℕ) (n p : ℕ) : Type 0 where
   pub before : (σ : ℕ → Ty) → Obeys s′ d (suc n) σ → Obeys s d n σ
   pub type : (g : Ty) → Reads (heap s d) p g → (σ : ℕ → Ty) → Obeys s′ d (suc n) σ → σ n ≡ g
   pub after : (g : Ty) → Reads (heap s d) p g → (σ : ℕ → Ty) → Obeys s d n σ → σ n ≡ g → Obeys s′ d (suc n) σ
+  pub fit : load (frozen s′) (suc n) ≡ load (frozen s) n + 1
+  pub above : (top : ℕ) → Above (frozen s) n top → Above (frozen s′) (suc n) top
 
 -- The type of the option stands at r.
 pub record Found (H : List ℕ) (r : ℕ) (o : Option Ty) : Type 0 where

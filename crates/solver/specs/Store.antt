@@ -62,12 +62,13 @@ viewOf (suc t) h ps = shape h ps
 unfoldable pub view : List ℕ → ℕ → ℕ → View ℕ
 view w n i = elim (ltb i n) [ true ↦ viewOf (tagAt w i) (formerAt w i) (partsAt w i) | false ↦ unk ]
 
--- What a cell keeps to: its runs lie in the area, its parts are older, and equal formers have equal words.
+-- What a cell keeps to: its runs lie in the area, its parts are older, a power has one part, and equal formers have equal words.
 pub record Cell (w : List ℕ) (i : ℕ) : Type 0 where
   pub tags : tagAt w i ≤ 6
   pub plain : tagAt w i < 2 → argAt w i ≡ 0
   pub powers : tagAt w i ≡ 3 → argAt w i ≡ 0
   pub products : tagAt w i ≡ 4 → argAt w i ≡ countAt w i
+  pub one : tagAt w i ≡ 3 → countAt w i ≡ 1
   pub low : 4096 ≤ firstAt w i
   pub room : firstAt w i + countAt w i ≤ length w
   pub named-low : tagAt w i ≡ 5 → 4096 ≤ argAt w i

@@ -9,6 +9,7 @@ ghost use Rattle.solver.specs.Flat.{Sound, Straight, Flattened};
 ghost use Rattle.solver.specs.Written.{leadAt, nameAt, Copied, Wrote, Writing, Typed, Leading};
 ghost use Rattle.solver.specs.Answers.{Left, Placed, LookingRoot, Looking, Looked, Element};
 ghost use Rattle.solver.specs.Sizes.{cap, TypeSize, UnknownSize, Measuring, Measured, arityAt, Read, Visiting, Visited, Visits, Cleared, TestedFrom, Tested};
+ghost use Rattle.solver.specs.Growth.{argOf, InRow, Forming, Formed, Putting, PutPart, Instancing, Instanced, InstancingParts, InstancedParts};
 ghost use Rattle.solver.specs.Calls.{put, Making, Made, Adding, Added, Tells, Known, Root, Runs, Two, Alike, Pushing, Pushed};
 
 const CELLS: usize = 1024;
@@ -35,6 +36,13 @@ const VISITING: usize = 34;
 pub struct Step {
     pub fine: bool,
     pub left: usize,
+}
+
+// A cell, the number of cells, and where their runs end.
+pub struct Grown {
+    pub cell: usize,
+    pub cells: usize,
+    pub top: usize,
 }
 
 // The word at i, and 0 past the end.
@@ -112,7 +120,7 @@ pub fn find(a: &[u32], i: usize) -> usize
 }
 
 // The type word at the place p: in the caller's part of the area, or in the dictionary.
-fn type_word(a: &[u32], d: &[u32], p: usize) -> usize
+pub fn type_word(a: &[u32], d: &[u32], p: usize) -> usize
     requires { ⌜ length (now a) ≡ 52224 ⌝ }
     ensures { λ r. ⌜ (r ≡ getD (heap (now (a .entry)) (now (d .entry))) p 0) × (r < 2 ^ 32) ⌝ }
 {
@@ -123,7 +131,7 @@ fn type_word(a: &[u32], d: &[u32], p: usize) -> usize
 }
 
 // The words of a type before its parts, by its tag.
-fn lead_words(t: usize) -> usize
+pub fn lead_words(t: usize) -> usize
     ensures { λ r. ⌜ (r ≡ leadWords t) × (r ≤ 2) × (0 < r) ⌝ }
 {
     if t == 1 {
@@ -136,7 +144,7 @@ fn lead_words(t: usize) -> usize
 }
 
 // The words of a part's name, by the tag.
-fn name_words(t: usize) -> usize
+pub fn name_words(t: usize) -> usize
     ensures { λ r. ⌜ (r ≡ nameWords t) × (r ≤ 1) ⌝ }
 {
     if t == 5 {
@@ -146,7 +154,7 @@ fn name_words(t: usize) -> usize
 }
 
 // The number of parts of the type at p, whose tag is t.
-fn parts_of(a: &[u32], d: &[u32], t: usize, p: usize) -> usize
+pub fn parts_of(a: &[u32], d: &[u32], t: usize, p: usize) -> usize
     requires { ⌜ (length (now a) ≡ 52224) × (p < 2 ^ 40) ⌝ }
     ensures { λ r. ⌜ (r ≡ partsOf t (getD (heap (now (a .entry)) (now (d .entry))) (p + 1) 0)) × (r < 2 ^ 32) ⌝ }
 {
@@ -163,7 +171,7 @@ fn parts_of(a: &[u32], d: &[u32], t: usize, p: usize) -> usize
 }
 
 // The end of the type words at p.
-fn skip(a: &[u32], d: &[u32], p: usize) -> usize
+pub fn skip(a: &[u32], d: &[u32], p: usize) -> usize
     requires { ⌜ Reading (now a) (now d) p ⌝ }
     ensures { λ e. ⌜ Ends (now (a .entry)) (now (d .entry)) p e ⌝ }
 {
@@ -180,7 +188,7 @@ fn skip(a: &[u32], d: &[u32], p: usize) -> usize
 }
 
 // The size of the type at p, at most 33.
-fn type_size(a: &[u32], d: &[u32], p: usize) -> usize
+pub fn type_size(a: &[u32], d: &[u32], p: usize) -> usize
     requires { ⌜ Reading (now a) (now d) p ⌝ }
     ensures { λ v. ⌜ TypeSize (now (a .entry)) (now (d .entry)) p v ⌝ }
 {
@@ -519,8 +527,142 @@ pub fn add_word(a: &mut [u32], n: usize, top: usize, x: u32)
     store(a, RECORDS + top, x);
 }
 
+// The cell of parameter v in the row of k cells from `first` on, plus 1: 0 where the tag is no parameter's, or the row has no cell for it.
+fn row_cell(t: usize, v: usize, first: usize, k: usize) -> usize
+    requires { ⌜ first + k < 2 ^ 40 ⌝ }
+    ensures { λ r. ⌜ InRow t v first k r ⌝ }
+{
+    if t != 6 {
+        return 0;
+    }
+    if v == 0 {
+        return 0;
+    }
+    if k < v {
+        return 0;
+    }
+    first + v
+}
+
+// The argument of a cell with the tag t: the word v after the tag, or the place of the identifiers.
+fn argument(t: usize, v: usize, ids: usize) -> usize
+    ensures { λ r. ⌜ r ≡ argOf t v ids ⌝ }
+{
+    if t == 5 {
+        return ids;
+    }
+    if lead_words(t) == 1 {
+        return 0;
+    }
+    v
+}
+
+// A former, cell number n, over the m cells that stand at `top`, its identifiers after them.
+fn enter_former(a: &mut [u32], n: usize, top: usize, t: usize, v: usize, m: usize) -> Grown
+    requires { ⌜ Forming (now a) n top t v m ⌝ }
+    ensures { λ r. ⌜ Formed (now (a .entry)) (now (a .exit)) n top t v m (r .cell) (r .cells) (r .top) ⌝ }
+{
+    let ids = top + m;
+    let arg = argument(t, v, ids);
+    new_cell(a, n, t as u32, arg as u32, top as u32, m as u32);
+    if t == 5 {
+        return Grown {
+            cell: n,
+            cells: n + 1,
+            top: ids + m,
+        };
+    }
+    Grown {
+        cell: n,
+        cells: n + 1,
+        top: ids,
+    }
+}
+
+// Part number j of m, the cell c, in the run at `top`. Its identifier, if it has one, stands at `at`, and goes to the run after that.
+fn put_part(
+    a: &mut [u32],
+    d: &[u32],
+    n: usize,
+    top: usize,
+    m: usize,
+    j: usize,
+    w: usize,
+    at: usize,
+    c: usize,
+)
+    requires { ⌜ Putting (now a) n top m j c ⌝ }
+    ensures { λ _. ⌜ PutPart (now (a .entry)) (now (a .exit)) (now (d .entry)) n top m j w at c ⌝ }
+{
+    add_word(a, n, top + j, c as u32);
+    if w == 1 {
+        let id = type_word(a, d, at);
+        add_word(a, n, top + m + j, id as u32);
+    }
+}
+
+// The parts at `at`, from number j of m on: their cells stand at the top that is returned, their identifiers after them.
+fn enter_parts(
+    a: &mut [u32],
+    d: &[u32],
+    n: usize,
+    top: usize,
+    at: usize,
+    w: usize,
+    m: usize,
+    j: usize,
+    row: usize,
+    k: usize,
+) -> Grown
+    requires { ⌜ InstancingParts (now a) (now d) n top at w m j row k ⌝ }
+    ensures { λ r. ⌜ InstancedParts (now (a .entry)) (now (a .exit)) (now (d .entry)) n top at w m j row k (r .cells) (r .top) ⌝ }
+{
+    if m <= j {
+        return Grown {
+            cell: n,
+            cells: n,
+            top: top,
+        };
+    }
+    let first = enter(a, d, n, top, at + w, row, k);
+    let e = skip(a, d, at + w);
+    let others = enter_parts(a, d, first.cells, first.top, e, w, m, j + 1, row, k);
+    put_part(a, d, others.cells, others.top, m, j, w, at, first.cell);
+    others
+}
+
+// The type at p enters as new cells, where parameter i is cell row + i - 1, if i is at most k. The cells are n, and their runs end at `top`.
+pub fn enter(
+    a: &mut [u32],
+    d: &[u32],
+    n: usize,
+    top: usize,
+    p: usize,
+    row: usize,
+    k: usize,
+) -> Grown
+    requires { ⌜ Instancing (now a) (now d) n top p row k ⌝ }
+    ensures { λ r. ⌜ Instanced (now (a .entry)) (now (a .exit)) (now (d .entry)) n top p row k (r .cell) (r .cells) (r .top) ⌝ }
+{
+    let t = type_word(a, d, p);
+    let v = type_word(a, d, p + 1);
+    let c = row_cell(t, v, row, k);
+    if c != 0 {
+        return Grown {
+            cell: c - 1,
+            cells: n,
+            top: top,
+        };
+    }
+    let m = parts_of(a, d, t, p);
+    let at = p + lead_words(t);
+    let w = name_words(t);
+    let parts = enter_parts(a, d, n, top, at, w, m, 0, row, k);
+    enter_former(a, parts.cells, parts.top, t, v, m)
+}
+
 // Sizes stop at 33.
-fn capped(x: usize) -> usize
+pub fn capped(x: usize) -> usize
     ensures { λ r. ⌜ r ≡ cap x ⌝ }
 {
     if x < 33 {
@@ -814,7 +956,7 @@ fn put_name(a: &[u32], out: &mut [u32], at: usize, r: usize, j: usize) -> usize
 }
 
 // The type whose words stand at p, from `at` on: where it ends.
-fn put_type(a: &[u32], d: &[u32], out: &mut [u32], at: usize, p: usize) -> usize
+pub fn put_type(a: &[u32], d: &[u32], out: &mut [u32], at: usize, p: usize) -> usize
     requires { ⌜ (Reading (now a) (now d) p) × (at < 2 ^ 40) ⌝ }
     ensures { λ e. ⌜ Copied (now (a .entry)) (now (d .entry)) (now (out .entry)) (now (out .exit)) at p e ⌝ }
 {

@@ -1,7 +1,10 @@
 pub mod Scan
 pub mod Accepted
-pub mod Operands
 pub mod Parents
+pub mod Operands
+pub mod DepthLaws
+pub mod WithinLimits
+pub mod PathLaws
 pub mod Marked
 pub mod LowerNodes
 pub mod TreeMarked
@@ -14,7 +17,12 @@ pub mod TreeText
 pub mod TreeParagraph
 pub mod Occurrences
 pub mod TreeChildren
+pub mod SumsBelow
+pub mod Crowding
 pub mod TreeAmong
 pub mod TreeNumbered
 pub mod TreeNodes
+pub mod NameCounts
+pub mod LimitedTree
+pub mod LimitedMore
 pub mod TreeWords

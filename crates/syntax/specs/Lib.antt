@@ -10,3 +10,4 @@ pub mod LowerNodes
 pub mod Tree
 pub mod Decode
 pub mod TreeNumbers
+pub mod Limited

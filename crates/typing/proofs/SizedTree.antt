@@ -4,7 +4,7 @@ use mathlib.Core.Logic.{⊎-elim}
 use mathlib.Core.List.{List, [], _∷_}
 use Prim.Native.Nat.{ℕ, zero, suc, _+_, _-_, _≤_, _<_}
 use native.Mathlib.Omega.{arith}
-use lib.ListN.{length, getD}
+use lib.ListN.{length}
 use Rattle.words.specs.Loops.{every}
 use Rattle.layout.specs.Layout.{count, part}
 use Rattle.syntax.specs.Kinds.{cell, expressions, schemaExpressions, predicates, texts, lines, paragraphs, includes}
@@ -13,12 +13,12 @@ use Rattle.syntax.specs.Reading.{readOf}
 use Rattle.syntax.specs.declared.Reading.the-variants.{Readable}
 use Rattle.syntax.specs.Promise.{At, Lower}
 use Rattle.syntax.specs.Tree.{Expr, Exprs, none, more, Pred, Lines, end, Paragraph, exprsLength, Document, document}
-use Rattle.syntax.specs.Decode.{gather, exprAt, predAt, textAt, includeAt, lineAt, schemaAt, paragraphAt, exprsFrom, linesFrom, paragraphsFrom, treeOf}
+use Rattle.syntax.specs.Decode.{exprAt, predAt, textAt, includeAt, lineAt, schemaAt, paragraphAt, exprsFrom, linesFrom, paragraphsFrom, treeOf}
 use Rattle.syntax.specs.Decode.{membersOf, relationOf}
 use Rattle.syntax.proofs.Accepted.{readable}
 use Rattle.syntax.proofs.TreeCounts.{at-least, at-most}
 use Rattle.syntax.proofs.TreeLists.{exprs-length}
-use Rattle.syntax.proofs.TreeShape.{all-at, _▹_}
+use Rattle.syntax.proofs.TreeShape.{all-at, _▹_, gather-keeps}
 use Rattle.syntax.proofs.TreeExpr.{expr-range, expr-reference, expr-number, expr-integers, expr-members, expr-power, expr-application, expr-selection}
 use Rattle.syntax.proofs.TreeExpr.{expr-theta, expr-schemaSet, expr-arithmetic, expr-comprehension}
 use Rattle.syntax.proofs.TreePred.{pred-range, pred-truth, pred-relation, pred-not, pred-connected, pred-quantified}
@@ -28,14 +28,6 @@ use Rattle.syntax.proofs.TreeParagraph.{paragraph-range, paragraph-given, parag
 use Rattle.syntax.proofs.TreeParagraph.{paragraph-constraint, document-law}
 use Rattle.typing.specs.Check.{paragraphsOf}
 use Rattle.typing.proofs.Sized.{SizedExpr, SizedExprs, SizedPred, SizedText, SizedLines, SizedInclude, SizedSchema, SizedParagraph, SizedParagraphs}
-
--- What holds of the end, and with each operand, holds of the operands gathered.
-pub gather-keeps : {A : Type 0} (P : A → Type 0) (f : ℕ → A → A) (w : List ℕ) (z : A) → P z → (i m : ℕ)
-    → ((j : ℕ) → i ≤ j → j < i + m → (y : A) → P y → P (f (getD w j 0) y)) → P (gather f w i m z)
-unfolding gather
-gather-keeps P f w z p i zero h = p
-gather-keeps P f w z p i (suc m) h =
-    h i (omega arith) (omega arith) (gather f w (suc i) m z) (gather-keeps P f w z p (suc i) m (λ j a b. h j (omega arith) (omega arith)))
 
 pub record SizedAt (doc : List ℕ) (k : ℕ) : Type 0 where
   pub expr : At doc expressions k → SizedExpr (exprAt doc k)

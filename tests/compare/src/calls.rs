@@ -3,6 +3,7 @@
 use crate::areas::{Area, Guarded};
 use crate::expected::{self, Expected};
 use generate::Case;
+use grillsonnet::Answer;
 
 /// What a call may be given.
 pub struct Slices<'a> {

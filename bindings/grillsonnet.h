@@ -1,0 +1,41 @@
+/* Grillsonnet: a checker and evaluator for documents of Z in coded form. `rt staticlib capi` writes the archive, target/staticlib/libcapi.a.
+ *
+ * Words are uint32_t, and an area is a pointer and its number of words. Any words and any lengths are allowed; a pointer is valid for its length
+ * and is not NULL, also where the length is 0. No call keeps a pointer, uses the heap or touches anything but its areas, so calls on different
+ * areas may run at the same time. Areas that a call writes to overlap no other area of that call.
+ *
+ * A finding is one number: 0 where there is none, else number * 2^32 + place. Z_NUMBER and Z_PLACE take it apart. Number and place are document
+ * 01's: a node of the document, an entry of the state, or 0. */
+#ifndef GRILLSONNET_H
+#define GRILLSONNET_H
+
+#include <stddef.h>
+#include <stdint.h>
+
+#ifdef __cplusplus
+extern "C" {
+#endif
+
+#define Z_NUMBER(finding) ((uint32_t)((finding) >> 32))
+#define Z_PLACE(finding) ((uint32_t)(finding))
+
+/* Reading: 0 where the document is readable, else 11 to 17 with the node. */
+uint64_t z_read(const uint32_t *document, size_t words);
+
+/* A document with a state: reading's finding; then 41 with the entry of the state that is ill formed, 0 for its pairs; 0 where there is none. */
+uint64_t z_state(const uint32_t *document, size_t words, const uint32_t *state, size_t state_words);
+
+/* Bytes that always suffice to print a check with a dictionary area of this many words. */
+#define Z_PRINT_SIZE(dictionary_words) (11 * (size_t)(dictionary_words) + 34)
+
+/* Prints a check's finding and its dictionary area: "accepted", the dictionary's words and entries, then a line per entry; or "refused 11 at 0".
+ * The text stands at the beginning of the buffer and zeros fill the rest, so it is a string. Returns its length without the zeros. Where the
+ * buffer has no room for the text and one zero, it is all zero and 0 is returned; this never happens with Z_PRINT_SIZE bytes and the area that
+ * the check left. The dictionary is read only where the finding is 0. */
+size_t z_print(uint64_t finding, const uint32_t *dictionary, size_t dictionary_words, char *text, size_t size);
+
+#ifdef __cplusplus
+}
+#endif
+
+#endif

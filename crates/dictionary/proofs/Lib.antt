@@ -1,0 +1,7 @@
+-- Laws of an area that holds a dictionary: where its entries stand, what a lookup finds, and how it grows.
+pub mod Places
+pub mod Monotone
+pub mod LookupLaws
+pub mod LiftLaws
+pub mod PairLaws
+pub mod GrowthLaws

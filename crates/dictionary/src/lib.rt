@@ -1,0 +1,3 @@
+// The dictionary area of the check call: entries found by their names, and entries added. The definitions are in specs/.
+pub mod growth;
+pub mod lookup;

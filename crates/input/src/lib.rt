@@ -1,0 +1,52 @@
+// The words of a program's input: four bytes a word, low byte first.
+use words::store;
+ghost use mathlib.Core.Path.{_≡_};
+ghost use mathlib.Core.List.{_++_};
+ghost use Prim.Native.Nat.{_+_, _*_, _≤_, _<_, _^_};
+ghost use lib.ListN.{length, getD, drop};
+ghost use Rattle.input.specs.Input.{wordAt, firstWords, areWords, wordsAfter};
+
+// The byte at i, and 0 past the end.
+fn byte(bytes: &[u8], i: usize) -> u32
+    ensures { λ r. ⌜ (r ≡ getD (now (bytes .entry)) i 0) × (r < 2 ^ 8) ⌝ }
+{
+    if i < bytes.len() { bytes[i] as u32 } else { 0 }
+}
+
+// Word i.
+fn word_at(bytes: &[u8], i: usize) -> u32
+    requires { ⌜ 4 * i + 4 ≤ length (now bytes) ⌝ }
+    ensures { λ r. ⌜ r ≡ wordAt (now (bytes .entry)) i ⌝ }
+{
+    let low = byte(bytes, 4 * i) + 256 * byte(bytes, 4 * i + 1);
+    low + 65536 * byte(bytes, 4 * i + 2) + 16777216 * byte(bytes, 4 * i + 3)
+}
+
+// The first n words, at the beginning of an area.
+fn copy_words(bytes: &[u8], n: usize, words: &mut [u32])
+    requires { ⌜ (4 * n ≤ length (now bytes)) × (n ≤ length (now words)) ⌝ }
+    ensures { λ _. ⌜ now (words .exit) ≡ firstWords (now (bytes .entry)) n ++ drop n (now (words .entry)) ⌝ }
+{
+    let mut i = 0;
+    while i < n {
+        store(words, i, word_at(bytes, i));
+        i += 1;
+    }
+}
+
+// Writes the words of the input to the beginning of an area and answers true; false where the bytes are no words, or more than the area has,
+// and then nothing is written.
+pub fn take_words(bytes: &[u8], words: &mut [u32]) -> bool
+    ensures { λ r. ⌜ r ≡ areWords (now (bytes .entry)) (length (now (words .entry))) ⌝ }
+    ensures { λ _. ⌜ now (words .exit) ≡ wordsAfter (now (bytes .entry)) (now (words .entry)) ⌝ }
+{
+    if bytes.len() % 4 != 0 {
+        return false;
+    }
+    let n = bytes.len() / 4;
+    if words.len() < n {
+        return false;
+    }
+    copy_words(bytes, n, words);
+    true
+}

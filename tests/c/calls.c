@@ -1,0 +1,50 @@
+/* The calls from C, by their header: documents and dictionaries of document 01, and buffers that are too short. Exit status 1 where one differs. */
+#include "grillsonnet.h"
+#include <stdio.h>
+#include <string.h>
+
+#define WORDS(area) (sizeof(area) / sizeof(area)[0])
+
+static int differences = 0;
+
+static void same_finding(const char *name, uint64_t found, uint32_t number, uint32_t place) {
+    if (Z_NUMBER(found) != number || Z_PLACE(found) != place) {
+        printf("%s: %u at %u, not %u at %u\n", name, Z_NUMBER(found), Z_PLACE(found), number, place);
+        differences++;
+    }
+}
+
+/* Prints into a buffer of this size, with a byte after it that must stay. */
+static void same_text(uint64_t finding, const uint32_t *dictionary, size_t words, size_t size, const char *wanted) {
+    char buffer[Z_PRINT_SIZE(16) + 1];
+    memset(buffer, '?', sizeof buffer);
+    size_t length = z_print(finding, dictionary, words, buffer, size);
+    int zeros = 1;
+    for (size_t i = length; i < size; i++) {
+        zeros = zeros && buffer[i] == 0;
+    }
+    if (length != strlen(wanted) || strncmp(buffer, wanted, length) != 0 || !zeros || buffer[size] != '?') {
+        printf("z_print into %zu bytes: %zu bytes of '%.*s', not '%s'\n", size, length, (int)length, buffer, wanted);
+        differences++;
+    }
+}
+
+int main(void) {
+    const uint32_t document[] = {2, 5, 2, 7, 2, 2, 4, 1, 1};
+    const uint32_t state[] = {0};
+    const uint32_t dictionary[] = {1, 3, 6, 1, 4, 0, 3, 2, 4, 0, 0};
+    const char *lines = "accepted 9 1\n1 4 0 : 3 2 4\n";
+    same_finding("z_read", z_read(document, WORDS(document)), 0, 0);
+    same_finding("z_read of no words", z_read(document, 0), 11, 0);
+    same_finding("z_state", z_state(document, WORDS(document), state, WORDS(state)), 41, 0);
+    same_text(0, dictionary, WORDS(dictionary), Z_PRINT_SIZE(WORDS(dictionary)), lines);
+    same_text(0, dictionary, WORDS(dictionary), strlen(lines) + 1, lines);
+    same_text(0, dictionary, WORDS(dictionary), strlen(lines), "");
+    same_text(0, dictionary, WORDS(dictionary), 0, "");
+    same_text(z_read(document, 0), dictionary, 0, Z_PRINT_SIZE(0), "refused 11 at 0\n");
+    same_text(UINT64_MAX, dictionary, 0, Z_PRINT_SIZE(0), "refused 4294967295 at 4294967295\n");
+    if (differences == 0) {
+        printf("the calls from C: all as expected\n");
+    }
+    return differences != 0;
+}
