@@ -12,7 +12,6 @@ use lib.Seq.{getD-set-same, getD-set-other, take-set-le}
 use Rattle.solver.specs.Settled.{lower, wordAt}
 use borrow.Author.Tests.{eqb-true, eqb-false, lt-ltb, le-ltb}
 use Rattle.types.proofs.Classify.{build}
-use Rattle.types.proofs.Closed.{idem}
 use Rattle.types.proofs.Finite.{all-of, depth, solution, solution-sat, tree-by, tree-same}
 use Rattle.types.proofs.Rational.{rep-sat}
 use Rattle.types.proofs.Transfer.{follows-holds}
@@ -134,12 +133,11 @@ module _ (s : List ℕ) (n : ℕ) (L : Pairs ℕ) (H : Held s n L) where
   by-class zero i j e = refl
   by-class (suc d) i j e = ap (λ z. boundedView (λ c. bounded r Vw d c) (Vw z)) e
 
-  -- A cell has the size of its representative.
-  pub sized-class : (i v : ℕ) → Sized w n L (r i) v → Sized w n L i v
+  -- Cells of one class have one size.
+  pub sized-class : (i j v : ℕ) → r i ≡ r j → Sized w n L i v → Sized w n L j v
   unfolding typeAt
-  sized-class i v z =
-      let e = idem ℕ eqb eqb-true eqb-false L (H .wf) i in
-      record { finite = sym (by-class n (r i) i e) ∙ z .finite; size = z .size ∙ ap (λ y. cap (size y)) (tree-by r Vw (λ j. node int tnil) n (r i) i e) }
+  sized-class i j v e z =
+      record { finite = sym (by-class n i j e) ∙ z .finite; size = z .size ∙ ap (λ y. cap (size y)) (tree-by r Vw (λ j. node int tnil) n i j e) }
 
 -- What finite solutions say.
 gs-inj : (a b : List Ty) → fromList a ≡ fromList b → a ≡ b

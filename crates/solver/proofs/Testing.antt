@@ -14,8 +14,8 @@ use Rattle.types.specs.Classes.{rep}
 use Rattle.types.specs.Equations.{Pairs}
 use Rattle.types.specs.Types.{size, sizes}
 use Rattle.solver.specs.Store.{frozen, partsAt, Held, Solved}
-use Rattle.solver.specs.Calls.{Root}
-use Rattle.solver.specs.Sizes.{markAt, typeAt, Sized, Marks, Same, Read, Visiting, Falls, Reached, Visited, Before, Calm, Visits, Cleared, Solution, TestedFrom, Tested}
+use Rattle.solver.specs.Calls.{Known}
+use Rattle.solver.specs.Sizes.{markAt, typeAt, Sized, Marks, Same, Read, Falls, Visited, Before, Calm, Visits, Cleared, Solution, TestedFrom, Tested}
 use Rattle.solver.proofs.Links.{rep-below}
 use Rattle.solver.proofs.Heads.{view-shape}
 use Rattle.solver.proofs.Growing.{lt-or-ge}
@@ -41,79 +41,34 @@ seen-start s from n = record {
   marks = λ L H M. M;
 }
 
-module _ (s t : List ℕ) (from n i : ℕ) (X : Seen s t from n i) (D : Read s n) (l : i < n) (r : ℕ) (Q : Root t i r) (u : List ℕ) where
+module _ (s t : List ℕ) (from n i : ℕ) (X : Seen s t from n i) (D : Read s n) (l : i < n) where
   H-at : (L : Pairs ℕ) → Held s n L → Held t n L
   H-at L H = same-held s t (X .same) n L H
 
-  r-is : (L : Pairs ℕ) → Held s n L → rep eqb L i ≡ r
-  r-is L H = Q .is n L (H-at L H) l
+  pub seen-known : Known t i
+  seen-known = record { n = n; L = D .L; held = H-at (D .L) (D .held); made = l }
 
-  r-made : (L : Pairs ℕ) → Held s n L → r < n
-  r-made L H = subst (λ z. z < n) (r-is L H) (rep-below n L (H .inside) i l)
-
-  pub seen-visiting : Visiting t r
-  seen-visiting = record { known = record { n = n; L = D .L; held = H-at (D .L) (D .held); made = r-made (D .L) (D .held) }; root = Q .free }
-
-  pub seen-stop : Visited t u r false → Visits s u from n false
-  seen-stop Y = record {
+  pub seen-stop : (u : List ℕ) → Visited t u i false → Visits s u from n false
+  seen-stop u Y = record {
     same = same-on s t u (X .same) (Y .same);
     goes = λ q. absurd (bool-no false q refl);
-    stops = λ q L H C m F. Y .stops refl n L (H-at L H) (r-made L H) m (subst (λ w. Falls w n L m) (sym (X .same .still)) F) (λ j m e. absurd (X .calm C j m e));
+    stops = λ q L H C m F. Y .stops refl n L (H-at L H) l m (subst (λ w. Falls w n L m) (sym (X .same .still)) F) (λ j m e. absurd (X .calm C j m e));
   }
 
-  module _ (Y : Visited t u r true) (v : ℕ) (ev : v ≡ markAt u r) where
-    few-i : i < 1024
-    few-i = let f = D .held .few in omega arith
-
-    R : Reached t u r
-    R = Y .goes refl
-
-    size-u : length u ≡ 52224
-    size-u = Y .same .size ∙ X .same .size ∙ D .held .size
-
-    abbrev u′ : List ℕ
-    u′ = set u (40960 + i) v
-
-    hit : markAt u′ i ≡ markAt u r
-    hit = mark-hit u i v size-u few-i ∙ ev
-
-    miss-i : (j : ℕ) → (j ≡ i → ⊥) → markAt u′ j ≡ markAt u j
-    miss-i j d = mark-miss u i v size-u few-i j d
-
-    step-calm : Calm s n → Calm u′ n
-    step-calm C j m e = go (eqb j i) refl
-      where
-        go : (b : Bool) → eqb j i ≡ b → ⊥
-        go true q = R .done (sym hit ∙ ap (markAt u′) (sym (eqb-true j i q)) ∙ e)
-        go false q = X .calm C j m (R .onward .ended j (sym (miss-i j (eqb-false j i q)) ∙ e))
-
-    step-done : (j : ℕ) → from ≤ j → j < i + 1 → (markAt u′ j ≡ 0 → ⊥) × (markAt u′ j ≡ 34 → ⊥)
-    step-done j a b = ⊎-elim
-        (λ e. let h = ap (markAt u′) e ∙ hit in (λ z. R .marked (sym h ∙ z), λ z. R .done (sym h ∙ z)))
-        (λ q. let d = X .done j a q in let h = miss-i j (λ e. omega arith) ∙ R .onward .kept j (d .0) in (λ z. d .0 (sym h ∙ z), λ z. d .1 (sym h ∙ z)))
-        (eq-or-lt-of-le (let z : j ≤ i = omega arith in z))
-
-    step-marks : (L : Pairs ℕ) → Held s n L → Marks s n L → Marks u′ n L
-    step-marks L H M =
-        let Ht = H-at L H in
-        let Hu = same-held t u (Y .same) n L Ht in
-        let Mu = R .marks n L Ht (r-made L H) (X .marks L H M) in
-        let z = Mu .right r (r-made L H) (R .marked) (R .done) in
-        marks-set u i v size-u few-i n L
-        (λ d. sized-class u n L Hu i v (subst (λ y. Sized (frozen u) n L y v) (sym (r-is L H)) (subst (λ y. Sized (frozen u) n L r y) (sym ev) z))) Mu
-
-    pub seen-step : Seen s u′ from n (i + 1)
-    seen-step = record {
-      same = same-on s t u′ (X .same) (same-on t u u′ (Y .same) (mark-same u i v size-u few-i));
-      low = let z = X .low in omega arith;
-      kept = λ j m d.
-          let k = X .kept j m d in
-          let low = X .low in
-          miss-i j (λ e. omega arith) ∙ R .onward .kept j (λ e. d (sym k ∙ e)) ∙ k;
-      calm = step-calm;
-      done = step-done;
-      marks = step-marks;
-    }
+  pub seen-step : (u : List ℕ) → Visited t u i true → Seen s u from n (i + 1)
+  seen-step u Y =
+      let R = Y .goes refl in
+      record {
+        same = same-on s t u (X .same) (Y .same);
+        low = let z = X .low in omega arith;
+        kept = λ j m d. let k = X .kept j m d in R .onward .kept j (λ e. d (sym k ∙ e)) ∙ k;
+        calm = λ C j m e. X .calm C j m (R .onward .ended j e);
+        done = λ j a b. ⊎-elim
+            (λ e. let h = ap (markAt u) e in (λ z. R .marked (sym h ∙ z), λ z. R .done (sym h ∙ z)))
+            (λ q. let d = X .done j a q in let h = R .onward .kept j (d .0) in (λ z. d .0 (sym h ∙ z), λ z. d .1 (sym h ∙ z)))
+            (eq-or-lt-of-le (let z : j ≤ i = omega arith in z));
+        marks = λ L H M. R .marks n L (H-at L H) l (X .marks L H M);
+      }
 
 -- A size is a mark of a visited cell.
 sized-some : (w : List ℕ) (n : ℕ) (L : Pairs ℕ) (i v : ℕ) → Sized w n L i v → v ≡ 0 → ⊥

@@ -3,7 +3,7 @@ use mathlib.Core.Path.{_≡_, refl, sym, ap, subst, _∙_}
 use mathlib.Core.Bool.{Bool, true, false}
 use mathlib.Core.List.{List, map}
 use mathlib.Core.Logic.{_⊎_, ⊎-elim}
-use Prim.Native.Nat.{ℕ, zero, suc, _+_, _-_, _≤_, _<_}
+use Prim.Native.Nat.{ℕ, zero, suc, _+_, _*_, _-_, _≤_, _<_}
 use native.Mathlib.Omega.{arith}
 use native.Mathlib.Nat.{eq-or-lt-of-le, eq-zero-or-pos}
 use lib.Dec.{eqb}
@@ -14,13 +14,13 @@ use Rattle.types.specs.Classes.{rep}
 use Rattle.types.specs.Equations.{In, Pairs}
 use Rattle.types.specs.Finite.{bounded, fromList}
 use Rattle.types.specs.Types.{size, sizes}
-use Rattle.solver.specs.Store.{frozen, tagAt, firstAt, countAt, run, partsAt, view, Held}
-use Rattle.solver.specs.Calls.{Known, Root}
-use Rattle.solver.specs.Sizes.{cap, markAt, bare, arityOf, arityAt, typeAt, Sized, Marks, Same, Visiting, Falls, Onward, Visited}
-use Rattle.solver.proofs.Links.{rep-below, stop-rep}
+use Rattle.solver.specs.Store.{frozen, linkAt, tagAt, firstAt, countAt, run, partsAt, view, Held}
+use Rattle.solver.specs.Calls.{Known}
+use Rattle.solver.specs.Sizes.{cap, markAt, bare, arityOf, arityAt, typeAt, Sized, Marks, Same, Falls, Onward, Reached, Visited}
+use Rattle.solver.proofs.Links.{far, far-le, far-less, hop-below, hop-rep, stop-rep}
 use Rattle.solver.proofs.Words.{run-at, run-length}
 use Rattle.solver.proofs.Answering.{getD-in, in-getD}
-use Rattle.solver.proofs.Marking.{cap-le, cap-pos, cap-low, sized-unk, sized-shape, sized-class, same-refl, same-on, same-held, mark-same, mark-hit, mark-miss, bare-mark, bare-less, marks-set, known-root}
+use Rattle.solver.proofs.Marking.{cap-le, cap-pos, cap-low, sized-unk, sized-shape, sized-class, same-refl, same-on, same-held, mark-same, mark-hit, mark-miss, bare-mark, bare-less, marks-set}
 use Rattle.solver.proofs.Summing.{ToAdd, add-start, add-step, add-end}
 
 onward-refl : (s : List ℕ) → Onward s s
@@ -104,8 +104,8 @@ module _ (s : List ℕ) (r k j : ℕ) (ek : k ≡ arityAt (frozen s) r) (lt : j 
   room : firstAt (frozen s) r + k ≤ length (frozen s)
   room = let z = H .cells r l .room in let c = count in omega arith
 
--- One part more: t before its visit, c its representative, x the new sum.
-module _ (s t : List ℕ) (r k j sum : ℕ) (P : Parts s t r k j sum) (ek : k ≡ arityAt (frozen s) r) (lt : j < k) (p c : ℕ) (ep : p ≡ getD (frozen t) (firstAt (frozen t) r + j) 0) (Q : Root t p c)
+-- One part more: p, with t before its visit, and x the new sum.
+module _ (s t : List ℕ) (r k j sum : ℕ) (P : Parts s t r k j sum) (ek : k ≡ arityAt (frozen s) r) (lt : j < k) (p : ℕ) (ep : p ≡ getD (frozen t) (firstAt (frozen t) r + j) 0)
     (u : List ℕ) where
   still : frozen t ≡ frozen s
   still = P .onward .same .still
@@ -120,20 +120,13 @@ module _ (s t : List ℕ) (r k j sum : ℕ) (P : Parts s t r k j sum) (ek : k �
     Ht : Held t n L
     Ht = same-held s t (P .onward .same) n L H
 
-    pub c-is : rep eqb L p ≡ c
-    c-is = Q .is n L Ht p-below
-
-    pub c-below : c < n
-    c-below = subst (λ z. z < n) c-is (rep-below n L (H .inside) p p-below)
-
-  step-sum : (Y : Visited t u c true) (v x : ℕ) → v ≡ markAt u c → x ≡ cap (sum + v) → (n : ℕ) (L : Pairs ℕ) → Held s n L → r < n → Marks s n L → Marks u n L × Sum (frozen s) n L r k (j + 1) x
+  step-sum : (Y : Visited t u p true) (v x : ℕ) → v ≡ markAt u p → x ≡ cap (sum + v) → (n : ℕ) (L : Pairs ℕ) → Held s n L → r < n → Marks s n L → Marks u n L × Sum (frozen s) n L r k (j + 1) x
   step-sum Y v x ev ex n L H l M =
       let S = P .sums n L H l M in
       let R = Y .goes refl in
-      let Mu = R .marks n L (Ht n L H l) (c-below n L H l) (S .0) in
+      let Mu = R .marks n L (Ht n L H l) (p-below n L H l) (S .0) in
       let us = R .onward .same .still ∙ still in
-      let zc : Sized (frozen s) n L c (markAt u c) = subst (λ w. Sized w n L c (markAt u c)) us (Mu .right c (c-below n L H l) (R .marked) (R .done)) in
-      let zp : Sized (frozen s) n L p (markAt u c) = sized-class s n L H p (markAt u c) (subst (λ y. Sized (frozen s) n L y (markAt u c)) (sym (c-is n L H l)) zc) in (
+      let zp : Sized (frozen s) n L p (markAt u p) = subst (λ w. Sized w n L p (markAt u p)) us (Mu .right p (p-below n L H l) (R .marked) (R .done)) in (
         Mu,
         record {
           finite = λ i q. ⊎-elim
@@ -144,7 +137,7 @@ module _ (s t : List ℕ) (r k j sum : ℕ) (P : Parts s t r k j sum) (ek : k �
         },
       )
 
-  pub parts-step : (Y : Visited t u c true) (v x : ℕ) → v ≡ markAt u c → x ≡ cap (sum + v) → Parts s u r k (j + 1) x
+  pub parts-step : (Y : Visited t u p true) (v x : ℕ) → v ≡ markAt u p → x ≡ cap (sum + v) → Parts s u r k (j + 1) x
   parts-step Y v x ev ex = record {
     onward = onward-on s t u (P .onward) (Y .goes refl .onward);
     few = subst (λ z. z ≤ 33) (sym ex) (cap-le _);
@@ -153,11 +146,11 @@ module _ (s t : List ℕ) (r k j sum : ℕ) (P : Parts s t r k j sum) (ek : k �
   }
 
   -- The visit of the part met a cell below itself: so would one of r, which was not marked in s₀.
-  module _ (s₀ : List ℕ) (few : r < 1024) (size : length s₀ ≡ 52224) (begun : s ≡ set s₀ (40960 + r) 34) (Y : Visited t u c false) where
+  module _ (s₀ : List ℕ) (few : r < 1024) (size : length s₀ ≡ 52224) (begun : s ≡ set s₀ (40960 + r) 34) (Y : Visited t u p false) where
     begun-same : Same s₀ s
     begun-same = subst (λ z. Same s₀ z) (sym begun) (mark-same s₀ r 34 size few)
 
-    below : (n : ℕ) (L : Pairs ℕ) → Held s₀ n L → r < n → (m : ℕ → ℕ) → Falls (frozen s₀) n L m → ((i : ℕ) → i < n → markAt s₀ i ≡ 34 → m r < m i) → (i : ℕ) → i < n → markAt t i ≡ 34 → m c < m i
+    below : (n : ℕ) (L : Pairs ℕ) → Held s₀ n L → r < n → (m : ℕ → ℕ) → Falls (frozen s₀) n L m → ((i : ℕ) → i < n → markAt s₀ i ≡ 34 → m r < m i) → (i : ℕ) → i < n → markAt t i ≡ 34 → m p < m i
     below n L H₀ l m F B i il e = go (eqb i r) refl
       where
         H : Held s n L
@@ -167,15 +160,12 @@ module _ (s t : List ℕ) (r k j sum : ℕ) (P : Parts s t r k j sum) (ek : k �
         mp = F .parts r l (subst (λ w. 0 < tagAt w r) (begun-same .still) (former s r k j ek lt n L H l)) p
             (subst (λ w. In p (partsAt w r)) (begun-same .still) (subst (λ y. In y (partsAt (frozen s) r)) (sym ep′) (part-in s r k j ek lt n L H l)))
 
-        mc : m c < m r
-        mc = let a = ap m (c-is n L H l) in let b = F .classes p in let z = mp in omega arith
-
         es : markAt s i ≡ 34
         es = P .onward .ended i e
 
-        go : (b : Bool) → eqb i r ≡ b → m c < m i
-        go true q = subst (λ y. m c < m y) (sym (eqb-true i r q)) mc
-        go false q = let z = B i il (sym (mark-miss s₀ r 34 size few i (eqb-false i r q)) ∙ ap (λ y. markAt y i) (sym begun) ∙ es) in let y = mc in omega arith
+        go : (b : Bool) → eqb i r ≡ b → m p < m i
+        go true q = subst (λ y. m p < m y) (sym (eqb-true i r q)) mp
+        go false q = let z = B i il (sym (mark-miss s₀ r 34 size few i (eqb-false i r q)) ∙ ap (λ y. markAt y i) (sym begun) ∙ es) in let y = mp in omega arith
 
     pub parts-stop : Visited s₀ u r false
     parts-stop = record {
@@ -183,16 +173,16 @@ module _ (s t : List ℕ) (r k j sum : ℕ) (P : Parts s t r k j sum) (ek : k �
       goes = λ q. absurd (bool-no false q refl);
       stops = λ q n L H₀ l m F B.
           let H = same-held s₀ s begun-same n L H₀ in
-          Y .stops refl n L (Ht n L H l) (c-below n L H l) m (subst (λ w. Falls w n L m) (sym (still ∙ begun-same .still)) F) (below n L H₀ l m F B);
+          Y .stops refl n L (Ht n L H l) (p-below n L H l) m (subst (λ w. Falls w n L m) (sym (still ∙ begun-same .still)) F) (below n L H₀ l m F B);
     }
 
 -- All parts have been visited: r gets its mark.
-module _ (s₀ s t : List ℕ) (r k j sum : ℕ) (W : Visiting s₀ r) (none : markAt s₀ r ≡ 0) (begun : s ≡ set s₀ (40960 + r) 34) (P : Parts s t r k j sum) (ek : k ≡ arityAt (frozen s₀) r) (le : k ≤ j) where
+module _ (s₀ s t : List ℕ) (r k j sum : ℕ) (W : Known s₀ r) (root : linkAt s₀ r ≡ 0) (none : markAt s₀ r ≡ 0) (begun : s ≡ set s₀ (40960 + r) 34) (P : Parts s t r k j sum) (ek : k ≡ arityAt (frozen s₀) r) (le : k ≤ j) where
   few-r : r < 1024
-  few-r = let f = W .known .held .few in let l = W .known .made in omega arith
+  few-r = let f = W .held .few in let l = W .made in omega arith
 
   size₀ : length s₀ ≡ 52224
-  size₀ = W .known .held .size
+  size₀ = W .held .size
 
   s-same : Same s₀ s
   s-same = subst (λ z. Same s₀ z) (sym begun) (mark-same s₀ r 34 size₀ few-r)
@@ -245,7 +235,7 @@ module _ (s₀ s t : List ℕ) (r k j sum : ℕ) (W : Visiting s₀ r) (none : m
     total = add-end (typeAt w n L) w (firstAt w r) k j sum _ le (P .few) (S .left)
 
     root-r : rep eqb L r ≡ r
-    root-r = stop-rep s₀ n L H₀ r l (W .root)
+    root-r = stop-rep s₀ n L H₀ r l root
 
     unknown : tagAt w r ≡ 0 → Sized w n L r sum
     unfolding run fromList size
@@ -286,45 +276,105 @@ module _ (s₀ s t : List ℕ) (r k j sum : ℕ) (W : Visiting s₀ r) (none : m
   }
 
 -- In the visit of r, which had no mark in s₀ and has 34 in s.
-module _ (s₀ s : List ℕ) (r k : ℕ) (W : Visiting s₀ r) (none : markAt s₀ r ≡ 0) (begun : s ≡ set s₀ (40960 + r) 34) (ek : k ≡ arityAt (frozen s₀) r) where
+module _ (s₀ s : List ℕ) (r k : ℕ) (W : Known s₀ r) (root : linkAt s₀ r ≡ 0) (none : markAt s₀ r ≡ 0) (begun : s ≡ set s₀ (40960 + r) 34) (ek : k ≡ arityAt (frozen s₀) r) where
   few-cell-r : r < 1024
-  few-cell-r = let f = W .known .held .few in let l = W .known .made in omega arith
+  few-cell-r = let f = W .held .few in let l = W .made in omega arith
 
   marked-same : Same s₀ s
-  marked-same = subst (λ z. Same s₀ z) (sym begun) (mark-same s₀ r 34 (W .known .held .size) few-cell-r)
+  marked-same = subst (λ z. Same s₀ z) (sym begun) (mark-same s₀ r 34 (W .held .size) few-cell-r)
 
   es : k ≡ arityAt (frozen s) r
   es = ek ∙ ap (λ w. arityAt w r) (sym (marked-same .still))
 
-  reading : Held s (W .known .n) (W .known .L)
-  reading = same-held s₀ s marked-same (W .known .n) (W .known .L) (W .known .held)
+  reading : Held s (W .n) (W .L)
+  reading = same-held s₀ s marked-same (W .n) (W .L) (W .held)
 
   module _ (t : List ℕ) (j sum : ℕ) (P : Parts s t r k j sum) where
     pub visit-size : length t ≡ length s₀
     visit-size = P .onward .same .size ∙ marked-same .size
 
-    pub visit-fewer : bare t 1024 < bare s₀ 1024
-    visit-fewer =
+    -- The measure: cells without a mark, then links on the way.
+    pub visit-falls : (p : ℕ) → 1026 * bare t 1024 + far t 1025 p < 1026 * bare s₀ 1024 + far s₀ 1025 r
+    visit-falls p =
         let a = P .onward .fewer in
         let b = ap (λ z. bare z 1024) begun in
-        let c = bare-mark s₀ r 34 (W .known .held .size) few-cell-r none (λ e. omega arith) 1024 few-cell-r in
+        let c = bare-mark s₀ r 34 (W .held .size) few-cell-r none (λ e. omega arith) 1024 few-cell-r in
+        let d = far-le t 1025 p in
         omega arith
 
     module _ (lt : j < k) (p : ℕ) (ep : p ≡ getD (frozen t) (firstAt (frozen t) r + j) 0) where
       pub visit-known : Known t p
       visit-known = record {
-        n = W .known .n;
-        L = W .known .L;
-        held = same-held s t (P .onward .same) (W .known .n) (W .known .L) reading;
-        made = subst (λ z. z < W .known .n) (sym (ep ∙ ap (λ w. getD w (firstAt w r + j) 0) (P .onward .same .still))) (part-below s r k j es lt (W .known .n) (W .known .L) reading (W .known .made));
+        n = W .n;
+        L = W .L;
+        held = same-held s t (P .onward .same) (W .n) (W .L) reading;
+        made = subst (λ z. z < W .n) (sym (ep ∙ ap (λ w. getD w (firstAt w r + j) 0) (P .onward .same .still))) (part-below s r k j es lt (W .n) (W .L) reading (W .made));
       }
 
-      module _ (c : ℕ) (Q : Root t p c) where
-        pub visit-part : Visiting t c
-        visit-part = record { known = known-root t p c visit-known Q; root = Q .free }
+      pub visit-step : (u : List ℕ) → Visited t u p true → (v x : ℕ) → v ≡ markAt u p → x ≡ cap (sum + v) → Parts s u r k (j + 1) x
+      visit-step u Y v x ev ex = parts-step s t r k j sum P es lt p ep u Y v x ev ex
 
-        pub visit-step : (u : List ℕ) → Visited t u c true → (v x : ℕ) → v ≡ markAt u c → x ≡ cap (sum + v) → Parts s u r k (j + 1) x
-        visit-step u Y v x ev ex = parts-step s t r k j sum P es lt p c ep Q u Y v x ev ex
+      pub visit-stop : (u : List ℕ) → Visited t u p false → Visited s₀ u r false
+      visit-stop u Y = parts-stop s t r k j sum P es lt p ep u s₀ few-cell-r (W .held .size) begun Y
 
-        pub visit-stop : (u : List ℕ) → Visited t u c false → Visited s₀ u r false
-        visit-stop u Y = parts-stop s t r k j sum P es lt p c ep Q u s₀ few-cell-r (W .known .held .size) begun Y
+-- A linked cell, after the visit of the cell c that it is linked to.
+module _ (s u : List ℕ) (i c : ℕ) (K : Known s i) (none : markAt s i ≡ 0) (link : linkAt s i ≡ suc c) where
+  pub link-known : Known s c
+  link-known = record { n = K .n; L = K .L; held = K .held; made = hop-below s (K .n) (K .L) (K .held) i c (K .made) link }
+
+  pub link-falls : 1026 * bare s 1024 + far s 1025 c < 1026 * bare s 1024 + far s 1025 i
+  link-falls = let z = far-less s (K .n) (K .L) (K .held) i c (K .made) link in omega arith
+
+  pub link-stop : Visited s u c false → Visited s u i false
+  link-stop Y = record {
+    same = Y .same;
+    goes = λ q. absurd (bool-no false q refl);
+    stops = λ q n L H l m F B.
+        let e : m c ≡ m i = sym (F .classes c) ∙ ap m (hop-rep s n L H i c l link) ∙ F .classes i in
+        Y .stops refl n L H (hop-below s n L H i c l link) m F (λ j q e′. let z = B j q e′ in omega arith);
+  }
+
+  module _ (Y : Visited s u c true) (v : ℕ) (ev : v ≡ markAt u c) where
+    few-i : i < 1024
+    few-i = let f = K .held .few in let l = K .made in omega arith
+
+    R : Reached s u c
+    R = Y .goes refl
+
+    size-u : length u ≡ 52224
+    size-u = Y .same .size ∙ K .held .size
+
+    abbrev u′ : List ℕ
+    u′ = set u (40960 + i) v
+
+    hit : markAt u′ i ≡ markAt u c
+    hit = mark-hit u i v size-u few-i ∙ ev
+
+    link-onward : Onward s u′
+    link-onward = record {
+      same = same-on s u u′ (Y .same) (mark-same u i v size-u few-i);
+      fewer = let a = bare-less u i v size-u few-i (λ e. R .marked (sym ev ∙ e)) 1024 in let b = R .onward .fewer in omega arith;
+      kept = λ j d. mark-miss u i v size-u few-i j (λ e. d (ap (markAt s) e ∙ none)) ∙ R .onward .kept j d;
+      ended = λ j e. go j e (eqb j i) refl;
+    }
+      where
+        go : (j : ℕ) → markAt u′ j ≡ 34 → (b : Bool) → eqb j i ≡ b → markAt s j ≡ 34
+        go j e true q = absurd (R .done (sym hit ∙ ap (markAt u′) (sym (eqb-true j i q)) ∙ e))
+        go j e false q = R .onward .ended j (sym (mark-miss u i v size-u few-i j (eqb-false j i q)) ∙ e)
+
+    link-marks : (n : ℕ) (L : Pairs ℕ) → Held s n L → i < n → Marks s n L → Marks u′ n L
+    link-marks n L H l M =
+        let b = hop-below s n L H i c l link in
+        let Mu = R .marks n L H b M in
+        marks-set u i v size-u few-i n L
+        (λ d. subst (λ y. Sized (frozen u) n L i y) (sym ev) (sized-class u n L (same-held s u (Y .same) n L H) c i _ (hop-rep s n L H i c l link) (Mu .right c b (R .marked) (R .done)))) Mu
+
+    pub link-end : Visited s u′ i true
+    link-end = record {
+      same = link-onward .same;
+      goes = λ q. record { onward = link-onward; marked = λ e. R .marked (sym hit ∙ e); done = λ e. R .done (sym hit ∙ e); marks = link-marks };
+      stops = λ q. absurd (bool-no true refl q);
+    }
+
+pub link-cell : (x l : ℕ) → l ≡ x → (l ≡ 0 → ⊥) → x ≡ suc (l - 1)
+link-cell x l e d = ⊎-elim (λ z. absurd (d z)) (λ p. omega arith) (eq-zero-or-pos l)

@@ -16,7 +16,8 @@ use Rattle.solver.specs.Sizes.{markAt, Sized, Tested, Marked, Measuring}
 use Rattle.solver.proofs.Accepted.{start, same-pinned}
 use Rattle.solver.proofs.Answering.{in-getD}
 use Rattle.solver.proofs.Words.{run-at, run-length, frozen-length}
-use Rattle.solver.proofs.Extending.{added-builds, added-load, added-other, added-here, made-grows, made-load, made-above}
+use Rattle.solver.proofs.Growing.{made-load, made-above}
+use Rattle.solver.proofs.Extending.{added-builds, added-load, added-other, added-here, made-grows}
 use Rattle.tower.specs.Ready.{Ready, Row, Rowing, Rowed, Room, Built, Forming, Applying, Applied, Towering, Towered}
 
 -- An area with no cells.
@@ -57,8 +58,8 @@ ready-add s s′ d n top k x R l m N =
     }
 
 -- The parts are those of a new cell.
-pub making : (s d : List ℕ) (n top t a m : ℕ) → Ready s d n (top + m) m → n < 1024 → n + top + m + 1 ≤ 6143 → t ≤ 4 → (t < 2 → a ≡ 0) → (t ≡ 3 → a ≡ 0) → (t ≡ 4 → a ≡ m) → Making s n t a top m
-making s d n top t a m R l r h p q u =
+pub making : (s d : List ℕ) (n top t a m : ℕ) → Ready s d n (top + m) m → n < 1024 → n + top + m + 1 ≤ 6143 → t ≤ 4 → (t < 2 → a ≡ 0) → (t ≡ 3 → a ≡ 0) → (t ≡ 3 → m ≡ 1) → (t ≡ 4 → a ≡ m) → Making s n t a top m
+making s d n top t a m R l r h p q o u =
     let low = R .low in
     record {
       P₀ = R .P₀;
@@ -68,6 +69,7 @@ making s d n top t a m R l r h p q u =
       tags = omega arith;
       plain = p;
       powers = q;
+      one = o;
       products = u;
       low = omega arith;
       room = omega arith;
@@ -188,7 +190,7 @@ module _ (s : List ℕ) (n top t a first step m : ℕ) (F : Forming s n top t a 
   forming-cell u W =
       let w = F .room .words in
       let c = F .room .cells in
-      making u (F .room .d) n top t a m (rowed-as u (F .room .d) W (F .room .ready)) (omega arith) (omega arith) (F .tags) (F .plain) (F .powers) (F .products)
+      making u (F .room .d) n top t a m (rowed-as u (F .room .d) W (F .room .ready)) (omega arith) (omega arith) (F .tags) (F .plain) (F .powers) (F .one) (F .products)
 
   pub formed : (u v : List ℕ) → Rowed s u n top m → Made u v n t a top m → Built s v n top 1 m
   formed u v W N d R = ready-make u v d n top t a m (rowed-as u d W R) (F .tags) (forming-cell u W) N
@@ -222,6 +224,7 @@ form-plain s n top t W l = record {
   tags = omega arith;
   plain = λ q. refl;
   powers = λ q. refl;
+  one = λ q. absurd (omega arith);
   products = λ q. refl;
 }
 
@@ -233,6 +236,7 @@ form-product s n top first step m W R l = record {
   tags = omega arith;
   plain = λ q. absurd (omega arith);
   powers = λ q. absurd (omega arith);
+  one = λ q. absurd (omega arith);
   products = λ q. refl;
 }
 
@@ -244,6 +248,7 @@ form-power s n top x W l = record {
   tags = omega arith;
   plain = λ q. absurd (omega arith);
   powers = λ q. refl;
+  one = λ q. refl;
   products = λ q. absurd (omega arith);
 }
 

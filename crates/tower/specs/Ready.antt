@@ -54,6 +54,7 @@ pub record Forming (s : List ℕ) (n top t a first step m : ℕ) : Type 0 where
   pub tags : t ≤ 4
   pub plain : t < 2 → a ≡ 0
   pub powers : t ≡ 3 → a ≡ 0
+  pub one : t ≡ 3 → m ≡ 1
   pub products : t ≡ 4 → a ≡ m
 
 -- The application to cell x.
