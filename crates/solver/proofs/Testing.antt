@@ -6,20 +6,16 @@ use mathlib.Core.Logic.{_⊎_, ⊎-elim}
 use Prim.Native.Nat.{ℕ, _+_, _-_, _≤_, _<_}
 use native.Mathlib.Omega.{arith}
 use native.Mathlib.Nat.{eq-or-lt-of-le}
-use lib.Dec.{eqb}
 use lib.ListN.{length, set}
-use borrow.Author.Tests.{eqb-true, eqb-false}
 use Rattle.types.proofs.Terms.{bool-no}
-use Rattle.types.specs.Classes.{rep}
 use Rattle.types.specs.Equations.{Pairs}
 use Rattle.types.specs.Types.{size, sizes}
 use Rattle.solver.specs.Store.{frozen, partsAt, Held, Solved}
 use Rattle.solver.specs.Calls.{Known}
 use Rattle.solver.specs.Sizes.{markAt, typeAt, Sized, Marks, Same, Read, Falls, Visited, Before, Calm, Visits, Cleared, Solution, TestedFrom, Tested}
-use Rattle.solver.proofs.Links.{rep-below}
 use Rattle.solver.proofs.Heads.{view-shape}
 use Rattle.solver.proofs.Growing.{lt-or-ge}
-use Rattle.solver.proofs.Marking.{cap-le, cap-pos, sized-class, by-rep, solve, same-refl, same-on, same-held, same-solved, mark-same, mark-hit, mark-miss, marks-set}
+use Rattle.solver.proofs.Marking.{cap-le, cap-pos, by-rep, solve, same-refl, same-on, same-held, same-solved, mark-same, mark-hit, mark-miss}
 use Rattle.solver.proofs.Summing.{part-size, size-some}
 
 -- The cells from `from` to i have been marked.

@@ -1,14 +1,14 @@
 -- Marks: which cells have finite types, and how large they are.
 use mathlib.Core.Path.{_≡_}
 use mathlib.Core.Bool.{Bool, true, false}
-use mathlib.Core.List.{List, [], _∷_, map}
-use Prim.Native.Nat.{ℕ, zero, suc, _+_, _*_, _-_, _≤_, _<_, _^_}
+use mathlib.Core.List.{List, map}
+use Prim.Native.Nat.{ℕ, zero, suc, _+_, _-_, _≤_, _<_, _^_}
 use lib.Dec.{eqb, ltb}
-use lib.ListN.{length, getD, set}
+use lib.ListN.{length, getD}
 use Rattle.types.specs.Classes.{rep}
 use Rattle.types.specs.Equations.{In, Pairs, Solves}
 use Rattle.types.specs.Finite.{bounded, fromList, typeOf}
-use Rattle.types.specs.Follows.{View, shape, unk}
+use Rattle.types.specs.Follows.{shape}
 use Rattle.types.specs.Former.{Former, int}
 use Rattle.types.specs.Types.{Ty, node, size, tnil}
 use Rattle.solver.specs.Store.{frozen, linkAt, tagAt, countAt, partsAt, view, free, Held, Solved}

@@ -1,18 +1,17 @@
 -- A store that is built stays ready: after a word, a cell, a merge, the test.
 use mathlib.Core.Path.{_≡_, refl, sym, ap, subst, _∙_}
-use mathlib.Core.Bool.{Bool, true, false}
+use mathlib.Core.Bool.{Bool, true}
 use mathlib.Core.List.{List}
 use mathlib.Core.Logic.{⊎-elim}
 use Prim.Native.Nat.{ℕ, zero, suc, _+_, _*_, _-_, _≤_, _<_, _^_}
 use native.Mathlib.Omega.{arith}
 use native.Mathlib.Nat.{eq-or-lt-of-le, suc-mul, zero-mul}
 use lib.ListN.{length, getD}
-use Rattle.types.specs.Equations.{In, Pairs, end}
-use Rattle.solver.specs.Store.{frozen, load, run, Solved}
+use Rattle.types.specs.Equations.{end}
+use Rattle.solver.specs.Store.{frozen, load, run}
 use Rattle.solver.specs.Calls.{Above, Adding, Added, Making, Made}
 use Rattle.solver.specs.Merging.{Asking, Merged}
-use Rattle.solver.specs.Settled.{Pinned}
-use Rattle.solver.specs.Sizes.{markAt, Sized, Tested, Marked, Measuring}
+use Rattle.solver.specs.Sizes.{markAt, Sized, Tested, Measuring}
 use Rattle.solver.proofs.Accepted.{start, same-pinned}
 use Rattle.solver.proofs.Answering.{in-getD}
 use Rattle.solver.proofs.Words.{run-at, run-length, frozen-length}

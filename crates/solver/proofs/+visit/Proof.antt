@@ -1,7 +1,7 @@
-use mathlib.Core.Path.{_≡_, refl, sym, ap, subst, _∙_}
-use mathlib.Core.Bool.{true, false}
+use mathlib.Core.Path.{refl, sym, subst, _∙_}
+use mathlib.Core.Bool.{true}
 use native.Mathlib.Omega.{arith}
-use Prim.Native.Nat.{suc, _+_, _*_, _-_, _≤_}
+use Prim.Native.Nat.{_+_, _*_, _-_, _≤_}
 use Rattle.solver.specs.Sizes.{markAt, bare, Visited}
 use Rattle.solver.proofs.Links.{far}
 use Rattle.solver.proofs.Visiting.{Parts, visited-as, visited-again, visited-before, parts-start, parts-end, visit-size, visit-falls, visit-known, visit-step, visit-stop, link-cell, link-known, link-falls, link-stop, link-end}

@@ -1,9 +1,8 @@
-use mathlib.Core.Path.{_≡_, sym, _∙_}
-use Prim.Native.Nat.{_+_, _-_}
+use mathlib.Core.Path.{_∙_}
+use Prim.Native.Nat.{_-_}
 use native.Mathlib.Omega.{arith}
 use Rattle.solver.proofs.Visiting.{visited-as}
 use Rattle.solver.proofs.Testing.{Seen, seen-start, seen-known, seen-step, seen-stop, seen-end}
-use borrow.Author.Needs.{needs}
 use Rattle.solver.proofs.visit_all.Statement.{statement}
 use Rattle.solver.proofs.visit_all.Tie as tie
 use Rattle.solver.proofs.visit_all.Reads as reads

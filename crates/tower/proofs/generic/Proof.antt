@@ -1,6 +1,5 @@
 use native.Mathlib.Omega.{arith}
 use Rattle.tower.proofs.Building.{room-part, room-after, built-on, built-size, form-plain, form-product, form-power}
-use borrow.Author.Needs.{needs}
 use Rattle.tower.proofs.generic.Statement.{statement}
 use Rattle.tower.proofs.generic.Tie as tie
 use Rattle.tower.proofs.generic.Reads as reads

@@ -1,8 +1,6 @@
-use mathlib.Core.Path.{_≡_}
-use Prim.Native.Nat.{_+_, _-_, _≤_}
+use Prim.Native.Nat.{_-_, _≤_}
 use native.Mathlib.Omega.{arith}
 use Rattle.tower.proofs.Building.{RowTo, row-start, row-cell, row-few, row-adding, row-step, row-size, row-end}
-use borrow.Author.Needs.{needs}
 use Rattle.tower.proofs.row.Statement.{statement}
 use Rattle.tower.proofs.row.Tie as tie
 use Rattle.tower.proofs.row.Reads as reads
