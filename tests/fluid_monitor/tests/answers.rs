@@ -13,6 +13,8 @@ use reference::{check, fit, run, Ending, Outcome, WORK_WORDS};
 const AREA: usize = 16_384;
 /// More steps than these runs take.
 const STEPS: u64 = 20_000;
+/// Paragraphs of the document, whose nodes are its last words.
+const PARAGRAPHS: usize = 6;
 
 fn file(name: &str) -> Vec<u8> {
     let path = files::directory().join(name);
@@ -61,6 +63,20 @@ fn the_clock_is_lost_far_from_the_start() {
 #[test]
 fn the_document_is_accepted() {
     assert_eq!(reference::print(&file("volume.z")), text("volume.expected"));
+}
+
+/// README.md names the node of each paragraph, quotes the listing's last lines
+/// before the Document's, and says how the run fails.
+#[test]
+fn the_readme_quotes_the_files() {
+    let (readme, listing) = (text("README.md"), text("volume.txt"));
+    let document = files::document();
+    let paragraphs = &document[document.len() - PARAGRAPHS..];
+    for node in paragraphs {
+        assert!(readme.contains(&format!("node {node})")), "node {node}");
+    }
+    assert!(listing.lines().rev().skip(1).take(3).all(|line| readme.contains(line)));
+    assert!(readme.contains(text("far.expected").trim_end()));
 }
 
 #[test]
