@@ -1,5 +1,5 @@
-//! The monitor at work: a pump whose encoder counts exactly, and a volume
-//! routine that keeps its session clock in a 32-bit float.
+//! A model of the monitor at work: a pump whose encoder counts exactly, and a
+//! volume routine that keeps its session clock in a 32-bit float.
 
 /// Microlitres in a millisecond: 300 millilitres in a minute.
 pub const RATE: i32 = 5;
