@@ -11,7 +11,8 @@ use Rattle.types.specs.Words.{words}
 use Rattle.types.proofs.Words.{words-few}
 use Rattle.solver.specs.Settled.{Reads, leadWords, nameWords, partsOf}
 use Rattle.solver.specs.Sizes.{cap}
-use Rattle.solver.proofs.Reading.{Rest, rest-start, part-next, parts-are, tag-at, place-low}
+use Rattle.solver.specs.Parts.{Rest}
+use Rattle.solver.proofs.Reading.{rest-start, part-next, parts-are, tag-at, place-low}
 use Rattle.solver.proofs.Marking.{cap-cases}
 use Rattle.solver.proofs.Summing.{cap-step, cap-small}
 use Rattle.instances.specs.Fill.{fill, fills}

@@ -12,7 +12,8 @@ use Rattle.types.specs.Words.{second, words, partWords}
 use Rattle.solver.specs.Store.{run}
 use Rattle.solver.specs.Settled.{Reads, leadWords, nameWords, partsOf}
 use Rattle.solver.specs.Written.{lead, Wrote}
-use Rattle.solver.proofs.Reading.{Names, Rest, rest-start, Part, part-next, parts-are, tag-at, inside, place-low}
+use Rattle.solver.specs.Parts.{Names, Rest}
+use Rattle.solver.proofs.Reading.{rest-start, Part, part-next, parts-are, tag-at, inside, place-low}
 use Rattle.solver.proofs.Words.{run-cons, run-length}
 use Rattle.solver.proofs.Writer.{sets-append}
 use Rattle.instances.specs.Fill.{fill, fills}

@@ -88,6 +88,15 @@ unfoldable pub far : List ℕ → ℕ → ℕ → ℕ
 far s zero k = 0
 far s (suc f) k = farOf (linkAt s k) (λ j. far s f j)
 
+far-le-c : (f : ℕ) (g : ℕ → ℕ) → ((j : ℕ) → g j ≤ f) → (v : ℕ) → farOf v g ≤ suc f
+far-le-c f g h zero = omega arith
+far-le-c f g h (suc j) = let z = h j in omega arith
+
+pub far-le : (s : List ℕ) (f k : ℕ) → far s f k ≤ f
+unfolding far
+far-le s zero k = omega arith
+far-le s (suc f) k = far-le-c f (λ j. far s f j) (λ j. far-le s f j) (linkAt s k)
+
 module _ (s : List ℕ) (n : ℕ) (L : Pairs ℕ) (H : Held s n L) where
   linked : (k j : ℕ) → k < n → linkAt s k ≡ suc j → next eqb L k ≡ some j
   unfolding linkOf

@@ -3,30 +3,29 @@ use mathlib.Core.Path.{_≡_, refl, sym, ap, ap₂, subst, _∙_}
 use mathlib.Core.Bool.{Bool, true, false}
 use mathlib.Core.List.{List, [], _∷_, map}
 use mathlib.Core.Logic.{_⊎_, inl, inr, ⊎-elim}
-use Prim.Native.Nat.{ℕ, zero, suc, _+_, _*_, _-_, _≤_, _<_}
+use Prim.Native.Nat.{ℕ, zero, suc, _+_, _-_, _≤_, _<_}
 use native.Mathlib.Omega.{arith}
 use native.Mathlib.Nat.{eq-or-lt-of-le, eq-zero-or-pos}
-use lib.Dec.{eqb, ltb}
-use lib.ListN.{length, getD, set, length-set}
+use lib.Dec.{eqb}
+use lib.ListN.{length, set, length-set}
 use lib.Seq.{getD-set-same, getD-set-other, take-set-le}
 use Rattle.solver.specs.Settled.{lower, wordAt}
 use borrow.Author.Tests.{eqb-true, eqb-false, lt-ltb, le-ltb}
 use Rattle.types.proofs.Classify.{build}
-use Rattle.types.proofs.Closed.{idem}
 use Rattle.types.proofs.Finite.{all-of, depth, solution, solution-sat, tree-by, tree-same}
 use Rattle.types.proofs.Rational.{rep-sat}
 use Rattle.types.proofs.Transfer.{follows-holds}
 use Rattle.types.specs.Classes.{Closed, rep}
-use Rattle.types.specs.Equations.{AllP, In, InP, Pairs, Solves, end, pair}
-use Rattle.types.specs.Finite.{allb, bounded, boundedView, fromList, typeOf, typeOfView}
+use Rattle.types.specs.Equations.{AllP, In, Pairs, Solves, end, pair}
+use Rattle.types.specs.Finite.{bounded, boundedView, fromList, typeOf, typeOfView}
 use Rattle.types.specs.Follows.{Follows, View, shape, unk}
 use Rattle.types.specs.Former.{Former, int}
-use Rattle.types.specs.Types.{Ty, Tys, node, size, sizes, tcons, tnil}
-use Rattle.solver.specs.Store.{frozen, linkAt, fieldAt, tagAt, firstAt, countAt, run, partsAt, formerAt, view, Cell, load, free, Both, Held, Solved}
+use Rattle.types.specs.Types.{Ty, node, size, sizes, tnil}
+use Rattle.solver.specs.Store.{frozen, tagAt, partsAt, formerAt, view, free, Held, Solved}
 use Rattle.solver.specs.Sizes.{cap, markAt, bare, typeAt, Sized, Marks, Same, Solution}
 use Rattle.solver.specs.Calls.{Known, Root}
 use Rattle.solver.proofs.Links.{rep-below, upto, upto-in, upto-len}
-use Rattle.solver.proofs.Words.{frozen-set, run-cons, link-same}
+use Rattle.solver.proofs.Words.{frozen-set, link-same}
 use Rattle.solver.proofs.Heads.{view-unk, view-shape}
 use Rattle.solver.proofs.Linking.{held-same}
 use Rattle.solver.proofs.Growing.{view-made, lt-or-ge}
@@ -134,12 +133,11 @@ module _ (s : List ℕ) (n : ℕ) (L : Pairs ℕ) (H : Held s n L) where
   by-class zero i j e = refl
   by-class (suc d) i j e = ap (λ z. boundedView (λ c. bounded r Vw d c) (Vw z)) e
 
-  -- A cell has the size of its representative.
-  pub sized-class : (i v : ℕ) → Sized w n L (r i) v → Sized w n L i v
+  -- Cells of one class have one size.
+  pub sized-class : (i j v : ℕ) → r i ≡ r j → Sized w n L i v → Sized w n L j v
   unfolding typeAt
-  sized-class i v z =
-      let e = idem ℕ eqb eqb-true eqb-false L (H .wf) i in
-      record { finite = sym (by-class n (r i) i e) ∙ z .finite; size = z .size ∙ ap (λ y. cap (size y)) (tree-by r Vw (λ j. node int tnil) n (r i) i e) }
+  sized-class i j v e z =
+      record { finite = sym (by-class n i j e) ∙ z .finite; size = z .size ∙ ap (λ y. cap (size y)) (tree-by r Vw (λ j. node int tnil) n i j e) }
 
 -- What finite solutions say.
 gs-inj : (a b : List Ty) → fromList a ≡ fromList b → a ≡ b

@@ -1,12 +1,10 @@
 -- The size of a cell's type, with settled cells.
-use mathlib.Core.Path.{_≡_, refl, sym, ap, ap₂, subst, _∙_}
-use mathlib.Core.Bool.{Bool, true, false}
+use mathlib.Core.Path.{_≡_, refl, sym, ap, _∙_}
 use mathlib.Core.List.{List, [], _∷_, map}
 use mathlib.Core.Logic.{⊎-elim}
 use Prim.Native.Nat.{ℕ, zero, suc, _+_, _-_, _≤_, _<_}
 use native.Mathlib.Omega.{arith}
 use lib.Dec.{eqb}
-use lib.ListN.{length, getD}
 use borrow.Author.Tests.{eqb-true, eqb-false}
 use Rattle.types.proofs.Rational.{rep-sat}
 use Rattle.types.specs.Classes.{rep}
@@ -14,16 +12,16 @@ use Rattle.types.specs.Equations.{Pairs}
 use Rattle.types.specs.Finite.{fromList, typeOf, typeOfView}
 use Rattle.types.specs.Follows.{View, shape, unk}
 use Rattle.types.specs.Former.{int}
-use Rattle.types.specs.Types.{Ty, Tys, node, size, sizes, tcons, tnil}
-use Rattle.solver.specs.Store.{frozen, linkAt, tagAt, firstAt, countAt, run, view, Cell}
+use Rattle.types.specs.Types.{Ty, node, size, sizes, tnil}
+use Rattle.solver.specs.Store.{frozen, tagAt, firstAt, countAt, run, view}
 use Rattle.solver.specs.Calls.{Root}
-use Rattle.solver.specs.Settled.{heap, wordAt}
-use Rattle.solver.specs.Sizes.{cap, markAt, typeAt, Model, Least, UnknownSize, Measuring, Measured}
+use Rattle.solver.specs.Settled.{wordAt}
+use Rattle.solver.specs.Sizes.{cap, markAt, typeAt, Model, UnknownSize, Measuring, Measured}
 use Rattle.solver.specs.Answers.{Looking}
 use Rattle.solver.proofs.Growing.{lt-or-ge}
 use Rattle.solver.proofs.Marking.{cap-low, cap-high}
 use Rattle.solver.proofs.Summing.{ToAdd, add-start, size-some}
-use Rattle.solver.proofs.Writer.{r-below, r-cell, m-by, m-type, m-settled, m-readable}
+use Rattle.solver.proofs.Writer.{r-below, m-by, m-type, m-settled, m-readable}
 
 sizes-le : (T U : ℕ → Ty) (cs : List ℕ) → ((c : ℕ) → size (T c) ≤ size (U c)) → sizes (fromList (map T cs)) ≤ sizes (fromList (map U cs))
 unfolding size fromList

@@ -1,23 +1,23 @@
 -- The size of a type, from its words, and from the sizes of its parts.
 use mathlib.Core.Path.{_≡_, refl, sym, ap, ap₂, subst, _∙_}
-use mathlib.Core.List.{List, [], _∷_, _++_, map}
+use mathlib.Core.List.{List, [], _∷_, map}
 use mathlib.Core.Logic.{inl, inr}
 use Prim.Native.Nat.{ℕ, zero, suc, _+_, _-_, _≤_, _<_}
 use native.Mathlib.Omega.{arith}
-use lib.ListN.{length, getD, set, take, drop, length-append}
+use lib.ListN.{length, getD, set, drop}
 use lib.Seq.{sets}
 use Rattle.types.specs.Equations.{In}
 use Rattle.types.specs.Finite.{fromList}
-use Rattle.types.specs.Former.{Former, identifiers, tag}
+use Rattle.types.specs.Former.{identifiers, tag}
 use Rattle.types.specs.Types.{Ty, Tys, node, tnil, tcons, size, sizes}
 use Rattle.types.specs.Formed.{partCountType}
 use Rattle.types.specs.Words.{words}
 use Rattle.solver.specs.Store.{run}
-use Rattle.solver.specs.Settled.{heap, Reads, leadWords, nameWords, partsOf}
+use Rattle.solver.specs.Settled.{Reads, leadWords, nameWords, partsOf}
 use Rattle.solver.specs.Sizes.{cap}
 use Rattle.solver.proofs.Words.{run-cons}
 use Rattle.solver.specs.Parts.{Rest}
-use Rattle.solver.proofs.Reading.{rest-start, part-next, parts-are, tag-at, inside, place-low}
+use Rattle.solver.proofs.Reading.{rest-start, part-next, parts-are, tag-at, place-low}
 use Rattle.solver.proofs.Marking.{cap-cases, cap-add, cap-part}
 
 -- n parts, j passed; sum with the sizes of the others is m, up to 33.

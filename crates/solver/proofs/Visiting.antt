@@ -1,9 +1,9 @@
 -- The visits: a cell is marked after its parts, and one that is met below itself has no size.
-use mathlib.Core.Path.{_≡_, refl, sym, ap, ap₂, subst, _∙_}
+use mathlib.Core.Path.{_≡_, refl, sym, ap, subst, _∙_}
 use mathlib.Core.Bool.{Bool, true, false}
-use mathlib.Core.List.{List, [], _∷_, map}
-use mathlib.Core.Logic.{_⊎_, inl, inr, ⊎-elim}
-use Prim.Native.Nat.{ℕ, zero, suc, _+_, _-_, _≤_, _<_}
+use mathlib.Core.List.{List, map}
+use mathlib.Core.Logic.{_⊎_, ⊎-elim}
+use Prim.Native.Nat.{ℕ, zero, suc, _+_, _*_, _-_, _≤_, _<_}
 use native.Mathlib.Omega.{arith}
 use native.Mathlib.Nat.{eq-or-lt-of-le, eq-zero-or-pos}
 use lib.Dec.{eqb}
@@ -13,17 +13,15 @@ use Rattle.types.proofs.Terms.{bool-no}
 use Rattle.types.specs.Classes.{rep}
 use Rattle.types.specs.Equations.{In, Pairs}
 use Rattle.types.specs.Finite.{bounded, fromList}
-use Rattle.types.specs.Types.{Ty, size, sizes}
-use Rattle.solver.specs.Store.{frozen, linkAt, tagAt, firstAt, countAt, run, partsAt, formerAt, view, Cell, Held, Solved}
-use Rattle.solver.specs.Calls.{Known, Root}
-use Rattle.solver.specs.Sizes.{cap, markAt, bare, arityOf, arityAt, typeAt, Sized, Marks, Same, Read, Visiting, Falls, Onward, Reached, Visited, Before, Calm, Visits, Cleared, Solution, TestedFrom, Tested}
-use Rattle.solver.proofs.Links.{rep-below, stop-rep}
+use Rattle.types.specs.Types.{size, sizes}
+use Rattle.solver.specs.Store.{frozen, linkAt, tagAt, firstAt, countAt, run, partsAt, view, Held}
+use Rattle.solver.specs.Calls.{Known}
+use Rattle.solver.specs.Sizes.{cap, markAt, bare, arityOf, arityAt, typeAt, Sized, Marks, Same, Falls, Onward, Reached, Visited}
+use Rattle.solver.proofs.Links.{far, far-le, far-less, hop-below, hop-rep, stop-rep}
 use Rattle.solver.proofs.Words.{run-at, run-length}
-use Rattle.solver.proofs.Heads.{view-shape}
-use Rattle.solver.proofs.Growing.{lt-or-ge}
 use Rattle.solver.proofs.Answering.{getD-in, in-getD}
-use Rattle.solver.proofs.Marking.{cap-le, cap-pos, cap-low, sized-unk, sized-shape, sized-class, by-rep, solve, same-refl, same-on, same-held, same-solved, mark-same, mark-hit, mark-miss, bare-mark, bare-less, marks-set, known-root}
-use Rattle.solver.proofs.Summing.{ToAdd, add-start, add-step, add-end, part-size, size-some}
+use Rattle.solver.proofs.Marking.{cap-le, cap-pos, cap-low, sized-unk, sized-shape, sized-class, same-refl, same-on, same-held, mark-same, mark-hit, mark-miss, bare-mark, bare-less, marks-set}
+use Rattle.solver.proofs.Summing.{ToAdd, add-start, add-step, add-end}
 
 onward-refl : (s : List ℕ) → Onward s s
 onward-refl s = record { same = same-refl s; fewer = omega arith; kept = λ i d. refl; ended = λ i e. e }
@@ -106,8 +104,8 @@ module _ (s : List ℕ) (r k j : ℕ) (ek : k ≡ arityAt (frozen s) r) (lt : j 
   room : firstAt (frozen s) r + k ≤ length (frozen s)
   room = let z = H .cells r l .room in let c = count in omega arith
 
--- One part more: t before its visit, c its representative, x the new sum.
-module _ (s t : List ℕ) (r k j sum : ℕ) (P : Parts s t r k j sum) (ek : k ≡ arityAt (frozen s) r) (lt : j < k) (p c : ℕ) (ep : p ≡ getD (frozen t) (firstAt (frozen t) r + j) 0) (Q : Root t p c)
+-- One part more: p, with t before its visit, and x the new sum.
+module _ (s t : List ℕ) (r k j sum : ℕ) (P : Parts s t r k j sum) (ek : k ≡ arityAt (frozen s) r) (lt : j < k) (p : ℕ) (ep : p ≡ getD (frozen t) (firstAt (frozen t) r + j) 0)
     (u : List ℕ) where
   still : frozen t ≡ frozen s
   still = P .onward .same .still
@@ -122,20 +120,13 @@ module _ (s t : List ℕ) (r k j sum : ℕ) (P : Parts s t r k j sum) (ek : k �
     Ht : Held t n L
     Ht = same-held s t (P .onward .same) n L H
 
-    pub c-is : rep eqb L p ≡ c
-    c-is = Q .is n L Ht p-below
-
-    pub c-below : c < n
-    c-below = subst (λ z. z < n) c-is (rep-below n L (H .inside) p p-below)
-
-  step-sum : (Y : Visited t u c true) (v x : ℕ) → v ≡ markAt u c → x ≡ cap (sum + v) → (n : ℕ) (L : Pairs ℕ) → Held s n L → r < n → Marks s n L → Marks u n L × Sum (frozen s) n L r k (j + 1) x
+  step-sum : (Y : Visited t u p true) (v x : ℕ) → v ≡ markAt u p → x ≡ cap (sum + v) → (n : ℕ) (L : Pairs ℕ) → Held s n L → r < n → Marks s n L → Marks u n L × Sum (frozen s) n L r k (j + 1) x
   step-sum Y v x ev ex n L H l M =
       let S = P .sums n L H l M in
       let R = Y .goes refl in
-      let Mu = R .marks n L (Ht n L H l) (c-below n L H l) (S .0) in
+      let Mu = R .marks n L (Ht n L H l) (p-below n L H l) (S .0) in
       let us = R .onward .same .still ∙ still in
-      let zc : Sized (frozen s) n L c (markAt u c) = subst (λ w. Sized w n L c (markAt u c)) us (Mu .right c (c-below n L H l) (R .marked) (R .done)) in
-      let zp : Sized (frozen s) n L p (markAt u c) = sized-class s n L H p (markAt u c) (subst (λ y. Sized (frozen s) n L y (markAt u c)) (sym (c-is n L H l)) zc) in (
+      let zp : Sized (frozen s) n L p (markAt u p) = subst (λ w. Sized w n L p (markAt u p)) us (Mu .right p (p-below n L H l) (R .marked) (R .done)) in (
         Mu,
         record {
           finite = λ i q. ⊎-elim
@@ -146,7 +137,7 @@ module _ (s t : List ℕ) (r k j sum : ℕ) (P : Parts s t r k j sum) (ek : k �
         },
       )
 
-  pub parts-step : (Y : Visited t u c true) (v x : ℕ) → v ≡ markAt u c → x ≡ cap (sum + v) → Parts s u r k (j + 1) x
+  pub parts-step : (Y : Visited t u p true) (v x : ℕ) → v ≡ markAt u p → x ≡ cap (sum + v) → Parts s u r k (j + 1) x
   parts-step Y v x ev ex = record {
     onward = onward-on s t u (P .onward) (Y .goes refl .onward);
     few = subst (λ z. z ≤ 33) (sym ex) (cap-le _);
@@ -155,11 +146,11 @@ module _ (s t : List ℕ) (r k j sum : ℕ) (P : Parts s t r k j sum) (ek : k �
   }
 
   -- The visit of the part met a cell below itself: so would one of r, which was not marked in s₀.
-  module _ (s₀ : List ℕ) (few : r < 1024) (size : length s₀ ≡ 52224) (begun : s ≡ set s₀ (40960 + r) 34) (Y : Visited t u c false) where
+  module _ (s₀ : List ℕ) (few : r < 1024) (size : length s₀ ≡ 52224) (begun : s ≡ set s₀ (40960 + r) 34) (Y : Visited t u p false) where
     begun-same : Same s₀ s
     begun-same = subst (λ z. Same s₀ z) (sym begun) (mark-same s₀ r 34 size few)
 
-    below : (n : ℕ) (L : Pairs ℕ) → Held s₀ n L → r < n → (m : ℕ → ℕ) → Falls (frozen s₀) n L m → ((i : ℕ) → i < n → markAt s₀ i ≡ 34 → m r < m i) → (i : ℕ) → i < n → markAt t i ≡ 34 → m c < m i
+    below : (n : ℕ) (L : Pairs ℕ) → Held s₀ n L → r < n → (m : ℕ → ℕ) → Falls (frozen s₀) n L m → ((i : ℕ) → i < n → markAt s₀ i ≡ 34 → m r < m i) → (i : ℕ) → i < n → markAt t i ≡ 34 → m p < m i
     below n L H₀ l m F B i il e = go (eqb i r) refl
       where
         H : Held s n L
@@ -169,15 +160,12 @@ module _ (s t : List ℕ) (r k j sum : ℕ) (P : Parts s t r k j sum) (ek : k �
         mp = F .parts r l (subst (λ w. 0 < tagAt w r) (begun-same .still) (former s r k j ek lt n L H l)) p
             (subst (λ w. In p (partsAt w r)) (begun-same .still) (subst (λ y. In y (partsAt (frozen s) r)) (sym ep′) (part-in s r k j ek lt n L H l)))
 
-        mc : m c < m r
-        mc = let a = ap m (c-is n L H l) in let b = F .classes p in let z = mp in omega arith
-
         es : markAt s i ≡ 34
         es = P .onward .ended i e
 
-        go : (b : Bool) → eqb i r ≡ b → m c < m i
-        go true q = subst (λ y. m c < m y) (sym (eqb-true i r q)) mc
-        go false q = let z = B i il (sym (mark-miss s₀ r 34 size few i (eqb-false i r q)) ∙ ap (λ y. markAt y i) (sym begun) ∙ es) in let y = mc in omega arith
+        go : (b : Bool) → eqb i r ≡ b → m p < m i
+        go true q = subst (λ y. m p < m y) (sym (eqb-true i r q)) mp
+        go false q = let z = B i il (sym (mark-miss s₀ r 34 size few i (eqb-false i r q)) ∙ ap (λ y. markAt y i) (sym begun) ∙ es) in let y = mp in omega arith
 
     pub parts-stop : Visited s₀ u r false
     parts-stop = record {
@@ -185,16 +173,16 @@ module _ (s t : List ℕ) (r k j sum : ℕ) (P : Parts s t r k j sum) (ek : k �
       goes = λ q. absurd (bool-no false q refl);
       stops = λ q n L H₀ l m F B.
           let H = same-held s₀ s begun-same n L H₀ in
-          Y .stops refl n L (Ht n L H l) (c-below n L H l) m (subst (λ w. Falls w n L m) (sym (still ∙ begun-same .still)) F) (below n L H₀ l m F B);
+          Y .stops refl n L (Ht n L H l) (p-below n L H l) m (subst (λ w. Falls w n L m) (sym (still ∙ begun-same .still)) F) (below n L H₀ l m F B);
     }
 
 -- All parts have been visited: r gets its mark.
-module _ (s₀ s t : List ℕ) (r k j sum : ℕ) (W : Visiting s₀ r) (none : markAt s₀ r ≡ 0) (begun : s ≡ set s₀ (40960 + r) 34) (P : Parts s t r k j sum) (ek : k ≡ arityAt (frozen s₀) r) (le : k ≤ j) where
+module _ (s₀ s t : List ℕ) (r k j sum : ℕ) (W : Known s₀ r) (root : linkAt s₀ r ≡ 0) (none : markAt s₀ r ≡ 0) (begun : s ≡ set s₀ (40960 + r) 34) (P : Parts s t r k j sum) (ek : k ≡ arityAt (frozen s₀) r) (le : k ≤ j) where
   few-r : r < 1024
-  few-r = let f = W .known .held .few in let l = W .known .made in omega arith
+  few-r = let f = W .held .few in let l = W .made in omega arith
 
   size₀ : length s₀ ≡ 52224
-  size₀ = W .known .held .size
+  size₀ = W .held .size
 
   s-same : Same s₀ s
   s-same = subst (λ z. Same s₀ z) (sym begun) (mark-same s₀ r 34 size₀ few-r)
@@ -247,7 +235,7 @@ module _ (s₀ s t : List ℕ) (r k j sum : ℕ) (W : Visiting s₀ r) (none : m
     total = add-end (typeAt w n L) w (firstAt w r) k j sum _ le (P .few) (S .left)
 
     root-r : rep eqb L r ≡ r
-    root-r = stop-rep s₀ n L H₀ r l (W .root)
+    root-r = stop-rep s₀ n L H₀ r l root
 
     unknown : tagAt w r ≡ 0 → Sized w n L r sum
     unfolding run fromList size
@@ -288,227 +276,105 @@ module _ (s₀ s t : List ℕ) (r k j sum : ℕ) (W : Visiting s₀ r) (none : m
   }
 
 -- In the visit of r, which had no mark in s₀ and has 34 in s.
-module _ (s₀ s : List ℕ) (r k : ℕ) (W : Visiting s₀ r) (none : markAt s₀ r ≡ 0) (begun : s ≡ set s₀ (40960 + r) 34) (ek : k ≡ arityAt (frozen s₀) r) where
+module _ (s₀ s : List ℕ) (r k : ℕ) (W : Known s₀ r) (root : linkAt s₀ r ≡ 0) (none : markAt s₀ r ≡ 0) (begun : s ≡ set s₀ (40960 + r) 34) (ek : k ≡ arityAt (frozen s₀) r) where
   few-cell-r : r < 1024
-  few-cell-r = let f = W .known .held .few in let l = W .known .made in omega arith
+  few-cell-r = let f = W .held .few in let l = W .made in omega arith
 
   marked-same : Same s₀ s
-  marked-same = subst (λ z. Same s₀ z) (sym begun) (mark-same s₀ r 34 (W .known .held .size) few-cell-r)
+  marked-same = subst (λ z. Same s₀ z) (sym begun) (mark-same s₀ r 34 (W .held .size) few-cell-r)
 
   es : k ≡ arityAt (frozen s) r
   es = ek ∙ ap (λ w. arityAt w r) (sym (marked-same .still))
 
-  reading : Held s (W .known .n) (W .known .L)
-  reading = same-held s₀ s marked-same (W .known .n) (W .known .L) (W .known .held)
+  reading : Held s (W .n) (W .L)
+  reading = same-held s₀ s marked-same (W .n) (W .L) (W .held)
 
   module _ (t : List ℕ) (j sum : ℕ) (P : Parts s t r k j sum) where
     pub visit-size : length t ≡ length s₀
     visit-size = P .onward .same .size ∙ marked-same .size
 
-    pub visit-fewer : bare t 1024 < bare s₀ 1024
-    visit-fewer =
+    -- The measure: cells without a mark, then links on the way.
+    pub visit-falls : (p : ℕ) → 1026 * bare t 1024 + far t 1025 p < 1026 * bare s₀ 1024 + far s₀ 1025 r
+    visit-falls p =
         let a = P .onward .fewer in
         let b = ap (λ z. bare z 1024) begun in
-        let c = bare-mark s₀ r 34 (W .known .held .size) few-cell-r none (λ e. omega arith) 1024 few-cell-r in
+        let c = bare-mark s₀ r 34 (W .held .size) few-cell-r none (λ e. omega arith) 1024 few-cell-r in
+        let d = far-le t 1025 p in
         omega arith
 
     module _ (lt : j < k) (p : ℕ) (ep : p ≡ getD (frozen t) (firstAt (frozen t) r + j) 0) where
       pub visit-known : Known t p
       visit-known = record {
-        n = W .known .n;
-        L = W .known .L;
-        held = same-held s t (P .onward .same) (W .known .n) (W .known .L) reading;
-        made = subst (λ z. z < W .known .n) (sym (ep ∙ ap (λ w. getD w (firstAt w r + j) 0) (P .onward .same .still))) (part-below s r k j es lt (W .known .n) (W .known .L) reading (W .known .made));
+        n = W .n;
+        L = W .L;
+        held = same-held s t (P .onward .same) (W .n) (W .L) reading;
+        made = subst (λ z. z < W .n) (sym (ep ∙ ap (λ w. getD w (firstAt w r + j) 0) (P .onward .same .still))) (part-below s r k j es lt (W .n) (W .L) reading (W .made));
       }
 
-      module _ (c : ℕ) (Q : Root t p c) where
-        pub visit-part : Visiting t c
-        visit-part = record { known = known-root t p c visit-known Q; root = Q .free }
+      pub visit-step : (u : List ℕ) → Visited t u p true → (v x : ℕ) → v ≡ markAt u p → x ≡ cap (sum + v) → Parts s u r k (j + 1) x
+      visit-step u Y v x ev ex = parts-step s t r k j sum P es lt p ep u Y v x ev ex
 
-        pub visit-step : (u : List ℕ) → Visited t u c true → (v x : ℕ) → v ≡ markAt u c → x ≡ cap (sum + v) → Parts s u r k (j + 1) x
-        visit-step u Y v x ev ex = parts-step s t r k j sum P es lt p c ep Q u Y v x ev ex
+      pub visit-stop : (u : List ℕ) → Visited t u p false → Visited s₀ u r false
+      visit-stop u Y = parts-stop s t r k j sum P es lt p ep u s₀ few-cell-r (W .held .size) begun Y
 
-        pub visit-stop : (u : List ℕ) → Visited t u c false → Visited s₀ u r false
-        visit-stop u Y = parts-stop s t r k j sum P es lt p c ep Q u s₀ few-cell-r (W .known .held .size) begun Y
+-- A linked cell, after the visit of the cell c that it is linked to.
+module _ (s u : List ℕ) (i c : ℕ) (K : Known s i) (none : markAt s i ≡ 0) (link : linkAt s i ≡ suc c) where
+  pub link-known : Known s c
+  link-known = record { n = K .n; L = K .L; held = K .held; made = hop-below s (K .n) (K .L) (K .held) i c (K .made) link }
 
--- The cells from `from` to i have been marked.
-pub record Seen (s t : List ℕ) (from n i : ℕ) : Type 0 where
-  pub same : Same s t
-  pub low : from ≤ i
-  pub kept : (j : ℕ) → j < from → (markAt s j ≡ 0 → ⊥) → markAt t j ≡ markAt s j
-  pub calm : Calm s n → Calm t n
-  pub done : (j : ℕ) → from ≤ j → j < i → (markAt t j ≡ 0 → ⊥) × (markAt t j ≡ 34 → ⊥)
-  pub marks : (L : Pairs ℕ) → Held s n L → Marks s n L → Marks t n L
+  pub link-falls : 1026 * bare s 1024 + far s 1025 c < 1026 * bare s 1024 + far s 1025 i
+  link-falls = let z = far-less s (K .n) (K .L) (K .held) i c (K .made) link in omega arith
 
-pub seen-start : (s : List ℕ) (from n : ℕ) → Seen s s from n from
-seen-start s from n = record {
-  same = same-refl s;
-  low = omega arith;
-  kept = λ j l d. refl;
-  calm = λ C. C;
-  done = λ j a b. absurd (omega arith);
-  marks = λ L H M. M;
-}
-
-module _ (s t : List ℕ) (from n i : ℕ) (X : Seen s t from n i) (D : Read s n) (l : i < n) (r : ℕ) (Q : Root t i r) (u : List ℕ) where
-  H-at : (L : Pairs ℕ) → Held s n L → Held t n L
-  H-at L H = same-held s t (X .same) n L H
-
-  r-is : (L : Pairs ℕ) → Held s n L → rep eqb L i ≡ r
-  r-is L H = Q .is n L (H-at L H) l
-
-  r-made : (L : Pairs ℕ) → Held s n L → r < n
-  r-made L H = subst (λ z. z < n) (r-is L H) (rep-below n L (H .inside) i l)
-
-  pub seen-visiting : Visiting t r
-  seen-visiting = record { known = record { n = n; L = D .L; held = H-at (D .L) (D .held); made = r-made (D .L) (D .held) }; root = Q .free }
-
-  pub seen-stop : Visited t u r false → Visits s u from n false
-  seen-stop Y = record {
-    same = same-on s t u (X .same) (Y .same);
+  pub link-stop : Visited s u c false → Visited s u i false
+  link-stop Y = record {
+    same = Y .same;
     goes = λ q. absurd (bool-no false q refl);
-    stops = λ q L H C m F. Y .stops refl n L (H-at L H) (r-made L H) m (subst (λ w. Falls w n L m) (sym (X .same .still)) F) (λ j m e. absurd (X .calm C j m e));
+    stops = λ q n L H l m F B.
+        let e : m c ≡ m i = sym (F .classes c) ∙ ap m (hop-rep s n L H i c l link) ∙ F .classes i in
+        Y .stops refl n L H (hop-below s n L H i c l link) m F (λ j q e′. let z = B j q e′ in omega arith);
   }
 
-  module _ (Y : Visited t u r true) (v : ℕ) (ev : v ≡ markAt u r) where
+  module _ (Y : Visited s u c true) (v : ℕ) (ev : v ≡ markAt u c) where
     few-i : i < 1024
-    few-i = let f = D .held .few in omega arith
+    few-i = let f = K .held .few in let l = K .made in omega arith
 
-    R : Reached t u r
+    R : Reached s u c
     R = Y .goes refl
 
     size-u : length u ≡ 52224
-    size-u = Y .same .size ∙ X .same .size ∙ D .held .size
+    size-u = Y .same .size ∙ K .held .size
 
     abbrev u′ : List ℕ
     u′ = set u (40960 + i) v
 
-    hit : markAt u′ i ≡ markAt u r
+    hit : markAt u′ i ≡ markAt u c
     hit = mark-hit u i v size-u few-i ∙ ev
 
-    miss-i : (j : ℕ) → (j ≡ i → ⊥) → markAt u′ j ≡ markAt u j
-    miss-i j d = mark-miss u i v size-u few-i j d
-
-    step-calm : Calm s n → Calm u′ n
-    step-calm C j m e = go (eqb j i) refl
+    link-onward : Onward s u′
+    link-onward = record {
+      same = same-on s u u′ (Y .same) (mark-same u i v size-u few-i);
+      fewer = let a = bare-less u i v size-u few-i (λ e. R .marked (sym ev ∙ e)) 1024 in let b = R .onward .fewer in omega arith;
+      kept = λ j d. mark-miss u i v size-u few-i j (λ e. d (ap (markAt s) e ∙ none)) ∙ R .onward .kept j d;
+      ended = λ j e. go j e (eqb j i) refl;
+    }
       where
-        go : (b : Bool) → eqb j i ≡ b → ⊥
-        go true q = R .done (sym hit ∙ ap (markAt u′) (sym (eqb-true j i q)) ∙ e)
-        go false q = X .calm C j m (R .onward .ended j (sym (miss-i j (eqb-false j i q)) ∙ e))
+        go : (j : ℕ) → markAt u′ j ≡ 34 → (b : Bool) → eqb j i ≡ b → markAt s j ≡ 34
+        go j e true q = absurd (R .done (sym hit ∙ ap (markAt u′) (sym (eqb-true j i q)) ∙ e))
+        go j e false q = R .onward .ended j (sym (mark-miss u i v size-u few-i j (eqb-false j i q)) ∙ e)
 
-    step-done : (j : ℕ) → from ≤ j → j < i + 1 → (markAt u′ j ≡ 0 → ⊥) × (markAt u′ j ≡ 34 → ⊥)
-    step-done j a b = ⊎-elim
-        (λ e. let h = ap (markAt u′) e ∙ hit in (λ z. R .marked (sym h ∙ z), λ z. R .done (sym h ∙ z)))
-        (λ q. let d = X .done j a q in let h = miss-i j (λ e. omega arith) ∙ R .onward .kept j (d .0) in (λ z. d .0 (sym h ∙ z), λ z. d .1 (sym h ∙ z)))
-        (eq-or-lt-of-le (let z : j ≤ i = omega arith in z))
-
-    step-marks : (L : Pairs ℕ) → Held s n L → Marks s n L → Marks u′ n L
-    step-marks L H M =
-        let Ht = H-at L H in
-        let Hu = same-held t u (Y .same) n L Ht in
-        let Mu = R .marks n L Ht (r-made L H) (X .marks L H M) in
-        let z = Mu .right r (r-made L H) (R .marked) (R .done) in
+    link-marks : (n : ℕ) (L : Pairs ℕ) → Held s n L → i < n → Marks s n L → Marks u′ n L
+    link-marks n L H l M =
+        let b = hop-below s n L H i c l link in
+        let Mu = R .marks n L H b M in
         marks-set u i v size-u few-i n L
-        (λ d. sized-class u n L Hu i v (subst (λ y. Sized (frozen u) n L y v) (sym (r-is L H)) (subst (λ y. Sized (frozen u) n L r y) (sym ev) z))) Mu
+        (λ d. subst (λ y. Sized (frozen u) n L i y) (sym ev) (sized-class u n L (same-held s u (Y .same) n L H) c i _ (hop-rep s n L H i c l link) (Mu .right c b (R .marked) (R .done)))) Mu
 
-    pub seen-step : Seen s u′ from n (i + 1)
-    seen-step = record {
-      same = same-on s t u′ (X .same) (same-on t u u′ (Y .same) (mark-same u i v size-u few-i));
-      low = let z = X .low in omega arith;
-      kept = λ j m d.
-          let k = X .kept j m d in
-          let low = X .low in
-          miss-i j (λ e. omega arith) ∙ R .onward .kept j (λ e. d (sym k ∙ e)) ∙ k;
-      calm = step-calm;
-      done = step-done;
-      marks = step-marks;
+    pub link-end : Visited s u′ i true
+    link-end = record {
+      same = link-onward .same;
+      goes = λ q. record { onward = link-onward; marked = λ e. R .marked (sym hit ∙ e); done = λ e. R .done (sym hit ∙ e); marks = link-marks };
+      stops = λ q. absurd (bool-no true refl q);
     }
 
--- A size is a mark of a visited cell.
-sized-some : (w : List ℕ) (n : ℕ) (L : Pairs ℕ) (i v : ℕ) → Sized w n L i v → v ≡ 0 → ⊥
-sized-some w n L i v z e = let p = cap-pos (size (typeAt w n L i)) (size-some (typeAt w n L i)) in let q = z .size in omega arith
-
-sized-less : (w : List ℕ) (n : ℕ) (L : Pairs ℕ) (i v : ℕ) → Sized w n L i v → v ≡ 34 → ⊥
-sized-less w n L i v z e = let p = cap-le (size (typeAt w n L i)) in let q = z .size in omega arith
-
-pub seen-end : (s t : List ℕ) (from n i : ℕ) → n ≤ i → Seen s t from n i → Visits s t from n true
-seen-end s t from n i le X = record {
-  same = X .same;
-  goes = λ q L H M C B j l. ⊎-elim
-      (λ y. let z = B j y in subst (λ v. Sized (frozen s) n L j v) (sym (X .kept j y (sized-some _ n L j _ z))) z)
-      (λ y. let d = X .done j y (omega arith) in subst (λ w. Sized w n L j (markAt t j)) (X .same .still) (X .marks L H M .right j l (d .0) (d .1)))
-      (lt-or-ge j from);
-  stops = λ q. absurd (bool-no true refl q);
-}
-
--- The marks from `from` to i are cleared.
-pub record ClearTo (s t : List ℕ) (from i : ℕ) : Type 0 where
-  pub low : from ≤ i
-  pub cleared : Cleared s t from i
-
-pub clear-start : (s : List ℕ) (from : ℕ) → ClearTo s s from from
-clear-start s from = record { low = omega arith; cleared = record { same = same-refl s; none = λ j a b. absurd (omega arith); kept = λ j l. refl } }
-
-pub clear-step : (s t : List ℕ) (from n i : ℕ) → ClearTo s t from i → Read s n → i < n → ClearTo s (set t (40960 + i) 0) from (i + 1)
-clear-step s t from n i C D l =
-    let size : length t ≡ 52224 = C .cleared .same .size ∙ D .held .size in
-    let few : i < 1024 = let f = D .held .few in omega arith in
-    let low = C .low in
-    record {
-      low = omega arith;
-      cleared = record {
-        same = same-on s t _ (C .cleared .same) (mark-same t i 0 size few);
-        none = λ j a b. ⊎-elim
-            (λ e. ap (markAt (set t (40960 + i) 0)) e ∙ mark-hit t i 0 size few)
-            (λ q. mark-miss t i 0 size few j (λ e. omega arith) ∙ C .cleared .none j a q)
-            (eq-or-lt-of-le (let z : j ≤ i = omega arith in z));
-        kept = λ j q. mark-miss t i 0 size few j (λ e. omega arith) ∙ C .cleared .kept j q;
-      };
-    }
-
-pub clear-end : (s t : List ℕ) (from n i : ℕ) → n ≤ i → ClearTo s t from i → Cleared s t from n
-clear-end s t from n i le C = record { same = C .cleared .same; none = λ j a b. C .cleared .none j a (omega arith); kept = C .cleared .kept }
-
--- The sizes of a solution fall.
-pub solution-falls : (s : List ℕ) (n : ℕ) (P₀ L : Pairs ℕ) → Solved s n P₀ L → (X : Solution (frozen s) n P₀) → Falls (frozen s) n L (λ i. size (X .σ i))
-unfolding size
-solution-falls s n P₀ L S X = record {
-  classes = λ i. ap size (by-rep s n P₀ L S X i);
-  parts = λ r l p c i. let e = ap size (X .fits r _ _ (view-shape (frozen s) n r l p)) in let z = part-size (X .σ) c (partsAt (frozen s) r) i in omega arith;
-}
-
-module _ (s t u : List ℕ) (from n : ℕ) (C : Cleared s t from n) (fine : Bool) (Y : Visits t u from n fine) (L : Pairs ℕ) (H : Held s n L) (B : Before s from n L) where
-  cleared-held : Held t n L
-  cleared-held = same-held s t (C .same) n L H
-
-  before : Before t from n L
-  before i l = subst (λ w. Sized w n L i (markAt t i)) (sym (C .same .still)) (subst (λ v. Sized (frozen s) n L i v) (sym (C .kept i l)) (B i l))
-
-  cleared-calm : Calm t n
-  cleared-calm i l e = ⊎-elim (λ y. sized-less _ n L i _ (before i y) e) (λ y. let z = C .none i y l in omega arith) (lt-or-ge i from)
-
-  cleared-marks : Marks t n L
-  cleared-marks = record { right = λ i l d f. ⊎-elim (λ y. before i y) (λ y. absurd (d (C .none i y l))) (lt-or-ge i from) }
-
-  pub cleared-sizes : fine ≡ true → (i : ℕ) → i < n → Sized (frozen s) n L i (markAt u i)
-  cleared-sizes e i l = subst (λ w. Sized w n L i (markAt u i)) (C .same .still) (Y .goes e L cleared-held cleared-marks cleared-calm before i l)
-
-  pub cleared-stops : fine ≡ false → (m : ℕ → ℕ) → Falls (frozen s) n L m → ⊥
-  cleared-stops e m F = Y .stops e L cleared-held cleared-calm m (subst (λ w. Falls w n L m) (sym (C .same .still)) F)
-
-pub tested-from : (s t u : List ℕ) (from n : ℕ) → Cleared s t from n → (fine : Bool) → Visits t u from n fine → TestedFrom s u from n fine
-tested-from s t u from n C fine Y = record {
-  same = same-on s t u (C .same) (Y .same);
-  sizes = λ e L H B i l. cleared-sizes s t u from n C fine Y L H B e i l;
-  endless = λ e P₀ L S B X. cleared-stops s t u from n C fine Y L (S .held) B e _ (solution-falls s n P₀ L S X);
-}
-
-pub tested : (s u : List ℕ) (n : ℕ) (fine : Bool) → TestedFrom s u 0 n fine → Tested s u n fine
-tested s u n fine T = record {
-  same = T .same;
-  still = T .same .still;
-  grown = λ P₀ L S. same-solved s u (T .same) n P₀ L S;
-  sizes = λ e P₀ L S i l. T .sizes e L (S .held) (λ j m. absurd (omega arith)) i l;
-  solves = λ e P₀ L S. solve s n P₀ L S (λ i l. T .sizes e L (S .held) (λ j m. absurd (omega arith)) i l .finite);
-  endless = λ e P₀ L S X. T .endless e P₀ L S (λ j m. absurd (omega arith)) X;
-}
+pub link-cell : (x l : ℕ) → l ≡ x → (l ≡ 0 → ⊥) → x ≡ suc (l - 1)
+link-cell x l e d = ⊎-elim (λ z. absurd (d z)) (λ p. omega arith) (eq-zero-or-pos l)

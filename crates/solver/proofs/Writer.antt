@@ -2,8 +2,8 @@
 use mathlib.Core.Path.{_≡_, refl, sym, ap, ap₂, subst, _∙_}
 use mathlib.Core.Bool.{Bool, true, false}
 use mathlib.Core.List.{List, [], _∷_, _++_, map}
-use mathlib.Core.Logic.{_⊎_, inl, inr, ⊎-elim}
-use Prim.Native.Nat.{ℕ, zero, suc, _+_, _*_, _-_, _≤_, _<_, _^_}
+use mathlib.Core.Logic.{_⊎_, ⊎-elim}
+use Prim.Native.Nat.{ℕ, zero, suc, _+_, _-_, _≤_, _<_}
 use native.Mathlib.Omega.{arith}
 use lib.Dec.{eqb}
 use lib.ListN.{length, getD, set, length-append}
@@ -12,15 +12,15 @@ use borrow.Author.Tests.{eqb-true, eqb-false, eq-eqb, ne-eqb}
 use Rattle.types.proofs.Finite.{bounded-mono, tree-same}
 use Rattle.types.specs.Classes.{rep}
 use Rattle.types.specs.Equations.{In, Pairs}
-use Rattle.types.specs.Finite.{bounded, fromList, typeOf, typeOfView}
-use Rattle.types.specs.Former.{Former, binding, given, identifiers, int, parameter, power, product}
-use Rattle.types.specs.Types.{Ty, Tys, node, size, sizes, tcons, tnil}
+use Rattle.types.specs.Finite.{fromList, typeOf, typeOfView}
+use Rattle.types.specs.Former.{identifiers, int}
+use Rattle.types.specs.Types.{Ty, node, size, tnil}
 use Rattle.types.specs.Former.{formerOf, tag}
 use Rattle.types.specs.Words.{second, words, partWords}
 use Rattle.types.specs.Formed.{partCountType}
-use Rattle.solver.specs.Store.{frozen, tagAt, argAt, firstAt, countAt, run, partsAt, formerAt, view, Cell, Held}
-use Rattle.solver.specs.Sizes.{cap, markAt, typeAt, Sized, Marked, Model}
-use Rattle.solver.specs.Written.{lead, leadOf, leadAt, nameAt, rest, Resolved, Wrote, Writing, Typed, Leading}
+use Rattle.solver.specs.Store.{frozen, tagAt, argAt, firstAt, countAt, run, partsAt, formerAt, view, Cell}
+use Rattle.solver.specs.Sizes.{markAt, typeAt, Marked, Model}
+use Rattle.solver.specs.Written.{lead, leadOf, leadAt, nameAt, rest, Resolved, Wrote}
 use Rattle.solver.specs.Settled.{heap, wordAt, Reads, Readable}
 use Rattle.types.proofs.Rational.{rep-sat}
 use Rattle.solver.proofs.Links.{rep-below}

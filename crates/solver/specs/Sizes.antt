@@ -1,18 +1,17 @@
 -- Marks: which cells have finite types, and how large they are.
 use mathlib.Core.Path.{_≡_}
 use mathlib.Core.Bool.{Bool, true, false}
-use mathlib.Core.List.{List, [], _∷_, map}
-use Prim.Native.Nat.{ℕ, zero, suc, _+_, _*_, _-_, _≤_, _<_, _^_}
+use mathlib.Core.List.{List, map}
+use Prim.Native.Nat.{ℕ, zero, suc, _+_, _-_, _≤_, _<_, _^_}
 use lib.Dec.{eqb, ltb}
-use lib.ListN.{length, getD, set}
+use lib.ListN.{length, getD}
 use Rattle.types.specs.Classes.{rep}
 use Rattle.types.specs.Equations.{In, Pairs, Solves}
 use Rattle.types.specs.Finite.{bounded, fromList, typeOf}
-use Rattle.types.specs.Follows.{View, shape, unk}
+use Rattle.types.specs.Follows.{shape}
 use Rattle.types.specs.Former.{Former, int}
 use Rattle.types.specs.Types.{Ty, node, size, tnil}
 use Rattle.solver.specs.Store.{frozen, linkAt, tagAt, countAt, partsAt, view, free, Held, Solved}
-use Rattle.solver.specs.Calls.{Known}
 use Rattle.solver.specs.Settled.{lower, heap, wordAt, Reads, Pinned, Obeys, Fits}
 
 -- Sizes stop at 33.
@@ -65,11 +64,6 @@ pub record Read (s : List ℕ) (n : ℕ) : Type 0 where
   pub L : Pairs ℕ
   pub held : Held s n L
 
--- What the visit of the representative r asks.
-pub record Visiting (s : List ℕ) (r : ℕ) : Type 0 where
-  pub known : Known s r
-  pub root : linkAt s r ≡ 0
-
 -- m is one number for each class, and falls from a former to its parts: the sizes of a solution do so.
 pub record Falls (w : List ℕ) (n : ℕ) (L : Pairs ℕ) (m : ℕ → ℕ) : Type 0 where
   pub classes : (i : ℕ) → m (rep eqb L i) ≡ m i
@@ -89,7 +83,7 @@ pub record Reached (s s′ : List ℕ) (r : ℕ) : Type 0 where
   pub done : markAt s′ r ≡ 34 → ⊥
   pub marks : (n : ℕ) (L : Pairs ℕ) → Held s n L → r < n → Marks s n L → Marks s′ n L
 
--- THE VISIT of the representative r. False: a cell was met below itself, so that no m falls in this way.
+-- THE VISIT of cell r. False: a cell was met below itself, so that no m falls in this way.
 pub record Visited (s s′ : List ℕ) (r : ℕ) (fine : Bool) : Type 0 where
   pub same : Same s s′
   pub goes : fine ≡ true → Reached s s′ r

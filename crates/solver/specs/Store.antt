@@ -1,7 +1,7 @@
 -- The store of cells, in the caller's work area of 52,224 words (specs/Layout has how the places follow from the capacity):
 --   0     .. 39935   the caller's: scopes, signatures, and type words that cells refer to
 --   39936  .. 40959   link of cell i: 0 none, j + 1 to cell j; 1025 + p: the cell is settled, and its type words stand at the place p
---   40960  .. 41983   mark of cell i: 0 not marked, else the size of its type, at most 33
+--   40960  .. 41983   mark of cell i: 0 not marked, 34 being visited, else the size of its type, at most 33
 --   41984  .. 46079  pending pairs, two words each
 --   46080 .. 50175  cell i at 4 i: tag, argument, first part, number of parts     (from here on: the frozen part, which no solving changes)
 --   50176 .. 52223  runs: the parts of cells, the identifiers of bindings; places in it count from 46080

@@ -8,7 +8,7 @@ ghost use Rattle.solver.specs.Merging.{Open, Turned, Popped, Tied, Tying
 ghost use Rattle.solver.specs.Flat.{Sound, Straight, Flattened};
 ghost use Rattle.solver.specs.Written.{leadAt, nameAt, Copied, Wrote, Writing, Typed, Leading};
 ghost use Rattle.solver.specs.Answers.{Left, Placed, LookingRoot, Looking, Looked, Element};
-ghost use Rattle.solver.specs.Sizes.{cap, TypeSize, UnknownSize, Measuring, Measured, arityAt, Read, Visiting, Visited, Visits, Cleared, TestedFrom, Tested};
+ghost use Rattle.solver.specs.Sizes.{cap, TypeSize, UnknownSize, Measuring, Measured, arityAt, Read, Visited, Visits, Cleared, TestedFrom, Tested};
 ghost use Rattle.solver.specs.Growth.{argOf, InRow, Forming, Formed, Putting, PutPart, Instancing, Instanced, InstancingParts, InstancedParts};
 ghost use Rattle.solver.specs.Calls.{put, Making, Made, Adding, Added, Tells, Known, Root, Runs, Two, Alike, Pushing, Pushed};
 
@@ -682,24 +682,33 @@ fn arity(a: &[u32], r: usize) -> usize
     field(a, r, 3)
 }
 
-// Visits the representative r, once: its parts, then r gets its size as mark. False: r is met below itself.
-fn visit(a: &mut [u32], r: usize) -> bool
-    requires { ⌜ Visiting (now a) r ⌝ }
-    ensures { λ b. ⌜ Visited (now (a .entry)) (now (a .exit)) r b ⌝ }
+// Visits cell i, once: the cell that it is linked to, or its parts; then it gets its size as mark. False: a cell is met below itself.
+fn visit(a: &mut [u32], i: usize) -> bool
+    requires { ⌜ Known (now a) i ⌝ }
+    ensures { λ b. ⌜ Visited (now (a .entry)) (now (a .exit)) i b ⌝ }
 {
-    let v = word(a, MARKS + r);
+    let v = word(a, MARKS + i);
     if v == VISITING {
         return false;
     }
     if v != 0 {
         return true;
     }
-    let k = arity(a, r);
-    store(a, MARKS + r, VISITING as u32);
+    let l = link(a, i);
+    if l != 0 {
+        let c = l - 1;
+        if visit(a, c) {
+            store(a, MARKS + i, word(a, MARKS + c) as u32);
+            return true;
+        }
+        return false;
+    }
+    let k = arity(a, i);
+    store(a, MARKS + i, VISITING as u32);
     let mut sum = 1;
     let mut j = 0;
     while j < k {
-        let c = find(a, part(a, r, j));
+        let c = part(a, i, j);
         if visit(a, c) {
             sum = capped(sum + word(a, MARKS + c));
             j += 1;
@@ -707,20 +716,18 @@ fn visit(a: &mut [u32], r: usize) -> bool
             return false;
         }
     }
-    store(a, MARKS + r, sum as u32);
+    store(a, MARKS + i, sum as u32);
     true
 }
 
-// Visits the classes of the n cells from `from` on, and marks the cells.
+// Visits the n cells from `from` on.
 fn visit_all(a: &mut [u32], from: usize, n: usize) -> bool
     requires { ⌜ Read (now a) n ⌝ }
     ensures { λ b. ⌜ Visits (now (a .entry)) (now (a .exit)) from n b ⌝ }
 {
     let mut i = from;
     while i < n {
-        let r = find(a, i);
-        if visit(a, r) {
-            store(a, MARKS + i, word(a, MARKS + r) as u32);
+        if visit(a, i) {
             i += 1;
         } else {
             return false;

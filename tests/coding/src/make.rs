@@ -20,7 +20,7 @@ fn both(head: Vec<Operand>, tail: Vec<Operand>) -> Vec<Operand> {
 }
 
 /// The identifier of a name with a stroke.
-pub fn id(name: u32, stroke: u32) -> u32 {
+pub const fn id(name: u32, stroke: u32) -> u32 {
     name * 4 + stroke
 }
 

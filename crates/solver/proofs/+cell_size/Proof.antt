@@ -1,17 +1,15 @@
-use mathlib.Core.Path.{_≡_, refl, sym, ap, subst, _∙_}
+use mathlib.Core.Path.{sym, _∙_}
 use mathlib.Core.Logic.{⊎-elim}
 use native.Mathlib.Nat.{eq-zero-or-pos}
 use native.Mathlib.Omega.{arith}
-use Prim.Native.Nat.{suc, _+_, _-_, _≤_}
-use lib.ListN.{length, getD}
+use Prim.Native.Nat.{_+_, _-_, _≤_}
 use Rattle.types.specs.Types.{Ty}
 use Rattle.types.specs.Equations.{Pairs}
-use Rattle.solver.specs.Store.{frozen, tagAt, countAt}
-use Rattle.solver.specs.Sizes.{cap, markAt, Model, Least, Measuring}
-use Rattle.solver.specs.Answers.{Looking}
+use Rattle.solver.specs.Store.{frozen, tagAt}
+use Rattle.solver.specs.Sizes.{markAt, Model, Least}
 use Rattle.solver.proofs.Marking.{cap-le}
 use Rattle.solver.proofs.Looking.{looking-root}
-use Rattle.solver.proofs.Writer.{r-few, r-below, r-cell, r-part}
+use Rattle.solver.proofs.Writer.{r-few, r-cell, r-part}
 use Rattle.solver.proofs.Sizing.{measured-high, measured-unknown, Adding, adding-start, looking-of}
 use Rattle.solver.proofs.Summing.{add-step, add-end}
 use borrow.Author.Needs.{needs}

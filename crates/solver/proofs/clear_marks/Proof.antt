@@ -1,7 +1,7 @@
 use mathlib.Core.Path.{_≡_, sym, subst}
 use Prim.Native.Nat.{_+_, _-_}
 use native.Mathlib.Omega.{arith}
-use Rattle.solver.proofs.Visiting.{ClearTo, clear-start, clear-step, clear-end}
+use Rattle.solver.proofs.Testing.{ClearTo, clear-start, clear-step, clear-end}
 use borrow.Author.Needs.{needs}
 use Rattle.solver.proofs.clear_marks.Statement.{statement}
 use Rattle.solver.proofs.clear_marks.Tie as tie

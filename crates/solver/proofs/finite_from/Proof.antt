@@ -1,5 +1,5 @@
 use Rattle.solver.proofs.Marking.{same-held}
-use Rattle.solver.proofs.Visiting.{tested-from}
+use Rattle.solver.proofs.Testing.{tested-from}
 use borrow.Author.Needs.{needs}
 use Rattle.solver.proofs.finite_from.Statement.{statement}
 use Rattle.solver.proofs.finite_from.Tie as tie
