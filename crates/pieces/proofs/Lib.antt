@@ -3,5 +3,7 @@ pub mod Updates
 pub mod Growing
 pub mod Equating
 pub mod Naming
-pub mod Closing
+pub mod ClosingLaws
+pub mod Lengths
+pub mod Closed
 pub mod Comparing
