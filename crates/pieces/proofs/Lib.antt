@@ -7,3 +7,5 @@ pub mod ClosingLaws
 pub mod Lengths
 pub mod Closed
 pub mod Comparing
+pub mod Chaining
+pub mod Rooms
