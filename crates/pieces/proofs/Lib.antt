@@ -5,3 +5,5 @@ pub mod Equating
 pub mod Naming
 pub mod Closing
 pub mod Comparing
+pub mod Forming
+pub mod Stages
