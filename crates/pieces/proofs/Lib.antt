@@ -7,5 +7,6 @@ pub mod ClosingLaws
 pub mod Lengths
 pub mod Closed
 pub mod Comparing
-pub mod Chaining
-pub mod Rooms
+pub mod Forming
+pub mod Stages
+pub mod Components

@@ -1,4 +1,4 @@
 pub mod Piece
 pub mod Stage
-pub mod Steps
 pub mod Closed
+pub mod Building

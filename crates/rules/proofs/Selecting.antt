@@ -2,7 +2,6 @@
 use mathlib.Core.Path.{_≡_, refl, sym, ap, subst, _∙_}
 use mathlib.Core.Bool.{Bool}
 use mathlib.Core.List.{List}
-use mathlib.Core.Logic.{inl, inr}
 use mathlib.Core.Option.{some}
 use Prim.Native.Nat.{ℕ, suc, _+_, _-_, _≤_, _<_}
 use native.Mathlib.Omega.{arith}
@@ -15,11 +14,12 @@ use Rattle.solver.specs.Settled.{heap, Readable, Entering, Entered}
 use Rattle.solver.specs.Sizes.{Read, Tested}
 use Rattle.solver.specs.Answers.{SolutionOf, Looking, Looked}
 use Rattle.pieces.specs.Piece.{Solution, Piece, Later}
-use Rattle.pieces.specs.Stage.{Ghost, Stands, Cell, Unvisited, SlotOf, Advanced, Room, Uses}
-use Rattle.pieces.proofs.Chaining.{cell-grown, advanced-grown, selected-advances, selected-stops}
+use Rattle.pieces.specs.Stage.{Ghost, Stands, Cell, Unvisited, SlotOf, Room}
+use Rattle.pieces.specs.Building.{Introduced}
+use Rattle.pieces.proofs.Components.{cell-moved, introduced-moved, introduced-selected, selected-stops, room-still, room-settled}
 use Rattle.pieces.proofs.ClosingLaws.{tested, tested-later, finite-after}
 use Rattle.pieces.proofs.Growing.{settled, settled-later}
-use Rattle.pieces.proofs.Rooms.{may-make, room-still, room-less, room-next}
+use Rattle.pieces.proofs.Stages.{plain-making, room-less, rule-goes, rule-stops}
 use Rattle.rules.specs.Operands.{Operand, Selected, selectItems}
 
 abbrev as-one : (s d : List ℕ) (n : ℕ) (G : Ghost) (σ : ℕ → Ty) → Solution s d n (G .equations) σ → SolutionOf s d n (G .equations)
@@ -44,7 +44,7 @@ module _ (s u d : List ℕ) (n top x : ℕ) (b : Bool) (T : Tested s u n b) (A :
     S₁ = record { piece = Q; above = still-above; few = S .few }
 
     cell₁ : (a : Term) → Cell s d n G x a → Cell u d n G x a
-    cell₁ = cell-grown s u d n n G F (omega arith) x
+    cell₁ = cell-moved s u d n n (omega arith) G F x
 
   abbrev G₀ : Ghost
   G₀ = A .ready .ghost
@@ -62,39 +62,33 @@ module _ (s u d : List ℕ) (n top x : ℕ) (b : Bool) (T : Tested s u n b) (A :
     pub select-absent : v ≡ 0 → Selected s u d n top x id 35 x n top
     select-absent e = record {
       low = T .same .low;
-      wide = omega arith;
       uses = λ z. absurd (omega arith);
-      ruled = λ G S k new a C. record {
-        stops = λ z.
-            let W = K .absent e n (G .equations) (Q G S .L) (Q G S .solved) (Q G S .pinned) (A .made) (finite-after s u d n b T (G .equations) (G .before) (G .items) (G .known) (G .mentioned) (G .cells) (S .piece)) in
-            selected-stops u d n top G (S₁ G S) k new x id a (cell₁ G S a C) (W .solution .σ) (record { fits = W .solution .fits; sat = W .solution .sat; obeys = W .solution .obeys }) (W .lacks);
-        goes = λ z. absurd (omega arith);
-        typed = λ z. absurd (omega arith);
-      };
+      ruled = λ G S k new a C.
+          let W = K .absent e n (G .equations) (Q G S .L) (Q G S .solved) (Q G S .pinned) (A .made) (finite-after s u d n b T (G .equations) (G .before) (G .items) (G .known) (G .mentioned) (G .cells) (S .piece)) in
+          rule-stops s u d n top k 35 x n top G (selectItems id k a) (λ z. omega arith)
+          (selected-stops u d n top G (S₁ G S) k new x id a (cell₁ G S a C) (W .solution .σ) (record { fits = W .solution .fits; sat = W .solution .sat; obeys = W .solution .obeys }) (W .lacks));
     }
 
     -- the component has a cell
     module _ (c : ℕ) (e : v ≡ suc c) (l : v < 1025) where
-      one-cell : (G : Ghost) → Stands s d n top G → (k : ℕ) → Unvisited k G → (a : Term) → Cell s d n G x a → Advanced s u d n top n top G (selectItems id k a) (SlotOf k)
+      one-cell : (G : Ghost) → Stands s d n top G → (k : ℕ) → Unvisited k G → (a : Term) → Cell s d n G x a → Introduced s u d n top n top G (selectItems id k a) (SlotOf k) (slot k 0) c
       one-cell G S k new a C =
-          advanced-grown s u d n n G (F G S) u top top n top (selectItems id k a) (SlotOf k)
-          (selected-advances u d n top G (S₁ G S) k new x id a (cell₁ G S a C) c (K .below c e l n (Q G S .L) (Q G S .solved .held) (A .made))
+          introduced-moved s u d n n (omega arith) G (F G S) u top top n top (selectItems id k a) (SlotOf k) (slot k 0) c
+          (introduced-selected u d n top G (S₁ G S) k new x id a (cell₁ G S a C) c (K .below c e l n (Q G S .L) (Q G S .solved .held) (A .made))
           (λ σ Z. K .found c e l n (G .equations) (Q G S .L) (Q G S .solved) (A .made) (as-one u d n G σ Z)))
 
       pub select-cell : Selected s u d n top x id 0 c n top
-      unfolding one-cell advanced-grown selected-advances
       select-cell = record {
         low = T .same .low;
-        wide = omega arith;
-        uses = λ z y R. room-less u n top (1 + y) y (omega arith) (room-still s u n top (1 + y) (T .still) R);
-        ruled = λ G S k new a C. record { stops = λ z. absurd (z refl); goes = λ z. one-cell G S k new a C; typed = λ z. inl (refl, refl) };
+        uses = λ z y R. room-less u n top y (1 + y) (omega arith) (room-still s u n top (1 + y) (T .still) R);
+        ruled = λ G S k new a C. rule-goes s u d n top k 0 c n top G (selectItems id k a) refl (one-cell G S k new a C);
       }
 
     -- it has type words: they enter
     module _ (l : 1025 ≤ v) where
       pub entering : Entering u d n (v - 1025)
       entering = record {
-        making = may-make u n top 1 (G₀ .equations) (Q₀ .L) (Q₀ .solved) room₁ (omega arith);
+        making = plain-making u d n top 1 G₀ (S₁ G₀ (A .ready .stands)) room₁ (omega arith) 0 (omega arith);
         pinned = Q₀ .pinned;
         few = A .ready .stands .few;
         readable = K .place l n (Q₀ .L) (Q₀ .solved .held) (Q₀ .pinned) (A .made);
@@ -120,19 +114,17 @@ module _ (s u d : List ℕ) (n top x : ℕ) (b : Bool) (T : Tested s u n b) (A :
               let f = K .settled l n (G .equations) (Q G S .L) (Q G S .solved) (Q G S .pinned) (A .made) (as-one u d n G σ (F₂ .solutions σ Z)) in
               f .is ∙ ap some (sym (E .type (f .type) (f .reads) σ (Z .obeys)))
 
-          new-cell : (k : ℕ) → Unvisited k G → (a : Term) → Cell s d n G x a → Advanced s w d n top (suc n) top G (selectItems id k a) (SlotOf k)
+          new-cell : (k : ℕ) → Unvisited k G → (a : Term) → Cell s d n G x a → Introduced s w d n top (suc n) top G (selectItems id k a) (SlotOf k) (slot k 0) n
           new-cell k new a C =
-              advanced-grown s u d n n G (F G S) w top top (suc n) top (selectItems id k a) (SlotOf k)
-              (advanced-grown u w d n (suc n) G F₂ w top top (suc n) top (selectItems id k a) (SlotOf k)
-              (selected-advances w d (suc n) top G S₂ k new x id a (cell-grown u w d n (suc n) G F₂ (omega arith) x a (cell₁ G S a C)) n (omega arith) component))
+              introduced-moved s u d n n (omega arith) G (F G S) w top top (suc n) top (selectItems id k a) (SlotOf k) (slot k 0) n
+              (introduced-moved u w d n (suc n) (omega arith) G F₂ w top top (suc n) top (selectItems id k a) (SlotOf k) (slot k 0) n
+              (introduced-selected w d (suc n) top G S₂ k new x id a (cell-moved u w d n (suc n) (omega arith) G F₂ x a (cell₁ G S a C)) n (omega arith) component))
 
         all-settled : Selected s w d n top x id 0 n (suc n) top
-        unfolding new-cell advanced-grown selected-advances
         all-settled = record {
           low = E .low ∙ T .same .low;
-          wide = omega arith;
-          uses = λ z y R. room-next u w n top y (E .fit) (room-still s u n top (1 + y) (T .still) R);
-          ruled = λ G S k new a C. record { stops = λ z. absurd (z refl); goes = λ z. new-cell G S k new a C; typed = λ z. inl (refl, refl) };
+          uses = λ z y R. room-settled u w n top y (E .fit) (room-still s u n top (1 + y) (T .still) R);
+          ruled = λ G S k new a C. rule-goes s w d n top k 0 n (suc n) top G (selectItems id k a) refl (new-cell G S k new a C);
         }
 
         pub select-settled : (n′ : ℕ) → n′ ≡ suc n → Selected s w d n top x id 0 n n′ top

@@ -1,8 +1,10 @@
 -- The rules whose items are equations of the operands' types, and Select: what their functions ask and promise. The operands are cells; a promise is for
 -- each piece that stands, each node k, and all terms that the cells denote.
 use mathlib.Core.Path.{_≡_}
+use mathlib.Core.Bool.{Bool, true, false}
 use mathlib.Core.List.{List}
-use Prim.Native.Nat.{ℕ, _≤_, _<_}
+use Prim.Native.Nat.{ℕ, suc, _<_}
+use Rattle.types.specs.Equations.{Pairs}
 use Rattle.types.specs.Types.{Term}
 use Rattle.typing.specs.Conditions.{typed}
 use Rattle.typing.specs.Items.{Items, _⨾_, fresh, equate, select}
@@ -45,6 +47,10 @@ pub record Relating (s d : List ℕ) (n x y wanted : ℕ) : Type 0 where
   pub top : ℕ
   pub operands : Operands s d n top x y wanted
 
+-- The piece G with the items `own` more.
+abbrev pub after : Ghost → Items → Pairs ℕ → List ℕ → Pairs ℕ → Ghost
+after G own P₀ U ρ = record { equations = P₀; before = G .before; items = G .items ⨾ own; known = G .known; mentioned = U; cells = ρ }
+
 -- The items pass, and the runs end somewhere.
 pub record Passed (s s′ d : List ℕ) (n top n′ k : ℕ) (G : Ghost) (own : Items) : Type 0 where
   pub top′ : ℕ
@@ -57,10 +63,21 @@ pub record Related (s s′ d : List ℕ) (n top x y number n′ : ℕ) (own : �
   pub stops : (number ≡ 0 → ⊥) → (G : Ghost) → Stands s d n top G → (k : ℕ) (a b : Term) → Cell s d n G x a → Cell s d n G y b →
       Stops (G .before) (G .items) (own k a b) number k
 
+-- Both operands are integers; cell n is ℤ.
+pub record BothPass (s s′ d : List ℕ) (n top k : ℕ) (G : Ghost) (a b : Term) : Type 0 where
+  pub advanced : Advanced s s′ d n top (suc n) top G (comparisonItems k a b) (SlotOf k)
+  pub integer-cell : Cell s′ d (suc n) (after G (comparisonItems k a b) (advanced .equations) (advanced .mentioned) (advanced .cells)) n integer
+
+pub record Both (s s′ d : List ℕ) (n x y : ℕ) (fine : Bool) : Type 0 where
+  pub low : lower s′ ≡ lower s
+  pub uses : (top : ℕ) (G : Ghost) → Stands s d n top G → Uses s s′ n top (suc n) top 1
+  pub goes : fine ≡ true → (top : ℕ) (G : Ghost) → Stands s d n top G → (k : ℕ) (a b : Term) → Cell s d n G x a → Cell s d n G y b → BothPass s s′ d n top k G a b
+  pub stops : fine ≡ false → (top : ℕ) (G : Ghost) → Stands s d n top G → (k : ℕ) (a b : Term) → Cell s d n G x a → Cell s d n G y b →
+      Stops (G .before) (G .items) (comparisonItems k a b) 33 k
+
 -- AN EXPRESSION of two operands: the room of `used` cells is used.
 pub record Combined (s s′ d : List ℕ) (n top x y number cell n′ top′ used : ℕ) (own : ℕ → Term → Term → Items) : Type 0 where
   pub low : lower s′ ≡ lower s
-  pub wide : n ≤ n′
   pub uses : number ≡ 0 → Uses s s′ n top n′ top′ used
   pub ruled : (G : Ghost) → Stands s d n top G → (k : ℕ) → Unvisited k G → (a b : Term) → Cell s d n G x a → Cell s d n G y b →
       Ruled s s′ d n top k number cell n′ top′ G (own k a b)
@@ -68,7 +85,6 @@ pub record Combined (s s′ d : List ℕ) (n top x y number cell n′ top′ use
 -- SELECT: the component id of x.
 pub record Selected (s s′ d : List ℕ) (n top x id number cell n′ top′ : ℕ) : Type 0 where
   pub low : lower s′ ≡ lower s
-  pub wide : n ≤ n′
   pub uses : number ≡ 0 → Uses s s′ n top n′ top′ 1
   pub ruled : (G : Ghost) → Stands s d n top G → (k : ℕ) → Unvisited k G → (a : Term) → Cell s d n G x a →
       Ruled s s′ d n top k number cell n′ top′ G (selectItems id k a)
