@@ -26,24 +26,24 @@ module _ (s u d : List ℕ) (n m : ℕ) (wide : n ≤ m) (G : Ghost) (F : Later 
     over = K .over;
   }
 
-  pub introduced-moved : (s′ : List ℕ) (top top₁ n′ top′ : ℕ) (own : Items) (Mine : ℕ → Type 0) (x c : ℕ) → Introduced u s′ d m top₁ n′ top′ G own Mine x c → Introduced s s′ d n top n′ top′ G own Mine x c
-  introduced-moved s′ top top₁ n′ top′ own Mine x c I =
-      let A = I .advanced in
-      record {
-        advanced = record {
-          equations = A .equations;
-          mentioned = A .mentioned;
-          cells = A .cells;
-          wide = let w = A .wide in omega arith;
-          goes = A .goes;
-          piece = A .piece;
-          above = A .above;
-          later = later-on s u s′ d n m n′ (G .equations) (G .equations) (A .equations) (G .before) (G .items) (G .items) (G .items ⨾ own) (G .cells) (G .cells) (A .cells) F (A .later);
-          wider = A .wider;
-          new = A .new;
-        };
-        placed = I .placed;
-      }
+  module _ (s′ : List ℕ) (top top₁ n′ top′ : ℕ) (own : Items) (Mine : ℕ → Type 0) where
+    unfoldable pub advanced-moved : Advanced u s′ d m top₁ n′ top′ G own Mine → Advanced s s′ d n top n′ top′ G own Mine
+    advanced-moved A = record {
+      equations = A .equations;
+      mentioned = A .mentioned;
+      cells = A .cells;
+      wide = let w = A .wide in omega arith;
+      goes = A .goes;
+      piece = A .piece;
+      above = A .above;
+      later = later-on s u s′ d n m n′ (G .equations) (G .equations) (A .equations) (G .before) (G .items) (G .items) (G .items ⨾ own) (G .cells) (G .cells) (A .cells) F (A .later);
+      wider = A .wider;
+      new = A .new;
+    }
+
+    pub introduced-moved : (x c : ℕ) → Introduced u s′ d m top₁ n′ top′ G own Mine x c → Introduced s s′ d n top n′ top′ G own Mine x c
+    unfolding advanced-moved
+    introduced-moved x c I = record { advanced = advanced-moved (I .advanced); placed = I .placed }
 
 -- The component id of cell i, at node k.
 module _ (s d : List ℕ) (n top : ℕ) (G : Ghost) (S : Stands s d n top G) (k : ℕ) (new : Unvisited k G) (i id : ℕ) (a : Term) (K : Cell s d n G i a) where

@@ -172,7 +172,7 @@ module _ (s s′ d : List ℕ) (n top n′ top′ : ℕ) (G : Ghost) (own : Item
   pub next-unvisited : (x : ℕ) → (In x (G .mentioned) → ⊥) → (M x → ⊥) → In x (A .mentioned) → ⊥
   next-unvisited x p q i = ⊎-elim p q (A .new x i)
 
-  pub wider-mine : (N : ℕ → Type 0) → ((y : ℕ) → M y → N y) → Advanced s s′ d n top n′ top′ G own N
+  unfoldable pub wider-mine : (N : ℕ → Type 0) → ((y : ℕ) → M y → N y) → Advanced s s′ d n top n′ top′ G own N
   wider-mine N f = record {
     equations = A .equations;
     mentioned = A .mentioned;
@@ -187,7 +187,7 @@ module _ (s s′ d : List ℕ) (n top n′ top′ : ℕ) (G : Ghost) (own : Item
   }
 
   -- cells built before, and after
-  pub built-before : (r : List ℕ) (m top₀ : ℕ) → Builds r s d m n → Stands r d m top₀ G → Advanced r s′ d m top₀ n′ top′ G own M
+  unfoldable pub built-before : (r : List ℕ) (m top₀ : ℕ) → Builds r s d m n → Stands r d m top₀ G → Advanced r s′ d m top₀ n′ top′ G own M
   built-before r m top₀ B St = record {
     equations = A .equations;
     mentioned = A .mentioned;
@@ -281,7 +281,7 @@ unknown-uses s s′ n top A N y R =
 
 -- AN EQUATION.
 module _ (s s′ d : List ℕ) (n x y : ℕ) (top : ℕ) (G : Ghost) (St : Stands s d n top G) (a b : Term) (X : Cell s d n G x a) (Y : Cell s d n G y b) (f m : ℕ) (M : ℕ → Type 0) where
-  pub equal-advanced : Equated s s′ d n x y true → Advanced s s′ d n top n top G (equate f m a b) M
+  unfoldable pub equal-advanced : Equated s s′ d n x y true → Advanced s s′ d n top n top G (equate f m a b) M
   equal-advanced E =
       let r = E .goes refl top G St a b X Y f m in
       record {

@@ -1,2 +1,5 @@
+pub mod Grouping
+pub mod Integers
+pub mod Applying
 pub mod Relations
 pub mod Selecting

@@ -53,7 +53,7 @@ module _ (s u d : List ℕ) (n top x : ℕ) (b : Bool) (T : Tested s u n b) (A :
   Q₀ = Q G₀ (A .ready .stands)
 
   pub looking : Looking u d x
-  looking = record { n = n; L = Q₀ .L; held = Q₀ .solved .held; pinned = Q₀ .pinned; made = A .made; few = A .ready .stands .few }
+  looking = record { n = n; L = Q₀ .L; held = Q₀ .solved .held; pinned = Q₀ .pinned; made = A .cell .made; few = A .ready .stands .few }
 
   room₁ : Room u n top 1
   room₁ = room-still s u n top 1 (T .still) (A .room)
@@ -64,7 +64,7 @@ module _ (s u d : List ℕ) (n top x : ℕ) (b : Bool) (T : Tested s u n b) (A :
       low = T .same .low;
       uses = λ z. absurd (omega arith);
       ruled = λ G S k new a C.
-          let W = K .absent e n (G .equations) (Q G S .L) (Q G S .solved) (Q G S .pinned) (A .made) (finite-after s u d n b T (G .equations) (G .before) (G .items) (G .known) (G .mentioned) (G .cells) (S .piece)) in
+          let W = K .absent e n (G .equations) (Q G S .L) (Q G S .solved) (Q G S .pinned) (A .cell .made) (finite-after s u d n b T (G .equations) (G .before) (G .items) (G .known) (G .mentioned) (G .cells) (S .piece)) in
           rule-stops s u d n top k 35 x n top G (selectItems id k a) (λ z. omega arith)
           (selected-stops u d n top G (S₁ G S) k new x id a (cell₁ G S a C) (W .solution .σ) (record { fits = W .solution .fits; sat = W .solution .sat; obeys = W .solution .obeys }) (W .lacks));
     }
@@ -74,8 +74,8 @@ module _ (s u d : List ℕ) (n top x : ℕ) (b : Bool) (T : Tested s u n b) (A :
       one-cell : (G : Ghost) → Stands s d n top G → (k : ℕ) → Unvisited k G → (a : Term) → Cell s d n G x a → Introduced s u d n top n top G (selectItems id k a) (SlotOf k) (slot k 0) c
       one-cell G S k new a C =
           introduced-moved s u d n n (omega arith) G (F G S) u top top n top (selectItems id k a) (SlotOf k) (slot k 0) c
-          (introduced-selected u d n top G (S₁ G S) k new x id a (cell₁ G S a C) c (K .below c e l n (Q G S .L) (Q G S .solved .held) (A .made))
-          (λ σ Z. K .found c e l n (G .equations) (Q G S .L) (Q G S .solved) (A .made) (as-one u d n G σ Z)))
+          (introduced-selected u d n top G (S₁ G S) k new x id a (cell₁ G S a C) c (K .below c e l n (Q G S .L) (Q G S .solved .held) (A .cell .made))
+          (λ σ Z. K .found c e l n (G .equations) (Q G S .L) (Q G S .solved) (A .cell .made) (as-one u d n G σ Z)))
 
       pub select-cell : Selected s u d n top x id 0 c n top
       select-cell = record {
@@ -91,13 +91,13 @@ module _ (s u d : List ℕ) (n top x : ℕ) (b : Bool) (T : Tested s u n b) (A :
         making = plain-making u d n top 1 G₀ (S₁ G₀ (A .ready .stands)) room₁ (omega arith) 0 (omega arith);
         pinned = Q₀ .pinned;
         few = A .ready .stands .few;
-        readable = K .place l n (Q₀ .L) (Q₀ .solved .held) (Q₀ .pinned) (A .made);
+        readable = K .place l n (Q₀ .L) (Q₀ .solved .held) (Q₀ .pinned) (A .cell .made);
       }
 
       module _ (w : List ℕ) (E : Entered u w d n (v - 1025)) where
         module _ (G : Ghost) (S : Stands s d n top G) where
           g : Readable (heap u d) (v - 1025)
-          g = K .place l n (Q G S .L) (Q G S .solved .held) (Q G S .pinned) (A .made)
+          g = K .place l n (Q G S .L) (Q G S .solved .held) (Q G S .pinned) (A .cell .made)
 
           abbrev F₂ : Later u w d n (suc n) (G .equations) (G .equations) (G .before) (G .items) (G .items) (G .cells) (G .cells)
           F₂ = settled-later u w d n (v - 1025) entering E (g .type) (g .reads) (G .equations) (G .before) (G .items) (G .known) (G .mentioned) (G .cells) (Q G S)
@@ -111,7 +111,7 @@ module _ (s u d : List ℕ) (n top x : ℕ) (b : Bool) (T : Tested s u n b) (A :
 
           component : (σ : ℕ → Ty) → Solution w d (suc n) (G .equations) σ → componentType id (σ x) ≡ some (σ n)
           component σ Z =
-              let f = K .settled l n (G .equations) (Q G S .L) (Q G S .solved) (Q G S .pinned) (A .made) (as-one u d n G σ (F₂ .solutions σ Z)) in
+              let f = K .settled l n (G .equations) (Q G S .L) (Q G S .solved) (Q G S .pinned) (A .cell .made) (as-one u d n G σ (F₂ .solutions σ Z)) in
               f .is ∙ ap some (sym (E .type (f .type) (f .reads) σ (Z .obeys)))
 
           new-cell : (k : ℕ) → Unvisited k G → (a : Term) → Cell s d n G x a → Introduced s w d n top (suc n) top G (selectItems id k a) (SlotOf k) (slot k 0) n

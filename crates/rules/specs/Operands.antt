@@ -3,7 +3,7 @@
 use mathlib.Core.Path.{_≡_}
 use mathlib.Core.Bool.{Bool, true, false}
 use mathlib.Core.List.{List}
-use Prim.Native.Nat.{ℕ, suc, _<_}
+use Prim.Native.Nat.{ℕ, suc}
 use Rattle.types.specs.Equations.{Pairs}
 use Rattle.types.specs.Types.{Term}
 use Rattle.typing.specs.Conditions.{typed}
@@ -35,17 +35,25 @@ selectItems id k a = fresh (slot k 0) ⨾ select k id a (slot k 0)
 -- WHAT IS ASKED: a piece that stands, operands that are cells, room for new ones.
 pub record Operand (s d : List ℕ) (n top x wanted : ℕ) : Type 0 where
   pub ready : Ready s d n top
-  pub made : x < n
+  pub term : Term
+  pub cell : Cell s d n (ready .ghost) x term
   pub room : Room s n top wanted
 
 pub record Operands (s d : List ℕ) (n top x y wanted : ℕ) : Type 0 where
   pub left : Operand s d n top x wanted
-  pub right : y < n
+  pub term : Term
+  pub right : Cell s d n (left .ready .ghost) y term
 
 -- The same where the function does not look at the runs.
 pub record Relating (s d : List ℕ) (n x y wanted : ℕ) : Type 0 where
   pub top : ℕ
   pub operands : Operands s d n top x y wanted
+
+-- The same where a node has an unknown of its own: it was not visited.
+pub record Applying (s d : List ℕ) (n top x y wanted : ℕ) : Type 0 where
+  pub operands : Operands s d n top x y wanted
+  pub node : ℕ
+  pub unvisited : Unvisited node (operands .left .ready .ghost)
 
 -- The piece G with the items `own` more.
 abbrev pub after : Ghost → Items → Pairs ℕ → List ℕ → Pairs ℕ → Ghost
@@ -63,9 +71,13 @@ pub record Related (s s′ d : List ℕ) (n top x y number n′ : ℕ) (own : �
   pub stops : (number ≡ 0 → ⊥) → (G : Ghost) → Stands s d n top G → (k : ℕ) (a b : Term) → Cell s d n G x a → Cell s d n G y b →
       Stops (G .before) (G .items) (own k a b) number k
 
+-- No unknown.
+abbrev pub Nothing : ℕ → Type 0
+Nothing x = ⊥
+
 -- Both operands are integers; cell n is ℤ.
 pub record BothPass (s s′ d : List ℕ) (n top k : ℕ) (G : Ghost) (a b : Term) : Type 0 where
-  pub advanced : Advanced s s′ d n top (suc n) top G (comparisonItems k a b) (SlotOf k)
+  pub advanced : Advanced s s′ d n top (suc n) top G (comparisonItems k a b) Nothing
   pub integer-cell : Cell s′ d (suc n) (after G (comparisonItems k a b) (advanced .equations) (advanced .mentioned) (advanced .cells)) n integer
 
 pub record Both (s s′ d : List ℕ) (n x y : ℕ) (fine : Bool) : Type 0 where

@@ -4,7 +4,7 @@ use crate::ruling::Relation;
 use crate::ruling::Ruling;
 ghost use Prim.Native.Nat.{ℕ};
 ghost use Rattle.pieces.specs.Stage.{Comparing};
-ghost use Rattle.rules.specs.Operands.{Operand, Related, Selected, equalityItems};
+ghost use Rattle.rules.specs.Operands.{Operand, Operands, Applying, Relating, Related, Both, Combined, Selected, equalityItems, membershipItems, comparisonItems, applyItems, arithmeticItems};
 
 // No equation holds: finding 33.
 const MISMATCH: u32 = 33;
@@ -29,6 +29,98 @@ pub fn equality(a: &mut [u32], d: &[u32], n: usize, x: usize, y: usize) -> Relat
     Relation {
         number: MISMATCH,
         cells: n,
+    }
+}
+
+// x in y: the power of x is y.
+pub fn membership(a: &mut [u32], d: &[u32], n: usize, top: usize, x: usize, y: usize) -> Relation
+    requires { ⌜ Operands (now a) (now d) n top x y 1 ⌝ }
+    ensures { λ r. ⌜ Related (now (a .entry)) (now (a .exit)) (now (d .entry)) n top x y (r .number) (r .cells) membershipItems ⌝ }
+{
+    pieces::cells::power(a, n, top, x);
+    if pieces::equal(a, d, n + 1, n, y) {
+        return Relation {
+            number: 0,
+            cells: n + 1,
+        };
+    }
+    Relation {
+        number: MISMATCH,
+        cells: n,
+    }
+}
+
+// Are x and y integers? Cell n is then ℤ.
+fn both_integers(a: &mut [u32], d: &[u32], n: usize, x: usize, y: usize) -> bool
+    requires { ⌜ Relating (now a) (now d) n x y 1 ⌝ }
+    ensures { λ r. ⌜ Both (now (a .entry)) (now (a .exit)) (now (d .entry)) n x y r ⌝ }
+{
+    pieces::cells::integer(a, n);
+    if pieces::equal(a, d, n + 1, x, n) {
+        return pieces::equal(a, d, n + 1, y, n);
+    }
+    false
+}
+
+// x at most y.
+pub fn comparison(a: &mut [u32], d: &[u32], n: usize, x: usize, y: usize) -> Relation
+    requires { ⌜ Relating (now a) (now d) n x y 1 ⌝ }
+    ensures { λ r. ⌜ ((top : ℕ) → Related (now (a .entry)) (now (a .exit)) (now (d .entry)) n top x y (r .number) (r .cells) comparisonItems) ⌝ }
+{
+    if both_integers(a, d, n, x, y) {
+        return Relation {
+            number: 0,
+            cells: n + 1,
+        };
+    }
+    Relation {
+        number: MISMATCH,
+        cells: n,
+    }
+}
+
+// A sum, difference, product, quotient or remainder of x and y.
+pub fn arithmetic_rule(a: &mut [u32], d: &[u32], n: usize, top: usize, x: usize, y: usize) -> Ruling
+    requires { ⌜ Operands (now a) (now d) n top x y 1 ⌝ }
+    ensures { λ r. ⌜ Combined (now (a .entry)) (now (a .exit)) (now (d .entry)) n top x y (r .number) (r .cell) (r .cells) (r .top) 1 arithmeticItems ⌝ }
+{
+    if both_integers(a, d, n, x, y) {
+        return Ruling {
+            number: 0,
+            cell: n,
+            cells: n + 1,
+            top: top,
+        };
+    }
+    Ruling {
+        number: MISMATCH,
+        cell: n,
+        cells: n,
+        top: top,
+    }
+}
+
+// The function x applied to y: x is the power of the pairs of y and the result, which is cell n.
+pub fn apply_rule(a: &mut [u32], d: &[u32], n: usize, top: usize, x: usize, y: usize) -> Ruling
+    requires { ⌜ Applying (now a) (now d) n top x y 4 ⌝ }
+    ensures { λ r. ⌜ Combined (now (a .entry)) (now (a .exit)) (now (d .entry)) n top x y (r .number) (r .cell) (r .cells) (r .top) 4 applyItems ⌝ }
+{
+    solver::new_unknown(a, n);
+    pieces::cells::pair(a, n + 1, top, y, n);
+    pieces::cells::power(a, n + 2, top + 2, n + 1);
+    if pieces::equal(a, d, n + 3, x, n + 2) {
+        return Ruling {
+            number: 0,
+            cell: n,
+            cells: n + 3,
+            top: top + 3,
+        };
+    }
+    Ruling {
+        number: MISMATCH,
+        cell: n,
+        cells: n,
+        top: top,
     }
 }
 

@@ -7,27 +7,21 @@ use Rattle.pieces.proofs.closing.close.Lts as lts
 use Rattle.solver.proofs.finite.Reads as finite-reads
 use Rattle.solver.proofs.left_open.Reads as left-open-reads
 
--- src/closing.rt:10:5
 finite-requires : tie.Need-finite-requires
 finite-requires c κs = closing-read _ _ _ (c .before .before .before .pre)
 
--- src/closing.rt:11:8
 left-open-requires : tie.Need-left-open-requires
 left-open-requires c κs = tested-read _ _ _ _ _ (c .before .before .before .finite .ensures) (c .before .before .before .before .before .before .before .pre)
 
--- src/closing.rt:12:9
 same-length : tie.Need-same-length
 same-length c = search needs
 
--- src/closing.rt:12:9
 returns : tie.Need-returns
 returns c = closed-several _ _ _ _ _ (c .before .before .before .before .before .finite .ensures) _ (c .before .left-open .ensures) (c .if1 .taken)
 
--- src/closing.rt:6:1
 same-length-2 : tie.Need-same-length-2
 same-length-2 c = search needs
 
--- src/closing.rt:6:1
 returns-2 : tie.Need-returns-2
 returns-2 c = closed-one _ _ _ _ _ (c .before .before .before .before .before .finite .ensures) _ (c .before .left-open .ensures) (c .if1 .left)
 

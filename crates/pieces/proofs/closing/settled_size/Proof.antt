@@ -6,11 +6,9 @@ use Rattle.pieces.proofs.closing.settled_size.Reads as reads
 use Rattle.pieces.proofs.closing.settled_size.Lts as lts
 use Rattle.solver.proofs.cell_size.Reads as cell-size-reads
 
--- src/closing.rt:22:5
 cell-size-requires : tie.Need-cell-size-requires
 cell-size-requires c κs = may-measure _ _ _ _ (c .before .before .pre)
 
--- src/closing.rt:18:1
 returns : tie.Need-returns
 returns c = size-is _ _ _ _ _ (c .before .before .before .pre .made) (c .cell-size .ensures)
 

@@ -6,15 +6,12 @@ use Rattle.pieces.proofs.closing.settled_words.Reads as reads
 use Rattle.pieces.proofs.closing.settled_words.Lts as lts
 use Rattle.solver.proofs.write.Reads as write-reads
 
--- src/closing.rt:30:5
 write-requires : tie.Need-write-requires
 write-requires c κs = may-write _ _ _ _ _ (c .before .before .before .before .pre)
 
--- src/closing.rt:26:1
 same-length : tie.Need-same-length
 same-length c = search needs
 
--- src/closing.rt:26:1
 returns : tie.Need-returns
 returns c = words-are _ _ _ _ _ _ _ _ (c .before .before .before .before .before .before .before .pre .sizing .made) (c .before .before .write .ensures)
 

@@ -6,23 +6,18 @@ use Rattle.rules.proofs.equations.equality.Reads as reads
 use Rattle.rules.proofs.equations.equality.Lts as lts
 use Rattle.pieces.proofs.equal.Reads as equal-reads
 
--- src/equations.rt:24:8
 equal-requires : tie.Need-equal-requires
 equal-requires c κs = search needs
 
--- src/equations.rt:25:9
 same-length : tie.Need-same-length
 same-length c = search needs
 
--- src/equations.rt:25:9
 returns : tie.Need-returns
 returns c = λ top. equality-goes _ _ _ _ _ _ _ (c .before .before .before .equal .ensures) top (c .if1 .taken)
 
--- src/equations.rt:20:1
 same-length-2 : tie.Need-same-length-2
 same-length-2 c = search needs
 
--- src/equations.rt:20:1
 returns-2 : tie.Need-returns-2
 returns-2 c = λ top. equality-stops _ _ _ _ _ _ _ (c .before .before .before .equal .ensures) top (c .if1 .left)
 

@@ -9,47 +9,36 @@ use Rattle.solver.proofs.component.Reads as component-reads
 use Rattle.solver.proofs.finite.Reads as finite-reads
 use Rattle.solver.proofs.new_settled.Reads as new-settled-reads
 
--- src/equations.rt:41:5
 finite-requires : tie.Need-finite-requires
 finite-requires c κs = operand-read _ _ _ _ _ _ (c .before .before .before .pre)
 
--- src/equations.rt:42:9
 component-requires : tie.Need-component-requires
 component-requires c κs = looking _ _ _ _ _ _ _ (c .before .before .before .finite .ensures) (c .before .before .before .before .before .before .before .pre)
 
--- src/equations.rt:44:9
 same-length : tie.Need-same-length
 same-length c = search needs
 
--- src/equations.rt:44:9
 returns : tie.Need-returns
 returns c = select-absent _ _ _ _ _ _ _ (c .before .before .before .before .before .finite .ensures) (c .before .before .before .before .before .before .before .before .before .pre) _ _ (c .before .component .ensures) (c .if1 .taken)
 
--- src/equations.rt:54:19
 sub-t13 : tie.Need-sub-t13
 sub-t13 c = omega (arith, c .before .if1 .left)
 
--- src/equations.rt:52:9
 same-length-2 : tie.Need-same-length-2
 same-length-2 c = search needs
 
--- src/equations.rt:52:9
 returns-2 : tie.Need-returns-2
 returns-2 c = select-cell _ _ _ _ _ _ _ (c .before .before .before .before .before .before .finite .ensures) (c .before .before .before .before .before .before .before .before .before .before .pre) _ _ (c .before .before .component .ensures) _ (let e = c .before .if1 .left in omega arith) (c .if2 .taken)
 
--- src/equations.rt:59:5
 new-settled-requires : tie.Need-new-settled-requires
 new-settled-requires c κs = entering _ _ _ _ _ _ _ (c .before .before .before .before .before .before .before .finite .ensures) (c .before .before .before .before .before .before .before .before .before .before .before .pre) _ _ (c .before .before .before .component .ensures) (let e = c .before .if2 .left in omega arith)
 
--- src/equations.rt:63:16
 add-t17 : tie.Need-add-t17
 add-t17 c = let r = c .before .before .before .before .before .before .before .before .before .before .before .before .before .before .pre .room .cells in omega arith
 
--- src/equations.rt:37:1
 same-length-3 : tie.Need-same-length-3
 same-length-3 c = search needs
 
--- src/equations.rt:37:1
 returns-3 : tie.Need-returns-3
 returns-3 c = select-settled _ _ _ _ _ _ _ (c .before .before .before .before .before .before .before .before .before .before .finite .ensures) (c .before .before .before .before .before .before .before .before .before .before .before .before .before .before .pre) _ _ (c .before .before .before .before .before .before .component .ensures) (let e = c .before .before .before .before .if2 .left in omega arith) _ (c .before .before .new-settled .ensures) _ (omega arith)
 
