@@ -7,3 +7,4 @@ pub mod Closing
 pub mod Comparing
 pub mod Forming
 pub mod Stages
+pub mod PowerLaws

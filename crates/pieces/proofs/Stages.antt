@@ -203,6 +203,10 @@ module _ (s s′ d : List ℕ) (n top n′ top′ : ℕ) (G : Ghost) (own : Item
     new = A .new;
   }
 
+  pub introduced-before : (r : List ℕ) (m top₀ : ℕ) → Builds r s d m n → Stands r d m top₀ G → (x c : ℕ) → InP x c (A .cells) → Introduced r s′ d m top₀ n′ top′ G own M x c
+  unfolding built-before
+  introduced-before r m top₀ B St x c i = record { advanced = built-before r m top₀ B St; placed = i }
+
   pub built-after : length d < 2 ^ 31 → (s″ : List ℕ) (n″ top″ : ℕ) → Builds s′ s″ d n′ n″ → Above (frozen s″) n″ top″ → Advanced s s″ d n top n″ top″ G own M
   built-after few s″ n″ top″ B Ab = record {
     equations = A .equations;
@@ -296,6 +300,10 @@ module _ (s s′ d : List ℕ) (n x y : ℕ) (top : ℕ) (G : Ghost) (St : Stand
         wider = λ z i. i;
         new = λ z i. inl i;
       }
+
+  pub introduced-equal : Equated s s′ d n x y true → (u v : ℕ) → InP u v (G .cells) → Introduced s s′ d n top n top G (equate f m a b) M u v
+  unfolding equal-advanced
+  introduced-equal E u v i = record { advanced = equal-advanced E; placed = i }
 
 -- THE TYPE OF NODE k.
 module _ (s d : List ℕ) (n top : ℕ) (G : Ghost) (St : Stands s d n top G) (c : ℕ) (t : Term) (C : Cell s d n G c t) (k : ℕ) (new : In (slot k 0) (G .mentioned) → ⊥) where
