@@ -172,7 +172,7 @@ module _ (s s′ d : List ℕ) (n top n′ top′ : ℕ) (G : Ghost) (own : Item
   pub next-unvisited : (x : ℕ) → (In x (G .mentioned) → ⊥) → (M x → ⊥) → In x (A .mentioned) → ⊥
   next-unvisited x p q i = ⊎-elim p q (A .new x i)
 
-  pub wider-mine : (N : ℕ → Type 0) → ((y : ℕ) → M y → N y) → Advanced s s′ d n top n′ top′ G own N
+  abbrev pub wider-mine : (N : ℕ → Type 0) → ((y : ℕ) → M y → N y) → Advanced s s′ d n top n′ top′ G own N
   wider-mine N f = record {
     equations = A .equations;
     mentioned = A .mentioned;
@@ -185,6 +185,9 @@ module _ (s s′ d : List ℕ) (n top n′ top′ : ℕ) (G : Ghost) (own : Item
     wider = A .wider;
     new = λ y i. ⊎-elim inl (λ j. inr (f y j)) (A .new y i);
   }
+
+  pub introduced-wider : (N : ℕ → Type 0) → ((y : ℕ) → M y → N y) → (x c : ℕ) → InP x c (A .cells) → Introduced s s′ d n top n′ top′ G own N x c
+  introduced-wider N f x c i = record { advanced = wider-mine N f; placed = i }
 
   -- cells built before, and after
   pub built-before : (r : List ℕ) (m top₀ : ℕ) → Builds r s d m n → Stands r d m top₀ G → Advanced r s′ d m top₀ n′ top′ G own M
