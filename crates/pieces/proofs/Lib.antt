@@ -10,3 +10,4 @@ pub mod Comparing
 pub mod Forming
 pub mod Stages
 pub mod Components
+pub mod PowerLaws

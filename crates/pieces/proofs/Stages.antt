@@ -172,7 +172,7 @@ module _ (s s′ d : List ℕ) (n top n′ top′ : ℕ) (G : Ghost) (own : Item
   pub next-unvisited : (x : ℕ) → (In x (G .mentioned) → ⊥) → (M x → ⊥) → In x (A .mentioned) → ⊥
   next-unvisited x p q i = ⊎-elim p q (A .new x i)
 
-  unfoldable pub wider-mine : (N : ℕ → Type 0) → ((y : ℕ) → M y → N y) → Advanced s s′ d n top n′ top′ G own N
+  abbrev pub wider-mine : (N : ℕ → Type 0) → ((y : ℕ) → M y → N y) → Advanced s s′ d n top n′ top′ G own N
   wider-mine N f = record {
     equations = A .equations;
     mentioned = A .mentioned;
@@ -185,6 +185,9 @@ module _ (s s′ d : List ℕ) (n top n′ top′ : ℕ) (G : Ghost) (own : Item
     wider = A .wider;
     new = λ y i. ⊎-elim inl (λ j. inr (f y j)) (A .new y i);
   }
+
+  pub introduced-wider : (N : ℕ → Type 0) → ((y : ℕ) → M y → N y) → (x c : ℕ) → InP x c (A .cells) → Introduced s s′ d n top n′ top′ G own N x c
+  introduced-wider N f x c i = record { advanced = wider-mine N f; placed = i }
 
   -- cells built before, and after
   unfoldable pub built-before : (r : List ℕ) (m top₀ : ℕ) → Builds r s d m n → Stands r d m top₀ G → Advanced r s′ d m top₀ n′ top′ G own M
@@ -202,6 +205,10 @@ module _ (s s′ d : List ℕ) (n top n′ top′ : ℕ) (G : Ghost) (own : Item
     wider = A .wider;
     new = A .new;
   }
+
+  pub introduced-before : (r : List ℕ) (m top₀ : ℕ) → Builds r s d m n → Stands r d m top₀ G → (x c : ℕ) → InP x c (A .cells) → Introduced r s′ d m top₀ n′ top′ G own M x c
+  unfolding built-before
+  introduced-before r m top₀ B St x c i = record { advanced = built-before r m top₀ B St; placed = i }
 
   pub built-after : length d < 2 ^ 31 → (s″ : List ℕ) (n″ top″ : ℕ) → Builds s′ s″ d n′ n″ → Above (frozen s″) n″ top″ → Advanced s s″ d n top n″ top″ G own M
   built-after few s″ n″ top″ B Ab = record {
@@ -296,6 +303,10 @@ module _ (s s′ d : List ℕ) (n x y : ℕ) (top : ℕ) (G : Ghost) (St : Stand
         wider = λ z i. i;
         new = λ z i. inl i;
       }
+
+  pub introduced-equal : Equated s s′ d n x y true → (u v : ℕ) → InP u v (G .cells) → Introduced s s′ d n top n top G (equate f m a b) M u v
+  unfolding equal-advanced
+  introduced-equal E u v i = record { advanced = equal-advanced E; placed = i }
 
 -- THE TYPE OF NODE k.
 module _ (s d : List ℕ) (n top : ℕ) (G : Ghost) (St : Stands s d n top G) (c : ℕ) (t : Term) (C : Cell s d n G c t) (k : ℕ) (new : In (slot k 0) (G .mentioned) → ⊥) where

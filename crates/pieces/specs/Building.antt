@@ -1,18 +1,21 @@
 -- New cells with formers: ℤ, a power, a product. What the functions that build them ask and promise.
 use mathlib.Core.Path.{_≡_}
+use mathlib.Core.Bool.{Bool, true, false}
 use mathlib.Core.List.{List, [], _∷_, map}
 use Prim.Native.Nat.{ℕ, suc, _+_, _<_}
 use lib.ListN.{length}
 use Rattle.types.specs.Equations.{In, InP, Pairs}
 use Rattle.types.specs.Finite.{fromList}
 use Rattle.types.specs.Former.{Former}
-use Rattle.types.specs.Types.{Ty, node, Terms, nil, cons}
-use Rattle.typing.specs.Items.{Items}
+use Rattle.types.specs.Types.{Ty, node, Term, unknown, Terms, nil, cons}
+use Rattle.typing.specs.Items.{Items, _⨾_, fresh, equate}
+use Rattle.typing.specs.Unknowns.{powerOf}
 use Rattle.solver.specs.Store.{frozen, load, run, Solved}
 use Rattle.solver.specs.Calls.{Above}
 use Rattle.solver.specs.Growth.{Builds}
-use Rattle.solver.specs.Settled.{Fits}
-use Rattle.pieces.specs.Stage.{Ghost, Cell, Advanced, Room, Uses}
+use Rattle.solver.specs.Settled.{lower, Fits}
+use Rattle.pieces.specs.Piece.{Stops}
+use Rattle.pieces.specs.Stage.{Ghost, Stands, Cell, Advanced, Room, Uses}
 
 -- A former may be built over the cells l of the n, in the room of x cells.
 pub record Building (s : List ℕ) (n top x : ℕ) (l : List ℕ) : Type 0 where
@@ -52,3 +55,24 @@ Cells s d n G (c ∷ l) (cons t ts) = Cell s d n G c t × Cells s d n G l ts
 pub record Introduced (s s′ d : List ℕ) (n top n′ top′ : ℕ) (G : Ghost) (own : Items) (Mine : ℕ → Type 0) (x c : ℕ) : Type 0 where
   pub advanced : Advanced s s′ d n top n′ top′ G own Mine
   pub placed : InP x c (advanced .cells)
+
+-- A piece stands, the cells l have types, and there is room for x cells.
+pub record Working (s d : List ℕ) (n top x : ℕ) (l : List ℕ) : Type 0 where
+  pub ghost : Ghost
+  pub stands : Stands s d n top ghost
+  pub terms : Terms
+  pub cells : Cells s d n ghost l terms
+  pub room : Room s n top x
+
+-- The unknown x is new, and the term a is the power of it (finding f at node m).
+abbrev pub powerItems : ℕ → ℕ → ℕ → Term → Items
+powerItems x f m a = fresh x ⨾ equate f m a (powerOf (unknown x))
+
+-- IS_POWER: the type of cell c is a power, of the new unknown cell n.
+pub record Powered (s s′ d : List ℕ) (n top c : ℕ) (fine : Bool) : Type 0 where
+  pub low : lower s′ ≡ lower s
+  pub uses : Uses s s′ n top (n + 2) (top + 1) 2
+  pub goes : fine ≡ true → (G : Ghost) → Stands s d n top G → (x : ℕ) → (In x (G .mentioned) → ⊥) → (f m : ℕ) (a : Term) → Cell s d n G c a →
+      Introduced s s′ d n top (n + 2) (top + 1) G (powerItems x f m a) (λ y. y ≡ x) x n
+  pub stops : fine ≡ false → (G : Ghost) → Stands s d n top G → (x : ℕ) → (In x (G .mentioned) → ⊥) → (f m : ℕ) (a : Term) → Cell s d n G c a →
+      Stops (G .before) (G .items) (powerItems x f m a) f m

@@ -61,7 +61,7 @@ module _ (s d : List ℕ) (n top x y : ℕ) (A : Applying s d n top x y 4) where
       old₁ = next-cell s s₁ d n top (suc n) top G (fresh (slot k 0)) (SlotOf k) A₁
 
       result₁ : Cell s₁ d (suc n) G₁ n (unknownAt k 0)
-      unfolding A₁ wider-mine
+      unfolding A₁
       result₁ = placed-cell s s₁ d n top (suc n) top G (fresh (slot k 0)) (SlotOf k) A₁ (slot k 0) n (I₁ .placed)
 
       -- the argument and the result
@@ -145,7 +145,7 @@ module _ (s d : List ℕ) (n top x y : ℕ) (A : Applying s d n top x y 4) where
             own = equate 33 k p (powerOf (pairOf q (unknownAt k 0)))
 
             applied : b ≡ true → Introduced s s₄ d n top n₃ top₃ G (applyItems k p q) (SlotOf k) (slot k 0) n
-            unfolding A₁ wider-mine advance-then built-before equal-advanced
+            unfolding A₁ advance-then built-before equal-advanced
             applied e = record {
               advanced =
                   advance-then s s₁ d n top (suc n) top G (fresh (slot k 0)) (SlotOf k) (A₁ G S k new) own s₄ n₃ top₃

@@ -142,7 +142,6 @@ module _ (s u d : List ℕ) (n x y : ℕ) (A : Relating s d n x y 1) (I : Intege
 -- The type of node k, by its own unknown.
 typed-here : (s d : List ℕ) (n top : ℕ) (G : Ghost) → Stands s d n top G → (c : ℕ) (t : Term) → Cell s d n G c t → (k : ℕ) → (In (slot k 0) (G .mentioned) → ⊥) →
     Introduced s s d n top n top G (typed k t) (SlotOf k) (slot k 0) c
-unfolding wider-mine
 typed-here s d n top G S c t C k new =
     let I = introduced-typed s d n top G S c t C k new in
     record { advanced = wider-mine s s d n top n top G (typed k t) (λ y. y ≡ slot k 0) (I .advanced) (SlotOf k) (λ y e. (0, omega arith, e)); placed = I .placed }
@@ -166,7 +165,6 @@ module _ (s w d : List ℕ) (n x y : ℕ) (b : Bool) (T : Both s w d n x y b) wh
   module _ (top : ℕ) (A : Operands s d n top x y 1) where
     arithmetic-typed : b ≡ true → (G : Ghost) → Stands s d n top G → (k : ℕ) → Unvisited k G → (p r : Term) → Cell s d n G x p → Cell s d n G y r →
         Introduced s w d n top (suc n) top G (arithmeticItems k p r) (SlotOf k) (slot k 0) n
-    unfolding wider-mine
     arithmetic-typed e G S k new p r K M =
         let P = T .goes e top G S k p r K M in
         let W = wider-mine s w d n top (suc n) top G (comparisonItems k p r) Nothing (P .advanced) (SlotOf k) (λ y. absurd) in

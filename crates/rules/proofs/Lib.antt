@@ -3,3 +3,6 @@ pub mod Integers
 pub mod Applying
 pub mod Relations
 pub mod Selecting
+pub mod Concluding
+pub mod FormerLaws
+pub mod PowerRule
