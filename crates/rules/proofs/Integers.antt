@@ -1,7 +1,7 @@
 -- Two operands that are integers: ℤ is built once, and both are compared with it.
 use mathlib.Core.Path.{_≡_, refl, sym, ap, subst, _∙_}
 use mathlib.Core.Bool.{Bool, true, false}
-use mathlib.Core.List.{List, []}
+use mathlib.Core.List.{List, [], _∷_}
 use Prim.Native.Nat.{ℕ, suc, _+_, _≤_, _<_}
 use native.Mathlib.Omega.{arith}
 use Rattle.types.proofs.Terms.{bool-no}
@@ -16,23 +16,25 @@ use Rattle.solver.specs.Calls.{Making}
 use Rattle.solver.specs.Settled.{lower}
 use Rattle.pieces.specs.Piece.{Stops}
 use Rattle.pieces.specs.Stage.{Ghost, Ready, Stands, Comparing, Cell, Unvisited, SlotOf, Advanced, Room, Uses, Equated}
-use Rattle.pieces.specs.Building.{Integer, Built, Introduced}
+use Rattle.pieces.specs.Building.{Integer, Built, Introduced, Working}
 use Rattle.pieces.proofs.Components.{advanced-moved, room-still}
-use Rattle.pieces.proofs.Stages.{plain-making, no-cells, built-stands, built-old, built-cell, later-built, equal-advanced, next, next-stands, next-cell, advance-then, stop-then, introduced-typed, introduce-then, next-unvisited, wider-mine, rule-goes, rule-stops}
+use Rattle.pieces.proofs.Stages.{plain-making, no-cells, built-stands, built-old, built-cell, later-built, equal-advanced, next, next-stands, next-cell, advance-then, stop-then, introduced-typed, introduce-then, next-unvisited, introduced-wider, wider-mine, rule-goes, rule-stops}
 use Rattle.pieces.proofs.Walks.{stops-left}
-use Rattle.rules.specs.Operands.{Operand, Operands, Relating, Both, BothPass, Related, Combined, Nothing, comparisonItems, arithmeticItems}
+use Rattle.rules.specs.Equations.{Relating, Both, BothPass, Related, Combined, Nothing, comparisonItems, arithmeticItems}
+use Rattle.rules.proofs.Concluding.{own-slot}
+use Rattle.rules.proofs.Operands.{operands}
 use Rattle.rules.proofs.Grouping.{introduced-group, stops-group}
 
 pub integer-making : (s d : List ℕ) (n x y : ℕ) → Relating s d n x y 1 → Making s n 1 0 4096 0
 integer-making s d n x y A =
-    let O = A .operands .left in plain-making s d n (A .top) 1 (O .ready .ghost) (O .ready .stands) (O .room) (omega arith) 1 (omega arith)
+    let W = A .working in plain-making s d n (A .top) 1 (W .ghost) (W .stands) (W .room) (omega arith) 1 (omega arith)
 
 module _ (s u d : List ℕ) (n x y : ℕ) (A : Relating s d n x y 1) (I : Integer s u n int []) where
-  abbrev O : Operand s d n (A .top) x 1
-  O = A .operands .left
-
   abbrev G₀ : Ghost
-  G₀ = O .ready .ghost
+  G₀ = A .working .ghost
+
+  abbrev O : (a : Term) × (b : Term) × Cell s d n G₀ x a × Cell s d n G₀ y b
+  O = operands s d n G₀ x y (A .working .terms) (A .working .cells)
 
   -- The piece with ℤ.
   module _ (top : ℕ) (G : Ghost) (S : Stands s d n top G) where
@@ -49,13 +51,13 @@ module _ (s u d : List ℕ) (n x y : ℕ) (A : Relating s d n x y 1) (I : Intege
     ℤ-cell = built-cell s u d n top top 1 int [] B G S nil (no-cells s d n G)
 
   low-u : lower u ≡ lower s
-  low-u = B (A .top) G₀ (O .ready .stands) .builds d .grows .low
+  low-u = B (A .top) G₀ (A .working .stands) .builds d .grows .low
 
   asks₁ : Comparing u d (suc n) x n
   asks₁ = record {
     top = A .top;
-    ready = record { ghost = G₀; stands = S₁ (A .top) G₀ (O .ready .stands) };
-    left = let l = O .cell .made in omega arith;
+    ready = record { ghost = G₀; stands = S₁ (A .top) G₀ (A .working .stands) };
+    left = let l = O .2 .made in omega arith;
     right = omega arith;
   }
 
@@ -99,8 +101,8 @@ module _ (s u d : List ℕ) (n x y : ℕ) (A : Relating s d n x y 1) (I : Intege
       asks₂ : Comparing v d (suc n) y n
       asks₂ = record {
         top = A .top;
-        ready = record { ghost = G₁ (A .top) G₀ (O .ready .stands) 0 (O .term) (O .cell); stands = S₂ (A .top) G₀ (O .ready .stands) 0 (O .term) (O .cell) };
-        left = let l = A .operands .right .made in omega arith;
+        ready = record { ghost = G₁ (A .top) G₀ (A .working .stands) 0 (O .0) (O .2); stands = S₂ (A .top) G₀ (A .working .stands) 0 (O .0) (O .2) };
+        left = let l = O .3 .made in omega arith;
         right = omega arith;
       }
 
@@ -144,7 +146,7 @@ typed-here : (s d : List ℕ) (n top : ℕ) (G : Ghost) → Stands s d n top G �
     Introduced s s d n top n top G (typed k t) (SlotOf k) (slot k 0) c
 typed-here s d n top G S c t C k new =
     let I = introduced-typed s d n top G S c t C k new in
-    record { advanced = wider-mine s s d n top n top G (typed k t) (λ y. y ≡ slot k 0) (I .advanced) (SlotOf k) (λ y e. (0, omega arith, e)); placed = I .placed }
+    introduced-wider s s d n top n top G (typed k t) (λ y. y ≡ slot k 0) (I .advanced) (SlotOf k) (own-slot k 0 (omega arith)) (slot k 0) c (I .placed)
 
 -- ≤ and arithmetic.
 module _ (s w d : List ℕ) (n x y : ℕ) (b : Bool) (T : Both s w d n x y b) where
@@ -162,7 +164,7 @@ module _ (s w d : List ℕ) (n x y : ℕ) (b : Bool) (T : Both s w d n x y b) wh
     stops = λ z G S k p r K M. T .stops e top G S k p r K M;
   }
 
-  module _ (top : ℕ) (A : Operands s d n top x y 1) where
+  module _ (top : ℕ) (A : Working s d n top 1 (x ∷ y ∷ [])) where
     arithmetic-typed : b ≡ true → (G : Ghost) → Stands s d n top G → (k : ℕ) → Unvisited k G → (p r : Term) → Cell s d n G x p → Cell s d n G y r →
         Introduced s w d n top (suc n) top G (arithmeticItems k p r) (SlotOf k) (slot k 0) n
     arithmetic-typed e G S k new p r K M =
@@ -177,15 +179,17 @@ module _ (s w d : List ℕ) (n x y : ℕ) (b : Bool) (T : Both s w d n x y b) wh
     pub arithmetic-goes : b ≡ true → (n′ : ℕ) → n′ ≡ suc n → Combined s w d n top x y 0 n n′ top 1 arithmeticItems
     arithmetic-goes e n′ q = subst (λ z. Combined s w d n top x y 0 n z top 1 arithmeticItems) (sym q) (record {
       low = T .low;
-      uses = λ z. T .uses top (A .left .ready .ghost) (A .left .ready .stands);
+      wide = omega arith;
+      uses = λ z. T .uses top (A .ghost) (A .stands);
       ruled = λ G S k new p r K M. rule-goes s w d n top k 0 n (suc n) top G (arithmeticItems k p r) refl (arithmetic-typed e G S k new p r K M);
     })
 
-    pub arithmetic-stops : b ≡ false → (cell n′ : ℕ) → Combined s w d n top x y 33 cell n′ top 1 arithmeticItems
-    arithmetic-stops e cell n′ = record {
+    pub arithmetic-stops : b ≡ false → (cell : ℕ) → Combined s w d n top x y 33 cell n top 1 arithmeticItems
+    arithmetic-stops e cell = record {
       low = T .low;
+      wide = omega arith;
       uses = λ z. absurd (omega arith);
       ruled = λ G S k new p r K M.
-          rule-stops s w d n top k 33 cell n′ top G (arithmeticItems k p r) (λ z. omega arith)
+          rule-stops s w d n top k 33 cell n top G (arithmeticItems k p r) (λ z. omega arith)
           (stops-group (G .items) (equate 33 k p integer) (equate 33 k r integer) (typed k integer) (G .before) 33 k (T .stops e top G S k p r K M));
     }

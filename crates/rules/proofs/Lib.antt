@@ -1,4 +1,5 @@
 pub mod Grouping
+pub mod Operands
 pub mod Integers
 pub mod Applying
 pub mod Relations
@@ -6,3 +7,4 @@ pub mod Selecting
 pub mod Concluding
 pub mod FormerLaws
 pub mod PowerRule
+pub mod RuleItems

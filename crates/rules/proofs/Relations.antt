@@ -8,10 +8,11 @@ use Rattle.types.specs.Former.{power}
 use Rattle.types.specs.Types.{Term, nil, cons}
 use Rattle.typing.specs.Unknowns.{powerOf}
 use Rattle.solver.specs.Settled.{lower}
-use Rattle.pieces.specs.Building.{Building, Built}
+use Rattle.pieces.specs.Building.{Building, Built, Working}
 use Rattle.pieces.specs.Stage.{Ghost, Stands, Comparing, Cell, Equated, SlotOf}
 use Rattle.pieces.proofs.Stages.{building, one-cell, built-stands, built-old, built-cell, built-before, equal-advanced}
-use Rattle.rules.specs.Operands.{Operand, Operands, Related, equalityItems, membershipItems}
+use Rattle.rules.specs.Equations.{Related, equalityItems, membershipItems}
+use Rattle.rules.proofs.Operands.{operands}
 
 module _ (s s′ d : List ℕ) (n x y : ℕ) (b : Bool) (E : Equated s s′ d n x y b) (top : ℕ) where
   pub equality-goes : b ≡ true → Related s s′ d n top x y 0 n equalityItems
@@ -29,20 +30,20 @@ module _ (s s′ d : List ℕ) (n x y : ℕ) (b : Bool) (E : Equated s s′ d n 
   }
 
 -- MEMBERSHIP: the power of x, cell n.
-module _ (s d : List ℕ) (n top x y : ℕ) (A : Operands s d n top x y 1) where
-  abbrev O : Operand s d n top x 1
-  O = A .left
+module _ (s d : List ℕ) (n top x y : ℕ) (A : Working s d n top 1 (x ∷ y ∷ [])) where
+  abbrev O : (a : Term) × (b : Term) × Cell s d n (A .ghost) x a × Cell s d n (A .ghost) y b
+  O = operands s d n (A .ghost) x y (A .terms) (A .cells)
 
   pub member-building : Building s n top 1 (x ∷ [])
-  member-building = building s d n top 1 (O .ready .ghost) (O .ready .stands) (O .room) (x ∷ []) (cons (O .term) nil) (one-cell s d n (O .ready .ghost) x (O .term) (O .cell))
+  member-building = building s d n top 1 (A .ghost) (A .stands) (A .room) (x ∷ []) (cons (O .0) nil) (one-cell s d n (A .ghost) x (O .0) (O .2))
 
   module _ (u : List ℕ) (top′ : ℕ) (B : Built s u n top top′ 1 power (x ∷ [])) where
     asks₁ : Comparing u d (suc n) n y
     asks₁ = record {
       top = top′;
-      ready = record { ghost = O .ready .ghost; stands = built-stands s u d n top top′ 1 power (x ∷ []) B (O .ready .ghost) (O .ready .stands) };
+      ready = record { ghost = A .ghost; stands = built-stands s u d n top top′ 1 power (x ∷ []) B (A .ghost) (A .stands) };
       left = omega arith;
-      right = let l = A .right .made in omega arith;
+      right = let l = O .3 .made in omega arith;
     }
 
     pub member-asks : (m : ℕ) → m ≡ suc n → Comparing u d m n y

@@ -1,2 +1,2 @@
-pub mod Operands
+pub mod Equations
 pub mod Formers

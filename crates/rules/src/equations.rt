@@ -2,9 +2,12 @@
 
 use crate::ruling::Relation;
 use crate::ruling::Ruling;
+ghost use mathlib.Core.List.{[], _∷_};
 ghost use Prim.Native.Nat.{ℕ};
+ghost use Rattle.pieces.specs.Building.{Working};
 ghost use Rattle.pieces.specs.Stage.{Comparing};
-ghost use Rattle.rules.specs.Operands.{Operand, Operands, Applying, Relating, Related, Both, Combined, Selected, equalityItems, membershipItems, comparisonItems, applyItems, arithmeticItems};
+ghost use Rattle.rules.specs.Equations.{Relating, Related, Both, Combined, equalityItems, membershipItems, comparisonItems, applyItems, arithmeticItems, selectItems};
+ghost use Rattle.rules.specs.Formers.{Derived};
 
 // No equation holds: finding 33.
 const MISMATCH: u32 = 33;
@@ -34,7 +37,7 @@ pub fn equality(a: &mut [u32], d: &[u32], n: usize, x: usize, y: usize) -> Relat
 
 // x in y: the power of x is y.
 pub fn membership(a: &mut [u32], d: &[u32], n: usize, top: usize, x: usize, y: usize) -> Relation
-    requires { ⌜ Operands (now a) (now d) n top x y 1 ⌝ }
+    requires { ⌜ Working (now a) (now d) n top 1 (x ∷ y ∷ []) ⌝ }
     ensures { λ r. ⌜ Related (now (a .entry)) (now (a .exit)) (now (d .entry)) n top x y (r .number) (r .cells) membershipItems ⌝ }
 {
     pieces::cells::power(a, n, top, x);
@@ -81,7 +84,7 @@ pub fn comparison(a: &mut [u32], d: &[u32], n: usize, x: usize, y: usize) -> Rel
 
 // A sum, difference, product, quotient or remainder of x and y.
 pub fn arithmetic_rule(a: &mut [u32], d: &[u32], n: usize, top: usize, x: usize, y: usize) -> Ruling
-    requires { ⌜ Operands (now a) (now d) n top x y 1 ⌝ }
+    requires { ⌜ Working (now a) (now d) n top 1 (x ∷ y ∷ []) ⌝ }
     ensures { λ r. ⌜ Combined (now (a .entry)) (now (a .exit)) (now (d .entry)) n top x y (r .number) (r .cell) (r .cells) (r .top) 1 arithmeticItems ⌝ }
 {
     if both_integers(a, d, n, x, y) {
@@ -102,7 +105,7 @@ pub fn arithmetic_rule(a: &mut [u32], d: &[u32], n: usize, top: usize, x: usize,
 
 // The function x applied to y: x is the power of the pairs of y and the result, which is cell n.
 pub fn apply_rule(a: &mut [u32], d: &[u32], n: usize, top: usize, x: usize, y: usize) -> Ruling
-    requires { ⌜ Applying (now a) (now d) n top x y 4 ⌝ }
+    requires { ⌜ Working (now a) (now d) n top 4 (x ∷ y ∷ []) ⌝ }
     ensures { λ r. ⌜ Combined (now (a .entry)) (now (a .exit)) (now (d .entry)) n top x y (r .number) (r .cell) (r .cells) (r .top) 4 applyItems ⌝ }
 {
     solver::new_unknown(a, n);
@@ -126,8 +129,8 @@ pub fn apply_rule(a: &mut [u32], d: &[u32], n: usize, top: usize, x: usize, y: u
 
 // The component id of x: that of its cell, or of its type words, which enter as a new cell.
 pub fn select_rule(a: &mut [u32], d: &[u32], n: usize, top: usize, x: usize, id: usize) -> Ruling
-    requires { ⌜ Operand (now a) (now d) n top x 1 ⌝ }
-    ensures { λ r. ⌜ Selected (now (a .entry)) (now (a .exit)) (now (d .entry)) n top x id (r .number) (r .cell) (r .cells) (r .top) ⌝ }
+    requires { ⌜ Working (now a) (now d) n top 1 (x ∷ []) ⌝ }
+    ensures { λ r. ⌜ Derived (now (a .entry)) (now (a .exit)) (now (d .entry)) n top x (r .number) (r .cell) (r .cells) (r .top) 1 (selectItems id) ⌝ }
 {
     solver::finite(a, n);
     let v = solver::component(a, d, x, id);

@@ -8,10 +8,10 @@ use Rattle.rules.proofs.equations.arithmetic_rule.Lts as lts
 use Rattle.rules.proofs.equations.both_integers.Reads as both-integers-reads
 
 both-integers-requires : tie.Need-both-integers-requires
-both-integers-requires c κs = record { top = _; operands = c .before .before .before .pre }
+both-integers-requires c κs = record { top = _; working = c .before .before .before .pre }
 
 add-t10 : tie.Need-add-t10
-add-t10 c = let r = c .before .before .before .before .before .before .before .pre .left .room .cells in omega arith
+add-t10 c = let r = c .before .before .before .before .before .before .before .pre .room .cells in omega arith
 
 same-length : tie.Need-same-length
 same-length c = search needs
@@ -23,7 +23,7 @@ same-length-2 : tie.Need-same-length-2
 same-length-2 c = search needs
 
 returns-2 : tie.Need-returns-2
-returns-2 c = arithmetic-stops _ _ _ _ _ _ _ (c .before .before .before .both-integers .ensures) _ (c .before .before .before .before .before .before .before .pre) (c .if1 .left) _ _
+returns-2 c = arithmetic-stops _ _ _ _ _ _ _ (c .before .before .before .both-integers .ensures) _ (c .before .before .before .before .before .before .before .pre) (c .if1 .left) _
 
 pub arithmetic-rule-spec : {M : Type 1} → statement M
 arithmetic-rule-spec =

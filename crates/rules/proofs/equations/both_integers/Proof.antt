@@ -12,13 +12,13 @@ integer-requires : tie.Need-integer-requires
 integer-requires c κs = integer-making _ _ _ _ _ (c .before .before .before .pre)
 
 add-equal : tie.Need-add-equal
-add-equal c = let r = c .before .before .before .before .before .before .before .pre .operands .left .room .cells in omega arith
+add-equal c = let r = c .before .before .before .before .before .before .before .pre .working .room .cells in omega arith
 
 equal-requires : tie.Need-equal-requires
 equal-requires c κs = first-asks _ _ _ _ _ _ (c .before .before .before .before .before .before .before .pre) (c .before .before .before .integer .ensures) _ (omega arith)
 
 add-equal-2 : tie.Need-add-equal-2
-add-equal-2 c = let r = c .before .before .before .before .before .before .before .before .before .before .before .before .pre .operands .left .room .cells in omega arith
+add-equal-2 c = let r = c .before .before .before .before .before .before .before .before .before .before .before .before .pre .working .room .cells in omega arith
 
 equal-requires-2 : tie.Need-equal-requires-2
 equal-requires-2 c κs = second-asks _ _ _ _ _ _ (c .before .before .before .before .before .before .before .before .before .before .before .before .pre) (c .before .before .before .before .before .before .before .before .integer .ensures) _ _ _ (c .before .before .before .before .equal .ensures) (omega arith) (c .before .if1 .taken) _ (omega arith)

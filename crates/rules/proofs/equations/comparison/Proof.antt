@@ -11,7 +11,7 @@ both-integers-requires : tie.Need-both-integers-requires
 both-integers-requires c κs = c .before .before .before .pre
 
 add-t9 : tie.Need-add-t9
-add-t9 c = let r = c .before .before .before .before .before .before .before .pre .operands .left .room .cells in omega arith
+add-t9 c = let r = c .before .before .before .before .before .before .before .pre .working .room .cells in omega arith
 
 same-length : tie.Need-same-length
 same-length c = search needs

@@ -12,13 +12,13 @@ power-requires : tie.Need-power-requires
 power-requires c κs = member-building _ _ _ _ _ _ (c .before .before .before .pre)
 
 add-equal : tie.Need-add-equal
-add-equal c = let r = c .before .before .before .before .before .before .before .pre .left .room .cells in omega arith
+add-equal c = let r = c .before .before .before .before .before .before .before .pre .room .cells in omega arith
 
 equal-requires : tie.Need-equal-requires
 equal-requires c κs = member-asks _ _ _ _ _ _ (c .before .before .before .before .before .before .before .pre) _ _ (c .before .before .before .power .ensures) _ (omega arith)
 
 add-t14 : tie.Need-add-t14
-add-t14 c = let r = c .before .before .before .before .before .before .before .before .before .before .before .pre .left .room .cells in omega arith
+add-t14 c = let r = c .before .before .before .before .before .before .before .before .before .before .before .pre .room .cells in omega arith
 
 same-length : tie.Need-same-length
 same-length c = search needs

@@ -1,5 +1,5 @@
+use Rattle.rules.proofs.Selecting.{select-reads, looking, select-absent, select-cell, entering, select-settled}
 use native.Mathlib.Omega.{arith}
-use Rattle.rules.proofs.Selecting.{operand-read, looking, select-absent, select-cell, entering, select-settled}
 use borrow.Author.Needs.{needs}
 use Rattle.rules.proofs.equations.select_rule.Statement.{statement}
 use Rattle.rules.proofs.equations.select_rule.Tie as tie
@@ -10,7 +10,7 @@ use Rattle.solver.proofs.finite.Reads as finite-reads
 use Rattle.solver.proofs.new_settled.Reads as new-settled-reads
 
 finite-requires : tie.Need-finite-requires
-finite-requires c κs = operand-read _ _ _ _ _ _ (c .before .before .before .pre)
+finite-requires c κs = select-reads _ _ _ _ _ _ (c .before .before .before .pre)
 
 component-requires : tie.Need-component-requires
 component-requires c κs = looking _ _ _ _ _ _ _ (c .before .before .before .finite .ensures) (c .before .before .before .before .before .before .before .pre)

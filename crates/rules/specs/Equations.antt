@@ -2,8 +2,8 @@
 -- each piece that stands, each node k, and all terms that the cells denote.
 use mathlib.Core.Path.{_≡_}
 use mathlib.Core.Bool.{Bool, true, false}
-use mathlib.Core.List.{List}
-use Prim.Native.Nat.{ℕ, suc}
+use mathlib.Core.List.{List, [], _∷_}
+use Prim.Native.Nat.{ℕ, suc, _≤_}
 use Rattle.types.specs.Equations.{Pairs}
 use Rattle.types.specs.Types.{Term}
 use Rattle.typing.specs.Conditions.{typed}
@@ -11,7 +11,8 @@ use Rattle.typing.specs.Items.{Items, _⨾_, fresh, equate, select}
 use Rattle.typing.specs.Unknowns.{slot, unknownAt, integer, powerOf, pairOf}
 use Rattle.solver.specs.Settled.{lower}
 use Rattle.pieces.specs.Piece.{Stops}
-use Rattle.pieces.specs.Stage.{Ghost, Stands, Ready, Room, Cell, Unvisited, SlotOf, Advanced, Ruled, Uses}
+use Rattle.pieces.specs.Stage.{Ghost, Stands, Cell, Unvisited, SlotOf, Advanced, Ruled, Uses}
+use Rattle.pieces.specs.Building.{Working}
 
 -- THE ITEMS of node k, over the terms of its operands (typing/specs/Rules: equal, member, atMost, application, arithmetic, selection).
 abbrev pub equalityItems : ℕ → Term → Term → Items
@@ -32,28 +33,10 @@ arithmeticItems k a b = equate 33 k a integer ⨾ equate 33 k b integer ⨾ type
 abbrev pub selectItems : ℕ → ℕ → Term → Items
 selectItems id k a = fresh (slot k 0) ⨾ select k id a (slot k 0)
 
--- WHAT IS ASKED: a piece that stands, operands that are cells, room for new ones.
-pub record Operand (s d : List ℕ) (n top x wanted : ℕ) : Type 0 where
-  pub ready : Ready s d n top
-  pub term : Term
-  pub cell : Cell s d n (ready .ghost) x term
-  pub room : Room s n top wanted
-
-pub record Operands (s d : List ℕ) (n top x y wanted : ℕ) : Type 0 where
-  pub left : Operand s d n top x wanted
-  pub term : Term
-  pub right : Cell s d n (left .ready .ghost) y term
-
--- The same where the function does not look at the runs.
+-- WHAT IS ASKED where the function does not look at the runs: a piece that stands, operands that are cells, room for new ones.
 pub record Relating (s d : List ℕ) (n x y wanted : ℕ) : Type 0 where
   pub top : ℕ
-  pub operands : Operands s d n top x y wanted
-
--- The same where a node has an unknown of its own: it was not visited.
-pub record Applying (s d : List ℕ) (n top x y wanted : ℕ) : Type 0 where
-  pub operands : Operands s d n top x y wanted
-  pub node : ℕ
-  pub unvisited : Unvisited node (operands .left .ready .ghost)
+  pub working : Working s d n top wanted (x ∷ y ∷ [])
 
 -- The piece G with the items `own` more.
 abbrev pub after : Ghost → Items → Pairs ℕ → List ℕ → Pairs ℕ → Ghost
@@ -90,13 +73,7 @@ pub record Both (s s′ d : List ℕ) (n x y : ℕ) (fine : Bool) : Type 0 where
 -- AN EXPRESSION of two operands: the room of `used` cells is used.
 pub record Combined (s s′ d : List ℕ) (n top x y number cell n′ top′ used : ℕ) (own : ℕ → Term → Term → Items) : Type 0 where
   pub low : lower s′ ≡ lower s
+  pub wide : n ≤ n′
   pub uses : number ≡ 0 → Uses s s′ n top n′ top′ used
   pub ruled : (G : Ghost) → Stands s d n top G → (k : ℕ) → Unvisited k G → (a b : Term) → Cell s d n G x a → Cell s d n G y b →
       Ruled s s′ d n top k number cell n′ top′ G (own k a b)
-
--- SELECT: the component id of x.
-pub record Selected (s s′ d : List ℕ) (n top x id number cell n′ top′ : ℕ) : Type 0 where
-  pub low : lower s′ ≡ lower s
-  pub uses : number ≡ 0 → Uses s s′ n top n′ top′ 1
-  pub ruled : (G : Ghost) → Stands s d n top G → (k : ℕ) → Unvisited k G → (a : Term) → Cell s d n G x a →
-      Ruled s s′ d n top k number cell n′ top′ G (selectItems id k a)
