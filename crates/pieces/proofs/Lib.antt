@@ -8,3 +8,5 @@ pub mod Comparing
 pub mod Forming
 pub mod Stages
 pub mod PowerLaws
+pub mod RowLaws
+pub mod PowerRows

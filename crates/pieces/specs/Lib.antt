@@ -1,3 +1,4 @@
 pub mod Piece
 pub mod Stage
 pub mod Building
+pub mod Rows

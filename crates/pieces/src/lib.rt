@@ -2,6 +2,7 @@
 // invariant, specs/Stage.antt what functions ask and promise, proofs/ the laws: one for each thing that a typing rule does.
 
 pub mod cells;
+pub mod members;
 pub mod powers;
 
 ghost use Rattle.pieces.specs.Stage.{Comparing, Equated};
