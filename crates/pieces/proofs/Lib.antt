@@ -11,3 +11,5 @@ pub mod Forming
 pub mod Stages
 pub mod Components
 pub mod PowerLaws
+pub mod RowLaws
+pub mod PowerRows

@@ -12,7 +12,7 @@ use Rattle.types.specs.Finite.{fromList}
 use Rattle.types.specs.Former.{Former, int, power, product}
 use Rattle.types.specs.Types.{Ty, Tys, node, tcons, Term, Terms, unknown, con, nil, cons, under, unders, Each, Eachs}
 use Rattle.typing.specs.Unknowns.{Table, slot, integer, powerOf, pairOf, productOf}
-use Rattle.typing.specs.Items.{Items, _⨾_, fresh, equate, Meets, Passes}
+use Rattle.typing.specs.Items.{Items, _⨾_, skip, fresh, equate, Meets, Agree, Passes}
 use Rattle.typing.specs.Conditions.{typed}
 use Rattle.solver.specs.Store.{frozen, load, run}
 use Rattle.solver.specs.Calls.{Above, Making, Made}
@@ -21,9 +21,9 @@ use Rattle.solver.proofs.Growing.{made-above, made-load}
 use Rattle.pieces.specs.Piece.{Solution, Matches, Piece, Denotes, Later, Goes, Stops}
 use Rattle.pieces.specs.Stage.{Ghost, Stands, Room, Cell, Unvisited, Advanced, SlotOf, Uses, Ruled, Equated}
 use Rattle.pieces.specs.Building.{Building, Built, Cells, Introduced}
-use Rattle.pieces.proofs.Walks.{goes-then, stops-left, stops-right, alike-group, meets-alike, piece-group, later-on, denotes-later}
+use Rattle.pieces.proofs.Walks.{items-earlier, goes-then, stops-left, stops-right, alike-group, meets-alike, piece-group, later-on, denotes-later}
 use Rattle.pieces.proofs.Growing.{built, built-later, solution-before, unknown-later, unknown as new-unknown}
-use Rattle.pieces.proofs.Naming.{typed-later, typed-goes, typed as new-typed}
+use Rattle.pieces.proofs.Naming.{noted, typed-later, typed-goes, typed as new-typed}
 use Rattle.pieces.proofs.ClosingLaws.{all-in}
 
 -- CELLS ARE BUILT: the piece stands, and old cells denote what they did.
@@ -254,8 +254,45 @@ module _ (s s′ d : List ℕ) (n top n′ top′ : ℕ) (G : Ghost) (a : Items)
     unfolding advance-then
     introduce-then x c I = record { advanced = advance-then (I .advanced); placed = I .placed }
 
+    -- a cell of the piece with these items, grouped otherwise
+    module _ (B : Advanced s′ s″ d n′ top′ n″ top″ G′ b M) where
+      abbrev G″ : Ghost
+      G″ = next s′ s″ d n′ top′ n″ top″ G′ b M B
+
+      pub then-cell : (c : ℕ) (t : Term) → Cell s″ d n″ G″ c t → Cell s″ d n″ (next s s″ d n top n″ top″ G (a ⨾ b) M (advance-then B)) c t
+      unfolding advance-then
+      then-cell c t C = record {
+        made = C .made;
+        denotes = λ τ m σ S k.
+            C .denotes τ (meets-alike (G .before) ((G .items ⨾ a) ⨾ b) (G .items ⨾ (a ⨾ b)) (alike-group (G .items) a b) τ .1 m) σ S k;
+        over = C .over;
+      }
+
+      pub then-cells : (l : List ℕ) (ts : Terms) → Cells s″ d n″ G″ l ts → Cells s″ d n″ (next s s″ d n top n″ top″ G (a ⨾ b) M (advance-then B)) l ts
+      unfolding Cells
+      then-cells [] nil K = tt
+      then-cells [] (cons t ts) K = absurd K
+      then-cells (c ∷ l) nil K = absurd K
+      then-cells (c ∷ l) (cons t ts) K = (then-cell c t (K .0), then-cells l ts (K .1))
+
   pub stop-then : (f m : ℕ) → Stops (G .before) (G .items ⨾ a) b f m → Stops (G .before) (G .items) (a ⨾ b) f m
   stop-then f m r = stops-right (G .before) (G .items) a b f m (A .goes) r
+
+-- NO ITEM.
+pub skip-advanced : (s d : List ℕ) (n top : ℕ) (G : Ghost) → Stands s d n top G → (M : ℕ → Type 0) → Advanced s s d n top n top G skip M
+unfolding Passes Meets Agree
+skip-advanced s d n top G St M = record {
+  equations = G .equations;
+  mentioned = G .mentioned;
+  cells = G .cells;
+  wide = omega arith;
+  goes = tt;
+  piece = noted s d n (G .equations) (G .before) (G .items) (G .known) (G .mentioned) (G .cells) (St .piece) skip (λ τ m. tt) (λ τ τ′. tt);
+  above = St .above;
+  later = record { solutions = λ σ S. S; items = items-earlier (G .before) (G .items) skip; unknowns = λ τ σ m. m };
+  wider = λ x i. i;
+  new = λ x i. inl i;
+}
 
 -- A NEW UNKNOWN x: cell n.
 module _ (s s′ d : List ℕ) (n top : ℕ) (G : Ghost) (St : Stands s d n top G) (A : Making s n 0 0 4096 0) (N : Made s s′ n 0 0 4096 0) (x : ℕ) (new : In x (G .mentioned) → ⊥) where

@@ -3,6 +3,7 @@
 
 pub mod cells;
 pub mod closing;
+pub mod members;
 pub mod powers;
 
 ghost use Rattle.pieces.specs.Stage.{Comparing, Equated};
