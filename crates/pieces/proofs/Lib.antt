@@ -3,6 +3,14 @@ pub mod Updates
 pub mod Growing
 pub mod Equating
 pub mod Naming
-pub mod Closing
+pub mod ClosingLaws
+pub mod Lengths
+pub mod Closed
 pub mod Comparing
 pub mod Between
+pub mod Forming
+pub mod Stages
+pub mod Components
+pub mod PowerLaws
+pub mod RowLaws
+pub mod PowerRows

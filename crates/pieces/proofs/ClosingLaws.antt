@@ -95,7 +95,7 @@ module _ (s s′ d : List ℕ) (n : ℕ) (b : Bool) (T : Tested s s′ n b) (P�
   few : n ≤ 1024
   few = Q .solved .held .few
 
-  to-tested : (σ : ℕ → Ty) → Solution s d n P₀ σ → Solution s′ d n P₀ σ
+  pub to-tested : (σ : ℕ → Ty) → Solution s d n P₀ σ → Solution s′ d n P₀ σ
   to-tested σ S = record { fits = subst (λ w. Fits w n σ) (sym (T .still)) (S .fits); sat = S .sat; obeys = same-obeys s s′ d n (T .same) few σ (S .obeys) }
 
   from-tested : (σ : ℕ → Ty) → Solution s′ d n P₀ σ → Solution s d n P₀ σ
@@ -106,6 +106,14 @@ module _ (s s′ d : List ℕ) (n : ℕ) (b : Bool) (T : Tested s s′ n b) (P�
 
   pub tested-finite : Finite (frozen s′) n (Q .L)
   tested-finite i l = subst (λ w. Finite w n (Q .L)) (sym (T .still)) (λ j k. T .sizes tested-true P₀ (Q .L) (Q .solved) j k .finite) i l
+
+  pub tested-later : Later s s′ d n n P₀ P₀ H t t ρ ρ
+  tested-later = record { solutions = from-tested; items = λ τ m. m; unknowns = λ τ σ m. m }
+
+  -- the same of the piece that stands
+  pub finite-after : Finite (frozen s′) n (tested .L)
+  unfolding tested moved
+  finite-after = tested-finite
 
 -- A PIECE IS CLOSED at the node m.
 module _ (s d : List ℕ) (n : ℕ) (P₀ : Pairs ℕ) (H t : Items) (U₀ U : List ℕ) (ρ : Pairs ℕ) (Q : Piece s d n P₀ H t U₀ U ρ) (m : ℕ) (F : Finite (frozen s) n (Q .L)) where

@@ -1,0 +1,10 @@
+pub mod Grouping
+pub mod Operands
+pub mod Integers
+pub mod Applying
+pub mod Relations
+pub mod Selecting
+pub mod Concluding
+pub mod FormerLaws
+pub mod PowerRule
+pub mod RuleItems

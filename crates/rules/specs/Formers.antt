@@ -1,0 +1,53 @@
+-- The rules whose types are built of their operands' types. A promise is for each piece that stands, each node k, and all expressions or terms whose types
+-- the operands' cells have.
+use mathlib.Core.Path.{_≡_}
+use mathlib.Core.List.{List}
+use Prim.Native.Nat.{ℕ, _≤_}
+use Rattle.syntax.specs.Tree.{Exprs, exprsLength}
+use Rattle.types.specs.Types.{Term}
+use Rattle.typing.specs.Conditions.{typed, typesOf, arePowers, areMembers}
+use Rattle.typing.specs.Items.{Items, _⨾_, fresh}
+use Rattle.typing.specs.Unknowns.{slot, unknownAt, row, integer, powerOf, productOf}
+use Rattle.solver.specs.Settled.{lower}
+use Rattle.pieces.specs.Stage.{Ghost, Stands, Cell, Unvisited, Ruled, Uses}
+use Rattle.pieces.specs.Building.{Cells, powerItems}
+
+-- The cells l have the types of the expressions xs, one by one.
+abbrev pub OperandCells : List ℕ → List ℕ → ℕ → Ghost → List ℕ → Exprs → Type 0
+OperandCells s d n G l xs = Cells s d n G l (typesOf xs)
+
+-- THE ITEMS of node k, after those of its operands (typing/specs/Rules: number, integers, tuple, comprehension, power, product, set).
+abbrev pub numberItems : ℕ → Exprs → Items
+numberItems k xs = typed k integer
+
+abbrev pub integersItems : ℕ → Exprs → Items
+integersItems k xs = typed k (powerOf integer)
+
+abbrev pub tupleItems : ℕ → Exprs → Items
+tupleItems k xs = typed k (productOf (typesOf xs))
+
+abbrev pub productItems : ℕ → Exprs → Items
+productItems k xs = arePowers k xs 1 ⨾ typed k (powerOf (productOf (row k 1 (exprsLength xs))))
+
+abbrev pub setItems : ℕ → Exprs → Items
+setItems k xs = fresh (slot k 1) ⨾ areMembers k xs ⨾ typed k (powerOf (unknownAt k 1))
+
+abbrev pub comprehensionItems : ℕ → Term → Items
+comprehensionItems k a = typed k (powerOf a)
+
+abbrev pub powerRuleItems : ℕ → Term → Items
+powerRuleItems k a = powerItems (slot k 1) 33 k a ⨾ typed k (powerOf (powerOf (unknownAt k 1)))
+
+-- THE RULE OF A NODE with the operands l: the room of `used` cells is used.
+pub record Listed (s s′ d : List ℕ) (n top : ℕ) (l : List ℕ) (number cell n′ top′ used : ℕ) (own : ℕ → Exprs → Items) : Type 0 where
+  pub low : lower s′ ≡ lower s
+  pub wide : n ≤ n′
+  pub uses : number ≡ 0 → Uses s s′ n top n′ top′ used
+  pub ruled : (G : Ghost) → Stands s d n top G → (k : ℕ) → Unvisited k G → (xs : Exprs) → OperandCells s d n G l xs → Ruled s s′ d n top k number cell n′ top′ G (own k xs)
+
+-- The same with the one operand x.
+pub record Derived (s s′ d : List ℕ) (n top x number cell n′ top′ used : ℕ) (own : ℕ → Term → Items) : Type 0 where
+  pub low : lower s′ ≡ lower s
+  pub wide : n ≤ n′
+  pub uses : number ≡ 0 → Uses s s′ n top n′ top′ used
+  pub ruled : (G : Ghost) → Stands s d n top G → (k : ℕ) → Unvisited k G → (a : Term) → Cell s d n G x a → Ruled s s′ d n top k number cell n′ top′ G (own k a)

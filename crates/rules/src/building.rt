@@ -1,0 +1,91 @@
+// Rules whose types are built of their operands' types. The store has n cells, whose runs end at `top`.
+
+use crate::ruling::Ruling;
+ghost use mathlib.Core.List.{List, [], _∷_};
+ghost use Prim.Native.Nat.{ℕ, _≤_};
+ghost use lib.ListN.{length, take};
+ghost use Rattle.pieces.specs.Building.{Building, Working};
+ghost use Rattle.rules.specs.Formers.{Listed, Derived, numberItems, integersItems, tupleItems, comprehensionItems, powerRuleItems};
+
+// No equation holds: finding 33.
+const MISMATCH: u32 = 33;
+
+// Number: ℤ.
+pub fn number_rule(a: &mut [u32], n: usize, top: usize) -> Ruling
+    requires { ⌜ Building (now a) n top 1 [] ⌝ }
+    ensures { λ r. ⌜ ((d : List ℕ) → Listed (now (a .entry)) (now (a .exit)) d n top [] (r .number) (r .cell) (r .cells) (r .top) 1 numberItems) ⌝ }
+{
+    pieces::cells::integer(a, n);
+    Ruling {
+        number: 0,
+        cell: n,
+        cells: n + 1,
+        top: top,
+    }
+}
+
+// The set ℤ: a power of ℤ.
+pub fn integers_rule(a: &mut [u32], n: usize, top: usize) -> Ruling
+    requires { ⌜ Building (now a) n top 2 [] ⌝ }
+    ensures { λ r. ⌜ ((d : List ℕ) → Listed (now (a .entry)) (now (a .exit)) d n top [] (r .number) (r .cell) (r .cells) (r .top) 2 integersItems) ⌝ }
+{
+    pieces::cells::integer(a, n);
+    pieces::cells::power(a, n + 1, top, n);
+    Ruling {
+        number: 0,
+        cell: n + 1,
+        cells: n + 2,
+        top: top + 1,
+    }
+}
+
+// Tuple: the product of the cells in the first m words of `parts`.
+pub fn tuple_rule(a: &mut [u32], n: usize, top: usize, parts: &[u32], m: usize) -> Ruling
+    requires { ⌜ (m ≤ 6) × (m ≤ length (now parts)) × Building (now a) n top 4 (take m (now parts)) ⌝ }
+    ensures { λ r. ⌜ ((d : List ℕ) → Listed (now (a .entry)) (now (a .exit)) d n top (take m (now (parts .entry))) (r .number) (r .cell) (r .cells) (r .top) 4 tupleItems) ⌝ }
+{
+    pieces::cells::product(a, n, top, parts, m);
+    Ruling {
+        number: 0,
+        cell: n,
+        cells: n + 1,
+        top: top + m,
+    }
+}
+
+// Comprehension: the power of its body's type, that of cell c.
+pub fn comprehension_rule(a: &mut [u32], n: usize, top: usize, c: usize) -> Ruling
+    requires { ⌜ Building (now a) n top 1 (c ∷ []) ⌝ }
+    ensures { λ r. ⌜ ((d : List ℕ) → Derived (now (a .entry)) (now (a .exit)) d n top c (r .number) (r .cell) (r .cells) (r .top) 1 comprehensionItems) ⌝ }
+{
+    pieces::cells::power(a, n, top, c);
+    Ruling {
+        number: 0,
+        cell: n,
+        cells: n + 1,
+        top: top + 1,
+    }
+}
+
+// Power: the operand's type is a power, and the power of that the type.
+pub fn power_rule(a: &mut [u32], d: &[u32], n: usize, top: usize, c: usize) -> Ruling
+    requires { ⌜ Working (now a) (now d) n top 4 (c ∷ []) ⌝ }
+    ensures { λ r. ⌜ Derived (now (a .entry)) (now (a .exit)) (now (d .entry)) n top c (r .number) (r .cell) (r .cells) (r .top) 4 powerRuleItems ⌝ }
+{
+    if pieces::powers::is_power(a, d, n, top, c) {
+        pieces::cells::power(a, n + 2, top + 1, n);
+        pieces::cells::power(a, n + 3, top + 2, n + 2);
+        return Ruling {
+            number: 0,
+            cell: n + 3,
+            cells: n + 4,
+            top: top + 3,
+        };
+    }
+    Ruling {
+        number: MISMATCH,
+        cell: c,
+        cells: n,
+        top: top,
+    }
+}
