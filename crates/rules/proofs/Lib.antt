@@ -1,3 +1,5 @@
 pub mod Concluding
 pub mod FormerLaws
 pub mod PowerRule
+pub mod SetRule
+pub mod ProductRule
