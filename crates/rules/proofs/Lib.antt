@@ -3,3 +3,4 @@ pub mod FormerLaws
 pub mod PowerRule
 pub mod SetRule
 pub mod ProductRule
+pub mod RuleItems

@@ -4,7 +4,7 @@ use mathlib.Core.Bool.{Bool, true, false}
 use mathlib.Core.List.{List, [], _∷_, _++_}
 use Prim.Native.Nat.{ℕ, zero, suc, _+_, _*_, _≤_, _<_}
 use native.Mathlib.Omega.{arith}
-use lib.ListN.{length, getD, take, set, length-set}
+use lib.ListN.{length, take, set, length-set}
 use lib.Seq.{take-suc, length-take-le, take-set-le, getD-set-same}
 use Rattle.syntax.specs.Tree.{Exprs, none, more, exprsLength}
 use Rattle.types.specs.Equations.{In}
@@ -13,7 +13,7 @@ use Rattle.types.specs.Types.{nil, cons}
 use Rattle.typing.proofs.Slots.{slots-apart}
 use Rattle.typing.specs.Conditions.{typed, typesOf, arePowers}
 use Rattle.typing.specs.Items.{Items, _⨾_}
-use Rattle.typing.specs.Unknowns.{slot, unknownAt, row, powerOf, productOf}
+use Rattle.typing.specs.Unknowns.{slot, row, powerOf, productOf}
 use Rattle.solver.specs.Store.{run}
 use Rattle.pieces.specs.Stage.{Ghost, Stands, Room, Cell, Unvisited, Advanced, SlotOf, Uses}
 use Rattle.pieces.specs.Building.{Building, Built, Cells, Introduced, Working}

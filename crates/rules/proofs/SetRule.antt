@@ -6,19 +6,18 @@ use Prim.Native.Nat.{ℕ, suc, _+_, _*_, _≤_, _<_}
 use native.Mathlib.Omega.{arith}
 use lib.ListN.{length, take}
 use Rattle.syntax.specs.Tree.{Exprs}
-use Rattle.types.specs.Equations.{In, InP}
+use Rattle.types.specs.Equations.{In}
 use Rattle.types.specs.Former.{power}
 use Rattle.types.specs.Types.{nil, cons}
 use Rattle.typing.proofs.Slots.{slots-apart}
 use Rattle.typing.specs.Conditions.{typed, typesOf, areMembers}
 use Rattle.typing.specs.Items.{fresh, _⨾_}
 use Rattle.typing.specs.Unknowns.{slot, unknownAt, powerOf}
-use Rattle.solver.specs.Store.{frozen, load, run}
+use Rattle.solver.specs.Store.{load, run}
 use Rattle.solver.specs.Calls.{Making, Made}
 use Rattle.solver.proofs.Extending.{made-grows}
-use Rattle.pieces.specs.Piece.{Stops}
 use Rattle.pieces.specs.Stage.{Ghost, Stands, Room, Cell, Unvisited, Advanced, SlotOf, Uses}
-use Rattle.pieces.specs.Building.{Building, Built, Cells, Introduced}
+use Rattle.pieces.specs.Building.{Building, Built, Introduced}
 use Rattle.pieces.specs.Rows.{Meeting, Members}
 use Rattle.pieces.proofs.PowerLaws.{unmentioned-node}
 use Rattle.pieces.proofs.Stages.{next, next-stands, next-cell, next-cells, next-unvisited, wider-mine, placed-cell, built-cell, one-cell, building, plain-making, introduced-unknown, introduce-then, unknown-uses, rule-goes, rule-stops, stop-then}

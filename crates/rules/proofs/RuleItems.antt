@@ -1,0 +1,39 @@
+-- The items of the rules are those of typing/specs/Rules, after the items of the operands.
+use mathlib.Core.Path.{_≡_, refl}
+use Prim.Native.Nat.{ℕ}
+use Rattle.syntax.specs.Tree.{Expr, Exprs, Text, none, number, integers, tuple, product, set, power, comprehension}
+use Rattle.typing.specs.Conditions.{typeOf}
+use Rattle.typing.specs.Dictionary.{blank}
+use Rattle.typing.specs.Items.{_⨾_}
+use Rattle.typing.specs.Rules.{exprItems, exprsItems, textItems}
+use Rattle.typing.specs.Scopes.{Scope, inside}
+use Rattle.rules.specs.Formers.{numberItems, integersItems, tupleItems, productItems, setItems, comprehensionItems, powerRuleItems}
+
+module _ (k : ℕ) (Γ : Scope) where
+  pub number-items : (v : ℕ) → exprItems (number k v) Γ ≡ numberItems k none
+  unfolding exprItems
+  number-items v = refl
+
+  pub integers-items : exprItems (integers k) Γ ≡ integersItems k none
+  unfolding exprItems
+  integers-items = refl
+
+  pub tuple-items : (xs : Exprs) → exprItems (tuple k xs) Γ ≡ exprsItems xs Γ ⨾ tupleItems k xs
+  unfolding exprItems
+  tuple-items xs = refl
+
+  pub product-items : (xs : Exprs) → exprItems (product k xs) Γ ≡ exprsItems xs Γ ⨾ productItems k xs
+  unfolding exprItems
+  product-items xs = refl
+
+  pub set-items : (xs : Exprs) → exprItems (set k xs) Γ ≡ exprsItems xs Γ ⨾ setItems k xs
+  unfolding exprItems
+  set-items xs = refl
+
+  pub power-items : (a : Expr) → exprItems (power k a) Γ ≡ exprItems a Γ ⨾ powerRuleItems k (typeOf a)
+  unfolding exprItems
+  power-items a = refl
+
+  pub comprehension-items : (t : Text) (a : Expr) → exprItems (comprehension k t a) Γ ≡ textItems t Γ blank ⨾ exprItems a (inside t Γ) ⨾ comprehensionItems k (typeOf a)
+  unfolding exprItems
+  comprehension-items t a = refl
