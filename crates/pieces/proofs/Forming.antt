@@ -2,7 +2,7 @@
 use mathlib.Core.Path.{_≡_, refl, sym, ap, ap₂, subst, _∙_}
 use mathlib.Core.List.{List, [], _∷_, _++_, map}
 use mathlib.Core.Logic.{inl, inr}
-use Prim.Native.Nat.{ℕ, zero, suc, _+_, _*_, _≤_, _<_}
+use Prim.Native.Nat.{ℕ, suc, _+_, _*_, _≤_, _<_}
 use native.Mathlib.Omega.{arith}
 use lib.ListN.{length, getD, take, drop, length-drop}
 use lib.Seq.{take-suc, length-take-le, getD-drop}
@@ -10,15 +10,14 @@ use Rattle.types.specs.Equations.{In, Pairs}
 use Rattle.types.specs.Finite.{fromList}
 use Rattle.types.specs.Former.{Former, formerOf, int, power, product}
 use Rattle.types.specs.Types.{Ty, node}
-use Rattle.solver.specs.Store.{frozen, load, run, Solved}
+use Rattle.solver.specs.Store.{frozen, run, Solved}
 use Rattle.solver.specs.Calls.{Above, Adding, Added, Making, Made}
-use Rattle.solver.specs.Growth.{Builds}
 use Rattle.solver.specs.Settled.{Fits}
 use Rattle.solver.proofs.Words.{frozen-length}
 use Rattle.solver.proofs.Growing.{made-above, made-load, run-frame}
-use Rattle.solver.proofs.Extending.{above-wide, added-above, added-builds, added-here, added-load, added-other, builds-on, builds-refl, former-builds, former-type}
+use Rattle.solver.proofs.Extending.{above-wide, added-builds, added-here, added-load, added-other, builds-on, builds-refl, former-builds, former-type}
 use Rattle.pieces.specs.Building.{Building, Laid, Built, Integer}
-use Rattle.pieces.specs.Stage.{Room, Uses}
+use Rattle.pieces.specs.Stage.{Uses}
 
 -- WORDS IN THE RUNS, one after another.
 pub laid-none : (s : List ℕ) (n top : ℕ) → Above (frozen s) n top → Laid s s n top []

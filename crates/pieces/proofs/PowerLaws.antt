@@ -1,22 +1,21 @@
 -- What `is_power` promises: a new unknown, its power, and the equation.
-use mathlib.Core.Path.{_≡_, refl, sym, subst, _∙_}
+use mathlib.Core.Path.{_≡_, refl, subst, _∙_}
 use mathlib.Core.Bool.{Bool, true, false}
 use mathlib.Core.List.{List, [], _∷_}
 use mathlib.Core.Logic.{inl, inr}
-use Prim.Native.Nat.{ℕ, zero, suc, _+_, _≤_, _<_}
+use Prim.Native.Nat.{ℕ, suc, _+_, _*_, _<_}
 use native.Mathlib.Omega.{arith}
 use Rattle.types.specs.Equations.{In}
 use Rattle.types.specs.Former.{power}
 use Rattle.types.specs.Types.{Term, unknown, nil, cons}
-use Rattle.typing.specs.Items.{fresh, equate, _⨾_}
-use Rattle.typing.specs.Unknowns.{powerOf}
+use Rattle.typing.specs.Items.{fresh, equate}
+use Rattle.typing.specs.Unknowns.{slot, powerOf}
 use Rattle.solver.specs.Calls.{Making, Made}
-use Rattle.solver.specs.Settled.{lower}
 use Rattle.solver.proofs.Extending.{made-grows}
 use Rattle.pieces.specs.Piece.{Stops}
 use Rattle.pieces.specs.Stage.{Ghost, Stands, Room, Cell, Comparing, Equated, Uses}
 use Rattle.pieces.specs.Building.{Building, Built, Introduced, Working, Powered, powerItems}
-use Rattle.pieces.proofs.Stages.{next, next-stands, next-cell, placed-cell, built-stands, built-old, built-cell, one-cell, building, plain-making, cells-older, introduced-unknown, introduced-equal, introduced-before, introduce-then, stop-then, unknown-uses, uses-on, equal-room, room-less}
+use Rattle.pieces.proofs.Stages.{next, next-stands, next-cell, placed-cell, built-stands, built-old, built-cell, one-cell, building, plain-making, cells-older, introduced-unknown, introduced-equal, introduced-before, introduce-then, stop-then, unknown-uses, uses-on, equal-room}
 
 -- An unknown that a list does not mention.
 most : List ℕ → ℕ
@@ -31,6 +30,11 @@ below x (y ∷ l) (inr i) = let z = below x l i in omega arith
 
 pub unmentioned : (l : List ℕ) → (x : ℕ) × (In x l → ⊥)
 unmentioned l = (most l, λ i. let z = below (most l) l i in omega arith)
+
+-- A node of which it mentions no unknown.
+pub unmentioned-node : (l : List ℕ) → (k : ℕ) × ((j : ℕ) → In (slot k j) l → ⊥)
+unfolding slot
+unmentioned-node l = (most l, λ j i. let z = below (most l * 8 + j) l i in omega arith)
 
 module _ (s d : List ℕ) (n top c : ℕ) where
   pub unknown-making : Working s d n top 2 (c ∷ []) → Making s n 0 0 4096 0

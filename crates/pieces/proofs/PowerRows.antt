@@ -1,18 +1,16 @@
 -- Operands that are powers, one after another: what `are_powers` promises, from the first operand and the others.
-use mathlib.Core.Path.{_≡_, refl, sym, ap, subst, _∙_}
+use mathlib.Core.Path.{_≡_, refl, sym, subst, _∙_}
 use mathlib.Core.Bool.{Bool, true, false}
 use mathlib.Core.List.{List, [], _∷_}
-use mathlib.Core.Logic.{inl, inr}
-use Prim.Native.Nat.{ℕ, zero, suc, _+_, _*_, _-_, _≤_, _<_}
+use Prim.Native.Nat.{ℕ, suc, _+_, _*_, _-_, _≤_, _<_}
 use native.Mathlib.Omega.{arith}
 use lib.ListN.{length, getD}
 use Rattle.syntax.specs.Tree.{Expr, Exprs, none, more}
 use Rattle.types.proofs.Terms.{bool-no}
-use Rattle.types.specs.Equations.{In, InP}
-use Rattle.types.specs.Types.{Term, Terms, nil, cons}
+use Rattle.types.specs.Equations.{In}
+use Rattle.types.specs.Types.{Terms, nil, cons}
 use Rattle.typing.proofs.Slots.{slots-apart}
 use Rattle.typing.specs.Conditions.{typeOf, typesOf, isPower, arePowers}
-use Rattle.typing.specs.Items.{Items, _⨾_}
 use Rattle.typing.specs.Unknowns.{slot, unknownAt, row}
 use Rattle.solver.specs.Store.{run}
 use Rattle.pieces.specs.Piece.{Stops}

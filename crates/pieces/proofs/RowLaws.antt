@@ -1,27 +1,24 @@
 -- Operands one after another: what `are_members` and `are_powers` promise, from the first operand and the others.
-use mathlib.Core.Path.{_≡_, refl, sym, ap, ap₂, subst, _∙_}
+use mathlib.Core.Path.{_≡_, refl, sym, ap₂, subst, _∙_}
 use mathlib.Core.Bool.{Bool, true, false}
 use mathlib.Core.List.{List, [], _∷_}
-use mathlib.Core.Logic.{inl, inr}
-use Prim.Native.Nat.{ℕ, zero, suc, _+_, _*_, _-_, _≤_, _<_}
+use mathlib.Core.Logic.{inl}
+use Prim.Native.Nat.{ℕ, zero, suc, _+_, _-_, _≤_}
 use native.Mathlib.Omega.{arith}
 use lib.ListN.{length, getD}
 use Rattle.syntax.specs.Tree.{Exprs, none, more}
 use Rattle.types.proofs.Terms.{bool-no}
-use Rattle.types.specs.Equations.{In}
 use Rattle.types.specs.Types.{Term, Terms, nil, cons}
-use Rattle.typing.proofs.Slots.{slots-apart}
-use Rattle.typing.specs.Conditions.{typeOf, typesOf, isPower, arePowers, areMembers}
-use Rattle.typing.specs.Items.{Items, _⨾_, skip, equate}
-use Rattle.typing.specs.Unknowns.{slot, unknownAt, row}
+use Rattle.typing.specs.Conditions.{typeOf, typesOf, areMembers}
+use Rattle.typing.specs.Items.{Items, equate}
+use Rattle.typing.specs.Unknowns.{unknownAt}
 use Rattle.solver.specs.Store.{run}
 use Rattle.solver.proofs.Words.{run-cons}
 use Rattle.pieces.specs.Piece.{Stops}
-use Rattle.pieces.specs.Stage.{Ghost, Stands, Room, Cell, Advanced, Comparing, Equated, Uses}
-use Rattle.pieces.specs.Building.{Cells, Introduced, Working, Powered, powerItems}
-use Rattle.pieces.specs.Rows.{Meeting, Members, everySecond, SlotsFrom, PowersOf, Powers}
-use Rattle.pieces.proofs.PowerLaws.{unmentioned}
-use Rattle.pieces.proofs.Stages.{next, next-stands, next-cell, next-cells, next-unvisited, wider-mine, placed-cell, one-cell, no-cells, building, cells-older, room-less, advance-then, then-cell, then-cells, skip-advanced, equal-advanced, stop-then}
+use Rattle.pieces.specs.Stage.{Ghost, Stands, Cell, Advanced, Comparing, Equated}
+use Rattle.pieces.specs.Building.{Cells}
+use Rattle.pieces.specs.Rows.{Meeting, Members}
+use Rattle.pieces.proofs.Stages.{next, next-stands, next-cell, next-cells, cells-older, advance-then, skip-advanced, equal-advanced, stop-then}
 use Rattle.pieces.proofs.Walks.{stops-left}
 
 -- The first of q words from j on, and the others.

@@ -2,27 +2,27 @@
 use mathlib.Core.Path.{_≡_, refl, sym, ap, ap₂, subst, _∙_}
 use mathlib.Core.Bool.{Bool, true}
 use mathlib.Core.List.{List, [], _∷_, map}
-use mathlib.Core.Logic.{_⊎_, inl, inr, ⊎-elim}
-use Prim.Native.Nat.{ℕ, zero, suc, _+_, _*_, _≤_, _<_, _^_}
+use mathlib.Core.Logic.{inl, inr, ⊎-elim}
+use Prim.Native.Nat.{ℕ, suc, _+_, _*_, _≤_, _<_, _^_}
 use native.Mathlib.Omega.{arith}
 use lib.ListN.{length}
 use Rattle.types.proofs.Terms.{each-map}
-use Rattle.types.specs.Equations.{AllP, In, InP, Pairs, pair}
+use Rattle.types.specs.Equations.{In, InP, pair}
 use Rattle.types.specs.Finite.{fromList}
-use Rattle.types.specs.Former.{Former, int, power, product}
-use Rattle.types.specs.Types.{Ty, Tys, node, tcons, Term, Terms, unknown, con, nil, cons, under, unders, Each, Eachs}
-use Rattle.typing.specs.Unknowns.{Table, slot, integer, powerOf, pairOf, productOf}
+use Rattle.types.specs.Former.{Former}
+use Rattle.types.specs.Types.{Ty, node, tcons, Term, Terms, unknown, con, nil, cons, under, unders, Each, Eachs}
+use Rattle.typing.specs.Unknowns.{Table, slot}
 use Rattle.typing.specs.Items.{Items, _⨾_, skip, fresh, equate, Meets, Agree, Passes}
 use Rattle.typing.specs.Conditions.{typed}
 use Rattle.solver.specs.Store.{frozen, load, run}
 use Rattle.solver.specs.Calls.{Above, Making, Made}
 use Rattle.solver.specs.Growth.{Builds}
 use Rattle.solver.proofs.Growing.{made-above, made-load}
-use Rattle.pieces.specs.Piece.{Solution, Matches, Piece, Denotes, Later, Goes, Stops}
-use Rattle.pieces.specs.Stage.{Ghost, Stands, Room, Cell, Unvisited, Advanced, SlotOf, Uses, Ruled, Equated}
+use Rattle.pieces.specs.Piece.{Solution, Matches, Piece, Later, Stops}
+use Rattle.pieces.specs.Stage.{Ghost, Stands, Room, Cell, Advanced, SlotOf, Uses, Ruled, Equated}
 use Rattle.pieces.specs.Building.{Building, Built, Cells, Introduced}
-use Rattle.pieces.proofs.Walks.{items-earlier, goes-then, stops-left, stops-right, alike-group, meets-alike, piece-group, later-on, denotes-later}
-use Rattle.pieces.proofs.Growing.{built, built-later, solution-before, unknown-later, unknown as new-unknown}
+use Rattle.pieces.proofs.Walks.{items-earlier, goes-then, stops-right, alike-group, meets-alike, piece-group, later-on, denotes-later}
+use Rattle.pieces.proofs.Growing.{built, built-later, unknown-later, unknown as new-unknown}
 use Rattle.pieces.proofs.Naming.{noted, typed-later, typed-goes, typed as new-typed}
 use Rattle.pieces.proofs.ClosingLaws.{all-in}
 

@@ -7,4 +7,6 @@ pub mod Selecting
 pub mod Concluding
 pub mod FormerLaws
 pub mod PowerRule
+pub mod SetRule
+pub mod ProductRule
 pub mod RuleItems

@@ -1,34 +1,65 @@
--- The items of the rules stand last in those of their nodes.
+-- The items of the rules are those of typing/specs/Rules, after the items of the operands.
 use mathlib.Core.Path.{_≡_, refl}
 use Prim.Native.Nat.{ℕ}
-use Rattle.syntax.specs.Tree.{Expr, application, selection, arithmetic, equal, member, atMost, Operator}
+use Rattle.syntax.specs.Tree.{Expr, Exprs, Text, none, number, integers, tuple, product, set, power, comprehension, application, selection, arithmetic, equal, member, atMost, Operator}
 use Rattle.typing.specs.Conditions.{typeOf}
+use Rattle.typing.specs.Dictionary.{blank}
 use Rattle.typing.specs.Items.{Items, _⨾_, piece}
-use Rattle.typing.specs.Rules.{exprItems, predItems}
-use Rattle.typing.specs.Scopes.{Scope}
+use Rattle.typing.specs.Rules.{exprItems, exprsItems, predItems, textItems}
+use Rattle.typing.specs.Scopes.{Scope, inside}
 use Rattle.rules.specs.Equations.{equalityItems, membershipItems, comparisonItems, applyItems, arithmeticItems, selectItems}
+use Rattle.rules.specs.Formers.{numberItems, integersItems, tupleItems, productItems, setItems, comprehensionItems, powerRuleItems}
+
+module _ (k : ℕ) (Γ : Scope) where
+  pub number-items : (v : ℕ) → exprItems (number k v) Γ ≡ numberItems k none
+  unfolding exprItems
+  number-items v = refl
+
+  pub integers-items : exprItems (integers k) Γ ≡ integersItems k none
+  unfolding exprItems
+  integers-items = refl
+
+  pub tuple-items : (xs : Exprs) → exprItems (tuple k xs) Γ ≡ exprsItems xs Γ ⨾ tupleItems k xs
+  unfolding exprItems
+  tuple-items xs = refl
+
+  pub product-items : (xs : Exprs) → exprItems (product k xs) Γ ≡ exprsItems xs Γ ⨾ productItems k xs
+  unfolding exprItems
+  product-items xs = refl
+
+  pub set-items : (xs : Exprs) → exprItems (set k xs) Γ ≡ exprsItems xs Γ ⨾ setItems k xs
+  unfolding exprItems
+  set-items xs = refl
+
+  pub power-items : (a : Expr) → exprItems (power k a) Γ ≡ exprItems a Γ ⨾ powerRuleItems k (typeOf a)
+  unfolding exprItems
+  power-items a = refl
+
+  pub comprehension-items : (t : Text) (a : Expr) → exprItems (comprehension k t a) Γ ≡ textItems t Γ blank ⨾ exprItems a (inside t Γ) ⨾ comprehensionItems k (typeOf a)
+  unfolding exprItems
+  comprehension-items t a = refl
 
 module _ (k : ℕ) (a b : Expr) (Γ : Scope) where
-  pub equality-is : predItems (equal k a b) Γ ≡ piece k (exprItems a Γ ⨾ exprItems b Γ ⨾ equalityItems k (typeOf a) (typeOf b))
+  pub equality-items : predItems (equal k a b) Γ ≡ piece k (exprItems a Γ ⨾ exprItems b Γ ⨾ equalityItems k (typeOf a) (typeOf b))
   unfolding exprItems
-  equality-is = refl
+  equality-items = refl
 
-  pub membership-is : predItems (member k a b) Γ ≡ piece k (exprItems a Γ ⨾ exprItems b Γ ⨾ membershipItems k (typeOf a) (typeOf b))
+  pub membership-items : predItems (member k a b) Γ ≡ piece k (exprItems a Γ ⨾ exprItems b Γ ⨾ membershipItems k (typeOf a) (typeOf b))
   unfolding exprItems
-  membership-is = refl
+  membership-items = refl
 
-  pub comparison-is : predItems (atMost k a b) Γ ≡ piece k (exprItems a Γ ⨾ exprItems b Γ ⨾ comparisonItems k (typeOf a) (typeOf b))
+  pub comparison-items : predItems (atMost k a b) Γ ≡ piece k (exprItems a Γ ⨾ exprItems b Γ ⨾ comparisonItems k (typeOf a) (typeOf b))
   unfolding exprItems
-  comparison-is = refl
+  comparison-items = refl
 
-  pub apply-is : exprItems (application k a b) Γ ≡ exprItems a Γ ⨾ exprItems b Γ ⨾ applyItems k (typeOf a) (typeOf b)
+  pub apply-items : exprItems (application k a b) Γ ≡ exprItems a Γ ⨾ exprItems b Γ ⨾ applyItems k (typeOf a) (typeOf b)
   unfolding exprItems
-  apply-is = refl
+  apply-items = refl
 
-  pub arithmetic-is : (o : Operator) → exprItems (arithmetic k o a b) Γ ≡ exprItems a Γ ⨾ exprItems b Γ ⨾ arithmeticItems k (typeOf a) (typeOf b)
+  pub arithmetic-items : (o : Operator) → exprItems (arithmetic k o a b) Γ ≡ exprItems a Γ ⨾ exprItems b Γ ⨾ arithmeticItems k (typeOf a) (typeOf b)
   unfolding exprItems
-  arithmetic-is o = refl
+  arithmetic-items o = refl
 
-pub select-is : (k id : ℕ) (a : Expr) (Γ : Scope) → exprItems (selection k a id) Γ ≡ exprItems a Γ ⨾ selectItems id k (typeOf a)
+pub select-items : (k id : ℕ) (a : Expr) (Γ : Scope) → exprItems (selection k a id) Γ ≡ exprItems a Γ ⨾ selectItems id k (typeOf a)
 unfolding exprItems
-select-is k id a Γ = refl
+select-items k id a Γ = refl

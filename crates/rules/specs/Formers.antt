@@ -9,7 +9,7 @@ use Rattle.typing.specs.Conditions.{typed, typesOf, arePowers, areMembers}
 use Rattle.typing.specs.Items.{Items, _⨾_, fresh}
 use Rattle.typing.specs.Unknowns.{slot, unknownAt, row, integer, powerOf, productOf}
 use Rattle.solver.specs.Settled.{lower}
-use Rattle.pieces.specs.Stage.{Ghost, Stands, Cell, Unvisited, Ruled, Uses}
+use Rattle.pieces.specs.Stage.{Ghost, Stands, Room, Cell, Unvisited, Ruled, Uses}
 use Rattle.pieces.specs.Building.{Cells, powerItems}
 
 -- The cells l have the types of the expressions xs, one by one.
@@ -37,6 +37,14 @@ comprehensionItems k a = typed k (powerOf a)
 
 abbrev pub powerRuleItems : ℕ → Term → Items
 powerRuleItems k a = powerItems (slot k 1) 33 k a ⨾ typed k (powerOf (powerOf (unknownAt k 1)))
+
+-- WHAT IS ASKED where the operands' types are equated: a piece that stands, and room for x cells.
+pub record Operating (s d : List ℕ) (n top x : ℕ) (l : List ℕ) : Type 0 where
+  pub ghost : Ghost
+  pub stands : Stands s d n top ghost
+  pub exprs : Exprs
+  pub cells : OperandCells s d n ghost l exprs
+  pub room : Room s n top x
 
 -- THE RULE OF A NODE with the operands l: the room of `used` cells is used.
 pub record Listed (s s′ d : List ℕ) (n top : ℕ) (l : List ℕ) (number cell n′ top′ used : ℕ) (own : ℕ → Exprs → Items) : Type 0 where

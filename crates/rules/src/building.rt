@@ -2,10 +2,12 @@
 
 use crate::ruling::Ruling;
 ghost use mathlib.Core.List.{List, [], _∷_};
-ghost use Prim.Native.Nat.{ℕ, _≤_};
+ghost use mathlib.Core.Path.{_≡_};
+ghost use Prim.Native.Nat.{ℕ, _+_, _*_, _≤_, _<_, _^_};
 ghost use lib.ListN.{length, take};
 ghost use Rattle.pieces.specs.Building.{Building, Working};
-ghost use Rattle.rules.specs.Formers.{Listed, Derived, numberItems, integersItems, tupleItems, comprehensionItems, powerRuleItems};
+ghost use Rattle.pieces.specs.Rows.{everySecond};
+ghost use Rattle.rules.specs.Formers.{Operating, Listed, Derived, numberItems, integersItems, tupleItems, productItems, setItems, comprehensionItems, powerRuleItems};
 
 // No equation holds: finding 33.
 const MISMATCH: u32 = 33;
@@ -85,6 +87,75 @@ pub fn power_rule(a: &mut [u32], d: &[u32], n: usize, top: usize, c: usize) -> R
     Ruling {
         number: MISMATCH,
         cell: c,
+        cells: n,
+        top: top,
+    }
+}
+
+// Set: its members, the cells in the first m words of `parts`, have one type, and the power of that is the type.
+pub fn set_rule(a: &mut [u32], d: &[u32], n: usize, top: usize, parts: &[u32], m: usize) -> Ruling
+    requires { ⌜ (m ≤ length (now parts)) × Operating (now a) (now d) n top 2 (take m (now parts)) ⌝ }
+    ensures { λ r. ⌜ Listed (now (a .entry)) (now (a .exit)) (now (d .entry)) n top (take m (now (parts .entry))) (r .number) (r .cell) (r .cells) (r .top) 2 setItems ⌝ }
+{
+    solver::new_unknown(a, n);
+    if pieces::members::are_members(a, d, n + 1, parts, 0, m, n) {
+        pieces::cells::power(a, n + 1, top, n);
+        return Ruling {
+            number: 0,
+            cell: n + 1,
+            cells: n + 2,
+            top: top + 1,
+        };
+    }
+    Ruling {
+        number: MISMATCH,
+        cell: n,
+        cells: n,
+        top: top,
+    }
+}
+
+// Every second number from `first` on, m of them.
+fn every_second(row: &mut [u32], first: usize, m: usize)
+    requires { ⌜ (m ≤ length (now row)) × (first + 2 * m < 2 ^ 32) ⌝ }
+    ensures { λ _. ⌜ take m (now (row .exit)) ≡ everySecond first m ⌝ }
+{
+    let mut j = 0;
+    while j < m {
+        row[j] = (first + 2 * j) as u32;
+        j += 1;
+    }
+}
+
+// Product: its operands, the cells in the first m words of `parts`, are powers, and the power of the product of what they are powers of is the type.
+pub fn product_rule(
+    a: &mut [u32],
+    d: &[u32],
+    n: usize,
+    top: usize,
+    parts: &[u32],
+    m: usize,
+) -> Ruling
+    requires { ⌜ (m ≤ 6) × (m ≤ length (now parts)) × Operating (now a) (now d) n top 17 (take m (now parts)) ⌝ }
+    ensures { λ r. ⌜ Listed (now (a .entry)) (now (a .exit)) (now (d .entry)) n top (take m (now (parts .entry))) (r .number) (r .cell) (r .cells) (r .top) 17 productItems ⌝ }
+{
+    if pieces::powers::are_powers(a, d, n, top, parts, 0, m) {
+        let mut row = [0u32; 6];
+        every_second(&mut row, n, m);
+        let c = n + 2 * m;
+        let end = top + m + m;
+        pieces::cells::product(a, c, top + m, &row, m);
+        pieces::cells::power(a, c + 1, end, c);
+        return Ruling {
+            number: 0,
+            cell: c + 1,
+            cells: c + 2,
+            top: end + 1,
+        };
+    }
+    Ruling {
+        number: MISMATCH,
+        cell: n,
         cells: n,
         top: top,
     }

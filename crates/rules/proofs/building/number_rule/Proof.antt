@@ -1,4 +1,3 @@
-use Prim.Native.Nat.{_≤_}
 use native.Mathlib.Omega.{arith}
 use Rattle.rules.proofs.FormerLaws.{integer-making, number-ruled}
 use borrow.Author.Needs.{needs}
