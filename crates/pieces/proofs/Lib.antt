@@ -5,3 +5,6 @@ pub mod Equating
 pub mod Naming
 pub mod Closing
 pub mod Comparing
+pub mod Forming
+pub mod Stages
+pub mod PowerLaws

@@ -1,2 +1,3 @@
 pub mod Piece
 pub mod Stage
+pub mod Building

@@ -61,6 +61,7 @@ pub record Advanced (s s′ d : List ℕ) (n top n′ top′ : ℕ) (G : Ghost) 
   pub equations : Pairs ℕ
   pub mentioned : List ℕ
   pub cells : Pairs ℕ
+  pub wide : n ≤ n′
   pub goes : Goes (G .before) (G .items) own
   pub piece : Piece s′ d n′ equations (G .before) (G .items ⨾ own) (G .known) mentioned cells
   pub above : Above (frozen s′) n′ top′

@@ -1,6 +1,9 @@
 // Closed pieces on the solver's store: the solutions of the store are the typings that meet the items visited so far. specs/Piece.antt has the
 // invariant, specs/Stage.antt what functions ask and promise, proofs/ the laws: one for each thing that a typing rule does.
 
+pub mod cells;
+pub mod powers;
+
 ghost use Rattle.pieces.specs.Stage.{Comparing, Equated};
 
 // The equation between the cells x and y of the n: false where no typing meets it too.
