@@ -1,3 +1,6 @@
 -- Laws of the rules that look names up.
 pub mod Standing
 pub mod BindingLaws
+pub mod RowInstances
+pub mod RowLaws
+pub mod InstanceLaws

@@ -1,3 +1,4 @@
 pub mod Scoped
 pub mod Enlarged
 pub mod Bindings
+pub mod References
