@@ -28,10 +28,11 @@ use Rattle.signatures.specs.Carried.{Carries}
 use Rattle.signatures.proofs.CarryLaws.{carries-names}
 use Rattle.pieces.specs.Piece.{Solution}
 use Rattle.pieces.specs.Stage.{Ghost, Stands, Cell, Room}
+use Rattle.pieces.proofs.Stages.{room-less}
 use Rattle.names.specs.Scoped.{SettledAt}
 use Rattle.names.specs.Enlarged.{Enlarged}
 use Rattle.names.specs.Bindings.{placeAt, Places, PlacesSettled, RowPut, PuttingRows, RowsPut, Binding, Bound}
-use Rattle.names.proofs.Standing.{room-less, enlarged-refl, enlarged-on, entering, settled-enlarged, built-enlarged}
+use Rattle.names.proofs.Standing.{enlarged-refl, enlarged-on, entering, settled-enlarged, built-enlarged}
 
 -- PLACES, settled one by one.
 module _ (s₀ d w : List ℕ) (base m n : ℕ) (P : Places s₀ d w base m n) where

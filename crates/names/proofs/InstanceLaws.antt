@@ -12,9 +12,10 @@ use Rattle.solver.specs.Store.{frozen, load}
 use Rattle.solver.specs.Settled.{heap, Reads, Readable, Entering, Entered}
 use Rattle.solver.specs.Growth.{unknowns, Instancing, Instanced}
 use Rattle.pieces.specs.Stage.{Ghost, Stands, Cell, Room}
+use Rattle.pieces.proofs.Stages.{room-less}
 use Rattle.names.specs.Enlarged.{Enlarged}
 use Rattle.names.specs.References.{InstanceAsked, InstanceOf}
-use Rattle.names.proofs.Standing.{room-less, entering, settled-enlarged, built-enlarged}
+use Rattle.names.proofs.Standing.{entering, settled-enlarged, built-enlarged}
 use Rattle.names.proofs.RowInstances.{instance-rows, rows-same, instance-each, row-each}
 
 -- Where x cells are enough, so are more.

@@ -4,3 +4,5 @@ pub mod BindingLaws
 pub mod RowInstances
 pub mod RowLaws
 pub mod InstanceLaws
+pub mod ReferenceLaws
+pub mod LookingUp

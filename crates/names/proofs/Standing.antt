@@ -4,26 +4,19 @@ use mathlib.Core.List.{List, []}
 use Prim.Native.Nat.{ℕ, zero, suc, _+_, _*_, _≤_, _<_}
 use native.Mathlib.Omega.{arith}
 use lib.ListN.{length, take, drop}
-use Rattle.types.specs.Equations.{In}
 use Rattle.types.specs.Types.{Ty, Term}
-use Rattle.solver.specs.Store.{frozen, load, run}
-use Rattle.solver.specs.Calls.{Above, Making}
+use Rattle.solver.specs.Store.{frozen, load}
+use Rattle.solver.specs.Calls.{Above}
 use Rattle.solver.specs.Growth.{Builds}
 use Rattle.solver.specs.Settled.{lower, heap, Reads, Readable, Entering, Entered}
 use Rattle.solver.proofs.Settling.{heap-kept}
 use Rattle.pieces.specs.Piece.{Later}
 use Rattle.pieces.specs.Stage.{Ghost, Stands, Cell, Room, Uses}
 use Rattle.pieces.proofs.Walks.{later-refl, later-on, denotes-later}
+use Rattle.pieces.proofs.Stages.{room-less, plain-making}
 use Rattle.pieces.proofs.Growing.{settled, settled-later, built, built-later}
 use Rattle.names.specs.Scoped.{SettledAt}
 use Rattle.names.specs.Enlarged.{Enlarged}
-
-pub room-less : (s : List ℕ) (n top x y : ℕ) → x ≤ y → Room s n top y → Room s n top x
-room-less s n top x y l R = record {
-  cells = let z = R .cells in omega arith;
-  words = let z = R .words in omega arith;
-  fit = let z = R .fit in omega arith;
-}
 
 pub enlarged-refl : (s d : List ℕ) (n top : ℕ) → Enlarged s s d n top n top 0
 enlarged-refl s d n top = record {
@@ -57,29 +50,9 @@ cell-kept s t d n top m mid x E G S c a C = record {
 pub settled-kept : (s t d : List ℕ) (G : Ghost) → lower t ≡ lower s → (a : Term) (p : ℕ) → SettledAt s d G a p → SettledAt t d G a p
 settled-kept s t d G e a p A = record { over = A .over; type = A .type; reads = subst (λ (h : List ℕ). Reads h p (A .type)) (sym (heap-kept s t d e)) (A .reads); means = A .means }
 
--- What a new unknown asks, and a settled cell.
-pub making : (s d : List ℕ) (n top : ℕ) (G : Ghost) → Stands s d n top G → Room s n top 1 → Making s n 0 0 4096 0
-unfolding run
-making s d n top G S R = record {
-  P₀ = G .equations;
-  L = S .piece .L;
-  solved = S .piece .solved;
-  few = let z = R .cells in omega arith;
-  tags = omega arith;
-  plain = λ e. refl;
-  powers = λ e. refl;
-  products = λ e. refl;
-  one = λ e. absurd (omega arith);
-  low = omega arith;
-  room = omega arith;
-  named-low = λ e. absurd (omega arith);
-  named = λ e. absurd (omega arith);
-  older = λ k i. absurd i;
-  fit = let z = R .fit in omega arith;
-}
-
+-- What a settled cell asks.
 pub entering : (s d : List ℕ) (n top p : ℕ) (G : Ghost) → Stands s d n top G → Room s n top 1 → Readable (heap s d) p → Entering s d n p
-entering s d n top p G S R r = record { making = making s d n top G S R; pinned = S .piece .pinned; few = S .few; readable = r }
+entering s d n top p G S R r = record { making = plain-making s d n top 1 G S R (omega arith) 0 (omega arith); pinned = S .piece .pinned; few = S .few; readable = r }
 
 -- A SETTLED CELL more.
 module _ (s s′ d : List ℕ) (n p : ℕ) (A : Entering s d n p) (E : Entered s s′ d n p) where

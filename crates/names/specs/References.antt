@@ -1,20 +1,23 @@
 -- REFERENCES: what their parts ask and promise.
 use mathlib.Core.Path.{_≡_}
 use mathlib.Core.List.{List}
-use Prim.Native.Nat.{ℕ, suc, _+_, _≤_, _<_}
-use Rattle.syntax.specs.Tree.{Exprs}
+use Prim.Native.Nat.{ℕ, suc, _+_, _*_, _≤_, _<_}
+use lib.ListN.{length}
+use Rattle.syntax.specs.Tree.{none}
 use Rattle.types.specs.Equations.{InP, Pairs}
 use Rattle.types.specs.Instance.{instance}
-use Rattle.types.specs.Types.{Ty, size}
-use Rattle.typing.specs.Conditions.{freshRow, typesOf}
-use Rattle.typing.specs.Dictionary.{Dictionary}
+use Rattle.types.specs.Types.{Ty, Term, size}
+use Rattle.typing.specs.Conditions.{freshRow, typed}
+use Rattle.typing.specs.Dictionary.{Dictionary, nameIn}
+use Rattle.typing.specs.Items.{_⨾_}
 use Rattle.typing.specs.Rules.{referenceItems}
 use Rattle.typing.specs.Scopes.{Scope, nameAt}
 use Rattle.typing.specs.Unknowns.{slot, unknownAt, row}
 use Rattle.solver.specs.Store.{frozen, load, Solved}
 use Rattle.solver.specs.Settled.{lower, heap, Reads}
-use Rattle.pieces.specs.Stage.{Ghost, Stands, Cell, Room, Uses, Unvisited, Advanced, Ruled}
-use Rattle.names.specs.Scoped.{Scoped}
+use Rattle.pieces.specs.Stage.{Ghost, Stands, Cell, Room, Uses, Unvisited, SlotOf, Advanced, Ruled}
+use Rattle.pieces.specs.Building.{Introduced}
+use Rattle.names.specs.Scoped.{SettledAt, Recorded, Scoped}
 use Rattle.names.specs.Enlarged.{Enlarged}
 
 -- A new row of p unknowns may be made: cells n, n + 1, ..
@@ -55,3 +58,64 @@ pub record InstanceOf (s s′ d : List ℕ) (n top p first m cell n′ top′ : 
   pub enlarged : Enlarged s s′ d n top n′ top′ 32
   pub denoted : (G : Ghost) → Stands s d n top G → (g : Ty) → Reads (heap s d) p g → (k : ℕ) → ((i : ℕ) → i < m → Cell s d n G (first + i) (unknownAt k (suc i))) →
       Cell s′ d n′ G cell (instance (row k 1 m) g)
+
+-- THE TYPE OF A NODE is that of a new cell: the settled type of a term.
+pub record TypedAt (s s′ d : List ℕ) (n top p cell n′ top′ : ℕ) : Type 0 where
+  pub low : lower s′ ≡ lower s
+  pub uses : Uses s s′ n top n′ top′ 1
+  pub typed : (G : Ghost) → Stands s d n top G → (t : Term) → SettledAt s d G t p → (k : ℕ) → Unvisited k G →
+      Introduced s s′ d n top n′ top′ G (typed k t) (SlotOf k) (slot k 0) cell
+
+-- A recorded type with m parameters stands at p.
+pub record RecordedAt (s d : List ℕ) (n top p m : ℕ) : Type 0 where
+  pub ghost : Ghost
+  pub stands : Stands s d n top ghost
+  pub node : ℕ
+  pub unvisited : Unvisited node ghost
+  pub type : Ty
+  pub reads : Reads (heap s d) p type
+  pub small : size type ≤ 32
+  pub few : m ≤ 4
+  pub room : Room s n top 40
+
+-- The type of a node is that recorded type, with an unknown for each parameter.
+pub record Generic (s s′ d : List ℕ) (n top p m cell n′ top′ : ℕ) : Type 0 where
+  pub low : lower s′ ≡ lower s
+  pub uses : Uses s s′ n top n′ top′ 36
+  pub typed : (G : Ghost) → Stands s d n top G → (g : Ty) → Reads (heap s d) p g → (k : ℕ) → Unvisited k G →
+      Introduced s s′ d n top n′ top′ G (freshRow k 1 m ⨾ typed k (instance (row k 1 m) g)) (SlotOf k) (slot k 0) cell
+
+-- A dictionary stands in the area d, below a piece with a node that is not visited yet.
+pub record Consulted (s d : List ℕ) (n top : ℕ) : Type 0 where
+  pub ghost : Ghost
+  pub stands : Stands s d n top ghost
+  pub node : ℕ
+  pub unvisited : Unvisited node ghost
+  pub dictionary : Dictionary
+  pub recorded : Recorded dictionary d
+  pub room : Room s n top 40
+
+-- A RECORDED NAME WITHOUT ACTUALS.
+pub record Global (s s′ d : List ℕ) (n top id number cell n′ top′ : ℕ) : Type 0 where
+  pub low : lower s′ ≡ lower s
+  pub uses : number ≡ 0 → Uses s s′ n top n′ top′ 40
+  pub ruled : (G : Ghost) → Stands s d n top G → (k : ℕ) → Unvisited k G → (D : Dictionary) → Recorded D d → Ruled s s′ d n top k number cell n′ top′ G (referenceItems k none (nameIn id D))
+
+-- A name may be looked up in scope.
+pub record Referring (s d w : List ℕ) (n top rows : ℕ) : Type 0 where
+  pub ghost : Ghost
+  pub stands : Stands s d n top ghost
+  pub node : ℕ
+  pub unvisited : Unvisited node ghost
+  pub scope : Scope
+  pub dictionary : Dictionary
+  pub scoped : Scoped s d w rows ghost scope dictionary
+  pub table : 2 * rows ≤ length w
+  pub room : Room s n top 40
+
+-- REF WITHOUT ACTUALS.
+pub record Refers (s s′ d w : List ℕ) (n top rows id number cell n′ top′ : ℕ) : Type 0 where
+  pub low : lower s′ ≡ lower s
+  pub uses : number ≡ 0 → Uses s s′ n top n′ top′ 40
+  pub ruled : (G : Ghost) → Stands s d n top G → (k : ℕ) → Unvisited k G → (Γ : Scope) (D : Dictionary) → Scoped s d w rows G Γ D →
+      Ruled s s′ d n top k number cell n′ top′ G (referenceItems k none (nameAt id Γ))

@@ -33,9 +33,13 @@ Limited blank = Unit {0}
 Limited (D ▸ nameEntry i p g) = Limited D × (p ≤ 4) × (size g ≤ 32)
 Limited (D ▸ schemaEntry s p g) = Limited D × FewParts g
 
--- The rows of w stand for the scope Γ, and the area d holds the dictionary D below it.
-pub record Scoped (s d w : List ℕ) (rows : ℕ) (G : Ghost) (Γ : Scope) (D : Dictionary) : Type 0 where
-  pub stacked : Stacked (SettledAt s d G) Γ (stack w 0 rows) D
+-- The area d holds the dictionary D, whose entries are well formed and within the limits.
+pub record Recorded (D : Dictionary) (d : List ℕ) : Type 0 where
   pub holds : Holds D d
   pub formed : FormedDictionary D
   pub limited : Limited D
+
+-- The rows of w stand for the scope Γ, with the dictionary D below it.
+pub record Scoped (s d w : List ℕ) (rows : ℕ) (G : Ghost) (Γ : Scope) (D : Dictionary) : Type 0 where
+  pub stacked : Stacked (SettledAt s d G) Γ (stack w 0 rows) D
+  pub recorded : Recorded D d
