@@ -6,3 +6,6 @@ pub mod RowLaws
 pub mod InstanceLaws
 pub mod ReferenceLaws
 pub mod LookingUp
+pub mod SchemaSetLaws
+pub mod PowerItems
+pub mod ActualLaws

@@ -21,7 +21,7 @@ use Rattle.pieces.proofs.Growing.{unknown, unknown-later}
 use Rattle.names.specs.References.{RowAsked, Among, RowOf, RowMade}
 
 -- The items of a row ask nothing.
-meets-row : (k j p : ℕ) (τ : Table) → Meets (freshRow k j p) τ
+pub meets-row : (k j p : ℕ) (τ : Table) → Meets (freshRow k j p) τ
 unfolding freshRow Meets
 meets-row k j zero τ = tt
 meets-row k j (suc p) τ = (tt, meets-row k (suc j) p τ)

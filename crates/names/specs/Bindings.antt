@@ -4,15 +4,18 @@ use mathlib.Core.List.{List, [], _∷_}
 use Prim.Native.Nat.{ℕ, zero, suc, _+_, _*_, _≤_, _<_, _^_}
 use lib.ListN.{length, getD}
 use Rattle.types.specs.Types.{Ty}
+use Rattle.typing.specs.Conditions.{typed}
+use Rattle.typing.specs.Unknowns.{slot, powerOf}
 use Rattle.typing.specs.Signatures.{Signature, bindingOf}
 use Rattle.types.specs.Equations.{Pairs}
 use Rattle.solver.specs.Store.{frozen, load, Solved}
 use Rattle.solver.specs.Calls.{Above}
 use Rattle.solver.specs.Growth.{Builds}
-use Rattle.solver.specs.Settled.{heap, Reads, Readable, Obeys}
+use Rattle.solver.specs.Settled.{lower, heap, Reads, Readable, Obeys}
 use Rattle.signatures.specs.Rows.{rows}
 use Rattle.signatures.specs.Carried.{Carries}
-use Rattle.pieces.specs.Stage.{Ghost, Stands, Cell, Room}
+use Rattle.pieces.specs.Stage.{Ghost, Stands, Cell, Room, Uses, Unvisited, SlotOf}
+use Rattle.pieces.specs.Building.{Introduced}
 use Rattle.names.specs.Scoped.{SettledAt}
 use Rattle.names.specs.Enlarged.{Enlarged}
 
@@ -74,3 +77,14 @@ pub record Binding (s d w : List ℕ) (base m n top : ℕ) : Type 0 where
 pub record Bound (s s′ d w : List ℕ) (base m n top cell n′ top′ : ℕ) : Type 0 where
   pub enlarged : Enlarged s s′ d n top n′ top′ (suc m)
   pub denoted : (G : Ghost) → Stands s d n top G → (r : Signature) → Carries (SettledAt s d G) r (rows w base m) → Cell s′ d n′ G cell (bindingOf r)
+
+-- SCHEMASET: a node's type is the power of the binding. There is room for it.
+pub record SchemaSetAsked (s d w : List ℕ) (base m n top : ℕ) : Type 0 where
+  pub binding : Binding s d w base m n top
+  pub room : Room s n top (suc m + 1)
+
+pub record SchemaSetTyped (s s′ d w : List ℕ) (base m n top cell n′ top′ : ℕ) : Type 0 where
+  pub low : lower s′ ≡ lower s
+  pub uses : Uses s s′ n top n′ top′ (suc m + 1)
+  pub typed : (G : Ghost) → Stands s d n top G → (r : Signature) → Carries (SettledAt s d G) r (rows w base m) → (k : ℕ) → Unvisited k G →
+      Introduced s s′ d n top n′ top′ G (typed k (powerOf (bindingOf r))) (SlotOf k) (slot k 0) cell

@@ -2,20 +2,21 @@
 use mathlib.Core.Path.{_≡_}
 use mathlib.Core.List.{List}
 use Prim.Native.Nat.{ℕ, suc, _+_, _*_, _≤_, _<_}
-use lib.ListN.{length}
-use Rattle.syntax.specs.Tree.{none}
+use lib.ListN.{length, getD}
+use Rattle.syntax.specs.Tree.{Exprs, none, more, exprsLength}
 use Rattle.types.specs.Equations.{InP, Pairs}
 use Rattle.types.specs.Instance.{instance}
 use Rattle.types.specs.Types.{Ty, Term, size}
-use Rattle.typing.specs.Conditions.{freshRow, typed}
+use Rattle.typing.specs.Conditions.{freshRow, typed, typeOf}
 use Rattle.typing.specs.Dictionary.{Dictionary, nameIn}
-use Rattle.typing.specs.Items.{_⨾_}
+use Rattle.typing.specs.Items.{Items, skip, _⨾_, equate}
 use Rattle.typing.specs.Rules.{referenceItems}
 use Rattle.typing.specs.Scopes.{Scope, nameAt}
-use Rattle.typing.specs.Unknowns.{slot, unknownAt, row}
+use Rattle.typing.specs.Unknowns.{slot, unknownAt, row, powerOf}
 use Rattle.solver.specs.Store.{frozen, load, Solved}
 use Rattle.solver.specs.Settled.{lower, heap, Reads}
 use Rattle.pieces.specs.Stage.{Ghost, Stands, Cell, Room, Uses, Unvisited, SlotOf, Advanced, Ruled}
+use Rattle.pieces.specs.Piece.{Stops}
 use Rattle.pieces.specs.Building.{Introduced}
 use Rattle.names.specs.Scoped.{SettledAt, Recorded, Scoped}
 use Rattle.names.specs.Enlarged.{Enlarged}
@@ -119,3 +120,38 @@ pub record Refers (s s′ d w : List ℕ) (n top rows id number cell n′ top′
   pub uses : number ≡ 0 → Uses s s′ n top n′ top′ 40
   pub ruled : (G : Ghost) → Stands s d n top G → (k : ℕ) → Unvisited k G → (Γ : Scope) (D : Dictionary) → Scoped s d w rows G Γ D →
       Ruled s s′ d n top k number cell n′ top′ G (referenceItems k none (nameAt id Γ))
+
+-- ACTUALS. Their cells stand in the words `parts` from number i on.
+unfoldable pub Actuals : List ℕ → List ℕ → ℕ → Ghost → List ℕ → ℕ → Exprs → Type 0
+Actuals s d n G parts i none = Unit {0}
+Actuals s d n G parts i (more a xs) = Cell s d n G (getD parts i 0) (typeOf a) × Actuals s d n G parts (suc i) xs
+
+-- Unknowns i, i + 1, .. of node k have the cells from `first` on, m of them.
+abbrev pub RowFrom : List ℕ → List ℕ → ℕ → Ghost → ℕ → ℕ → ℕ → ℕ → Type 0
+RowFrom s d n G first k i m = (j : ℕ) → j < m → Cell s d n G (first + j) (unknownAt k (i + j))
+
+-- The actuals are powers of these unknowns.
+unfoldable pub powerEquations : ℕ → Exprs → ℕ → Items
+powerEquations k none i = skip
+powerEquations k (more a xs) i = equate 33 k (typeOf a) (powerOf (unknownAt k i)) ⨾ powerEquations k xs (suc i)
+
+-- The actuals from number i of m on, for any node and any expressions that they are.
+pub record ActualsAt (s d : List ℕ) (n top first : ℕ) (parts : List ℕ) (i m : ℕ) (G : Ghost) (k : ℕ) (xs : Exprs) : Type 0 where
+  pub stands : Stands s d n top G
+  pub actuals : Actuals s d n G parts i xs
+  pub count : exprsLength xs + i ≡ m
+  pub row : RowFrom s d n G first k (suc i) (exprsLength xs)
+
+pub record EquatingActuals (s d : List ℕ) (n top first : ℕ) (parts : List ℕ) (i m : ℕ) : Type 0 where
+  pub ghost : Ghost
+  pub node : ℕ
+  pub expressions : Exprs
+  pub at : ActualsAt s d n top first parts i m ghost node expressions
+  pub room : Room s n top (exprsLength expressions)
+
+pub record ActualsEquated (s s′ d : List ℕ) (n top first : ℕ) (parts : List ℕ) (i m number n′ top′ : ℕ) : Type 0 where
+  pub low : lower s′ ≡ lower s
+  pub uses : number ≡ 0 → (x : ℕ) → x + i ≡ m → Uses s s′ n top n′ top′ x
+  pub goes : number ≡ 0 → (G : Ghost) (k : ℕ) (xs : Exprs) → ActualsAt s d n top first parts i m G k xs → Advanced s s′ d n top n′ top′ G (powerEquations k xs (suc i)) (λ x. ⊥)
+  pub finding : (number ≡ 0 → ⊥) → number ≡ 33
+  pub stops : (number ≡ 0 → ⊥) → (G : Ghost) (k : ℕ) (xs : Exprs) → ActualsAt s d n top first parts i m G k xs → Stops (G .before) (G .items) (powerEquations k xs (suc i)) 33 k

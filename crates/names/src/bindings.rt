@@ -3,7 +3,7 @@ use solver::Grown;
 use words::word;
 ghost use Prim.Native.Nat.{_<_, _^_};
 ghost use Rattle.solver.specs.Growth.{Putting};
-ghost use Rattle.names.specs.Bindings.{Places, PlacesSettled, RowPut, PuttingRows, RowsPut, Binding, Bound};
+ghost use Rattle.names.specs.Bindings.{Places, PlacesSettled, RowPut, PuttingRows, RowsPut, Binding, Bound, SchemaSetAsked, SchemaSetTyped};
 
 const BINDING: u32 = 5;
 
@@ -62,5 +62,29 @@ pub fn binding(
         cell: cell,
         cells: cell + 1,
         top: ids + m,
+    }
+}
+
+// The power of that binding, as the type of a node.
+pub fn schema_set(
+    a: &mut [u32],
+    d: &[u32],
+    w: &[u32],
+    base: usize,
+    m: usize,
+    n: usize,
+    top: usize,
+) -> Grown
+    requires { ⌜ SchemaSetAsked (now a) (now d) (now w) base m n top ⌝ }
+    ensures { λ r. ⌜ SchemaSetTyped (now (a .entry)) (now (a .exit)) (now (d .entry)) (now (w .entry)) base m n top (r .cell) (r .cells) (r .top) ⌝ }
+{
+    let b = binding(a, d, w, base, m, n, top);
+    let cell = b.cells;
+    let end = b.top;
+    pieces::cells::power(a, cell, end, b.cell);
+    Grown {
+        cell: cell,
+        cells: cell + 1,
+        top: end + 1,
     }
 }

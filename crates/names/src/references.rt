@@ -5,11 +5,12 @@ use dictionary::lookup::type_place;
 use signatures::tables::find;
 use solver::Grown;
 use words::word;
-ghost use Rattle.names.specs.References.{RowAsked, RowMade, InstanceAsked, InstanceOf, TypedAt, RecordedAt, Generic, Consulted, Global, Referring, Refers};
+ghost use Rattle.names.specs.References.{RowAsked, RowMade, InstanceAsked, InstanceOf, TypedAt, RecordedAt, Generic, Consulted, Global, Referring, Refers, EquatingActuals, ActualsEquated};
 ghost use Rattle.solver.specs.Settled.{Entering};
 
-// Findings 31 and 32.
 const UNKNOWN_NAME: u32 = 31;
+
+const UNEQUAL: u32 = 33;
 
 // Where the dictionary's words begin among the places.
 const DICTIONARY: usize = 39936;
@@ -129,4 +130,38 @@ pub fn reference(
         };
     }
     global(a, d, n, top, id)
+}
+
+// The actuals from number i of m on, whose cells stand in `parts`, are powers of the unknowns that have the cells from `first` on.
+fn equate_actuals(
+    a: &mut [u32],
+    d: &[u32],
+    n: usize,
+    top: usize,
+    first: usize,
+    parts: &[u32],
+    i: usize,
+    m: usize,
+) -> Ruling
+    requires { ⌜ EquatingActuals (now a) (now d) n top first (now parts) i m ⌝ }
+    ensures { λ r. ⌜ ActualsEquated (now (a .entry)) (now (a .exit)) (now (d .entry)) n top first (now (parts .entry)) i m (r .number) (r .cells) (r .top) ⌝ }
+{
+    if m <= i {
+        return Ruling {
+            number: 0,
+            cell: 0,
+            cells: n,
+            top: top,
+        };
+    }
+    pieces::cells::power(a, n, top, first);
+    if pieces::equal(a, d, n + 1, word(parts, i), n) {
+        return equate_actuals(a, d, n + 1, top + 1, first + 1, parts, i + 1, m);
+    }
+    Ruling {
+        number: UNEQUAL,
+        cell: 0,
+        cells: n + 1,
+        top: top + 1,
+    }
 }
