@@ -1,0 +1,11 @@
+-- Laws of the rules that look names up.
+pub mod Standing
+pub mod BindingLaws
+pub mod RowInstances
+pub mod RowLaws
+pub mod InstanceLaws
+pub mod ReferenceLaws
+pub mod LookingUp
+pub mod SchemaSetLaws
+pub mod PowerItems
+pub mod ActualLaws

@@ -1,0 +1,4 @@
+pub mod Scoped
+pub mod Enlarged
+pub mod Bindings
+pub mod References

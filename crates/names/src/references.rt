@@ -1,0 +1,167 @@
+// References: a name's type, with an unknown for each parameter.
+use dictionary::lookup::entry_of_name;
+use dictionary::lookup::parameters_of;
+use dictionary::lookup::type_place;
+use signatures::tables::find;
+use solver::Grown;
+use words::word;
+ghost use Rattle.names.specs.References.{RowAsked, RowMade, InstanceAsked, InstanceOf, TypedAt, RecordedAt, Generic, Consulted, Global, Referring, Refers, EquatingActuals, ActualsEquated};
+ghost use Rattle.solver.specs.Settled.{Entering};
+
+const UNKNOWN_NAME: u32 = 31;
+
+const UNEQUAL: u32 = 33;
+
+// Where the dictionary's words begin among the places.
+const DICTIONARY: usize = 39936;
+
+// A node's rule: number 0, and the cell has the node's type; or a finding at the node. The number of cells, and where their runs end.
+pub struct Ruling {
+    pub number: u32,
+    pub cell: usize,
+    pub cells: usize,
+    pub top: usize,
+}
+
+// p unknowns one after another: cells n, n + 1, ..
+fn fresh_row(a: &mut [u32], n: usize, p: usize)
+    requires { ⌜ RowAsked (now a) n p ⌝ }
+    ensures { λ _. ⌜ RowMade (now (a .entry)) (now (a .exit)) n p ⌝ }
+{
+    let mut j = 0;
+    while j < p {
+        solver::new_unknown(a, n + j);
+        j += 1;
+    }
+}
+
+// The type at p enters as a cell, with the m cells from `first` on for its parameters. The cells are n, and their runs end at `top`.
+fn instance(
+    a: &mut [u32],
+    d: &[u32],
+    n: usize,
+    top: usize,
+    p: usize,
+    first: usize,
+    m: usize,
+) -> Grown
+    requires { ⌜ InstanceAsked (now a) (now d) n top p first m ⌝ }
+    ensures { λ r. ⌜ InstanceOf (now (a .entry)) (now (a .exit)) (now (d .entry)) n top p first m (r .cell) (r .cells) (r .top) ⌝ }
+{
+    if m == 0 {
+        solver::new_settled(a, d, n, p);
+        return Grown {
+            cell: n,
+            cells: n + 1,
+            top: top,
+        };
+    }
+    solver::enter(a, d, n, top, p, first, m)
+}
+
+// The type at p, settled, as the type of a node.
+fn settled(a: &mut [u32], d: &[u32], n: usize, top: usize, p: usize) -> Grown
+    requires { ⌜ Entering (now a) (now d) n p ⌝ }
+    ensures { λ r. ⌜ TypedAt (now (a .entry)) (now (a .exit)) (now (d .entry)) n top p (r .cell) (r .cells) (r .top) ⌝ }
+{
+    solver::new_settled(a, d, n, p);
+    Grown {
+        cell: n,
+        cells: n + 1,
+        top: top,
+    }
+}
+
+// The recorded type at p, with an unknown for each of its m parameters, as the type of a node.
+fn generic(a: &mut [u32], d: &[u32], n: usize, top: usize, p: usize, m: usize) -> Grown
+    requires { ⌜ RecordedAt (now a) (now d) n top p m ⌝ }
+    ensures { λ r. ⌜ Generic (now (a .entry)) (now (a .exit)) (now (d .entry)) n top p m (r .cell) (r .cells) (r .top) ⌝ }
+{
+    fresh_row(a, n, m);
+    instance(a, d, n + m, top, p, n, m)
+}
+
+// A recorded name, without actuals.
+fn global(a: &mut [u32], d: &[u32], n: usize, top: usize, id: usize) -> Ruling
+    requires { ⌜ Consulted (now a) (now d) n top ⌝ }
+    ensures { λ r. ⌜ Global (now (a .entry)) (now (a .exit)) (now (d .entry)) n top id (r .number) (r .cell) (r .cells) (r .top) ⌝ }
+{
+    let e = entry_of_name(d, id);
+    if e == 0 {
+        return Ruling {
+            number: UNKNOWN_NAME,
+            cell: 0,
+            cells: n,
+            top: top,
+        };
+    }
+    let m = parameters_of(d, e);
+    let p = DICTIONARY + type_place(d, e);
+    let g = generic(a, d, n, top, p, m);
+    Ruling {
+        number: 0,
+        cell: g.cell,
+        cells: g.cells,
+        top: g.top,
+    }
+}
+
+// A name in scope, without actuals: the rows of its stack stand in w.
+pub fn reference(
+    a: &mut [u32],
+    d: &[u32],
+    w: &[u32],
+    n: usize,
+    top: usize,
+    rows: usize,
+    id: usize,
+) -> Ruling
+    requires { ⌜ Referring (now a) (now d) (now w) n top rows ⌝ }
+    ensures { λ r. ⌜ Refers (now (a .entry)) (now (a .exit)) (now (d .entry)) (now (w .entry)) n top rows id (r .number) (r .cell) (r .cells) (r .top) ⌝ }
+{
+    let r = find(w, 0, rows, id);
+    if r < rows {
+        let g = settled(a, d, n, top, word(w, 2 * r + 1));
+        return Ruling {
+            number: 0,
+            cell: g.cell,
+            cells: g.cells,
+            top: g.top,
+        };
+    }
+    global(a, d, n, top, id)
+}
+
+// The actuals from number i of m on, whose cells stand in `parts`, are powers of the unknowns that have the cells from `first` on.
+fn equate_actuals(
+    a: &mut [u32],
+    d: &[u32],
+    n: usize,
+    top: usize,
+    first: usize,
+    parts: &[u32],
+    i: usize,
+    m: usize,
+) -> Ruling
+    requires { ⌜ EquatingActuals (now a) (now d) n top first (now parts) i m ⌝ }
+    ensures { λ r. ⌜ ActualsEquated (now (a .entry)) (now (a .exit)) (now (d .entry)) n top first (now (parts .entry)) i m (r .number) (r .cells) (r .top) ⌝ }
+{
+    if m <= i {
+        return Ruling {
+            number: 0,
+            cell: 0,
+            cells: n,
+            top: top,
+        };
+    }
+    pieces::cells::power(a, n, top, first);
+    if pieces::equal(a, d, n + 1, word(parts, i), n) {
+        return equate_actuals(a, d, n + 1, top + 1, first + 1, parts, i + 1, m);
+    }
+    Ruling {
+        number: UNEQUAL,
+        cell: 0,
+        cells: n + 1,
+        top: top + 1,
+    }
+}
