@@ -3,4 +3,3 @@ mod blocks;
 mod operations;
 mod rules;
 mod worked;
-
