@@ -22,7 +22,7 @@ use Rattle.pieces.proofs.Walks.{stops-left, items-earlier, later-refl}
 use Rattle.names.specs.References.{Actuals, RowFrom, powerEquations, ActualsAt, EquatingActuals, ActualsEquated}
 
 -- Actuals keep their cells.
-actuals-kept : (s s′ d : List ℕ) (n n′ : ℕ) (G G′ : Ghost) → ((c : ℕ) (a : Term) → Cell s d n G c a → Cell s′ d n′ G′ c a) → (parts : List ℕ) (i : ℕ) (xs : Exprs) →
+pub actuals-kept : (s s′ d : List ℕ) (n n′ : ℕ) (G G′ : Ghost) → ((c : ℕ) (a : Term) → Cell s d n G c a → Cell s′ d n′ G′ c a) → (parts : List ℕ) (i : ℕ) (xs : Exprs) →
     Actuals s d n G parts i xs → Actuals s′ d n′ G′ parts i xs
 unfolding Actuals
 actuals-kept s s′ d n n′ G G′ f parts i none h = tt

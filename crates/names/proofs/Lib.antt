@@ -9,3 +9,5 @@ pub mod LookingUp
 pub mod SchemaSetLaws
 pub mod PowerItems
 pub mod ActualLaws
+pub mod AppliedLaws
+pub mod LookingUpApplied

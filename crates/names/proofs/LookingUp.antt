@@ -62,7 +62,7 @@ pub name-limited : (D : Dictionary) (i p : ℕ) (g : Ty) → Limited D → nameI
 unfolding WithinLimits
 name-limited D i p g l e = subst WithinLimits e (name-limits D i l)
 
-refused : (H t : Items) (f m : ℕ) → Stops H t (refusal f m) f m
+pub refused : (H t : Items) (f m : ℕ) → Stops H t (refusal f m) f m
 unfolding Refuses
 refused H t f m = (refl, refl)
 
@@ -83,7 +83,7 @@ module _ (s d : List ℕ) (n top id e : ℕ) (found : (D : Dictionary) → Holds
       pub entry-some : 1 ≤ e
       entry-some = ⊎-elim (λ z. absurd (some z)) (λ z. omega arith) (eq-zero-or-pos e)
 
-      abbrev entry : Entry Named (nameIn id D) ofGlobal d e
+      abbrev pub entry : Entry Named (nameIn id D) ofGlobal d e
       entry = found D (R .holds) .present entry-some
 
       pub named : nameIn id D ≡ ofGlobal m (entry .type)
@@ -93,7 +93,7 @@ module _ (s d : List ℕ) (n top id e : ℕ) (found : (D : Dictionary) → Holds
       type-reads z =
           dictionary-reads s d q (entry .type) (entry .after) z (name-formed D id m (entry .type) (R .formed) named) (ap (λ (x : ℕ). drop x d) eq ∙ entry .written)
 
-    pub recorded-at : Consulted s d n top → RecordedAt s d n top (39936 + q) m
+    unfoldable pub recorded-at : Consulted s d n top → RecordedAt s d n top (39936 + q) m
     recorded-at B =
         let D = B .dictionary in
         let R = B .recorded in
@@ -144,7 +144,7 @@ module _ (s d w : List ℕ) (n top rows id r : ℕ) (B : Referring s d w n top r
           (X .typed G S (x .0) (subst (SettledAt s d G (x .0)) here (x .2)) k U));
     }
 
-  pub consulted : Consulted s d n top
+  unfoldable pub consulted : Consulted s d n top
   consulted = record { ghost = B .ghost; stands = B .stands; node = B .node; unvisited = B .unvisited; dictionary = B .dictionary; recorded = B .scoped .recorded; room = B .room }
 
   pub global-refers : rows ≤ r → (s′ : List ℕ) (number cell n′ top′ : ℕ) → Global s s′ d n top id number cell n′ top′ → Refers s s′ d w n top rows id number cell n′ top′

@@ -103,7 +103,7 @@ module _ (s d : List ℕ) (n top p m : ℕ) (B : RecordedAt s d n top p m) where
       record { P₀ = B .ghost .equations; L = B .stands .piece .L; solved = B .stands .piece .solved; room = omega arith; fit = omega arith }
 
   module _ (s₁ : List ℕ) (R : RowMade s s₁ n m) where
-    row-uses : Uses s s₁ n top (n + m) top m
+    pub row-uses : Uses s s₁ n top (n + m) top m
     row-uses y Q =
         let a = Q .cells in
         let b = Q .words in
@@ -115,11 +115,11 @@ module _ (s d : List ℕ) (n top p m : ℕ) (B : RecordedAt s d n top p m) where
     fewer = let z = B .few in omega arith
 
     module _ (G : Ghost) (S : Stands s d n top G) (k : ℕ) (U : Unvisited k G) where
-      abbrev row-of : RowOf s s₁ d n top (n + m) m k G
+      abbrev pub row-of : RowOf s s₁ d n top (n + m) m k G
       row-of = R .row d top k G S U fewer
 
       -- the same, as a part of the node's rule
-      abbrev A : Advanced s s₁ d n top (n + m) top G (freshRow k 1 m) (SlotOf k)
+      abbrev pub A : Advanced s s₁ d n top (n + m) top G (freshRow k 1 m) (SlotOf k)
       A = record {
         equations = row-of .advanced .equations;
         mentioned = row-of .advanced .mentioned;
@@ -133,7 +133,7 @@ module _ (s d : List ℕ) (n top p m : ℕ) (B : RecordedAt s d n top p m) where
         new = λ y i. ⊎-elim inl (λ q. inr (q .0, let a = q .2 in let z = fewer in omega arith, q .3)) (row-of .advanced .new y i);
       }
 
-      abbrev G₁ : Ghost
+      abbrev pub G₁ : Ghost
       G₁ = next s s₁ d n top (n + m) top G (freshRow k 1 m) (SlotOf k) A
 
       pub row-stands : Stands s₁ d (n + m) top G₁
@@ -146,7 +146,7 @@ module _ (s d : List ℕ) (n top p m : ℕ) (B : RecordedAt s d n top p m) where
       unfolding slot
       row-unvisited i = ⊎-elim (U 0 (omega arith)) (λ q. let a = q .1 in let b = q .3 in omega arith) (row-of .advanced .new (slot k 0) i)
 
-    kept : (g : Ty) → Reads (heap s d) p g → Reads (heap s₁ d) p g
+    pub kept : (g : Ty) → Reads (heap s d) p g → Reads (heap s₁ d) p g
     kept g Q = subst (λ (h : List ℕ). Reads h p g) (sym (heap-kept s s₁ d (R .low))) Q
 
     pub instance-asked : InstanceAsked s₁ d (n + m) top p n m

@@ -55,7 +55,7 @@ none-yet : (t : Items) (k j : ℕ) → Alike t (t ⨾ freshRow k j 0)
 unfolding freshRow Meets Agree
 none-yet t k j = (λ τ. (λ h. (h, tt), λ h. h .0), λ σ τ. (λ h. (h, tt), λ h. h .0))
 
-alike-later : (s s′ d : List ℕ) (n n′ : ℕ) (P P′ : Pairs ℕ) (H t t′ u : Items) (ρ ρ′ : Pairs ℕ) → Alike t′ u → Later s s′ d n n′ P P′ H t t′ ρ ρ′ → Later s s′ d n n′ P P′ H t u ρ ρ′
+pub alike-later : (s s′ d : List ℕ) (n n′ : ℕ) (P P′ : Pairs ℕ) (H t t′ u : Items) (ρ ρ′ : Pairs ℕ) → Alike t′ u → Later s s′ d n n′ P P′ H t t′ ρ ρ′ → Later s s′ d n n′ P P′ H t u ρ ρ′
 alike-later s s′ d n n′ P P′ H t t′ u ρ ρ′ e A = record { solutions = A .solutions; items = λ τ m. A .items τ (meets-alike H t′ u e τ .1 m); unknowns = A .unknowns }
 
 module _ (s₀ : List ℕ) (n p : ℕ) (B : RowAsked s₀ n p) where

@@ -7,7 +7,7 @@ use Rattle.syntax.specs.Tree.{Exprs, none, more, exprsLength}
 use Rattle.types.specs.Equations.{InP, Pairs}
 use Rattle.types.specs.Instance.{instance}
 use Rattle.types.specs.Types.{Ty, Term, size}
-use Rattle.typing.specs.Conditions.{freshRow, typed, typeOf}
+use Rattle.typing.specs.Conditions.{freshRow, typed, typeOf, arePowers}
 use Rattle.typing.specs.Dictionary.{Dictionary, nameIn}
 use Rattle.typing.specs.Items.{Items, skip, _⨾_, equate}
 use Rattle.typing.specs.Rules.{referenceItems}
@@ -155,3 +155,43 @@ pub record ActualsEquated (s s′ d : List ℕ) (n top first : ℕ) (parts : Lis
   pub goes : number ≡ 0 → (G : Ghost) (k : ℕ) (xs : Exprs) → ActualsAt s d n top first parts i m G k xs → Advanced s s′ d n top n′ top′ G (powerEquations k xs (suc i)) (λ x. ⊥)
   pub finding : (number ≡ 0 → ⊥) → number ≡ 33
   pub stops : (number ≡ 0 → ⊥) → (G : Ghost) (k : ℕ) (xs : Exprs) → ActualsAt s d n top first parts i m G k xs → Stops (G .before) (G .items) (powerEquations k xs (suc i)) 33 k
+
+-- A RECORDED TYPE WITH ACTUALS, as many as it has parameters.
+pub record ApplyingAt (s d : List ℕ) (n top p m : ℕ) (parts : List ℕ) : Type 0 where
+  pub recorded : RecordedAt s d n top p m
+  pub expressions : Exprs
+  pub actuals : Actuals s d n (recorded .ghost) parts 0 expressions
+  pub count : exprsLength expressions ≡ m
+
+pub record AppliedAt (s s′ d : List ℕ) (n top p m : ℕ) (parts : List ℕ) (number cell n′ top′ : ℕ) : Type 0 where
+  pub low : lower s′ ≡ lower s
+  pub uses : number ≡ 0 → Uses s s′ n top n′ top′ 40
+  pub ruled : (G : Ghost) → Stands s d n top G → (g : Ty) → Reads (heap s d) p g → (k : ℕ) → Unvisited k G → (xs : Exprs) → Actuals s d n G parts 0 xs → exprsLength xs ≡ m →
+      Ruled s s′ d n top k number cell n′ top′ G (arePowers k xs 1 ⨾ typed k (instance (row k 1 m) g))
+
+-- A RECORDED NAME WITH ACTUALS, one at least.
+pub record ConsultedWith (s d : List ℕ) (n top : ℕ) (parts : List ℕ) (m : ℕ) : Type 0 where
+  pub consulted : Consulted s d n top
+  pub expressions : Exprs
+  pub actuals : Actuals s d n (consulted .ghost) parts 0 expressions
+  pub count : exprsLength expressions ≡ m
+  pub some : 1 ≤ m
+
+pub record GlobalApplied (s s′ d : List ℕ) (n top id : ℕ) (parts : List ℕ) (m number cell n′ top′ : ℕ) : Type 0 where
+  pub low : lower s′ ≡ lower s
+  pub uses : number ≡ 0 → Uses s s′ n top n′ top′ 40
+  pub ruled : (G : Ghost) → Stands s d n top G → (k : ℕ) → Unvisited k G → (D : Dictionary) → Recorded D d → (xs : Exprs) → Actuals s d n G parts 0 xs → exprsLength xs ≡ m →
+      Ruled s s′ d n top k number cell n′ top′ G (referenceItems k xs (nameIn id D))
+
+-- REF: a name in scope with m actuals, whose cells stand in `parts`.
+pub record ReferringWith (s d w : List ℕ) (n top rows : ℕ) (parts : List ℕ) (m : ℕ) : Type 0 where
+  pub referring : Referring s d w n top rows
+  pub expressions : Exprs
+  pub actuals : Actuals s d n (referring .ghost) parts 0 expressions
+  pub count : exprsLength expressions ≡ m
+
+pub record RefersWith (s s′ d w : List ℕ) (n top rows id : ℕ) (parts : List ℕ) (m number cell n′ top′ : ℕ) : Type 0 where
+  pub low : lower s′ ≡ lower s
+  pub uses : number ≡ 0 → Uses s s′ n top n′ top′ 40
+  pub ruled : (G : Ghost) → Stands s d n top G → (k : ℕ) → Unvisited k G → (Γ : Scope) (D : Dictionary) → Scoped s d w rows G Γ D → (xs : Exprs) → Actuals s d n G parts 0 xs →
+      exprsLength xs ≡ m → Ruled s s′ d n top k number cell n′ top′ G (referenceItems k xs (nameAt id Γ))

@@ -5,10 +5,12 @@ use dictionary::lookup::type_place;
 use signatures::tables::find;
 use solver::Grown;
 use words::word;
-ghost use Rattle.names.specs.References.{RowAsked, RowMade, InstanceAsked, InstanceOf, TypedAt, RecordedAt, Generic, Consulted, Global, Referring, Refers, EquatingActuals, ActualsEquated};
+ghost use Rattle.names.specs.References.{RowAsked, RowMade, InstanceAsked, InstanceOf, TypedAt, RecordedAt, Generic, Consulted, Global, Referring, Refers, EquatingActuals, ActualsEquated, ApplyingAt, AppliedAt, ConsultedWith, GlobalApplied, ReferringWith, RefersWith};
 ghost use Rattle.solver.specs.Settled.{Entering};
 
 const UNKNOWN_NAME: u32 = 31;
+
+const WRONG_COUNT: u32 = 32;
 
 const UNEQUAL: u32 = 33;
 
@@ -164,4 +166,96 @@ fn equate_actuals(
         cells: n + 1,
         top: top + 1,
     }
+}
+
+// The recorded type at p with m actuals, whose cells stand in `parts`, as the type of a node.
+fn applied(
+    a: &mut [u32],
+    d: &[u32],
+    n: usize,
+    top: usize,
+    p: usize,
+    m: usize,
+    parts: &[u32],
+) -> Ruling
+    requires { ⌜ ApplyingAt (now a) (now d) n top p m (now parts) ⌝ }
+    ensures { λ r. ⌜ AppliedAt (now (a .entry)) (now (a .exit)) (now (d .entry)) n top p m (now (parts .entry)) (r .number) (r .cell) (r .cells) (r .top) ⌝ }
+{
+    fresh_row(a, n, m);
+    let q = equate_actuals(a, d, n + m, top, n, parts, 0, m);
+    let number = q.number;
+    if number != 0 {
+        return q;
+    }
+    let g = instance(a, d, q.cells, q.top, p, n, m);
+    Ruling {
+        number: 0,
+        cell: g.cell,
+        cells: g.cells,
+        top: g.top,
+    }
+}
+
+// A recorded name with m actuals, one at least.
+fn global_applied(
+    a: &mut [u32],
+    d: &[u32],
+    n: usize,
+    top: usize,
+    id: usize,
+    parts: &[u32],
+    m: usize,
+) -> Ruling
+    requires { ⌜ ConsultedWith (now a) (now d) n top (now parts) m ⌝ }
+    ensures { λ r. ⌜ GlobalApplied (now (a .entry)) (now (a .exit)) (now (d .entry)) n top id (now (parts .entry)) m (r .number) (r .cell) (r .cells) (r .top) ⌝ }
+{
+    let e = entry_of_name(d, id);
+    if e == 0 {
+        return Ruling {
+            number: UNKNOWN_NAME,
+            cell: 0,
+            cells: n,
+            top: top,
+        };
+    }
+    if parameters_of(d, e) != m {
+        return Ruling {
+            number: WRONG_COUNT,
+            cell: 0,
+            cells: n,
+            top: top,
+        };
+    }
+    let p = DICTIONARY + type_place(d, e);
+    applied(a, d, n, top, p, m, parts)
+}
+
+// A name in scope with m actuals, whose cells stand in `parts`: the rows of the scope's stack stand in w.
+pub fn ref_rule(
+    a: &mut [u32],
+    d: &[u32],
+    w: &[u32],
+    n: usize,
+    top: usize,
+    rows: usize,
+    id: usize,
+    parts: &[u32],
+    m: usize,
+) -> Ruling
+    requires { ⌜ ReferringWith (now a) (now d) (now w) n top rows (now parts) m ⌝ }
+    ensures { λ r. ⌜ RefersWith (now (a .entry)) (now (a .exit)) (now (d .entry)) (now (w .entry)) n top rows id (now (parts .entry)) m (r .number) (r .cell) (r .cells) (r .top) ⌝ }
+{
+    if m == 0 {
+        return reference(a, d, w, n, top, rows, id);
+    }
+    let r = find(w, 0, rows, id);
+    if r < rows {
+        return Ruling {
+            number: WRONG_COUNT,
+            cell: 0,
+            cells: n,
+            top: top,
+        };
+    }
+    global_applied(a, d, n, top, id, parts, m)
 }
