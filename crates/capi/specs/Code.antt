@@ -1,9 +1,15 @@
 -- A finding as one number.
+use mathlib.Core.Path.{_≡_}
 use mathlib.Core.Bool.{cond}
+use mathlib.Core.List.{List}
 use Prim.Native.Nat.{ℕ, _+_, _*_, _/_, _%_}
 use lib.Dec.{eqb}
+use lib.ListN.{length, replicate}
 use Rattle.syntax.specs.declared.Reading.{Reading}
 use Rattle.syntax.specs.declared.Reading.the-variants.{Readable, Refused}
+use Rattle.evaluation.specs.Run.{runOf}
+use Rattle.evaluation.specs.declared.Finding.{Finding as RunFinding}
+use Rattle.evaluation.specs.declared.Finding.the-variants.{Holds, Fails, Refused as Stopped}
 use Rattle.typing.specs.declared.Finding.{Finding}
 use Rattle.typing.specs.declared.Finding.the-variants.{Accepted, Refused as Refused′}
 
@@ -15,3 +21,14 @@ codeOf (Refused number place) = number * 4294967296 + place
 -- the finding of a check that a number codes
 unfoldable pub findingOf : ℕ → Finding
 findingOf code = cond (eqb code 0) Accepted (Refused′ (code / 4294967296) (code % 4294967296))
+
+-- a run's finding: 0 where it holds, 1 × 2^32 + node where it fails, else number × 2^32 + place
+unfoldable pub runCode : RunFinding → ℕ
+runCode Holds = 0
+runCode (Fails node) = 4294967296 + node
+runCode (Stopped number place) = number * 4294967296 + place
+
+-- the run call: the number of its finding, and a work area of zeros
+pub record Ran (doc state before after : List ℕ) (code : ℕ) : Type 0 where
+  pub finding : code ≡ runCode (runOf doc state (length before) .finding)
+  pub cleared : after ≡ replicate (length before) 0

@@ -7,7 +7,7 @@ ghost use Rattle.syntax.specs.Reading.{readOf};
 ghost use Rattle.states.specs.States.{stateCheckOf};
 ghost use Rattle.printer.specs.Print.{printOf};
 ghost use Rattle.printer.specs.Buffer.{Printed};
-ghost use Rattle.capi.specs.Code.{codeOf, findingOf};
+ghost use Rattle.capi.specs.Code.{codeOf, findingOf, runCode, Ran};
 
 // A finding as one number: 0 where there is none, else number * 2^32 + place.
 fn code_of(r: Reading) -> u64
@@ -33,6 +33,26 @@ pub extern "C" fn z_state(doc: &[u32], state: &[u32]) -> u64
     ensures { λ n. ⌜ n ≡ codeOf (stateCheckOf (now (doc .entry)) (now (state .entry))) ⌝ }
 {
     code_of(states::check_state(doc, state))
+}
+
+// A run's finding as one number: 0 where it holds, 1 * 2^32 + node where it fails, else number * 2^32 + place.
+fn run_code(f: evaluation::Finding) -> u64
+    ensures { λ n. ⌜ n ≡ runCode f ⌝ }
+{
+    match f {
+        evaluation::Finding::Holds => 0,
+        evaluation::Finding::Fails { node } => 4294967296 + (node as u64),
+        evaluation::Finding::Refused { number, place } => (number as u64) * 4294967296
+            + (place as u64),
+    }
+}
+
+// A run of a document over a state: reading's finding first, then 21, 41, and those of the paragraphs. The work area is zeros afterwards.
+#[no_mangle]
+pub extern "C" fn z_run(doc: &[u32], state: &[u32], work: &mut [u32]) -> u64
+    ensures { λ n. ⌜ Ran (now (doc .entry)) (now (state .entry)) (now (work .entry)) (now (work .exit)) n ⌝ }
+{
+    run_code(evaluator::run(doc, state, work))
 }
 
 // The finding of a check that a number codes.

@@ -1,5 +1,100 @@
 // The run call: evaluation rules on words. The definitions are in the crate `evaluation`; nothing here looks at the checker.
+use crate::worked::Worked;
+use evaluation::Finding;
+use layout::part;
+use syntax::Reading;
+use words::clear;
+use words::word;
+
 mod blocks;
+mod named;
 mod operations;
+mod paragraphs;
 mod rules;
 mod worked;
+
+ghost use mathlib.Core.Path.{_≡_};
+ghost use Prim.Native.Nat.{_≤_};
+ghost use lib.ListN.{length};
+ghost use Rattle.syntax.specs.Reading.{readOf};
+ghost use Rattle.syntax.specs.Decode.{treeOf};
+ghost use Rattle.syntax.specs.declared.Reading.the-variants.{Readable};
+ghost use Rattle.states.specs.Names.{documentNames};
+ghost use Rattle.states.specs.States.{stateOf};
+ghost use Rattle.evaluation.specs.Outcomes.{Outcome};
+ghost use Rattle.evaluation.specs.Paragraphs.{Step, runDocument};
+ghost use Rattle.evaluator.specs.Worked.{Told};
+ghost use Rattle.evaluation.specs.Run.{ending, runState, runOf};
+ghost use Rattle.evaluator.specs.Named.{said, Stepped, RunCall};
+
+// What a result of the paragraphs says of the run.
+fn finding_of(y: Worked) -> Finding
+    ensures { λ r. ⌜ ((o : Outcome Step) → Told (Stepped (λ s. Unit {0})) y o → r ≡ ending o .finding) ⌝ }
+{
+    if y.number != 0 {
+        return Finding::Refused {
+            number: y.number,
+            place: y.place,
+        };
+    }
+    if y.flag {
+        return Finding::Holds;
+    }
+    Finding::Fails { node: y.place }
+}
+
+// The run over the paragraphs, for a well-formed state.
+fn run_paragraphs(doc: &[u32], state: &[u32], work: &mut [u32]) -> Finding
+    requires { ⌜ (readOf (now doc) ≡ Readable) × (stateOf (documentNames (treeOf (now doc))) (now state) ≡ Readable) × (16384 ≤ length (now work)) ⌝ }
+    ensures { λ r. ⌜ r ≡ ending (runDocument (treeOf (now (doc .entry))) (said (now (doc .entry)) (now (state .entry)))) .finding ⌝ }
+{
+    let mut table = [0u32; 2050];
+    states::names::put_names(doc, state, &mut table);
+    finding_of(paragraphs::run_from(doc, state, &table, work, 0, part(doc, word(doc, 0)), 1))
+}
+
+// A readable document, with a work area that is large enough: 41, then the paragraphs.
+fn run_state(doc: &[u32], state: &[u32], work: &mut [u32]) -> Finding
+    requires { ⌜ (readOf (now doc) ≡ Readable) × (16384 ≤ length (now work)) ⌝ }
+    ensures { λ r. ⌜ r ≡ runState (stateOf (documentNames (treeOf (now (doc .entry)))) (now (state .entry))) (treeOf (now (doc .entry))) (now (state .entry)) .finding ⌝ }
+{
+    let c = states::check_names(doc, state);
+    match c {
+        Reading::Readable => run_paragraphs(doc, state, work),
+        Reading::Refused { number, place } => Finding::Refused {
+            number: number,
+            place: place,
+        },
+    }
+}
+
+// Reading's findings, then 21, then the run.
+fn run_read(doc: &[u32], state: &[u32], work: &mut [u32]) -> Finding
+    ensures { λ r. ⌜ r ≡ runOf (now (doc .entry)) (now (state .entry)) (length (now (work .entry))) .finding ⌝ }
+{
+    let c = reader::read(doc);
+    match c {
+        Reading::Readable => {
+            if work.len() < 16384 {
+                return Finding::Refused {
+                    number: 21,
+                    place: 0,
+                };
+            }
+            run_state(doc, state, work)
+        }
+        Reading::Refused { number, place } => Finding::Refused {
+            number: number,
+            place: place,
+        },
+    }
+}
+
+// The run of a document over a state. The work area is zeros afterwards.
+pub fn run(doc: &[u32], state: &[u32], work: &mut [u32]) -> Finding
+    ensures { λ r. ⌜ RunCall (now (doc .entry)) (now (state .entry)) (now (work .entry)) (now (work .exit)) r ⌝ }
+{
+    let found = run_read(doc, state, work);
+    clear(work);
+    found
+}

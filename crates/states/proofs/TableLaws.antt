@@ -99,7 +99,7 @@ module _ (doc : List ℕ) (r : readOf doc ≡ Readable) where
   positive-document s = rw (document-names doc r) (positive-turns (length (part doc (count doc)) - 1) 1 (omega arith) (omega arith))
 
 -- ---- the table as a list
-abbrev mark : Name → ℕ
+abbrev pub mark : Name → ℕ
 mark n = cond (n .isGiven) (n .identifier) 0
 
 rows : List Name → List ℕ → ℕ → List ℕ
@@ -195,7 +195,7 @@ rows-size (n ∷ ns) state k m g h =
     (size-none ns state (suc k) (h .1)) (rows-size ns state (suc k) m g (h .1))
 
 -- ---- marks
-abbrev nobody : Name
+abbrev pub nobody : Name
 nobody = record { isGiven = false; identifier = 0 }
 
 row-mark : (ns : List Name) (state : List ℕ) (k : ℕ) (z : List ℕ) (j : ℕ) → j < length ns → getD (rows ns state k ++ z) (2 * j) 0 ≡ mark (getD ns j nobody)
@@ -206,7 +206,7 @@ row-mark (n ∷ ns) state k z (suc j) h =
     let e : 2 * suc j ≡ suc (suc (2 * j)) = omega arith in
     rw e (row-mark ns state (suc k) z j (omega arith))
 
-positive-at : (ns : List Name) → Positive ns → (j : ℕ) → getD ns j nobody .isGiven ≡ true → 1 ≤ getD ns j nobody .identifier
+pub positive-at : (ns : List Name) → Positive ns → (j : ℕ) → getD ns j nobody .isGiven ≡ true → 1 ≤ getD ns j nobody .identifier
 positive-at [] h j e = absurd (false≢true e)
 positive-at (n ∷ ns) h zero e = h .0 e
 positive-at (n ∷ ns) h (suc j) e = positive-at ns (h .1) j e
@@ -272,3 +272,8 @@ module _ (ns : List Name) (state : List ℕ) where
   pub not-counted : laidOut stateForm state ≡ true → (count state ≡ length ns → ⊥) → Refused 41 0 ≡ stateOf ns state
   unfolding stateOf stateIf isPaired
   not-counted l c = rw (l, ne-eqb (count state) (length ns) c)
+
+  -- what the table says of entry k
+  pub table-mark : Positive ns → (a : ℕ) → 2 * length ns ≤ a → (table : List ℕ) → table ≡ putNames ns state 1 (replicate (suc (suc a)) 0)
+      → (k : ℕ) → 1 ≤ k → k ≤ length ns → getD table (2 * k) 0 ≡ mark (nameAt ns k)
+  table-mark h a r table t k p q = rw (t ∙ put-all ns state a r) (full-mark ns state h (a - 2 * length ns) k p (omega arith))

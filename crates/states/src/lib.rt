@@ -4,7 +4,7 @@ use syntax::Reading;
 use words::word;
 
 mod entries;
-mod names;
+pub mod names;
 pub mod places;
 
 ghost use mathlib.Core.Path.{_≡_};
@@ -15,7 +15,7 @@ ghost use Rattle.states.specs.Names.{documentNames};
 ghost use Rattle.states.specs.States.{stateOf, stateCheckOf};
 
 // Finding 41 of a state for a readable document. A state has at most 1,024 entries, so where there are more names their pairs are not needed.
-fn check_names(doc: &[u32], state: &[u32]) -> Reading
+pub fn check_names(doc: &[u32], state: &[u32]) -> Reading
     requires { ⌜ readOf (now doc) ≡ Readable ⌝ }
     ensures { λ r. ⌜ r ≡ stateOf (documentNames (treeOf (now (doc .entry)))) (now (state .entry)) ⌝ }
 {

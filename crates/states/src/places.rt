@@ -100,7 +100,7 @@ fn paragraph_count(doc: &[u32], p: usize) -> usize
 }
 
 // The number of the entry of a name, from 1; 0 for none.
-fn place_of(doc: &[u32], name: usize) -> usize
+pub fn place_of(doc: &[u32], name: usize) -> usize
     requires { ⌜ readOf (now doc) ≡ Readable ⌝ }
     ensures { λ r. ⌜ r ≡ entryFrom (documentNames (treeOf (now (doc .entry)))) name 1 ⌝ }
 {
