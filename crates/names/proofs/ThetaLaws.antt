@@ -2,16 +2,15 @@
 use mathlib.Core.Path.{_≡_, refl, sym, ap, subst, _∙_}
 use mathlib.Core.Bool.{true}
 use mathlib.Core.List.{List}
-use mathlib.Core.Logic.{⊎-elim}
 use Prim.Native.Nat.{ℕ, zero, suc, _+_, _*_, _-_, _≤_, _<_}
 use native.Mathlib.Omega.{arith}
-use lib.ListN.{length, getD}
+use lib.ListN.{getD}
 use Rattle.types.specs.Equations.{In}
 use Rattle.types.specs.Instance.{instance}
-use Rattle.types.specs.Types.{Ty, Term, nil, Eachs}
+use Rattle.types.specs.Types.{Ty, nil, Eachs}
 use Rattle.types.proofs.Instance.{instance-none}
-use Rattle.typing.specs.Dictionary.{Dictionary, Named, unnamed, ofLocal, ofGlobal, nameIn}
-use Rattle.typing.specs.Items.{skip, refusal}
+use Rattle.typing.specs.Dictionary.{Dictionary, Named, ofGlobal, nameIn}
+use Rattle.typing.specs.Items.{refusal}
 use Rattle.typing.specs.Rules.{thetaName, typeInScope}
 use Rattle.typing.specs.Scopes.{Scope, nameAt}
 use Rattle.solver.specs.Settled.{heap, Reads}
@@ -20,7 +19,7 @@ use Rattle.dictionary.specs.Lookup.{parametersAt, typeAt, NameFound}
 use Rattle.signatures.specs.Tables.{Finds}
 use Rattle.signatures.proofs.CallLaws.{found-local, no-local}
 use Rattle.pieces.specs.Stage.{Ghost}
-use Rattle.names.specs.Scoped.{SettledAt, Recorded, Scoped}
+use Rattle.names.specs.Scoped.{SettledAt, Scoped}
 use Rattle.names.specs.Thetas.{InScope}
 use Rattle.names.proofs.LookingUp.{entry, named, type-reads}
 use Rattle.names.proofs.RowInstances.{instance-each}
