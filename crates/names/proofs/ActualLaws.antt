@@ -1,25 +1,25 @@
 -- Explicit actuals, one by one: each is a power of its unknown.
-use mathlib.Core.Path.{_≡_, refl, sym, ap, subst, _∙_}
+use mathlib.Core.Path.{_≡_, refl, sym, subst, _∙_}
 use mathlib.Core.Bool.{Bool, true, false}
 use mathlib.Core.List.{List, [], _∷_}
-use mathlib.Core.Logic.{_⊎_, inl, inr, ⊎-elim}
-use Prim.Native.Nat.{ℕ, zero, suc, _+_, _*_, _≤_, _<_}
+use mathlib.Core.Logic.{inl}
+use Prim.Native.Nat.{ℕ, zero, suc, _+_, _≤_, _<_}
 use native.Mathlib.Omega.{arith}
-use lib.ListN.{length, getD}
+use lib.ListN.{getD}
 use Rattle.syntax.specs.Tree.{Expr, Exprs, none, more, exprsLength}
 use Rattle.types.specs.Former.{power}
 use Rattle.types.specs.Types.{Term, cons, nil}
 use Rattle.typing.specs.Conditions.{typeOf}
-use Rattle.typing.specs.Items.{Items, skip, _⨾_, equate, Meets, Agree, Passes}
-use Rattle.typing.specs.Unknowns.{slot, unknownAt, powerOf}
+use Rattle.typing.specs.Items.{Items, skip, equate, Meets, Agree, Passes}
+use Rattle.typing.specs.Unknowns.{unknownAt, powerOf}
 use Rattle.solver.specs.Settled.{lower}
 use Rattle.pieces.specs.Piece.{Stops}
-use Rattle.pieces.specs.Stage.{Ghost, Stands, Cell, Room, Uses, SlotOf, Advanced, Comparing, Equated}
+use Rattle.pieces.specs.Stage.{Ghost, Stands, Cell, Room, Uses, Advanced, Comparing, Equated}
 use Rattle.pieces.specs.Building.{Building, Built}
 use Rattle.pieces.proofs.Naming.{noted}
-use Rattle.pieces.proofs.Stages.{next, next-stands, next-cell, building, built-stands, built-old, built-cell, built-before, one-cell, equal-advanced, advance-then, stop-then, room-less, uses-on, equal-room}
-use Rattle.pieces.proofs.Walks.{stops-left, items-earlier, later-refl}
-use Rattle.names.specs.References.{Actuals, RowFrom, powerEquations, ActualsAt, EquatingActuals, ActualsEquated}
+use Rattle.pieces.proofs.Stages.{next, next-stands, next-cell, building, built-stands, built-old, built-cell, built-before, one-cell, equal-advanced, advance-then, stop-then, room-less, equal-room}
+use Rattle.pieces.proofs.Walks.{stops-left, items-earlier}
+use Rattle.names.specs.References.{Actuals, powerEquations, ActualsAt, EquatingActuals, ActualsEquated}
 
 -- Actuals keep their cells.
 pub actuals-kept : (s s′ d : List ℕ) (n n′ : ℕ) (G G′ : Ghost) → ((c : ℕ) (a : Term) → Cell s d n G c a → Cell s′ d n′ G′ c a) → (parts : List ℕ) (i : ℕ) (xs : Exprs) →

@@ -1,27 +1,26 @@
 -- A recorded type with actuals: its unknowns, their equations with the actuals, the type over the unknowns.
-use mathlib.Core.Path.{_≡_, refl, sym, ap, subst, _∙_}
-use mathlib.Core.List.{List, [], _∷_}
-use mathlib.Core.Logic.{_⊎_, _↔_, inl, inr, ⊎-elim}
-use Prim.Native.Nat.{ℕ, zero, suc, _+_, _*_, _≤_, _<_}
+use mathlib.Core.Path.{_≡_, refl, sym, subst, _∙_}
+use mathlib.Core.List.{List}
+use mathlib.Core.Logic.{_⊎_, inl, ⊎-elim}
+use Prim.Native.Nat.{ℕ, suc, _+_, _<_}
 use native.Mathlib.Omega.{arith}
-use lib.ListN.{length, getD}
 use Rattle.syntax.specs.Tree.{Exprs, exprsLength}
 use Rattle.types.specs.Equations.{In}
 use Rattle.types.specs.Instance.{instance}
-use Rattle.types.specs.Types.{Ty, Term}
+use Rattle.types.specs.Types.{Ty}
 use Rattle.typing.specs.Conditions.{freshRow, typed, arePowers}
 use Rattle.typing.specs.Items.{Items, _⨾_, Meets, Agree}
-use Rattle.typing.specs.Unknowns.{Table, slot, unknownAt, row}
+use Rattle.typing.specs.Unknowns.{slot, unknownAt, row}
 use Rattle.solver.specs.Settled.{lower, heap, Reads}
 use Rattle.solver.proofs.Settling.{heap-kept}
 use Rattle.pieces.specs.Piece.{Goes, Stops}
-use Rattle.pieces.specs.Stage.{Ghost, Stands, Cell, Room, Uses, Unvisited, SlotOf, Advanced, Ruled}
+use Rattle.pieces.specs.Stage.{Ghost, Stands, Cell, Room, Unvisited, SlotOf, Advanced}
 use Rattle.pieces.specs.Building.{Introduced}
 use Rattle.pieces.proofs.Walks.{Alike, piece-alike}
 use Rattle.pieces.proofs.Stages.{next, next-stands, next-cell, introduce-then, rule-goes, rule-stops, room-less}
 use Rattle.names.specs.References.{RowMade, InstanceAsked, InstanceOf, RecordedAt, Actuals, powerEquations, ActualsAt, EquatingActuals, ActualsEquated, ApplyingAt, AppliedAt}
 use Rattle.names.proofs.RowLaws.{alike-later}
-use Rattle.names.proofs.ReferenceLaws.{introduced-enlarged, new-typing, row-uses, A, G₁, row-stands, row-cell, row-unvisited, kept}
+use Rattle.names.proofs.ReferenceLaws.{introduced-enlarged, new-typing, row-uses, A, G₁, row-stands, row-cell, row-unvisited}
 use Rattle.names.proofs.ActualLaws.{actuals-kept}
 use Rattle.names.proofs.PowerItems.{powers-alike, goes-first, stops-first}
 

@@ -1,23 +1,23 @@
 -- The binding of a signature: places settled one by one, rows put in the runs, the former over them.
 use mathlib.Core.Path.{_≡_, refl, sym, ap, ap₂, subst, _∙_}
 use mathlib.Core.List.{List, [], _∷_, map}
-use mathlib.Core.Logic.{_⊎_, inl, inr, ⊎-elim}
+use mathlib.Core.Logic.{_⊎_, ⊎-elim}
 use Prim.Native.Nat.{ℕ, zero, suc, _+_, _*_, _≤_, _<_}
 use native.Mathlib.Omega.{arith}
 use native.Mathlib.Nat.{eq-or-lt-of-le}
-use lib.ListN.{length, getD, take, drop}
+use lib.ListN.{length, getD}
 use Rattle.syntax.specs.Decode.{pairsFrom}
 use Rattle.types.specs.Equations.{In}
 use Rattle.types.specs.Finite.{fromList}
 use Rattle.types.specs.Former.{binding, formerOf}
-use Rattle.types.specs.Types.{Ty, Tys, node, tcons, Term, Terms, Each, Eachs, under, unders}
+use Rattle.types.specs.Types.{Ty, Tys, node, tcons, Each, Eachs, under, unders}
 use Rattle.typing.specs.Unknowns.{Table}
 use Rattle.typing.specs.Items.{_⨾_, Meets}
-use Rattle.typing.specs.Signatures.{Signature, noNames, naming, namesOf, termsOf, bindingOf}
+use Rattle.typing.specs.Signatures.{Signature, noNames, naming, termsOf, bindingOf}
 use Rattle.solver.specs.Store.{frozen, load, run}
 use Rattle.solver.specs.Calls.{Above, Adding, Added, Making, Made}
 use Rattle.solver.specs.Growth.{Builds, Putting}
-use Rattle.solver.specs.Settled.{lower, heap, Reads, Readable, Obeys, Entering, Entered}
+use Rattle.solver.specs.Settled.{heap, Reads, Readable, Obeys, Entering, Entered}
 use Rattle.solver.proofs.Settling.{heap-kept}
 use Rattle.solver.proofs.Words.{frozen-length, run-cons}
 use Rattle.solver.proofs.Growing.{made-above, made-load}
@@ -27,7 +27,7 @@ use Rattle.signatures.specs.Rows.{rows, identifiersOf}
 use Rattle.signatures.specs.Carried.{Carries}
 use Rattle.signatures.proofs.CarryLaws.{carries-names}
 use Rattle.pieces.specs.Piece.{Solution}
-use Rattle.pieces.specs.Stage.{Ghost, Stands, Cell, Room}
+use Rattle.pieces.specs.Stage.{Ghost, Stands, Room}
 use Rattle.pieces.proofs.Stages.{room-less}
 use Rattle.names.specs.Scoped.{SettledAt}
 use Rattle.names.specs.Enlarged.{Enlarged}

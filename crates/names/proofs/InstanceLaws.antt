@@ -1,17 +1,14 @@
 -- A recorded type enters as a cell: settled where it has no parameters, built over a row of cells otherwise.
-use mathlib.Core.Path.{_≡_, refl, sym, ap, ap₂, subst, _∙_}
-use mathlib.Core.List.{List, [], _∷_}
-use Prim.Native.Nat.{ℕ, zero, suc, _+_, _*_, _≤_, _<_}
+use mathlib.Core.Path.{_≡_, sym, ap, subst, _∙_}
+use mathlib.Core.List.{List}
+use Prim.Native.Nat.{ℕ, suc, _+_, _≤_}
 use native.Mathlib.Omega.{arith}
 use Rattle.types.specs.Equations.{In}
-use Rattle.types.specs.Instance.{instance}
-use Rattle.types.specs.Types.{Ty, Term, nil, under, size, Each, Eachs}
+use Rattle.types.specs.Types.{nil, under, Each}
 use Rattle.types.proofs.Instance.{instance-none}
-use Rattle.typing.specs.Unknowns.{Table, slot, unknownAt, row}
-use Rattle.solver.specs.Store.{frozen, load}
-use Rattle.solver.specs.Settled.{heap, Reads, Readable, Entering, Entered}
+use Rattle.typing.specs.Unknowns.{slot, row}
+use Rattle.solver.specs.Settled.{Entering, Entered}
 use Rattle.solver.specs.Growth.{unknowns, Instancing, Instanced}
-use Rattle.pieces.specs.Stage.{Ghost, Stands, Cell, Room}
 use Rattle.pieces.proofs.Stages.{room-less}
 use Rattle.names.specs.Enlarged.{Enlarged}
 use Rattle.names.specs.References.{InstanceAsked, InstanceOf}

@@ -11,3 +11,5 @@ pub mod PowerItems
 pub mod ActualLaws
 pub mod AppliedLaws
 pub mod LookingUpApplied
+pub mod Carrying
+pub mod ThetaLaws

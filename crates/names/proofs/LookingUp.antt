@@ -1,8 +1,8 @@
 -- Names looked up: in the rows of a scope, then in the dictionary's area.
 use mathlib.Core.Path.{_≡_, refl, sym, ap, subst, _∙_}
 use mathlib.Core.Bool.{Bool, true, false, cond}
-use mathlib.Core.List.{List, [], _∷_, _++_}
-use Prim.Native.Nat.{ℕ, zero, suc, _+_, _*_, _≤_, _<_}
+use mathlib.Core.List.{List, _++_}
+use Prim.Native.Nat.{ℕ, _+_, _*_, _≤_, _<_}
 use mathlib.Core.Logic.{⊎-elim}
 use native.Mathlib.Omega.{arith}
 use native.Mathlib.Nat.{eq-zero-or-pos}
@@ -11,23 +11,22 @@ use lib.ListN.{length, getD, take, drop, length-take}
 use lib.Seq.{drop-append-add}
 use Rattle.syntax.specs.Tree.{none}
 use Rattle.types.specs.Formed.{WellFormed}
-use Rattle.types.specs.Types.{Ty, Term, size}
+use Rattle.types.specs.Types.{Ty, size}
 use Rattle.types.specs.Words.{words}
-use Rattle.typing.specs.Conditions.{freshRow, typed}
+use Rattle.typing.specs.Conditions.{typed}
 use Rattle.typing.specs.Dictionary.{Dictionary, blank, _▸_, nameEntry, schemaEntry, Named, unnamed, ofLocal, ofGlobal, nameIn}
-use Rattle.typing.specs.Items.{Items, _⨾_, refusal, Refuses}
+use Rattle.typing.specs.Items.{Items, refusal, Refuses}
 use Rattle.typing.specs.Rules.{referenceItems}
-use Rattle.typing.specs.Scopes.{Scope, nameAt}
 use Rattle.solver.specs.Settled.{lower, heap, Reads, Readable, Entering}
 use Rattle.dictionary.specs.Holds.{Holds}
-use Rattle.dictionary.specs.Lookup.{parametersAt, typeAt, Located, NameFound, Recorded as Entry}
+use Rattle.dictionary.specs.Lookup.{parametersAt, typeAt, NameFound, Recorded as Entry}
 use Rattle.dictionary.proofs.LookupLaws.{name-formed}
 use Rattle.signatures.specs.Tables.{Finds}
 use Rattle.signatures.proofs.CallLaws.{found-local, no-local}
 use Rattle.pieces.specs.Piece.{Stops}
-use Rattle.pieces.specs.Stage.{Ghost, Stands, Room, Uses, Unvisited, Ruled}
+use Rattle.pieces.specs.Stage.{Ruled}
 use Rattle.pieces.proofs.Stages.{rule-goes, rule-stops, room-less}
-use Rattle.names.specs.Scoped.{SettledAt, Limited, Recorded, Scoped}
+use Rattle.names.specs.Scoped.{SettledAt, Limited, Recorded}
 use Rattle.names.specs.References.{TypedAt, RecordedAt, Generic, Consulted, Global, Referring, Refers}
 use Rattle.names.proofs.Standing.{entering}
 

@@ -1,13 +1,12 @@
 -- Names with actuals looked up: 32 for a local name, and where the actuals are not as many as the parameters.
 use mathlib.Core.Path.{_≡_, refl, sym, ap, subst, _∙_}
 use mathlib.Core.Bool.{Bool, true, false, cond}
-use mathlib.Core.List.{List, [], _∷_}
+use mathlib.Core.List.{List}
 use mathlib.Core.Logic.{⊎-elim}
-use Prim.Native.Nat.{ℕ, zero, suc, _+_, _*_, _≤_, _<_}
+use Prim.Native.Nat.{ℕ, suc, _+_, _≤_, _<_}
 use native.Mathlib.Omega.{arith}
 use native.Mathlib.Nat.{eq-zero-or-pos}
 use lib.Dec.{eqb}
-use lib.ListN.{length, getD}
 use borrow.Author.Tests.{eqb-true, eq-eqb}
 use Rattle.syntax.specs.Tree.{Exprs, none, more, exprsLength}
 use Rattle.types.specs.Instance.{instance}
@@ -16,17 +15,17 @@ use Rattle.typing.specs.Conditions.{typed, arePowers}
 use Rattle.typing.specs.Dictionary.{Dictionary, Named, unnamed, ofLocal, ofGlobal, nameIn}
 use Rattle.typing.specs.Items.{Items, _⨾_, refusal}
 use Rattle.typing.specs.Rules.{referenceItems}
-use Rattle.typing.specs.Scopes.{Scope, nameAt}
+use Rattle.typing.specs.Scopes.{nameAt}
 use Rattle.typing.specs.Unknowns.{row}
 use Rattle.dictionary.specs.Holds.{Holds}
 use Rattle.dictionary.specs.Lookup.{parametersAt, typeAt, NameFound}
 use Rattle.signatures.specs.Tables.{Finds}
 use Rattle.signatures.proofs.CallLaws.{found-local, no-local}
 use Rattle.pieces.specs.Piece.{Stops}
-use Rattle.pieces.specs.Stage.{Ghost, Stands, Unvisited, Ruled}
+use Rattle.pieces.specs.Stage.{Ghost, Ruled}
 use Rattle.pieces.proofs.Stages.{rule-stops}
-use Rattle.names.specs.Scoped.{SettledAt, Recorded}
-use Rattle.names.specs.References.{Consulted, Referring, Refers, Actuals, ApplyingAt, AppliedAt, ConsultedWith, GlobalApplied, ReferringWith, RefersWith}
+use Rattle.names.specs.Scoped.{SettledAt}
+use Rattle.names.specs.References.{Refers, ApplyingAt, AppliedAt, ConsultedWith, GlobalApplied, ReferringWith, RefersWith}
 use Rattle.names.proofs.LookingUp.{refused, entry, named, type-reads, recorded-at, consulted}
 
 -- The items of a Ref with one actual at least.

@@ -1,10 +1,9 @@
 -- The items of explicit actuals, with the unknowns first: they ask the same, and stop at the same.
-use mathlib.Core.Path.{_≡_, refl}
-use mathlib.Core.Logic.{_⊎_, _↔_, inl, inr}
-use Prim.Native.Nat.{ℕ, zero, suc}
+use mathlib.Core.Logic.{_↔_, inl, inr}
+use Prim.Native.Nat.{ℕ, suc}
 use Rattle.syntax.specs.Tree.{Exprs, none, more, exprsLength}
 use Rattle.typing.specs.Conditions.{typeOf, arePowers, freshRow}
-use Rattle.typing.specs.Items.{Items, skip, _⨾_, fresh, equate, Meets, Agree, And, Passes, Refuses}
+use Rattle.typing.specs.Items.{Items, _⨾_, fresh, equate, Meets, Agree, And, Passes, Refuses}
 use Rattle.typing.specs.Unknowns.{Table, slot, unknownAt, powerOf}
 use Rattle.typing.proofs.ItemLaws.{passes-ext, refuses-ext}
 use Rattle.pieces.specs.Piece.{Goes, Stops}

@@ -1,27 +1,24 @@
 -- References without actuals: a local name's settled type, a recorded type with an unknown for each parameter.
-use mathlib.Core.Path.{_≡_, refl, sym, ap, subst, _∙_}
-use mathlib.Core.List.{List, [], _∷_, _++_}
+use mathlib.Core.Path.{_≡_, sym, subst, _∙_}
+use mathlib.Core.List.{List}
 use mathlib.Core.Logic.{_⊎_, inl, inr, ⊎-elim}
-use Prim.Native.Nat.{ℕ, zero, suc, _+_, _*_, _≤_, _<_}
+use Prim.Native.Nat.{ℕ, suc, _+_, _<_}
 use native.Mathlib.Omega.{arith}
-use lib.ListN.{length}
-use Rattle.types.specs.Equations.{In, InP}
+use Rattle.types.specs.Equations.{In}
 use Rattle.types.specs.Instance.{instance}
-use Rattle.types.specs.Types.{Ty, Term, size}
+use Rattle.types.specs.Types.{Ty, Term}
 use Rattle.typing.specs.Conditions.{freshRow, typed}
 use Rattle.typing.specs.Items.{Items, _⨾_}
 use Rattle.typing.specs.Unknowns.{slot, unknownAt, row}
-use Rattle.solver.specs.Store.{frozen, load}
-use Rattle.solver.specs.Settled.{lower, heap, Reads, Readable, Entering, Entered}
+use Rattle.solver.specs.Settled.{heap, Reads, Entering, Entered}
 use Rattle.solver.proofs.Settling.{heap-kept}
-use Rattle.pieces.specs.Stage.{Ghost, Stands, Cell, Room, Uses, Unvisited, SlotOf, Advanced, Ruled}
+use Rattle.pieces.specs.Stage.{Ghost, Stands, Cell, Uses, Unvisited, SlotOf, Advanced}
 use Rattle.pieces.specs.Building.{Introduced}
 use Rattle.pieces.proofs.Walks.{later-on}
 use Rattle.pieces.proofs.Stages.{next, next-stands, placed-cell, introduce-then, introduced-typed, room-less}
-use Rattle.names.specs.Scoped.{SettledAt}
 use Rattle.names.specs.Enlarged.{Enlarged}
-use Rattle.names.specs.References.{RowAsked, Among, RowOf, RowMade, InstanceAsked, InstanceOf, TypedAt, RecordedAt, Generic}
-use Rattle.names.proofs.Standing.{entering, settled-enlarged}
+use Rattle.names.specs.References.{RowAsked, RowOf, RowMade, InstanceAsked, InstanceOf, TypedAt, RecordedAt, Generic}
+use Rattle.names.proofs.Standing.{settled-enlarged}
 
 -- Cells more before the items.
 pub introduced-enlarged : (r s s′ d : List ℕ) (m bottom n top n′ top′ z : ℕ) (G : Ghost) (own : Items) (M : ℕ → Type 0) (x c : ℕ) → Enlarged r s d m bottom n top z → Stands r d m bottom G →

@@ -5,7 +5,7 @@ use Prim.Native.Nat.{ℕ, zero, suc, _+_, _<_}
 use native.Mathlib.Omega.{arith}
 use Rattle.types.specs.Former.{Former, int, given, parameter, power, product, binding}
 use Rattle.types.specs.Instance.{nth, actual, instanceFormer, instance, instances}
-use Rattle.types.specs.Types.{Ty, Tys, node, tnil, tcons, Term, Terms, unknown, con, nil, cons, under, unders, Each, Eachs}
+use Rattle.types.specs.Types.{Ty, Tys, node, tnil, tcons, Term, Terms, nil, cons, under, unders, Each, Eachs}
 use Rattle.typing.specs.Unknowns.{slot, row}
 use Rattle.solver.specs.Growth.{unknowns}
 

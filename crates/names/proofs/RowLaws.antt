@@ -1,20 +1,19 @@
 -- A row of new unknowns, made one by one.
-use mathlib.Core.Path.{_≡_, refl, sym, ap, ap₂, subst, _∙_}
+use mathlib.Core.Path.{_≡_, refl, sym, ap, subst, _∙_}
 use mathlib.Core.List.{List, [], _∷_}
 use mathlib.Core.Logic.{_⊎_, _↔_, inl, inr, ⊎-elim}
-use Prim.Native.Nat.{ℕ, zero, suc, _+_, _*_, _≤_, _<_}
+use Prim.Native.Nat.{ℕ, zero, suc, _+_, _≤_, _<_}
 use native.Mathlib.Omega.{arith}
 use native.Mathlib.Nat.{eq-or-lt-of-le}
-use Rattle.types.specs.Equations.{In, InP, Pairs, pair, end}
+use Rattle.types.specs.Equations.{In, Pairs, pair, end}
 use Rattle.typing.specs.Unknowns.{Table, slot}
-use Rattle.typing.specs.Items.{Items, skip, _⨾_, fresh, Meets, Agree, Passes}
+use Rattle.typing.specs.Items.{Items, _⨾_, fresh, Meets, Agree, Passes}
 use Rattle.typing.specs.Conditions.{freshRow}
 use Rattle.solver.specs.Store.{frozen, load, run, Solved}
 use Rattle.solver.specs.Calls.{Making, Made}
-use Rattle.solver.specs.Settled.{lower}
 use Rattle.solver.proofs.Growing.{made-above, made-load}
 use Rattle.solver.proofs.Extending.{made-grows}
-use Rattle.pieces.specs.Piece.{Piece, Goes, Later}
+use Rattle.pieces.specs.Piece.{Later}
 use Rattle.pieces.specs.Stage.{Ghost, Stands, Unvisited, Advanced}
 use Rattle.pieces.proofs.Walks.{Alike, piece-alike, meets-alike, later-on, later-refl}
 use Rattle.pieces.proofs.Growing.{unknown, unknown-later}

@@ -1,18 +1,18 @@
 -- The power of a signature's binding, as the type of a node.
-use mathlib.Core.Path.{_≡_, refl, sym, ap, subst, _∙_}
+use mathlib.Core.Path.{_≡_, subst}
 use mathlib.Core.List.{List, [], _∷_}
-use Prim.Native.Nat.{ℕ, suc, _+_, _≤_, _<_}
+use Prim.Native.Nat.{ℕ, suc, _+_}
 use native.Mathlib.Omega.{arith}
 use Rattle.types.specs.Former.{power}
 use Rattle.types.specs.Types.{cons, nil}
 use Rattle.typing.specs.Conditions.{typed}
-use Rattle.typing.specs.Signatures.{Signature, bindingOf}
+use Rattle.typing.specs.Signatures.{bindingOf}
 use Rattle.typing.specs.Unknowns.{slot, powerOf}
-use Rattle.pieces.specs.Stage.{Ghost, Stands, Cell, Room, SlotOf}
+use Rattle.pieces.specs.Stage.{SlotOf}
 use Rattle.pieces.specs.Building.{Building, Built}
-use Rattle.pieces.proofs.Stages.{building, built-cell, one-cell, room-less, uses-on}
+use Rattle.pieces.proofs.Stages.{building, built-cell, one-cell}
 use Rattle.names.specs.Enlarged.{Enlarged}
-use Rattle.names.specs.Bindings.{Binding, Bound, SchemaSetAsked, SchemaSetTyped}
+use Rattle.names.specs.Bindings.{Bound, SchemaSetAsked, SchemaSetTyped}
 use Rattle.names.proofs.Standing.{enlarged-on, built-enlarged}
 use Rattle.names.proofs.ReferenceLaws.{introduced-enlarged, new-typing}
 

@@ -1,16 +1,14 @@
 -- Stores that grow while every piece stands: composed, with a settled cell more, with formers more.
-use mathlib.Core.Path.{_≡_, refl, sym, ap, subst, _∙_}
-use mathlib.Core.List.{List, []}
-use Prim.Native.Nat.{ℕ, zero, suc, _+_, _*_, _≤_, _<_}
+use mathlib.Core.Path.{_≡_, refl, sym, subst, _∙_}
+use mathlib.Core.List.{List}
+use Prim.Native.Nat.{ℕ, suc, _+_}
 use native.Mathlib.Omega.{arith}
-use lib.ListN.{length, take, drop}
-use Rattle.types.specs.Types.{Ty, Term}
-use Rattle.solver.specs.Store.{frozen, load}
+use Rattle.types.specs.Types.{Term}
+use Rattle.solver.specs.Store.{frozen}
 use Rattle.solver.specs.Calls.{Above}
 use Rattle.solver.specs.Growth.{Builds}
 use Rattle.solver.specs.Settled.{lower, heap, Reads, Readable, Entering, Entered}
 use Rattle.solver.proofs.Settling.{heap-kept}
-use Rattle.pieces.specs.Piece.{Later}
 use Rattle.pieces.specs.Stage.{Ghost, Stands, Cell, Room, Uses}
 use Rattle.pieces.proofs.Walks.{later-refl, later-on, denotes-later}
 use Rattle.pieces.proofs.Stages.{room-less, plain-making}

@@ -1,7 +1,7 @@
 -- THE BINDING OF A SIGNATURE whose m rows stand at `base` in the words w: a settled cell for each place, then a binding over them.
 use mathlib.Core.Path.{_≡_}
-use mathlib.Core.List.{List, [], _∷_}
-use Prim.Native.Nat.{ℕ, zero, suc, _+_, _*_, _≤_, _<_, _^_}
+use mathlib.Core.List.{List}
+use Prim.Native.Nat.{ℕ, suc, _+_, _*_, _≤_, _<_}
 use lib.ListN.{length, getD}
 use Rattle.types.specs.Types.{Ty}
 use Rattle.typing.specs.Conditions.{typed}

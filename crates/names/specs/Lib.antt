@@ -2,3 +2,4 @@ pub mod Scoped
 pub mod Enlarged
 pub mod Bindings
 pub mod References
+pub mod Thetas
