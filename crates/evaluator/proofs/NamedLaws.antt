@@ -1,15 +1,15 @@
 -- The names of a document: that a state gives each a value, which the code finds by the table of the givens.
-use mathlib.Core.Path.{_≡_, refl}
+use mathlib.Core.Path.{_≡_, refl, sym, ap, subst, _∙_}
 use mathlib.Core.Bool.{Bool, true, false, cond}
 use mathlib.Core.List.{List, [], _∷_, _++_}
 use Prim.Native.Nat.{ℕ, suc, _+_, _*_, _-_, _≤_, _<_}
 use native.Mathlib.Omega.{arith}
 use lib.Dec.{eqb}
-use lib.ListN.{length, getD}
+use lib.ListN.{length, getD, take, drop}
 use borrow.Author.Tests.{eq-eqb, eqb-true}
 use Rattle.words.proofs.Loops.{and-left, and-right}
 use Rattle.layout.specs.Layout.{count, laidOut, part}
-use Rattle.layout.proofs.Laws.{laid}
+use Rattle.layout.proofs.Laws.{laid, part-eq}
 use Rattle.values.specs.Value.{encode}
 use Rattle.values.specs.Givens.{elements}
 use Rattle.values.specs.Held.{keep}
@@ -21,6 +21,8 @@ use Rattle.states.proofs.TableLaws.{mark, positive-at, positive-document, table
 use Rattle.evaluation.specs.Claims.{WellFormed}
 use Rattle.evaluation.proofs.Decoding.{Words}
 use Rattle.evaluation.proofs.StatePlace.{state-well}
+use Rattle.evaluation.proofs.StateWords.{state-words}
+use Rattle.evaluator.specs.Blocks.{Stored}
 use Rattle.evaluator.specs.Worked.{Holds}
 use Rattle.evaluator.specs.Named.{Among, here, there, said, Stated}
 use Rattle.evaluator.proofs.StateValues.{entry-holds, given-holds}
@@ -95,3 +97,29 @@ module _ (doc state table : List ℕ) (s : Stated doc state table) (i : ℕ) (a 
       go : (b : Bool) → nameAt ns k .isGiven ≡ b → Holds (keep (encode (elements (getD table (2 * k) 0) (getD (part state k) 0 0)))) (valueIn ns state i)
       go true g = let m : getD table (2 * k) 0 ≡ nameAt ns k .identifier = rw g at marked in rw m (given-holds ns state i w formed some g _ refl)
       go false g = let m : getD table (2 * k) 0 ≡ 0 = rw g at marked in absurd (z m)
+
+  -- the words of its entry, where it is no given's
+  pub name-stored : Words state → getD table (2 * k) 0 ≡ 0 → Stored (take (getD state (2 * k) 0) (drop (getD state (2 * k - 1) 0) state)) (said doc state i)
+  name-stored w z = go (nameAt ns k .isGiven) refl
+    where
+      here : part state k ≡ take (getD state (2 * k) 0) (drop (getD state (2 * k - 1) 0) state)
+      here = part-eq state k some
+
+      go : (b : Bool) → nameAt ns k .isGiven ≡ b → Stored (take (getD state (2 * k) 0) (drop (getD state (2 * k - 1) 0) state)) (valueIn ns state i)
+      go true g =
+          let m : getD table (2 * k) 0 ≡ nameAt ns k .identifier = rw g at marked in
+          let p = positive-at ns (positive-document doc (s .read) (document-words doc (s .read) .0)) (k - 1) g in
+          absurd (omega (arith, m, z, p))
+      go false g =
+          let H = entry-holds ns state i w formed some g _ refl in
+          record { words = sym here ∙ sym (state-words ns state i w formed some most g); short = H .short; narrow = H .narrow }
+
+  pub name-entry : Words state → (j at len m : ℕ) → j ≡ k → m ≡ getD table (2 * j) 0 → m ≡ 0 → at ≡ getD state (2 * j - 1) 0 → len ≡ getD state (2 * j) 0 →
+      Stored (take len (drop at state)) (said doc state i)
+  name-entry w j at len m e f z p q =
+      subst (λ (x : ℕ). Stored (take x (drop at state)) (said doc state i)) (sym (q ∙ ap (λ (y : ℕ). getD state (2 * y) 0) e))
+      (subst (λ (x : ℕ). Stored (take (getD state (2 * k) 0) (drop x state)) (said doc state i)) (sym (p ∙ ap (λ (y : ℕ). getD state (2 * y - 1) 0) e))
+      (name-stored w (ap (λ (y : ℕ). getD table (2 * y) 0) (sym e) ∙ sym f ∙ z)))
+
+  pub entry-some : 1 ≤ k
+  entry-some = some

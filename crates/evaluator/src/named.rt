@@ -1,4 +1,5 @@
 // The names of a document with the values that a state gives them, and their blocks in the work area.
+use crate::blocks::put_entry;
 use crate::blocks::put_name;
 use layout::part;
 use states::places::place_of;
@@ -9,12 +10,13 @@ use values::held::over;
 use words::word;
 ghost use mathlib.Core.Path.{_≡_};
 ghost use mathlib.Core.Bool.{true};
-ghost use Prim.Native.Nat.{_+_, _-_, _≤_};
+ghost use Prim.Native.Nat.{_+_, _-_, _≤_, _<_, _^_};
 ghost use lib.ListN.{length, drop};
 ghost use Rattle.values.specs.Value.{Value};
 ghost use Rattle.syntax.specs.Decode.{treeOf};
 ghost use Rattle.states.specs.Names.{documentNames, namesAs};
 ghost use Rattle.evaluator.specs.Worked.{Holds};
+ghost use Rattle.evaluation.specs.Scope.{valued, bind};
 ghost use Rattle.evaluation.specs.Paragraphs.{bindGivens};
 ghost use Rattle.evaluator.specs.Named.{Among, Declares, Stated, Extends, said};
 
@@ -43,6 +45,19 @@ pub fn bounded(v: Held) -> Held
     v
 }
 
+// A name in block b: its entry in the state, or the set of a given's elements.
+fn put_stated(doc: &[u32], state: &[u32], table: &[u32], work: &mut [u32], b: usize, name: usize)
+    requires { ⌜ Stated (now doc) (now state) (now table) × Among name (documentNames (treeOf (now doc))) × (b < 64) × (16384 ≤ length (now work)) × (name < 2 ^ 32) ⌝ }
+    ensures { λ _. ⌜ Extends (now (state .entry)) (now (work .entry)) (now (work .exit)) b (b + 1) (bind name (valued (said (now (doc .entry)) (now (state .entry)) name))) ⌝ }
+{
+    let k = place_of(doc, name);
+    if word(table, 2 * k) == 0 {
+        put_entry(work, b, name, word(state, 2 * k - 1), word(state, 2 * k));
+        return;
+    }
+    put_name(work, b, name, held_name(doc, state, table, name));
+}
+
 // The identifiers among the words w from j on, in blocks from b on.
 pub fn put_names(
     doc: &[u32],
@@ -59,7 +74,6 @@ pub fn put_names(
     if w.len() <= j {
         return;
     }
-    let name = word(w, j);
-    put_name(work, b, name, held_name(doc, state, table, name));
+    put_stated(doc, state, table, work, b, word(w, j));
     put_names(doc, state, table, work, b + 1, w, j + 1);
 }
