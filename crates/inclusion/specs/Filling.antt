@@ -1,0 +1,52 @@
+-- Findings 36 and 38 of what an Include brings, decided on words.
+use mathlib.Core.Path.{_≡_}
+use mathlib.Core.Bool.{Bool, true, false}
+use mathlib.Core.List.{List}
+use Prim.Native.Nat.{ℕ, _+_, _*_, _≤_, _<_}
+use lib.ListN.{length, getD}
+use Rattle.types.specs.Types.{Ty, Tys}
+use Rattle.typing.specs.Unknowns.{row}
+use Rattle.typing.specs.Items.{Items, Meets, Refuses}
+use Rattle.typing.specs.Signatures.{Signature}
+use Rattle.typing.specs.Conditions.{mergeNames, smallTypes}
+use Rattle.solver.specs.Calls.{Tells}
+use Rattle.solver.specs.Settled.{heap, Reads, Readable, Areas}
+use Rattle.signatures.specs.Rows.{rows}
+use Rattle.signatures.specs.Carried.{Carries}
+use Rattle.instances.specs.Fill.{fill}
+use Rattle.instances.specs.Filled.{Row, Actuals}
+use Rattle.merging.specs.Merging.{Rows}
+use Rattle.pieces.specs.Piece.{Steady, Walked}
+use Rattle.inclusion.specs.Components.{Component, Placed, ActualTypes}
+
+-- A type at p with actuals for its parameters, beside the type at q.
+pub record Comparing (s d : List ℕ) (p : ℕ) (places : List ℕ) (q : ℕ) : Type 0 where
+  pub actuals : Actuals s d places
+  pub left : Readable (heap s d) p
+  pub right : Readable (heap s d) q
+
+pub record SameFilled (s d : List ℕ) (p : ℕ) (places : List ℕ) (q : ℕ) (b : Bool) : Type 0 where
+  pub tells : (g k : Ty) (hs : Tys) → Reads (heap s d) p g → Reads (heap s d) q k → Row (heap s d) places hs → Tells b (fill hs g ≡ k)
+
+-- The rows of an Include, k of them at `source`, with its actuals.
+pub record RowsAsk (s d w : List ℕ) (source k : ℕ) (places : List ℕ) : Type 0 where
+  pub actuals : Actuals s d places
+  pub table : Rows s d w source k
+
+pub record AgreeAsk (s d w : List ℕ) (base m source k : ℕ) (places : List ℕ) : Type 0 where
+  pub brought : RowsAsk s d w source k places
+  pub table : Rows s d w base m
+
+-- 36: beside the signature r of the lines before. Any Include node i with the arity z, whose signature is q.
+pub record AgreeTold (s d w : List ℕ) (base m source k : ℕ) (places : List ℕ) (fine : Bool) : Type 0 where
+  pub goes : fine ≡ true → (H : Items) (U : List ℕ) (n i z : ℕ) (q r : Signature) → Steady H U → ActualTypes s d H U i z places →
+      Carries (Component s d (row i 1 z)) q (rows w source k) → Carries (Placed s d H U) r (rows w base m) → Walked H (mergeNames n q r) U U (λ x. ⊥)
+  pub stops : fine ≡ false → (H : Items) (U : List ℕ) (n i z : ℕ) (q r : Signature) → Steady H U → ActualTypes s d H U i z places →
+      Carries (Component s d (row i 1 z)) q (rows w source k) → Carries (Placed s d H U) r (rows w base m) → Refuses (mergeNames n q r) (Meets H) 36 n
+
+-- 38: component types of size 32 at most.
+pub record SmallTold (s d w : List ℕ) (source k : ℕ) (places : List ℕ) (fine : Bool) : Type 0 where
+  pub goes : fine ≡ true → (H : Items) (U : List ℕ) (n i z : ℕ) (q : Signature) → Steady H U → ActualTypes s d H U i z places →
+      Carries (Component s d (row i 1 z)) q (rows w source k) → Walked H (smallTypes n q) U U (λ x. ⊥)
+  pub stops : fine ≡ false → (H : Items) (U : List ℕ) (n i z : ℕ) (q : Signature) → Steady H U → ActualTypes s d H U i z places →
+      Carries (Component s d (row i 1 z)) q (rows w source k) → Refuses (smallTypes n q) (Meets H) 38 n

@@ -1,0 +1,85 @@
+-- Types that a line declares, written into the caller's part of the area from `at` on, where it is clean.
+use mathlib.Core.Path.{_≡_}
+use mathlib.Core.Bool.{Bool, true, false}
+use mathlib.Core.List.{List}
+use Prim.Native.Nat.{ℕ, suc, _+_, _*_, _≤_, _<_, _^_}
+use lib.ListN.{length, getD, drop}
+use Rattle.types.specs.Types.{Ty, Term, size}
+use Rattle.typing.specs.Unknowns.{Table, row}
+use Rattle.typing.specs.Items.{Items, Meets, Refuses}
+use Rattle.typing.specs.Signatures.{Signature}
+use Rattle.typing.specs.Conditions.{mergeNames, mergeDeclared, smallTypes}
+use Rattle.solver.specs.Settled.{heap, Reads}
+use Rattle.signatures.specs.Rows.{rows}
+use Rattle.signatures.specs.Carried.{Carries}
+use Rattle.instances.specs.Clean.{Clean}
+use Rattle.instances.specs.Filled.{Actuals}
+use Rattle.merging.specs.Merging.{Rows}
+use Rattle.pieces.specs.Piece.{Steady, Walked, Settled}
+use Rattle.pieces.specs.Stage.{Ghost}
+use Rattle.pieces.specs.Closed.{Shut, Sizing}
+use Rattle.inclusion.specs.Components.{Component, Placed, StandsFor, ActualTypes}
+
+-- Words written from `at` on: those before stay, and from `end` on the area is clean.
+pub record Stored (s s′ : List ℕ) (at end : ℕ) : Type 0 where
+  pub size : length s′ ≡ length s
+  pub before : (i : ℕ) → i < at → getD s′ i 0 ≡ getD s i 0
+  pub after : Clean s′ end
+  pub more : at ≤ end
+
+-- Words of a work area below `free` stay.
+pub record Scratch (w w′ : List ℕ) (free : ℕ) : Type 0 where
+  pub size : length w′ ≡ length w
+  pub before : (i : ℕ) → i < free → getD w′ i 0 ≡ getD w i 0
+
+-- THE TYPE OF A CELL of a closed piece: cell c of n; there is room for it in both areas.
+pub record StoreAsk (s d w : List ℕ) (n c at free : ℕ) : Type 0 where
+  pub sizing : Sizing s d n c
+  pub size : length s ≡ 52224
+  pub clean : Clean s at
+  pub some : 1 ≤ at
+  pub room : at + 96 < 39936
+  pub scratch : free + 96 ≤ length w
+
+-- Its words stand at `at`; of a type over size 32, those of another type over size 32.
+pub record TypeStored (s s′ d w w′ : List ℕ) (n c at free end : ℕ) : Type 0 where
+  pub stored : Stored s s′ at end
+  pub scratch : Scratch w w′ free
+  pub short : end ≤ at + 96
+  pub stands : (G : Ghost) (S : Shut s d n G) → (h : Ty) × Reads (heap s′ d) at h × StandsFor h (S .type c)
+
+-- 36 for a Decl whose type is over size 32: no identifier of it may be in the table, whose types are small.
+pub record OverlapTold (s d w : List ℕ) (base m : ℕ) (is : List ℕ) (none : Bool) : Type 0 where
+  pub goes : none ≡ true → (H : Items) (U : List ℕ) (n : ℕ) (t : Term) (r : Signature) → Steady H U → Carries (Placed s d H U) r (rows w base m) →
+      Walked H (mergeDeclared n is t r) U U (λ x. ⊥)
+  pub stops : none ≡ false → (H : Items) (U : List ℕ) (n : ℕ) (t : Term) (g : Ty) (r : Signature) → Steady H U → Settled H t g → 32 < size g →
+      Carries (Placed s d H U) r (rows w base m) → Refuses (mergeDeclared n is t r) (Meets H) 36 n
+
+-- WHAT AN INCLUDE BRINGS, WRITTEN OUT: the k rows at `source` get places of their own types; those of identifiers that are in the table of m rows at
+-- base get the places there. The actuals' words stand between `at` and `end`, and are overwritten.
+pub record KeepAsk (s d w : List ℕ) (base m source k : ℕ) (places : List ℕ) (at end free : ℕ) : Type 0 where
+  pub size : length s ≡ 52224
+  pub few : length d < 2 ^ 31
+  pub actuals : Actuals s d places
+  pub rows : Rows s d w source k
+  -- the components are recorded in the dictionary
+  pub recorded : (j : ℕ) → j < k → 39936 ≤ getD w (source + 2 * j + 1) 0
+  pub table : Rows s d w base m
+  pub many : k ≤ 16
+  pub clean : Clean s end
+  pub gap : (i : ℕ) → suc i ≡ at → getD s i 0 ≡ 0
+  pub some : 1 ≤ at
+  pub before : at ≤ end
+  pub room : end + 96 * 16 < 39936
+  pub scratch : free + 96 * 16 ≤ length w
+  pub beside : (base + 2 * m ≤ free) × (source + 2 * k ≤ free)
+
+pub record RowsKept (s s′ d w w′ : List ℕ) (base m source k : ℕ) (places : List ℕ) (at end free end′ : ℕ) : Type 0 where
+  pub stored : Stored s s′ at end′
+  pub size : length w′ ≡ length w
+  -- in the work area only the places of the rows at `source` and words from `free` on change
+  pub words : (i : ℕ) → i < free → ((j : ℕ) → j < k → i ≡ source + 2 * j + 1 → ⊥) → getD w′ i 0 ≡ getD w i 0
+  pub short : end′ ≤ at + 96 * k
+  pub placed : (H : Items) (U : List ℕ) (n i z : ℕ) (q r : Signature) → ActualTypes s d H U i z places → Carries (Component s d (row i 1 z)) q (rows w source k) →
+      Carries (Placed s d H U) r (rows w base m) → ((τ : Table) → Meets H τ → Meets (mergeNames n q r) τ) → ((τ : Table) → Meets H τ → Meets (smallTypes n q) τ) →
+      Steady H U → Carries (Placed s′ d H U) q (rows w′ source k)

@@ -1,0 +1,1 @@
+// 36 and 38 of what an Include brings.

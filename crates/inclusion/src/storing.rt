@@ -1,0 +1,1 @@
+// Types written into the caller's part of the solver's area.
