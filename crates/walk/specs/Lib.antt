@@ -1,0 +1,6 @@
+pub mod Visits
+pub mod Room
+pub mod Expressions
+pub mod Predicates
+pub mod Texts
+pub mod Includes
