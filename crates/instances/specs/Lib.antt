@@ -1,3 +1,4 @@
 pub mod Fill
 pub mod Filled
 pub mod Moved
+pub mod Clean
