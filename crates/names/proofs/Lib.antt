@@ -12,4 +12,5 @@ pub mod ActualLaws
 pub mod AppliedLaws
 pub mod LookingUpApplied
 pub mod Carrying
+pub mod ComponentLaws
 pub mod ThetaLaws
