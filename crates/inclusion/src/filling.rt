@@ -1,1 +1,78 @@
 // 36 and 38 of what an Include brings.
+use instances::actual;
+use solver::lead_words;
+use solver::name_words;
+use solver::parts_of;
+use solver::same_type;
+use solver::skip;
+use solver::type_word;
+ghost use mathlib.Core.Path.{_≡_};
+ghost use Prim.Native.Nat.{ℕ, _+_, _<_, _^_};
+ghost use lib.ListN.{length, getD};
+ghost use Rattle.solver.specs.Calls.{Tells};
+ghost use Rattle.solver.specs.Settled.{heap};
+ghost use Rattle.inclusion.specs.Filling.{Comparing, SameFilled};
+
+// The tag of a parameter.
+const PARAMETER: usize = 6;
+
+// The k type words at p and at q are the same.
+fn same_words(a: &[u32], d: &[u32], p: usize, q: usize, k: usize) -> bool
+    requires { ⌜ (length (now a) ≡ 52224) × (p + k < 2 ^ 40) × (q + k < 2 ^ 40) ⌝ }
+    ensures { λ r. ⌜ Tells r ((i : ℕ) → i < k → getD (heap (now (a .entry)) (now (d .entry))) (p + i) 0 ≡ getD (heap (now (a .entry)) (now (d .entry))) (q + i) 0) ⌝ }
+{
+    let mut j = 0;
+    while j < k {
+        if type_word(a, d, p + j) != type_word(a, d, q + j) {
+            return false;
+        }
+        j += 1;
+    }
+    true
+}
+
+// What the parameter at p becomes is the type at q.
+fn same_actual(a: &[u32], d: &[u32], p: usize, row: &[u32], q: usize) -> bool
+    requires { ⌜ (Comparing (now a) (now d) p (now row) q) × (getD (heap (now a) (now d)) p 0 ≡ 6) ⌝ }
+    ensures { λ r. ⌜ SameFilled (now (a .entry)) (now (d .entry)) p (now (row .entry)) q r ⌝ }
+{
+    let i = actual(row, type_word(a, d, p + 1));
+    if i == 0 {
+        return same_type(a, d, p, q);
+    }
+    same_type(a, d, i - 1, q)
+}
+
+// The type at p, with the actuals for its parameters, is the type at q.
+pub fn same_filled(a: &[u32], d: &[u32], p: usize, row: &[u32], q: usize) -> bool
+    requires { ⌜ Comparing (now a) (now d) p (now row) q ⌝ }
+    ensures { λ r. ⌜ SameFilled (now (a .entry)) (now (d .entry)) p (now (row .entry)) q r ⌝ }
+{
+    let t = type_word(a, d, p);
+    if t == PARAMETER {
+        return same_actual(a, d, p, row, q);
+    }
+    let k = lead_words(t);
+    if !same_words(a, d, p, q, k) {
+        return false;
+    }
+    let w = name_words(t);
+    let n = parts_of(a, d, t, p);
+    let mut at = p + k;
+    let mut to = q + k;
+    let mut j = 0;
+    while j < n {
+        if !same_words(a, d, at, to, w) {
+            return false;
+        }
+        let x = at + w;
+        let y = to + w;
+        if !same_filled(a, d, x, row, y) {
+            return false;
+        }
+        at = skip(a, d, x);
+        to = skip(a, d, y);
+        j += 1;
+    }
+    true
+}
