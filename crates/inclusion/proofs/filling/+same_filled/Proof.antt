@@ -1,14 +1,14 @@
-use mathlib.Core.Path.{_≡_, refl, sym, ap, _∙_}
+use mathlib.Core.Path.{refl, sym, _∙_}
 use mathlib.Core.Bool.{true, false}
 use native.Mathlib.Omega.{arith}
-use Prim.Native.Nat.{ℕ, _+_, _-_, _≤_, _<_}
+use Prim.Native.Nat.{ℕ, _+_, _-_, _<_}
 use lib.ListN.{length}
 use Rattle.types.specs.Types.{Ty, Tys}
 use Rattle.types.proofs.Terms.{bool-no}
 use Rattle.solver.specs.Settled.{heap, Reads}
 use Rattle.solver.proofs.Reading.{heap-length, place-few}
 use Rattle.instances.specs.Filled.{Row}
-use Rattle.inclusion.proofs.SameLaws.{Matching, MatchStep, lead-needed, match-start, match-step, match-end}
+use Rattle.inclusion.proofs.SameLaws.{Matching, lead-needed, match-start, match-step, match-end}
 use borrow.Author.Tests.{not-true, not-false}
 use borrow.Author.Needs.{needs}
 use borrow.Fn.Kinds.{In}
