@@ -13,3 +13,6 @@ pub mod AppliedLaws
 pub mod LookingUpApplied
 pub mod Carrying
 pub mod ThetaLaws
+pub mod FewParameters
+pub mod FewNames
+pub mod LimitedKept

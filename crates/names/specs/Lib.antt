@@ -3,3 +3,4 @@ pub mod Enlarged
 pub mod Bindings
 pub mod References
 pub mod Thetas
+pub mod Extended
