@@ -101,7 +101,7 @@ module _ (τ : Table) where
   -- What is recorded of a signature with few identifiers is the type of a schema.
   pub binding-type : (s : Signature) → countNames s ≤ 16 → SchemaType (under τ (bindingOf s))
   unfolding under bindingOf
-  binding-type s l = (omega (arith, parts-count s), record { names = namesOf s; types = unders τ (termsOf s); is = refl })
+  binding-type s l = (omega (arith, parts-count s), (namesOf s, unders τ (termsOf s), refl))
 
   pub schema-type : (x : Schema) (ps : List ℕ) (D : Dictionary) → Limited D → Meets (schemaItems x (withParameters ps 1 (globals D))) τ
       → SchemaType (under τ (bindingOf (schemaSignature x (withParameters ps 1 (globals D)))))

@@ -17,10 +17,8 @@ FewParameters (abbreviation n i ps a) = length ps ≤ 4
 FewParameters (constraint n p) = Unit {0}
 
 -- g is a binding.
-pub record IsBinding (g : Ty) : Type 0 where
-  pub names : List ℕ
-  pub types : Tys
-  pub is : g ≡ node (binding names) types
+abbrev pub IsBinding : Ty → Type 0
+IsBinding g = (ids : List ℕ) × (gs : Tys) × (g ≡ node (binding ids) gs)
 
 -- The type of a schema: a binding of 16 components at most (38).
 abbrev pub SchemaType : Ty → Type 0
