@@ -12,7 +12,7 @@ use Rattle.typing.specs.Items.{Meets, Any, Passes, Refuses}
 use Rattle.typing.specs.Rules.{paragraphItems}
 use Rattle.typing.specs.Unknowns.{Table}
 use Rattle.solver.specs.Settled.{lower}
-use Rattle.dictionary.specs.Waiting.{withEntries, Waits}
+use Rattle.dictionary.specs.Waiting.{withEntries, waiting, Waits}
 use Rattle.instances.specs.Clean.{Clean}
 use Rattle.names.specs.Scoped.{Recorded}
 use Rattle.names.specs.Extended.{FewParameters}
@@ -38,6 +38,7 @@ pub record Extended (w : List ℕ) (p : Paragraph) (D : Dictionary) (at count : 
   pub entries : List Entry
   pub counted : length entries ≡ count
   pub waits : Waits entries w at
+  pub short : length (waiting entries) ≤ 8192
   pub extends : extend p D table ≡ withEntries entries D
 
 -- Number 0: the items pass, and the pool is empty again; otherwise they refuse with this number at the place.
