@@ -14,3 +14,7 @@ pub mod LookingUpApplied
 pub mod Carrying
 pub mod ComponentLaws
 pub mod ThetaLaws
+pub mod IdleLaws
+pub mod PlacedLaws
+pub mod CheckLaws
+pub mod ThetaRules
