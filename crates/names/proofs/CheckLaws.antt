@@ -1,22 +1,22 @@
 -- Theta's findings by number: 31, 32, 37.
-use mathlib.Core.Path.{_≡_, refl, sym, ap, subst, _∙_}
+use mathlib.Core.Path.{_≡_, refl, sym, subst, _∙_}
 use mathlib.Core.Bool.{Bool, true, false}
 use mathlib.Core.List.{List}
 use mathlib.Core.Logic.{inl, ⊎-elim}
-use Prim.Native.Nat.{ℕ, zero, suc, _<_, _≤_}
+use Prim.Native.Nat.{ℕ}
 use native.Mathlib.Nat.{eq-zero-or-pos}
 use native.Mathlib.Omega.{arith}
 use lib.Dec.{ltb}
 use borrow.Author.Tests.{lt-ltb, le-ltb}
 use Rattle.typing.specs.Conditions.{refuseIf}
-use Rattle.typing.specs.Items.{Items, _⨾_, skip, Meets, Refuses}
+use Rattle.typing.specs.Items.{Items, _⨾_, Meets, Refuses}
 use Rattle.typing.specs.Rules.{thetaNames}
 use Rattle.typing.specs.Scopes.{Scope}
 use Rattle.typing.specs.Signatures.{Signature, someStroked}
 use Rattle.typing.specs.Unknowns.{Table}
 use Rattle.signatures.specs.Rows.{rows as rowsOf, strokedRows}
 use Rattle.pieces.specs.Stage.{Ghost}
-use Rattle.names.specs.Thetas.{Idle, Above, RowsPlaced, Checked}
+use Rattle.names.specs.Thetas.{Idle, RowsOver, RowsPlaced, Checked}
 use Rattle.names.proofs.IdleLaws.{idle-refuses}
 use Rattle.names.proofs.PlacedLaws.{same-ids, stroked-same}
 
@@ -55,7 +55,7 @@ module _ (d w w′ : List ℕ) (rows base m p k : ℕ) (fine : Bool) (R : RowsPl
     }
 
     module _ (z : p ≡ 0) (b : Bool) (eb : b ≡ strokedRows k (rowsOf w′ base m)) where
-      stroked : (s : List ℕ) (G : Ghost) (Γ : Scope) (r : Signature) → Above s d w rows base m G Γ r → someStroked k r ≡ b
+      stroked : (s : List ℕ) (G : Ghost) (Γ : Scope) (r : Signature) → RowsOver s d w rows base m G Γ r → someStroked k r ≡ b
       stroked s G Γ r B = stroked-same k r (rowsOf w′ base m) (B .names ∙ sym (same-ids w w′ base m (R .names))) ∙ sym eb
 
       pub checked-strokes : b ≡ true → Checked d w w′ rows base m p k 37

@@ -6,9 +6,7 @@ use Rattle.typing.specs.Items.{Items, skip, _⨾_, fresh, equate, select, small
 use Rattle.typing.specs.Unknowns.{Table}
 use Rattle.typing.proofs.ItemLaws.{passes-ext, refuses-ext}
 use Rattle.pieces.specs.Building.{Introduced}
-use Rattle.pieces.specs.Piece.{Stops}
 use Rattle.pieces.specs.Stage.{Ghost}
-use Rattle.pieces.proofs.Walks.{Alike}
 use Rattle.names.specs.Thetas.{Idle}
 use Rattle.names.proofs.AppliedLaws.{introduced-alike}
 

@@ -20,11 +20,10 @@ use Rattle.solver.proofs.Reading.{place-low, heap-length}
 use Rattle.signatures.specs.Rows.{rows as rowsOf, identifiersOf, strokedRows}
 use Rattle.signatures.specs.Carried.{Carries}
 use Rattle.signatures.proofs.ScopeLaws.{stack-kept}
-use Rattle.signatures.specs.Rows.{stack}
 use Rattle.signatures.specs.Carried.{Stacked}
 use Rattle.pieces.specs.Stage.{Ghost}
 use Rattle.names.specs.Scoped.{SettledAt, Scoped}
-use Rattle.names.specs.Thetas.{InScope, RowsAsked, Placed, RowPlaced, Idle, Above, RowsPlaced}
+use Rattle.names.specs.Thetas.{InScope, RowsAsked, Placed, RowPlaced, Idle, RowsOver, RowsPlaced}
 use Rattle.names.proofs.IdleLaws.{idle-refuses}
 
 -- The scope is the same where its words are.

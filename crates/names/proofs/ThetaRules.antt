@@ -3,18 +3,18 @@ use mathlib.Core.Path.{_≡_, refl, sym, ap, subst, _∙_}
 use mathlib.Core.Bool.{Bool, true, false, cond}
 use mathlib.Core.List.{List}
 use mathlib.Core.Logic.{⊎-elim}
-use Prim.Native.Nat.{ℕ, suc, _+_, _*_, _≤_, _<_}
+use Prim.Native.Nat.{ℕ, suc, _+_, _≤_, _<_}
 use native.Mathlib.Nat.{eq-zero-or-pos}
 use native.Mathlib.Omega.{arith}
 use lib.Dec.{eqb, ltb}
 use lib.ListN.{length, getD, drop}
 use Rattle.types.specs.Former.{binding}
-use Rattle.types.specs.Formed.{partCountType, FormedType, Arity}
+use Rattle.types.specs.Formed.{FormedType, Arity}
 use Rattle.types.specs.Instance.{instance}
 use Rattle.types.specs.Types.{Ty, Tys, node, nil}
 use Rattle.typing.specs.Conditions.{typed, refuseIf}
 use Rattle.typing.specs.Dictionary.{Dictionary, blank, _▸_, nameEntry, schemaEntry, Found, noSchema, aSchema, schemaIn}
-use Rattle.typing.specs.Items.{Items, _⨾_}
+use Rattle.typing.specs.Items.{_⨾_}
 use Rattle.typing.specs.Rules.{thetaNames, thetaItems, thetaSignature}
 use Rattle.typing.specs.Scopes.{Scope, schemaNamed}
 use Rattle.typing.specs.Signatures.{Signature, namesOf, bindingOf, componentsOf, someStroked}
@@ -29,13 +29,13 @@ use Rattle.signatures.proofs.CarryLaws.{carries-names}
 use Rattle.signatures.proofs.RowLaws.{getD-below}
 use Rattle.signatures.proofs.ScopeLaws.{stacked-schema}
 use Rattle.signatures.proofs.TableLaws.{table-length}
-use Rattle.pieces.specs.Stage.{Ghost, Stands, Unvisited, SlotOf, Ruled}
+use Rattle.pieces.specs.Stage.{Ghost, SlotOf, Ruled}
 use Rattle.pieces.specs.Building.{Introduced}
 use Rattle.pieces.proofs.Stages.{rule-goes, rule-stops, room-less}
 use Rattle.names.specs.Bindings.{Binding, Bound}
 use Rattle.names.specs.Components.{Component, ComponentsAsked, ComponentsOf, ComponentRows}
 use Rattle.names.specs.Scoped.{SettledAt, SchemaType, Limited, Recorded, Scoped}
-use Rattle.names.specs.Thetas.{RowsAsked, Above, Fine, Checked, ThetaAsked, ThetaRuled}
+use Rattle.names.specs.Thetas.{RowsAsked, RowsOver, Fine, Checked, ThetaAsked, ThetaRuled}
 use Rattle.names.proofs.CheckLaws.{idle-if, no-parameters}
 use Rattle.names.proofs.IdleLaws.{introduced-idle}
 use Rattle.names.proofs.LookingUp.{dictionary-reads}
@@ -184,7 +184,7 @@ module _ (s d w : List ℕ) (n top rows base id k : ℕ) (B : ThetaAsked s d w n
             stroke = B .stroke;
           }
 
-      above : (G : Ghost) (Γ : Scope) (D : Dictionary) (C : Scoped s d w rows G Γ D) → Above s d w₁ rows base m G Γ (componentsOf (instance nil (entry D (C .recorded) .type)))
+      above : (G : Ghost) (Γ : Scope) (D : Dictionary) (C : Scoped s d w rows G Γ D) → RowsOver s d w₁ rows base m G Γ (componentsOf (instance nil (entry D (C .recorded) .type)))
       above G Γ D C =
           let R = C .recorded in
           record {

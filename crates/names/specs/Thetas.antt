@@ -13,7 +13,7 @@ use Rattle.typing.specs.Scopes.{Scope, nameAt, schemaNamed}
 use Rattle.typing.specs.Signatures.{Signature, namesOf, someStroked}
 use Rattle.typing.specs.Strokes.{decorate, takes}
 use Rattle.solver.specs.Settled.{lower}
-use Rattle.signatures.specs.Rows.{rows as rowsOf, identifiersOf, strokedRows}
+use Rattle.signatures.specs.Rows.{rows as rowsOf, identifiersOf}
 use Rattle.signatures.specs.Carried.{Carries}
 use Rattle.pieces.specs.Piece.{Stops}
 use Rattle.pieces.specs.Stage.{Ghost, Stands, Uses, Unvisited, Ruled}
@@ -63,7 +63,7 @@ Idle (refusal f n) = ⊥
 Idle (piece n t) = ⊥
 
 -- The scope Γ stands in w, and the m rows at `base` have the identifiers of the signature r.
-pub record Above (s d w : List ℕ) (rows base m : ℕ) (G : Ghost) (Γ : Scope) (r : Signature) : Type 0 where
+pub record RowsOver (s d w : List ℕ) (rows base m : ℕ) (G : Ghost) (Γ : Scope) (r : Signature) : Type 0 where
   pub dictionary : Dictionary
   pub scoped : Scoped s d w rows G Γ dictionary
   pub size : length s ≡ 52224
@@ -73,10 +73,10 @@ pub record Above (s d w : List ℕ) (rows base m : ℕ) (G : Ghost) (Γ : Scope)
 pub record RowsPlaced (d w w′ : List ℕ) (rows base m k : ℕ) (fine : Bool) : Type 0 where
   pub below : (i : ℕ) → i < base → getD w′ i 0 ≡ getD w i 0
   pub names : (j : ℕ) → getD w′ (base + 2 * j) 0 ≡ getD w (base + 2 * j) 0
-  pub passes : fine ≡ true → (s : List ℕ) (G : Ghost) (Γ : Scope) (r : Signature) → Above s d w rows base m G Γ r → (n : ℕ) → Idle (thetaNames n k r Γ)
-  pub carries : fine ≡ true → (s : List ℕ) (G : Ghost) (Γ : Scope) (r : Signature) → Above s d w rows base m G Γ r → someStroked k r ≡ false →
+  pub passes : fine ≡ true → (s : List ℕ) (G : Ghost) (Γ : Scope) (r : Signature) → RowsOver s d w rows base m G Γ r → (n : ℕ) → Idle (thetaNames n k r Γ)
+  pub carries : fine ≡ true → (s : List ℕ) (G : Ghost) (Γ : Scope) (r : Signature) → RowsOver s d w rows base m G Γ r → someStroked k r ≡ false →
       Carries (SettledAt s d G) (thetaSignature k r Γ) (rowsOf w′ base m)
-  pub stops : fine ≡ false → (s : List ℕ) (G : Ghost) (Γ : Scope) (r : Signature) → Above s d w rows base m G Γ r → (n : ℕ) (H t : Items) → Stops H t (thetaNames n k r Γ) 31 n
+  pub stops : fine ≡ false → (s : List ℕ) (G : Ghost) (Γ : Scope) (r : Signature) → RowsOver s d w rows base m G Γ r → (n : ℕ) (H t : Items) → Stops H t (thetaNames n k r Γ) 31 n
 
 -- THE CHECKS of a schema with p parameters: 31, 32, 37.
 pub record Fine (s d w′ : List ℕ) (base m p k : ℕ) (G : Ghost) (Γ : Scope) (r : Signature) : Type 0 where
@@ -87,8 +87,8 @@ pub record Fine (s d w′ : List ℕ) (base m p k : ℕ) (G : Ghost) (Γ : Scope
 
 pub record Checked (d w w′ : List ℕ) (rows base m p k number : ℕ) : Type 0 where
   pub below : (i : ℕ) → i < base → getD w′ i 0 ≡ getD w i 0
-  pub goes : number ≡ 0 → (s : List ℕ) (G : Ghost) (Γ : Scope) (r : Signature) → Above s d w rows base m G Γ r → Fine s d w′ base m p k G Γ r
-  pub stops : (number ≡ 0 → ⊥) → (s : List ℕ) (G : Ghost) (Γ : Scope) (r : Signature) → Above s d w rows base m G Γ r → (n : ℕ) (H t rest : Items) →
+  pub goes : number ≡ 0 → (s : List ℕ) (G : Ghost) (Γ : Scope) (r : Signature) → RowsOver s d w rows base m G Γ r → Fine s d w′ base m p k G Γ r
+  pub stops : (number ≡ 0 → ⊥) → (s : List ℕ) (G : Ghost) (Γ : Scope) (r : Signature) → RowsOver s d w rows base m G Γ r → (n : ℕ) (H t rest : Items) →
       Stops H t (thetaNames n k r Γ ⨾ refuseIf (ltb 0 p) 32 n ⨾ refuseIf (someStroked k r) 37 n ⨾ rest) number n
 
 -- THE RULE. The words of w from `base` on are free.

@@ -1,6 +1,5 @@
 use Rattle.names.proofs.CheckLaws.{checked-names, checked-parameters, checked-strokes, checked-all}
 use borrow.Author.Tests.{not-true, not-false}
-use native.Mathlib.Omega.{arith}
 use borrow.Author.Needs.{needs}
 use Rattle.names.proofs.thetas.checks.Statement.{statement}
 use Rattle.names.proofs.thetas.checks.Tie as tie

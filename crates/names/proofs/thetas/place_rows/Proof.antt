@@ -3,7 +3,7 @@ use Rattle.names.proofs.PlacedLaws.{Placing, placing-start, placing-ask
 use lib.ListN.{length}
 use native.Mathlib.Omega.{arith}
 use Prim.Native.Nat.{_-_, _≤_}
-use mathlib.Core.Path.{_≡_, refl, sym, _∙_}
+use mathlib.Core.Path.{_≡_, refl, _∙_}
 use borrow.Author.Needs.{needs}
 use Rattle.names.proofs.thetas.place_rows.Statement.{statement}
 use Rattle.names.proofs.thetas.place_rows.Tie as tie

@@ -1,5 +1,4 @@
 use Rattle.names.proofs.ThetaRules.{no-schema, components-asked, rows-asked, theta-refused, theta-binding, theta-typed}
-use native.Mathlib.Omega.{arith}
 use borrow.Author.Needs.{needs}
 use Rattle.names.proofs.thetas.theta_rule.Statement.{statement}
 use Rattle.names.proofs.thetas.theta_rule.Tie as tie
