@@ -1,2 +1,3 @@
 pub mod Nodes
 pub mod Rooms
+pub mod Scopes
