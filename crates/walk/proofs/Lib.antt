@@ -1,0 +1,4 @@
+pub mod Nodes
+pub mod Rooms
+pub mod Scopes
+pub mod Visiting
