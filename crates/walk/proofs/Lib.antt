@@ -2,3 +2,5 @@ pub mod Nodes
 pub mod Rooms
 pub mod Opening
 pub mod Wiping
+pub mod Passing
+pub mod Connecting
