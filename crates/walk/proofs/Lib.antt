@@ -1,5 +1,6 @@
 pub mod Nodes
 pub mod Rooms
+pub mod Scopes
 pub mod Opening
 pub mod Wiping
 pub mod Passing
