@@ -2,3 +2,7 @@ pub mod Nodes
 pub mod Rooms
 pub mod Scopes
 pub mod Visiting
+pub mod Opening
+pub mod Wiping
+pub mod Passing
+pub mod Connecting
