@@ -1,2 +1,3 @@
 pub mod OverlapLaws
 pub mod LargeLaws
+pub mod StoreLaws

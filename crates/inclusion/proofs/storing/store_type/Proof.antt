@@ -1,3 +1,5 @@
+use native.Mathlib.Omega.{arith}
+use Rattle.inclusion.proofs.StoreLaws.{store-large, store-asked, wrote-room, copy-asked, store-small}
 use borrow.Author.Needs.{needs}
 use Rattle.inclusion.proofs.storing.store_type.Statement.{statement}
 use Rattle.inclusion.proofs.storing.store_type.Tie as tie
@@ -30,27 +32,27 @@ same-length c = search needs
 
 -- src/storing.rt:59:9
 returns : tie.Need-returns
-returns c = search needs
+returns c = store-large _ _ _ _ _ _ _ (c .before .before .before .before .before .before .before .before .before .before .pre) _ (c .before .before .before .before .before .settled-size .ensures) (c .before .before .before .before .if1 .taken) _ (c .before .before .put-large .ensures)
 
 -- src/storing.rt:61:9
 settled-words-requires : tie.Need-settled-words-requires
-settled-words-requires c κs = search needs
+settled-words-requires c κs = store-asked _ _ _ _ _ _ _ (c .before .before .before .before .before .before .before .before .pre) _ (c .before .before .before .settled-size .ensures) (c .before .before .if1 .left)
 
 -- src/storing.rt:62:13
 sub-k : tie.Need-sub-k
-sub-k c = search needs
+sub-k c = let x = wrote-room _ _ _ _ _ _ _ (c .before .before .before .before .before .before .before .before .before .before .before .pre) _ (c .before .before .before .before .before .before .settled-size .ensures) (c .before .before .before .before .before .if1 .left) _ _ (c .before .before .settled-words .ensures) in omega (arith, x .0)
 
 -- src/storing.rt:63:5
 copy-words-requires : tie.Need-copy-words-requires
-copy-words-requires c κs = search needs
+copy-words-requires c κs = copy-asked _ _ _ _ _ _ _ (c .before .before .before .before .before .before .before .before .before .before .before .before .before .pre) _ (c .before .before .before .before .before .before .before .before .settled-size .ensures) (c .before .before .before .before .before .before .before .if1 .left) _ _ (c .before .before .before .before .settled-words .ensures)
 
 -- src/storing.rt:64:5
 add-result-3 : tie.Need-add-result-3
-add-result-3 c = search needs
+add-result-3 c = let x = wrote-room _ _ _ _ _ _ _ (c .before .before .before .before .before .before .before .before .before .before .before .before .before .before .before .before .pre) _ (c .before .before .before .before .before .before .before .before .before .before .before .settled-size .ensures) (c .before .before .before .before .before .before .before .before .before .before .if1 .left) _ _ (c .before .before .before .before .before .before .before .settled-words .ensures) in let r = c .before .before .before .before .before .before .before .before .before .before .before .before .before .before .before .before .pre .room in omega (arith, x .1)
 
 -- src/storing.rt:64:5
 add-result-4 : tie.Need-add-result-4
-add-result-4 c = search needs
+add-result-4 c = let x = wrote-room _ _ _ _ _ _ _ (c .before .before .before .before .before .before .before .before .before .before .before .before .before .before .before .before .pre) _ (c .before .before .before .before .before .before .before .before .before .before .before .settled-size .ensures) (c .before .before .before .before .before .before .before .before .before .before .if1 .left) _ _ (c .before .before .before .before .before .before .before .settled-words .ensures) in let r = c .before .before .before .before .before .before .before .before .before .before .before .before .before .before .before .before .pre .room in omega (arith, x .1)
 
 -- src/storing.rt:45:1
 same-length-2 : tie.Need-same-length-2
@@ -62,7 +64,7 @@ same-length-3 c = search needs
 
 -- src/storing.rt:45:1
 returns-2 : tie.Need-returns-2
-returns-2 c = search needs
+returns-2 c = store-small _ _ _ _ _ _ _ (c .before .before .before .before .before .before .before .before .before .before .before .before .before .before .before .before .pre) _ (c .before .before .before .before .before .before .before .before .before .before .before .settled-size .ensures) (c .before .before .before .before .before .before .before .before .before .before .if1 .left) _ _ (c .before .before .before .before .before .before .before .settled-words .ensures) _ (c .before .before .copy-words .ensures)
 
 pub store-type-spec : {M : Type 1} → statement M
 store-type-spec =
