@@ -77,3 +77,56 @@ pub fn none_declared(w: &[u32], base: usize, m: usize, part: &[u32], j: usize) -
     }
     none_declared(w, base, m, part, j + 1)
 }
+
+// The row at r gets the place of the table's row with its identifier; or its type, with the actuals of `row` for the parameters, is written from e on, and
+// the row gets the place `own`. Where the words end then.
+fn keep_row(
+    a: &[u32],
+    d: &[u32],
+    w: &mut [u32],
+    base: usize,
+    m: usize,
+    r: usize,
+    row: &[u32],
+    own: usize,
+    e: usize,
+) -> usize
+    requires { ⌜ RowAsk (now a) (now d) (now w) base m r (now row) own e ⌝ }
+    ensures { λ z. ⌜ RowKept (now (a .entry)) (now (d .entry)) (now (w .entry)) (now (w .exit)) base m r (now (row .entry)) own e z ⌝ }
+{
+    let f = find(w, base, m, word(w, r));
+    if f < m {
+        let p = word(w, base + 2 * f + 1);
+        store(w, r + 1, p as u32);
+        return e;
+    }
+    let p = word(w, r + 1);
+    let z = write_filled(a, d, p, row, w, e);
+    store(w, r + 1, own as u32);
+    z
+}
+
+// The k rows at source, one after another; the words of their types go to those of w from `free` on, and are to stand at `at`. Where they end.
+fn keep_all(
+    a: &[u32],
+    d: &[u32],
+    w: &mut [u32],
+    base: usize,
+    m: usize,
+    source: usize,
+    k: usize,
+    row: &[u32],
+    at: usize,
+    free: usize,
+) -> usize
+    requires { ⌜ AllAsk (now a) (now d) (now w) base m source k (now row) at free ⌝ }
+    ensures { λ e. ⌜ AllKept (now (a .entry)) (now (d .entry)) (now (w .entry)) (now (w .exit)) base m source k (now (row .entry)) at free e ⌝ }
+{
+    let mut e = free;
+    let mut j = 0;
+    while j < k {
+        e = keep_row(a, d, w, base, m, source + 2 * j, row, at + (e - free), e);
+        j += 1;
+    }
+    e
+}
