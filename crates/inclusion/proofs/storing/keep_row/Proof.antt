@@ -1,3 +1,4 @@
+use Rattle.inclusion.proofs.KeepRow.{row-found, row-asked, row-fresh}
 use borrow.Author.Needs.{needs}
 use Rattle.inclusion.proofs.storing.keep_row.Statement.{statement}
 use Rattle.inclusion.proofs.storing.keep_row.Tie as tie
@@ -50,7 +51,8 @@ same-length c = search needs
 
 -- src/storing.rt:101:9
 returns : tie.Need-returns
-returns c = search needs
+returns c =
+    row-found _ _ _ _ _ _ _ _ _ (c .before .before .before .before .before .before .before .before .before .before .before .before .before .before .pre) _ _ (c .before .before .before .before .before .before .before .before .word .ensures .0) (c .before .before .before .before .before .before .before .find .ensures) (c .before .before .before .before .before .before .if1 .taken) _ (c .before .before .before .before .word2 .ensures .0) _ (c .before .before .store .ensures)
 
 -- src/storing.rt:103:21
 add-word-3 : tie.Need-add-word-3
@@ -62,7 +64,7 @@ word-requires-3 c κs = search needs
 
 -- src/storing.rt:104:9
 write-filled-requires : tie.Need-write-filled-requires
-write-filled-requires c κs = search needs
+write-filled-requires c κs = row-asked _ _ _ _ _ _ _ _ _ (c .before .before .before .before .before .before .before .before .before .before .before .pre) _ (c .before .word3 .ensures .0)
 
 -- src/storing.rt:105:14
 add-store-2 : tie.Need-add-store-2
@@ -82,7 +84,7 @@ same-length-2 c = search needs
 
 -- src/storing.rt:83:1
 returns-2 : tie.Need-returns-2
-returns-2 c = search needs
+returns-2 c = row-fresh _ _ _ _ _ _ _ _ _ (c .before .before .before .before .before .before .before .before .before .before .before .before .before .before .before .before .before .before .pre) _ (c .before .before .before .before .before .before .before .before .word3 .ensures .0) _ _ (c .before .before .before .before .before .before .write-filled .ensures) _ (c .before .before .store2 .ensures)
 
 pub keep-row-spec : {M : Type 1} → statement M
 keep-row-spec =
