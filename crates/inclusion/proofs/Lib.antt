@@ -1,0 +1,4 @@
+pub mod OverlapLaws
+pub mod LargeLaws
+pub mod StoreLaws
+pub mod KeepRow
