@@ -1,2 +1,4 @@
 pub mod Nodes
 pub mod Rooms
+pub mod Opening
+pub mod Wiping
