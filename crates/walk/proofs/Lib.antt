@@ -2,3 +2,4 @@ pub mod Nodes
 pub mod Rooms
 pub mod Opening
 pub mod Wiping
+pub mod Normal
