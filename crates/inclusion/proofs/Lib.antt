@@ -2,3 +2,4 @@ pub mod OverlapLaws
 pub mod LargeLaws
 pub mod StoreLaws
 pub mod KeepRow
+pub mod KeepAll
