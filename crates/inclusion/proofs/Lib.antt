@@ -3,3 +3,4 @@ pub mod LargeLaws
 pub mod StoreLaws
 pub mod KeepRow
 pub mod KeepAll
+pub mod MoveLaws
