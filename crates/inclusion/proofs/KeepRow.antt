@@ -27,7 +27,7 @@ module _ (s d w : List ℕ) (base m r : ℕ) (places : List ℕ) (own e : ℕ) (
       subst (λ z. RowKept s d w z base m r places own e e) (sym g)
       (record {
         size = length-set w (r + 1) p;
-        words = λ j b n. getD-set-other w (r + 1) j p 0 (λ z. n (sym z));
+        words = λ j b n. getD-set-other w (r + 1) j p 0 n;
         more = omega arith;
         short = omega arith;
         kept = inl (record { row = f; finds = subst (λ z. Finds w base m z f) q F; among = l; place = getD-set-same w (r + 1) p 0 (omega arith) ∙ h });
@@ -73,7 +73,7 @@ module _ (s d w : List ℕ) (base m r : ℕ) (places : List ℕ) (own e : ℕ) (
           subst (λ u. RowKept s d w u base m r places own e z) (sym g)
           (record {
             size = length-set w₁ (r + 1) own ∙ l;
-            words = λ j b n. getD-set-other w₁ (r + 1) j own 0 (λ u. n (sym u)) ∙ ap (λ u. getD u j 0) (W₀ .area) ∙ sets-before w e ws j b;
+            words = λ j b n. getD-set-other w₁ (r + 1) j own 0 n ∙ ap (λ u. getD u j 0) (W₀ .area) ∙ sets-before w e ws j b;
             more = omega arith;
             short = omega arith;
             kept = inr (record { place = getD-set-same w₁ (r + 1) own 0 (omega arith); stands = stands′ });
@@ -81,12 +81,12 @@ module _ (s d w : List ℕ) (base m r : ℕ) (places : List ℕ) (own e : ℕ) (
         where
           stands′ : (g : Ty) (hs : Tys) → Reads (heap s d) (getD w (r + 1) 0) g → Row (heap s d) places hs → Written (set w₁ (r + 1) own) e z (fill hs g)
           stands′ g hs R S =
-              let V = wrote g hs R S in
-              let v = V .end in
+              let T = wrote g hs R S in
+              let v = T .end in
               let x = A .row in
               let y = A .room in
               let q = few g hs R S in
               record {
                 fits = omega arith;
-                words-at = λ j b. getD-set-other w₁ (r + 1) (e + j) own 0 (λ u. omega arith) ∙ ap (λ u. getD u (e + j) 0) (V .area) ∙ sets-in w e (words (fill hs g)) j (omega arith) b;
+                words-at = λ j b. getD-set-other w₁ (r + 1) (e + j) own 0 (λ u. omega arith) ∙ ap (λ u. getD u (e + j) 0) (T .area) ∙ sets-in w e (words (fill hs g)) j (omega arith) b;
               }

@@ -6,3 +6,5 @@ pub mod SameLaws
 pub mod StandLaws
 pub mod AgreeLaws
 pub mod SmallLaws
+pub mod KeepAll
+pub mod MoveLaws

@@ -1,5 +1,6 @@
 // Types written into the caller's part of the solver's area.
 use instances::copy_words;
+use instances::wipe;
 use instances::write_filled;
 use pieces::closing::settled_size;
 use pieces::closing::settled_words;
@@ -129,4 +130,40 @@ fn keep_all(
         j += 1;
     }
     e
+}
+
+// The k words of w at `free`, moved to `at`; what else stood there, up to `end`, is wiped. Where the area is clean then.
+fn move_words(a: &mut [u32], w: &[u32], at: usize, end: usize, free: usize, k: usize) -> usize
+    requires { ⌜ MoveAsk (now a) (now w) at end free k ⌝ }
+    ensures { λ e. ⌜ Moved (now (a .entry)) (now (a .exit)) (now (w .entry)) at free k e ⌝ }
+{
+    let stop = at + k;
+    copy_words(a, at, w, free, k);
+    wipe(a, stop, end);
+    if k == 0 {
+        return at;
+    }
+    stop + 1
+}
+
+// What an Include brings: the k rows at source, with the actuals of `row` for the parameters, beside the table of m rows at base. The actuals' words stand
+// between `at` and `end`. Where the area is clean then.
+pub fn keep_rows(
+    a: &mut [u32],
+    d: &[u32],
+    w: &mut [u32],
+    base: usize,
+    m: usize,
+    source: usize,
+    k: usize,
+    row: &[u32],
+    at: usize,
+    end: usize,
+    free: usize,
+) -> usize
+    requires { ⌜ KeepAsk (now a) (now d) (now w) base m source k (now row) at end free ⌝ }
+    ensures { λ z. ⌜ RowsKept (now (a .entry)) (now (a .exit)) (now (d .entry)) (now (w .entry)) (now (w .exit)) base m source k (now (row .entry)) at end free z ⌝ }
+{
+    let e = keep_all(a, d, w, base, m, source, k, row, at, free);
+    move_words(a, w, at, end, free, e - free)
 }
