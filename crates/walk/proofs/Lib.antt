@@ -3,3 +3,4 @@ pub mod Rooms
 pub mod Opening
 pub mod Wiping
 pub mod Normal
+pub mod Forming

@@ -18,7 +18,7 @@ use Rattle.typing.specs.Items.{Items, skip, _⨾_, fresh, equate, select, small
 use Rattle.typing.proofs.FormedItems.{FormedItems}
 use Rattle.solver.proofs.Growing.{lt-or-ge}
 
-abbrev Decided : Type 0 → Type 0
+abbrev pub Decided : Type 0 → Type 0
 Decided A = A ⊎ (A → ⊥)
 
 decide-equal : (n k : ℕ) → Decided (n ≡ k)
@@ -46,7 +46,7 @@ decide-ascending : (l : List ℕ) → Decided (Ascending l)
 decide-ascending [] = inl tt
 decide-ascending (x ∷ l) = decide-after x l
 
-decide-arity : (h : Former) (n : ℕ) → Decided (Arity h n)
+pub decide-arity : (h : Former) (n : ℕ) → Decided (Arity h n)
 unfolding Arity
 decide-arity int n = decide-equal n 0
 decide-arity (given g) n = decide-equal n 0
@@ -56,7 +56,7 @@ decide-arity product n = decide-both (decide-least 2 n) (decide-least n 6)
 decide-arity (binding l) n = decide-both (decide-equal (length l) n) (decide-ascending l)
 
 -- THE NORMAL FORM of a type.
-unfoldable normalNode : {A : Type 0} → Decided A → Former → Tys → Ty
+unfoldable pub normalNode : {A : Type 0} → Decided A → Former → Tys → Ty
 normalNode (inl a) h gs = node h gs
 normalNode (inr a) h gs = ℤ
 
@@ -127,14 +127,14 @@ mutual
 -- Components that are there.
 pick-normal : (i : ℕ) (l : List ℕ) (gs : Tys) (k : Ty) → pickType i l gs ≡ some k → pickType i l (normals gs) ≡ some (normal k)
 unfolding pickType normals
-pick-normal i [] gs k e = absurd (let z : _≡_ {A = Option Ty} nothing (some k) = e in cc)
-pick-normal i (j ∷ l) tnil k e = absurd (let z : _≡_ {A = Option Ty} nothing (some k) = e in cc)
-pick-normal i (j ∷ l) (tcons g gs) k e = go (eqb j i) e
+pick-normal i [] gs k e = absurd (let z : _≡_ {A = ℕ} 0 1 = cc in omega arith)
+pick-normal i (j ∷ l) tnil k e = absurd (let z : _≡_ {A = ℕ} 0 1 = cc in omega arith)
+pick-normal i (j ∷ l) (tcons g gs) k e = go (eqb j i) e (pick-normal i l gs k)
   where
-    go : (b : Bool) → elim b as (λ x. Option Ty) [ true ↦ some g | false ↦ pickType i l gs ] ≡ some k →
+    go : (b : Bool) → elim b as (λ x. Option Ty) [ true ↦ some g | false ↦ pickType i l gs ] ≡ some k → (pickType i l gs ≡ some k → pickType i l (normals gs) ≡ some (normal k)) →
         _≡_ {A = Option Ty} (elim b as (λ x. Option Ty) [ true ↦ some (normal g) | false ↦ pickType i l (normals gs) ]) (some (normal k))
-    go true q = let z : g ≡ k = cc in ap (λ y. some (normal y)) z
-    go false q = pick-normal i l gs k q
+    go true q f = let z : g ≡ k = cc in ap (λ y. some (normal y)) z
+    go false q f = f q
 
 node-component : {A : Type 0} (o : Decided A) (i : ℕ) (h : Former) (gs : Tys) (k : Ty) → Known (componentType i (normalNode o h (normals gs))) → pickType i (identifiers h) gs ≡ some k →
     componentType i (normalNode o h (normals gs)) ≡ some (normal k)
