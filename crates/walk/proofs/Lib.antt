@@ -4,3 +4,6 @@ pub mod Opening
 pub mod Wiping
 pub mod Normal
 pub mod Forming
+pub mod Scopes
+pub mod Visiting
+
