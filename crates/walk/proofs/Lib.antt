@@ -5,3 +5,4 @@ pub mod Opening
 pub mod Wiping
 pub mod Passing
 pub mod Connecting
+pub mod Sides
