@@ -6,4 +6,6 @@ pub mod Normal
 pub mod Forming
 pub mod Scopes
 pub mod Visiting
-
+pub mod Passing
+pub mod Connecting
+pub mod Sides
