@@ -1,4 +1,10 @@
+pub mod OverlapLaws
+pub mod LargeLaws
+pub mod StoreLaws
+pub mod KeepRow
 pub mod SameLaws
 pub mod StandLaws
 pub mod AgreeLaws
 pub mod SmallLaws
+pub mod KeepAll
+pub mod MoveLaws

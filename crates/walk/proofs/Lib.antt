@@ -4,5 +4,8 @@ pub mod Scopes
 pub mod Visiting
 pub mod Opening
 pub mod Wiping
+pub mod Normal
+pub mod Forming
 pub mod Passing
 pub mod Connecting
+pub mod Sides
