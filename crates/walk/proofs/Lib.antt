@@ -2,3 +2,5 @@ pub mod Nodes
 pub mod Rooms
 pub mod Scopes
 pub mod Visiting
+pub mod Parts
+pub mod Shapes

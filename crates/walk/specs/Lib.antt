@@ -4,3 +4,5 @@ pub mod Expressions
 pub mod Predicates
 pub mod Texts
 pub mod Includes
+pub mod Parts
+pub mod Shapes
