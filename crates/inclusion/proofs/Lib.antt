@@ -1,0 +1,4 @@
+pub mod SameLaws
+pub mod StandLaws
+pub mod AgreeLaws
+pub mod SmallLaws

@@ -34,7 +34,7 @@ const PARAMETER: usize = 6;
 const PARAMETER_WORDS: usize = 2;
 
 // The place of the i-th actual's type plus 1, and 0 where there is none.
-fn actual(row: &[u32], i: usize) -> usize
+pub fn actual(row: &[u32], i: usize) -> usize
     ensures { λ r. ⌜ r ≡ placeOf (now (row .entry)) i ⌝ }
 {
     if i == 0 {

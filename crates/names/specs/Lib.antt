@@ -4,3 +4,4 @@ pub mod Bindings
 pub mod References
 pub mod Components
 pub mod Thetas
+pub mod Extended

@@ -10,6 +10,7 @@ use Rattle.syntax.specs.Tree.{Include, include, Exprs, exprsLength}
 use Rattle.syntax.specs.TreeNumbers.{includeNumbers, exprsNumbers}
 use Rattle.types.specs.Equations.{In}
 use Rattle.types.specs.Types.{Ty}
+use Rattle.typing.specs.Conditions.{smallTypes}
 use Rattle.typing.specs.Dictionary.{Dictionary}
 use Rattle.typing.specs.Items.{Items, _⨾_, Meets, Refuses}
 use Rattle.typing.specs.Rules.{includeItems, actualItems}
@@ -21,7 +22,7 @@ use Rattle.signatures.specs.Carried.{Carries}
 use Rattle.pieces.specs.Piece.{Steady, Walked, Settled}
 use Rattle.pieces.specs.Rows.{SlotsFrom}
 use Rattle.names.specs.Scoped.{Scoped}
-use Rattle.inclusion.specs.Components.{Component, StandsFor, ActualTypes}
+use Rattle.inclusion.specs.Components.{Component, Placed, StandsFor, ActualTypes}
 use Rattle.inclusion.specs.Storing.{Stored}
 use Rattle.walk.specs.Visits.{Owned, Fresh, idle, Spared}
 use Rattle.walk.specs.Predicates.{Walking}
@@ -98,3 +99,25 @@ pub record ActualsDone (s s′ d w w′ : List ℕ) (stack at free k j : ℕ) (x
       ActualsWent s′ d H U Γ k j xs places′
   pub stops : (number ≡ 0 → ⊥) → (H : Items) (U : List ℕ) → Steady H U → (Γ : Scope) (D : Dictionary) → Scoped s d w stack (idle H U) Γ D → ActualFresh k j (exprsNumbers xs) U →
       Refuses (actualItems xs k (suc j) Γ) (Meets H) number place
+
+-- AN INCLUDE AS A SCHEMA EXPRESSION, or of a SchemaSet: 38 too, and its types written out.
+pub record BringsAsk (s d w : List ℕ) (stack at free : ℕ) (i : Include) : Type 0 where
+  pub height : ℕ
+  pub texts : ℕ
+  pub limited : LimitedInclude height texts i
+  pub walking : Walking s d w stack at free height (includeNumbers i)
+
+pub record Shown (s d w : List ℕ) (m free : ℕ) (H : Items) (U : List ℕ) (Γ : Scope) (i : Include) : Type 0 where
+  pub unknowns : List ℕ
+  pub walked : Walked H (includeItems i Γ ⨾ smallTypes (includeNode i) (includeSignature i Γ)) U unknowns (Owned (includeNumbers i))
+  pub signature : Carries (Placed s d (H ⨾ (includeItems i Γ ⨾ smallTypes (includeNode i) (includeSignature i Γ))) unknowns) (includeSignature i Γ) (rows w free m)
+
+pub record BringsDone (s s′ d w w′ : List ℕ) (stack at free : ℕ) (i : Include) (number place m at′ : ℕ) : Type 0 where
+  pub spared : Spared w w′ stack free
+  pub stored : number ≡ 0 → Stored s s′ at at′
+  pub short : number ≡ 0 → at′ ≤ at + 96 * m
+  pub few : number ≡ 0 → m ≤ 16
+  pub goes : number ≡ 0 → (H : Items) (U : List ℕ) → Steady H U → (Γ : Scope) (D : Dictionary) → Scoped s d w stack (idle H U) Γ D → Fresh (includeNumbers i) U →
+      Shown s′ d w′ m free H U Γ i
+  pub stops : (number ≡ 0 → ⊥) → (H : Items) (U : List ℕ) → Steady H U → (Γ : Scope) (D : Dictionary) → Scoped s d w stack (idle H U) Γ D → Fresh (includeNumbers i) U →
+      Refuses (includeItems i Γ ⨾ smallTypes (includeNode i) (includeSignature i Γ)) (Meets H) number place

@@ -6,3 +6,5 @@ pub mod Texts
 pub mod Includes
 pub mod Parts
 pub mod Shapes
+pub mod Schemas
+pub mod Paragraphs
