@@ -4,3 +4,5 @@ pub mod Scopes
 pub mod Visiting
 pub mod Parts
 pub mod Shapes
+pub mod Operands
+pub mod Expressions

@@ -1,5 +1,6 @@
 -- The shape of each kind of expression.
 use mathlib.Core.Path.{_≡_, refl}
+use mathlib.Core.List.{[], _∷_, append-assoc}
 use Prim.Native.Nat.{ℕ}
 use Rattle.syntax.specs.Limited.{LimitedExpr}
 use Rattle.syntax.specs.Tree.{Expr, Exprs, none, number, integers, set, tuple, product, power, application, selection, theta, arithmetic, reference, Operator, exprNode}
@@ -33,11 +34,11 @@ module _ (k : ℕ) where
 
   pub apply-joining : (a b : Expr) → Joining (application k a b) a b k (applyItems k)
   unfolding exprItems exprNumbers exprNode LimitedExpr
-  apply-joining a b = record { items = λ Γ. refl; numbers = refl; node = refl; limited = λ h m z. z }
+  apply-joining a b = record { items = λ Γ. refl; numbers = append-assoc (exprNumbers a) (exprNumbers b) (k ∷ []); node = refl; limited = λ h m z. z }
 
   pub arithmetic-joining : (o : Operator) (a b : Expr) → Joining (arithmetic k o a b) a b k (arithmeticItems k)
   unfolding exprItems exprNumbers exprNode LimitedExpr
-  arithmetic-joining o a b = record { items = λ Γ. refl; numbers = refl; node = refl; limited = λ h m z. z }
+  arithmetic-joining o a b = record { items = λ Γ. refl; numbers = append-assoc (exprNumbers a) (exprNumbers b) (k ∷ []); node = refl; limited = λ h m z. z }
 
   pub set-listing : (xs : Exprs) → Listing (set k xs) xs k (λ Γ. setItems k xs)
   unfolding exprItems exprNumbers exprNode LimitedExpr

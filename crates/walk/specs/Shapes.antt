@@ -27,7 +27,7 @@ pub record Over (e a : Expr) (k : ℕ) (own : Term → Items) : Type 0 where
 -- two operands
 pub record Joining (e a b : Expr) (k : ℕ) (own : Term → Term → Items) : Type 0 where
   pub items : (Γ : Scope) → exprItems e Γ ≡ exprItems a Γ ⨾ exprItems b Γ ⨾ own (typeOf a) (typeOf b)
-  pub numbers : exprNumbers e ≡ (exprNumbers a ++ exprNumbers b) ++ (k ∷ [])
+  pub numbers : exprNumbers e ≡ exprNumbers a ++ (exprNumbers b ++ (k ∷ []))
   pub node : exprNode e ≡ k
   pub limited : (h m : ℕ) → LimitedExpr h m e → (1 ≤ h) × LimitedExpr (h - 1) m a × LimitedExpr (h - 1) m b
 
