@@ -13,3 +13,5 @@ pub mod Forming
 pub mod Passing
 pub mod Connecting
 pub mod Sides
+pub mod Lists
+pub mod Listing
