@@ -15,3 +15,4 @@ pub mod Connecting
 pub mod Sides
 pub mod Lists
 pub mod Listing
+pub mod Waiting
