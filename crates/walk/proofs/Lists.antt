@@ -156,11 +156,14 @@ module _ (s d w : List ℕ) (rows n top at free : ℕ) (a : Expr) (xs : Exprs) (
         Second : answer ≡ 0 → Part s₁ s₂ d w₁ w₂ rows n₁ top₁ n₂ top₂ at₁ at₂ free (exprsItems xs) m (λ Γ D G. Cell s₁ d n₁ G c (typeOf a)) (λ Γ D G. Cells s₂ d n₂ G (c ∷ run parts₂ i (exprsLength xs)) (cons (typeOf a) (typesOf xs)))
         unfolding Cells
         Second y = record {
-          spared = R .spared;
+          step = record {
+            spared = R .spared;
+            stored = R .areas y .stored;
+            goes = λ G St Γ D C f b.
+                let I = R .goes y G St Γ D C f in
+                record { advanced = I .advanced; holds = (next-cell s₁ s₂ d n₁ top₁ n₂ top₂ G (exprsItems xs Γ) (Owned m) (I .advanced) c (typeOf a) b, I .operands) };
+          };
           areas = R .areas y;
-          goes = λ G St Γ D C f b.
-              let I = R .goes y G St Γ D C f in
-              record { advanced = I .advanced; holds = (next-cell s₁ s₂ d n₁ top₁ n₂ top₂ G (exprsItems xs Γ) (Owned m) (I .advanced) c (typeOf a) b, I .operands) };
         }
 
         abbrev L : Visiting s d w rows n top at free (K .height) (l ++ m)
@@ -186,7 +189,7 @@ module _ (s d w : List ℕ) (rows n top at free : ℕ) (a : Expr) (xs : Exprs) (
           size = length₂;
           earlier = more-earlier;
           areas = λ y. Both y .areas;
-          goes = λ y G St Γ D C f. let I = Both y .goes G St Γ D C f tt in record { advanced = I .advanced; operands = rw cells-are (I .holds) };
+          goes = λ y G St Γ D C f. let I = Both y .step .goes G St Γ D C f tt in record { advanced = I .advanced; operands = rw cells-are (I .holds) };
           stops = λ ne G St Γ D C f. Stopped ne .stops ne G St Γ D C f tt;
         }
 

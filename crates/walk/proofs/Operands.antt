@@ -33,31 +33,37 @@ use Rattle.walk.proofs.Parts.{rule-ending}
 module _ (s s′ d w w′ : List ℕ) (rows n top at free : ℕ) (a : Expr) (number place cell n′ top′ at′ : ℕ) (E : ExprDone s s′ d w w′ rows n top at free a number place cell n′ top′ at′) where
   pub expr-part : number ≡ 0 → Part s s′ d w w′ rows n top n′ top′ at at′ free (exprItems a) (exprNumbers a) nothing (λ Γ D G. Cell s′ d n′ G cell (typeOf a))
   expr-part z = record {
-    spared = E .spared;
+    step = record {
+      spared = E .spared;
+      stored = E .areas z .stored;
+      goes = λ G St Γ D C f b.
+          let I = E .goes z G St Γ D C f in
+          record {
+            advanced = I .advanced;
+            holds = placed-cell s s′ d n top n′ top′ G (exprItems a Γ) (Owned (exprNumbers a)) (I .advanced) (slot (exprNode a) 0) cell (I .placed);
+          };
+    };
     areas = E .areas z;
-    goes = λ G St Γ D C f b.
-        let I = E .goes z G St Γ D C f in
-        record {
-          advanced = I .advanced;
-          holds = placed-cell s s′ d n top n′ top′ G (exprItems a Γ) (Owned (exprNumbers a)) (I .advanced) (slot (exprNode a) 0) cell (I .placed);
-        };
   }
 
   -- the operand before it keeps its cell
   pub expr-part-beside : number ≡ 0 → (x : ℕ) (t : Term) →
       Part s s′ d w w′ rows n top n′ top′ at at′ free (exprItems a) (exprNumbers a) (λ Γ D G. Cell s d n G x t) (λ Γ D G. Cell s′ d n′ G x t × Cell s′ d n′ G cell (typeOf a))
   expr-part-beside z x t = record {
-    spared = E .spared;
+    step = record {
+      spared = E .spared;
+      stored = E .areas z .stored;
+      goes = λ G St Γ D C f b.
+          let I = E .goes z G St Γ D C f in
+          record {
+            advanced = I .advanced;
+            holds = (
+              next-cell s s′ d n top n′ top′ G (exprItems a Γ) (Owned (exprNumbers a)) (I .advanced) x t b,
+              placed-cell s s′ d n top n′ top′ G (exprItems a Γ) (Owned (exprNumbers a)) (I .advanced) (slot (exprNode a) 0) cell (I .placed),
+            );
+          };
+    };
     areas = E .areas z;
-    goes = λ G St Γ D C f b.
-        let I = E .goes z G St Γ D C f in
-        record {
-          advanced = I .advanced;
-          holds = (
-            next-cell s s′ d n top n′ top′ G (exprItems a Γ) (Owned (exprNumbers a)) (I .advanced) x t b,
-            placed-cell s s′ d n top n′ top′ G (exprItems a Γ) (Owned (exprNumbers a)) (I .advanced) (slot (exprNode a) 0) cell (I .placed),
-          );
-        };
   }
 
   pub expr-ending : (before : Fact) → Ending s s′ d w w′ rows n top at free (exprItems a) (exprNumbers a) before (slot (exprNode a) 0) number place cell n′ top′ at′
@@ -69,9 +75,12 @@ module _ (s s′ d w w′ : List ℕ) (rows n top at free : ℕ) (xs : Exprs) (p
   pub exprs-part : number ≡ 0 →
       Part s s′ d w w′ rows n top n′ top′ at at′ free (exprsItems xs) (exprsNumbers xs) nothing (λ Γ D G. Cells s′ d n′ G (run parts′ j (exprsLength xs)) (typesOf xs))
   exprs-part z = record {
-    spared = E .spared;
+    step = record {
+      spared = E .spared;
+      stored = E .areas z .stored;
+      goes = λ G St Γ D C f b. let I = E .goes z G St Γ D C f in record { advanced = I .advanced; holds = I .operands };
+    };
     areas = E .areas z;
-    goes = λ G St Γ D C f b. let I = E .goes z G St Γ D C f in record { advanced = I .advanced; holds = I .operands };
   }
 
   pub exprs-ending : (number ≡ 0 → ⊥) → (before : Fact) (x cell : ℕ) → Ending s s′ d w w′ rows n top at free (exprsItems xs) (exprsNumbers xs) before x number place cell n′ top′ at′

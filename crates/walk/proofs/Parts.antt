@@ -18,10 +18,10 @@ use Rattle.pieces.proofs.Walks.{stops-left}
 use Rattle.pieces.proofs.Stages.{next, next-stands, wider-mine, introduced-wider, introduce-then, stop-then, advance-then, room-less}
 use Rattle.names.specs.Scoped.{Scoped}
 use Rattle.walk.specs.Visits.{Owned, Fresh, EachOnce, Spared}
-use Rattle.walk.specs.Expressions.{Visiting}
-use Rattle.walk.specs.Parts.{Fact, Passing, Part, Ending}
+use Rattle.walk.specs.Expressions.{Visiting, Visited}
+use Rattle.walk.specs.Parts.{Fact, Passing, Step, Part, Ending}
 use Rattle.walk.proofs.Nodes.{owned-left, owned-right, owned-node, fresh-left, fresh-after, unvisited}
-use Rattle.walk.proofs.Scopes.{spared-on, stored-low}
+use Rattle.walk.proofs.Scopes.{spared-on, stored-low, stored-on}
 use Rattle.walk.proofs.Visiting.{scoped-visited, visiting-next, visited-on}
 
 -- ITEMS ONE AFTER ANOTHER, of nodes l and then m.
@@ -38,7 +38,7 @@ module _ (s s′ s″ d : List ℕ) (n top n′ top′ n″ top″ : ℕ) (G : G
 -- A PART, AND THE LAST ONE.
 module _ (s s′ s″ d w w′ w″ : List ℕ) (rows n top n′ top′ at at′ free : ℕ) (items rest : Scope → Items) (l m : List ℕ) (before between : Fact) (x number place cell n″ top″ at″ : ℕ)
     (size : length s ≡ 52224) (clean : Clean s at) (some : 1 ≤ at) (room : at < 39936) (once : EachOnce (l ++ m))
-    (P : Part s s′ d w w′ rows n top n′ top′ at at′ free items l before between)
+    (P : Step s s′ d w w′ rows n top n′ top′ at at′ free items l before between)
     (Q : Ending s′ s″ d w′ w″ rows n′ top′ at′ free rest m between x number place cell n″ top″ at″) where
   module _ (G : Ghost) (St : Stands s d n top G) (Γ : Scope) (D : Dictionary) (C : Scoped s d w rows G Γ D) (f : Fresh (l ++ m) (G .mentioned)) (b : before Γ D G) where
     abbrev passing : Passing s s′ d n top n′ top′ G (items Γ) l (between Γ D)
@@ -54,7 +54,7 @@ module _ (s s′ s″ d w w′ w″ : List ℕ) (rows n top n′ top′ at at′
     stands′ = next-stands s s′ d n top n′ top′ G (items Γ) (Owned l) A (St .few)
 
     scoped′ : Scoped s′ d w′ rows G′ Γ D
-    scoped′ = scoped-visited s s′ d w w′ rows n top n′ top′ at at′ free l size clean some room (P .areas) (P .spared) G (items Γ) (Owned l) A Γ D C
+    scoped′ = scoped-visited s s′ d w w′ rows n top n′ top′ at at′ free size clean some room (P .stored) (P .spared) G (items Γ) (Owned l) A Γ D C
 
     fresh′ : Fresh m (G′ .mentioned)
     fresh′ = fresh-after l m (G .mentioned) (A .mentioned) once f (A .new)
@@ -65,13 +65,24 @@ module _ (s s′ s″ d w w′ w″ : List ℕ) (rows n top n′ top′ at at′
     then-stops : (number ≡ 0 → ⊥) → Stops (G .before) (G .items) (items Γ ⨾ rest Γ) number place
     then-stops ne = stop-then s s′ d n top n′ top′ G (items Γ) (Owned l) A (rest Γ) number place (Q .stops ne G′ stands′ Γ D scoped′ fresh′ (passing .holds))
 
-  pub part-then : Ending s s″ d w w″ rows n top at free (λ Γ. items Γ ⨾ rest Γ) (l ++ m) before x number place cell n″ top″ at″
-  part-then = record {
+  pub step-then : (number ≡ 0 → Visited s s″ n top n″ top″ at at″ (l ++ m)) →
+      Ending s s″ d w w″ rows n top at free (λ Γ. items Γ ⨾ rest Γ) (l ++ m) before x number place cell n″ top″ at″
+  step-then areas = record {
     spared = spared-on w w′ w″ rows free (P .spared) (Q .spared);
-    areas = λ e. visited-on s s′ s″ n top n′ top′ n″ top″ at at′ at″ l m (P .areas) (Q .areas e);
+    areas = areas;
     goes = λ e G St Γ D C f b. then-goes G St Γ D C f b e;
     stops = λ ne G St Γ D C f b. then-stops G St Γ D C f b ne;
   }
+
+-- The same in the room of their nodes.
+module _ (s s′ s″ d w w′ w″ : List ℕ) (rows n top n′ top′ at at′ free : ℕ) (items rest : Scope → Items) (l m : List ℕ) (before between : Fact) (x number place cell n″ top″ at″ : ℕ)
+    (size : length s ≡ 52224) (clean : Clean s at) (some : 1 ≤ at) (room : at < 39936) (once : EachOnce (l ++ m))
+    (P : Part s s′ d w w′ rows n top n′ top′ at at′ free items l before between)
+    (Q : Ending s′ s″ d w′ w″ rows n′ top′ at′ free rest m between x number place cell n″ top″ at″) where
+  pub part-then : Ending s s″ d w w″ rows n top at free (λ Γ. items Γ ⨾ rest Γ) (l ++ m) before x number place cell n″ top″ at″
+  part-then =
+      step-then s s′ s″ d w w′ w″ rows n top n′ top′ at at′ free items rest l m before between x number place cell n″ top″ at″ size clean some room once (P .step) Q
+      (λ e. visited-on s s′ s″ n top n′ top′ n″ top″ at at′ at″ l m (P .areas) (Q .areas e))
 
 -- TWO PARTS are a part.
 module _ (s s′ s″ d w w′ w″ : List ℕ) (rows n top n′ top′ n″ top″ at at′ at″ free : ℕ) (items rest : Scope → Items) (l m : List ℕ) (before between after : Fact)
@@ -85,11 +96,11 @@ module _ (s s′ s″ d w w′ w″ : List ℕ) (rows n top n′ top′ n″ top
   joined-goes : (G : Ghost) → Stands s d n top G → (Γ : Scope) (D : Dictionary) → Scoped s d w rows G Γ D → Fresh (l ++ m) (G .mentioned) → before Γ D G →
       Passing s s″ d n top n″ top″ G (items Γ ⨾ rest Γ) (l ++ m) (after Γ D)
   joined-goes G St Γ D C f b =
-      let p = P .goes G St Γ D C (fresh-left l m (G .mentioned) f) b in
+      let p = P .step .goes G St Γ D C (fresh-left l m (G .mentioned) f) b in
       let A = p .advanced in
       let G′ = next s s′ d n top n′ top′ G (items Γ) (Owned l) A in
-      let q = Q .goes G′ (next-stands s s′ d n top n′ top′ G (items Γ) (Owned l) A (St .few)) Γ D
-      (scoped-visited s s′ d w w′ rows n top n′ top′ at at′ free l size clean some room (P .areas) (P .spared) G (items Γ) (Owned l) A Γ D C)
+      let q = Q .step .goes G′ (next-stands s s′ d n top n′ top′ G (items Γ) (Owned l) A (St .few)) Γ D
+      (scoped-visited s s′ d w w′ rows n top n′ top′ at at′ free size clean some room (P .step .stored) (P .step .spared) G (items Γ) (Owned l) A Γ D C)
       (fresh-after l m (G .mentioned) (A .mentioned) once f (A .new)) (p .holds) in
       let A⁺ = wider-mine s s′ d n top n′ top′ G (items Γ) (Owned l) A (Owned (l ++ m)) (owned-left l m) in
       let B⁺ = wider-mine s′ s″ d n′ top′ n″ top″ G′ (rest Γ) (Owned m) (q .advanced) (Owned (l ++ m)) (owned-right l m) in
@@ -97,9 +108,12 @@ module _ (s s′ s″ d w w′ w″ : List ℕ) (rows n top n′ top′ n″ top
 
   pub part-part : Part s s″ d w w″ rows n top n″ top″ at at″ free (λ Γ. items Γ ⨾ rest Γ) (l ++ m) before after
   part-part = record {
-    spared = spared-on w w′ w″ rows free (P .spared) (Q .spared);
+    step = record {
+      spared = spared-on w w′ w″ rows free (P .step .spared) (Q .step .spared);
+      stored = stored-on s s′ s″ at at′ at″ (P .step .stored) (Q .step .stored);
+      goes = joined-goes;
+    };
     areas = visited-on s s′ s″ n top n′ top′ n″ top″ at at′ at″ l m (P .areas) (Q .areas);
-    goes = joined-goes;
   }
 
 -- A PART STOPS: what comes after it does not matter.
@@ -136,11 +150,11 @@ module _ (s s′ d w w′ : List ℕ) (rows n top n′ top′ at at′ free h : 
     (K : Visiting s d w rows n top at free h (l ++ m)) (P : Part s s′ d w w′ rows n top n′ top′ at at′ free items l before after)
     (b : before (K .scope) (K .dictionary) (K .ghost)) where
   abbrev passed : Passing s s′ d n top n′ top′ (K .ghost) (items (K .scope)) l (after (K .scope) (K .dictionary))
-  passed = P .goes (K .ghost) (K .stands) (K .scope) (K .dictionary) (K .scoped) (fresh-left l m (K .ghost .mentioned) (K .fresh)) b
+  passed = P .step .goes (K .ghost) (K .stands) (K .scope) (K .dictionary) (K .scoped) (fresh-left l m (K .ghost .mentioned) (K .fresh)) b
 
   unfoldable pub part-next : Visiting s′ d w′ rows n′ top′ at′ free h m
   unfolding visiting-next
-  part-next = visiting-next s s′ d w w′ rows n top n′ top′ at at′ free h l m K (P .areas) (P .spared) (items (K .scope)) (passed .advanced)
+  part-next = visiting-next s s′ d w w′ rows n top n′ top′ at at′ free h l m K (P .areas) (P .step .spared) (items (K .scope)) (passed .advanced)
 
   pub part-leaves : after (part-next .scope) (part-next .dictionary) (part-next .ghost)
   unfolding part-next visiting-next

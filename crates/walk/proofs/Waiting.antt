@@ -9,7 +9,7 @@ use lib.Seq.{sets, length-sets, ext-getD}
 use Rattle.types.specs.Equations.{In, Pairs}
 use Rattle.types.specs.Types.{Ty}
 use Rattle.typing.specs.Dictionary.{Dictionary}
-use Rattle.typing.specs.Items.{Items, skip, _⨾_, Meets, Agree}
+use Rattle.typing.specs.Items.{Items, skip, _⨾_, Meets, Agree, Refuses}
 use Rattle.typing.specs.Scopes.{Scope}
 use Rattle.typing.specs.Unknowns.{Table}
 use Rattle.solver.specs.Store.{frozen, tagAt, run}
@@ -33,7 +33,7 @@ use Rattle.walk.specs.Visits.{Owned, Fresh, idle, Spared}
 use Rattle.walk.specs.Room.{Between, Inside}
 use Rattle.walk.specs.Expressions.{Visiting, Visited}
 use Rattle.walk.specs.Predicates.{Walking}
-use Rattle.walk.specs.Parts.{Fact, nothing, Part}
+use Rattle.walk.specs.Parts.{Fact, nothing, Step, Ending}
 use Rattle.walk.proofs.Nodes.{fresh-left, once-left}
 use Rattle.walk.proofs.Rooms.{inside-part, between-part, suspended-room}
 use Rattle.walk.proofs.Scopes.{scoped-idle, scoped-spared, spared-on, spared-less, stored-low, stored-on}
@@ -91,6 +91,10 @@ module _ (s d w w₁ : List ℕ) (rows n top at free h e : ℕ) (l rest : List �
     saved-fit : free + (5 * n + (top - 4096)) ≤ length w₁
     saved-fit = let f = bounded .2 .frames in let v = K .room .wide in let z = length₁ in omega arith
 
+    -- the scope at pieces inside
+    scoped-waiting : (G : Ghost) (Γ : Scope) (D : Dictionary) → Scoped s d w rows G Γ D → Scoped s d w₁ rows (idle (G .before ⨾ G .items) (G .mentioned)) Γ D
+    scoped-waiting G Γ D C = scoped-spared s d w w₁ rows free (idle (G .before ⨾ G .items) (G .mentioned)) Γ D save-spared (scoped-idle s d w rows Γ D G C)
+
     -- WHAT HOLDS BETWEEN PIECES then.
     pub waiting : Walking s d w₁ rows at e (h - 1) l
     waiting =
@@ -104,7 +108,7 @@ module _ (s d w w₁ : List ℕ) (rows n top at free h e : ℕ) (l rest : List �
           steady = suspended s d n top G (K .stands);
           scope = K .scope;
           dictionary = K .dictionary;
-          scoped = scoped-spared s d w w₁ rows free (idle (G .before ⨾ G .items) (G .mentioned)) (K .scope) (K .dictionary) save-spared (scoped-idle s d w rows (K .scope) (K .dictionary) G (K .scoped));
+          scoped = scoped-waiting G (K .scope) (K .dictionary) (K .scoped);
           fresh = fresh-left l rest (G .mentioned) (K .fresh);
           once = once-left l rest (K .once);
           size = K .size;
@@ -116,7 +120,7 @@ module _ (s d w w₁ : List ℕ) (rows n top at free h e : ℕ) (l rest : List �
         }
 
     -- THE STORE IS TAKEN UP AGAIN, after types were written from `at` on and words from e on.
-    module _ (s₁ s₂ w₂ : List ℕ) (at₁ : ℕ) (T : Stored s s₁ at at₁) (W : Spared w₁ w₂ rows e) where
+    module _ (w₂ : List ℕ) (W : Spared w₁ w₂ rows e) where
       pub restore-asked : (n ≤ 1024) × (4096 ≤ top) × (top ≤ 6144) × (free < 2 ^ 39) × (free + (5 * n + (top - 4096)) ≤ length w₂)
       restore-asked = let q = save-asked in let f = saved-fit in let z = W .size in (q .1, q .2, q .3, q .4, omega arith)
 
@@ -132,89 +136,99 @@ module _ (s d w w₁ : List ℕ) (rows n top at free h e : ℕ) (l rest : List �
           same-run w₂ w₁ free (5 * n + (top - 4096)) (omega arith) f (λ i p q. W .frames i (omega arith) (omega arith))
           ∙ saved-stands s n top (K .size) few low high w w₁ free e (let v = length₁ in omega arith) S
 
-      size₁ : length s₁ ≡ 52224
-      size₁ = T .size ∙ K .size
-
       fit₂ : free + (5 * n + (top - 4096)) ≤ length w₂
       fit₂ = restore-asked .4
 
       room₁ : at < 39936
       room₁ = visiting-low s d w rows n top at free h (l ++ rest) K
 
-      module _ (R : s₂ ≡ restored s₁ n top w₂ free) where
-        pub taken-low : lower s₂ ≡ lower s₁
-        taken-low = ap lower R ∙ restored-lower s n top (K .size) few low high s₁ w₂ free size₁ fit₂ stand
+      -- A piece inside stops.
+      pub waiting-stops : (c : Scope → Items) (s₁ : List ℕ) (x number place cell n′ top′ at′ : ℕ) → (number ≡ 0 → ⊥) →
+          ((H : Items) (U : List ℕ) → Steady H U → (Γ : Scope) (D : Dictionary) → Scoped s d w₁ rows (idle H U) Γ D → Fresh l U → Refuses (c Γ) (Meets H) number place) →
+          Ending s s₁ d w w₂ rows n top at free c l nothing x number place cell n′ top′ at′
+      waiting-stops c s₁ x number place cell n′ top′ at′ ne inner = record {
+        spared = waiting-spared;
+        areas = λ z. absurd (ne z);
+        goes = λ z. absurd (ne z);
+        stops = λ q G St Γ D C f b. inner (G .before ⨾ G .items) (G .mentioned) (suspended s d n top G St) Γ D (scoped-waiting G Γ D C) f;
+      }
 
-        length₂ : length s₂ ≡ length s₁
-        length₂ = ap length R ∙ restored-length s n top (K .size) few low high s₁ w₂ free size₁ fit₂ stand
+      module _ (s₁ s₂ : List ℕ) (at₁ : ℕ) (T : Stored s s₁ at at₁) where
+        size₁ : length s₁ ≡ 52224
+        size₁ = T .size ∙ K .size
 
-        back : Resumed s s₂ d n top at
-        back =
-            subst (λ v. Resumed s v d n top at) (sym R)
-            (resumed s n top (K .size) few low high s₁ w₂ free size₁ fit₂ stand d at (let z = room₁ in omega arith) (T .before) (clean-all-below s d n at (K .size) (K .room .some) room₁ (K .clean)) (K .stands .above))
+        module _ (R : s₂ ≡ restored s₁ n top w₂ free) where
+          pub taken-low : lower s₂ ≡ lower s₁
+          taken-low = ap lower R ∙ restored-lower s n top (K .size) few low high s₁ w₂ free size₁ fit₂ stand
 
-        pub taken-stored : at₁ < 39936 → Stored s s₂ at at₁
-        taken-stored r = stored-on s s₁ s₂ at at₁ at₁ T (stored-low s₁ s₂ at₁ length₂ (omega arith) (T .after) taken-low)
+          length₂ : length s₂ ≡ length s₁
+          length₂ = ap length R ∙ restored-length s n top (K .size) few low high s₁ w₂ free size₁ fit₂ stand
 
-        -- the room is what it was
-        pub taken-uses : (x : ℕ) → Uses s s₂ n top n top x
-        taken-uses x y Q =
-            let Q′ = room-less s n top y (x + y) (omega arith) Q in
-            record { cells = Q′ .cells; words = Q′ .words; fit = subst (λ z. z + 2 * y < 2048) (sym (load-same (frozen s) (frozen s₂) n (λ i m. back .alike .fields i 3 m (omega arith)))) (Q′ .fit) }
+          back : Resumed s s₂ d n top at
+          back =
+              subst (λ v. Resumed s v d n top at) (sym R)
+              (resumed s n top (K .size) few low high s₁ w₂ free size₁ fit₂ stand d at (let z = room₁ in omega arith) (T .before) (clean-all-below s d n at (K .size) (K .room .some) room₁ (K .clean)) (K .stands .above))
 
-        module _ (G : Ghost) (St : Stands s d n top G) where
-          to : (σ : ℕ → Ty) → Solution s d n (G .equations) σ → Solution s₂ d n (G .equations) σ
-          to σ X = record {
-            fits = alike-fits s s₂ n top (back .alike) (K .size) (St .piece .solved .held .cells) (St .above) σ (X .fits);
-            sat = X .sat;
-            obeys = back .obeys σ (St .piece .pinned) (X .obeys);
-          }
+          pub taken-stored : at₁ < 39936 → Stored s s₂ at at₁
+          taken-stored r = stored-on s s₁ s₂ at at₁ at₁ T (stored-low s₁ s₂ at₁ length₂ (omega arith) (T .after) taken-low)
 
-          from : (σ : ℕ → Ty) → Solution s₂ d n (G .equations) σ → Solution s d n (G .equations) σ
-          from σ X = record {
-            fits = alike-fits-back s s₂ n top (back .alike) (K .size) (St .piece .solved .held .cells) (St .above) σ (X .fits);
-            sat = X .sat;
-            obeys = back .obeyed σ (X .obeys);
-          }
+          -- the room is what it was
+          pub taken-uses : (x : ℕ) → Uses s s₂ n top n top x
+          taken-uses x y Q =
+              let Q′ = room-less s n top y (x + y) (omega arith) Q in
+              record { cells = Q′ .cells; words = Q′ .words; fit = subst (λ z. z + 2 * y < 2048) (sym (load-same (frozen s) (frozen s₂) n (λ i m. back .alike .fields i 3 m (omega arith)))) (Q′ .fit) }
 
-          -- THE PIECE WITH THE ITEMS c of the pieces inside it.
-          unfoldable taken : (c : Items) (U : List ℕ) → Walked (G .before ⨾ G .items) c (G .mentioned) U (Owned l) → ((τ τ′ : Table) → Agree c τ τ′) → Advanced s s₂ d n top n top G c (Owned l)
-          taken c U Z agrees =
-              let S′ = back .solved (G .equations) (St .piece .L) (St .piece .solved) in
-              let P′ = back .pinned (St .piece .pinned) in
-              let still : (i : ℕ) → i < n → tagAt (frozen s₂) i ≡ tagAt (frozen s) i = λ i m. back .alike .fields i 0 m (omega arith) in
-              record {
-                equations = G .equations;
-                mentioned = U;
-                cells = G .cells;
-                wide = omega arith;
-                goes = Z .goes;
-                piece = taken-up s s₂ d n (G .equations) (St .piece .L) S′ P′ still to from (G .before) (G .items) (G .known) (G .mentioned) (G .cells) (St .piece) c U (Z .wider) (Z .steady .local) (Z .extends) agrees;
-                above = back .above;
-                later = resumed-later s s₂ d n (G .equations) (St .piece .L) S′ P′ still to from (G .before) (G .items) (G .known) (G .mentioned) (G .cells) (St .piece) c U (Z .wider) (Z .steady .local) (Z .extends) agrees;
-                wider = Z .wider;
-                new = Z .new;
-              }
+          module _ (G : Ghost) (St : Stands s d n top G) where
+            to : (σ : ℕ → Ty) → Solution s d n (G .equations) σ → Solution s₂ d n (G .equations) σ
+            to σ X = record {
+              fits = alike-fits s s₂ n top (back .alike) (K .size) (St .piece .solved .held .cells) (St .above) σ (X .fits);
+              sat = X .sat;
+              obeys = back .obeys σ (St .piece .pinned) (X .obeys);
+            }
 
-        -- A PART OF THE EXPRESSION: its items are those of the pieces inside.
-        module _ (c : Scope → Items) (agrees : (Γ : Scope) (τ τ′ : Table) → Agree (c Γ) τ τ′) (later after : Fact) (short : at₁ ≤ at + 768 * length l) (reach : at₁ < 39936)
-            (inner : (H : Items) (U : List ℕ) → Steady H U → (Γ : Scope) (D : Dictionary) → Scoped s d w₁ rows (idle H U) Γ D → Fresh l U →
-            (U′ : List ℕ) × Walked H (c Γ) U U′ (Owned l) × later Γ D (idle (H ⨾ c Γ) U′))
-            (carry : (Γ : Scope) (D : Dictionary) (G G′ : Ghost) → ((x : ℕ) → In x (G .mentioned) → In x (G′ .mentioned)) →
-            ((τ : Table) → Meets (G′ .before ⨾ G′ .items) τ → Meets (G .before ⨾ G .items) τ) → later Γ D G → after Γ D G′) where
-          pub waiting-part : Part s s₂ d w w₂ rows n top n top at at₁ free c l nothing after
-          unfolding Meets taken
-          waiting-part = record {
-            spared = waiting-spared;
-            areas = record { stored = taken-stored reach; short = short; uses = taken-uses (40 * length l) };
-            goes = λ G St Γ D C f b.
-                let H = G .before ⨾ G .items in
-                let i =
-                inner H (G .mentioned) (suspended s d n top G St) Γ D
-                (scoped-spared s d w w₁ rows free (idle H (G .mentioned)) Γ D save-spared (scoped-idle s d w rows Γ D G C)) f in
-                let A = taken G St (c Γ) (i .0) (i .1) (agrees Γ) in
+            from : (σ : ℕ → Ty) → Solution s₂ d n (G .equations) σ → Solution s d n (G .equations) σ
+            from σ X = record {
+              fits = alike-fits-back s s₂ n top (back .alike) (K .size) (St .piece .solved .held .cells) (St .above) σ (X .fits);
+              sat = X .sat;
+              obeys = back .obeyed σ (X .obeys);
+            }
+
+            -- THE PIECE WITH THE ITEMS c of the pieces inside it.
+            unfoldable taken : (c : Items) (U : List ℕ) → Walked (G .before ⨾ G .items) c (G .mentioned) U (Owned l) → ((τ τ′ : Table) → Agree c τ τ′) → Advanced s s₂ d n top n top G c (Owned l)
+            taken c U Z agrees =
+                let S′ = back .solved (G .equations) (St .piece .L) (St .piece .solved) in
+                let P′ = back .pinned (St .piece .pinned) in
+                let still : (i : ℕ) → i < n → tagAt (frozen s₂) i ≡ tagAt (frozen s) i = λ i m. back .alike .fields i 0 m (omega arith) in
                 record {
-                  advanced = A;
-                  holds = carry Γ D (idle (H ⨾ c Γ) (i .0)) (ghostAfter G (c Γ) (A .equations) (A .mentioned) (A .cells)) (λ x z. z) (λ τ m. (((m .0, m .1 .0), m .1 .1), tt)) (i .2);
-                };
-          }
+                  equations = G .equations;
+                  mentioned = U;
+                  cells = G .cells;
+                  wide = omega arith;
+                  goes = Z .goes;
+                  piece = taken-up s s₂ d n (G .equations) (St .piece .L) S′ P′ still to from (G .before) (G .items) (G .known) (G .mentioned) (G .cells) (St .piece) c U (Z .wider) (Z .steady .local) (Z .extends) agrees;
+                  above = back .above;
+                  later = resumed-later s s₂ d n (G .equations) (St .piece .L) S′ P′ still to from (G .before) (G .items) (G .known) (G .mentioned) (G .cells) (St .piece) c U (Z .wider) (Z .steady .local) (Z .extends) agrees;
+                  wider = Z .wider;
+                  new = Z .new;
+                }
+
+          -- A PART OF THE EXPRESSION: its items are those of the pieces inside.
+          module _ (c : Scope → Items) (agrees : (Γ : Scope) (τ τ′ : Table) → Agree (c Γ) τ τ′) (later after : Fact) (reach : at₁ < 39936)
+              (inner : (H : Items) (U : List ℕ) → Steady H U → (Γ : Scope) (D : Dictionary) → Scoped s d w₁ rows (idle H U) Γ D → Fresh l U →
+              (U′ : List ℕ) × Walked H (c Γ) U U′ (Owned l) × later Γ D (idle (H ⨾ c Γ) U′))
+              (carry : (Γ : Scope) (D : Dictionary) (G G′ : Ghost) → ((x : ℕ) → In x (G .mentioned) → In x (G′ .mentioned)) →
+              ((τ : Table) → Meets (G′ .before ⨾ G′ .items) τ → Meets (G .before ⨾ G .items) τ) → later Γ D G → after Γ D G′) where
+            pub waiting-step : Step s s₂ d w w₂ rows n top n top at at₁ free c l nothing after
+            unfolding Meets taken
+            waiting-step = record {
+              spared = waiting-spared;
+              stored = taken-stored reach;
+              goes = λ G St Γ D C f b.
+                  let H = G .before ⨾ G .items in
+                  let i = inner H (G .mentioned) (suspended s d n top G St) Γ D (scoped-waiting G Γ D C) f in
+                  let A = taken G St (c Γ) (i .0) (i .1) (agrees Γ) in
+                  record {
+                    advanced = A;
+                    holds = carry Γ D (idle (H ⨾ c Γ) (i .0)) (ghostAfter G (c Γ) (A .equations) (A .mentioned) (A .cells)) (λ x z. z) (λ τ m. (((m .0, m .1 .0), m .1 .1), tt)) (i .2);
+                  };
+            }

@@ -11,6 +11,7 @@ use Rattle.pieces.specs.Stage.{Ghost, Stands, Advanced}
 use Rattle.pieces.specs.Building.{Introduced}
 use Rattle.pieces.specs.Rows.{ghostAfter}
 use Rattle.names.specs.Scoped.{Scoped}
+use Rattle.inclusion.specs.Storing.{Stored}
 use Rattle.walk.specs.Visits.{Owned, Fresh, Spared}
 use Rattle.walk.specs.Expressions.{Visited}
 
@@ -26,12 +27,17 @@ pub record Passing (s s′ d : List ℕ) (n top n′ top′ : ℕ) (G : Ghost) (
   pub advanced : Advanced s s′ d n top n′ top′ G own (Owned l)
   pub holds : after (ghostAfter G own (advanced .equations) (advanced .mentioned) (advanced .cells))
 
--- A PART THAT PASSES.
-pub record Part (s s′ d w w′ : List ℕ) (rows n top n′ top′ at at′ free : ℕ) (items : Scope → Items) (l : List ℕ) (before after : Fact) : Type 0 where
+-- A PART THAT PASSES, ..
+pub record Step (s s′ d w w′ : List ℕ) (rows n top n′ top′ at at′ free : ℕ) (items : Scope → Items) (l : List ℕ) (before after : Fact) : Type 0 where
   pub spared : Spared w w′ rows free
-  pub areas : Visited s s′ n top n′ top′ at at′ l
+  pub stored : Stored s s′ at at′
   pub goes : (G : Ghost) → Stands s d n top G → (Γ : Scope) (D : Dictionary) → Scoped s d w rows G Γ D → Fresh l (G .mentioned) → before Γ D G →
       Passing s s′ d n top n′ top′ G (items Γ) l (after Γ D)
+
+-- .. in the room of its nodes.
+pub record Part (s s′ d w w′ : List ℕ) (rows n top n′ top′ at at′ free : ℕ) (items : Scope → Items) (l : List ℕ) (before after : Fact) : Type 0 where
+  pub step : Step s s′ d w w′ rows n top n′ top′ at at′ free items l before after
+  pub areas : Visited s s′ n top n′ top′ at at′ l
 
 -- THE LAST PART, which gives the unknown x its cell; or a part that stops.
 pub record Ending (s s′ d w w′ : List ℕ) (rows n top at free : ℕ) (items : Scope → Items) (l : List ℕ) (before : Fact) (x number place cell n′ top′ at′ : ℕ) : Type 0 where
