@@ -2,6 +2,10 @@ pub mod Nodes
 pub mod Rooms
 pub mod Scopes
 pub mod Visiting
+pub mod Parts
+pub mod Shapes
+pub mod Operands
+pub mod Expressions
 pub mod Opening
 pub mod Wiping
 pub mod Normal
@@ -9,3 +13,6 @@ pub mod Forming
 pub mod Passing
 pub mod Connecting
 pub mod Sides
+pub mod Lists
+pub mod Listing
+pub mod Waiting
