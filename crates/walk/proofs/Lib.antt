@@ -8,3 +8,5 @@ pub mod Connecting
 pub mod Sides
 pub mod Relations
 pub mod Quantifying
+pub mod Pushing
+pub mod Bodies
