@@ -16,3 +16,7 @@ pub mod Sides
 pub mod Lists
 pub mod Listing
 pub mod Waiting
+pub mod Relations
+pub mod Quantifying
+pub mod Pushing
+pub mod Bodies
