@@ -14,13 +14,10 @@ pub mod LookingUpApplied
 pub mod Carrying
 pub mod ComponentLaws
 pub mod ThetaLaws
-<<<<<<< HEAD
 pub mod FewParameters
 pub mod FewNames
 pub mod LimitedKept
-=======
 pub mod IdleLaws
 pub mod PlacedLaws
 pub mod CheckLaws
 pub mod ThetaRules
->>>>>>> theta

@@ -9,3 +9,4 @@ pub mod Visiting
 pub mod Passing
 pub mod Connecting
 pub mod Sides
+pub mod Elements
