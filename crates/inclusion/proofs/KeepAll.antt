@@ -1,12 +1,12 @@
 -- The rows of what an Include brings get their places, one after another.
-use mathlib.Core.Path.{_≡_, refl, sym, ap, ap₂, subst, _∙_}
+use mathlib.Core.Path.{_≡_, refl, sym, ap, subst, _∙_}
 use mathlib.Core.List.{List}
 use mathlib.Core.Logic.{_⊎_, inl, inr, ⊎-elim}
 use mathlib.Core.Option.{some}
-use Prim.Native.Nat.{ℕ, suc, _+_, _-_, _*_, _≤_, _<_, _^_}
+use Prim.Native.Nat.{ℕ, _+_, _-_, _*_, _≤_, _<_}
 use native.Mathlib.Omega.{arith}
-use lib.ListN.{length, getD}
-use Rattle.types.specs.Types.{Ty, Tys, size}
+use lib.ListN.{getD}
+use Rattle.types.specs.Types.{Ty, size}
 use Rattle.types.specs.Words.{words}
 use Rattle.solver.specs.Settled.{heap, Reads, Readable}
 use Rattle.solver.proofs.Growing.{lt-or-ge}
@@ -14,7 +14,6 @@ use Rattle.signatures.specs.Rows.{rows, placeIn}
 use Rattle.signatures.specs.Tables.{Finds}
 use Rattle.signatures.proofs.RowLaws.{rows-kept}
 use Rattle.instances.specs.Fill.{fill}
-use Rattle.instances.specs.Filled.{Row}
 use Rattle.inclusion.specs.Keeping.{Written, Found, Fresh, RowAsk, RowKept, AllAsk, AllKept}
 
 pub finds-same : (w w′ : List ℕ) (base m i f : ℕ) → ((x : ℕ) → base ≤ x → x < base + 2 * m → getD w′ x 0 ≡ getD w x 0) → Finds w′ base m i f → Finds w base m i f

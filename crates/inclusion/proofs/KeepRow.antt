@@ -1,11 +1,11 @@
 -- One row of what an Include brings gets its place.
-use mathlib.Core.Path.{_≡_, refl, sym, ap, subst, _∙_}
+use mathlib.Core.Path.{_≡_, sym, ap, subst, _∙_}
 use mathlib.Core.List.{List}
 use mathlib.Core.Logic.{inl, inr}
-use Prim.Native.Nat.{ℕ, _+_, _*_, _≤_, _<_, _^_}
+use Prim.Native.Nat.{ℕ, _+_, _*_, _≤_, _<_}
 use native.Mathlib.Omega.{arith}
 use lib.ListN.{length, getD, set, length-set}
-use lib.Seq.{sets, length-sets, getD-set-same, getD-set-other}
+use lib.Seq.{length-sets, getD-set-same, getD-set-other}
 use Rattle.types.specs.Types.{Ty, Tys, size}
 use Rattle.types.specs.Words.{words}
 use Rattle.types.proofs.Words.{words-few}
@@ -15,7 +15,7 @@ use Rattle.signatures.specs.Tables.{Finds}
 use Rattle.instances.specs.Fill.{fill}
 use Rattle.instances.specs.Filled.{Row, FillWriting, FillWrote}
 use Rattle.instances.proofs.Moving.{sets-before, sets-in}
-use Rattle.inclusion.specs.Keeping.{Written, Found, Fresh, RowAsk, RowKept}
+use Rattle.inclusion.specs.Keeping.{Written, RowAsk, RowKept}
 
 module _ (s d w : List ℕ) (base m r : ℕ) (places : List ℕ) (own e : ℕ) (A : RowAsk s d w base m r places own e) where
   -- An identifier of the table.

@@ -5,8 +5,8 @@ use Prim.Native.Nat.{ℕ, zero, suc, _+_, _-_, _≤_, _<_}
 use native.Mathlib.Omega.{arith}
 use lib.ListN.{length, set}
 use lib.Seq.{sets}
-use Rattle.types.specs.Former.{Former, tag, identifiers}
-use Rattle.types.specs.Types.{Ty, node, tnil, tcons, size}
+use Rattle.types.specs.Former.{tag, identifiers}
+use Rattle.types.specs.Types.{size}
 use Rattle.types.specs.Formed.{WellFormed, FormedType, Arity}
 use Rattle.types.specs.Words.{second, words, partWords}
 use Rattle.inclusion.specs.Large.{powers}

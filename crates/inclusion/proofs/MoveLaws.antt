@@ -1,8 +1,8 @@
 -- Words moved into the caller's part over others, which are wiped.
-use mathlib.Core.Path.{_≡_, refl, sym, ap, subst, _∙_}
+use mathlib.Core.Path.{_≡_, refl, ap, _∙_}
 use mathlib.Core.List.{List}
 use mathlib.Core.Logic.{⊎-elim}
-use Prim.Native.Nat.{ℕ, suc, _+_, _-_, _≤_, _<_, _^_}
+use Prim.Native.Nat.{ℕ, suc, _+_, _-_, _≤_, _<_}
 use native.Mathlib.Omega.{arith}
 use lib.ListN.{length, getD, replicate, length-replicate, getD-replicate}
 use lib.Seq.{sets, length-sets}
@@ -10,7 +10,6 @@ use Rattle.solver.specs.Store.{run}
 use Rattle.solver.proofs.Words.{run-at, run-length}
 use Rattle.solver.proofs.Growing.{lt-or-ge}
 use Rattle.instances.proofs.Moving.{sets-before, sets-after, sets-in}
-use Rattle.inclusion.specs.Storing.{Stored}
 use Rattle.inclusion.specs.Keeping.{MoveAsk, Moved}
 
 module _ (s w : List ℕ) (at end free k : ℕ) (A : MoveAsk s w at end free k) (s₁ : List ℕ) (e₁ : s₁ ≡ sets s at (run w free k)) where

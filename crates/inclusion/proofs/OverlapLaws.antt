@@ -2,13 +2,13 @@
 use mathlib.Core.Path.{_≡_, refl, sym, ap, subst, _∙_}
 use mathlib.Core.Bool.{Bool, true, false}
 use mathlib.Core.List.{List, [], _∷_}
-use Prim.Native.Nat.{ℕ, _+_, _*_, _≤_, _<_}
+use Prim.Native.Nat.{ℕ, _+_, _≤_, _<_}
 use native.Mathlib.Omega.{arith}
 use lib.ListN.{length, getD, drop}
 use Rattle.words.proofs.Lists.{drop-next}
-use Rattle.types.specs.Types.{Ty, Term, size}
+use Rattle.types.specs.Types.{Term, size}
 use Rattle.types.proofs.Terms.{bool-no}
-use Rattle.typing.specs.Items.{Items, skip, _⨾_, Meets, Refuses}
+use Rattle.typing.specs.Items.{Items, _⨾_, Meets, Refuses}
 use Rattle.typing.specs.Signatures.{Signature, termIn}
 use Rattle.typing.specs.Conditions.{sameType, mergeDeclared}
 use Rattle.signatures.specs.Rows.{rows}
@@ -16,7 +16,7 @@ use Rattle.signatures.specs.Tables.{Finds}
 use Rattle.signatures.specs.Carried.{Carries}
 use Rattle.signatures.proofs.CallLaws.{found-term, no-term}
 use Rattle.signatures.proofs.CarryLaws.{carries-other}
-use Rattle.pieces.specs.Piece.{Steady, Walked, Settled}
+use Rattle.pieces.specs.Piece.{Steady, Walked}
 use Rattle.pieces.proofs.Between.{walked-skip, walked-then, equal-refused, settled-later, refuses-first, refuses-second}
 use Rattle.inclusion.specs.Components.{Placed}
 use Rattle.inclusion.specs.Storing.{OverlapTold}

@@ -2,27 +2,24 @@
 use mathlib.Core.Path.{_≡_, refl, sym, ap, subst, _∙_}
 use mathlib.Core.List.{List}
 use mathlib.Core.Logic.{inl, inr}
-use Prim.Native.Nat.{ℕ, suc, _+_, _-_, _≤_, _<_, _^_}
+use Prim.Native.Nat.{ℕ, _+_, _-_, _≤_, _<_, _^_}
 use native.Mathlib.Omega.{arith}
 use lib.ListN.{length, getD}
 use lib.Seq.{sets, length-sets}
 use Rattle.types.specs.Types.{Ty, size}
-use Rattle.types.specs.Formed.{WellFormed}
 use Rattle.types.specs.Words.{words}
 use Rattle.solver.specs.Store.{run}
-use Rattle.solver.specs.Settled.{heap, Reads}
 use Rattle.solver.specs.Sizes.{cap}
-use Rattle.solver.specs.Written.{Wrote}
 use Rattle.solver.proofs.Marking.{cap-cases}
 use Rattle.solver.proofs.Words.{run-length}
 use Rattle.instances.specs.Clean.{Clean}
 use Rattle.instances.proofs.FillSizes.{size-few}
-use Rattle.instances.proofs.Moving.{sets-before, sets-after, sets-run, moved-new}
+use Rattle.instances.proofs.CleanLaws.{written-clean}
+use Rattle.instances.proofs.Moving.{sets-before, sets-run, moved-new}
 use Rattle.pieces.specs.Stage.{Ghost}
 use Rattle.pieces.specs.Closed.{Shut, SizeIs, Wording, WordsAre}
-use Rattle.inclusion.specs.Components.{StandsFor}
 use Rattle.inclusion.specs.Large.{large}
-use Rattle.inclusion.specs.Storing.{Stored, Scratch, StoreAsk, TypeStored}
+use Rattle.inclusion.specs.Storing.{Stored, StoreAsk, TypeStored}
 use Rattle.inclusion.proofs.LargeLaws.{powers-length, powers-size, powers-formed}
 
 -- Words written from `at` on, where the area is clean, and a zero word after them.
@@ -30,7 +27,7 @@ pub words-stored : (s : List ℕ) (at : ℕ) (ws : List ℕ) → Clean s at → 
 words-stored s at ws C = record {
   size = length-sets s at ws;
   before = λ i l. sets-before s at ws i l;
-  after = λ i l r. sets-after s at ws i (omega arith) ∙ C i (omega arith) r;
+  after = written-clean s at ws C;
   more = omega arith;
 }
 

@@ -4,7 +4,7 @@ use mathlib.Core.Bool.{Bool, true, false}
 use mathlib.Core.List.{List}
 use mathlib.Core.Logic.{_⊎_}
 use Prim.Native.Nat.{ℕ, suc, _+_, _*_, _≤_, _<_, _^_}
-use lib.ListN.{length, getD, drop}
+use lib.ListN.{length, getD}
 use Rattle.types.specs.Types.{Ty, Tys, Term, size}
 use Rattle.types.specs.Formed.{WellFormed}
 use Rattle.typing.specs.Unknowns.{Table, row}

@@ -1,11 +1,11 @@
 pub mod Nodes
 pub mod Rooms
+pub mod Scopes
+pub mod Visiting
 pub mod Opening
 pub mod Wiping
 pub mod Normal
 pub mod Forming
-pub mod Scopes
-pub mod Visiting
 pub mod Passing
 pub mod Connecting
 pub mod Sides

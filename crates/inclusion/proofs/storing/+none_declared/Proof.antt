@@ -29,7 +29,6 @@ none-declared-below t =
     (falls 2 none-declared-kinds.ps _<_ μ-none-declared t)
     none-declared.Pre
 
--- src/storing.rt:73:9
 none-declared-returns : (t : ℕ) → none-declared-lts.Need-returns (
   word-reads.Asked,
   word-reads.Learnt,
@@ -40,7 +39,6 @@ none-declared-returns : (t : ℕ) → none-declared-lts.Need-returns (
 ) (none-declared-at t) none-declared.Post
 none-declared-returns t c = overlap-end _ _ _ (c .before .before .before .args .part .now) (c .before .before .before .args .j) (drop-done _ _ (c .if1 .taken))
 
--- src/storing.rt:75:25
 none-declared-word-requires : (t : ℕ) → none-declared-lts.Need-word-requires (
   word-reads.Asked,
   word-reads.Learnt,
@@ -51,7 +49,6 @@ none-declared-word-requires : (t : ℕ) → none-declared-lts.Need-word-requires
 ) (none-declared-at t) none-declared.Post
 none-declared-word-requires t c κs = search needs
 
--- src/storing.rt:75:8
 none-declared-find-requires : (t : ℕ) → none-declared-lts.Need-find-requires (
   word-reads.Asked,
   word-reads.Learnt,
@@ -62,7 +59,6 @@ none-declared-find-requires : (t : ℕ) → none-declared-lts.Need-find-requires
 ) (none-declared-at t) none-declared.Post
 none-declared-find-requires t c κs = search needs
 
--- src/storing.rt:76:9
 none-declared-returns-2 : (t : ℕ) → none-declared-lts.Need-returns-2 (
   word-reads.Asked,
   word-reads.Learnt,
@@ -73,7 +69,6 @@ none-declared-returns-2 : (t : ℕ) → none-declared-lts.Need-returns-2 (
 ) (none-declared-at t) none-declared.Post
 none-declared-returns-2 t c = overlap-stop _ _ _ _ _ _ (c .before .before .before .if1 .left) (c .before .before .word .ensures .0) _ (c .before .find .ensures) (c .if2 .taken)
 
--- src/storing.rt:78:37
 none-declared-add-none-declared : (t : ℕ) → none-declared-lts.Need-add-none-declared (
   word-reads.Asked,
   word-reads.Learnt,
@@ -84,7 +79,6 @@ none-declared-add-none-declared : (t : ℕ) → none-declared-lts.Need-add-none-
 ) (none-declared-at t) none-declared.Post
 none-declared-add-none-declared t c = search needs
 
--- src/storing.rt:78:5
 none-declared-none-declared-requires : (t : ℕ) → none-declared-lts.Need-none-declared-requires (
   word-reads.Asked,
   word-reads.Learnt,
@@ -95,7 +89,6 @@ none-declared-none-declared-requires : (t : ℕ) → none-declared-lts.Need-none
 ) (none-declared-at t) none-declared.Post
 none-declared-none-declared-requires t c κs = (omega (arith, c .before .before .before .before .before .before .pre .0, c .before .before .before .if1 .left), c .before .before .before .before .before .before .pre .1)
 
--- src/storing.rt:68:1
 none-declared-returns-3 : (t : ℕ) → none-declared-lts.Need-returns-3 (
   word-reads.Asked,
   word-reads.Learnt,

@@ -15,49 +15,38 @@ Inv-loop a d w₀ base m source k row at free e₀ j₀ w e j = (j ≤ k) × All
 abbrev μ-loop : tie.MeasureT-loop
 μ-loop a d w₀ base m source k row at free e₀ j₀ w e j = k - j
 
--- src/storing.rt:127:5
 loop-holds : tie.Need-loop-holds Inv-loop μ-loop
 loop-holds c = (omega arith, all-start _ _ _ _ _ _ _ _ _ _ (c .before .before .before .before .pre))
 
--- src/storing.rt:128:49
 mul-keep-row : tie.Need-mul-keep-row Inv-loop μ-loop
 mul-keep-row c = let P = c .before .before .before .before .before .before .before .pre in let I = c .before .before .loop .inv in let r = P .beside .1 in let q = P .near in let x = P .room in let y = I .1 .more in let z = I .1 .short in let u = P .many in let t = c .before .loop-test .taken in omega arith
 
--- src/storing.rt:128:40
 add-keep-row : tie.Need-add-keep-row Inv-loop μ-loop
 add-keep-row c = let P = c .before .before .before .before .before .before .before .pre in let I = c .before .before .loop .inv in let r = P .beside .1 in let q = P .near in let x = P .room in let y = I .1 .more in let z = I .1 .short in let u = P .many in let t = c .before .loop-test .taken in omega arith
 
--- src/storing.rt:128:67
 sub-keep-row : tie.Need-sub-keep-row Inv-loop μ-loop
 sub-keep-row c = let P = c .before .before .before .before .before .before .before .pre in let I = c .before .before .loop .inv in let r = P .beside .1 in let q = P .near in let x = P .room in let y = I .1 .more in let z = I .1 .short in let u = P .many in let t = c .before .loop-test .taken in omega arith
 
--- src/storing.rt:128:61
 add-keep-row-2 : tie.Need-add-keep-row-2 Inv-loop μ-loop
 add-keep-row-2 c = let P = c .before .before .before .before .before .before .before .pre in let I = c .before .before .loop .inv in let r = P .beside .1 in let q = P .near in let x = P .room in let y = I .1 .more in let z = I .1 .short in let u = P .many in let t = c .before .loop-test .taken in omega arith
 
--- src/storing.rt:128:9
 keep-row-requires : tie.Need-keep-row-requires Inv-loop μ-loop
 keep-row-requires c κs = step-asked _ _ _ _ _ _ _ _ _ _ (c .before .before .before .before .before .before .before .pre) _ _ _ (c .before .loop-test .taken) (c .before .before .loop .inv .1)
 
--- src/storing.rt:129:9
 add-j : tie.Need-add-j Inv-loop μ-loop
 add-j c = search needs
 
--- src/storing.rt:127:5
 loop-less : tie.Need-loop-less Inv-loop μ-loop
 loop-less c = let l = c .before .before .before .before .loop-test .taken in omega arith
 
--- src/storing.rt:127:5
 loop-again : tie.Need-loop-again Inv-loop μ-loop
 loop-again c =
     let l = c .before .before .before .before .loop-test .taken in
     (omega arith, all-step _ _ _ _ _ _ _ _ _ _ (c .before .before .before .before .before .before .before .before .before .before .pre) _ _ _ l (c .before .before .before .before .before .loop .inv .1) _ _ (c .before .before .keep-row .ensures))
 
--- src/storing.rt:110:1
 same-length : tie.Need-same-length Inv-loop μ-loop
 same-length c = c .before .loop .inv .1 .size
 
--- src/storing.rt:110:1
 returns : tie.Need-returns Inv-loop μ-loop
 returns c = all-end _ _ _ _ _ _ _ _ _ _ (c .before .before .before .before .before .before .pre) _ _ _ (c .before .loop .inv .0) (c .loop-test .left) (c .before .loop .inv .1)
 

@@ -7,35 +7,27 @@ use Rattle.inclusion.proofs.storing.move_words.Lts as lts
 use Rattle.instances.proofs.copy_words.Reads as copy-words-reads
 use Rattle.instances.proofs.wipe.Reads as wipe-reads
 
--- src/storing.rt:140:16
 add-stop : tie.Need-add-stop
 add-stop c = search needs
 
--- src/storing.rt:141:5
 copy-words-requires : tie.Need-copy-words-requires
 copy-words-requires c κs = search needs
 
--- src/storing.rt:142:5
 wipe-requires : tie.Need-wipe-requires
 wipe-requires c κs = search needs
 
--- src/storing.rt:144:9
 same-length : tie.Need-same-length
 same-length c = search needs
 
--- src/storing.rt:144:9
 returns : tie.Need-returns
 returns c = moved-none _ _ _ _ _ _ (c .before .before .before .before .before .before .before .before .before .before .before .pre) _ (c .before .before .before .before .before .before .before .copy-words .ensures) _ (c .before .before .before .wipe .ensures) (c .if1 .taken)
 
--- src/storing.rt:146:5
 add-result : tie.Need-add-result
 add-result c = search needs
 
--- src/storing.rt:136:1
 same-length-2 : tie.Need-same-length-2
 same-length-2 c = search needs
 
--- src/storing.rt:136:1
 returns-2 : tie.Need-returns-2
 returns-2 c = moved-some _ _ _ _ _ _ (c .before .before .before .before .before .before .before .before .before .before .before .pre) _ (c .before .before .before .before .before .before .before .copy-words .ensures) _ (c .before .before .before .wipe .ensures) (c .if1 .left)
 

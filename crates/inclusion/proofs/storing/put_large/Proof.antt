@@ -16,27 +16,21 @@ Inv-loop a₀ at j₀ a j = (j ≤ 32) × (length a ≡ length a₀) × Put a₀
 abbrev μ-loop : tie.MeasureT-loop
 μ-loop a₀ at j₀ a j = 32 - j
 
--- src/storing.rt:37:5
 loop-holds : tie.Need-loop-holds Inv-loop μ-loop
 loop-holds c = let s = c .before .args in (omega arith, refl, put-start (s .a .now) (s .at))
 
--- src/storing.rt:38:18
 add-store : tie.Need-add-store Inv-loop μ-loop
 add-store c = search needs
 
--- src/storing.rt:38:9
 store-requires : tie.Need-store-requires Inv-loop μ-loop
 store-requires c κs = search needs
 
--- src/storing.rt:39:9
 add-j : tie.Need-add-j Inv-loop μ-loop
 add-j c = search needs
 
--- src/storing.rt:37:5
 loop-less : tie.Need-loop-less Inv-loop μ-loop
 loop-less c = search needs
 
--- src/storing.rt:37:5
 loop-again : tie.Need-loop-again Inv-loop μ-loop
 loop-again c =
     let s = c .before .before .before .before .before .before .before .args in
@@ -48,22 +42,18 @@ loop-again c =
       subst (λ z. Put (s .a .now) z (s .at) (L .j + 1)) (sym E) (put-step (s .a .now) (L .a) (s .at) (L .j) l (L .inv .2)),
     )
 
--- src/storing.rt:41:14
 add-store-2 : tie.Need-add-store-2 Inv-loop μ-loop
 add-store-2 c = search needs
 
--- src/storing.rt:41:5
 store-requires-2 : tie.Need-store-requires-2 Inv-loop μ-loop
 store-requires-2 c κs = search needs
 
--- src/storing.rt:32:1
 same-length : tie.Need-same-length Inv-loop μ-loop
 same-length c =
     let s = c .before .before .before .before .before .before .before .args in
     let L = c .before .before .before .before .before .loop in
     ap length (c .before .before .store2 .ensures) ∙ length-set (L .a) (s .at + 32) 1 ∙ L .inv .1
 
--- src/storing.rt:32:1
 returns : tie.Need-returns Inv-loop μ-loop
 returns c =
     let s = c .before .before .before .before .before .before .before .args in

@@ -10,59 +10,45 @@ use Rattle.instances.proofs.copy_words.Reads as copy-words-reads
 use Rattle.pieces.proofs.closing.settled_size.Reads as settled-size-reads
 use Rattle.pieces.proofs.closing.settled_words.Reads as settled-words-reads
 
--- src/storing.rt:57:18
 settled-size-requires : tie.Need-settled-size-requires
 settled-size-requires c κs = search needs
 
--- src/storing.rt:58:9
 put-large-requires : tie.Need-put-large-requires
 put-large-requires c κs = search needs
 
--- src/storing.rt:59:16
 add-result : tie.Need-add-result
 add-result c = search needs
 
--- src/storing.rt:59:16
 add-result-2 : tie.Need-add-result-2
 add-result-2 c = search needs
 
--- src/storing.rt:59:9
 same-length : tie.Need-same-length
 same-length c = search needs
 
--- src/storing.rt:59:9
 returns : tie.Need-returns
 returns c = store-large _ _ _ _ _ _ _ (c .before .before .before .before .before .before .before .before .before .before .pre) _ (c .before .before .before .before .before .settled-size .ensures) (c .before .before .before .before .if1 .taken) _ (c .before .before .put-large .ensures)
 
--- src/storing.rt:61:9
 settled-words-requires : tie.Need-settled-words-requires
 settled-words-requires c κs = store-asked _ _ _ _ _ _ _ (c .before .before .before .before .before .before .before .before .pre) _ (c .before .before .before .settled-size .ensures) (c .before .before .if1 .left)
 
--- src/storing.rt:62:13
 sub-k : tie.Need-sub-k
 sub-k c = let x = wrote-room _ _ _ _ _ _ _ (c .before .before .before .before .before .before .before .before .before .before .before .pre) _ (c .before .before .before .before .before .before .settled-size .ensures) (c .before .before .before .before .before .if1 .left) _ _ (c .before .before .settled-words .ensures) in omega (arith, x .0)
 
--- src/storing.rt:63:5
 copy-words-requires : tie.Need-copy-words-requires
 copy-words-requires c κs = copy-asked _ _ _ _ _ _ _ (c .before .before .before .before .before .before .before .before .before .before .before .before .before .pre) _ (c .before .before .before .before .before .before .before .before .settled-size .ensures) (c .before .before .before .before .before .before .before .if1 .left) _ _ (c .before .before .before .before .settled-words .ensures)
 
--- src/storing.rt:64:5
 add-result-3 : tie.Need-add-result-3
 add-result-3 c = let x = wrote-room _ _ _ _ _ _ _ (c .before .before .before .before .before .before .before .before .before .before .before .before .before .before .before .before .pre) _ (c .before .before .before .before .before .before .before .before .before .before .before .settled-size .ensures) (c .before .before .before .before .before .before .before .before .before .before .if1 .left) _ _ (c .before .before .before .before .before .before .before .settled-words .ensures) in let r = c .before .before .before .before .before .before .before .before .before .before .before .before .before .before .before .before .pre .room in omega (arith, x .1)
 
--- src/storing.rt:64:5
 add-result-4 : tie.Need-add-result-4
 add-result-4 c = let x = wrote-room _ _ _ _ _ _ _ (c .before .before .before .before .before .before .before .before .before .before .before .before .before .before .before .before .pre) _ (c .before .before .before .before .before .before .before .before .before .before .before .settled-size .ensures) (c .before .before .before .before .before .before .before .before .before .before .if1 .left) _ _ (c .before .before .before .before .before .before .before .settled-words .ensures) in let r = c .before .before .before .before .before .before .before .before .before .before .before .before .before .before .before .before .pre .room in omega (arith, x .1)
 
--- src/storing.rt:45:1
 same-length-2 : tie.Need-same-length-2
 same-length-2 c = search needs
 
--- src/storing.rt:45:1
 same-length-3 : tie.Need-same-length-3
 same-length-3 c = search needs
 
--- src/storing.rt:45:1
 returns-2 : tie.Need-returns-2
 returns-2 c = store-small _ _ _ _ _ _ _ (c .before .before .before .before .before .before .before .before .before .before .before .before .before .before .before .before .pre) _ (c .before .before .before .before .before .before .before .before .before .before .before .settled-size .ensures) (c .before .before .before .before .before .before .before .before .before .before .if1 .left) _ _ (c .before .before .before .before .before .before .before .settled-words .ensures) _ (c .before .before .copy-words .ensures)
 
