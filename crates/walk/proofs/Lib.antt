@@ -10,3 +10,4 @@ pub mod Passing
 pub mod Connecting
 pub mod Sides
 pub mod Elements
+
