@@ -11,3 +11,4 @@ pub mod Connecting
 pub mod Sides
 pub mod Elements
 
+pub mod LineItems
