@@ -20,3 +20,6 @@ pub mod Relations
 pub mod Quantifying
 pub mod Pushing
 pub mod Bodies
+pub mod Elements
+
+pub mod LineItems
