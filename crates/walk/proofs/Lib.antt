@@ -3,3 +3,6 @@ pub mod Rooms
 pub mod Scopes
 pub mod Opening
 pub mod Wiping
+pub mod Passing
+pub mod Connecting
+pub mod Sides

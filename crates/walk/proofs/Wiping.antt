@@ -1,26 +1,15 @@
--- Words stored in the pool one after another, and wiped: then the pool is what it was.
-use mathlib.Core.Path.{_≡_, sym, ap, subst, _∙_}
+-- Words stored in the pool, and wiped: then the pool is what it was.
+use mathlib.Core.Path.{_≡_, _∙_}
 use mathlib.Core.List.{List}
-use Prim.Native.Nat.{ℕ, suc, _+_, _-_, _≤_, _<_}
+use Prim.Native.Nat.{ℕ, _-_, _≤_, _<_}
 use native.Mathlib.Omega.{arith}
-use lib.ListN.{length, getD, replicate}
+use lib.ListN.{length, replicate}
 use lib.Seq.{sets, length-sets}
 use Rattle.solver.specs.Settled.{lower}
 use Rattle.instances.specs.Clean.{Clean}
 use Rattle.instances.proofs.Moving.{lower-words, sets-before}
 use Rattle.instances.proofs.CleanLaws.{clean-lower, clean-same, wiped-clean}
 use Rattle.inclusion.specs.Storing.{Stored}
-
-pub stored-on : (s s′ s″ : List ℕ) (at mid end : ℕ) → Stored s s′ at mid → Stored s′ s″ mid end → Stored s s″ at end
-stored-on s s′ s″ at mid end A B =
-    let p = A .more in
-    let q = B .more in
-    record {
-      size = B .size ∙ A .size;
-      before = λ i l. B .before i (omega arith) ∙ A .before i l;
-      after = B .after;
-      more = omega arith;
-    }
 
 -- Other words than those of the pool may change since.
 pub stored-kept : (s s′ s″ : List ℕ) (at end : ℕ) → at ≤ 39936 → Stored s s′ at end → length s″ ≡ length s′ → lower s″ ≡ lower s′ → Stored s s″ at end
