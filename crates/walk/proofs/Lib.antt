@@ -6,3 +6,4 @@ pub mod Wiping
 pub mod Passing
 pub mod Connecting
 pub mod Sides
+pub mod SchemaKinds
