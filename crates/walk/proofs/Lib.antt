@@ -7,3 +7,4 @@ pub mod Passing
 pub mod Connecting
 pub mod Sides
 pub mod SchemaKinds
+pub mod Conjoining
