@@ -23,3 +23,5 @@ pub mod Bodies
 pub mod Elements
 
 pub mod LineItems
+pub mod SchemaKinds
+pub mod Conjoining
