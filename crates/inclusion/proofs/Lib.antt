@@ -1,0 +1,11 @@
+pub mod SameLaws
+pub mod StandLaws
+pub mod AgreeLaws
+pub mod SmallLaws
+pub mod OverlapLaws
+pub mod LargeLaws
+pub mod StoreLaws
+pub mod KeepRow
+pub mod KeepAll
+pub mod MoveLaws
+pub mod KeptLaws

@@ -4,11 +4,11 @@ use mathlib.Core.Bool.{Bool, true, false}
 use mathlib.Core.List.{List}
 use Prim.Native.Nat.{ℕ, _+_, _*_, _≤_, _<_}
 use lib.ListN.{length, getD}
-use Rattle.types.specs.Types.{Ty, Tys}
+use Rattle.types.specs.Types.{Ty, Tys, Term, size}
 use Rattle.typing.specs.Unknowns.{row}
 use Rattle.typing.specs.Items.{Items, Meets, Refuses}
-use Rattle.typing.specs.Signatures.{Signature}
-use Rattle.typing.specs.Conditions.{mergeNames, smallTypes}
+use Rattle.typing.specs.Signatures.{Signature, termIn}
+use Rattle.typing.specs.Conditions.{sameType, mergeNames, smallTypes}
 use Rattle.solver.specs.Calls.{Tells}
 use Rattle.solver.specs.Settled.{heap, Reads, Readable, Areas}
 use Rattle.signatures.specs.Rows.{rows}
@@ -37,6 +37,18 @@ pub record AgreeAsk (s d w : List ℕ) (base m source k : ℕ) (places : List �
   pub brought : RowsAsk s d w source k places
   pub table : Rows s d w base m
 
+-- 36 for one component, identifier id, with the type at p.
+pub record OneAsk (s d w : List ℕ) (base m p : ℕ) (places : List ℕ) : Type 0 where
+  pub actuals : Actuals s d places
+  pub type : Readable (heap s d) p
+  pub table : Rows s d w base m
+
+pub record OneTold (s d w : List ℕ) (base m p id : ℕ) (places : List ℕ) (fine : Bool) : Type 0 where
+  pub goes : fine ≡ true → (H : Items) (U : List ℕ) (n i z : ℕ) (t : Term) (r : Signature) → Steady H U → ActualTypes s d H U i z places →
+      Component s d (row i 1 z) t p → Carries (Placed s d H U) r (rows w base m) → Walked H (sameType n t (termIn id r)) U U (λ x. ⊥)
+  pub stops : fine ≡ false → (H : Items) (U : List ℕ) (n i z : ℕ) (t : Term) (r : Signature) → Steady H U → ActualTypes s d H U i z places →
+      Component s d (row i 1 z) t p → Carries (Placed s d H U) r (rows w base m) → Refuses (sameType n t (termIn id r)) (Meets H) 36 n
+
 -- 36: beside the signature r of the lines before. Any Include node i with the arity z, whose signature is q.
 pub record AgreeTold (s d w : List ℕ) (base m source k : ℕ) (places : List ℕ) (fine : Bool) : Type 0 where
   pub goes : fine ≡ true → (H : Items) (U : List ℕ) (n i z : ℕ) (q r : Signature) → Steady H U → ActualTypes s d H U i z places →
@@ -48,5 +60,7 @@ pub record AgreeTold (s d w : List ℕ) (base m source k : ℕ) (places : List �
 pub record SmallTold (s d w : List ℕ) (source k : ℕ) (places : List ℕ) (fine : Bool) : Type 0 where
   pub goes : fine ≡ true → (H : Items) (U : List ℕ) (n i z : ℕ) (q : Signature) → Steady H U → ActualTypes s d H U i z places →
       Carries (Component s d (row i 1 z)) q (rows w source k) → Walked H (smallTypes n q) U U (λ x. ⊥)
+  -- on words, for each row
+  pub sizes : fine ≡ true → (j : ℕ) → j < k → (g : Ty) (hs : Tys) → Reads (heap s d) (getD w (source + 2 * j + 1) 0) g → Row (heap s d) places hs → size (fill hs g) ≤ 32
   pub stops : fine ≡ false → (H : Items) (U : List ℕ) (n i z : ℕ) (q : Signature) → Steady H U → ActualTypes s d H U i z places →
       Carries (Component s d (row i 1 z)) q (rows w source k) → Refuses (smallTypes n q) (Meets H) 38 n

@@ -1,3 +1,5 @@
 pub mod Components
 pub mod Filling
 pub mod Storing
+pub mod Large
+pub mod Keeping

@@ -1,9 +1,9 @@
--- Copying words one by one.
-use mathlib.Core.Path.{_≡_, sym, ap, _∙_}
+-- Copying words, and wiping them, one by one.
+use mathlib.Core.Path.{_≡_, refl, sym, ap, _∙_}
 use mathlib.Core.List.{List}
-use Prim.Native.Nat.{ℕ, _+_, _≤_, _<_}
+use Prim.Native.Nat.{ℕ, suc, _+_, _-_, _≤_, _<_}
 use native.Mathlib.Omega.{arith}
-use lib.ListN.{length, getD, set, drop}
+use lib.ListN.{length, getD, set, drop, replicate}
 use lib.Seq.{sets}
 use Rattle.solver.specs.Store.{run}
 use Rattle.solver.proofs.Words.{run-at, run-length}
@@ -23,3 +23,16 @@ copied-step out₀ out at from p k j v r l e c = let z = run-length from p k r i
 
 pub copied-end : (out₀ out : List ℕ) (at : ℕ) (from : List ℕ) (p k j : ℕ) → p + k ≤ length from → k ≤ j → Copied out₀ out at (run from p k) j → sets out₀ at (run from p k) ≡ out
 copied-end out₀ out at from p k j r l c = let z = run-length from p k r in c ∙ copy-end out (at + j) j (run from p k) (omega arith)
+
+-- All are 0 where those from i on become 0.
+abbrev pub Wiped : List ℕ → List ℕ → ℕ → ℕ → ℕ → Type 0
+Wiped a₀ a from to i = sets a₀ from (replicate (to - from) 0) ≡ sets a i (replicate (to - i) 0)
+
+pub wiped-step : (a₀ a : List ℕ) (from to i : ℕ) → i < to → Wiped a₀ a from to i → Wiped a₀ (set a i 0) from to (i + 1)
+wiped-step a₀ a from to i l w =
+    let e : to - i ≡ suc (to - (i + 1)) = omega arith in
+    let f : suc i ≡ i + 1 = omega arith in
+    w ∙ ap (λ k. sets a i (replicate k 0)) e ∙ ap (λ k. sets (set a i 0) k (replicate (to - (i + 1)) 0)) f
+
+pub wiped-end : (a₀ a : List ℕ) (from to i : ℕ) → to ≤ i → Wiped a₀ a from to i → sets a₀ from (replicate (to - from) 0) ≡ a
+wiped-end a₀ a from to i l w = let e : to - i ≡ 0 = omega arith in w ∙ ap (λ k. sets a i (replicate k 0)) e

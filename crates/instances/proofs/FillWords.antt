@@ -28,7 +28,7 @@ run-words H p xs ys k e q = ap (take k) q ∙ take-at xs ys k e
 unfoldable pub body : Tys → Ty → List ℕ
 body hs (node h gs) = partWords (identifiers h) (fills hs gs)
 
-lead-length : (h : Former) (n : ℕ) → length (lead h n) ≡ leadWords (tag h)
+pub lead-length : (h : Former) (n : ℕ) → length (lead h n) ≡ leadWords (tag h)
 unfolding leadWords tag second
 lead-length int n = refl
 lead-length (given g) n = refl

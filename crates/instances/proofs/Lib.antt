@@ -6,3 +6,5 @@ pub mod Copying
 pub mod Moving
 pub mod AlikeLaws
 pub mod Saving
+pub mod Apart
+pub mod CleanLaws

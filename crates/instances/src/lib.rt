@@ -11,7 +11,7 @@ use words::store;
 use words::word;
 ghost use mathlib.Core.Path.{_≡_};
 ghost use Prim.Native.Nat.{ℕ, _+_, _*_, _-_, _<_, _≤_, _^_};
-ghost use lib.ListN.{length, getD};
+ghost use lib.ListN.{length, getD, replicate};
 ghost use lib.Seq.{sets};
 ghost use Rattle.solver.specs.Store.{run};
 ghost use Rattle.solver.specs.Settled.{heap};
@@ -34,7 +34,7 @@ const PARAMETER: usize = 6;
 const PARAMETER_WORDS: usize = 2;
 
 // The place of the i-th actual's type plus 1, and 0 where there is none.
-fn actual(row: &[u32], i: usize) -> usize
+pub fn actual(row: &[u32], i: usize) -> usize
     ensures { λ r. ⌜ r ≡ placeOf (now (row .entry)) i ⌝ }
 {
     if i == 0 {
@@ -148,6 +148,18 @@ pub fn copy_words(a: &mut [u32], at: usize, from: &[u32], first: usize, k: usize
     while j < k {
         store(a, at + j, word(from, first + j) as u32);
         j += 1;
+    }
+}
+
+// The words from `from` on, below `to`, become 0.
+pub fn wipe(a: &mut [u32], from: usize, to: usize)
+    requires { ⌜ to < 2 ^ 40 ⌝ }
+    ensures { λ _. ⌜ now (a .exit) ≡ sets (now (a .entry)) from (replicate (to - from) 0) ⌝ }
+{
+    let mut i = from;
+    while i < to {
+        store(a, i, 0);
+        i += 1;
     }
 }
 

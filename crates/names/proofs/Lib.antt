@@ -12,4 +12,12 @@ pub mod ActualLaws
 pub mod AppliedLaws
 pub mod LookingUpApplied
 pub mod Carrying
+pub mod ComponentLaws
 pub mod ThetaLaws
+pub mod FewParameters
+pub mod FewNames
+pub mod LimitedKept
+pub mod IdleLaws
+pub mod PlacedLaws
+pub mod CheckLaws
+pub mod ThetaRules

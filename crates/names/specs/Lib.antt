@@ -2,4 +2,6 @@ pub mod Scoped
 pub mod Enlarged
 pub mod Bindings
 pub mod References
+pub mod Components
 pub mod Thetas
+pub mod Extended

@@ -85,7 +85,7 @@ newest-last i w b (suc n) =
     ap (λ (o : Option ℕ). cond (eqb i (r .0)) (some (r .1)) o) (newest-last i w b n)
     ∙ sym (ap (placeIn i) (rows-last w b n) ∙ place-last i (rows w b n) r)
 
-stack-kept : (w v : List ℕ) (b n : ℕ) → ((k : ℕ) → k < b + 2 * n → getD v k 0 ≡ getD w k 0) → stack v b n ≡ stack w b n
+pub stack-kept : (w v : List ℕ) (b n : ℕ) → ((k : ℕ) → k < b + 2 * n → getD v k 0 ≡ getD w k 0) → stack v b n ≡ stack w b n
 unfolding stack
 stack-kept w v b zero h = refl
 stack-kept w v b (suc n) h =

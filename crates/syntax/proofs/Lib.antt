@@ -26,3 +26,4 @@ pub mod NameCounts
 pub mod LimitedTree
 pub mod LimitedMore
 pub mod TreeWords
+pub mod OnceBelow

@@ -83,7 +83,8 @@ module _ (τ : Table) (k : (x : ℕ) → WellFormed (τ x)) where
   addSignature-formed noNames D h d = d
   addSignature-formed (naming i t s) D h d = addSignature-formed s (D ▸ nameEntry i 0 (under τ t)) (h .1) (d, under-fit Arity τ k t (h .0))
 
-  extend-formed : (p : Paragraph) (D : Dictionary) → FormedDictionary D → FormedDictionary (extend p D τ)
+  -- EXTENDING KEEPS A DICTIONARY WELL FORMED, where every type of the table is.
+  pub extend-formed : (p : Paragraph) (D : Dictionary) → FormedDictionary D → FormedDictionary (extend p D τ)
   unfolding extend FormedDictionary FormedScope Formed
   extend-formed (given n xs) D d = givens-formed xs D d
   extend-formed (axiomatic n t) D d = addSignature-formed (textSignature t (globals D)) D (text-formed t (globals D) d) d

@@ -22,3 +22,4 @@ pub mod DictionaryLaid
 pub mod Recorded
 pub mod AcceptedTypes
 pub mod Slots
+pub mod OwnUnknowns

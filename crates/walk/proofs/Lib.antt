@@ -1,0 +1,27 @@
+pub mod Nodes
+pub mod Rooms
+pub mod Scopes
+pub mod Visiting
+pub mod Parts
+pub mod Shapes
+pub mod Operands
+pub mod Expressions
+pub mod Opening
+pub mod Wiping
+pub mod Normal
+pub mod Forming
+pub mod Passing
+pub mod Connecting
+pub mod Sides
+pub mod Lists
+pub mod Listing
+pub mod Waiting
+pub mod Relations
+pub mod Quantifying
+pub mod Pushing
+pub mod Bodies
+pub mod Elements
+
+pub mod LineItems
+pub mod SchemaKinds
+pub mod Conjoining
