@@ -147,6 +147,10 @@ module _ (s d w : List ℕ) (rows at free : ℕ) (a : Expr) (n k : ℕ) (big : l
               pub element-sizing : Sizing s₃ d (c₁ + 2) c₁
               element-sizing = record { ghost = G₃; shut = shut; made = omega arith }
 
+              pub element-size : length s₃ ≡ 52224
+              element-size =
+                  Z .stands (top₁ + 1) G₃ (whole-stands s s₂ s₃ d (c₁ + 2) (top₁ + 1) H U n (elementItems a n k Γ) Mine (both .advanced) few) .piece .solved .held .size
+
               type-settled : Settled (H ⨾ piece n (elementItems a n k Γ)) (unknownAt n k) (shut .type c₁)
               unfolding under
               type-settled τ m = shut .types n (slot n k) c₁ (both .placed) τ m

@@ -12,3 +12,5 @@ pub mod Sides
 pub mod Elements
 
 pub mod LineItems
+pub mod Counting
+pub mod Declaring
