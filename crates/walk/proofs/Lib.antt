@@ -14,3 +14,4 @@ pub mod Elements
 pub mod LineItems
 pub mod Counting
 pub mod Declaring
+pub mod Lining
