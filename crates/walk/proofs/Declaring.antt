@@ -71,7 +71,7 @@ stored-wiped s s′ at e z C o r T =
     }
 
 -- Room for a power after the expression.
-after-room : (s s′ w : List ℕ) (rows n top at free h x : ℕ) → Inside s w rows 0 4096 at free h x → Uses s s′ 0 4096 n top (40 * x) → Room s′ n top 2
+pub after-room : (s s′ w : List ℕ) (rows n top at free h x : ℕ) → Inside s w rows 0 4096 at free h x → Uses s s′ 0 4096 n top (40 * x) → Room s′ n top 2
 after-room s s′ w rows n top at free h x I U =
     let e = I .enough in
     let f = I .few in
@@ -248,6 +248,9 @@ module _ (s d w : List ℕ) (stack base m at free n : ℕ) (a : Expr) (is : List
               module _ (sized : SizedExpr a) (s₄ w₂ : List ℕ) (v e : ℕ) (measured : SizeIs s₃ d (c₁ + 2) c₁ v) (stored : Stored s₃ s₄ at e) (scratch : Scratch w₁ w₂ free)
                   (short : e ≤ at + 96)
                   (stands : (G : Ghost) (S : Shut s₃ d (c₁ + 2) G) → WellFormed (S .type c₁) → (h : Ty) × Reads (heap s₄ d) at h × StandsFor h (S .type c₁)) where
+                abbrev HasSize : Ty → Type 0
+                HasSize g = v ≡ cap (size g)
+
                 stored₄ : Stored s s₄ at e
                 stored₄ =
                     element-stored s d w stack at free a n 0 (K .size) (K .few) decl-apart (omega arith) s₁ w₁ number place cell c₁ top₁ at₁ A fine s₂ b P s₃ true Z
@@ -268,9 +271,9 @@ module _ (s d w : List ℕ) (stack base m at free n : ℕ) (a : Expr) (is : List
                   abbrev c : Items
                   c = piece n (elementItems a n 0 Γ)
 
-                  abbrev E : Element s₄ d H c U (ElementOwned a n 0) n 0 at v
+                  abbrev E : Element s₄ d H c U (ElementOwned a n 0) n 0 at HasSize
                   E =
-                      element-done s d w stack at free a n 0 (K .size) (K .few) decl-apart (omega arith) s₁ w₁ number place cell c₁ top₁ at₁ A fine s₂ b P yes s₃ Z sized s₄ v at measured
+                      element-done s d w stack at free a n 0 (K .size) (K .few) decl-apart (omega arith) s₁ w₁ number place cell c₁ top₁ at₁ A fine s₂ b P yes s₃ Z sized s₄ at HasSize measured
                       stands Γ D H U S C F
 
                   over : Each (λ y. In y (E .unknowns)) t
@@ -309,7 +312,7 @@ module _ (s d w : List ℕ) (stack base m at free n : ℕ) (a : Expr) (is : List
                     abbrev H₁ : Items
                     H₁ = H ⨾ c Γ D H U S C F r J
 
-                    abbrev T₁ : Element s₄ d H (c Γ D H U S C F r J) U (ElementOwned a n 0) n 0 at v
+                    abbrev T₁ : Element s₄ d H (c Γ D H U S C F r J) U (ElementOwned a n 0) n 0 at HasSize
                     T₁ = E Γ D H U S C F r J
 
                     W₂ : Walked H₁ (mergeDeclared n is t r) (T₁ .unknowns) (T₁ .unknowns) (λ x. ⊥)
@@ -386,7 +389,7 @@ module _ (s d w : List ℕ) (stack base m at free n : ℕ) (a : Expr) (is : List
 
                       module _ (Γ : Scope) (D : Dictionary) (H : Items) (U : List ℕ) (S : Steady H U) (C : Scoped s d w stack (idle H U) Γ D) (F : ElementNew a n 0 U) (r : Signature)
                           (J : Carries (Placed s d H U) r (rows w base m)) where
-                        abbrev T₃ : Element s₄ d H (c Γ D H U S C F r J) U (ElementOwned a n 0) n 0 at v
+                        abbrev T₃ : Element s₄ d H (c Γ D H U S C F r J) U (ElementOwned a n 0) n 0 at HasSize
                         T₃ = E Γ D H U S C F r J
 
                         small₃ : size (T₃ .type) ≤ 32

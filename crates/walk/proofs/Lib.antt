@@ -15,3 +15,4 @@ pub mod LineItems
 pub mod Counting
 pub mod Declaring
 pub mod Lining
+pub mod Actuals
