@@ -31,6 +31,8 @@ pub record Beside (l base n source k : ℕ) : Type 0 where
 -- names are wrong, 37, nothing is said of the rows.
 pub record Brings (w w′ : List ℕ) (source m base k : ℕ) (ps : List (ℕ × ℕ)) (wrong : Bool) (n : ℕ) : Type 0 where
   pub finding : wrong ≡ wrongRows k ps (rows w source m)
+  -- words below the two tables stay in any case
+  pub below : (i : ℕ) → i < base → i < source → getD w′ i 0 ≡ getD w i 0
   pub words : wrong ≡ false
       → Table (sets w source (flat (strokeRows k (rows w source m)))) w′ base (renameRows ps (strokeRows k (rows w source m))) n
 
