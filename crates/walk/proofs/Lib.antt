@@ -9,3 +9,6 @@ pub mod Forming
 pub mod Passing
 pub mod Connecting
 pub mod Sides
+pub mod Carrying
+pub mod Actuals
+pub mod Including
