@@ -46,7 +46,7 @@ use Rattle.inclusion.specs.Components.{Component}
 use Rattle.inclusion.specs.Storing.{Stored}
 use Rattle.walk.specs.Includes.{actualCount, IncludeAsk, Brought, IncludeDone, ActualAt, ActualFresh, ActualOwned, ActualsAsk, ActualsWent, ActualsDone}
 use Rattle.walk.specs.Visits.{Owned, Fresh, idle, Spared}
-use Rattle.walk.proofs.Actuals.{actual-owned, actual-fresh, actual-types}
+use Rattle.walk.proofs.ActualTypes.{actual-owned, actual-fresh, actual-types}
 use Rattle.walk.proofs.Carrying.{carries-row}
 use Rattle.walk.proofs.Nodes.{once-apart}
 use Rattle.walk.proofs.Passing.{walking-first}

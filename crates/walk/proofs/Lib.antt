@@ -10,5 +10,5 @@ pub mod Passing
 pub mod Connecting
 pub mod Sides
 pub mod Carrying
-pub mod Actuals
+pub mod ActualTypes
 pub mod Including
