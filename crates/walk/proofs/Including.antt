@@ -143,6 +143,7 @@ module _ (s d w : List ℕ) (stack at free n id k : ℕ) (xs : Exprs) (rs : List
               texts = A .texts;
               limited = A .limited .2;
               walking = walking-first s d w stack at free (A .height) (A .height - 1) l (n ∷ []) (omega arith) (A .walking);
+              few = A .limited .1;
               own = λ x o q. actual-fresh n 0 l (A .walking .known) (A .walking .fresh) x (inr o) q;
               apart = λ q. once-apart l (n ∷ []) (A .walking .once) n q (inl refl);
               row = A .row;

@@ -12,3 +12,9 @@ pub mod Sides
 pub mod Carrying
 pub mod ActualTypes
 pub mod Including
+pub mod Elements
+pub mod LineItems
+pub mod Counting
+pub mod Declaring
+pub mod Lining
+pub mod Actuals
