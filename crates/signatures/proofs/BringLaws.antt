@@ -13,11 +13,14 @@ use Rattle.signatures.proofs.TableLaws.{table-rows}
 use Rattle.signatures.proofs.IncludeLaws.{stroke-length, wrong-stroked, wrong-old, wrong-count}
 
 module _ (w : List ℕ) (s m base k : ℕ) (ps : List (ℕ × ℕ)) where
-  refused : (u : List ℕ) (n : ℕ) → ((i : ℕ) → i < base → i < s → getD u i 0 ≡ getD w i 0) → wrongRows k ps (rows w s m) ≡ true → Brings w u s m base k ps true n
-  refused u n h e = record { finding = sym e; below = h; words = λ q. absurd (false≢true (sym q)) }
+  abbrev Below : List ℕ → Type 0
+  Below u = (i : ℕ) → i < s → i < base → getD u i 0 ≡ getD w i 0
+
+  refused : (u : List ℕ) (n : ℕ) → wrongRows k ps (rows w s m) ≡ true → Below u → Brings w u s m base k ps true n
+  refused u n e b = record { finding = sym e; words = λ q. absurd (false≢true (sym q)); below = b }
 
   pub brings-stroked : (n : ℕ) → strokedRows k (rows w s m) ≡ true → Brings w w s m base k ps true n
-  brings-stroked n e = refused w n (λ i p q. refl) (wrong-stroked k ps (rows w s m) e)
+  brings-stroked n e = refused w n (wrong-stroked k ps (rows w s m) e) (λ i p q. refl)
 
   module _ (v : List ℕ) (room : s + 2 * m ≤ length w) (free : strokedRows k (rows w s m) ≡ false) (on : v ≡ sets w s (flat (strokeRows k (rows w s m)))) where
     stroke-rows : rows v s m ≡ strokeRows k (rows w s m)
@@ -25,11 +28,11 @@ module _ (w : List ℕ) (s m base k : ℕ) (ps : List (ℕ × ℕ)) where
         table-rows w s v (strokeRows k (rows w s m)) m
         (record { words = on; count = sym (stroke-length k (rows w s m) ∙ rows-length w s m) }) room
 
-    stroke-below : (i : ℕ) → i < s → getD v i 0 ≡ getD w i 0
-    stroke-below i q = ap (λ (x : List ℕ). getD x i 0) on ∙ getD-below (flat (strokeRows k (rows w s m))) w s i q
+    below : Below v
+    below i p q = ap (λ (x : List ℕ). getD x i 0) on ∙ getD-below (flat (strokeRows k (rows w s m))) w s i p
 
     pub brings-old : (n : ℕ) → wrongOldRows ps (rows v s m) ≡ true → Brings w v s m base k ps true n
-    brings-old n e = refused v n (λ i p q. stroke-below i q) (wrong-old k ps (rows w s m) free (ap (wrongOldRows ps) (sym stroke-rows) ∙ e))
+    brings-old n e = refused v n (wrong-old k ps (rows w s m) free (ap (wrongOldRows ps) (sym stroke-rows) ∙ e)) below
 
     pub brings : (u : List ℕ) (n : ℕ) → wrongOldRows ps (rows v s m) ≡ false → Table v u base (renameRows ps (rows v s m)) n
         → Brings w u s m base k ps (ltb n m) n
@@ -40,7 +43,7 @@ module _ (w : List ℕ) (s m base k : ℕ) (ps : List (ℕ × ℕ)) where
         let b : n ≡ length (renameRows ps (strokeRows k rs)) = t .count ∙ ap length z in
         record {
           finding = ap (λ (j : ℕ). ltb j m) b ∙ ap (ltb (length (renameRows ps (strokeRows k rs)))) (sym (rows-length w s m)) ∙ sym a;
-          below = λ i p q. ap (λ (x : List ℕ). getD x i 0) (t .words) ∙ getD-below (flat (renameRows ps (rows v s m))) v base i p ∙ stroke-below i q;
           words = λ q. subst (λ (x : List ℕ). Table x u base (renameRows ps (strokeRows k rs)) n) on
               (subst (λ (l : List (ℕ × ℕ)). Table v u base l n) z t);
+          below = λ i p q. ap (λ (x : List ℕ). getD x i 0) (t .words) ∙ getD-below (flat (renameRows ps (rows v s m))) v base i q ∙ below i p q;
         }

@@ -9,8 +9,10 @@ pub mod Forming
 pub mod Passing
 pub mod Connecting
 pub mod Sides
+pub mod Carrying
+pub mod ActualTypes
+pub mod Including
 pub mod Elements
-
 pub mod LineItems
 pub mod Counting
 pub mod Declaring

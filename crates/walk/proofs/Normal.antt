@@ -184,9 +184,10 @@ Normal P = (τ : Table) → P τ → P (normalTable τ)
 pub normal-items : (c : Items) (P : Table → Type 0) → Normal P → FormedItems c → Passes c P → (τ : Table) → P τ → Meets c τ → Meets c (normalTable τ)
 unfolding FormedItems Passes Meets
 normal-items skip P N f p τ m h = tt
-normal-items (a ⨾ b) P N f p τ m h =
-    (normal-items a P N (f .0) (p .0) τ m (h .0),
-    normal-items b (And P a) (λ σ k. (N σ (k .0), normal-items a P N (f .0) (p .0) σ (k .0) (k .1))) (f .1) (p .1) τ (m, h .0) (h .1))
+normal-items (a ⨾ b) P N f p τ m h = (
+  normal-items a P N (f .0) (p .0) τ m (h .0),
+  normal-items b (And P a) (λ σ k. (N σ (k .0), normal-items a P N (f .0) (p .0) σ (k .0) (k .1))) (f .1) (p .1) τ (m, h .0) (h .1),
+)
 normal-items (fresh x) P N f p τ m h = tt
 normal-items (equate g n a b) P N f p τ m h = normal-under τ a (f .0) ∙ ap normal h ∙ sym (normal-under τ b (f .1))
 normal-items (select n i a x) P N f p τ m h =
