@@ -16,3 +16,4 @@ pub mod Sides
 pub mod Lists
 pub mod Listing
 pub mod Waiting
+pub mod Comprehensions
