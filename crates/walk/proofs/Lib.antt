@@ -17,3 +17,4 @@ pub mod Lists
 pub mod Listing
 pub mod Waiting
 pub mod Comprehensions
+pub mod SchemaSets
