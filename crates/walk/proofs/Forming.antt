@@ -24,7 +24,7 @@ use Rattle.signatures.specs.Rows.{stack}
 use Rattle.pieces.specs.Piece.{SameOn, Steady}
 use Rattle.pieces.proofs.Equating.{under-same}
 use Rattle.names.specs.Scoped.{SettledAt, Scoped}
-use Rattle.walk.specs.Visits.{Fresh, idle}
+use Rattle.walk.specs.Visits.{idle}
 use Rattle.walk.proofs.Normal.{normal, normalTable, Normal, normal-formed, normal-same, normal-under, term-formed, normal-items}
 
 -- The scope's terms have the types that τ gives them.
@@ -92,15 +92,15 @@ module _ (s d : List ℕ) (H : Items) (U : List ℕ) (D : Dictionary) (τ : Tabl
     pinned H′ Γ st (λ σ n. says σ n .1) (k .2),
   )
 
--- THE POWER'S UNKNOWN x of the closed piece with the expression a, where its items pass after whatever comes before.
-module _ (s d w : List ℕ) (rows : ℕ) (a : Expr) (l : List ℕ) (Γ : Scope) (D : Dictionary) (n k : ℕ) where
+-- THE POWER'S UNKNOWN of the closed piece with the expression a, where its items pass after whatever comes before that has the scope and New unknowns.
+module _ (s d w : List ℕ) (rows : ℕ) (a : Expr) (New : List ℕ → Type 0) (Γ : Scope) (D : Dictionary) (n k : ℕ) where
   abbrev pub closedItems : Items
   closedItems = exprItems a Γ ⨾ isPower n k a
 
   abbrev pub Closes : Type 0
-  Closes = (H : Items) (U : List ℕ) → Steady H U → Scoped s d w rows (idle H U) Γ D → Fresh l U → Passes (piece n closedItems) (Meets H)
+  Closes = (H : Items) (U : List ℕ) → Steady H U → Scoped s d w rows (idle H U) Γ D → New U → Passes (piece n closedItems) (Meets H)
 
-  pub settled-formed : Closes → SizedExpr a → (H : Items) (U : List ℕ) → Scoped s d w rows (idle H U) Γ D → Fresh l U → (τ : Table) → Meets (H ⨾ piece n closedItems) τ →
+  pub settled-formed : Closes → SizedExpr a → (H : Items) (U : List ℕ) → Scoped s d w rows (idle H U) Γ D → New U → (τ : Table) → Meets (H ⨾ piece n closedItems) τ →
       WellFormed (τ (slot n k))
   unfolding Meets Passes FormedItems Agree
   settled-formed C z H U S f τ h =
