@@ -8,14 +8,12 @@ use native.Mathlib.Omega.{arith}
 use lib.ListN.{length, getD}
 use Rattle.types.specs.Equations.{In}
 use Rattle.types.specs.Types.{Ty, Tys, Term, Each, under, size}
-use Rattle.types.specs.Words.{words}
 use Rattle.typing.specs.Unknowns.{Table, slot, row}
 use Rattle.typing.specs.Items.{Items, Meets}
 use Rattle.typing.specs.Signatures.{Signature, noNames, naming, termIn}
 use Rattle.typing.specs.Conditions.{sameType, mergeNames, smallTypes}
 use Rattle.syntax.specs.Decode.{pairsFrom}
 use Rattle.solver.specs.Settled.{heap, Reads}
-use Rattle.solver.proofs.Reading.{heap-length, heap-low}
 use Rattle.solver.proofs.Growing.{lt-or-ge}
 use Rattle.signatures.specs.Rows.{rows}
 use Rattle.signatures.specs.Tables.{Finds}
@@ -26,12 +24,13 @@ use Rattle.pieces.specs.Piece.{Steady, Settled}
 use Rattle.instances.specs.Fill.{fill}
 use Rattle.instances.specs.Filled.{Row}
 use Rattle.instances.proofs.Rows.{filled-formed}
-use Rattle.instances.proofs.Moving.{reads-at, below-reads}
+use Rattle.instances.proofs.Moving.{below-reads}
 use Rattle.inclusion.specs.Components.{Component, Placed, ActualTypes}
 use Rattle.inclusion.specs.Storing.{KeepAsk, RowsKept}
 use Rattle.inclusion.specs.Keeping.{Written, Found, Fresh, AllAsk, AllKept, MoveAsk, Moved}
 use Rattle.inclusion.proofs.StandLaws.{stands-back, fill-alike}
 use Rattle.inclusion.proofs.AgreeLaws.{component-settled}
+use Rattle.inclusion.proofs.StoreLaws.{moved-reads}
 
 module _ (s d w : List ℕ) (base m source k : ℕ) (places : List ℕ) (at end free : ℕ) (A : KeepAsk s d w base m source k places at end free) where
   pub all-asked : AllAsk s d w base m source k places at free
@@ -85,18 +84,14 @@ module _ (s d w : List ℕ) (base m source k : ℕ) (places : List ℕ) (at end 
           below-reads s s′ d at (getD w (base + 2 * f + 1) 0) g S size′ (omega arith) (M .stored .before) (A .below f l g R) R
 
       -- Those in the work area are read where they were moved.
-      moved-reads : (o : ℕ) (r : ℕ) (g : Ty) (hs : Tys) → Reads (heap s d) r g → Row (heap s d) places hs → Written w′ (free + o) e (fill hs g) → Reads (heap s′ d) (at + o) (fill hs g)
-      moved-reads o r g hs R Q W =
-          let f = W .fits in
+      filled-reads : (o : ℕ) (r : ℕ) (g : Ty) (hs : Tys) → Reads (heap s d) r g → Row (heap s d) places hs → Written w′ (free + o) e (fill hs g) → Reads (heap s′ d) (at + o) (fill hs g)
+      filled-reads o r g hs R Q W =
           let a = K .more in
-          let i = move-asked .room in
           let b = A .before in
-          let z = heap-length s′ d size′ in
-          reads-at (heap s′ d) (at + o) (fill hs g) (filled-formed (heap s d) r places g hs R Q) (omega arith)
-          (λ j l.
-          let x : at + o + j ≡ at + (o + j) = omega arith in
-          let y : free + (o + j) ≡ free + o + j = omega arith in
-          heap-low s′ d (at + o + j) size′ (omega arith) ∙ ap (λ q. getD s′ q 0) x ∙ M .words (o + j) (omega arith) ∙ ap (λ q. getD w′ q 0) y ∙ W .words-at j l)
+          let i = move-asked .room in
+          let z : e ≡ free + (e - free) = omega arith in
+          moved-reads s s′ d w′ at free (e - free) end′ o (fill hs g) S (omega arith) M (filled-formed (heap s d) r places g hs R Q)
+          (subst (λ y. Written w′ (free + o) y (fill hs g)) z W)
 
       -- What the row at r got.
       abbrev Got : ℕ → Type 0
@@ -141,7 +136,7 @@ module _ (s d w : List ℕ) (base m source k : ℕ) (places : List ℕ) (at end 
               let b : fill (T .shown) (B .type) ≡ g = sym (fill-alike (T .types) (T .shown) (stands-back (T .shown) (T .types) (T .alike)) (B .type) few) in
               subst (Placed s′ d H U t) (sym (F .place))
               (placed (at + o) (subst (Reads (heap s′ d) (at + o)) b
-              (moved-reads o (getD w (p + 1) 0) (B .type) (T .shown) (B .reads) (T .stand) (F .stands (B .type) (T .shown) (B .reads) (T .stand)))))
+              (filled-reads o (getD w (p + 1) 0) (B .type) (T .shown) (B .reads) (T .stand) (F .stands (B .type) (T .shown) (B .reads) (T .stand)))))
 
           pub one-placed : Got p → Placed s′ d H U t (getD w′ (p + 1) 0)
           one-placed G = ⊎-elim found (λ F. fresh (F .0) (F .1)) G

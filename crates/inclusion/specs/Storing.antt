@@ -36,22 +36,25 @@ pub record Scratch (w w′ : List ℕ) (free : ℕ) : Type 0 where
   pub size : length w′ ≡ length w
   pub before : (i : ℕ) → i < free → getD w′ i 0 ≡ getD w i 0
 
--- THE TYPE OF A CELL of a closed piece: cell c of n; there is room for it in both areas.
-pub record StoreAsk (s d w : List ℕ) (n c at free : ℕ) : Type 0 where
+-- THE TYPE OF A CELL of a closed piece: cell c of n; there is room for it in both areas. The words between `at` and `end` are those of the piece's own inner
+-- types; they are overwritten.
+pub record StoreAsk (s d w : List ℕ) (n c at end free : ℕ) : Type 0 where
   pub sizing : Sizing s d n c
   pub size : length s ≡ 52224
-  pub clean : Clean s at
+  pub clean : Clean s end
+  pub gap : (i : ℕ) → suc i ≡ at → getD s i 0 ≡ 0
   pub some : 1 ≤ at
-  pub room : at + 96 < 39936
+  pub before : at ≤ end
+  pub room : end + 96 < 39936
   pub scratch : free + 96 ≤ length w
   pub near : free < 2 ^ 32
 
 -- Its words stand at `at`; of a type over size 32, those of another type over size 32. That the type is well formed follows from the piece's items, which
 -- the caller has.
-pub record TypeStored (s s′ d w w′ : List ℕ) (n c at free end : ℕ) : Type 0 where
-  pub stored : Stored s s′ at end
+pub record TypeStored (s s′ d w w′ : List ℕ) (n c at free end′ : ℕ) : Type 0 where
+  pub stored : Stored s s′ at end′
   pub scratch : Scratch w w′ free
-  pub short : end ≤ at + 96
+  pub short : end′ ≤ at + 96
   pub stands : (G : Ghost) (S : Shut s d n G) → WellFormed (S .type c) → (h : Ty) × Reads (heap s′ d) at h × StandsFor h (S .type c)
 
 -- 36 for a Decl whose type is over size 32: no identifier of it may be in the table, whose types are small.
