@@ -7,7 +7,7 @@ use Prim.Native.Nat.{ℕ, suc, _+_, _*_, _≤_, _<_, _^_}
 use lib.ListN.{length, getD}
 use Rattle.types.specs.Types.{Ty, Tys, Term, size}
 use Rattle.types.specs.Formed.{WellFormed}
-use Rattle.typing.specs.Unknowns.{Table, row}
+use Rattle.typing.specs.Unknowns.{Table}
 use Rattle.typing.specs.Items.{Items, Meets, Refuses}
 use Rattle.typing.specs.Signatures.{Signature}
 use Rattle.typing.specs.Conditions.{mergeNames, mergeDeclared, smallTypes}
@@ -22,7 +22,7 @@ use Rattle.merging.specs.Merging.{Rows}
 use Rattle.pieces.specs.Piece.{Steady, Walked, Settled}
 use Rattle.pieces.specs.Stage.{Ghost}
 use Rattle.pieces.specs.Closed.{Shut, Sizing}
-use Rattle.inclusion.specs.Components.{Component, Placed, StandsFor, ActualTypes}
+use Rattle.inclusion.specs.Components.{Placed, Fills, StandsFor, AllStandFor}
 
 -- Words written from `at` on: those before stay, and from `end` on the area is clean.
 pub record Stored (s s′ : List ℕ) (at end : ℕ) : Type 0 where
@@ -91,6 +91,7 @@ pub record RowsKept (s s′ d w w′ : List ℕ) (base m source k : ℕ) (places
   -- in the work area only the places of the rows at `source` and words from `free` on change
   pub words : (i : ℕ) → i < free → ((j : ℕ) → j < k → i ≡ source + 2 * j + 1 → ⊥) → getD w′ i 0 ≡ getD w i 0
   pub short : end′ ≤ at + 96 * k
-  pub placed : (H : Items) (U : List ℕ) (n i z : ℕ) (q r : Signature) → ActualTypes s d H U i z places → Carries (Component s d (row i 1 z)) q (rows w source k) →
+  -- the rows' types, with the types gs for their parameters; types hs that stand for those are the actuals
+  pub placed : (H : Items) (U : List ℕ) (n : ℕ) (q r : Signature) (hs gs : Tys) → Row (heap s d) places hs → AllStandFor hs gs → Carries (Fills s d H U gs) q (rows w source k) →
       Carries (Placed s d H U) r (rows w base m) → ((τ : Table) → Meets H τ → Meets (mergeNames n q r) τ) → ((τ : Table) → Meets H τ → Meets (smallTypes n q) τ) →
       Steady H U → Carries (Placed s′ d H U) q (rows w′ source k)
