@@ -26,3 +26,7 @@ pub mod Elements
 pub mod LineItems
 pub mod SchemaKinds
 pub mod Conjoining
+pub mod Counting
+pub mod Declaring
+pub mod Lining
+pub mod Actuals

@@ -69,6 +69,7 @@ pub record ActualsAsk (s d w : List ℕ) (stack at free k j : ℕ) (xs : Exprs) 
   pub texts : ℕ
   pub limited : LimitedExprs height texts xs
   pub walking : Walking s d w stack at free height (exprsNumbers xs)
+  pub few : length (exprsNumbers xs) ≤ 24
   pub own : (x : ℕ) → SlotsFrom k (suc j) x → In x (walking .known) → ⊥
   pub apart : In k (exprsNumbers xs) → ⊥
   pub row : length places ≡ 4
