@@ -22,6 +22,9 @@ pub mod Relations
 pub mod Quantifying
 pub mod Pushing
 pub mod Bodies
+pub mod Carrying
+pub mod ActualTypes
+pub mod Including
 pub mod Elements
 pub mod LineItems
 pub mod SchemaKinds
