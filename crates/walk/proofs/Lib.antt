@@ -8,3 +8,4 @@ pub mod Connecting
 pub mod Sides
 pub mod SchemaKinds
 pub mod Conjoining
+pub mod TableRows
