@@ -33,3 +33,4 @@ pub mod Counting
 pub mod Declaring
 pub mod Lining
 pub mod Actuals
+pub mod TableRows
