@@ -1,2 +1,4 @@
 pub mod LeafLaws
 pub mod LineNodes
+pub mod SizedNodes
+pub mod DeclNodes
