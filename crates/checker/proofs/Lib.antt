@@ -1,0 +1,4 @@
+pub mod PredLaws
+pub mod RelLaws
+pub mod QuantLaws
+pub mod TextLaws
