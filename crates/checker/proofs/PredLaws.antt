@@ -1,22 +1,36 @@
 -- Predicates by the words of their node: true, not, the connectives.
 use mathlib.Core.Path.{_≡_, refl, sym, ap, subst, _∙_}
 use mathlib.Core.List.{List}
+use mathlib.Core.Logic.{⊎-elim}
 use Prim.Native.Nat.{ℕ, _≤_, _<_}
+use native.Mathlib.Omega.{arith}
 use lib.ListN.{length, getD}
+use Rattle.layout.specs.Layout.{part}
 use Rattle.syntax.specs.Decode.{predAt, connectiveOf}
 use Rattle.syntax.specs.Kinds.{predicates}
 use Rattle.syntax.specs.Nodes.{kindAt, operandAt}
-use Rattle.syntax.specs.Promise.{Lower}
+use Rattle.syntax.specs.Promise.{At, Lower}
 use Rattle.syntax.specs.Tree.{Pred, truth, not, connected}
 use Rattle.syntax.proofs.TreePred.{pred-truth, pred-not, pred-connected}
 use Rattle.syntax.proofs.TreeShape.{One, Two}
+use Rattle.solver.proofs.Growing.{lt-or-ge}
 use Rattle.walk.specs.Predicates.{PredAsk, PredDone}
 use Rattle.walk.proofs.Connecting.{truth-done, not-part, not-done, connected-first, connected-stopped, connected-second, connected-done}
 use Rattle.checker.specs.Nodes.{Node, Found}
 use Rattle.checker.specs.declared.results.Verdict.{Verdict}
 
+pub node-of : {doc p : List ℕ} {q k : ℕ} → At doc q k → p ≡ part doc k → Node doc p q k
+node-of h e = record { at = h; words = e }
+
 pub word-at : {doc p : List ℕ} {q k : ℕ} → Node doc p q k → (j x : ℕ) → x ≡ getD p j 0 → x ≡ operandAt doc k j
 word-at B j x e = e ∙ ap (λ (l : List ℕ). getD l j 0) (B .words)
+
+pub kind-at : {doc p : List ℕ} {q k : ℕ} → Node doc p q k → (x : ℕ) → x ≡ getD p 0 0 → kindAt doc k ≡ x
+kind-at B x e = sym (word-at B 0 x e)
+
+-- The next kind.
+pub beyond : (q n : ℕ) → n ≤ q → (q ≡ n → ⊥) → n < q
+beyond q n l d = ⊎-elim (λ (z : n < q). z) (λ (z : q ≤ n). absurd (d (omega arith))) (lt-or-ge n q)
 
 -- The promise in the words of the result.
 pub pred-told : {s s′ d w w′ : List ℕ} {rows at free number place : ℕ} {p : Pred} {r : Verdict} → Found r number place → PredDone s s′ d w w′ rows at free p number place →

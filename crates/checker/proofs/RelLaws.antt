@@ -1,6 +1,6 @@
 -- Relations by the words of their node.
 use mathlib.Core.Path.{_≡_, refl, sym, ap, subst, _∙_}
-use mathlib.Core.Bool.{true, false}
+use mathlib.Core.Bool.{Bool, true, false}
 use mathlib.Core.List.{List, [], _∷_}
 use mathlib.Core.Logic.{_⊎_, inl, inr, ⊎-elim}
 use Prim.Native.Nat.{ℕ, _+_, _-_, _≤_, _<_}
@@ -91,14 +91,14 @@ module _ {doc p : List ℕ} {k : ℕ} (B : Node doc p predicates k) {s d w : Lis
               at-close =
                   close-ask s d w rows at free (exprAt doc x) (exprAt doc y) Q k (relationItems (kindAt doc k)) s₁ w₁ number place cell n top at₁ X fine s₂ w₂ number₂ place₂ cell₂ n₂ top₂ at₂ Y fine₂ s₃ number₃ n₃ related fine₃
 
-              pub at-several : {s₄ : List ℕ} → Closed s₃ s₄ d n₃ false → PredDone s s₄ d w w₂ rows at free (predAt doc k) 34 k
-              at-several {s₄} =
+              pub at-several : {s₄ : List ℕ} {one : Bool} → Closed s₃ s₄ d n₃ one → one ≡ false → PredDone s s₄ d w w₂ rows at free (predAt doc k) 34 k
+              at-several {s₄} Z o =
                   relation-34 s d w rows at free (predAt doc k) k (exprAt doc x) (exprAt doc y) (relationItems (kindAt doc k)) T A s₁ w₁ number place cell n top at₁ X fine s₂ w₂ number₂ place₂ cell₂ n₂ top₂ at₂ Y fine₂ s₃ number₃ n₃
-                  related fine₃ s₄
+                  related fine₃ s₄ (subst (Closed s₃ s₄ d n₃) o Z)
 
-              pub at-relation : {s₄ s₅ : List ℕ} → Closed s₃ s₄ d n₃ true → length s₄ ≡ length s₂ → s₅ ≡ sets s₄ at (replicate (at₂ - at) 0) →
+              pub at-relation : {s₄ s₅ : List ℕ} {one : Bool} → Closed s₃ s₄ d n₃ one → one ≡ true → length s₄ ≡ length s₂ → s₅ ≡ sets s₄ at (replicate (at₂ - at) 0) →
                   PredDone s s₅ d w w₂ rows at free (predAt doc k) 0 k
-              at-relation {s₄} {s₅} Z z v =
+              at-relation {s₄} {s₅} Z o z v =
                   subst (λ u. PredDone s u d w w₂ rows at free (predAt doc k) 0 k) (sym v)
                   (relation-done s d w rows at free (predAt doc k) k (exprAt doc x) (exprAt doc y) (relationItems (kindAt doc k)) T A s₁ w₁ number place cell n top at₁ X fine s₂ w₂ number₂ place₂ cell₂ n₂ top₂ at₂ Y fine₂ s₃ number₃ n₃
-                  related fine₃ s₄ Z z)
+                  related fine₃ s₄ (subst (Closed s₃ s₄ d n₃) o Z) z)

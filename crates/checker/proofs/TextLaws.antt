@@ -8,13 +8,24 @@ use Rattle.layout.specs.Layout.{part}
 use Rattle.syntax.specs.Decode.{predAt, textAt, linesFrom}
 use Rattle.syntax.specs.Kinds.{predicates, texts, lines}
 use Rattle.syntax.specs.Promise.{At, Lower}
-use Rattle.syntax.specs.Tree.{text}
+use Rattle.syntax.specs.Tree.{Text, text}
 use Rattle.syntax.proofs.TreeText.{Parts, text-kind, text-law}
 use Rattle.signatures.specs.Rows.{rows}
 use Rattle.signatures.specs.Tables.{Beside, Pushed}
 use Rattle.walk.specs.Predicates.{PredAsk, PredDone}
 use Rattle.walk.specs.Texts.{TextAsk, TextDone, LinesAsk, LinesDone}
 use Rattle.walk.proofs.Bodies.{text-lines, text-stopped, push-ask, text-body, text-refused, text-done}
+use Rattle.checker.specs.Nodes.{LinedAt}
+use Rattle.checker.specs.declared.results.Lined.{Lined}
+
+-- The promise in the words of the result.
+pub text-told : {s s′ d w w′ : List ℕ} {stack at free number place count end : ℕ} {t : Text} {global : Bool} {r : Lined} → LinedAt r number place count end →
+    TextDone s s′ d w w′ stack at free t global number place count end → TextDone s s′ d w w′ stack at free t global (r .number) (r .place) (r .count) (r .at)
+text-told {s} {s′} {d} {w} {w′} {stack} {at} {free} {number} {place} {count} {end} {t} {global} {r} L T =
+    subst (λ z. TextDone s s′ d w w′ stack at free t global z (r .place) (r .count) (r .at)) (sym (L .number-is))
+    (subst (λ z. TextDone s s′ d w w′ stack at free t global number z (r .count) (r .at)) (sym (L .place-is))
+    (subst (λ z. TextDone s s′ d w w′ stack at free t global number place z (r .at)) (sym (L .count-is))
+    (subst (λ z. TextDone s s′ d w w′ stack at free t global number place count z) (sym (L .at-is)) T)))
 
 module _ {doc : List ℕ} {k : ℕ} (B : At doc texts k) {s d w : List ℕ} {stack at free : ℕ} (A : TextAsk s d w stack at free (textAt doc k)) (p : List ℕ) (P : p ≡ part doc k) (x : ℕ)
     (e : x ≡ getD p 1 0) where
