@@ -81,10 +81,12 @@ rel-verdict-at-requires t c κs =
     omega arith
 
 rel-same-length-5 : (t : ℕ) → rel-lts.Need-same-length-5 (rel-calls t) (rel-at t) rel.Post
-rel-same-length-5 t c = ?
+rel-same-length-5 t c =
+    c .before .before .before .before .before .related .kept .0 ∙ c .before .before .before .before .before .before .before .before .before .before .before .before .before .before .expr2 .kept .1 .0 ∙ c .before .before .before .before .before .before .before .before .before .before .before .before .before .before .before .before .before .before .before .before .before .before .before .before .expr .kept .1 .0
 
 rel-same-length-6 : (t : ℕ) → rel-lts.Need-same-length-6 (rel-calls t) (rel-at t) rel.Post
-rel-same-length-6 t c = ?
+rel-same-length-6 t c =
+    c .before .before .before .before .before .before .before .before .before .before .before .before .before .before .expr2 .kept .1 .1 .1 .0 ∙ c .before .before .before .before .before .before .before .before .before .before .before .before .before .before .before .before .before .before .before .before .before .before .before .before .expr .kept .1 .1 .1 .0
 
 rel-returns-3 : (t : ℕ) → rel-lts.Need-returns-3 (rel-calls t) (rel-at t) rel.Post
 rel-returns-3 t c =
@@ -111,10 +113,12 @@ rel-verdict-at-requires-2 t c κs =
     omega arith
 
 rel-same-length-7 : (t : ℕ) → rel-lts.Need-same-length-7 (rel-calls t) (rel-at t) rel.Post
-rel-same-length-7 t c = ?
+rel-same-length-7 t c =
+    c .before .before .before .wipe .kept .0 ∙ c .before .before .before .before .before .before .before .before .close .kept .0 ∙ c .before .before .before .before .before .before .before .before .before .before .before .before .before .before .related .kept .0 ∙ c .before .before .before .before .before .before .before .before .before .before .before .before .before .before .before .before .before .before .before .before .before .before .before .expr2 .kept .1 .0 ∙ c .before .before .before .before .before .before .before .before .before .before .before .before .before .before .before .before .before .before .before .before .before .before .before .before .before .before .before .before .before .before .before .before .before .expr .kept .1 .0
 
 rel-same-length-8 : (t : ℕ) → rel-lts.Need-same-length-8 (rel-calls t) (rel-at t) rel.Post
-rel-same-length-8 t c = ?
+rel-same-length-8 t c =
+    c .before .before .before .before .before .before .before .before .before .before .before .before .before .before .before .before .before .before .before .before .before .before .before .expr2 .kept .1 .1 .1 .0 ∙ c .before .before .before .before .before .before .before .before .before .before .before .before .before .before .before .before .before .before .before .before .before .before .before .before .before .before .before .before .before .before .before .before .before .expr .kept .1 .1 .1 .0
 
 rel-returns-4 : (t : ℕ) → rel-lts.Need-returns-4 (rel-calls t) (rel-at t) rel.Post
 rel-returns-4 t c =
@@ -129,10 +133,12 @@ rel-verdict-at-requires-3 t c κs =
     omega arith
 
 rel-same-length-9 : (t : ℕ) → rel-lts.Need-same-length-9 (rel-calls t) (rel-at t) rel.Post
-rel-same-length-9 t c = ?
+rel-same-length-9 t c =
+    c .before .before .before .before .close .kept .0 ∙ c .before .before .before .before .before .before .before .before .before .before .related .kept .0 ∙ c .before .before .before .before .before .before .before .before .before .before .before .before .before .before .before .before .before .before .before .expr2 .kept .1 .0 ∙ c .before .before .before .before .before .before .before .before .before .before .before .before .before .before .before .before .before .before .before .before .before .before .before .before .before .before .before .before .before .expr .kept .1 .0
 
 rel-same-length-10 : (t : ℕ) → rel-lts.Need-same-length-10 (rel-calls t) (rel-at t) rel.Post
-rel-same-length-10 t c = ?
+rel-same-length-10 t c =
+    c .before .before .before .before .before .before .before .before .before .before .before .before .before .before .before .before .before .before .before .expr2 .kept .1 .1 .1 .0 ∙ c .before .before .before .before .before .before .before .before .before .before .before .before .before .before .before .before .before .before .before .before .before .before .before .before .before .before .before .before .before .expr .kept .1 .1 .1 .0
 
 rel-returns-5 : (t : ℕ) → rel-lts.Need-returns-5 (rel-calls t) (rel-at t) rel.Post
 rel-returns-5 t c =

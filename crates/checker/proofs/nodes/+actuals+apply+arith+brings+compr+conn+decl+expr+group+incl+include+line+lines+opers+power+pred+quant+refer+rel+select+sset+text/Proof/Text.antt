@@ -1,5 +1,5 @@
 -- The answers of `text`.
-use mathlib.Core.Path.{refl}
+use mathlib.Core.Path.{refl, _∙_}
 use Prim.Native.Nat.{ℕ, _<_}
 use native.Mathlib.Omega.{arith}
 use Rattle.checker.proofs.PredLaws.{node-of}
@@ -68,7 +68,8 @@ text-unlined-requires : (t : ℕ) → text-lts.Need-unlined-requires (text-calls
 text-unlined-requires t c κs = search needs
 
 text-same-length-3 : (t : ℕ) → text-lts.Need-same-length-3 (text-calls t) (text-at t) text.Post
-text-same-length-3 t c = ?
+text-same-length-3 t c =
+    c .before .before .before .before .before .before .before .pred .kept .1 .0 ∙ c .before .before .before .before .before .before .before .before .before .before .before .before .before .before .before .before .before .before .before .before .before .before .lines .kept .1 .0
 
 text-same-length-4 : (t : ℕ) → text-lts.Need-same-length-4 (text-calls t) (text-at t) text.Post
 text-same-length-4 t c = search needs
