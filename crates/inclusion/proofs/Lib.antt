@@ -6,6 +6,7 @@ pub mod FillsLaws
 pub mod OverlapLaws
 pub mod LargeLaws
 pub mod StoreLaws
+pub mod NewRowLaws
 pub mod KeepRow
 pub mod KeepAll
 pub mod MoveLaws
