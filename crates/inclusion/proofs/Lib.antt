@@ -1,5 +1,6 @@
 pub mod SameLaws
 pub mod StandLaws
+pub mod LaterLaws
 pub mod AgreeLaws
 pub mod SmallLaws
 pub mod FillsLaws
