@@ -1,3 +1,4 @@
+pub mod LeafLaws
 pub mod PredLaws
 pub mod RelLaws
 pub mod QuantLaws

@@ -16,12 +16,21 @@ pub mod Sides
 pub mod Lists
 pub mod Listing
 pub mod Waiting
+pub mod Comprehensions
+pub mod SchemaSets
 pub mod Relations
 pub mod Quantifying
 pub mod Pushing
 pub mod Bodies
+pub mod Carrying
+pub mod ActualTypes
+pub mod Including
 pub mod Elements
-
 pub mod LineItems
 pub mod SchemaKinds
 pub mod Conjoining
+pub mod Counting
+pub mod Declaring
+pub mod Lining
+pub mod Actuals
+pub mod TableRows
