@@ -10,7 +10,7 @@ use Rattle.syntax.specs.Decode.{predAt, connectiveOf}
 use Rattle.syntax.specs.Kinds.{predicates}
 use Rattle.syntax.specs.Nodes.{kindAt, operandAt}
 use Rattle.syntax.specs.Promise.{At, Lower}
-use Rattle.syntax.specs.Tree.{Pred, truth, not, connected}
+use Rattle.syntax.specs.Tree.{Pred, not, connected}
 use Rattle.syntax.proofs.TreePred.{pred-truth, pred-not, pred-connected}
 use Rattle.syntax.proofs.TreeShape.{One, Two}
 use Rattle.solver.proofs.Growing.{lt-or-ge}

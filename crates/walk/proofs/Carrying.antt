@@ -12,7 +12,8 @@ use Rattle.solver.specs.Settled.{heap, Readable}
 use Rattle.signatures.specs.Rows.{rows}
 use Rattle.signatures.specs.Carried.{Carries}
 use Rattle.merging.specs.Merging.{Rows}
-use Rattle.inclusion.specs.Components.{Component, Placed}
+use Rattle.names.specs.Components.{Component}
+use Rattle.inclusion.specs.Components.{Placed}
 
 module _ (R : Term → ℕ → Type 0) (w : List ℕ) where
   -- The place of row j has R with a term.

@@ -1,19 +1,14 @@
 -- The answers of `rel`.
 use mathlib.Core.Path.{refl, _∙_}
-use Prim.Native.Nat.{ℕ, _<_}
+use Prim.Native.Nat.{ℕ}
 use native.Mathlib.Omega.{arith}
 use lib.ListN.{getD}
 use Rattle.checker.proofs.PredLaws.{kind-at, pred-told}
 use Rattle.checker.proofs.RelLaws.{at-left, at-left-stopped, at-right, at-right-stopped, at-related, at-end, at-own-stopped, at-close, at-several, at-relation}
 use borrow.Author.Needs.{needs}
-use borrow.Fn.Kinds.{In}
-use borrow.Fn.PlainCycle.{Measures, is, falls, and}
 use Rattle.checker.proofs.nodes.rel.Reads as rel
 use Rattle.checker.proofs.nodes.+actuals+apply+arith+brings+compr+conn+decl+expr+group+incl+include+line+lines+opers+power+pred+quant+refer+rel+select+sset+text.Lts-rel as rel-lts
 use Rattle.checker.proofs.nodes.+actuals+apply+arith+brings+compr+conn+decl+expr+group+incl+include+line+lines+opers+power+pred+quant+refer+rel+select+sset+text.Proof.Env.{rel-at, rel-calls}
-
-rel-word-requires : (t : ℕ) → rel-lts.Need-word-requires (rel-calls t) (rel-at t) rel.Post
-rel-word-requires t c κs = search needs
 
 rel-expr-requires : (t : ℕ) → rel-lts.Need-expr-requires (rel-calls t) (rel-at t) rel.Post
 rel-expr-requires t c κs =
@@ -23,23 +18,11 @@ rel-expr-requires t c κs =
     let m = s .pre .0 in
     (omega arith, (o .0 .at, o .1))
 
-rel-found-requires : (t : ℕ) → rel-lts.Need-found-requires (rel-calls t) (rel-at t) rel.Post
-rel-found-requires t c κs = search needs
-
-rel-same-length : (t : ℕ) → rel-lts.Need-same-length (rel-calls t) (rel-at t) rel.Post
-rel-same-length t c = search needs
-
-rel-same-length-2 : (t : ℕ) → rel-lts.Need-same-length-2 (rel-calls t) (rel-at t) rel.Post
-rel-same-length-2 t c = search needs
-
 rel-returns : (t : ℕ) → rel-lts.Need-returns (rel-calls t) (rel-at t) rel.Post
 rel-returns t c =
     let s = c .before .before .before .before .before .before .before .before .before .before .before .before .before .before .before .before in
     pred-told (c .found .ensures)
     (at-left-stopped (s .pre .1 .0) (s .pre .1 .3) (s .pre .1 .1) (s .pre .1 .2) _ (getD (s .args .p .now) 2 0) (c .before .before .before .before .before .before .before .before .word .ensures .0) refl (c .before .before .before .before .before .before .before .expr .ensures) (c .before .if1 .taken))
-
-rel-word-requires-2 : (t : ℕ) → rel-lts.Need-word-requires-2 (rel-calls t) (rel-at t) rel.Post
-rel-word-requires-2 t c κs = search needs
 
 rel-expr-requires-2 : (t : ℕ) → rel-lts.Need-expr-requires-2 (rel-calls t) (rel-at t) rel.Post
 rel-expr-requires-2 t c κs =
@@ -49,23 +32,11 @@ rel-expr-requires-2 t c κs =
     let m = s .pre .0 in
     (omega arith, (o .0 .at, o .1))
 
-rel-found-requires-2 : (t : ℕ) → rel-lts.Need-found-requires-2 (rel-calls t) (rel-at t) rel.Post
-rel-found-requires-2 t c κs = search needs
-
-rel-same-length-3 : (t : ℕ) → rel-lts.Need-same-length-3 (rel-calls t) (rel-at t) rel.Post
-rel-same-length-3 t c = search needs
-
-rel-same-length-4 : (t : ℕ) → rel-lts.Need-same-length-4 (rel-calls t) (rel-at t) rel.Post
-rel-same-length-4 t c = search needs
-
 rel-returns-2 : (t : ℕ) → rel-lts.Need-returns-2 (rel-calls t) (rel-at t) rel.Post
 rel-returns-2 t c =
     let s = c .before .before .before .before .before .before .before .before .before .before .before .before .before .before .before .before .before .before .before .before .before .before .before .before .before .before in
     pred-told (c .found2 .ensures)
     (at-right-stopped (s .pre .1 .0) (s .pre .1 .3) (s .pre .1 .1) (s .pre .1 .2) _ _ (c .before .before .before .before .before .before .before .before .before .before .before .before .before .before .before .before .before .before .word .ensures .0) (c .before .before .before .before .before .before .before .before .word2 .ensures .0) (c .before .before .before .before .before .before .before .before .before .before .before .before .before .before .before .before .before .expr .ensures) (c .before .before .before .before .before .before .before .before .before .before .before .if1 .left) (c .before .before .before .before .before .before .before .expr2 .ensures) (c .before .if2 .taken))
-
-rel-word-requires-3 : (t : ℕ) → rel-lts.Need-word-requires-3 (rel-calls t) (rel-at t) rel.Post
-rel-word-requires-3 t c κs = search needs
 
 rel-related-requires : (t : ℕ) → rel-lts.Need-related-requires (rel-calls t) (rel-at t) rel.Post
 rel-related-requires t c κs =
@@ -150,19 +121,19 @@ rel-returns-5 t c =
 pub rel-closed : {M : Type 1} (t : ℕ) → rel-lts.Closed (rel-calls t) (rel-at t) rel.Post M
 rel-closed t =
     rel-lts.spec (rel-calls t) (rel-at t) rel.Post
-    (rel-word-requires t)
+    (λ c κs. search needs)
     (rel-expr-requires t)
-    (rel-found-requires t)
-    (rel-same-length t)
-    (rel-same-length-2 t)
+    (λ c κs. search needs)
+    (λ c. search needs)
+    (λ c. search needs)
     (rel-returns t)
-    (rel-word-requires-2 t)
+    (λ c κs. search needs)
     (rel-expr-requires-2 t)
-    (rel-found-requires-2 t)
-    (rel-same-length-3 t)
-    (rel-same-length-4 t)
+    (λ c κs. search needs)
+    (λ c. search needs)
+    (λ c. search needs)
     (rel-returns-2 t)
-    (rel-word-requires-3 t)
+    (λ c κs. search needs)
     (rel-related-requires t)
     (rel-verdict-at-requires t)
     (rel-same-length-5 t)
