@@ -18,3 +18,4 @@ pub mod Counting
 pub mod Declaring
 pub mod Lining
 pub mod Actuals
+pub mod Brought
