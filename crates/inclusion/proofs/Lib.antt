@@ -2,6 +2,7 @@ pub mod SameLaws
 pub mod StandLaws
 pub mod AgreeLaws
 pub mod SmallLaws
+pub mod FillsLaws
 pub mod OverlapLaws
 pub mod LargeLaws
 pub mod StoreLaws

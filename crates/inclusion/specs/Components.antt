@@ -9,6 +9,8 @@ use Rattle.types.specs.Types.{Ty, Tys, tnil, tcons, Term, Terms, Each, unders, 
 use Rattle.typing.specs.Unknowns.{Table, slot, row}
 use Rattle.typing.specs.Items.{Items, Meets}
 use Rattle.solver.specs.Settled.{heap, Reads}
+use Rattle.pieces.specs.Piece.{Settled}
+use Rattle.instances.specs.Fill.{fill}
 use Rattle.instances.specs.Filled.{Row}
 use Rattle.merging.specs.Merging.{TypedAt}
 
@@ -22,6 +24,13 @@ pub record Component (s d : List ℕ) (X : Terms) (t : Term) (p : ℕ) : Type 0 
 pub record Placed (s d : List ℕ) (H : Items) (U : List ℕ) (t : Term) (p : ℕ) : Type 0 where
   pub typed : TypedAt s d H U t p
   pub small : size (typed .type) ≤ 32
+
+-- A type stands at p; with the types gs for its parameters it is the type of the settled term t.
+pub record Fills (s d : List ℕ) (H : Items) (U : List ℕ) (gs : Tys) (t : Term) (p : ℕ) : Type 0 where
+  pub type : Ty
+  pub reads : Reads (heap s d) p type
+  pub settled : Settled H t (fill gs type)
+  pub over : Each (λ x. In x U) t
 
 -- The type h stands for g: it is g, or both are over size 32 (38), where no component may mention either.
 abbrev pub StandsFor : Ty → Ty → Type 0

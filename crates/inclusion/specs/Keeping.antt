@@ -1,10 +1,12 @@
--- The steps of keeping what an Include brings: one row, all rows, and the words moved into the caller's part.
+-- The steps of writing types into the caller's part: words of types in the work area, of one cell or of the rows that an Include brings, which are then
+-- moved.
 use mathlib.Core.Path.{_≡_}
 use mathlib.Core.List.{List}
 use mathlib.Core.Logic.{_⊎_}
 use Prim.Native.Nat.{ℕ, suc, _+_, _-_, _*_, _≤_, _<_, _^_}
 use lib.ListN.{length, getD}
 use Rattle.types.specs.Types.{Ty, Tys, size}
+use Rattle.types.specs.Formed.{WellFormed}
 use Rattle.types.specs.Words.{words}
 use Rattle.solver.specs.Settled.{heap, Reads, Readable}
 use Rattle.signatures.specs.Tables.{Finds}
@@ -12,12 +14,27 @@ use Rattle.instances.specs.Clean.{Clean}
 use Rattle.instances.specs.Fill.{fill}
 use Rattle.instances.specs.Filled.{Row, Actuals}
 use Rattle.merging.specs.Merging.{Rows}
-use Rattle.inclusion.specs.Storing.{Stored}
+use Rattle.pieces.specs.Stage.{Ghost}
+use Rattle.pieces.specs.Closed.{Shut, Sizing}
+use Rattle.inclusion.specs.Components.{StandsFor}
+use Rattle.inclusion.specs.Storing.{Stored, Scratch}
 
 -- The words of g stand in w at p, and end by e.
 pub record Written (w : List ℕ) (p e : ℕ) (g : Ty) : Type 0 where
   pub fits : p + length (words g) ≤ e
   pub words-at : (x : ℕ) → x < length (words g) → getD w (p + x) 0 ≡ getD (words g) x 0
+
+-- ONE CELL: the words of its type, or of the stand-in, go to the words of w from `free` on.
+pub record ShownAsk (s d w : List ℕ) (n c free : ℕ) : Type 0 where
+  pub sizing : Sizing s d n c
+  pub scratch : free + 96 ≤ length w
+  pub near : free < 2 ^ 32
+
+pub record ShownWords (s d w w′ : List ℕ) (n c free e : ℕ) : Type 0 where
+  pub scratch : Scratch w w′ free
+  pub more : free ≤ e
+  pub short : e ≤ free + 95
+  pub shows : (G : Ghost) (S : Shut s d n G) → WellFormed (S .type c) → (h : Ty) × WellFormed h × Written w′ free e h × StandsFor h (S .type c)
 
 -- The row at r has the place of the table's row with the same identifier, ..
 pub record Found (w w′ : List ℕ) (base m r : ℕ) : Type 0 where
