@@ -124,9 +124,9 @@ module _ (s d w : List ℕ) (stack at free : ℕ) (i : Include) (A : BringsAsk s
                     let B = I .goes fine H U S Γ D C F in
                     let a = includeItems i Γ in
                     let q = includeSignature i Γ in
-                    let V = T .goes refl (H ⨾ a) (B .unknowns) n n (actualCount i) q (B .walked .steady) (B .actuals) (B .components) in
+                    let N = T .goes refl (H ⨾ a) (B .unknowns) n n (actualCount i) q (B .walked .steady) (B .actuals) (B .components) in
                     let W = walked-then H a (smalls Γ) U (B .unknowns) (B .unknowns) (Owned (includeNumbers i)) S (B .walked)
-                        (walked-mine (H ⨾ a) (smalls Γ) (B .unknowns) (B .unknowns) (λ x. ⊥) (Owned (includeNumbers i)) (λ x b. absurd b) V) in
+                        (walked-mine (H ⨾ a) (smalls Γ) (B .unknowns) (B .unknowns) (λ x. ⊥) (Owned (includeNumbers i)) (λ x b. absurd b) N) in
                     let X = actuals-more s₁ d (H ⨾ a) (H ⨾ (a ⨾ smalls Γ)) (B .unknowns) n (actualCount i) actuals (λ τ h. (h .0, h .1 .0)) (B .actuals) in
                     record {
                       unknowns = B .unknowns;

@@ -19,3 +19,4 @@ pub mod Declaring
 pub mod Lining
 pub mod Actuals
 pub mod Brought
+pub mod Bringing
