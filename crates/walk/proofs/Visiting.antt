@@ -11,6 +11,7 @@ use Rattle.instances.specs.Clean.{Clean}
 use Rattle.pieces.specs.Stage.{Ghost, Advanced}
 use Rattle.pieces.proofs.Stages.{next, next-stands, room-less, uses-on}
 use Rattle.names.specs.Scoped.{Scoped}
+use Rattle.inclusion.specs.Storing.{Stored}
 use Rattle.walk.specs.Visits.{Owned, Spared}
 use Rattle.walk.specs.Room.{Inside}
 use Rattle.walk.specs.Expressions.{Visiting, Visited}
@@ -38,12 +39,12 @@ pub visiting-low : (s d w : List ℕ) (rows n top at free h : ℕ) (l : List ℕ
 visiting-low s d w rows n top at free h l K = let p = K .room .pool in omega arith
 
 -- The scope of a piece with items more, in the areas after them.
-module _ (s s′ d w w′ : List ℕ) (rows n top n′ top′ at at′ free : ℕ) (l : List ℕ) (size : length s ≡ 52224) (clean : Clean s at) (some : 1 ≤ at) (room : at < 39936)
-    (X : Visited s s′ n top n′ top′ at at′ l) (W : Spared w w′ rows free) (G : Ghost) (own : Items) (M : ℕ → Type 0) (A : Advanced s s′ d n top n′ top′ G own M) where
+module _ (s s′ d w w′ : List ℕ) (rows n top n′ top′ at at′ free : ℕ) (size : length s ≡ 52224) (clean : Clean s at) (some : 1 ≤ at) (room : at < 39936)
+    (X : Stored s s′ at at′) (W : Spared w w′ rows free) (G : Ghost) (own : Items) (M : ℕ → Type 0) (A : Advanced s s′ d n top n′ top′ G own M) where
   pub scoped-visited : (Γ : Scope) (D : Dictionary) → Scoped s d w rows G Γ D → Scoped s′ d w′ rows (next s s′ d n top n′ top′ G own M A) Γ D
   scoped-visited Γ D C =
       scoped-later s′ d w′ rows Γ D G (next s s′ d n top n′ top′ G own M A) (A .wider) (A .later .items)
-      (scoped-spared s′ d w w′ rows free G Γ D W (scoped-stored s s′ d at at′ size clean some room (X .stored) w rows G Γ D C))
+      (scoped-spared s′ d w w′ rows free G Γ D W (scoped-stored s s′ d at at′ size clean some room X w rows G Γ D C))
 
 -- The second part.
 module _ (s s′ d w w′ : List ℕ) (rows n top n′ top′ at at′ free h : ℕ) (l m : List ℕ) (K : Visiting s d w rows n top at free h (l ++ m)) (X : Visited s s′ n top n′ top′ at at′ l)
@@ -54,7 +55,7 @@ module _ (s s′ d w w′ : List ℕ) (rows n top n′ top′ at at′ free h : 
     stands = next-stands s s′ d n top n′ top′ (K .ghost) own (Owned l) A (K .stands .few);
     scope = K .scope;
     dictionary = K .dictionary;
-    scoped = scoped-visited s s′ d w w′ rows n top n′ top′ at at′ free l (K .size) (K .clean) (K .room .some) (visiting-low s d w rows n top at free h (l ++ m) K) X W (K .ghost) own (Owned l) A (K .scope) (K .dictionary) (K .scoped);
+    scoped = scoped-visited s s′ d w w′ rows n top n′ top′ at at′ free (K .size) (K .clean) (K .room .some) (visiting-low s d w rows n top at free h (l ++ m) K) (X .stored) W (K .ghost) own (Owned l) A (K .scope) (K .dictionary) (K .scoped);
     fresh = fresh-after l m (K .ghost .mentioned) (A .mentioned) (K .once) (K .fresh) (A .new);
     once = once-right l m (K .once);
     size = X .stored .size ∙ K .size;

@@ -22,7 +22,8 @@ use Rattle.signatures.specs.Carried.{Carries}
 use Rattle.pieces.specs.Piece.{Steady, Walked, Settled}
 use Rattle.pieces.specs.Rows.{SlotsFrom}
 use Rattle.names.specs.Scoped.{Scoped}
-use Rattle.inclusion.specs.Components.{Component, Placed, StandsFor, ActualTypes}
+use Rattle.names.specs.Components.{Component}
+use Rattle.inclusion.specs.Components.{Placed, StandsFor, ActualTypes}
 use Rattle.inclusion.specs.Storing.{Stored}
 use Rattle.walk.specs.Visits.{Owned, Fresh, idle, Spared}
 use Rattle.walk.specs.Predicates.{Walking}
