@@ -16,6 +16,7 @@ use Rattle.typing.specs.Rules.{includeItems}
 use Rattle.typing.specs.Scopes.{Scope, includeNode, includeSignature}
 use Rattle.typing.specs.Signatures.{Signature, noNames, naming, termIn}
 use Rattle.typing.specs.Unknowns.{Table}
+use Rattle.signatures.specs.Rows.{rows}
 use Rattle.signatures.specs.Carried.{Carries}
 use Rattle.pieces.specs.Piece.{Steady, Walked}
 use Rattle.pieces.proofs.Between.{walked-then, walked-mine, refuses-first, refuses-second}
@@ -23,6 +24,7 @@ use Rattle.names.specs.Scoped.{Scoped}
 use Rattle.inclusion.specs.Filling.{SmallTold}
 use Rattle.inclusion.specs.Storing.{KeepAsk, RowsKept}
 use Rattle.inclusion.proofs.FillsLaws.{components-fill}
+use Rattle.inclusion.proofs.NewRowLaws.{rows-few}
 use Rattle.walk.specs.Includes.{actualCount, IncludeAsk, Brought, IncludeDone, BringsAsk, Shown, BringsDone}
 use Rattle.walk.specs.Visits.{Owned, Fresh, idle, Spared}
 use Rattle.walk.proofs.Brought.{stored-again, stored-gap, actuals-more, brought-ask}
@@ -118,7 +120,7 @@ module _ (s d w : List ℕ) (stack at free : ℕ) (i : Include) (A : BringsAsk s
                 spared = spared-on w w₁ w₂ stack free (I .spared)
                     (record { size = E .size; scope = λ j l. E .words j (omega arith) (λ x u v. omega arith); frames = λ j x l. E .words j (omega arith) (λ x u v. omega arith) });
                 stored = λ e. stored-again s s₁ s₂ at at₁ at₂ (I .stored fine) (E .stored);
-                short = λ e. E .short;
+                short = λ e. let x = E .new in let z = rows-few w₁ free m (rows w₁ free 0) in omega arith;
                 few = λ e. y;
                 goes = λ e H U S Γ D C F.
                     let B = I .goes fine H U S Γ D C F in
@@ -126,7 +128,7 @@ module _ (s d w : List ℕ) (stack at free : ℕ) (i : Include) (A : BringsAsk s
                     let q = includeSignature i Γ in
                     let N = T .goes refl (H ⨾ a) (B .unknowns) n n (actualCount i) q (B .walked .steady) (B .actuals) (B .components) in
                     let W = walked-then H a (smalls Γ) U (B .unknowns) (B .unknowns) (Owned (includeNumbers i)) S (B .walked)
-                        (walked-mine (H ⨾ a) (smalls Γ) (B .unknowns) (B .unknowns) (λ x. ⊥) (Owned (includeNumbers i)) (λ x b. absurd b) N) in
+                    (walked-mine (H ⨾ a) (smalls Γ) (B .unknowns) (B .unknowns) (λ x. ⊥) (Owned (includeNumbers i)) (λ x b. absurd b) N) in
                     let X = actuals-more s₁ d (H ⨾ a) (H ⨾ (a ⨾ smalls Γ)) (B .unknowns) n (actualCount i) actuals (λ τ h. (h .0, h .1 .0)) (B .actuals) in
                     record {
                       unknowns = B .unknowns;

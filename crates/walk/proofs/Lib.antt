@@ -36,3 +36,5 @@ pub mod Actuals
 pub mod Brought
 pub mod Bringing
 pub mod TableRows
+pub mod Merged
+pub mod Inclusions
