@@ -8,11 +8,7 @@ use Rattle.signatures.specs.Rows.{rows}
 use Rattle.signatures.specs.Carried.{Carries}
 use Rattle.merging.specs.Merging.{Rows}
 use Rattle.names.specs.Components.{Component}
-<<<<<<< HEAD
-use Rattle.inclusion.specs.Components.{Placed}
-=======
 use Rattle.walk.proofs.TableRows.{carries-row}
->>>>>>> includes
 
 pub component-rows : (s d w : List ℕ) (base m : ℕ) → base + 2 * m ≤ length w → (q : Signature) (X : Terms) → Carries (Component s d X) q (rows w base m) → Rows s d w base m
 component-rows s d w base m inside q X C = record {

@@ -42,12 +42,7 @@ use Rattle.names.specs.Scoped.{SettledAt, SchemaType, Recorded, Scoped}
 use Rattle.names.proofs.ComponentLaws.{components-high}
 use Rattle.names.proofs.LookingUp.{dictionary-reads}
 use Rattle.names.proofs.ThetaRules.{schema-limited}
-<<<<<<< HEAD
-use Rattle.names.specs.Components.{Component}
-use Rattle.inclusion.specs.Storing.{Stored}
-=======
 use Rattle.inclusion.proofs.NewRowLaws.{renamed-ascending}
->>>>>>> includes
 use Rattle.walk.specs.Includes.{actualCount, IncludeAsk, Brought, IncludeDone, ActualAt, ActualFresh, ActualOwned, ActualsAsk, ActualsWent, ActualsDone}
 use Rattle.walk.specs.Visits.{Owned, Fresh, idle, Spared}
 use Rattle.walk.proofs.ActualTypes.{actual-owned, actual-fresh, actual-types}
