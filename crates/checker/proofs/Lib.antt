@@ -1,0 +1,3 @@
+mod ExprNodes
+mod ListNodes
+mod WaitingNodes
