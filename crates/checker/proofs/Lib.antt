@@ -1,3 +1,8 @@
-mod ExprNodes
-mod ListNodes
-mod WaitingNodes
+pub mod ExprNodes
+pub mod ListNodes
+pub mod WaitingNodes
+pub mod LeafLaws
+pub mod PredLaws
+pub mod RelLaws
+pub mod QuantLaws
+pub mod TextLaws

@@ -665,7 +665,7 @@ fn decl(
         return lined_at(SEVERAL, k, 0, 0);
     }
     let size = settled_size(a, d, x.cells + 2, x.cells);
-    let e = store_type(a, d, w, x.cells + 2, x.cells, at, free);
+    let e = store_type(a, d, w, x.cells + 2, x.cells, at, x.at, free);
     if !declared_fits(a, d, w, base, m, p, at, size) {
         return lined_at(CLASH, k, 0, 0);
     }
@@ -821,7 +821,7 @@ fn actuals(
     if !close(a, d, x.cells + 2) {
         return lined_at(SEVERAL, k, 0, 0);
     }
-    let e = store_type(a, d, w, x.cells + 2, x.cells, at, free);
+    let e = store_type(a, d, w, x.cells + 2, x.cells, at, x.at, free);
     store(places, j, at as u32);
     actuals(doc, a, d, w, rows, e, free, k, p, j + 1, q, places)
 }

@@ -22,7 +22,15 @@ pub mod Relations
 pub mod Quantifying
 pub mod Pushing
 pub mod Bodies
+pub mod Carrying
+pub mod ActualTypes
+pub mod Including
 pub mod Elements
 pub mod LineItems
 pub mod SchemaKinds
 pub mod Conjoining
+pub mod Counting
+pub mod Declaring
+pub mod Lining
+pub mod Actuals
+pub mod TableRows
