@@ -6,3 +6,6 @@ pub mod PredLaws
 pub mod RelLaws
 pub mod QuantLaws
 pub mod TextLaws
+pub mod LineNodes
+pub mod SizedNodes
+pub mod DeclNodes

@@ -1,4 +1,7 @@
 -- The answers of `line`.
+use mathlib.Core.Path.{_≡_, refl, sym, _∙_}
+use native.Mathlib.Omega.{arith}
+use Rattle.checker.proofs.LineNodes.{node-of, kind-of, not-eleven}
 use borrow.Author.Needs.{needs}
 use Prim.Native.Nat.{_+_, _*_, _-_}
 use Prim.Native.Nat.{ℕ, _<_}
@@ -15,7 +18,10 @@ line-word-requires : (t : ℕ) → line-lts.Need-word-requires (line-calls t) (l
 line-word-requires t c κs = search needs
 
 line-decl-requires : (t : ℕ) → line-lts.Need-decl-requires (line-calls t) (line-at t) line.Post
-line-decl-requires t c κs = ?
+line-decl-requires t c κs =
+    let s = (c .before .before .before .before .before .before .before .before .before) .pre in
+    let y = s .0 in
+    (omega arith, (node-of (s .1 .0) ((c .before .before .before .before .part) .ensures), kind-of ((c .before .before .before .before .before .before .before .before .before) .args .doc .now) ((c .before .before .before .before .part) .result .now) ((c .before .before .before .before .before .before .before .before .before) .args .k) ((c .before .before .before .before .part) .ensures) ((c .before .before .before .word) .ensures .0) ∙ (c .before .before .if1) .taken, s .1 .1))
 
 line-same-length : (t : ℕ) → line-lts.Need-same-length (line-calls t) (line-at t) line.Post
 line-same-length t c = search needs
@@ -24,10 +30,16 @@ line-same-length-2 : (t : ℕ) → line-lts.Need-same-length-2 (line-calls t) (l
 line-same-length-2 t c = search needs
 
 line-returns : (t : ℕ) → line-lts.Need-returns (line-calls t) (line-at t) line.Post
-line-returns t c = ?
+line-returns t c =
+    (c .before .before .before .before .decl) .ensures
 
 line-incl-requires : (t : ℕ) → line-lts.Need-incl-requires (line-calls t) (line-at t) line.Post
-line-incl-requires t c κs = ?
+line-incl-requires t c κs =
+    let s = (c .before .before .before .before .before .before .before .before .before) .pre in
+    let y = s .0 in
+    let k = kind-of ((c .before .before .before .before .before .before .before .before .before) .args .doc .now) ((c .before .before .before .before .part) .result .now) ((c .before .before .before .before .before .before .before .before .before) .args .k) ((c .before .before .before .before .part) .ensures) ((c .before .before .before .word) .ensures .0) in
+    let n = (c .before .before .if1) .left in
+    (omega arith, (node-of (s .1 .0) ((c .before .before .before .before .part) .ensures), not-eleven _ _ (s .1 .0) (λ z. n (sym k ∙ z)), s .1 .1))
 
 line-same-length-3 : (t : ℕ) → line-lts.Need-same-length-3 (line-calls t) (line-at t) line.Post
 line-same-length-3 t c = search needs
@@ -36,7 +48,8 @@ line-same-length-4 : (t : ℕ) → line-lts.Need-same-length-4 (line-calls t) (l
 line-same-length-4 t c = search needs
 
 line-returns-2 : (t : ℕ) → line-lts.Need-returns-2 (line-calls t) (line-at t) line.Post
-line-returns-2 t c = ?
+line-returns-2 t c =
+    (c .before .before .before .before .incl) .ensures
 
 pub line-closed : {M : Type 1} (t : ℕ) → line-lts.Closed (line-calls t) (line-at t) line.Post M
 line-closed t =
