@@ -10,10 +10,11 @@ use Rattle.typing.specs.Items.{Items}
 use Rattle.typing.specs.Signatures.{Signature}
 use Rattle.signatures.specs.Carried.{Carries}
 use Rattle.signatures.proofs.CarryLaws.{carries-other}
+use Rattle.names.specs.Components.{Component}
 use Rattle.names.proofs.RowInstances.{instance-each, row-each}
 use Rattle.pieces.specs.Piece.{Settled}
 use Rattle.instances.proofs.FillLaws.{fill-none}
-use Rattle.inclusion.specs.Components.{Component, Placed, Fills, ActualTypes}
+use Rattle.inclusion.specs.Components.{Placed, Fills, ActualTypes}
 use Rattle.inclusion.proofs.AgreeLaws.{component-settled}
 
 -- Components of a recorded schema, with the actuals' element types.

@@ -28,6 +28,7 @@ use Rattle.inclusion.specs.Storing.{KeepAsk, RowsKept}
 use Rattle.inclusion.specs.Keeping.{Written, Found, Fresh, AllAsk, AllKept, MoveAsk, Moved}
 use Rattle.inclusion.proofs.StandLaws.{stands-back, fill-alike}
 use Rattle.inclusion.proofs.StoreLaws.{moved-reads}
+use Rattle.inclusion.proofs.NewRowLaws.{rows-few}
 
 module _ (s d w : List ℕ) (base m source k : ℕ) (places : List ℕ) (at end free : ℕ) (A : KeepAsk s d w base m source k places at end free) where
   pub all-asked : AllAsk s d w base m source k places at free
@@ -55,6 +56,7 @@ module _ (s d w : List ℕ) (base m source k : ℕ) (places : List ℕ) (at end 
         let j = A .many in
         let a = K .more in
         let b = K .short in
+        let c = rows-few w source k (rows w base m) in
         let z = K .size in
         record {
           size = A .actuals .areas .size;
@@ -160,7 +162,7 @@ module _ (s d w : List ℕ) (base m source k : ℕ) (places : List ℕ) (at end 
             stored = M .stored;
             size = K .size;
             words = K .words;
-            short = ⊎-elim (λ (l : 0 < e - free). omega arith) (λ (l : e - free ≤ 0). let q = M .none (omega arith) in omega arith) (lt-or-ge 0 (e - free));
+            new = ⊎-elim (λ (l : 0 < e - free). omega arith) (λ (l : e - free ≤ 0). let q = M .none (omega arith) in omega arith) (lt-or-ge 0 (e - free));
             placed = λ H U n q r hs gs T L C R merges smalls D.
                 all-placed H U n r hs gs T L R D q source k C (merges (D .some .0) (D .some .1)) (smalls (D .some .0) (D .some .1)) (K .each)
                 (λ x l. K .words (source + 2 * x) (omega arith) (λ j y o. omega arith));

@@ -9,6 +9,7 @@ use Rattle.types.specs.Types.{Ty, Tys, size}
 use Rattle.types.specs.Formed.{WellFormed}
 use Rattle.types.specs.Words.{words}
 use Rattle.solver.specs.Settled.{heap, Reads, Readable}
+use Rattle.signatures.specs.Rows.{rows}
 use Rattle.signatures.specs.Tables.{Finds}
 use Rattle.instances.specs.Clean.{Clean}
 use Rattle.instances.specs.Fill.{fill}
@@ -17,6 +18,7 @@ use Rattle.merging.specs.Merging.{Rows}
 use Rattle.pieces.specs.Stage.{Ghost}
 use Rattle.pieces.specs.Closed.{Shut, Sizing}
 use Rattle.inclusion.specs.Components.{StandsFor}
+use Rattle.inclusion.specs.NewRows.{newRows}
 use Rattle.inclusion.specs.Storing.{Stored, Scratch}
 
 -- The words of g stand in w at p, and end by e.
@@ -63,7 +65,7 @@ pub record RowKept (s d w w′ : List ℕ) (base m r : ℕ) (places : List ℕ) 
   pub size : length w′ ≡ length w
   pub words : (i : ℕ) → i < e → (i ≡ r + 1 → ⊥) → getD w′ i 0 ≡ getD w i 0
   pub more : e ≤ e′
-  pub short : e′ ≤ e + 95
+  pub short : e′ ≤ e + 95 * newRows (rows w r 1) (rows w base m)
   pub kept : Found w w′ base m r ⊎ Fresh s d w w′ r places own e e′
 
 -- ALL ROWS: words more go to the words of w from `free` on; they are to stand at `at`.
@@ -82,7 +84,7 @@ pub record AllKept (s d w w′ : List ℕ) (base m source k : ℕ) (places : Lis
   pub size : length w′ ≡ length w
   pub words : (i : ℕ) → i < free → ((j : ℕ) → j < k → i ≡ source + 2 * j + 1 → ⊥) → getD w′ i 0 ≡ getD w i 0
   pub more : free ≤ e
-  pub short : e ≤ free + 95 * k
+  pub short : e ≤ free + 95 * newRows (rows w source k) (rows w base m)
   pub each : (j : ℕ) → j < k → Found w w′ base m (source + 2 * j) ⊎ ((o : ℕ) × Fresh s d w w′ (source + 2 * j) places (at + o) (free + o) e)
 
 -- THE WORDS MOVED: k words of w at `free`, to `at`; what stood there, up to `end`, is wiped.

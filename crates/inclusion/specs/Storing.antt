@@ -23,6 +23,7 @@ use Rattle.pieces.specs.Piece.{Steady, Walked, Settled}
 use Rattle.pieces.specs.Stage.{Ghost}
 use Rattle.pieces.specs.Closed.{Shut, Sizing}
 use Rattle.inclusion.specs.Components.{Placed, Fills, StandsFor, AllStandFor}
+use Rattle.inclusion.specs.NewRows.{newRows}
 
 -- Words written from `at` on: those before stay, and from `end` on the area is clean.
 pub record Stored (s s′ : List ℕ) (at end : ℕ) : Type 0 where
@@ -90,7 +91,8 @@ pub record RowsKept (s s′ d w w′ : List ℕ) (base m source k : ℕ) (places
   pub size : length w′ ≡ length w
   -- in the work area only the places of the rows at `source` and words from `free` on change
   pub words : (i : ℕ) → i < free → ((j : ℕ) → j < k → i ≡ source + 2 * j + 1 → ⊥) → getD w′ i 0 ≡ getD w i 0
-  pub short : end′ ≤ at + 96 * k
+  -- only types of rows that the table does not have are written
+  pub new : end′ ≤ at + 96 * newRows (rows w source k) (rows w base m)
   -- the rows' types, with the types gs for their parameters; types hs that stand for those are the actuals
   pub placed : (H : Items) (U : List ℕ) (n : ℕ) (q r : Signature) (hs gs : Tys) → Row (heap s d) places hs → AllStandFor hs gs → Carries (Fills s d H U gs) q (rows w source k) →
       Carries (Placed s d H U) r (rows w base m) → ((τ : Table) → Meets H τ → Meets (mergeNames n q r) τ) → ((τ : Table) → Meets H τ → Meets (smallTypes n q) τ) →

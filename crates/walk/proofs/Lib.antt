@@ -33,4 +33,8 @@ pub mod Counting
 pub mod Declaring
 pub mod Lining
 pub mod Actuals
+pub mod Brought
+pub mod Bringing
 pub mod TableRows
+pub mod Merged
+pub mod Inclusions

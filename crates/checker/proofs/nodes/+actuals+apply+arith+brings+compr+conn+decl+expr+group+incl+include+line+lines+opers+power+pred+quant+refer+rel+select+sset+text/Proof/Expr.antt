@@ -7,6 +7,15 @@ use borrow.Fn.PlainCycle.{Measures, is, falls, and}
 use Rattle.checker.proofs.nodes.expr.Reads as expr
 use Rattle.checker.proofs.nodes.+actuals+apply+arith+brings+compr+conn+decl+expr+group+incl+include+line+lines+opers+power+pred+quant+refer+rel+select+sset+text.Lts-expr as expr-lts
 use Rattle.checker.proofs.nodes.+actuals+apply+arith+brings+compr+conn+decl+expr+group+incl+include+line+lines+opers+power+pred+quant+refer+rel+select+sset+text.Proof.Env.{expr-at, expr-calls}
+use mathlib.Core.Path.{_≡_, refl, sym, ap, _∙_}
+use mathlib.Core.Logic.{⊎-elim}
+use native.Mathlib.Omega.{arith}
+use Rattle.syntax.proofs.TreeExpr.{expr-range}
+use Rattle.checker.proofs.ExprNodes.{handed-node, past}
+use Rattle.checker.proofs.ListNodes.{node-kind}
+use Rattle.checker.proofs.WaitingNodes.{number-rule, number-end, integers-rule, integers-end, theta-asked, theta-end}
+use Rattle.checker.proofs.ExprNodes.{node-word}
+use Rattle.checker.proofs.ExprNodes.{last-kind-low, last-kind}
 
 expr-part-requires : (t : ℕ) → expr-lts.Need-part-requires (expr-calls t) (expr-at t) expr.Post
 expr-part-requires t c κs = search needs
@@ -15,28 +24,28 @@ expr-word-requires : (t : ℕ) → expr-lts.Need-word-requires (expr-calls t) (e
 expr-word-requires t c κs = search needs
 
 expr-refer-requires : (t : ℕ) → expr-lts.Need-refer-requires (expr-calls t) (expr-at t) expr.Post
-expr-refer-requires t c κs = ?
+expr-refer-requires t c κs = let s = (c .before .before .before .before .before .before .before .before .before) in let y = s .pre .0 in let N = handed-node (s .pre .1 .0) ((c .before .before .before .before .part) .ensures) in let K = s .pre .1 .1 in let w = node-kind N _ ((c .before .before .before .word) .ensures .0) in (omega arith, (N, w ∙ ((c .before .before .match) .keys1), K))
 
 expr-number-rule-requires : (t : ℕ) → expr-lts.Need-number-rule-requires (expr-calls t) (expr-at t) expr.Post
-expr-number-rule-requires t c κs = ?
+expr-number-rule-requires t c κs = let s = (c .before .before .before .before .before .before .before .before) in let y = s .pre .0 in let N = handed-node (s .pre .1 .0) ((c .before .before .before .part) .ensures) in let K = s .pre .1 .1 in let w = node-kind N _ ((c .before .before .word) .ensures .0) in number-rule (s .pre .1 .0) K (w ∙ ((c .before .match) .keys2)) 1 (omega arith)
 
 expr-visit-at-requires : (t : ℕ) → expr-lts.Need-visit-at-requires (expr-calls t) (expr-at t) expr.Post
-expr-visit-at-requires t c κs = ?
+expr-visit-at-requires t c κs = let z = (c .before .before .before .before .before .before .before .before .before .before .before) .pre .1 .0 .small in omega arith
 
 expr-integers-rule-requires : (t : ℕ) → expr-lts.Need-integers-rule-requires (expr-calls t) (expr-at t) expr.Post
-expr-integers-rule-requires t c κs = ?
+expr-integers-rule-requires t c κs = let s = (c .before .before .before .before .before .before .before .before) in let y = s .pre .0 in let N = handed-node (s .pre .1 .0) ((c .before .before .before .part) .ensures) in let K = s .pre .1 .1 in let w = node-kind N _ ((c .before .before .word) .ensures .0) in integers-rule (s .pre .1 .0) K (w ∙ ((c .before .match) .keys3)) 2 (omega arith)
 
 expr-visit-at-requires-2 : (t : ℕ) → expr-lts.Need-visit-at-requires-2 (expr-calls t) (expr-at t) expr.Post
-expr-visit-at-requires-2 t c κs = ?
+expr-visit-at-requires-2 t c κs = let z = (c .before .before .before .before .before .before .before .before .before .before .before) .pre .1 .0 .small in omega arith
 
 expr-power-requires : (t : ℕ) → expr-lts.Need-power-requires (expr-calls t) (expr-at t) expr.Post
-expr-power-requires t c κs = ?
+expr-power-requires t c κs = let s = (c .before .before .before .before .before .before .before .before .before) in let y = s .pre .0 in let N = handed-node (s .pre .1 .0) ((c .before .before .before .before .part) .ensures) in let K = s .pre .1 .1 in let w = node-kind N _ ((c .before .before .before .word) .ensures .0) in (omega arith, (N, w ∙ ((c .before .before .match) .keys4), K))
 
 expr-apply-requires : (t : ℕ) → expr-lts.Need-apply-requires (expr-calls t) (expr-at t) expr.Post
-expr-apply-requires t c κs = ?
+expr-apply-requires t c κs = let s = (c .before .before .before .before .before .before .before .before .before) in let y = s .pre .0 in let N = handed-node (s .pre .1 .0) ((c .before .before .before .before .part) .ensures) in let K = s .pre .1 .1 in let w = node-kind N _ ((c .before .before .before .word) .ensures .0) in (omega arith, (N, w ∙ ((c .before .before .match) .keys5), K))
 
 expr-select-requires : (t : ℕ) → expr-lts.Need-select-requires (expr-calls t) (expr-at t) expr.Post
-expr-select-requires t c κs = ?
+expr-select-requires t c κs = let s = (c .before .before .before .before .before .before .before .before .before) in let y = s .pre .0 in let N = handed-node (s .pre .1 .0) ((c .before .before .before .before .part) .ensures) in let K = s .pre .1 .1 in let w = node-kind N _ ((c .before .before .before .word) .ensures .0) in (omega arith, (N, w ∙ ((c .before .before .match) .keys6), K))
 
 expr-word-requires-2 : (t : ℕ) → expr-lts.Need-word-requires-2 (expr-calls t) (expr-at t) expr.Post
 expr-word-requires-2 t c κs = search needs
@@ -45,22 +54,22 @@ expr-word-requires-3 : (t : ℕ) → expr-lts.Need-word-requires-3 (expr-calls t
 expr-word-requires-3 t c κs = search needs
 
 expr-theta-rule-requires : (t : ℕ) → expr-lts.Need-theta-rule-requires (expr-calls t) (expr-at t) expr.Post
-expr-theta-rule-requires t c κs = ?
+expr-theta-rule-requires t c κs = let s = (c .before .before .before .before .before .before .before .before .before .before .before) in let y = s .pre .0 in let N = handed-node (s .pre .1 .0) ((c .before .before .before .before .before .before .part) .ensures) in let K = s .pre .1 .1 in let w = node-kind N _ ((c .before .before .before .before .before .word) .ensures .0) in let i = node-word N 1 _ ((c .before .word2) .ensures .0) in let j = node-word N 2 _ ((c .word3) .ensures .0) in theta-asked (s .pre .1 .0) K (w ∙ ((c .before .before .before .before .match) .keys7)) _ _ i j
 
 expr-visit-at-requires-3 : (t : ℕ) → expr-lts.Need-visit-at-requires-3 (expr-calls t) (expr-at t) expr.Post
-expr-visit-at-requires-3 t c κs = ?
+expr-visit-at-requires-3 t c κs = let z = (c .before .before .before .before .before .before .before .before .before .before .before .before .before .before .before .before) .pre .1 .0 .small in omega arith
 
 expr-sset-requires : (t : ℕ) → expr-lts.Need-sset-requires (expr-calls t) (expr-at t) expr.Post
-expr-sset-requires t c κs = ?
+expr-sset-requires t c κs = let s = (c .before .before .before .before .before .before .before .before .before) in let y = s .pre .0 in let N = handed-node (s .pre .1 .0) ((c .before .before .before .before .part) .ensures) in let K = s .pre .1 .1 in let w = node-kind N _ ((c .before .before .before .word) .ensures .0) in (omega arith, (N, w ∙ ((c .before .before .match) .keys8), K))
 
 expr-group-requires : (t : ℕ) → expr-lts.Need-group-requires (expr-calls t) (expr-at t) expr.Post
-expr-group-requires t c κs = ?
+expr-group-requires t c κs = let s = (c .before .before .before .before .before .before .before .before .before .before .before) in let y = s .pre .0 in let N = handed-node (s .pre .1 .0) ((c .before .before .before .before .before .before .part) .ensures) in let K = s .pre .1 .1 in let w = node-kind N _ ((c .before .before .before .before .before .word) .ensures .0) in let a = past _ 32 (past _ 31 (past _ 30 ((c .before .before .before .if1) .left) ((c .before .before .before .before .match) .rest .0 .0 .0 .0 .0 .0 .0 .1)) ((c .before .before .before .before .match) .rest .0 .0 .0 .0 .0 .0 .1)) ((c .before .before .before .before .match) .rest .0 .0 .0 .0 .0 .1) in let b = (c .before .before .if2) .taken in (omega arith, (N, omega arith, omega arith, K))
 
 expr-arith-requires : (t : ℕ) → expr-lts.Need-arith-requires (expr-calls t) (expr-at t) expr.Post
-expr-arith-requires t c κs = ?
+expr-arith-requires t c κs = let s = (c .before .before .before .before .before .before .before .before .before .before .before .before) in let y = s .pre .0 in let N = handed-node (s .pre .1 .0) ((c .before .before .before .before .before .before .before .part) .ensures) in let K = s .pre .1 .1 in let w = node-kind N _ ((c .before .before .before .before .before .before .word) .ensures .0) in let a = past _ 40 (past _ 39 (past _ 38 (past _ 37 (past _ 36 ((c .before .before .before .if2) .left) ((c .before .before .before .before .before .match) .rest .0 .0 .0 .0 .1)) ((c .before .before .before .before .before .match) .rest .0 .0 .0 .1)) ((c .before .before .before .before .before .match) .rest .0 .0 .1)) ((c .before .before .before .before .before .match) .rest .0 .1)) ((c .before .before .before .before .before .match) .rest .1) in let b = (c .before .before .if3) .taken in (omega arith, (N, omega arith, omega arith, K))
 
 expr-compr-requires : (t : ℕ) → expr-lts.Need-compr-requires (expr-calls t) (expr-at t) expr.Post
-expr-compr-requires t c κs = ?
+expr-compr-requires t c κs = let s = (c .before .before .before .before .before .before .before .before .before .before) in let y = s .pre .0 in let N = handed-node (s .pre .1 .0) ((c .before .before .before .before .before .part) .ensures) in let K = s .pre .1 .1 in let w = node-kind N _ ((c .before .before .before .before .word) .ensures .0) in let r = expr-range _ _ (s .pre .1 .0) in let k = ⊎-elim (λ z. let u = z .taken in last-kind-low (r .0) w u) (λ z. last-kind (r .1) w (z .2 .left)) ((c .before .before .if1) .came) in (omega arith, (N, k, K))
 
 expr-same-length : (t : ℕ) → expr-lts.Need-same-length (expr-calls t) (expr-at t) expr.Post
 expr-same-length t c = search needs
@@ -69,19 +78,19 @@ expr-same-length-2 : (t : ℕ) → expr-lts.Need-same-length-2 (expr-calls t) (e
 expr-same-length-2 t c = search needs
 
 expr-returns : (t : ℕ) → expr-lts.Need-returns (expr-calls t) (expr-at t) expr.Post
-expr-returns t c = ?
+expr-returns t c = (c .before .before .before .before .refer) .ensures
 
 expr-same-length-3 : (t : ℕ) → expr-lts.Need-same-length-3 (expr-calls t) (expr-at t) expr.Post
 expr-same-length-3 t c = search needs
 
 expr-returns-2 : (t : ℕ) → expr-lts.Need-returns-2 (expr-calls t) (expr-at t) expr.Post
-expr-returns-2 t c = ?
+expr-returns-2 t c = let s = (c .before .before .before .before .before .before .before .before .before .before .before .before) in let y = s .pre .0 in let N = handed-node (s .pre .1 .0) ((c .before .before .before .before .before .before .before .part) .ensures) in let K = s .pre .1 .1 in let w = node-kind N _ ((c .before .before .before .before .before .before .word) .ensures .0) in number-end (s .pre .1 .0) K (w ∙ ((c .before .before .before .before .before .match) .keys2)) (omega arith) ((c .before .before .before .number-rule) .kept .0) ((c .before .before .before .number-rule) .ensures _) ((c .visit-at) .ensures)
 
 expr-same-length-4 : (t : ℕ) → expr-lts.Need-same-length-4 (expr-calls t) (expr-at t) expr.Post
 expr-same-length-4 t c = search needs
 
 expr-returns-3 : (t : ℕ) → expr-lts.Need-returns-3 (expr-calls t) (expr-at t) expr.Post
-expr-returns-3 t c = ?
+expr-returns-3 t c = let s = (c .before .before .before .before .before .before .before .before .before .before .before .before) in let y = s .pre .0 in let N = handed-node (s .pre .1 .0) ((c .before .before .before .before .before .before .before .part) .ensures) in let K = s .pre .1 .1 in let w = node-kind N _ ((c .before .before .before .before .before .before .word) .ensures .0) in integers-end (s .pre .1 .0) K (w ∙ ((c .before .before .before .before .before .match) .keys3)) (omega arith) ((c .before .before .before .integers-rule) .kept .0) ((c .before .before .before .integers-rule) .ensures _) ((c .visit-at2) .ensures)
 
 expr-same-length-5 : (t : ℕ) → expr-lts.Need-same-length-5 (expr-calls t) (expr-at t) expr.Post
 expr-same-length-5 t c = search needs
@@ -90,7 +99,7 @@ expr-same-length-6 : (t : ℕ) → expr-lts.Need-same-length-6 (expr-calls t) (e
 expr-same-length-6 t c = search needs
 
 expr-returns-4 : (t : ℕ) → expr-lts.Need-returns-4 (expr-calls t) (expr-at t) expr.Post
-expr-returns-4 t c = ?
+expr-returns-4 t c = (c .before .before .before .before .power) .ensures
 
 expr-same-length-7 : (t : ℕ) → expr-lts.Need-same-length-7 (expr-calls t) (expr-at t) expr.Post
 expr-same-length-7 t c = search needs
@@ -99,7 +108,7 @@ expr-same-length-8 : (t : ℕ) → expr-lts.Need-same-length-8 (expr-calls t) (e
 expr-same-length-8 t c = search needs
 
 expr-returns-5 : (t : ℕ) → expr-lts.Need-returns-5 (expr-calls t) (expr-at t) expr.Post
-expr-returns-5 t c = ?
+expr-returns-5 t c = (c .before .before .before .before .apply) .ensures
 
 expr-same-length-9 : (t : ℕ) → expr-lts.Need-same-length-9 (expr-calls t) (expr-at t) expr.Post
 expr-same-length-9 t c = search needs
@@ -108,7 +117,7 @@ expr-same-length-10 : (t : ℕ) → expr-lts.Need-same-length-10 (expr-calls t) 
 expr-same-length-10 t c = search needs
 
 expr-returns-6 : (t : ℕ) → expr-lts.Need-returns-6 (expr-calls t) (expr-at t) expr.Post
-expr-returns-6 t c = ?
+expr-returns-6 t c = (c .before .before .before .before .select) .ensures
 
 expr-same-length-11 : (t : ℕ) → expr-lts.Need-same-length-11 (expr-calls t) (expr-at t) expr.Post
 expr-same-length-11 t c = search needs
@@ -117,7 +126,7 @@ expr-same-length-12 : (t : ℕ) → expr-lts.Need-same-length-12 (expr-calls t) 
 expr-same-length-12 t c = search needs
 
 expr-returns-7 : (t : ℕ) → expr-lts.Need-returns-7 (expr-calls t) (expr-at t) expr.Post
-expr-returns-7 t c = ?
+expr-returns-7 t c = let s = (c .before .before .before .before .before .before .before .before .before .before .before .before .before .before .before .before .before) in let y = s .pre .0 in let N = handed-node (s .pre .1 .0) ((c .before .before .before .before .before .before .before .before .before .before .before .before .part) .ensures) in let K = s .pre .1 .1 in let w = node-kind N _ ((c .before .before .before .before .before .before .before .before .before .before .before .word) .ensures .0) in let i = node-word N 1 _ ((c .before .before .before .before .before .before .before .word2) .ensures .0) in let j = node-word N 2 _ ((c .before .before .before .before .before .before .word3) .ensures .0) in theta-end (s .pre .1 .0) K (w ∙ ((c .before .before .before .before .before .before .before .before .before .before .match) .keys7)) _ _ i j ((c .before .before .before .before .before .theta-rule) .kept .0) ((c .before .before .before .before .before .theta-rule) .kept .1 .1 .0) ((c .before .before .before .before .before .theta-rule) .ensures) ((c .visit-at3) .ensures)
 
 expr-same-length-13 : (t : ℕ) → expr-lts.Need-same-length-13 (expr-calls t) (expr-at t) expr.Post
 expr-same-length-13 t c = search needs
@@ -126,7 +135,7 @@ expr-same-length-14 : (t : ℕ) → expr-lts.Need-same-length-14 (expr-calls t) 
 expr-same-length-14 t c = search needs
 
 expr-returns-8 : (t : ℕ) → expr-lts.Need-returns-8 (expr-calls t) (expr-at t) expr.Post
-expr-returns-8 t c = ?
+expr-returns-8 t c = (c .before .before .before .before .sset) .ensures
 
 expr-same-length-15 : (t : ℕ) → expr-lts.Need-same-length-15 (expr-calls t) (expr-at t) expr.Post
 expr-same-length-15 t c = search needs
@@ -135,7 +144,7 @@ expr-same-length-16 : (t : ℕ) → expr-lts.Need-same-length-16 (expr-calls t) 
 expr-same-length-16 t c = search needs
 
 expr-returns-9 : (t : ℕ) → expr-lts.Need-returns-9 (expr-calls t) (expr-at t) expr.Post
-expr-returns-9 t c = ?
+expr-returns-9 t c = (c .before .before .before .before .group) .ensures
 
 expr-same-length-17 : (t : ℕ) → expr-lts.Need-same-length-17 (expr-calls t) (expr-at t) expr.Post
 expr-same-length-17 t c = search needs
@@ -144,7 +153,7 @@ expr-same-length-18 : (t : ℕ) → expr-lts.Need-same-length-18 (expr-calls t) 
 expr-same-length-18 t c = search needs
 
 expr-returns-10 : (t : ℕ) → expr-lts.Need-returns-10 (expr-calls t) (expr-at t) expr.Post
-expr-returns-10 t c = ?
+expr-returns-10 t c = (c .before .before .before .before .arith) .ensures
 
 expr-same-length-19 : (t : ℕ) → expr-lts.Need-same-length-19 (expr-calls t) (expr-at t) expr.Post
 expr-same-length-19 t c = search needs
@@ -153,7 +162,7 @@ expr-same-length-20 : (t : ℕ) → expr-lts.Need-same-length-20 (expr-calls t) 
 expr-same-length-20 t c = search needs
 
 expr-returns-11 : (t : ℕ) → expr-lts.Need-returns-11 (expr-calls t) (expr-at t) expr.Post
-expr-returns-11 t c = ?
+expr-returns-11 t c = (c .before .before .before .before .compr) .ensures
 
 pub expr-closed : {M : Type 1} (t : ℕ) → expr-lts.Closed (expr-calls t) (expr-at t) expr.Post M
 expr-closed t =
