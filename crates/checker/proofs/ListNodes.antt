@@ -14,8 +14,8 @@ use Rattle.layout.specs.Layout.{part}
 use Rattle.syntax.specs.Decode.{exprAt, exprsFrom, membersOf}
 use Rattle.syntax.specs.Kinds.{expressions, cell, table, columns}
 use Rattle.syntax.specs.Nodes.{kindAt, operandAt}
-use Rattle.syntax.specs.Promise.{At, Lower}
-use Rattle.syntax.specs.Tree.{Expr, Exprs, none, more, reference, exprsLength}
+use Rattle.syntax.specs.Promise.{Lower}
+use Rattle.syntax.specs.Tree.{Exprs, more, reference, exprsLength}
 use Rattle.syntax.proofs.TreeCounts.{at-least, at-most}
 use Rattle.syntax.proofs.TreeExpr.{expr-reference, expr-members}
 use Rattle.syntax.proofs.TreeShape.{all-at, _▹_}

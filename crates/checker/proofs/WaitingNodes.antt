@@ -1,5 +1,5 @@
 -- Comprehension, SchemaSet and the expressions without operands, at nodes.
-use mathlib.Core.Path.{_≡_, refl, sym, ap, subst, _∙_}
+use mathlib.Core.Path.{_≡_, sym, ap, subst, _∙_}
 use mathlib.Core.Bool.{false}
 use mathlib.Core.List.{List, [], _∷_}
 use Prim.Native.Nat.{ℕ, _+_, _*_, _-_, _≤_, _<_, _^_}
@@ -9,7 +9,7 @@ use Rattle.syntax.specs.Decode.{exprAt, textAt, includeAt}
 use Rattle.syntax.specs.Kinds.{expressions, texts, includes}
 use Rattle.syntax.specs.Nodes.{kindAt, operandAt}
 use Rattle.syntax.specs.Promise.{At, Lower}
-use Rattle.syntax.specs.Tree.{Expr, comprehension, schemaSet, number, integers, theta}
+use Rattle.syntax.specs.Tree.{comprehension, schemaSet, number, integers, theta}
 use Rattle.syntax.proofs.TreeExpr.{expr-number, expr-integers, expr-theta, expr-schemaSet, expr-comprehension}
 use Rattle.syntax.proofs.TreeWords.{theta-words}
 use Rattle.solver.specs.Written.{Wrote}

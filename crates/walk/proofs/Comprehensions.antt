@@ -1,42 +1,40 @@
 -- Comprehension: its piece waits while the Text is visited; the body is of the piece around it, in the scope that the Text makes (R15).
-use mathlib.Core.Path.{_≡_, refl, subst, _∙_}
+use mathlib.Core.Path.{_≡_, refl, subst}
 use mathlib.Core.Bool.{false}
 use mathlib.Core.List.{List, [], _∷_, _++_, append-assoc}
-use Prim.Native.Nat.{ℕ, zero, suc, _+_, _*_, _-_, _≤_, _<_, _^_}
+use Prim.Native.Nat.{ℕ, suc, _+_, _*_, _-_, _≤_, _<_, _^_}
 use native.Mathlib.Omega.{arith}
 use lib.ListN.{length, length-append}
 use Rattle.syntax.specs.Limited.{LimitedExpr}
 use Rattle.syntax.specs.Tree.{Expr, comprehension, Pred, truth, equal, member, atMost, not, connected, quantified, Text, text, exprNode}
 use Rattle.syntax.specs.TreeNumbers.{exprNumbers, predNumbers, textNumbers, linesNumbers}
-use Rattle.types.specs.Equations.{In}
-use Rattle.types.specs.Types.{Term, nil, cons}
+use Rattle.types.specs.Types.{nil, cons}
 use Rattle.typing.proofs.OwnUnknowns.{text-agrees}
-use Rattle.typing.specs.Conditions.{typeOf, typed}
+use Rattle.typing.specs.Conditions.{typeOf}
 use Rattle.typing.specs.Dictionary.{Dictionary, blank}
-use Rattle.typing.specs.Items.{Items, _⨾_, Meets, Refuses}
+use Rattle.typing.specs.Items.{Items, _⨾_}
 use Rattle.typing.specs.Rules.{exprItems, textItems}
 use Rattle.typing.specs.Scopes.{Scope, inside}
-use Rattle.typing.specs.Unknowns.{Table, slot, powerOf}
+use Rattle.typing.specs.Unknowns.{slot}
 use Rattle.solver.specs.Settled.{lower}
 use Rattle.solver.specs.Written.{Wrote}
 use Rattle.signatures.specs.Rows.{stack}
 use Rattle.signatures.proofs.ScopeLaws.{stacked-other}
 use Rattle.instances.specs.Moved.{saved, restored}
-use Rattle.pieces.specs.Piece.{Steady, Walked}
 use Rattle.pieces.specs.Stage.{Ghost, Cell}
 use Rattle.pieces.specs.Building.{Building}
 use Rattle.pieces.proofs.Stages.{building, one-cell, placed-cell}
 use Rattle.rules.specs.Formers.{Derived, comprehensionItems}
 use Rattle.names.specs.Scoped.{SettledAt, Scoped}
 use Rattle.names.proofs.Standing.{settled-kept}
-use Rattle.walk.specs.Visits.{Owned, Fresh, idle, Spared, globalsIf}
-use Rattle.walk.specs.Expressions.{Visiting, Visited, ExprAsk, ExprDone}
+use Rattle.walk.specs.Visits.{Owned, Spared, globalsIf}
+use Rattle.walk.specs.Expressions.{Visiting, ExprAsk, ExprDone}
 use Rattle.walk.specs.Texts.{TextAsk, TextDone}
-use Rattle.walk.specs.Parts.{Fact, nothing, Step, Part, Ending}
+use Rattle.walk.specs.Parts.{Fact, nothing, Part, Ending}
 use Rattle.walk.proofs.Nodes.{fresh-left, once-left}
 use Rattle.walk.proofs.Rooms.{inside-part, inside-rows}
 use Rattle.walk.proofs.Scopes.{scoped-later, spared-less}
-use Rattle.walk.proofs.Visiting.{visiting-part, visiting-low}
+use Rattle.walk.proofs.Visiting.{visiting-low}
 use Rattle.walk.proofs.Parts.{part-then, part-stops, part-next, part-leaves}
 use Rattle.walk.proofs.Operands.{expr-done, derived-ending}
 use Rattle.walk.proofs.Expressions.{node-room}

@@ -1,8 +1,8 @@
 -- SchemaSet: its piece waits while the Include is visited; then its type is the power of the binding.
-use mathlib.Core.Path.{_≡_, refl, subst, _∙_}
+use mathlib.Core.Path.{_≡_, refl}
 use mathlib.Core.List.{List, [], _∷_, _++_}
 use mathlib.Core.Logic.{_↔_, inl, inr}
-use Prim.Native.Nat.{ℕ, zero, suc, _+_, _*_, _-_, _≤_, _<_, _^_}
+use Prim.Native.Nat.{ℕ, suc, _+_, _*_, _-_, _≤_, _<_, _^_}
 use native.Mathlib.Omega.{arith}
 use lib.ListN.{length, length-append}
 use Rattle.syntax.specs.Limited.{LimitedExpr}
@@ -15,7 +15,7 @@ use Rattle.typing.proofs.ItemLaws.{passes-ext, refuses-ext}
 use Rattle.typing.proofs.OwnUnknowns.{schema-agrees}
 use Rattle.typing.specs.Conditions.{typed, smallTypes}
 use Rattle.typing.specs.Dictionary.{Dictionary}
-use Rattle.typing.specs.Items.{Items, skip, _⨾_, Meets, Agree, And, Passes, Refuses}
+use Rattle.typing.specs.Items.{Items, _⨾_, Meets, Agree, And, Passes, Refuses}
 use Rattle.typing.specs.Rules.{exprItems, includeItems, schemaItems}
 use Rattle.typing.specs.Scopes.{Scope, includeSignature, includeNode}
 use Rattle.typing.specs.Signatures.{Signature, bindingOf}
@@ -39,11 +39,10 @@ use Rattle.walk.specs.Visits.{Owned, Fresh, idle}
 use Rattle.walk.specs.Expressions.{Visiting, Visited, ExprAsk, ExprDone}
 use Rattle.walk.specs.Includes.{BringsAsk, BringsDone}
 use Rattle.walk.specs.Parts.{Fact, nothing, Passing, Step, Ending}
-use Rattle.walk.proofs.Nodes.{fresh-left, fresh-after}
+use Rattle.walk.proofs.Nodes.{fresh-left}
 use Rattle.walk.proofs.Scopes.{spared-refl, stored-on}
 use Rattle.walk.proofs.Visiting.{visiting-low}
 use Rattle.walk.proofs.Parts.{step-then, part-stops, rule-ending}
-use Rattle.walk.proofs.Operands.{expr-done}
 use Rattle.walk.proofs.Waiting.{save-asked, waiting, restore-asked, waiting-stops, waiting-step, taken-low, taken-uses}
 
 -- ITEMS GROUPED OTHERWISE.

@@ -1,33 +1,18 @@
 -- The answers of `compr`.
 use borrow.Author.Needs.{needs}
-use Prim.Native.Nat.{_+_, _*_, _-_}
-use Prim.Native.Nat.{ℕ, _<_}
-use borrow.Fn.Kinds.{In}
-use borrow.Fn.PlainCycle.{Measures, is, falls, and}
+use Prim.Native.Nat.{ℕ}
 use Rattle.checker.proofs.nodes.compr.Reads as compr
 use Rattle.checker.proofs.nodes.+actuals+apply+arith+brings+compr+conn+decl+expr+group+incl+include+line+lines+opers+power+pred+quant+refer+rel+select+sset+text.Lts-compr as compr-lts
 use Rattle.checker.proofs.nodes.+actuals+apply+arith+brings+compr+conn+decl+expr+group+incl+include+line+lines+opers+power+pred+quant+refer+rel+select+sset+text.Proof.Env.{compr-at, compr-calls}
-use mathlib.Core.Path.{_≡_, refl, _∙_}
+use mathlib.Core.Path.{refl, _∙_}
 use native.Mathlib.Omega.{arith}
 use Rattle.checker.proofs.WaitingNodes.{compr-node, compr-save, compr-text, compr-stop, compr-restore, compr-rows, compr-body, compr-then-stop, compr-rule, compr-end}
 
 compr-save-requires : (t : ℕ) → compr-lts.Need-save-requires (compr-calls t) (compr-at t) compr.Post
 compr-save-requires t c κs = let s = (c .before .before .before .before .before .before .before) in let N = s .pre .1 .0 in let K = s .pre .1 .2 in let O = compr-node N (s .pre .1 .1) _ refl _ refl in compr-save O K
 
-compr-word-requires : (t : ℕ) → compr-lts.Need-word-requires (compr-calls t) (compr-at t) compr.Post
-compr-word-requires t c κs = search needs
-
 compr-text-requires : (t : ℕ) → compr-lts.Need-text-requires (compr-calls t) (compr-at t) compr.Post
 compr-text-requires t c κs = let s = (c .before .before .before .before .before .before .before .before .before .before .before .before .before) in let N = s .pre .1 .0 in let K = s .pre .1 .2 in let O = compr-node N (s .pre .1 .1) _ ((c .word) .ensures .0) _ refl in let x = O .text .below in let y = s .pre .0 in (omega arith, (O .text .at, compr-text O K ((c .before .before .before .before .before .save) .ensures)))
-
-compr-unvisited-requires : (t : ℕ) → compr-lts.Need-unvisited-requires (compr-calls t) (compr-at t) compr.Post
-compr-unvisited-requires t c κs = search needs
-
-compr-same-length : (t : ℕ) → compr-lts.Need-same-length (compr-calls t) (compr-at t) compr.Post
-compr-same-length t c = search needs
-
-compr-same-length-2 : (t : ℕ) → compr-lts.Need-same-length-2 (compr-calls t) (compr-at t) compr.Post
-compr-same-length-2 t c = search needs
 
 compr-returns : (t : ℕ) → compr-lts.Need-returns (compr-calls t) (compr-at t) compr.Post
 compr-returns t c = let s = (c .before .before .before .before .before .before .before .before .before .before .before .before .before .before .before .before .before .before .before .before .before) in let N = s .pre .1 .0 in let K = s .pre .1 .2 in let O = compr-node N (s .pre .1 .1) _ ((c .before .before .before .before .before .before .before .before .word) .ensures .0) _ refl in compr-stop O K ((c .before .before .before .before .before .before .before .before .before .before .before .before .before .save) .ensures) ((c .before .before .before .before .before .before .before .text) .ensures) ((c .before .if1) .taken) ((c .unvisited) .ensures)
@@ -37,9 +22,6 @@ compr-restore-requires t c κs = let s = (c .before .before .before .before .bef
 
 compr-add-expr : (t : ℕ) → compr-lts.Need-add-expr (compr-calls t) (compr-at t) compr.Post
 compr-add-expr t c = let s = (c .before .before .before .before .before .before .before .before .before .before .before .before .before .before .before .before .before .before .before .before .before .before .before .before .before .before .before .before) in let N = s .pre .1 .0 in let K = s .pre .1 .2 in let O = compr-node N (s .pre .1 .1) _ ((c .before .before .before .before .before .before .before .before .before .before .before .before .before .before .before .word) .ensures .0) _ refl in let x = compr-rows O K ((c .before .before .before .before .before .before .before .before .before .before .before .before .before .before .before .before .before .before .before .before .save) .ensures) ((c .before .before .before .before .before .before .before .before .before .before .before .before .before .before .text) .ensures) ((c .before .before .before .before .before .before .before .before .if1) .left) in omega arith
-
-compr-word-requires-2 : (t : ℕ) → compr-lts.Need-word-requires-2 (compr-calls t) (compr-at t) compr.Post
-compr-word-requires-2 t c κs = search needs
 
 compr-expr-requires : (t : ℕ) → compr-lts.Need-expr-requires (compr-calls t) (compr-at t) compr.Post
 compr-expr-requires t c κs = let s = (c .before .before .before .before .before .before .before .before .before .before .before .before .before .before .before .before .before .before .before .before .before .before .before .before .before .before .before .before .before) in let N = s .pre .1 .0 in let K = s .pre .1 .2 in let O = compr-node N (s .pre .1 .1) _ ((c .before .before .before .before .before .before .before .before .before .before .before .before .before .before .before .before .word) .ensures .0) _ ((c .word2) .ensures .0) in let x = O .body .below in let y = s .pre .0 in (omega arith, (O .body .at, compr-body O K ((c .before .before .before .before .before .before .before .before .before .before .before .before .before .before .before .before .before .before .before .before .before .save) .ensures) ((c .before .before .before .before .before .before .before .before .before .before .before .before .before .before .before .text) .ensures) ((c .before .before .before .before .before .before .before .before .before .if1) .left) ((c .before .before .before .before .before .before .restore) .ensures)))
@@ -72,15 +54,15 @@ pub compr-closed : {M : Type 1} (t : ℕ) → compr-lts.Closed (compr-calls t) (
 compr-closed t =
     compr-lts.spec (compr-calls t) (compr-at t) compr.Post
     (compr-save-requires t)
-    (compr-word-requires t)
+    (λ c κs. search needs)
     (compr-text-requires t)
-    (compr-unvisited-requires t)
-    (compr-same-length t)
-    (compr-same-length-2 t)
+    (λ c κs. search needs)
+    (λ c. search needs)
+    (λ c. search needs)
     (compr-returns t)
     (compr-restore-requires t)
     (compr-add-expr t)
-    (compr-word-requires-2 t)
+    (λ c κs. search needs)
     (compr-expr-requires t)
     (compr-same-length-3 t)
     (compr-same-length-4 t)

@@ -1,13 +1,10 @@
 -- The answers of `expr`.
 use borrow.Author.Needs.{needs}
-use Prim.Native.Nat.{_+_, _*_, _-_}
-use Prim.Native.Nat.{ℕ, _<_}
-use borrow.Fn.Kinds.{In}
-use borrow.Fn.PlainCycle.{Measures, is, falls, and}
+use Prim.Native.Nat.{ℕ}
 use Rattle.checker.proofs.nodes.expr.Reads as expr
 use Rattle.checker.proofs.nodes.+actuals+apply+arith+brings+compr+conn+decl+expr+group+incl+include+line+lines+opers+power+pred+quant+refer+rel+select+sset+text.Lts-expr as expr-lts
 use Rattle.checker.proofs.nodes.+actuals+apply+arith+brings+compr+conn+decl+expr+group+incl+include+line+lines+opers+power+pred+quant+refer+rel+select+sset+text.Proof.Env.{expr-at, expr-calls}
-use mathlib.Core.Path.{_≡_, refl, sym, ap, _∙_}
+use mathlib.Core.Path.{_∙_}
 use mathlib.Core.Logic.{⊎-elim}
 use native.Mathlib.Omega.{arith}
 use Rattle.syntax.proofs.TreeExpr.{expr-range}
@@ -16,12 +13,6 @@ use Rattle.checker.proofs.ListNodes.{node-kind}
 use Rattle.checker.proofs.WaitingNodes.{number-rule, number-end, integers-rule, integers-end, theta-asked, theta-end}
 use Rattle.checker.proofs.ExprNodes.{node-word}
 use Rattle.checker.proofs.ExprNodes.{last-kind-low, last-kind}
-
-expr-part-requires : (t : ℕ) → expr-lts.Need-part-requires (expr-calls t) (expr-at t) expr.Post
-expr-part-requires t c κs = search needs
-
-expr-word-requires : (t : ℕ) → expr-lts.Need-word-requires (expr-calls t) (expr-at t) expr.Post
-expr-word-requires t c κs = search needs
 
 expr-refer-requires : (t : ℕ) → expr-lts.Need-refer-requires (expr-calls t) (expr-at t) expr.Post
 expr-refer-requires t c κs = let s = (c .before .before .before .before .before .before .before .before .before) in let y = s .pre .0 in let N = handed-node (s .pre .1 .0) ((c .before .before .before .before .part) .ensures) in let K = s .pre .1 .1 in let w = node-kind N _ ((c .before .before .before .word) .ensures .0) in (omega arith, (N, w ∙ ((c .before .before .match) .keys1), K))
@@ -47,12 +38,6 @@ expr-apply-requires t c κs = let s = (c .before .before .before .before .before
 expr-select-requires : (t : ℕ) → expr-lts.Need-select-requires (expr-calls t) (expr-at t) expr.Post
 expr-select-requires t c κs = let s = (c .before .before .before .before .before .before .before .before .before) in let y = s .pre .0 in let N = handed-node (s .pre .1 .0) ((c .before .before .before .before .part) .ensures) in let K = s .pre .1 .1 in let w = node-kind N _ ((c .before .before .before .word) .ensures .0) in (omega arith, (N, w ∙ ((c .before .before .match) .keys6), K))
 
-expr-word-requires-2 : (t : ℕ) → expr-lts.Need-word-requires-2 (expr-calls t) (expr-at t) expr.Post
-expr-word-requires-2 t c κs = search needs
-
-expr-word-requires-3 : (t : ℕ) → expr-lts.Need-word-requires-3 (expr-calls t) (expr-at t) expr.Post
-expr-word-requires-3 t c κs = search needs
-
 expr-theta-rule-requires : (t : ℕ) → expr-lts.Need-theta-rule-requires (expr-calls t) (expr-at t) expr.Post
 expr-theta-rule-requires t c κs = let s = (c .before .before .before .before .before .before .before .before .before .before .before) in let y = s .pre .0 in let N = handed-node (s .pre .1 .0) ((c .before .before .before .before .before .before .part) .ensures) in let K = s .pre .1 .1 in let w = node-kind N _ ((c .before .before .before .before .before .word) .ensures .0) in let i = node-word N 1 _ ((c .before .word2) .ensures .0) in let j = node-word N 2 _ ((c .word3) .ensures .0) in theta-asked (s .pre .1 .0) K (w ∙ ((c .before .before .before .before .match) .keys7)) _ _ i j
 
@@ -71,95 +56,35 @@ expr-arith-requires t c κs = let s = (c .before .before .before .before .before
 expr-compr-requires : (t : ℕ) → expr-lts.Need-compr-requires (expr-calls t) (expr-at t) expr.Post
 expr-compr-requires t c κs = let s = (c .before .before .before .before .before .before .before .before .before .before) in let y = s .pre .0 in let N = handed-node (s .pre .1 .0) ((c .before .before .before .before .before .part) .ensures) in let K = s .pre .1 .1 in let w = node-kind N _ ((c .before .before .before .before .word) .ensures .0) in let r = expr-range _ _ (s .pre .1 .0) in let k = ⊎-elim (λ z. let u = z .taken in last-kind-low (r .0) w u) (λ z. last-kind (r .1) w (z .2 .left)) ((c .before .before .if1) .came) in (omega arith, (N, k, K))
 
-expr-same-length : (t : ℕ) → expr-lts.Need-same-length (expr-calls t) (expr-at t) expr.Post
-expr-same-length t c = search needs
-
-expr-same-length-2 : (t : ℕ) → expr-lts.Need-same-length-2 (expr-calls t) (expr-at t) expr.Post
-expr-same-length-2 t c = search needs
-
 expr-returns : (t : ℕ) → expr-lts.Need-returns (expr-calls t) (expr-at t) expr.Post
 expr-returns t c = (c .before .before .before .before .refer) .ensures
-
-expr-same-length-3 : (t : ℕ) → expr-lts.Need-same-length-3 (expr-calls t) (expr-at t) expr.Post
-expr-same-length-3 t c = search needs
 
 expr-returns-2 : (t : ℕ) → expr-lts.Need-returns-2 (expr-calls t) (expr-at t) expr.Post
 expr-returns-2 t c = let s = (c .before .before .before .before .before .before .before .before .before .before .before .before) in let y = s .pre .0 in let N = handed-node (s .pre .1 .0) ((c .before .before .before .before .before .before .before .part) .ensures) in let K = s .pre .1 .1 in let w = node-kind N _ ((c .before .before .before .before .before .before .word) .ensures .0) in number-end (s .pre .1 .0) K (w ∙ ((c .before .before .before .before .before .match) .keys2)) (omega arith) ((c .before .before .before .number-rule) .kept .0) ((c .before .before .before .number-rule) .ensures _) ((c .visit-at) .ensures)
 
-expr-same-length-4 : (t : ℕ) → expr-lts.Need-same-length-4 (expr-calls t) (expr-at t) expr.Post
-expr-same-length-4 t c = search needs
-
 expr-returns-3 : (t : ℕ) → expr-lts.Need-returns-3 (expr-calls t) (expr-at t) expr.Post
 expr-returns-3 t c = let s = (c .before .before .before .before .before .before .before .before .before .before .before .before) in let y = s .pre .0 in let N = handed-node (s .pre .1 .0) ((c .before .before .before .before .before .before .before .part) .ensures) in let K = s .pre .1 .1 in let w = node-kind N _ ((c .before .before .before .before .before .before .word) .ensures .0) in integers-end (s .pre .1 .0) K (w ∙ ((c .before .before .before .before .before .match) .keys3)) (omega arith) ((c .before .before .before .integers-rule) .kept .0) ((c .before .before .before .integers-rule) .ensures _) ((c .visit-at2) .ensures)
-
-expr-same-length-5 : (t : ℕ) → expr-lts.Need-same-length-5 (expr-calls t) (expr-at t) expr.Post
-expr-same-length-5 t c = search needs
-
-expr-same-length-6 : (t : ℕ) → expr-lts.Need-same-length-6 (expr-calls t) (expr-at t) expr.Post
-expr-same-length-6 t c = search needs
 
 expr-returns-4 : (t : ℕ) → expr-lts.Need-returns-4 (expr-calls t) (expr-at t) expr.Post
 expr-returns-4 t c = (c .before .before .before .before .power) .ensures
 
-expr-same-length-7 : (t : ℕ) → expr-lts.Need-same-length-7 (expr-calls t) (expr-at t) expr.Post
-expr-same-length-7 t c = search needs
-
-expr-same-length-8 : (t : ℕ) → expr-lts.Need-same-length-8 (expr-calls t) (expr-at t) expr.Post
-expr-same-length-8 t c = search needs
-
 expr-returns-5 : (t : ℕ) → expr-lts.Need-returns-5 (expr-calls t) (expr-at t) expr.Post
 expr-returns-5 t c = (c .before .before .before .before .apply) .ensures
-
-expr-same-length-9 : (t : ℕ) → expr-lts.Need-same-length-9 (expr-calls t) (expr-at t) expr.Post
-expr-same-length-9 t c = search needs
-
-expr-same-length-10 : (t : ℕ) → expr-lts.Need-same-length-10 (expr-calls t) (expr-at t) expr.Post
-expr-same-length-10 t c = search needs
 
 expr-returns-6 : (t : ℕ) → expr-lts.Need-returns-6 (expr-calls t) (expr-at t) expr.Post
 expr-returns-6 t c = (c .before .before .before .before .select) .ensures
 
-expr-same-length-11 : (t : ℕ) → expr-lts.Need-same-length-11 (expr-calls t) (expr-at t) expr.Post
-expr-same-length-11 t c = search needs
-
-expr-same-length-12 : (t : ℕ) → expr-lts.Need-same-length-12 (expr-calls t) (expr-at t) expr.Post
-expr-same-length-12 t c = search needs
-
 expr-returns-7 : (t : ℕ) → expr-lts.Need-returns-7 (expr-calls t) (expr-at t) expr.Post
 expr-returns-7 t c = let s = (c .before .before .before .before .before .before .before .before .before .before .before .before .before .before .before .before .before) in let y = s .pre .0 in let N = handed-node (s .pre .1 .0) ((c .before .before .before .before .before .before .before .before .before .before .before .before .part) .ensures) in let K = s .pre .1 .1 in let w = node-kind N _ ((c .before .before .before .before .before .before .before .before .before .before .before .word) .ensures .0) in let i = node-word N 1 _ ((c .before .before .before .before .before .before .before .word2) .ensures .0) in let j = node-word N 2 _ ((c .before .before .before .before .before .before .word3) .ensures .0) in theta-end (s .pre .1 .0) K (w ∙ ((c .before .before .before .before .before .before .before .before .before .before .match) .keys7)) _ _ i j ((c .before .before .before .before .before .theta-rule) .kept .0) ((c .before .before .before .before .before .theta-rule) .kept .1 .1 .0) ((c .before .before .before .before .before .theta-rule) .ensures) ((c .visit-at3) .ensures)
-
-expr-same-length-13 : (t : ℕ) → expr-lts.Need-same-length-13 (expr-calls t) (expr-at t) expr.Post
-expr-same-length-13 t c = search needs
-
-expr-same-length-14 : (t : ℕ) → expr-lts.Need-same-length-14 (expr-calls t) (expr-at t) expr.Post
-expr-same-length-14 t c = search needs
 
 expr-returns-8 : (t : ℕ) → expr-lts.Need-returns-8 (expr-calls t) (expr-at t) expr.Post
 expr-returns-8 t c = (c .before .before .before .before .sset) .ensures
 
-expr-same-length-15 : (t : ℕ) → expr-lts.Need-same-length-15 (expr-calls t) (expr-at t) expr.Post
-expr-same-length-15 t c = search needs
-
-expr-same-length-16 : (t : ℕ) → expr-lts.Need-same-length-16 (expr-calls t) (expr-at t) expr.Post
-expr-same-length-16 t c = search needs
-
 expr-returns-9 : (t : ℕ) → expr-lts.Need-returns-9 (expr-calls t) (expr-at t) expr.Post
 expr-returns-9 t c = (c .before .before .before .before .group) .ensures
 
-expr-same-length-17 : (t : ℕ) → expr-lts.Need-same-length-17 (expr-calls t) (expr-at t) expr.Post
-expr-same-length-17 t c = search needs
-
-expr-same-length-18 : (t : ℕ) → expr-lts.Need-same-length-18 (expr-calls t) (expr-at t) expr.Post
-expr-same-length-18 t c = search needs
-
 expr-returns-10 : (t : ℕ) → expr-lts.Need-returns-10 (expr-calls t) (expr-at t) expr.Post
 expr-returns-10 t c = (c .before .before .before .before .arith) .ensures
-
-expr-same-length-19 : (t : ℕ) → expr-lts.Need-same-length-19 (expr-calls t) (expr-at t) expr.Post
-expr-same-length-19 t c = search needs
-
-expr-same-length-20 : (t : ℕ) → expr-lts.Need-same-length-20 (expr-calls t) (expr-at t) expr.Post
-expr-same-length-20 t c = search needs
 
 expr-returns-11 : (t : ℕ) → expr-lts.Need-returns-11 (expr-calls t) (expr-at t) expr.Post
 expr-returns-11 t c = (c .before .before .before .before .compr) .ensures
@@ -167,8 +92,8 @@ expr-returns-11 t c = (c .before .before .before .before .compr) .ensures
 pub expr-closed : {M : Type 1} (t : ℕ) → expr-lts.Closed (expr-calls t) (expr-at t) expr.Post M
 expr-closed t =
     expr-lts.spec (expr-calls t) (expr-at t) expr.Post
-    (expr-part-requires t)
-    (expr-word-requires t)
+    (λ c κs. search needs)
+    (λ c κs. search needs)
     (expr-refer-requires t)
     (expr-number-rule-requires t)
     (expr-visit-at-requires t)
@@ -177,42 +102,42 @@ expr-closed t =
     (expr-power-requires t)
     (expr-apply-requires t)
     (expr-select-requires t)
-    (expr-word-requires-2 t)
-    (expr-word-requires-3 t)
+    (λ c κs. search needs)
+    (λ c κs. search needs)
     (expr-theta-rule-requires t)
     (expr-visit-at-requires-3 t)
     (expr-sset-requires t)
     (expr-group-requires t)
     (expr-arith-requires t)
     (expr-compr-requires t)
-    (expr-same-length t)
-    (expr-same-length-2 t)
+    (λ c. search needs)
+    (λ c. search needs)
     (expr-returns t)
-    (expr-same-length-3 t)
+    (λ c. search needs)
     (expr-returns-2 t)
-    (expr-same-length-4 t)
+    (λ c. search needs)
     (expr-returns-3 t)
-    (expr-same-length-5 t)
-    (expr-same-length-6 t)
+    (λ c. search needs)
+    (λ c. search needs)
     (expr-returns-4 t)
-    (expr-same-length-7 t)
-    (expr-same-length-8 t)
+    (λ c. search needs)
+    (λ c. search needs)
     (expr-returns-5 t)
-    (expr-same-length-9 t)
-    (expr-same-length-10 t)
+    (λ c. search needs)
+    (λ c. search needs)
     (expr-returns-6 t)
-    (expr-same-length-11 t)
-    (expr-same-length-12 t)
+    (λ c. search needs)
+    (λ c. search needs)
     (expr-returns-7 t)
-    (expr-same-length-13 t)
-    (expr-same-length-14 t)
+    (λ c. search needs)
+    (λ c. search needs)
     (expr-returns-8 t)
-    (expr-same-length-15 t)
-    (expr-same-length-16 t)
+    (λ c. search needs)
+    (λ c. search needs)
     (expr-returns-9 t)
-    (expr-same-length-17 t)
-    (expr-same-length-18 t)
+    (λ c. search needs)
+    (λ c. search needs)
     (expr-returns-10 t)
-    (expr-same-length-19 t)
-    (expr-same-length-20 t)
+    (λ c. search needs)
+    (λ c. search needs)
     (expr-returns-11 t)

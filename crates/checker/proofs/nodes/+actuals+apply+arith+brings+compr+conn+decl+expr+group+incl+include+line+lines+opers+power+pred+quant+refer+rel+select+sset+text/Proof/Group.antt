@@ -1,16 +1,11 @@
 -- The answers of `group`.
 use borrow.Author.Needs.{needs}
-use Prim.Native.Nat.{_+_, _*_, _-_}
-use Prim.Native.Nat.{ℕ, _<_}
-use borrow.Fn.Kinds.{In}
-use borrow.Fn.PlainCycle.{Measures, is, falls, and}
+use Prim.Native.Nat.{ℕ}
 use Rattle.checker.proofs.nodes.group.Reads as group
 use Rattle.checker.proofs.nodes.+actuals+apply+arith+brings+compr+conn+decl+expr+group+incl+include+line+lines+opers+power+pred+quant+refer+rel+select+sset+text.Lts-group as group-lts
 use Rattle.checker.proofs.nodes.+actuals+apply+arith+brings+compr+conn+decl+expr+group+incl+include+line+lines+opers+power+pred+quant+refer+rel+select+sset+text.Proof.Env.{group-at, group-calls}
-use mathlib.Core.Path.{_≡_, refl, sym, ap, _∙_}
-use mathlib.Core.List.{List}
+use mathlib.Core.Path.{refl, sym, _∙_}
 use native.Mathlib.Omega.{arith}
-use lib.ListN.{getD}
 use Rattle.rules.specs.Formers.{setItems, tupleItems, productItems}
 use Rattle.checker.proofs.ListNodes.{group-any, set-node, tuple-node, product-node, node-kind, third-kind, listing-start, listing-stop, listing-size, listing-operate, listing-build, listing-end}
 
@@ -20,17 +15,8 @@ group-slice-aggregate-opers t c = refl
 group-opers-requires : (t : ℕ) → group-lts.Need-opers-requires (group-calls t) (group-at t) group.Post
 group-opers-requires t c κs = let s = (c .before .before .before .before .before .before .before .before) in let N = s .pre .1 .0 in let K = s .pre .1 .3 in let O = group-any N (s .pre .1 .1) (s .pre .1 .2) .1 in let y = s .pre .0 in (omega arith, (N, omega arith, O .lower, listing-start O K _ refl))
 
-group-same-length : (t : ℕ) → group-lts.Need-same-length (group-calls t) (group-at t) group.Post
-group-same-length t c = search needs
-
-group-same-length-2 : (t : ℕ) → group-lts.Need-same-length-2 (group-calls t) (group-at t) group.Post
-group-same-length-2 t c = search needs
-
 group-returns : (t : ℕ) → group-lts.Need-returns (group-calls t) (group-at t) group.Post
 group-returns t c = let s = (c .before .before .before .before .before .before .before .before .before .before .before .before .before .before .before .before) in let N = s .pre .1 .0 in let K = s .pre .1 .3 in let O = group-any N (s .pre .1 .1) (s .pre .1 .2) .1 in listing-stop O K _ refl ((c .before .before .before .before .before .before .before .opers) .ensures) ((c .if1) .taken)
-
-group-word-requires : (t : ℕ) → group-lts.Need-word-requires (group-calls t) (group-at t) group.Post
-group-word-requires t c κs = search needs
 
 group-sub-m : (t : ℕ) → group-lts.Need-sub-m (group-calls t) (group-at t) group.Post
 group-sub-m t c = let s = (c .before .before .before .before .before .before .before .before .before .before .before .before .before .before .before .before .before) in let N = s .pre .1 .0 in let K = s .pre .1 .3 in let O = group-any N (s .pre .1 .1) (s .pre .1 .2) .1 in O .some
@@ -44,12 +30,6 @@ group-set-rule-requires t c κs = let s = (c .before .before .before .before .be
 group-visit-at-requires : (t : ℕ) → group-lts.Need-visit-at-requires (group-calls t) (group-at t) group.Post
 group-visit-at-requires t c κs = let z = (c .before .before .before .before .before .before .before .before .before .before .before .before .before .before .before .before .before .before .before .before .before .before .before) .pre .1 .0 .at .small in omega arith
 
-group-same-length-3 : (t : ℕ) → group-lts.Need-same-length-3 (group-calls t) (group-at t) group.Post
-group-same-length-3 t c = search needs
-
-group-same-length-4 : (t : ℕ) → group-lts.Need-same-length-4 (group-calls t) (group-at t) group.Post
-group-same-length-4 t c = search needs
-
 group-returns-2 : (t : ℕ) → group-lts.Need-returns-2 (group-calls t) (group-at t) group.Post
 group-returns-2 t c = let s = (c .before .before .before .before .before .before .before .before .before .before .before .before .before .before .before .before .before .before .before .before .before .before .before .before) in let N = s .pre .1 .0 in let K = s .pre .1 .3 in let O = set-node N (node-kind N _ ((c .before .before .before .before .before .before .before .word) .ensures .0) ∙ ((c .before .before .before .before .before .before .if2) .taken)) in listing-end O K _ refl ((c .before .before .before .before .before .before .before .before .before .before .before .before .before .before .before .opers) .ensures) ((c .before .before .before .before .before .before .before .before .if1) .left) _ refl setItems (λ Γ. refl) (omega arith) ((c .before .before .before .set-rule) .kept .0) ((c .before .before .before .set-rule) .ensures) ((c .visit-at) .ensures)
 
@@ -61,12 +41,6 @@ group-tuple-rule-requires t c κs = let s = (c .before .before .before .before .
 
 group-visit-at-requires-2 : (t : ℕ) → group-lts.Need-visit-at-requires-2 (group-calls t) (group-at t) group.Post
 group-visit-at-requires-2 t c κs = let z = (c .before .before .before .before .before .before .before .before .before .before .before .before .before .before .before .before .before .before .before .before .before .before .before .before) .pre .1 .0 .at .small in omega arith
-
-group-same-length-5 : (t : ℕ) → group-lts.Need-same-length-5 (group-calls t) (group-at t) group.Post
-group-same-length-5 t c = search needs
-
-group-same-length-6 : (t : ℕ) → group-lts.Need-same-length-6 (group-calls t) (group-at t) group.Post
-group-same-length-6 t c = search needs
 
 group-returns-3 : (t : ℕ) → group-lts.Need-returns-3 (group-calls t) (group-at t) group.Post
 group-returns-3 t c = let s = (c .before .before .before .before .before .before .before .before .before .before .before .before .before .before .before .before .before .before .before .before .before .before .before .before .before) in let N = s .pre .1 .0 in let K = s .pre .1 .3 in let O = tuple-node N (node-kind N _ ((c .before .before .before .before .before .before .before .before .word) .ensures .0) ∙ ((c .before .before .before .before .before .before .if3) .taken)) in listing-end O K _ refl ((c .before .before .before .before .before .before .before .before .before .before .before .before .before .before .before .before .opers) .ensures) ((c .before .before .before .before .before .before .before .before .before .if1) .left) _ refl tupleItems (λ Γ. refl) (omega arith) ((c .before .before .before .tuple-rule) .kept .0) ((c .before .before .before .tuple-rule) .ensures _) ((c .visit-at2) .ensures)
@@ -80,12 +54,6 @@ group-product-rule-requires t c κs = let s = (c .before .before .before .before
 group-visit-at-requires-3 : (t : ℕ) → group-lts.Need-visit-at-requires-3 (group-calls t) (group-at t) group.Post
 group-visit-at-requires-3 t c κs = let z = (c .before .before .before .before .before .before .before .before .before .before .before .before .before .before .before .before .before .before .before .before .before .before .before .before) .pre .1 .0 .at .small in omega arith
 
-group-same-length-7 : (t : ℕ) → group-lts.Need-same-length-7 (group-calls t) (group-at t) group.Post
-group-same-length-7 t c = search needs
-
-group-same-length-8 : (t : ℕ) → group-lts.Need-same-length-8 (group-calls t) (group-at t) group.Post
-group-same-length-8 t c = search needs
-
 group-returns-4 : (t : ℕ) → group-lts.Need-returns-4 (group-calls t) (group-at t) group.Post
 group-returns-4 t c = let s = (c .before .before .before .before .before .before .before .before .before .before .before .before .before .before .before .before .before .before .before .before .before .before .before .before .before) in let N = s .pre .1 .0 in let K = s .pre .1 .3 in let O = product-node N (third-kind N _ ((c .before .before .before .before .before .before .before .before .word) .ensures .0) (s .pre .1 .1) (s .pre .1 .2) ((c .before .before .before .before .before .before .before .if2) .left) ((c .before .before .before .before .before .before .if3) .left)) in listing-end O K _ refl ((c .before .before .before .before .before .before .before .before .before .before .before .before .before .before .before .before .opers) .ensures) ((c .before .before .before .before .before .before .before .before .before .if1) .left) _ refl productItems (λ Γ. refl) (omega arith) ((c .before .before .before .product-rule) .kept .0) ((c .before .before .before .product-rule) .ensures) ((c .visit-at3) .ensures)
 
@@ -94,26 +62,26 @@ group-closed t =
     group-lts.spec (group-calls t) (group-at t) group.Post
     (group-slice-aggregate-opers t)
     (group-opers-requires t)
-    (group-same-length t)
-    (group-same-length-2 t)
+    (λ c. search needs)
+    (λ c. search needs)
     (group-returns t)
-    (group-word-requires t)
+    (λ c κs. search needs)
     (group-sub-m t)
     (group-slice-aggregate-set-rule t)
     (group-set-rule-requires t)
     (group-visit-at-requires t)
-    (group-same-length-3 t)
-    (group-same-length-4 t)
+    (λ c. search needs)
+    (λ c. search needs)
     (group-returns-2 t)
     (group-slice-aggregate-tuple-rule t)
     (group-tuple-rule-requires t)
     (group-visit-at-requires-2 t)
-    (group-same-length-5 t)
-    (group-same-length-6 t)
+    (λ c. search needs)
+    (λ c. search needs)
     (group-returns-3 t)
     (group-slice-aggregate-product-rule t)
     (group-product-rule-requires t)
     (group-visit-at-requires-3 t)
-    (group-same-length-7 t)
-    (group-same-length-8 t)
+    (λ c. search needs)
+    (λ c. search needs)
     (group-returns-4 t)

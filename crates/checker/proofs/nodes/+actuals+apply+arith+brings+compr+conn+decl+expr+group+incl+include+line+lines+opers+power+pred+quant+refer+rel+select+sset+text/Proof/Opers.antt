@@ -1,15 +1,11 @@
 -- The answers of `opers`.
 use borrow.Author.Needs.{needs}
-use Prim.Native.Nat.{_+_, _*_, _-_}
-use Prim.Native.Nat.{ℕ, _<_}
-use borrow.Fn.Kinds.{In}
-use borrow.Fn.PlainCycle.{Measures, is, falls, and}
+use Prim.Native.Nat.{ℕ}
 use Rattle.checker.proofs.nodes.opers.Reads as opers
 use Rattle.checker.proofs.nodes.+actuals+apply+arith+brings+compr+conn+decl+expr+group+incl+include+line+lines+opers+power+pred+quant+refer+rel+select+sset+text.Lts-opers as opers-lts
 use Rattle.checker.proofs.nodes.+actuals+apply+arith+brings+compr+conn+decl+expr+group+incl+include+line+lines+opers+power+pred+quant+refer+rel+select+sset+text.Proof.Env.{opers-at, opers-calls}
-use mathlib.Core.Path.{_≡_, refl, sym, subst}
+use mathlib.Core.Path.{sym, subst}
 use native.Mathlib.Omega.{arith}
-use lib.ListN.{length}
 use Rattle.syntax.specs.Kinds.{expressions}
 use Rattle.syntax.specs.Promise.{Lower}
 use Rattle.checker.proofs.ListNodes.{few-words, opers-space, opers-none, opers-start, opers-stop, opers-cell, opers-next, opers-end}
@@ -20,26 +16,14 @@ opers-visit-at-requires t c κs = let z = (c .before .before .before .before .be
 opers-returns : (t : ℕ) → opers-lts.Need-returns (opers-calls t) (opers-at t) opers.Post
 opers-returns t c = let s = (c .before .before .before .before .before .before .before .before) in let N = s .pre .1 .0 in let K = s .pre .1 .3 in opers-none N K ((c .before .if1) .taken) ((c .visit-at) .ensures)
 
-opers-word-requires : (t : ℕ) → opers-lts.Need-word-requires (opers-calls t) (opers-at t) opers.Post
-opers-word-requires t c κs = search needs
-
 opers-expr-requires : (t : ℕ) → opers-lts.Need-expr-requires (opers-calls t) (opers-at t) opers.Post
 opers-expr-requires t c κs = let s = (c .before .before .before .before .before .before .before .before .before .before) in let N = s .pre .1 .0 in let K = s .pre .1 .3 in let h = (c .before .before .before .if1) .left in let e = (c .word) .ensures .0 in let o : Lower (s .args .doc .now) (s .args .k) expressions ((c .word) .result) = subst (Lower (s .args .doc .now) (s .args .k) expressions) (sym e) (s .pre .1 .2 (s .args .i) (omega arith) h) in let b = o .below in let y = s .pre .0 in let m = few-words N in (omega arith, (o .at, opers-start N K _ e h))
-
-opers-same-length : (t : ℕ) → opers-lts.Need-same-length (opers-calls t) (opers-at t) opers.Post
-opers-same-length t c = search needs
-
-opers-same-length-2 : (t : ℕ) → opers-lts.Need-same-length-2 (opers-calls t) (opers-at t) opers.Post
-opers-same-length-2 t c = search needs
 
 opers-returns-2 : (t : ℕ) → opers-lts.Need-returns-2 (opers-calls t) (opers-at t) opers.Post
 opers-returns-2 t c = let s = (c .before .before .before .before .before .before .before .before .before .before .before .before .before .before .before .before .before) in let N = s .pre .1 .0 in let K = s .pre .1 .3 in let h = (c .before .before .before .before .before .before .before .before .before .before .if1) .left in let e = (c .before .before .before .before .before .before .before .word) .ensures .0 in opers-stop N K _ e h ((c .before .before .before .before .before .before .expr) .ensures) ((c .if2) .taken)
 
 opers-cast-store : (t : ℕ) → opers-lts.Need-cast-store (opers-calls t) (opers-at t) opers.Post
 opers-cast-store t c = let s = (c .before .before .before .before .before .before .before .before .before .before .before .before .before .before .before .before .before .before .before) in let N = s .pre .1 .0 in let K = s .pre .1 .3 in let h = (c .before .before .before .before .before .before .before .before .before .before .before .before .if1) .left in let e = (c .before .before .before .before .before .before .before .before .before .word) .ensures .0 in let z = opers-cell N K _ e h ((c .before .before .before .before .before .before .before .before .expr) .ensures) ((c .before .before .if2) .left) in omega arith
-
-opers-store-requires : (t : ℕ) → opers-lts.Need-store-requires (opers-calls t) (opers-at t) opers.Post
-opers-store-requires t c κs = search needs
 
 opers-add-opers : (t : ℕ) → opers-lts.Need-add-opers (opers-calls t) (opers-at t) opers.Post
 opers-add-opers t c = let z = (c .before .before .before .before .before .before .before .before .before .before .before .before .before .before .before .before .before .before .before .before .before .before .before .before) .pre .1 .1 in omega arith
@@ -50,15 +34,6 @@ opers-add-opers-2 t c = let s = (c .before .before .before .before .before .befo
 opers-opers-requires : (t : ℕ) → opers-lts.Need-opers-requires (opers-calls t) (opers-at t) opers.Post
 opers-opers-requires t c κs = let s = (c .before .before .before .before .before .before .before .before .before .before .before .before .before .before .before .before .before .before .before .before .before .before .before .before .before) in let N = s .pre .1 .0 in let K = s .pre .1 .3 in let h = (c .before .before .before .before .before .before .before .before .before .before .before .before .before .before .before .before .before .before .if1) .left in let e = (c .before .before .before .before .before .before .before .before .before .before .before .before .before .before .before .word) .ensures .0 in let m = few-words N in let y = s .pre .0 in (omega arith, (N, omega arith, λ q a b. s .pre .1 .2 q (omega arith) b, opers-next N K _ e h ((c .before .before .before .before .before .before .before .before .before .before .before .before .before .before .expr) .ensures) ((c .before .before .before .before .before .before .before .before .if2) .left) ((c .before .before .before .before .before .store) .ensures)))
 
-opers-same-length-3 : (t : ℕ) → opers-lts.Need-same-length-3 (opers-calls t) (opers-at t) opers.Post
-opers-same-length-3 t c = search needs
-
-opers-same-length-4 : (t : ℕ) → opers-lts.Need-same-length-4 (opers-calls t) (opers-at t) opers.Post
-opers-same-length-4 t c = search needs
-
-opers-same-length-5 : (t : ℕ) → opers-lts.Need-same-length-5 (opers-calls t) (opers-at t) opers.Post
-opers-same-length-5 t c = search needs
-
 opers-returns-3 : (t : ℕ) → opers-lts.Need-returns-3 (opers-calls t) (opers-at t) opers.Post
 opers-returns-3 t c = let s = (c .before .before .before .before .before .before .before .before .before .before .before .before .before .before .before .before .before .before .before .before .before .before .before .before .before .before .before .before .before .before .before .before) in let N = s .pre .1 .0 in let K = s .pre .1 .3 in let h = (c .before .before .before .before .before .before .before .before .before .before .before .before .before .before .before .before .before .before .before .before .before .before .before .before .before .if1) .left in let e = (c .before .before .before .before .before .before .before .before .before .before .before .before .before .before .before .before .before .before .before .before .before .before .word) .ensures .0 in opers-end N K _ e h ((c .before .before .before .before .before .before .before .before .before .before .before .before .before .before .before .before .before .before .before .before .before .expr) .ensures) ((c .before .before .before .before .before .before .before .before .before .before .before .before .before .before .before .if2) .left) ((c .before .before .before .before .before .before .before .before .before .before .before .before .store) .ensures) ((c .before .before .before .before .before .before .opers) .ensures)
 
@@ -67,17 +42,17 @@ opers-closed t =
     opers-lts.spec (opers-calls t) (opers-at t) opers.Post
     (opers-visit-at-requires t)
     (opers-returns t)
-    (opers-word-requires t)
+    (λ c κs. search needs)
     (opers-expr-requires t)
-    (opers-same-length t)
-    (opers-same-length-2 t)
+    (λ c. search needs)
+    (λ c. search needs)
     (opers-returns-2 t)
     (opers-cast-store t)
-    (opers-store-requires t)
+    (λ c κs. search needs)
     (opers-add-opers t)
     (opers-add-opers-2 t)
     (opers-opers-requires t)
-    (opers-same-length-3 t)
-    (opers-same-length-4 t)
-    (opers-same-length-5 t)
+    (λ c. search needs)
+    (λ c. search needs)
+    (λ c. search needs)
     (opers-returns-3 t)

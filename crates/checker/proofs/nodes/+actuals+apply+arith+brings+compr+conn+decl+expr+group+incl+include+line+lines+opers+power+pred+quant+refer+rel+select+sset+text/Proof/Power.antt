@@ -1,28 +1,15 @@
 -- The answers of `power`.
 use borrow.Author.Needs.{needs}
-use Prim.Native.Nat.{_+_, _*_, _-_}
-use Prim.Native.Nat.{ℕ, _<_}
-use borrow.Fn.Kinds.{In}
-use borrow.Fn.PlainCycle.{Measures, is, falls, and}
+use Prim.Native.Nat.{ℕ}
 use Rattle.checker.proofs.nodes.power.Reads as power
 use Rattle.checker.proofs.nodes.+actuals+apply+arith+brings+compr+conn+decl+expr+group+incl+include+line+lines+opers+power+pred+quant+refer+rel+select+sset+text.Lts-power as power-lts
 use Rattle.checker.proofs.nodes.+actuals+apply+arith+brings+compr+conn+decl+expr+group+incl+include+line+lines+opers+power+pred+quant+refer+rel+select+sset+text.Proof.Env.{power-at, power-calls}
-use mathlib.Core.Path.{_≡_, refl}
 use native.Mathlib.Omega.{arith}
 use Rattle.rules.specs.Formers.{powerRuleItems}
 use Rattle.checker.proofs.ExprNodes.{power-node, over-start, over-stop, over-rule, over-end}
 
-power-word-requires : (t : ℕ) → power-lts.Need-word-requires (power-calls t) (power-at t) power.Post
-power-word-requires t c κs = search needs
-
 power-expr-requires : (t : ℕ) → power-lts.Need-expr-requires (power-calls t) (power-at t) power.Post
 power-expr-requires t c κs = let s = (c .before .before .before .before .before .before .before .before) in let K = s .pre .1 .2 in let O = power-node (s .pre .1 .0) _ ((c .word) .ensures .0) (s .pre .1 .1) in let x = O .lower .below in let y = s .pre .0 in (omega arith, (O .lower .at, over-start powerRuleItems O K))
-
-power-same-length : (t : ℕ) → power-lts.Need-same-length (power-calls t) (power-at t) power.Post
-power-same-length t c = search needs
-
-power-same-length-2 : (t : ℕ) → power-lts.Need-same-length-2 (power-calls t) (power-at t) power.Post
-power-same-length-2 t c = search needs
 
 power-returns : (t : ℕ) → power-lts.Need-returns (power-calls t) (power-at t) power.Post
 power-returns t c = let s = (c .before .before .before .before .before .before .before .before .before .before .before .before .before .before .before) in let K = s .pre .1 .2 in let O = power-node (s .pre .1 .0) _ ((c .before .before .before .before .before .before .before .word) .ensures .0) (s .pre .1 .1) in over-stop powerRuleItems O K ((c .before .before .before .before .before .before .expr) .ensures) ((c .if1) .taken)
@@ -33,25 +20,19 @@ power-power-rule-requires t c κs = let s = (c .before .before .before .before .
 power-visit-at-requires : (t : ℕ) → power-lts.Need-visit-at-requires (power-calls t) (power-at t) power.Post
 power-visit-at-requires t c κs = let z = (c .before .before .before .before .before .before .before .before .before .before .before .before .before .before .before .before .before .before .before) .pre .1 .0 .at .small in omega arith
 
-power-same-length-3 : (t : ℕ) → power-lts.Need-same-length-3 (power-calls t) (power-at t) power.Post
-power-same-length-3 t c = search needs
-
-power-same-length-4 : (t : ℕ) → power-lts.Need-same-length-4 (power-calls t) (power-at t) power.Post
-power-same-length-4 t c = search needs
-
 power-returns-2 : (t : ℕ) → power-lts.Need-returns-2 (power-calls t) (power-at t) power.Post
 power-returns-2 t c = let s = (c .before .before .before .before .before .before .before .before .before .before .before .before .before .before .before .before .before .before .before .before) in let K = s .pre .1 .2 in let O = power-node (s .pre .1 .0) _ ((c .before .before .before .before .before .before .before .before .before .before .before .before .word) .ensures .0) (s .pre .1 .1) in over-end powerRuleItems O K ((c .before .before .before .before .before .before .before .before .before .before .before .expr) .ensures) ((c .before .before .before .before .before .if1) .left) (omega arith) ((c .before .before .before .power-rule) .kept .0) ((c .before .before .before .power-rule) .ensures) ((c .visit-at) .ensures)
 
 pub power-closed : {M : Type 1} (t : ℕ) → power-lts.Closed (power-calls t) (power-at t) power.Post M
 power-closed t =
     power-lts.spec (power-calls t) (power-at t) power.Post
-    (power-word-requires t)
+    (λ c κs. search needs)
     (power-expr-requires t)
-    (power-same-length t)
-    (power-same-length-2 t)
+    (λ c. search needs)
+    (λ c. search needs)
     (power-returns t)
     (power-power-rule-requires t)
     (power-visit-at-requires t)
-    (power-same-length-3 t)
-    (power-same-length-4 t)
+    (λ c. search needs)
+    (λ c. search needs)
     (power-returns-2 t)
