@@ -143,17 +143,17 @@ module _ {doc p s d w : List ℕ} {stack base m at free k : ℕ} (N : Node doc p
                     let R = rows-ready s d w base m (W .before) (W .known) (Q .signature) (Q .carried) (omega arith) in
                     let l = exprNumbers (exprAt doc a) in
                     let S : Stored s s₄ at e =
-                        record {
-                          size = T .stored .size ∙ decl-size s d w stack base m at free k (exprAt doc a) (drop 2 p) global Q s₁ w₁ number place cell c₁ top₁ at₁ A fine s₂ b P yes s₃ Z₁ ∙ sym (W .size);
-                          before = λ i h. T .stored .before i h ∙ lower-words s₁ s₃ (Z .low ∙ P .low) i (let z = x .2 in omega arith) ∙ A .areas fine .stored .before i h;
-                          after = T .stored .after;
-                          more = T .stored .more;
-                        } in
+                    record {
+                      size = T .stored .size ∙ decl-size s d w stack base m at free k (exprAt doc a) (drop 2 p) global Q s₁ w₁ number place cell c₁ top₁ at₁ A fine s₂ b P yes s₃ Z₁ ∙ sym (W .size);
+                      before = λ i h. T .stored .before i h ∙ lower-words s₁ s₃ (Z .low ∙ P .low) i (let z = x .2 in omega arith) ∙ A .areas fine .stored .before i h;
+                      after = T .stored .after;
+                      more = T .stored .more;
+                    } in
                     let o₁ = once-left (l ++ (k ∷ [])) [] (W .once) in
                     let f₁ = fresh-left (l ++ (k ∷ [])) [] (W .known) (W .fresh) in
                     let E = element-done s d w stack at free (exprAt doc a) k 0 (W .size) (W .few) (λ i. once-apart l (k ∷ []) o₁ k i (inl refl)) (omega arith) s₁ w₁ number place cell c₁ top₁ at₁ A
-                        fine s₂ b P yes s₃ Z₁ sized s₄ at (λ g₀. Unit {0}) (λ G₀ S₀. tt) (T .stands) (W .scope) (W .dictionary) (W .before) (W .known) (W .steady) (W .scoped)
-                        (fresh-left l (k ∷ []) (W .known) f₁, unvisited (l ++ (k ∷ [])) (W .known) f₁ k (last-in l k) 0 (omega arith)) in
+                    fine s₂ b P yes s₃ Z₁ sized s₄ at (λ g₀. Unit {0}) (λ G₀ S₀. tt) (T .stands) (W .scope) (W .dictionary) (W .before) (W .known) (W .steady) (W .scoped)
+                    (fresh-left l (k ∷ []) (W .known) f₁, unvisited (l ++ (k ∷ [])) (W .known) f₁ k (last-in l k) 0 (omega arith)) in
                     record {
                       areas = record { size = T .stored .size ∙ decl-size s d w stack base m at free k (exprAt doc a) (drop 2 p) global Q s₁ w₁ number place cell c₁ top₁ at₁ A fine s₂ b P yes s₃ Z₁; few = omega arith };
                       table = record {
