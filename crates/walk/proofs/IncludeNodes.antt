@@ -1,4 +1,5 @@
 -- An Include by the words of its node: what its calls ask, and what is done by each outcome.
+use borrow.Author.Tests.{eq-eqb}
 use mathlib.Core.Path.{_≡_, refl, sym, ap, subst, _∙_}
 use mathlib.Core.Bool.{Bool, true, false}
 use mathlib.Core.List.{List}
@@ -7,20 +8,38 @@ use native.Mathlib.Omega.{arith}
 use lib.ListN.{length, getD}
 use Rattle.layout.specs.Layout.{part}
 use Rattle.syntax.specs.Decode.{includeAt, exprsFrom}
-use Rattle.syntax.specs.Kinds.{includes, expressions}
-use Rattle.syntax.specs.Nodes.{operandAt}
+use Rattle.syntax.specs.Kinds.{ofSort, lines, includes, expressions}
+use Rattle.syntax.specs.Nodes.{kindAt, operandAt}
 use Rattle.syntax.specs.Promise.{At, Lower}
 use Rattle.syntax.specs.Tree.{include, exprsLength}
 use Rattle.syntax.proofs.TreeLists.{exprs-length}
+use Rattle.syntax.proofs.TreeWords.{included-words}
 use Rattle.syntax.proofs.TreeText.{Included, include-kind, include-law}
 use Rattle.typing.specs.Dictionary.{Dictionary}
+use Rattle.typing.specs.Scopes.{includeNode}
 use Rattle.dictionary.specs.Holds.{Holds}
 use Rattle.dictionary.specs.Lookup.{parametersAt, typeAt, SchemaFound}
 use Rattle.signatures.specs.Rows.{renames}
 use Rattle.signatures.specs.Tables.{Beside, Brings}
 use Rattle.names.specs.Components.{ComponentsAsked, ComponentRows}
-use Rattle.walk.specs.Includes.{IncludeAsk, IncludeDone, ActualsAsk, ActualsDone}
+use Rattle.walk.specs.Includes.{actualCount, IncludeAsk, IncludeDone, ActualsAsk, ActualsDone}
 use Rattle.walk.proofs.Including.{include-absent, include-count, actuals-ask, include-refused, components-ask, bring-ask, include-wrong, include-done}
+
+-- An Include that is a line is one.
+pub line-include : (doc : List ℕ) (k : ℕ) → At doc lines k → kindAt doc k ≡ 12 → At doc includes k
+unfolding ofSort
+line-include doc k N q = record { read = N .read; some = N .some; most = N .most; small = N .small; sort = eq-eqb (kindAt doc k) 12 q }
+
+-- Its node, and the number of its actuals.
+pub included-node : (doc : List ℕ) (k : ℕ) → At doc includes k → includeNode (includeAt doc k) ≡ k
+unfolding includeNode
+included-node doc k N = ap includeNode (include-law doc includes k N (include-kind doc k N) (operandAt doc k 3) refl .tree)
+
+pub included-count : (doc : List ℕ) (k : ℕ) → At doc includes k → (actualCount (includeAt doc k) ≡ operandAt doc k 3) × (operandAt doc k 3 ≤ 4)
+unfolding actualCount
+included-count doc k N =
+    let I = include-law doc includes k N (include-kind doc k N) (operandAt doc k 3) refl in
+    (ap actualCount (I .tree) ∙ exprs-length doc k 4 (operandAt doc k 3), I .words .few)
 
 module _ {doc p s d w : List ℕ} {stack at free k : ℕ} {places : List ℕ} (N : At doc includes k) (words : p ≡ part doc k)
     (K : IncludeAsk s d w stack at free (includeAt doc k) places) (q id h : ℕ) (eq : q ≡ getD p 3 0) (ei : id ≡ getD p 1 0) (eh : h ≡ getD p 2 0) where
@@ -48,6 +67,9 @@ module _ {doc p s d w : List ℕ} {stack at free k : ℕ} {places : List ℕ} (N
 
   pub node-include-few : q ≤ 4
   node-include-few = let z = L .words .few in let y = operand 3 q eq in omega arith
+
+  pub node-include-stroke : h < 4
+  node-include-stroke = let z = included-words doc includes k N (include-kind doc k N) .1 in let y = operand 2 h eh in omega arith
 
   pub node-include-first : q + 4 ≤ length p
   node-include-first = let z = L .words .long in let y = operand 3 q eq in let x = ap length words in omega arith
