@@ -1,11 +1,11 @@
 -- An Include as a schema expression, or of a SchemaSet: 38 after its own findings; its types are written out.
-use mathlib.Core.Path.{_≡_, refl, _∙_}
+use mathlib.Core.Path.{_≡_, refl}
 use mathlib.Core.Bool.{true, false}
 use mathlib.Core.List.{List}
 use mathlib.Core.Logic.{inl}
-use Prim.Native.Nat.{ℕ, suc, _+_, _*_, _≤_, _<_}
+use Prim.Native.Nat.{ℕ, _+_, _≤_}
 use native.Mathlib.Omega.{arith}
-use lib.ListN.{length, getD, take}
+use lib.ListN.{length, take}
 use Rattle.syntax.specs.Decode.{pairsFrom}
 use Rattle.syntax.specs.Tree.{Include}
 use Rattle.syntax.specs.TreeNumbers.{includeNumbers}
@@ -18,14 +18,14 @@ use Rattle.typing.specs.Signatures.{Signature, noNames, naming, termIn}
 use Rattle.typing.specs.Unknowns.{Table}
 use Rattle.signatures.specs.Rows.{rows}
 use Rattle.signatures.specs.Carried.{Carries}
-use Rattle.pieces.specs.Piece.{Steady, Walked}
+use Rattle.pieces.specs.Piece.{Steady}
 use Rattle.pieces.proofs.Between.{walked-then, walked-mine, refuses-first, refuses-second}
 use Rattle.names.specs.Scoped.{Scoped}
 use Rattle.inclusion.specs.Filling.{SmallTold}
 use Rattle.inclusion.specs.Storing.{KeepAsk, RowsKept}
 use Rattle.inclusion.proofs.FillsLaws.{components-fill}
 use Rattle.inclusion.proofs.NewRowLaws.{rows-few}
-use Rattle.walk.specs.Includes.{actualCount, IncludeAsk, Brought, IncludeDone, BringsAsk, Shown, BringsDone}
+use Rattle.walk.specs.Includes.{actualCount, IncludeAsk, IncludeDone, BringsAsk, BringsDone}
 use Rattle.walk.specs.Visits.{Owned, Fresh, idle, Spared}
 use Rattle.walk.proofs.Brought.{stored-again, stored-gap, actuals-more, brought-ask}
 use Rattle.walk.proofs.Scopes.{spared-on}

@@ -1,25 +1,20 @@
 -- What an Include brought, as the functions on its rows ask for it: the rows' types can be read, the actuals stand at their places.
-use mathlib.Core.Path.{_≡_, sym, subst, _∙_}
-use mathlib.Core.Bool.{true}
+use mathlib.Core.Path.{_≡_, _∙_}
 use mathlib.Core.List.{List}
-use Prim.Native.Nat.{ℕ, suc, _+_, _*_, _≤_, _<_}
+use Prim.Native.Nat.{ℕ, suc, _≤_}
 use native.Mathlib.Omega.{arith}
 use lib.ListN.{length, getD, take}
 use Rattle.syntax.specs.Tree.{Include}
 use Rattle.syntax.specs.TreeNumbers.{includeNumbers}
-use Rattle.typing.specs.Dictionary.{Dictionary}
 use Rattle.typing.specs.Items.{Items, Meets}
 use Rattle.typing.specs.Unknowns.{Table, row}
-use Rattle.typing.specs.Scopes.{Scope, includeNode, includeSignature}
+use Rattle.typing.specs.Scopes.{includeNode, includeSignature}
 use Rattle.instances.specs.Clean.{Clean}
-use Rattle.pieces.specs.Piece.{Steady}
-use Rattle.names.specs.Scoped.{Scoped}
 use Rattle.inclusion.specs.Components.{ActualTypes}
 use Rattle.inclusion.specs.Filling.{RowsAsk}
 use Rattle.inclusion.specs.Storing.{Stored}
 use Rattle.walk.specs.Includes.{actualCount, Brought, IncludeDone}
 use Rattle.walk.specs.Predicates.{Walking}
-use Rattle.walk.specs.Visits.{Fresh, idle}
 use Rattle.walk.proofs.Carrying.{component-rows}
 
 -- Written twice from the same place on: what was written first is gone.

@@ -4,7 +4,7 @@ use mathlib.Core.Path.{_≡_, refl, sym, ap, subst, _∙_}
 use mathlib.Core.Bool.{Bool, true, false}
 use mathlib.Core.List.{List, [], _∷_, _++_}
 use mathlib.Core.Logic.{inl, inr, ⊎-elim}
-use Prim.Native.Nat.{ℕ, suc, _+_, _*_, _-_, _≤_, _<_}
+use Prim.Native.Nat.{ℕ, _+_, _*_, _-_, _≤_, _<_}
 use native.Mathlib.Nat.{eq-zero-or-pos}
 use native.Mathlib.Omega.{arith}
 use lib.ListN.{length, getD, drop}
@@ -15,7 +15,7 @@ use Rattle.syntax.specs.TreeNumbers.{includeNumbers, exprsNumbers}
 use Rattle.types.specs.Former.{binding}
 use Rattle.types.specs.Formed.{FormedType, Arity, Ascending}
 use Rattle.types.specs.Instance.{instance}
-use Rattle.types.specs.Types.{Ty, Tys, node, Term, Terms, nil}
+use Rattle.types.specs.Types.{Ty, Tys, node, Term, nil}
 use Rattle.typing.specs.Conditions.{refuseIf}
 use Rattle.typing.specs.Dictionary.{Dictionary, Found, noSchema, aSchema, schemaIn}
 use Rattle.typing.specs.Items.{Items, skip, _⨾_, refusal, Meets, Refuses}
@@ -28,7 +28,7 @@ use Rattle.dictionary.specs.Holds.{Holds}
 use Rattle.dictionary.specs.Lookup.{parametersAt, typeAt, SchemaFound, Recorded as Entry}
 use Rattle.dictionary.proofs.LookupLaws.{schema-formed}
 use Rattle.signatures.specs.Rows.{rows, stack as stackOf, flat, identifiersOf, strokeRows, renameRows}
-use Rattle.signatures.specs.Tables.{Table, Beside, Brings}
+use Rattle.signatures.specs.Tables.{Beside, Brings}
 use Rattle.signatures.specs.Carried.{Carries}
 use Rattle.signatures.proofs.CallLaws.{brought-wrong, brought-names}
 use Rattle.signatures.proofs.RowLaws.{rows-length, getD-below}
@@ -43,7 +43,7 @@ use Rattle.names.proofs.ComponentLaws.{components-high}
 use Rattle.names.proofs.LookingUp.{dictionary-reads}
 use Rattle.names.proofs.ThetaRules.{schema-limited}
 use Rattle.inclusion.proofs.NewRowLaws.{renamed-ascending}
-use Rattle.walk.specs.Includes.{actualCount, IncludeAsk, Brought, IncludeDone, ActualAt, ActualFresh, ActualOwned, ActualsAsk, ActualsWent, ActualsDone}
+use Rattle.walk.specs.Includes.{actualCount, IncludeAsk, IncludeDone, ActualAt, ActualFresh, ActualOwned, ActualsAsk, ActualsWent, ActualsDone}
 use Rattle.walk.specs.Visits.{Owned, Fresh, idle, Spared}
 use Rattle.walk.proofs.ActualTypes.{actual-owned, actual-fresh, actual-types}
 use Rattle.walk.proofs.TableRows.{carries-row}

@@ -3,7 +3,7 @@ use mathlib.Core.Path.{_≡_, refl, sym, ap, subst, _∙_}
 use mathlib.Core.Bool.{Bool, true, false}
 use mathlib.Core.List.{List, [], _++_}
 use mathlib.Core.Logic.{inl}
-use Prim.Native.Nat.{ℕ, suc, _+_, _*_, _-_, _≤_, _<_}
+use Prim.Native.Nat.{ℕ, _+_, _*_, _≤_, _<_}
 use native.Mathlib.Omega.{arith}
 use lib.ListN.{length, getD, take}
 use Rattle.syntax.specs.Limited.{LimitedLines}
@@ -41,7 +41,7 @@ use Rattle.inclusion.specs.Storing.{Stored, KeepAsk, RowsKept}
 use Rattle.inclusion.proofs.FillsLaws.{components-fill}
 use Rattle.walk.specs.Includes.{actualCount, IncludeAsk, Brought, IncludeDone}
 use Rattle.walk.specs.Predicates.{Walking}
-use Rattle.walk.specs.Texts.{LinesAsk, LinesWent, LinesDone}
+use Rattle.walk.specs.Texts.{LinesAsk, LinesDone}
 use Rattle.walk.specs.Visits.{Owned, Fresh, idle, Spared, globalsIf}
 use Rattle.walk.proofs.Brought.{stored-again, stored-gap, actuals-more, brought-ask}
 use Rattle.walk.proofs.TableRows.{carries-row, rows-ready}

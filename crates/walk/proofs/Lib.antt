@@ -38,3 +38,4 @@ pub mod Bringing
 pub mod TableRows
 pub mod Merged
 pub mod Inclusions
+pub mod IncludeNodes
