@@ -10,3 +10,4 @@ pub mod LineNodes
 pub mod SizedNodes
 pub mod DeclNodes
 pub mod ActualNodes
+pub mod InclNodes
