@@ -11,3 +11,4 @@ pub mod SizedNodes
 pub mod DeclNodes
 pub mod ActualNodes
 pub mod BringsNodes
+pub mod InclNodes
