@@ -166,8 +166,8 @@ module _ (s d w : List ℕ) (p : Paragraph) (k i : ℕ) (ps : List ℕ) (a : Exp
         unfolding Meets under
         settled D R τ m = shut D R .types k (slot (exprNode a) 0) cell (went D R .placed) τ (m .0, (tt, m .1))
 
-        abbrev pub sizing : Sizing s₃ d n′ cell
-        sizing =
+        abbrev own-sizing : Sizing s₃ d n′ cell
+        own-sizing =
             let D = A .dictionary in
             let R = A .recorded in
             record {
@@ -175,6 +175,9 @@ module _ (s d w : List ℕ) (p : Paragraph) (k i : ℕ) (ps : List ℕ) (a : Exp
               shut = shut D R;
               made = placed-cell s₁ s₂ d 0 4096 n′ top′ G₀ (body D) Mine (went D R .advanced) (slot (exprNode a) 0) cell (went D R .placed) .made;
             }
+
+        pub sizing : Sizing s₃ d n′ cell
+        sizing = own-sizing
 
         refuse-second : (D : Dictionary) (R : Recorded D d) (f m : ℕ) → Refuses (rest D) (Meets (skip ⨾ piece k (body D))) f m → Refuses (paragraphItems (abbreviation k i ps a) D) (Meets skip) f m
         unfolding paragraphItems
@@ -223,7 +226,7 @@ module _ (s d w : List ℕ) (p : Paragraph) (k i : ℕ) (ps : List ℕ) (a : Exp
 
           module _ (few-enough : v ≤ 32) where
             pub wording : Wording s₃ d n′ cell 1028
-            wording = let q = size-few (type (A .dictionary) (A .recorded)) v (measured (A .dictionary) (A .recorded)) few-enough in record { sizing = sizing; small = let z = q .0 in let y : size (type (A .dictionary) (A .recorded)) ≤ 32 = omega arith in y; place = omega arith }
+            wording = let q = size-few (type (A .dictionary) (A .recorded)) v (measured (A .dictionary) (A .recorded)) few-enough in record { sizing = own-sizing; small = let z = q .0 in let y : size (type (A .dictionary) (A .recorded)) ≤ 32 = omega arith in y; place = omega arith }
 
             pub abbreviation-done : length s₃ ≡ length s₂ → (s₄ w₃ w₄ : List ℕ) (end len : ℕ) → n ≡ length ps → s₄ ≡ sets s₃ 1 (replicate (at₂ - 1) 0) → WordsAre s₃ d w₂ w₃ n′ cell 1028 end →
                 len ≡ end - 1024 - 1 → w₄ ≡ sets w₃ 1024 (len ∷ 1 ∷ i ∷ n ∷ []) → ParagraphDone s s₄ d w w₄ p 0 place 1024 1
@@ -241,8 +244,8 @@ module _ (s d w : List ℕ) (p : Paragraph) (k i : ℕ) (ps : List ℕ) (a : Exp
                   let y = q .0 in
                   let B₁ = small-noted ((skip ⨾ piece k (body D)) ⨾ newNames k (i ∷ []) D) (went D R .advanced .mentioned) Mine k (typeOf a) g (Y .steady) (settled-then D R) (omega arith) in
                   let B₂ = walked-then skip (piece k (body D)) (rest D) [] (went D R .advanced .mentioned) (went D R .advanced .mentioned) Mine nothing-before X
-                      (walked-then (skip ⨾ piece k (body D)) (newNames k (i ∷ []) D) (small k (typeOf a)) (went D R .advanced .mentioned) (went D R .advanced .mentioned) (went D R .advanced .mentioned) Mine (X .steady)
-                      (walked-mine (skip ⨾ piece k (body D)) (newNames k (i ∷ []) D) (went D R .advanced .mentioned) (went D R .advanced .mentioned) (λ j. ⊥) Mine (λ j o. absurd o) Y) B₁) in
+                  (walked-then (skip ⨾ piece k (body D)) (newNames k (i ∷ []) D) (small k (typeOf a)) (went D R .advanced .mentioned) (went D R .advanced .mentioned) (went D R .advanced .mentioned) Mine (X .steady)
+                  (walked-mine (skip ⨾ piece k (body D)) (newNames k (i ∷ []) D) (went D R .advanced .mentioned) (went D R .advanced .mentioned) (λ j. ⊥) Mine (λ j o. absurd o) Y) B₁) in
                   let S = B₂ .steady .some in
                   let E = nameEntry i (length ps) g in
                   let u = A .wide in

@@ -75,14 +75,7 @@ pub fn name_entry(a: &[u32], d: &[u32], w: &mut [u32], id: usize, p: usize, at: 
 }
 
 // The entries of an Axiom, from the m rows at base: where they end.
-pub fn name_entries(
-    a: &[u32],
-    d: &[u32],
-    w: &mut [u32],
-    base: usize,
-    m: usize,
-    at: usize,
-) -> usize
+pub fn name_entries(a: &[u32], d: &[u32], w: &mut [u32], base: usize, m: usize, at: usize) -> usize
     requires { ⌜ TableAsk (now a) (now d) (now w) base m at ⌝ }
     ensures { λ e. ⌜ ((gs : Tys) → TypesAt (heap (now (a .entry)) (now (d .entry))) (rows (now (w .entry)) base m) gs → Wrote (now (w .entry)) (now (w .exit)) at e (waiting (nameEntries (rows (now (w .entry)) base m) gs))) ⌝ }
 {
