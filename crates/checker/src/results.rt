@@ -28,7 +28,7 @@ pub struct Lined {
 }
 
 // The answer of a rule at node k.
-pub fn visit(number: u32, k: usize, cell: usize, cells: usize, top: usize, at: usize) -> Visit
+pub fn visit_at(number: u32, k: usize, cell: usize, cells: usize, top: usize, at: usize) -> Visit
     requires { ⌜ k < 2 ^ 32 ⌝ }
     ensures { λ r. ⌜ VisitAt r number k cell cells top at ⌝ }
 {
@@ -57,7 +57,7 @@ pub fn unvisited(number: u32, place: u32) -> Visit
 }
 
 // The finding `number` at node k, 0 for none.
-pub fn verdict(number: u32, k: usize) -> Verdict
+pub fn verdict_at(number: u32, k: usize) -> Verdict
     requires { ⌜ k < 2 ^ 32 ⌝ }
     ensures { λ r. ⌜ Found r number k ⌝ }
 {
@@ -78,7 +78,7 @@ pub fn found(number: u32, place: u32) -> Verdict
 }
 
 // The finding `number` at node k, of a Text, a line or an Include; 0 for none.
-pub fn lined(number: u32, k: usize, count: usize, at: usize) -> Lined
+pub fn lined_at(number: u32, k: usize, count: usize, at: usize) -> Lined
     requires { ⌜ k < 2 ^ 32 ⌝ }
     ensures { λ r. ⌜ LinedAt r number k count at ⌝ }
 {

@@ -2,10 +2,10 @@
 use mathlib.Core.Path.{_≡_, refl, ap, subst, _∙_}
 use mathlib.Core.Bool.{Bool, true, false}
 use mathlib.Core.List.{List, []}
-use Prim.Native.Nat.{ℕ, suc, _+_, _-_, _≤_, _<_}
+use Prim.Native.Nat.{ℕ, zero, suc, _+_, _*_, _-_, _≤_, _<_}
 use native.Mathlib.Omega.{arith}
 use lib.ListN.{getD}
-use Rattle.types.specs.Types.{Ty, Term, size}
+use Rattle.types.specs.Types.{Ty, Tys, Term, size}
 use Rattle.types.proofs.Terms.{bool-no}
 use Rattle.typing.specs.Unknowns.{row}
 use Rattle.typing.specs.Items.{Items, small, _⨾_, Meets, Refuses}
@@ -14,17 +14,20 @@ use Rattle.typing.specs.Conditions.{smallTypes}
 use Rattle.syntax.specs.Decode.{pairsFrom}
 use Rattle.signatures.specs.Rows.{rows}
 use Rattle.signatures.specs.Carried.{Carries}
+use Rattle.solver.specs.Settled.{heap, Reads}
 use Rattle.solver.specs.Sizes.{cap}
 use Rattle.solver.proofs.Marking.{cap-cases}
 use Rattle.pieces.specs.Piece.{Steady, Walked}
 use Rattle.pieces.proofs.Between.{walked-skip, walked-then, small-noted, small-refused, refuses-first, refuses-second}
 use Rattle.instances.specs.Fill.{fill}
-use Rattle.instances.specs.Filled.{Filling, FilledSize}
+use Rattle.instances.specs.Filled.{Row, Filling, FilledSize}
 use Rattle.instances.proofs.FillSizes.{size-few}
-use Rattle.inclusion.specs.Components.{Component, ActualTypes}
+use Rattle.names.specs.Components.{Component}
+use Rattle.inclusion.specs.Components.{ActualTypes}
 use Rattle.inclusion.specs.Filling.{RowsAsk, SmallTold}
 use Rattle.inclusion.proofs.StandLaws.{fill-alike, over-alike}
-use Rattle.inclusion.proofs.AgreeLaws.{None, component-settled, actuals-later, first-readable}
+use Rattle.inclusion.proofs.LaterLaws.{actuals-later}
+use Rattle.inclusion.proofs.AgreeLaws.{None, component-settled, first-readable}
 
 size-over : (g : Ty) (v : ℕ) → v ≡ cap (size g) → 32 < v → 32 < size g
 size-over g v e l = cap-cases (size g) _ (λ m q. omega arith) (λ m q. omega arith)
@@ -48,7 +51,7 @@ module _ (s d : List ℕ) (p v : ℕ) (places : List ℕ) (F : FilledSize s d p 
 module _ (s d w : List ℕ) (places : List ℕ) where
   pub small-none : (source k : ℕ) → k ≡ 0 → SmallTold s d w source k places true
   unfolding smallTypes pairsFrom Carries
-  small-none source k e = record { goes = goes′; stops = λ z. absurd (bool-no true refl z) }
+  small-none source k e = record { goes = goes′; sizes = λ y j l. absurd (omega (arith, e, l)); stops = λ z. absurd (bool-no true refl z) }
     where
       none : (H : Items) (U : List ℕ) (n i z : ℕ) (x : Signature) → Steady H U → Carries (Component s d (row i 1 z)) x [] → Walked H (smallTypes n x) U U None
       none H U n i z noNames S C = walked-skip H U None S
@@ -61,7 +64,7 @@ module _ (s d w : List ℕ) (places : List ℕ) where
   module _ (source k j : ℕ) (e : k ≡ suc j) (v : ℕ) (F : FilledSize s d (getD w (suc source) 0) places v) where
     small-break : 32 < v → SmallTold s d w source k places false
     unfolding smallTypes pairsFrom Carries
-    small-break l = record { goes = λ y. absurd (bool-no false y refl); stops = λ y H U n i z x S A C. stops′ H U n i z x S A (subst (λ u. Carries (Component s d (row i 1 z)) x (rows w source u)) e C) }
+    small-break l = record { goes = λ y. absurd (bool-no false y refl); sizes = λ y. absurd (bool-no false y refl); stops = λ y H U n i z x S A C. stops′ H U n i z x S A (subst (λ u. Carries (Component s d (row i 1 z)) x (rows w source u)) e C) }
       where
         stops′ : (H : Items) (U : List ℕ) (n i z : ℕ) (x : Signature) → Steady H U → ActualTypes s d H U i z places → Carries (Component s d (row i 1 z)) x (rows w source (suc j)) →
             Refuses (smallTypes n x) (Meets H) 38 n
@@ -72,9 +75,16 @@ module _ (s d w : List ℕ) (places : List ℕ) where
     unfolding smallTypes pairsFrom Carries
     small-next l b N = record {
       goes = λ y H U n i z x S A C. goes′ y H U n i z x S A (subst (λ u. Carries (Component s d (row i 1 z)) x (rows w source u)) e C);
+      sizes = sizes′;
       stops = λ y H U n i z x S A C. stops′ y H U n i z x S A (subst (λ u. Carries (Component s d (row i 1 z)) x (rows w source u)) e C);
     }
       where
+        sizes′ : b ≡ true → (q : ℕ) → q < k → (g : Ty) (hs : Tys) → Reads (heap s d) (getD w (source + 2 * q + 1) 0) g → Row (heap s d) places hs → size (fill hs g) ≤ 32
+        sizes′ y zero m g hs R r =
+            let f = size-few (fill hs g) v (F .is g hs (subst (λ z. Reads (heap s d) (getD w z 0) g) (let z : source + 2 * 0 + 1 ≡ suc source = omega arith in z) R) r) l .0 in omega arith
+        sizes′ y (suc q) m g hs R r =
+            N .sizes y q (omega (arith, e, m)) g hs (subst (λ z. Reads (heap s d) (getD w z 0) g) (let z : source + 2 * suc q + 1 ≡ suc (suc source) + 2 * q + 1 = omega arith in z) R) r
+
         goes′ : b ≡ true → (H : Items) (U : List ℕ) (n i z : ℕ) (x : Signature) → Steady H U → ActualTypes s d H U i z places → Carries (Component s d (row i 1 z)) x (rows w source (suc j)) →
             Walked H (smallTypes n x) U U None
         goes′ y H U n i z noNames S A C = absurd C

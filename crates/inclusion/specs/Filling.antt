@@ -4,7 +4,7 @@ use mathlib.Core.Bool.{Bool, true, false}
 use mathlib.Core.List.{List}
 use Prim.Native.Nat.{ℕ, _+_, _*_, _≤_, _<_}
 use lib.ListN.{length, getD}
-use Rattle.types.specs.Types.{Ty, Tys, Term}
+use Rattle.types.specs.Types.{Ty, Tys, Term, size}
 use Rattle.typing.specs.Unknowns.{row}
 use Rattle.typing.specs.Items.{Items, Meets, Refuses}
 use Rattle.typing.specs.Signatures.{Signature, termIn}
@@ -17,7 +17,8 @@ use Rattle.instances.specs.Fill.{fill}
 use Rattle.instances.specs.Filled.{Row, Actuals}
 use Rattle.merging.specs.Merging.{Rows}
 use Rattle.pieces.specs.Piece.{Steady, Walked}
-use Rattle.inclusion.specs.Components.{Component, Placed, ActualTypes}
+use Rattle.names.specs.Components.{Component}
+use Rattle.inclusion.specs.Components.{Placed, ActualTypes}
 
 -- A type at p with actuals for its parameters, beside the type at q.
 pub record Comparing (s d : List ℕ) (p : ℕ) (places : List ℕ) (q : ℕ) : Type 0 where
@@ -60,5 +61,7 @@ pub record AgreeTold (s d w : List ℕ) (base m source k : ℕ) (places : List �
 pub record SmallTold (s d w : List ℕ) (source k : ℕ) (places : List ℕ) (fine : Bool) : Type 0 where
   pub goes : fine ≡ true → (H : Items) (U : List ℕ) (n i z : ℕ) (q : Signature) → Steady H U → ActualTypes s d H U i z places →
       Carries (Component s d (row i 1 z)) q (rows w source k) → Walked H (smallTypes n q) U U (λ x. ⊥)
+  -- on words, for each row
+  pub sizes : fine ≡ true → (j : ℕ) → j < k → (g : Ty) (hs : Tys) → Reads (heap s d) (getD w (source + 2 * j + 1) 0) g → Row (heap s d) places hs → size (fill hs g) ≤ 32
   pub stops : fine ≡ false → (H : Items) (U : List ℕ) (n i z : ℕ) (q : Signature) → Steady H U → ActualTypes s d H U i z places →
       Carries (Component s d (row i 1 z)) q (rows w source k) → Refuses (smallTypes n q) (Meets H) 38 n

@@ -32,7 +32,7 @@ alike-after t a b e = (
 )
 
 -- The same items, said otherwise.
-introduced-alike : (s s′ d : List ℕ) (n top n′ top′ : ℕ) (G : Ghost) (a b : Items) (M : ℕ → Type 0) (x c : ℕ) → Alike a b → (Goes (G .before) (G .items) a → Goes (G .before) (G .items) b) →
+pub introduced-alike : (s s′ d : List ℕ) (n top n′ top′ : ℕ) (G : Ghost) (a b : Items) (M : ℕ → Type 0) (x c : ℕ) → Alike a b → (Goes (G .before) (G .items) a → Goes (G .before) (G .items) b) →
     Introduced s s′ d n top n′ top′ G a M x c → Introduced s s′ d n top n′ top′ G b M x c
 introduced-alike s s′ d n top n′ top′ G a b M x c e g I =
     let X = I .advanced in

@@ -107,7 +107,7 @@ schemaIn-few (D ▸ nameEntry i p g) s l = schemaIn-few D s (l .0)
 schemaIn-few (D ▸ schemaEntry r p g) s l = go (eqb s r) (schemaIn-few D s (l .0))
   where
     go : (b : Bool) → FewFound (schemaIn s D) → FewFound (cond b (aSchema p g) (schemaIn s D))
-    go true h = l .1
+    go true h = l .1 .0
     go false h = h
 
 pub globals-few : (D : Dictionary) → Limited D → FewSchemas (globals D)

@@ -17,3 +17,7 @@ pub mod ThetaLaws
 pub mod FewParameters
 pub mod FewNames
 pub mod LimitedKept
+pub mod IdleLaws
+pub mod PlacedLaws
+pub mod CheckLaws
+pub mod ThetaRules

@@ -18,8 +18,8 @@ use Rattle.typing.specs.Signatures.{Signature, noNames, naming, countNames, nam
 use Rattle.typing.specs.Scopes.{Scope, globals, withParameters, includeSignature, includeNode, linesSignature, textSignature, schemaSignature}
 use Rattle.typing.specs.Rules.{textItems, linesItems, schemaItems, paragraphItems}
 use Rattle.typing.specs.Entries.{addGivens, addSignature, extend}
-use Rattle.names.specs.Scoped.{Limited}
-use Rattle.names.specs.Extended.{FewParameters, SchemaType}
+use Rattle.names.specs.Scoped.{SchemaType, Limited}
+use Rattle.names.specs.Extended.{FewParameters}
 use Rattle.names.proofs.FewNames.{FewSchemas, include-few, globals-few, parameters-few}
 
 -- What a table that meets the items shows.
@@ -124,6 +124,6 @@ pub limited-extend : (p : Paragraph) (D : Dictionary) (τ : Table) → FewParame
 unfolding paragraphItems extend Meets Limited
 limited-extend (given n is) D τ f l m = givens-limited τ is D l
 limited-extend (axiomatic n t) D τ f l m = signature-limited τ (textSignature t (globals D)) D (text-small τ t (globals D) D m) l
-limited-extend (schema n s ps x) D τ f l m = (l, schema-type τ x ps D l m .0)
+limited-extend (schema n s ps x) D τ f l m = (l, schema-type τ x ps D l m)
 limited-extend (abbreviation n i ps a) D τ f l m = (l, f, m .1 .1)
 limited-extend (constraint n p) D τ f l m = l

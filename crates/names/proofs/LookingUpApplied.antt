@@ -61,7 +61,7 @@ no-expressions none e = refl
 no-expressions (more a xs) e = absurd (omega arith)
 
 -- The rule stops with a refusal.
-stopped : (s d : List ℕ) (n top k f : ℕ) (G : Ghost) (own : Items) → own ≡ refusal (suc f) k → Ruled s s d n top k (suc f) 0 n top G own
+pub stopped : (s d : List ℕ) (n top k f : ℕ) (G : Ghost) (own : Items) → own ≡ refusal (suc f) k → Ruled s s d n top k (suc f) 0 n top G own
 stopped s d n top k f G own e =
     rule-stops s s d n top k (suc f) 0 n top G own (λ q. omega arith) (subst (λ (x : Items). Stops (G .before) (G .items) x (suc f) k) (sym e) (refused (G .before) (G .items) (suc f) k))
 

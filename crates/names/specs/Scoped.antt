@@ -4,7 +4,8 @@ use mathlib.Core.List.{List}
 use Prim.Native.Nat.{ℕ, _≤_}
 use Rattle.types.specs.Equations.{In}
 use Rattle.types.specs.Formed.{partCountType}
-use Rattle.types.specs.Types.{Ty, node, Term, Each, under, size}
+use Rattle.types.specs.Former.{binding}
+use Rattle.types.specs.Types.{Ty, Tys, node, Term, Each, under, size}
 use Rattle.typing.specs.Unknowns.{Table}
 use Rattle.typing.specs.Items.{_⨾_, Meets}
 use Rattle.typing.specs.Dictionary.{Dictionary, blank, _▸_, nameEntry, schemaEntry}
@@ -27,11 +28,18 @@ pub record SettledAt (s d : List ℕ) (G : Ghost) (t : Term) (p : ℕ) : Type 0 
 abbrev pub FewParts : Ty → Type 0
 FewParts (node h gs) = partCountType gs ≤ 16
 
+abbrev pub IsBinding : Ty → Type 0
+IsBinding g = (ids : List ℕ) × (gs : Tys) × (g ≡ node (binding ids) gs)
+
+-- The type of a schema is its binding (document 01, the dictionary).
+abbrev pub SchemaType : Ty → Type 0
+SchemaType g = FewParts g × IsBinding g
+
 -- Entries keep to the limits: 0 to 4 parameters, types of size 32 at most, 16 identifiers at most (document 01, paragraphs 4 and 5, and 38).
 unfoldable pub Limited : Dictionary → Type 0
 Limited blank = Unit {0}
 Limited (D ▸ nameEntry i p g) = Limited D × (p ≤ 4) × (size g ≤ 32)
-Limited (D ▸ schemaEntry s p g) = Limited D × FewParts g
+Limited (D ▸ schemaEntry s p g) = Limited D × SchemaType g
 
 -- The area d holds the dictionary D, whose entries are well formed and within the limits.
 pub record Recorded (D : Dictionary) (d : List ℕ) : Type 0 where

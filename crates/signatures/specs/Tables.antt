@@ -28,11 +28,12 @@ pub record Beside (l base n source k : ℕ) : Type 0 where
   pub apart : (base + 2 * n ≤ source) ⊎ (source + 2 * k ≤ base)
 
 -- What an Include brings: the m rows at `source` take the stroke k there, and with the pairs ps renamed they are written from base on. Where the
--- names are wrong, 37, nothing is said of the rows.
+-- names are wrong, 37, nothing is said of the rows; words below both stay.
 pub record Brings (w w′ : List ℕ) (source m base k : ℕ) (ps : List (ℕ × ℕ)) (wrong : Bool) (n : ℕ) : Type 0 where
   pub finding : wrong ≡ wrongRows k ps (rows w source m)
   pub words : wrong ≡ false
       → Table (sets w source (flat (strokeRows k (rows w source m)))) w′ base (renameRows ps (strokeRows k (rows w source m))) n
+  pub below : (i : ℕ) → i < source → i < base → getD w′ i 0 ≡ getD w i 0
 
 -- r rows of the stack at base: rs on top of n rows
 pub record Pushed (w w′ : List ℕ) (base n : ℕ) (rs : List (ℕ × ℕ)) (r : ℕ) : Type 0 where

@@ -16,7 +16,7 @@ ghost use Rattle.signatures.specs.Tables.{Table, Beside, Brings};
 const STROKES: usize = 4;
 
 // The identifier can take the stroke k.
-fn takes(k: usize, id: usize) -> bool
+pub fn takes(k: usize, id: usize) -> bool
     ensures { λ r. ⌜ r ≡ takes k id ⌝ }
 {
     if k == 0 {

@@ -41,23 +41,23 @@ piece-refused H k t f m r = inl (refuses-ext t (Meets (H ⨾ skip)) (Meets H) f 
 -- CLOSED: with the items t, by the node k.
 module _ (s s′ s″ d : List ℕ) (n top : ℕ) (H : Items) (U : List ℕ) (k : ℕ) (t : Items) (M : ℕ → Type 0) (A : Advanced s s′ d 0 4096 n top (idle H U) t M) (few : length d < 2 ^ 31)
   where
-    abbrev whole : Ghost
+    abbrev pub whole : Ghost
     whole = record { equations = A .equations; before = H; items = t; known = U; mentioned = A .mentioned; cells = A .cells }
 
-    stands : Stands s′ d n top whole
-    stands = record {
+    pub whole-stands : Stands s′ d n top whole
+    whole-stands = record {
       piece = piece-alike s′ d n (A .equations) H (skip ⨾ t) t U (A .mentioned) (A .cells) (alike-skip t) (A .piece);
       above = A .above;
       few = few;
     }
 
-    passes : Passes t (Meets H)
-    passes = passes-ext t (Meets (H ⨾ skip)) (Meets H) (without-skip H) (A .goes)
+    pub whole-passes : Passes t (Meets H)
+    whole-passes = passes-ext t (Meets (H ⨾ skip)) (Meets H) (without-skip H) (A .goes)
 
     pub piece-walked : Closed s′ s″ d n true → Walked H (piece k t) U (A .mentioned) M
     piece-walked C =
-        let S = C .goes refl top whole stands in
-        record { goes = S .goes k passes; steady = S .steady k; extends = S .extends k; wider = A .wider; new = A .new }
+        let S = C .goes refl top whole whole-stands in
+        record { goes = S .goes k whole-passes; steady = S .steady k; extends = S .extends k; wider = A .wider; new = A .new }
 
     pub piece-several : Closed s′ s″ d n false → Refuses (piece k t) (Meets H) 34 k
-    piece-several C = C .stops refl top whole stands k passes
+    piece-several C = C .stops refl top whole whole-stands k whole-passes

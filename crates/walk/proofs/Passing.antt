@@ -42,7 +42,7 @@ scoped-after s s′ d w w′ n free Γ D H c U U′ M W e P C =
     (scoped-spared s d w w′ n free (idle (H ⨾ c) U′) Γ D P (scoped-walked s d w n Γ D H c U U′ M W C))
 
 -- The first part, on a shorter path.
-pub walking-first : (s d w : List ℕ) (rows at free h h′ : ℕ) (l m : List ℕ) → h′ ≤ h → Walking s d w rows at free h (l ++ m) → Walking s d w rows at free h′ l
+unfoldable pub walking-first : (s d w : List ℕ) (rows at free h h′ : ℕ) (l m : List ℕ) → h′ ≤ h → Walking s d w rows at free h (l ++ m) → Walking s d w rows at free h′ l
 walking-first s d w rows at free h h′ l m p K =
     let B = K .room in
     let n = length-append l m in

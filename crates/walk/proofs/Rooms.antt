@@ -1,11 +1,11 @@
 -- Room, from node to node.
-use mathlib.Core.Path.{_≡_, refl}
+use mathlib.Core.Path.{_≡_}
 use mathlib.Core.List.{List}
 use mathlib.Core.Logic.{inl, inr, ⊎-elim}
-use Prim.Native.Nat.{ℕ, zero, suc, _+_, _*_, _-_, _≤_, _<_}
+use Prim.Native.Nat.{ℕ, suc, _+_, _*_, _-_, _≤_, _<_}
 use native.Mathlib.Omega.{arith}
 use lib.ListN.{length}
-use Rattle.solver.specs.Store.{frozen, load}
+use Rattle.solver.specs.Store.{load}
 use Rattle.pieces.specs.Stage.{Room, Uses}
 use Rattle.pieces.proofs.Stages.{room-less}
 use Rattle.walk.specs.Room.{Between, Crowd, Inside}

@@ -8,12 +8,11 @@ use Rattle.types.specs.Equations.{In}
 use Rattle.types.specs.Types.{Ty, Term}
 use Rattle.types.proofs.Terms.{each-map}
 use Rattle.typing.specs.Dictionary.{Dictionary}
-use Rattle.typing.specs.Items.{Items, skip, _⨾_, Meets}
+use Rattle.typing.specs.Items.{Items, _⨾_, Meets}
 use Rattle.typing.specs.Scopes.{Scope}
 use Rattle.typing.specs.Signatures.{Signature}
 use Rattle.typing.specs.Unknowns.{Table}
 use Rattle.solver.specs.Settled.{lower, heap, Reads}
-use Rattle.solver.proofs.Settling.{heap-kept}
 use Rattle.signatures.specs.Rows.{rows, stack}
 use Rattle.signatures.specs.Carried.{Carries, Stacked}
 use Rattle.signatures.proofs.CarryLaws.{carries-other}
@@ -23,7 +22,7 @@ use Rattle.instances.specs.Clean.{Clean}
 use Rattle.instances.proofs.CleanLaws.{clean-reads, clean-lower}
 use Rattle.instances.proofs.Moving.{lower-words}
 use Rattle.pieces.specs.Piece.{Walked}
-use Rattle.pieces.specs.Stage.{Ghost, Stands}
+use Rattle.pieces.specs.Stage.{Ghost}
 use Rattle.names.specs.Scoped.{SettledAt, Scoped}
 use Rattle.inclusion.specs.Components.{Placed}
 use Rattle.inclusion.specs.Storing.{Stored}

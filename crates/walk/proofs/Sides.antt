@@ -138,3 +138,122 @@ module _ (s d w : List ℕ) (rows at free : ℕ) (a b : Expr) (Q : Sides s d w r
           room = inside₁;
         };
       }
+
+      -- THE RIGHT SIDE WAS VISITED.
+      module _ (s₂ w₂ : List ℕ) (number₂ place₂ cell₂ n₂ top₂ at₂ : ℕ) (B : ExprDone s₁ s₂ d w₁ w₂ rows n top at₁ free b number₂ place₂ cell₂ n₂ top₂ at₂) where
+        pub right-refused : (number₂ ≡ 0 → ⊥) → (H : Items) (U : List ℕ) → Steady H U → (Γ : Scope) (D : Dictionary) → Scoped s d w rows (idle H U) Γ D → Fresh (na ++ nb) U →
+            Refuses (piece k (relationOf Γ)) (Meets H) number₂ place₂
+        right-refused e H U S Γ D C F =
+            piece-refused H k (relationOf Γ) number₂ place₂
+            (stop-then s s₁ d 0 4096 n top (idle H U) (exprItems a Γ) (Owned na) (first H U S Γ D C F .advanced) (exprItems b Γ ⨾ own k (typeOf a) (typeOf b)) number₂ place₂
+            (stops-left H (skip ⨾ exprItems a Γ) (exprItems b Γ) (own k (typeOf a) (typeOf b)) number₂ place₂
+            (B .stops e (ghost₁ H U S Γ D C F) (stands₁ H U S Γ D C F) Γ D (scoped₁ H U S Γ D C F) (fresh₁ H U S Γ D C F))))
+
+        pub sides-spared : Spared w w₂ rows free
+        sides-spared = spared-on w w₁ w₂ rows free (A .spared) (B .spared)
+
+        module _ (fine₂ : number₂ ≡ 0) where
+          pub sides-stored : Stored s s₂ at at₂
+          sides-stored = stored-on s s₁ s₂ at at₁ at₂ (A .areas fine .stored) (B .areas fine₂ .stored)
+
+          -- the words of both sides end in the pool
+          pub sides-low : at₂ < 39936
+          sides-low =
+              let x = A .areas fine .short in
+              let y = B .areas fine₂ .short in
+              let z = K .room .pool in
+              let e = Q .enough in
+              let l = length-append na nb in
+              omega arith
+
+          module _ (H : Items) (U : List ℕ) (S : Steady H U) (Γ : Scope) (D : Dictionary) (C : Scoped s d w rows (idle H U) Γ D) (F : Fresh (na ++ nb) U) where
+            abbrev G₁ : Ghost
+            G₁ = ghost₁ H U S Γ D C F
+
+            second : Introduced s₁ s₂ d n top n₂ top₂ G₁ (exprItems b Γ) (Owned nb) (slot (exprNode b) 0) cell₂
+            second = B .goes fine₂ G₁ (stands₁ H U S Γ D C F) Γ D (scoped₁ H U S Γ D C F) (fresh₁ H U S Γ D C F)
+
+            abbrev ghost₂ : Ghost
+            ghost₂ = next s₁ s₂ d n top n₂ top₂ G₁ (exprItems b Γ) (Owned nb) (second .advanced)
+
+            stands₂ : Stands s₂ d n₂ top₂ ghost₂
+            stands₂ = next-stands s₁ s₂ d n top n₂ top₂ G₁ (exprItems b Γ) (Owned nb) (second .advanced) (K .few)
+
+            left-cell : Cell s₂ d n₂ ghost₂ cell (typeOf a)
+            left-cell =
+                next-cell s₁ s₂ d n top n₂ top₂ G₁ (exprItems b Γ) (Owned nb) (second .advanced) cell (typeOf a)
+                (placed-cell s s₁ d 0 4096 n top (idle H U) (exprItems a Γ) (Owned na) (first H U S Γ D C F .advanced) (slot (exprNode a) 0) cell (first H U S Γ D C F .placed))
+
+            right-cell : Cell s₂ d n₂ ghost₂ cell₂ (typeOf b)
+            right-cell = placed-cell s₁ s₂ d n top n₂ top₂ G₁ (exprItems b Γ) (Owned nb) (second .advanced) (slot (exprNode b) 0) cell₂ (second .placed)
+
+          -- One cell more.
+          room : Room s₂ n₂ top₂ 1
+          room =
+              let I = inside-next s₁ s₂ w₁ w₂ rows n top n₂ top₂ at₁ at₂ free (Q .height) (length nb) 0
+              (inside-part s₁ w₁ rows n top at₁ free (Q .height) (Q .height) (length nb + 0) (length nb) inside₁ (omega arith) (omega arith))
+              (B .areas fine₂ .uses) (B .areas fine₂ .stored .more) (B .areas fine₂ .short) (B .spared .size) in
+              room-less s₂ n₂ top₂ 1 (40 * (24 - I .visited) + 40) (omega arith) (I .store)
+
+          pub sides-ask : Working s₂ d n₂ top₂ 1 (cell ∷ cell₂ ∷ [])
+          sides-ask =
+              let G = ghost₂ (K .before) (K .known) (K .steady) (K .scope) (K .dictionary) (K .scoped) (K .fresh) in
+              record {
+                ghost = G;
+                stands = stands₂ (K .before) (K .known) (K .steady) (K .scope) (K .dictionary) (K .scoped) (K .fresh);
+                terms = cons (typeOf a) (cons (typeOf b) nil);
+                cells =
+                    two-cells s₂ d n₂ G cell cell₂ (typeOf a) (typeOf b)
+                    (left-cell (K .before) (K .known) (K .steady) (K .scope) (K .dictionary) (K .scoped) (K .fresh))
+                    (right-cell (K .before) (K .known) (K .steady) (K .scope) (K .dictionary) (K .scoped) (K .fresh));
+                room = room;
+              }
+
+          -- THE RELATION.
+          module _ (s₃ : List ℕ) (number₃ n₃ : ℕ) (R : Related s₂ s₃ d n₂ top₂ cell cell₂ number₃ n₃ own) where
+            pub own-refused : (number₃ ≡ 0 → ⊥) → (H : Items) (U : List ℕ) → Steady H U → (Γ : Scope) (D : Dictionary) → Scoped s d w rows (idle H U) Γ D → Fresh (na ++ nb) U →
+                Refuses (piece k (relationOf Γ)) (Meets H) number₃ k
+            own-refused e H U S Γ D C F =
+                piece-refused H k (relationOf Γ) number₃ k
+                (stop-then s s₁ d 0 4096 n top (idle H U) (exprItems a Γ) (Owned na) (first H U S Γ D C F .advanced) (exprItems b Γ ⨾ own k (typeOf a) (typeOf b)) number₃ k
+                (stop-then s₁ s₂ d n top n₂ top₂ (ghost₁ H U S Γ D C F) (exprItems b Γ) (Owned nb) (second H U S Γ D C F .advanced) (own k (typeOf a) (typeOf b)) number₃ k
+                (R .stops e (ghost₂ H U S Γ D C F) (stands₂ H U S Γ D C F) k (typeOf a) (typeOf b) (left-cell H U S Γ D C F) (right-cell H U S Γ D C F))))
+
+            module _ (fine₃ : number₃ ≡ 0) where
+              module _ (H : Items) (U : List ℕ) (S : Steady H U) (Γ : Scope) (D : Dictionary) (C : Scoped s d w rows (idle H U) Γ D) (F : Fresh (na ++ nb) U) where
+                third : Passed s₂ s₃ d n₂ top₂ n₃ k (ghost₂ H U S Γ D C F) (own k (typeOf a) (typeOf b))
+                third =
+                    R .goes fine₃ (ghost₂ H U S Γ D C F) (stands₂ H U S Γ D C F) k (typeOf a) (typeOf b) (left-cell H U S Γ D C F) (right-cell H U S Γ D C F)
+
+                abbrev N : List ℕ
+                N = (na ++ nb) ++ (k ∷ [])
+
+                whole : Advanced s s₃ d 0 4096 n₃ (third .top′) (idle H U) (relationOf Γ) (Owned N)
+                whole =
+                    advance-then s s₁ d 0 4096 n top (idle H U) (exprItems a Γ) (Owned N)
+                    (wider-mine s s₁ d 0 4096 n top (idle H U) (exprItems a Γ) (Owned na) (first H U S Γ D C F .advanced) (Owned N) (λ x o. owned-left (na ++ nb) (k ∷ []) x (owned-left na nb x o)))
+                    (exprItems b Γ ⨾ own k (typeOf a) (typeOf b)) s₃ n₃ (third .top′)
+                    (advance-then s₁ s₂ d n top n₂ top₂ (ghost₁ H U S Γ D C F) (exprItems b Γ) (Owned N)
+                    (wider-mine s₁ s₂ d n top n₂ top₂ (ghost₁ H U S Γ D C F) (exprItems b Γ) (Owned nb) (second H U S Γ D C F .advanced) (Owned N)
+                    (λ x o. owned-left (na ++ nb) (k ∷ []) x (owned-right na nb x o)))
+                    (own k (typeOf a) (typeOf b)) s₃ n₃ (third .top′)
+                    (wider-mine s₂ s₃ d n₂ top₂ n₃ (third .top′) (ghost₂ H U S Γ D C F) (own k (typeOf a) (typeOf b)) (SlotOf k) (third .advanced) (Owned N) (owned-in k N (last-in (na ++ nb) k))))
+
+                -- THE PIECE IS CLOSED.
+                pub relation-went : (s₄ : List ℕ) → Closed s₃ s₄ d n₃ true → Went H (piece k (relationOf Γ)) U N
+                relation-went s₄ Z = record { unknowns = whole .mentioned; walked = piece-walked s s₃ s₄ d n₃ (third .top′) H U k (relationOf Γ) (Owned N) whole (K .few) Z }
+
+                pub relation-several : (s₄ : List ℕ) → Closed s₃ s₄ d n₃ false → Refuses (piece k (relationOf Γ)) (Meets H) 34 k
+                relation-several s₄ Z = piece-several s s₃ s₄ d n₃ (third .top′) H U k (relationOf Γ) (Owned N) whole (K .few) Z
+
+              pub close-ask : Closing s₃ d n₃
+              close-ask =
+                  let P = third (K .before) (K .known) (K .steady) (K .scope) (K .dictionary) (K .scoped) (K .fresh) in
+                  let G = ghost₂ (K .before) (K .known) (K .steady) (K .scope) (K .dictionary) (K .scoped) (K .fresh) in
+                  record {
+                    top = P .top′;
+                    ready = record {
+                      ghost = next s₂ s₃ d n₂ top₂ n₃ (P .top′) G (own k (typeOf a) (typeOf b)) (SlotOf k) (P .advanced);
+                      stands = next-stands s₂ s₃ d n₂ top₂ n₃ (P .top′) G (own k (typeOf a) (typeOf b)) (SlotOf k) (P .advanced) (K .few);
+                    };
+                  }

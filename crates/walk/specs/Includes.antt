@@ -22,7 +22,8 @@ use Rattle.signatures.specs.Carried.{Carries}
 use Rattle.pieces.specs.Piece.{Steady, Walked, Settled}
 use Rattle.pieces.specs.Rows.{SlotsFrom}
 use Rattle.names.specs.Scoped.{Scoped}
-use Rattle.inclusion.specs.Components.{Component, Placed, StandsFor, ActualTypes}
+use Rattle.names.specs.Components.{Component}
+use Rattle.inclusion.specs.Components.{Placed, StandsFor, ActualTypes}
 use Rattle.inclusion.specs.Storing.{Stored}
 use Rattle.walk.specs.Visits.{Owned, Fresh, idle, Spared}
 use Rattle.walk.specs.Predicates.{Walking}
@@ -69,6 +70,7 @@ pub record ActualsAsk (s d w : List ℕ) (stack at free k j : ℕ) (xs : Exprs) 
   pub texts : ℕ
   pub limited : LimitedExprs height texts xs
   pub walking : Walking s d w stack at free height (exprsNumbers xs)
+  pub few : length (exprsNumbers xs) ≤ 24
   pub own : (x : ℕ) → SlotsFrom k (suc j) x → In x (walking .known) → ⊥
   pub apart : In k (exprsNumbers xs) → ⊥
   pub row : length places ≡ 4

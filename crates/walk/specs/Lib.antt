@@ -4,5 +4,7 @@ pub mod Expressions
 pub mod Predicates
 pub mod Texts
 pub mod Includes
+pub mod Parts
+pub mod Shapes
 pub mod Schemas
 pub mod Paragraphs

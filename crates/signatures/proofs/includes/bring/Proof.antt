@@ -9,7 +9,7 @@ use Rattle.signatures.proofs.includes.bring.Tie as tie
 returns : tie.Need-returns
 returns c =
     let a = c .before .before .before .before .before .args in
-    brings-stroked (a .work .now) (a .source) (a .m) (a .base) (a .k) (renames (a .part .now) (a .first)) (a .work .now) 0 (sym (c .before .some-stroked .ensures) ∙ c .if1 .taken)
+    brings-stroked (a .work .now) (a .source) (a .m) (a .base) (a .k) (renames (a .part .now) (a .first)) 0 (sym (c .before .some-stroked .ensures) ∙ c .if1 .taken)
 
 stroke-requires : tie.Need-stroke-requires
 stroke-requires c κs =
@@ -22,7 +22,7 @@ returns-2 c =
     let a = s .args in
     let t = c .before .before .before .before .before .stroke in
     brings-old (a .work .now) (a .source) (a .m) (a .base) (a .k) (renames (a .part .now) (a .first)) (t .last .0) (s .pre .0 .inside)
-    (sym (c .before .before .before .before .before .before .before .before .some-stroked .ensures) ∙ c .before .before .before .before .before .before .before .if1 .left) (t .ensures) (t .last .0) 0 (sym (c .before .wrong-old .ensures) ∙ c .if2 .taken)
+    (sym (c .before .before .before .before .before .before .before .before .some-stroked .ensures) ∙ c .before .before .before .before .before .before .before .if1 .left) (t .ensures) 0 (sym (c .before .wrong-old .ensures) ∙ c .if2 .taken)
 
 rename-requires : tie.Need-rename-requires
 rename-requires c κs =

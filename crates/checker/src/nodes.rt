@@ -8,11 +8,11 @@ use crate::results::Lined;
 use crate::results::Verdict;
 use crate::results::Visit;
 use crate::results::found;
-use crate::results::lined;
+use crate::results::lined_at;
 use crate::results::unlined;
 use crate::results::unvisited;
-use crate::results::verdict;
-use crate::results::visit;
+use crate::results::verdict_at;
+use crate::results::visit_at;
 use dictionary::lookup::entry_of_schema;
 use dictionary::lookup::parameters_of;
 use dictionary::lookup::type_place;
@@ -114,7 +114,7 @@ fn opers(
     ensures { λ r. ⌜ ExprsDone (now (a .entry)) (now (a .exit)) (now (d .entry)) (now (w .entry)) (now (w .exit)) rows n top at free (exprsFrom (now (doc .entry)) k i (length (now (p .entry)) - i)) (now (parts .entry)) (now (parts .exit)) j (r .number) (r .place) (r .cells) (r .top) (r .at) ⌝ }
 {
     if p.len() <= i {
-        return visit(0, k, 0, n, top, at);
+        return visit_at(0, k, 0, n, top, at);
     }
     let x = expr(doc, a, d, w, rows, n, top, at, free, word(p, i));
     if x.number != 0 {
@@ -172,7 +172,7 @@ fn refer(
         &parts,
         p.len() - 2,
     );
-    visit(r.number, k, r.cell, r.cells, r.top, x.at)
+    visit_at(r.number, k, r.cell, r.cells, r.top, x.at)
 }
 
 // 33 Set, 34 Tuple, 35 Product.
@@ -201,14 +201,14 @@ fn group(
     let m = p.len() - 1;
     if q == 33 {
         let r = set_rule(a, d, x.cells, x.top, &parts, m);
-        return visit(r.number, k, r.cell, r.cells, r.top, x.at);
+        return visit_at(r.number, k, r.cell, r.cells, r.top, x.at);
     }
     if q == 34 {
         let r = tuple_rule(a, x.cells, x.top, &parts, m);
-        return visit(r.number, k, r.cell, r.cells, r.top, x.at);
+        return visit_at(r.number, k, r.cell, r.cells, r.top, x.at);
     }
     let r = product_rule(a, d, x.cells, x.top, &parts, m);
-    visit(r.number, k, r.cell, r.cells, r.top, x.at)
+    visit_at(r.number, k, r.cell, r.cells, r.top, x.at)
 }
 
 // 36 Power.
@@ -233,7 +233,7 @@ fn power(
         return x;
     }
     let r = power_rule(a, d, x.cells, x.top, x.cell);
-    visit(r.number, k, r.cell, r.cells, r.top, x.at)
+    visit_at(r.number, k, r.cell, r.cells, r.top, x.at)
 }
 
 // 38 Select.
@@ -258,7 +258,7 @@ fn select(
         return x;
     }
     let r = select_rule(a, d, x.cells, x.top, x.cell, word(p, 2));
-    visit(r.number, k, r.cell, r.cells, r.top, x.at)
+    visit_at(r.number, k, r.cell, r.cells, r.top, x.at)
 }
 
 // 37 Apply.
@@ -287,7 +287,7 @@ fn apply(
         return y;
     }
     let r = apply_rule(a, d, y.cells, y.top, x.cell, y.cell);
-    visit(r.number, k, r.cell, r.cells, r.top, y.at)
+    visit_at(r.number, k, r.cell, r.cells, r.top, y.at)
 }
 
 // 41 to 45: arithmetic.
@@ -316,7 +316,7 @@ fn arith(
         return y;
     }
     let r = arithmetic_rule(a, d, y.cells, y.top, x.cell, y.cell);
-    visit(r.number, k, r.cell, r.cells, r.top, y.at)
+    visit_at(r.number, k, r.cell, r.cells, r.top, y.at)
 }
 
 // 46 Comprehension: the piece around waits in the work area while its Text is visited.
@@ -347,7 +347,7 @@ fn compr(
         return x;
     }
     let r = comprehension_rule(a, x.cells, x.top, x.cell);
-    visit(r.number, k, r.cell, r.cells, r.top, x.at)
+    visit_at(r.number, k, r.cell, r.cells, r.top, x.at)
 }
 
 // 40 SchemaSet: the piece around waits in the work area while its Include is visited.
@@ -374,7 +374,7 @@ fn sset(
     }
     restore(a, n, top, w, free);
     let g = schema_set(a, d, w, e, i.count, n, top);
-    visit(0, k, g.cell, g.cells, g.top, i.at)
+    visit_at(0, k, g.cell, g.cells, g.top, i.at)
 }
 
 // An expression.
@@ -399,11 +399,11 @@ pub fn expr(
         30 => refer(doc, a, d, w, rows, n, top, at, free, k, p),
         31 => {
             let r = number_rule(a, n, top);
-            visit(r.number, k, r.cell, r.cells, r.top, at)
+            visit_at(r.number, k, r.cell, r.cells, r.top, at)
         }
         32 => {
             let r = integers_rule(a, n, top);
-            visit(r.number, k, r.cell, r.cells, r.top, at)
+            visit_at(r.number, k, r.cell, r.cells, r.top, at)
         }
         33..=35 => group(doc, a, d, w, rows, n, top, at, free, k, p),
         36 => power(doc, a, d, w, rows, n, top, at, free, k, p),
@@ -411,7 +411,7 @@ pub fn expr(
         38 => select(doc, a, d, w, rows, n, top, at, free, k, p),
         39 => {
             let r = theta_rule(a, d, w, n, top, rows, free, word(p, 1), word(p, 2));
-            visit(r.number, k, r.cell, r.cells, r.top, at)
+            visit_at(r.number, k, r.cell, r.cells, r.top, at)
         }
         40 => sset(doc, a, d, w, rows, n, top, at, free, k, p),
         41..=45 => arith(doc, a, d, w, rows, n, top, at, free, k, p),
@@ -444,13 +444,13 @@ fn rel(
     }
     let r = related(a, d, y.cells, y.top, word(p, 0), x.cell, y.cell);
     if r.number != 0 {
-        return verdict(r.number, k);
+        return verdict_at(r.number, k);
     }
     if close(a, d, r.cells) {
         wipe(a, at, y.at);
-        return verdict(0, k);
+        return verdict_at(0, k);
     }
-    verdict(SEVERAL, k)
+    verdict_at(SEVERAL, k)
 }
 
 // 25 to 27: and, or, implies.
@@ -519,7 +519,7 @@ pub fn pred(
     let p = part(doc, k);
     let q = word(p, 0);
     match q {
-        20 => verdict(0, k),
+        20 => verdict_at(0, k),
         21..=23 => rel(doc, a, d, w, rows, at, free, k, p),
         24 => pred(doc, a, d, w, rows, at, free, word(p, 1)),
         25..=27 => conn(doc, a, d, w, rows, at, free, k, p),
@@ -589,7 +589,7 @@ fn lines(
     ensures { λ r. ⌜ LinesDone (now (a .entry)) (now (a .exit)) (now (d .entry)) (now (w .entry)) (now (w .exit)) rows base m at free (linesFrom (now (doc .entry)) k i (length (now (p .entry)) - i)) global (r .number) (r .place) (r .count) (r .at) ⌝ }
 {
     if p.len() <= i {
-        return lined(0, k, m, at);
+        return lined_at(0, k, m, at);
     }
     let r = line(doc, a, d, w, rows, base, m, at, free, word(p, i), global);
     if r.number != 0 {
@@ -659,31 +659,31 @@ fn decl(
         return unlined(x.number, x.place);
     }
     if !is_power(a, d, x.cells, x.top, x.cell) {
-        return lined(UNEQUAL, k, 0, 0);
+        return lined_at(UNEQUAL, k, 0, 0);
     }
     if !close(a, d, x.cells + 2) {
-        return lined(SEVERAL, k, 0, 0);
+        return lined_at(SEVERAL, k, 0, 0);
     }
     let size = settled_size(a, d, x.cells + 2, x.cells);
     let e = store_type(a, d, w, x.cells + 2, x.cells, at, x.at, free);
     if !declared_fits(a, d, w, base, m, p, at, size) {
-        return lined(CLASH, k, 0, 0);
+        return lined_at(CLASH, k, 0, 0);
     }
     if !new_if(global, d, p) {
-        return lined(CLASH, k, 0, 0);
+        return lined_at(CLASH, k, 0, 0);
     }
     if MOST_SIZE < size {
-        return lined(TOO_LARGE, k, 0, 0);
+        return lined_at(TOO_LARGE, k, 0, 0);
     }
     let count = declare(w, base, m, p, 2, at);
     if MOST_NAMES < count {
-        return lined(TOO_LARGE, k, 0, 0);
+        return lined_at(TOO_LARGE, k, 0, 0);
     }
     if count == m {
         wipe(a, at, e);
-        return lined(0, k, m, at);
+        return lined_at(0, k, m, at);
     }
-    lined(0, k, count, e)
+    lined_at(0, k, count, e)
 }
 
 // 12 Include, as a line.
@@ -711,20 +711,20 @@ fn incl(
     }
     let row = span(&places, 0, word(p, 3));
     if !rows_agree(a, d, w, base, m, free, i.count, row) {
-        return lined(CLASH, k, 0, 0);
+        return lined_at(CLASH, k, 0, 0);
     }
     if !rows_new_if(global, d, w, free, i.count) {
-        return lined(CLASH, k, 0, 0);
+        return lined_at(CLASH, k, 0, 0);
     }
     if !rows_small(a, d, w, free, i.count, row) {
-        return lined(TOO_LARGE, k, 0, 0);
+        return lined_at(TOO_LARGE, k, 0, 0);
     }
     let e = keep_rows(a, d, w, base, m, free, i.count, row, at, i.at, free + TABLE);
     let r = merge(w, free, i.count, base, m);
     if MOST_NAMES < r {
-        return lined(TOO_LARGE, k, 0, 0);
+        return lined_at(TOO_LARGE, k, 0, 0);
     }
-    lined(0, k, r, e)
+    lined_at(0, k, r, e)
 }
 
 // 12 Include, as a schema expression: 38. What it brings is a table at free.
@@ -748,10 +748,10 @@ pub fn brings(
     }
     let row = span(&places, 0, word(part(doc, k), 3));
     if !rows_small(a, d, w, free, i.count, row) {
-        return lined(TOO_LARGE, k, 0, 0);
+        return lined_at(TOO_LARGE, k, 0, 0);
     }
     let e = keep_rows(a, d, w, free, 0, free, i.count, row, at, i.at, free + TABLE);
-    lined(0, k, i.count, e)
+    lined_at(0, k, i.count, e)
 }
 
 // An Include: name, count, actuals, stroke and renames. What it brings is a table at free, with the places of the recorded types.
@@ -773,10 +773,10 @@ fn include(
     let q = word(p, 3);
     let e = entry_of_schema(d, word(p, 1));
     if e == 0 {
-        return lined(UNKNOWN_NAME, k, 0, 0);
+        return lined_at(UNKNOWN_NAME, k, 0, 0);
     }
     if parameters_of(d, e) != q {
-        return lined(WRONG_COUNT, k, 0, 0);
+        return lined_at(WRONG_COUNT, k, 0, 0);
     }
     let x = actuals(doc, a, d, w, rows, at, free, k, p, 0, q, places);
     if x.number != 0 {
@@ -785,9 +785,9 @@ fn include(
     let m = component_rows(a, d, w, DICTIONARY + type_place(d, e), free + HALF);
     let b = bring(w, free + HALF, m, free, word(p, 2), p, q + 4);
     if b.wrong {
-        return lined(BAD_RENAME, k, 0, 0);
+        return lined_at(BAD_RENAME, k, 0, 0);
     }
-    lined(0, k, b.count, x.at)
+    lined_at(0, k, b.count, x.at)
 }
 
 // The actuals of an Include from number j of q on: each is a closed piece, and a power. The places of their element types go to `places`.
@@ -809,17 +809,17 @@ fn actuals(
     ensures { λ r. ⌜ ActualsDone (now (a .entry)) (now (a .exit)) (now (d .entry)) (now (w .entry)) (now (w .exit)) rows at free k j (exprsFrom (now (doc .entry)) k (j + 4) (q - j)) (now (places .entry)) (now (places .exit)) (r .number) (r .place) (r .at) ⌝ }
 {
     if q <= j {
-        return lined(0, k, 0, at);
+        return lined_at(0, k, 0, at);
     }
     let x = expr(doc, a, d, w, rows, 0, RUNS, at, free, word(p, j + 4));
     if x.number != 0 {
         return unlined(x.number, x.place);
     }
     if !is_power(a, d, x.cells, x.top, x.cell) {
-        return lined(UNEQUAL, k, 0, 0);
+        return lined_at(UNEQUAL, k, 0, 0);
     }
     if !close(a, d, x.cells + 2) {
-        return lined(SEVERAL, k, 0, 0);
+        return lined_at(SEVERAL, k, 0, 0);
     }
     let e = store_type(a, d, w, x.cells + 2, x.cells, at, x.at, free);
     store(places, j, at as u32);
