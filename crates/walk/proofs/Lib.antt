@@ -34,3 +34,4 @@ pub mod Declaring
 pub mod Lining
 pub mod Actuals
 pub mod TableRows
+pub mod Keeping
