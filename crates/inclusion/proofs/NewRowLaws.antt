@@ -123,7 +123,7 @@ insert-length i p (r ∷ rs) h = go (eqb i (r .0)) (ltb i (r .0)) refl (insert-l
     go false false q e = ap suc e ∙ more (hasRow i rs)
 
 -- A row whose identifier is before those of xs: the number of xs stays.
-insert-new : (i p : ℕ) (xs rs : List (ℕ × ℕ)) → Ascending (i ∷ identifiersOf xs) → newRows xs (insertRow i p rs) ≡ newRows xs rs
+pub insert-new : (i p : ℕ) (xs rs : List (ℕ × ℕ)) → Ascending (i ∷ identifiersOf xs) → newRows xs (insertRow i p rs) ≡ newRows xs rs
 unfolding newRows identifiersOf
 insert-new i p [] rs h = refl
 insert-new i p (x ∷ xs) rs h =

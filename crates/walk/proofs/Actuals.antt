@@ -187,7 +187,7 @@ module _ (s d w : List ℕ) (stack at free k j : ℕ) (a : Expr) (xs : Exprs) (p
                   let q = K .room .few in
                   let p = length-append l ls in
                   let c = ⊎-elim (λ (r : 24 ≤ K .bound). let y₀ : length l ≤ K .bound = omega arith in y₀) (λ (r : length (l ++ ls) ≤ K .bound). let y₀ : length l ≤ K .bound = omega arith in y₀)
-                      (K .crowd) in
+                  (K .crowd) in
                   (o, x, omega arith, omega arith, omega arith)
 
               -- THE TYPE IS STORED, its place written.
@@ -249,7 +249,7 @@ module _ (s d w : List ℕ) (stack at free k j : ℕ) (a : Expr) (xs : Exprs) (p
                     let z = spared₂ .size in
                     let T = E (K .scope) (K .dictionary) (K .before) (K .known) (K .steady) (K .scoped) fresh₀ in
                     let F = fresh₁ (K .scope) (K .dictionary) (K .before) (K .known) (K .steady) (K .scoped) fresh₀ (λ x y. K .fresh x (owned-right l ls x y))
-                        (λ x y. Q .own x (y .0, (let q = y .1 in omega arith), y .2, y .3)) in
+                    (λ x y. Q .own x (y .0, (let q = y .1 in omega arith), y .2, y .3)) in
                     record {
                       height = Q .height;
                       texts = Q .texts;

@@ -170,8 +170,8 @@ module _ (s d w : List ℕ) (rows at free : ℕ) (a : Expr) (n k : ℕ) (big : l
         let t = type-settled Γ D H U S C F fine s₂ b P yes s₃ Z in
         let τ = W .steady .some in
         let f : WellFormed (K .type c₁) =
-            subst WellFormed (t (τ .0) (τ .1))
-            (settled-formed s d w rows a (ElementNew a n k) Γ D n k (λ H′ U′ S′ C′ F′. element-walked Γ D H′ U′ S′ C′ F′ fine s₂ b P yes s₃ Z .goes) sized H U C F (τ .0) (τ .1))
+        subst WellFormed (t (τ .0) (τ .1))
+        (settled-formed s d w rows a (ElementNew a n k) Γ D n k (λ H′ U′ S′ C′ F′. element-walked Γ D H′ U′ S′ C′ F′ fine s₂ b P yes s₃ Z .goes) sized H U C F (τ .0) (τ .1))
         in
         let q = stands (G₃ Γ D H U S C F fine s₂ b P yes s₃ Z) K f in
         record {

@@ -7,12 +7,13 @@ use mathlib.Core.Logic.{inl, inr, ⊎-elim}
 use Prim.Native.Nat.{ℕ, suc, _+_, _*_, _-_, _≤_, _<_}
 use native.Mathlib.Nat.{eq-zero-or-pos}
 use native.Mathlib.Omega.{arith}
-use lib.ListN.{length, getD, drop, take}
+use lib.ListN.{length, getD, drop}
+use lib.Seq.{sets, length-sets}
 use Rattle.syntax.specs.Limited.{LimitedInclude}
 use Rattle.syntax.specs.Tree.{Include, include, Exprs, exprsLength}
 use Rattle.syntax.specs.TreeNumbers.{includeNumbers, exprsNumbers}
 use Rattle.types.specs.Former.{binding}
-use Rattle.types.specs.Formed.{FormedType, Arity}
+use Rattle.types.specs.Formed.{FormedType, Arity, Ascending}
 use Rattle.types.specs.Instance.{instance}
 use Rattle.types.specs.Types.{Ty, Tys, node, Term, Terms, nil}
 use Rattle.typing.specs.Conditions.{refuseIf}
@@ -26,28 +27,26 @@ use Rattle.solver.specs.Settled.{heap, Reads}
 use Rattle.dictionary.specs.Holds.{Holds}
 use Rattle.dictionary.specs.Lookup.{parametersAt, typeAt, SchemaFound, Recorded as Entry}
 use Rattle.dictionary.proofs.LookupLaws.{schema-formed}
-use Rattle.signatures.specs.Rows.{rows, stack as stackOf, flat, strokeRows}
+use Rattle.signatures.specs.Rows.{rows, stack as stackOf, flat, identifiersOf, strokeRows, renameRows}
 use Rattle.signatures.specs.Tables.{Table, Beside, Brings}
 use Rattle.signatures.specs.Carried.{Carries}
 use Rattle.signatures.proofs.CallLaws.{brought-wrong, brought-names}
-use Rattle.signatures.proofs.CarryLaws.{carries-other}
 use Rattle.signatures.proofs.RowLaws.{rows-length, getD-below}
 use Rattle.signatures.proofs.ScopeLaws.{stacked-schema}
-use Rattle.signatures.proofs.TableLaws.{table-length, rename-count}
+use Rattle.signatures.proofs.TableLaws.{table-length, table-rows, rename-count}
 use Rattle.signatures.proofs.IncludeLaws.{stroke-length}
 use Rattle.pieces.specs.Piece.{Steady, Walked}
 use Rattle.pieces.proofs.Between.{walked-skip, walked-then, walked-mine, refuses-first, refuses-second, refused}
-use Rattle.names.specs.Components.{Component as Part, ComponentsAsked, ComponentsOf, ComponentRows}
+use Rattle.names.specs.Components.{Component, ComponentsAsked, ComponentsOf, ComponentRows}
 use Rattle.names.specs.Scoped.{SettledAt, SchemaType, Recorded, Scoped}
 use Rattle.names.proofs.ComponentLaws.{components-high}
 use Rattle.names.proofs.LookingUp.{dictionary-reads}
 use Rattle.names.proofs.ThetaRules.{schema-limited}
-use Rattle.inclusion.specs.Components.{Component}
-use Rattle.inclusion.specs.Storing.{Stored}
+use Rattle.inclusion.proofs.NewRowLaws.{renamed-ascending}
 use Rattle.walk.specs.Includes.{actualCount, IncludeAsk, Brought, IncludeDone, ActualAt, ActualFresh, ActualOwned, ActualsAsk, ActualsWent, ActualsDone}
 use Rattle.walk.specs.Visits.{Owned, Fresh, idle, Spared}
 use Rattle.walk.proofs.ActualTypes.{actual-owned, actual-fresh, actual-types}
-use Rattle.walk.proofs.Carrying.{carries-row}
+use Rattle.walk.proofs.TableRows.{carries-row}
 use Rattle.walk.proofs.Nodes.{once-apart}
 use Rattle.walk.proofs.Passing.{walking-first}
 use Rattle.walk.proofs.Scopes.{spared-refl, spared-on}
@@ -103,6 +102,7 @@ module _ (s d w : List ℕ) (stack at free n id k : ℕ) (xs : Exprs) (rs : List
     short = λ e. absurd (ne e);
     few = λ e. absurd (ne e);
     recorded = λ e. absurd (ne e);
+    ascending = λ e. absurd (ne e);
     goes = λ e. absurd (ne e);
     stops = λ e. r;
   }
@@ -249,7 +249,7 @@ module _ (s d w : List ℕ) (stack at free n id k : ℕ) (xs : Exprs) (rs : List
                 -- what is wrong with the names
                 wrong-is : (D : Dictionary) (R : Recorded D d) → wrong ≡ wrongNames k rs (componentsOf (instance nil (entry D R .type)))
                 wrong-is D R =
-                    brought-wrong (Part s₁ d nil) w₂ w₃ (free + 32) c free k rs wrong m B (componentsOf (instance nil (node (binding (ids D R)) (gs D R)))) (of D R .carries nil)
+                    brought-wrong (Component s₁ d nil) w₂ w₃ (free + 32) c free k rs wrong m B (componentsOf (instance nil (node (binding (ids D R)) (gs D R)))) (of D R .carries nil)
                     ∙ ap (λ g. wrongNames k rs (componentsOf (instance nil g))) (sym (limits D R .1 .2))
 
                 -- 37
@@ -278,17 +278,25 @@ module _ (s d w : List ℕ) (stack at free n id k : ℕ) (xs : Exprs) (rs : List
                       omega arith
 
                   abbrev High : Term → ℕ → Type 0
-                  High t p = Part s₁ d nil t p × (39936 ≤ p)
+                  High t p = Component s₁ d nil t p × (39936 ≤ p)
 
                   high : (j : ℕ) → j < m → 39936 ≤ getD w₃ (free + 2 * j + 1) 0
                   high j y =
                       let D = A .walking .dictionary in
                       let R = A .walking .scoped .recorded in
-                      carries-row High w₃ _ free m
-                      (brought-rows High _ (components-high s₁ d w₁ w₂ (39936 + q) (free + 32) c (ids D R) (gs D R) own-rows (omega arith) nil)) j y .1 .1
+                      carries-row High _ w₃ free m j
+                      (brought-rows High _ (components-high s₁ d w₁ w₂ (39936 + q) (free + 32) c (ids D R) (gs D R) own-rows (omega arith) nil)) y .1 .1
 
-                  same-part : (X : Terms) (t : Term) (p : ℕ) → Part s₁ d X t p → Component s₁ d X t p
-                  same-part X t p T = record { type = T .type; reads = T .reads; means = T .means }
+                  ascends : Ascending (identifiersOf (rows w₃ free m))
+                  ascends =
+                      let M = B .words right in
+                      let q′ = strokeRows k (rows w₂ (free + 32) c) in
+                      let x = few-brought in
+                      let y = length-sets w₂ (free + 32) (flat q′) in
+                      let f = A .walking .room .frames in
+                      let v = A .walking .room .wide in
+                      let o = size₂ in
+                      subst (λ l. Ascending (identifiersOf l)) (sym (table-rows (sets w₂ (free + 32) (flat q′)) free w₃ (renameRows rs q′) m M (omega arith))) (renamed-ascending rs q′)
 
                   components : (H : Items) (U : List ℕ) (Γ : Scope) (D : Dictionary) → Scoped s d w stack (idle H U) Γ D →
                       Carries (Component s₁ d (row n 1 (exprsLength xs))) (includeSignature i Γ) (rows w₃ free m)
@@ -299,7 +307,7 @@ module _ (s d w : List ℕ) (stack at free n id k : ℕ) (xs : Exprs) (rs : List
                       subst (λ q′. Carries (Component s₁ d X) q′ (rows w₃ free m))
                       (ap (λ x. renameAll rs (strokeAll k (componentsOf (instance X x)))) (sym (limits D (C .recorded) .1 .2))
                       ∙ sym (signature-found n id k xs rs Γ (E .parameters) (E .type) (in-dictionary H U Γ D C ∙ E .means)))
-                      (carries-other (Part s₁ d X) (Component s₁ d X) (same-part X) _ (rows w₃ free m) (brought-rows (Part s₁ d X) _ (of D (C .recorded) .carries X)))
+                      (brought-rows (Component s₁ d X) _ (of D (C .recorded) .carries X))
 
                   walked : (H : Items) (U : List ℕ) → Steady H U → (Γ : Scope) (D : Dictionary) (C : Scoped s d w stack (idle H U) Γ D) → (W : ActualsWent s₁ d H U Γ n 0 xs places₁) →
                       Walked H (includeItems i Γ) U (W .unknowns) (Owned (includeNumbers i))
@@ -333,6 +341,7 @@ module _ (s d w : List ℕ) (stack at free n id k : ℕ) (xs : Exprs) (rs : List
                     short = λ x. P .short fine;
                     few = λ x. few-brought;
                     recorded = λ x. high;
+                    ascending = λ x. ascends;
                     goes = λ x H U S Γ D C F.
                         let W = P .goes fine H U S Γ D C (fresh U F) in
                         let v = walked H U S Γ D C W in

@@ -33,5 +33,9 @@ pub mod Counting
 pub mod Declaring
 pub mod Lining
 pub mod Actuals
+pub mod Brought
+pub mod Bringing
 pub mod TableRows
 pub mod Keeping
+pub mod Merged
+pub mod Inclusions

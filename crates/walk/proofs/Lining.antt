@@ -278,11 +278,11 @@ module _ (s d w : List ℕ) (stack base m at free : ℕ) (one whole ls : Lines) 
             let rest = linesItems ls Γ D₁ (X .after Γ r) in
             let W₁ = W H U S Γ D C F₁ r J in
             let W₂ = B .goes e (H ⨾ items Γ D₁ r) (W₁ .unknowns) (walked₁ H U S Γ D C F₁ r J .steady) Γ D (scoped₁ H U S Γ D C F₁ r J) (fresh₁ H U S Γ D C F₁ r J) (X .after Γ r)
-                (signature₁ H U S Γ D C F₁ r J) in
+            (signature₁ H U S Γ D C F₁ r J) in
             let M = Owned (l ++ k) in
             let all = line-then H (X .own Γ D₁ r) (X .agree Γ D₁ r) (X .new Γ D₁ r) (X .sizes Γ D₁ r) (X .count Γ D₁ r) rest U (W₁ .unknowns) (W₂ .unknowns) M
-                (walked-mine H (items Γ D₁ r) U (W₁ .unknowns) (Owned l) M (owned-left l k) (walked₁ H U S Γ D C F₁ r J))
-                (walked-mine (H ⨾ items Γ D₁ r) rest (W₁ .unknowns) (W₂ .unknowns) (Owned k) M (owned-right l k) (W₂ .walked)) in
+            (walked-mine H (items Γ D₁ r) U (W₁ .unknowns) (Owned l) M (owned-left l k) (walked₁ H U S Γ D C F₁ r J))
+            (walked-mine (H ⨾ items Γ D₁ r) rest (W₁ .unknowns) (W₂ .unknowns) (Owned k) M (owned-right l k) (W₂ .walked)) in
             record {
               unknowns = W₂ .unknowns;
               walked =
