@@ -131,7 +131,7 @@ module _ (s d w : List ℕ) (p : Paragraph) (k i : ℕ) (ps : List ℕ) (a : Exp
           let X = went D (A .recorded) in
           record { top = top′; ready = record { ghost = next s₁ s₂ d 0 4096 n′ top′ G₀ (body D) Mine (X .advanced); stands = next-stands s₁ s₂ d 0 4096 n′ top′ G₀ (body D) Mine (X .advanced) (A .few) } }
 
-      low-end : at₂ < 39936
+      pub low-end : at₂ < 39936
       low-end =
           let o = P .place in
           let q = T .areas fine .short in

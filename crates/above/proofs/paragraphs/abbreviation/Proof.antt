@@ -1,0 +1,202 @@
+use borrow.Author.Needs.{needs}
+use Rattle.above.proofs.paragraphs.abbreviation.Statement.{statement}
+use Rattle.above.proofs.paragraphs.abbreviation.Tie as tie
+use Rattle.above.proofs.paragraphs.abbreviation.Reads as reads
+use Rattle.above.proofs.paragraphs.abbreviation.Lts as lts
+use Rattle.above.proofs.nodes.expr.Reads as expr-reads
+use Rattle.above.proofs.results.lined_at.Reads as lined-at-reads
+use Rattle.above.proofs.results.unlined.Reads as unlined-reads
+use Rattle.entries.proofs.parameters.push_parameters.Reads as push-parameters-reads
+use Rattle.entries.proofs.put_head.Reads as put-head-reads
+use Rattle.instances.proofs.wipe.Reads as wipe-reads
+use Rattle.merging.proofs.names_new.Reads as names-new-reads
+use Rattle.pieces.proofs.closing.close.Reads as close-reads
+use Rattle.pieces.proofs.closing.settled_size.Reads as settled-size-reads
+use Rattle.pieces.proofs.closing.settled_words.Reads as settled-words-reads
+use Rattle.words.proofs.span.Reads as span-reads
+use Rattle.words.proofs.word.Reads as word-reads
+
+-- src/paragraphs.rt:121:9
+word-requires : tie.Need-word-requires
+word-requires c κs = search needs
+
+-- src/paragraphs.rt:122:9
+push-parameters-requires : tie.Need-push-parameters-requires
+push-parameters-requires c κs = search needs
+
+-- src/paragraphs.rt:123:64
+add-word : tie.Need-add-word
+add-word c = search needs
+
+-- src/paragraphs.rt:123:56
+word-requires-2 : tie.Need-word-requires-2
+word-requires-2 c κs = search needs
+
+-- src/paragraphs.rt:123:9
+expr-requires : tie.Need-expr-requires
+expr-requires c κs = search needs
+
+-- src/paragraphs.rt:125:9
+unlined-requires : tie.Need-unlined-requires
+unlined-requires c κs = search needs
+
+-- src/paragraphs.rt:125:9
+same-length : tie.Need-same-length
+same-length c = search needs
+
+-- src/paragraphs.rt:125:9
+same-length-2 : tie.Need-same-length-2
+same-length-2 c = search needs
+
+-- src/paragraphs.rt:125:9
+returns : tie.Need-returns
+returns c = search needs
+
+-- src/paragraphs.rt:127:9
+close-requires : tie.Need-close-requires
+close-requires c κs = search needs
+
+-- src/paragraphs.rt:128:9
+lined-at-requires : tie.Need-lined-at-requires
+lined-at-requires c κs = search needs
+
+-- src/paragraphs.rt:128:9
+same-length-3 : tie.Need-same-length-3
+same-length-3 c = search needs
+
+-- src/paragraphs.rt:128:9
+same-length-4 : tie.Need-same-length-4
+same-length-4 c = search needs
+
+-- src/paragraphs.rt:128:9
+returns-2 : tie.Need-returns-2
+returns-2 c = search needs
+
+-- src/paragraphs.rt:130:22
+span-requires : tie.Need-span-requires
+span-requires c κs = search needs
+
+-- src/paragraphs.rt:130:9
+names-new-requires : tie.Need-names-new-requires
+names-new-requires c κs = search needs
+
+-- src/paragraphs.rt:131:9
+lined-at-requires-2 : tie.Need-lined-at-requires-2
+lined-at-requires-2 c κs = search needs
+
+-- src/paragraphs.rt:131:9
+same-length-5 : tie.Need-same-length-5
+same-length-5 c = search needs
+
+-- src/paragraphs.rt:131:9
+same-length-6 : tie.Need-same-length-6
+same-length-6 c = search needs
+
+-- src/paragraphs.rt:131:9
+returns-3 : tie.Need-returns-3
+returns-3 c = search needs
+
+-- src/paragraphs.rt:133:20
+settled-size-requires : tie.Need-settled-size-requires
+settled-size-requires c κs = search needs
+
+-- src/paragraphs.rt:134:9
+lined-at-requires-3 : tie.Need-lined-at-requires-3
+lined-at-requires-3 c κs = search needs
+
+-- src/paragraphs.rt:134:9
+same-length-7 : tie.Need-same-length-7
+same-length-7 c = search needs
+
+-- src/paragraphs.rt:134:9
+same-length-8 : tie.Need-same-length-8
+same-length-8 c = search needs
+
+-- src/paragraphs.rt:134:9
+returns-4 : tie.Need-returns-4
+returns-4 c = search needs
+
+-- src/paragraphs.rt:136:53
+add-settled-words : tie.Need-add-settled-words
+add-settled-words c = search needs
+
+-- src/paragraphs.rt:136:9
+settled-words-requires : tie.Need-settled-words-requires
+settled-words-requires c κs = search needs
+
+-- src/paragraphs.rt:137:26
+sub-put-head : tie.Need-sub-put-head
+sub-put-head c = search needs
+
+-- src/paragraphs.rt:137:26
+sub-put-head-2 : tie.Need-sub-put-head-2
+sub-put-head-2 c = search needs
+
+-- src/paragraphs.rt:137:49
+word-requires-3 : tie.Need-word-requires-3
+word-requires-3 c κs = search needs
+
+-- src/paragraphs.rt:137:5
+put-head-requires : tie.Need-put-head-requires
+put-head-requires c κs = search needs
+
+-- src/paragraphs.rt:138:5
+wipe-requires : tie.Need-wipe-requires
+wipe-requires c κs = search needs
+
+-- src/paragraphs.rt:139:5
+lined-at-requires-4 : tie.Need-lined-at-requires-4
+lined-at-requires-4 c κs = search needs
+
+-- src/paragraphs.rt:110:1
+same-length-9 : tie.Need-same-length-9
+same-length-9 c = search needs
+
+-- src/paragraphs.rt:110:1
+same-length-10 : tie.Need-same-length-10
+same-length-10 c = search needs
+
+-- src/paragraphs.rt:110:1
+returns-5 : tie.Need-returns-5
+returns-5 c = search needs
+
+pub abbreviation-spec : {M : Type 1} → statement M
+abbreviation-spec =
+    tie.close
+    (tie.spec
+    word-requires
+    push-parameters-requires
+    add-word
+    word-requires-2
+    expr-requires
+    unlined-requires
+    same-length
+    same-length-2
+    returns
+    close-requires
+    lined-at-requires
+    same-length-3
+    same-length-4
+    returns-2
+    span-requires
+    names-new-requires
+    lined-at-requires-2
+    same-length-5
+    same-length-6
+    returns-3
+    settled-size-requires
+    lined-at-requires-3
+    same-length-7
+    same-length-8
+    returns-4
+    add-settled-words
+    settled-words-requires
+    sub-put-head
+    sub-put-head-2
+    word-requires-3
+    put-head-requires
+    wipe-requires
+    lined-at-requires-4
+    same-length-9
+    same-length-10
+    returns-5)

@@ -1,0 +1,53 @@
+use borrow.Author.Needs.{needs}
+use Rattle.above.proofs.paragraphs.given.Statement.{statement}
+use Rattle.above.proofs.paragraphs.given.Tie as tie
+use Rattle.above.proofs.paragraphs.given.Reads as reads
+use Rattle.above.proofs.paragraphs.given.Lts as lts
+use Rattle.above.proofs.results.lined_at.Reads as lined-at-reads
+use Rattle.entries.proofs.given_entries.Reads as given-entries-reads
+use Rattle.merging.proofs.names_new.Reads as names-new-reads
+
+-- src/paragraphs.rt:58:9
+names-new-requires : tie.Need-names-new-requires
+names-new-requires c κs = search needs
+
+-- src/paragraphs.rt:59:9
+lined-at-requires : tie.Need-lined-at-requires
+lined-at-requires c κs = search needs
+
+-- src/paragraphs.rt:59:9
+returns : tie.Need-returns
+returns c = search needs
+
+-- src/paragraphs.rt:61:5
+given-entries-requires : tie.Need-given-entries-requires
+given-entries-requires c κs = search needs
+
+-- src/paragraphs.rt:62:20
+sub-lined-at : tie.Need-sub-lined-at
+sub-lined-at c = search needs
+
+-- src/paragraphs.rt:62:5
+lined-at-requires-2 : tie.Need-lined-at-requires-2
+lined-at-requires-2 c κs = search needs
+
+-- src/paragraphs.rt:54:1
+same-length : tie.Need-same-length
+same-length c = search needs
+
+-- src/paragraphs.rt:54:1
+returns-2 : tie.Need-returns-2
+returns-2 c = search needs
+
+pub given-spec : {M : Type 1} → statement M
+given-spec =
+    tie.close
+    (tie.spec
+    names-new-requires
+    lined-at-requires
+    returns
+    given-entries-requires
+    sub-lined-at
+    lined-at-requires-2
+    same-length
+    returns-2)
