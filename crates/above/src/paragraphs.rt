@@ -27,6 +27,15 @@ ghost use Rattle.syntax.specs.Decode.{paragraphAt};
 ghost use Rattle.walk.specs.Paragraphs.{ParagraphAsk, ParagraphDone};
 ghost use Rattle.above.specs.Nodes.{Node};
 
+// Kinds.
+const GIVEN: usize = 2;
+
+const AXIOM: usize = 3;
+
+const SCHEMA: usize = 4;
+
+const ABBREVIATION: usize = 5;
+
 // The work area: rows of the scope, then tables and frames.
 const FRAMES: usize = 512;
 
@@ -162,11 +171,17 @@ pub fn paragraph(doc: &[u32], a: &mut [u32], d: &[u32], w: &mut [u32], k: usize)
 {
     let p = part(doc, k);
     let q = word(p, 0);
-    match q {
-        2 => given(doc, a, d, w, k, p),
-        3 => axiomatic(doc, a, d, w, k, p),
-        4 => schema_paragraph(doc, a, d, w, k, p),
-        5 => abbreviation(doc, a, d, w, k, p),
-        _ => constraint(doc, a, d, w, k, p),
+    if q == GIVEN {
+        return given(doc, a, d, w, k, p);
     }
+    if q == AXIOM {
+        return axiomatic(doc, a, d, w, k, p);
+    }
+    if q == SCHEMA {
+        return schema_paragraph(doc, a, d, w, k, p);
+    }
+    if q == ABBREVIATION {
+        return abbreviation(doc, a, d, w, k, p);
+    }
+    constraint(doc, a, d, w, k, p)
 }

@@ -1,3 +1,7 @@
+use Rattle.above.proofs.AbbreviationNodes.{words-end, abbreviation-parameters, expr-ask, abbreviation-stops, abbreviation-closing, abbreviation-end, abbreviation-several, abbreviation-sizing, abbreviation-clash, abbreviation-large, abbreviation-wording, abbreviation-told}
+use Rattle.above.proofs.ParagraphNodes.{node-small}
+use mathlib.Core.Path.{refl}
+use native.Mathlib.Omega.{arith}
 use borrow.Author.Needs.{needs}
 use Rattle.above.proofs.paragraphs.abbreviation.Statement.{statement}
 use Rattle.above.proofs.paragraphs.abbreviation.Tie as tie

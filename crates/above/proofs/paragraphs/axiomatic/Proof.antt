@@ -1,3 +1,6 @@
+use Rattle.above.proofs.ParagraphNodes.{node-small, axiom-ask, axiom-stops, axiom-rows, axiom-end, axiom-told}
+use mathlib.Core.Path.{refl}
+use native.Mathlib.Omega.{arith}
 use borrow.Author.Needs.{needs}
 use Rattle.above.proofs.paragraphs.axiomatic.Statement.{statement}
 use Rattle.above.proofs.paragraphs.axiomatic.Tie as tie

@@ -1,3 +1,6 @@
+use Rattle.above.proofs.ParagraphNodes.{constraint-ask, constraint-told}
+use mathlib.Core.Path.{refl}
+use native.Mathlib.Omega.{arith}
 use borrow.Author.Needs.{needs}
 use Rattle.above.proofs.paragraphs.constraint.Statement.{statement}
 use Rattle.above.proofs.paragraphs.constraint.Tie as tie

@@ -1,3 +1,6 @@
+use Rattle.above.proofs.ParagraphNodes.{node-small, given-short, given-clashes, given-told}
+use mathlib.Core.Path.{refl}
+use native.Mathlib.Omega.{arith}
 use borrow.Author.Needs.{needs}
 use Rattle.above.proofs.paragraphs.given.Statement.{statement}
 use Rattle.above.proofs.paragraphs.given.Tie as tie

@@ -1,3 +1,6 @@
+use Rattle.above.proofs.SchemaNodes.{plain-at, plain-ask, plain-done, from-at, from-ask, from-done, near, left-at, left-lower, left-asked, left-stops, right-at, right-lower, right-asked, right-stops, rows-asked, rows-joined}
+use mathlib.Core.Path.{refl}
+use native.Mathlib.Omega.{arith}
 use borrow.Author.Needs.{needs}
 use Prim.Native.Nat.{ℕ, _<_}
 use borrow.Fn.Kinds.{In}
@@ -14,7 +17,7 @@ use Rattle.above.proofs.schemas.+schema.{statement}
 use Rattle.above.proofs.schemas.+schema.Tie.{close}
 
 abbrev μ-schema : Measures 4 schema-kinds.ps ℕ
-μ-schema κs a = ?
+μ-schema κs a = a .1 .1 .1 .1 .1 .1 .1 .0
 
 abbrev schema-at : ℕ → In 4 schema-kinds.ps
 schema-at t = and 4 schema-kinds.ps (is 4 schema-kinds.ps μ-schema t) schema.Pre
@@ -71,7 +74,7 @@ schema-text-requires : (t : ℕ) → schema-lts.Need-text-requires (
   conjoin-reads.Asked,
   conjoin-reads.Learnt,
 ) (schema-at t) schema.Post
-schema-text-requires t c κs = search needs
+schema-text-requires t c κs = (plain-at _ _ _ _ (c .before .before .before .before .before .before .before .before .before .pre .1 .0) (c .before .before .before .before .part .ensures) (c .before .before .before .word .ensures .0) _ _ _ _ _ _ (c .before .before .before .before .before .before .before .before .before .pre .1 .1) (c .before .before .if1 .taken), plain-ask _ _ _ _ (c .before .before .before .before .before .before .before .before .before .pre .1 .0) (c .before .before .before .before .part .ensures) (c .before .before .before .word .ensures .0) _ _ _ _ _ _ (c .before .before .before .before .before .before .before .before .before .pre .1 .1) (c .before .before .if1 .taken))
 
 -- src/schemas.rt:78:9
 schema-same-length : (t : ℕ) → schema-lts.Need-same-length (
@@ -122,7 +125,7 @@ schema-returns : (t : ℕ) → schema-lts.Need-returns (
   conjoin-reads.Asked,
   conjoin-reads.Learnt,
 ) (schema-at t) schema.Post
-schema-returns t c = search needs
+schema-returns t c = plain-done _ _ _ _ (c .before .before .before .before .before .before .before .before .before .before .before .before .before .before .pre .1 .0) (c .before .before .before .before .before .before .before .before .before .part .ensures) (c .before .before .before .before .before .before .before .before .word .ensures .0) _ _ _ _ _ _ (c .before .before .before .before .before .before .before .before .before .before .before .before .before .before .pre .1 .1) (c .before .before .before .before .before .before .before .if1 .taken) _ _ _ _ _ _ (c .before .before .before .before .text .ensures)
 
 -- src/schemas.rt:81:9
 schema-brings-requires : (t : ℕ) → schema-lts.Need-brings-requires (
@@ -139,7 +142,7 @@ schema-brings-requires : (t : ℕ) → schema-lts.Need-brings-requires (
   conjoin-reads.Asked,
   conjoin-reads.Learnt,
 ) (schema-at t) schema.Post
-schema-brings-requires t c κs = search needs
+schema-brings-requires t c κs = (from-at _ _ _ _ (c .before .before .before .before .before .before .before .before .before .before .pre .1 .0) (c .before .before .before .before .before .part .ensures) (c .before .before .before .before .word .ensures .0) _ _ _ _ _ _ (c .before .before .before .before .before .before .before .before .before .before .pre .1 .1) (c .before .before .if2 .taken), from-ask _ _ _ _ (c .before .before .before .before .before .before .before .before .before .before .pre .1 .0) (c .before .before .before .before .before .part .ensures) (c .before .before .before .before .word .ensures .0) _ _ _ _ _ _ (c .before .before .before .before .before .before .before .before .before .before .pre .1 .1) (c .before .before .if2 .taken))
 
 -- src/schemas.rt:81:9
 schema-same-length-3 : (t : ℕ) → schema-lts.Need-same-length-3 (
@@ -190,7 +193,7 @@ schema-returns-2 : (t : ℕ) → schema-lts.Need-returns-2 (
   conjoin-reads.Asked,
   conjoin-reads.Learnt,
 ) (schema-at t) schema.Post
-schema-returns-2 t c = search needs
+schema-returns-2 t c = from-done _ _ _ _ (c .before .before .before .before .before .before .before .before .before .before .before .before .before .before .before .pre .1 .0) (c .before .before .before .before .before .before .before .before .before .before .part .ensures) (c .before .before .before .before .before .before .before .before .before .word .ensures .0) _ _ _ _ _ _ (c .before .before .before .before .before .before .before .before .before .before .before .before .before .before .before .pre .1 .1) (c .before .before .before .before .before .before .before .if2 .taken) _ _ _ _ _ _ (c .before .before .before .before .brings .ensures)
 
 -- src/schemas.rt:83:50
 schema-word-requires-2 : (t : ℕ) → schema-lts.Need-word-requires-2 (
@@ -224,7 +227,7 @@ schema-schema-requires : (t : ℕ) → schema-lts.Need-schema-requires (
   conjoin-reads.Asked,
   conjoin-reads.Learnt,
 ) (schema-at t) schema.Post
-schema-schema-requires t c κs = search needs
+schema-schema-requires t c κs = (let l = left-lower _ _ _ _ (c .before .before .before .before .before .before .before .before .before .before .before .pre .1 .0) (c .before .before .before .before .before .before .part .ensures) (c .before .before .before .before .before .word .ensures .0) _ _ _ _ _ _ (c .before .before .before .before .before .before .before .before .before .before .before .pre .1 .1) (c .before .before .before .before .if1 .left) (c .before .before .before .if2 .left) _ (c .word2 .ensures .0) in omega (arith, c .before .before .before .before .before .before .before .before .before .before .before .pre .0, l), left-at _ _ _ _ (c .before .before .before .before .before .before .before .before .before .before .before .pre .1 .0) (c .before .before .before .before .before .before .part .ensures) (c .before .before .before .before .before .word .ensures .0) _ _ _ _ _ _ (c .before .before .before .before .before .before .before .before .before .before .before .pre .1 .1) (c .before .before .before .before .if1 .left) (c .before .before .before .if2 .left) _ (c .word2 .ensures .0), left-asked _ _ _ _ (c .before .before .before .before .before .before .before .before .before .before .before .pre .1 .0) (c .before .before .before .before .before .before .part .ensures) (c .before .before .before .before .before .word .ensures .0) _ _ _ _ _ _ (c .before .before .before .before .before .before .before .before .before .before .before .pre .1 .1) (c .before .before .before .before .if1 .left) (c .before .before .before .if2 .left) _ (c .word2 .ensures .0))
 
 -- src/schemas.rt:85:9
 schema-same-length-5 : (t : ℕ) → schema-lts.Need-same-length-5 (
@@ -275,7 +278,7 @@ schema-returns-3 : (t : ℕ) → schema-lts.Need-returns-3 (
   conjoin-reads.Asked,
   conjoin-reads.Learnt,
 ) (schema-at t) schema.Post
-schema-returns-3 t c = search needs
+schema-returns-3 t c = left-stops _ _ _ _ (c .before .before .before .before .before .before .before .before .before .before .before .before .before .before .before .before .before .before .pre .1 .0) (c .before .before .before .before .before .before .before .before .before .before .before .before .before .part .ensures) (c .before .before .before .before .before .before .before .before .before .before .before .before .word .ensures .0) _ _ _ _ _ _ (c .before .before .before .before .before .before .before .before .before .before .before .before .before .before .before .before .before .before .pre .1 .1) (c .before .before .before .before .before .before .before .before .before .before .before .if1 .left) (c .before .before .before .before .before .before .before .before .before .before .if2 .left) _ (c .before .before .before .before .before .before .before .word2 .ensures .0) _ _ _ _ _ _ (c .before .before .before .before .before .before .schema .ensures) (c .if3 .taken)
 
 -- src/schemas.rt:87:46
 schema-add-schema : (t : ℕ) → schema-lts.Need-add-schema (
@@ -292,7 +295,7 @@ schema-add-schema : (t : ℕ) → schema-lts.Need-add-schema (
   conjoin-reads.Asked,
   conjoin-reads.Learnt,
 ) (schema-at t) schema.Post
-schema-add-schema t c = search needs
+schema-add-schema t c = let l = near _ _ _ _ (c .before .before .before .before .before .before .before .before .before .before .before .before .before .before .before .before .before .before .before .before .pre .1 .0) (c .before .before .before .before .before .before .before .before .before .before .before .before .before .before .before .part .ensures) (c .before .before .before .before .before .before .before .before .before .before .before .before .before .before .word .ensures .0) _ _ _ _ _ _ (c .before .before .before .before .before .before .before .before .before .before .before .before .before .before .before .before .before .before .before .before .pre .1 .1) (c .before .before .before .before .before .before .before .before .before .before .before .before .before .if1 .left) (c .before .before .before .before .before .before .before .before .before .before .before .before .if2 .left) in omega arith
 
 -- src/schemas.rt:87:60
 schema-word-requires-3 : (t : ℕ) → schema-lts.Need-word-requires-3 (
@@ -326,7 +329,7 @@ schema-schema-requires-2 : (t : ℕ) → schema-lts.Need-schema-requires-2 (
   conjoin-reads.Asked,
   conjoin-reads.Learnt,
 ) (schema-at t) schema.Post
-schema-schema-requires-2 t c κs = search needs
+schema-schema-requires-2 t c κs = (let l = right-lower _ _ _ _ (c .before .before .before .before .before .before .before .before .before .before .before .before .before .before .before .before .before .before .before .before .before .pre .1 .0) (c .before .before .before .before .before .before .before .before .before .before .before .before .before .before .before .before .part .ensures) (c .before .before .before .before .before .before .before .before .before .before .before .before .before .before .before .word .ensures .0) _ _ _ _ _ _ (c .before .before .before .before .before .before .before .before .before .before .before .before .before .before .before .before .before .before .before .before .before .pre .1 .1) (c .before .before .before .before .before .before .before .before .before .before .before .before .before .before .if1 .left) (c .before .before .before .before .before .before .before .before .before .before .before .before .before .if2 .left) _ (c .before .before .before .before .before .before .before .before .before .before .word2 .ensures .0) _ _ _ _ _ _ (c .before .before .before .before .before .before .before .before .before .schema .ensures) (c .before .before .before .if3 .left) _ (c .word3 .ensures .0) in omega (arith, c .before .before .before .before .before .before .before .before .before .before .before .before .before .before .before .before .before .before .before .before .before .pre .0, l), right-at _ _ _ _ (c .before .before .before .before .before .before .before .before .before .before .before .before .before .before .before .before .before .before .before .before .before .pre .1 .0) (c .before .before .before .before .before .before .before .before .before .before .before .before .before .before .before .before .part .ensures) (c .before .before .before .before .before .before .before .before .before .before .before .before .before .before .before .word .ensures .0) _ _ _ _ _ _ (c .before .before .before .before .before .before .before .before .before .before .before .before .before .before .before .before .before .before .before .before .before .pre .1 .1) (c .before .before .before .before .before .before .before .before .before .before .before .before .before .before .if1 .left) (c .before .before .before .before .before .before .before .before .before .before .before .before .before .if2 .left) _ (c .before .before .before .before .before .before .before .before .before .before .word2 .ensures .0) _ _ _ _ _ _ (c .before .before .before .before .before .before .before .before .before .schema .ensures) (c .before .before .before .if3 .left) _ (c .word3 .ensures .0), right-asked _ _ _ _ (c .before .before .before .before .before .before .before .before .before .before .before .before .before .before .before .before .before .before .before .before .before .pre .1 .0) (c .before .before .before .before .before .before .before .before .before .before .before .before .before .before .before .before .part .ensures) (c .before .before .before .before .before .before .before .before .before .before .before .before .before .before .before .word .ensures .0) _ _ _ _ _ _ (c .before .before .before .before .before .before .before .before .before .before .before .before .before .before .before .before .before .before .before .before .before .pre .1 .1) (c .before .before .before .before .before .before .before .before .before .before .before .before .before .before .if1 .left) (c .before .before .before .before .before .before .before .before .before .before .before .before .before .if2 .left) _ (c .before .before .before .before .before .before .before .before .before .before .word2 .ensures .0) _ _ _ _ _ _ (c .before .before .before .before .before .before .before .before .before .schema .ensures) (c .before .before .before .if3 .left) _ (c .word3 .ensures .0))
 
 -- src/schemas.rt:89:9
 schema-same-length-7 : (t : ℕ) → schema-lts.Need-same-length-7 (
@@ -377,7 +380,7 @@ schema-returns-4 : (t : ℕ) → schema-lts.Need-returns-4 (
   conjoin-reads.Asked,
   conjoin-reads.Learnt,
 ) (schema-at t) schema.Post
-schema-returns-4 t c = search needs
+schema-returns-4 t c = right-stops _ _ _ _ (c .before .before .before .before .before .before .before .before .before .before .before .before .before .before .before .before .before .before .before .before .before .before .before .before .before .before .before .before .pre .1 .0) (c .before .before .before .before .before .before .before .before .before .before .before .before .before .before .before .before .before .before .before .before .before .before .before .part .ensures) (c .before .before .before .before .before .before .before .before .before .before .before .before .before .before .before .before .before .before .before .before .before .before .word .ensures .0) _ _ _ _ _ _ (c .before .before .before .before .before .before .before .before .before .before .before .before .before .before .before .before .before .before .before .before .before .before .before .before .before .before .before .before .pre .1 .1) (c .before .before .before .before .before .before .before .before .before .before .before .before .before .before .before .before .before .before .before .before .before .if1 .left) (c .before .before .before .before .before .before .before .before .before .before .before .before .before .before .before .before .before .before .before .before .if2 .left) _ (c .before .before .before .before .before .before .before .before .before .before .before .before .before .before .before .before .before .word2 .ensures .0) _ _ _ _ _ _ (c .before .before .before .before .before .before .before .before .before .before .before .before .before .before .before .before .schema .ensures) (c .before .before .before .before .before .before .before .before .before .before .if3 .left) _ (c .before .before .before .before .before .before .before .word3 .ensures .0) _ _ _ _ _ _ (c .before .before .before .before .before .before .schema2 .ensures) (c .if4 .taken)
 
 -- src/schemas.rt:91:5
 schema-conjoin-requires : (t : ℕ) → schema-lts.Need-conjoin-requires (
@@ -394,7 +397,7 @@ schema-conjoin-requires : (t : ℕ) → schema-lts.Need-conjoin-requires (
   conjoin-reads.Asked,
   conjoin-reads.Learnt,
 ) (schema-at t) schema.Post
-schema-conjoin-requires t c κs = search needs
+schema-conjoin-requires t c κs = (let z = c .before .before .before .before .before .before .before .before .before .before .before .before .before .before .before .before .before .before .before .before .before .before .before .before .before .before .before .before .before .before .pre .1 .0 .small in omega arith, rows-asked _ _ _ _ (c .before .before .before .before .before .before .before .before .before .before .before .before .before .before .before .before .before .before .before .before .before .before .before .before .before .before .before .before .before .before .pre .1 .0) (c .before .before .before .before .before .before .before .before .before .before .before .before .before .before .before .before .before .before .before .before .before .before .before .before .before .part .ensures) (c .before .before .before .before .before .before .before .before .before .before .before .before .before .before .before .before .before .before .before .before .before .before .before .before .word .ensures .0) _ _ _ _ _ _ (c .before .before .before .before .before .before .before .before .before .before .before .before .before .before .before .before .before .before .before .before .before .before .before .before .before .before .before .before .before .before .pre .1 .1) (c .before .before .before .before .before .before .before .before .before .before .before .before .before .before .before .before .before .before .before .before .before .before .before .if1 .left) (c .before .before .before .before .before .before .before .before .before .before .before .before .before .before .before .before .before .before .before .before .before .before .if2 .left) _ (c .before .before .before .before .before .before .before .before .before .before .before .before .before .before .before .before .before .before .before .word2 .ensures .0) _ _ _ _ _ _ (c .before .before .before .before .before .before .before .before .before .before .before .before .before .before .before .before .before .before .schema .ensures) (c .before .before .before .before .before .before .before .before .before .before .before .before .if3 .left) _ (c .before .before .before .before .before .before .before .before .before .word3 .ensures .0) _ _ _ _ _ _ (c .before .before .before .before .before .before .before .before .schema2 .ensures) (c .before .before .if4 .left))
 
 -- src/schemas.rt:62:1
 schema-same-length-9 : (t : ℕ) → schema-lts.Need-same-length-9 (
@@ -445,7 +448,7 @@ schema-returns-5 : (t : ℕ) → schema-lts.Need-returns-5 (
   conjoin-reads.Asked,
   conjoin-reads.Learnt,
 ) (schema-at t) schema.Post
-schema-returns-5 t c = search needs
+schema-returns-5 t c = rows-joined _ _ _ _ (c .before .before .before .before .before .before .before .before .before .before .before .before .before .before .before .before .before .before .before .before .before .before .before .before .before .before .before .before .before .before .before .before .before .before .before .pre .1 .0) (c .before .before .before .before .before .before .before .before .before .before .before .before .before .before .before .before .before .before .before .before .before .before .before .before .before .before .before .before .before .before .part .ensures) (c .before .before .before .before .before .before .before .before .before .before .before .before .before .before .before .before .before .before .before .before .before .before .before .before .before .before .before .before .before .word .ensures .0) _ _ _ _ _ _ (c .before .before .before .before .before .before .before .before .before .before .before .before .before .before .before .before .before .before .before .before .before .before .before .before .before .before .before .before .before .before .before .before .before .before .before .pre .1 .1) (c .before .before .before .before .before .before .before .before .before .before .before .before .before .before .before .before .before .before .before .before .before .before .before .before .before .before .before .before .if1 .left) (c .before .before .before .before .before .before .before .before .before .before .before .before .before .before .before .before .before .before .before .before .before .before .before .before .before .before .before .if2 .left) _ (c .before .before .before .before .before .before .before .before .before .before .before .before .before .before .before .before .before .before .before .before .before .before .before .before .word2 .ensures .0) _ _ _ _ _ _ (c .before .before .before .before .before .before .before .before .before .before .before .before .before .before .before .before .before .before .before .before .before .before .before .schema .ensures) (c .before .before .before .before .before .before .before .before .before .before .before .before .before .before .before .before .before .if3 .left) _ (c .before .before .before .before .before .before .before .before .before .before .before .before .before .before .word3 .ensures .0) _ _ _ _ _ _ (c .before .before .before .before .before .before .before .before .before .before .before .before .before .schema2 .ensures) (c .before .before .before .before .before .before .before .if4 .left) _ _ _ _ _ _ (c .before .before .before .before .conjoin .ensures)
 
 pub +schema-spec : {M : Type 1} → statement M
 +schema-spec = close μ-schema λ t. schema-lts.spec (

@@ -1,3 +1,6 @@
+use Rattle.above.proofs.SchemaNodes.{join-clash, keep-ready, merge-ready, join-many, join-done}
+use mathlib.Core.Path.{refl}
+use native.Mathlib.Omega.{arith}
 use borrow.Author.Needs.{needs}
 use Rattle.above.proofs.schemas.conjoin.Statement.{statement}
 use Rattle.above.proofs.schemas.conjoin.Tie as tie
