@@ -28,7 +28,7 @@ use Rattle.above.proofs.ParagraphNodes.{paragraph-told}
 use Rattle.above.proofs.Defined.{anywhere}
 
 pub words-end : {s d out out′ : List ℕ} {n c at e : ℕ} → Wording s d n c at → WordsAre s d out out′ n c at e → (at ≤ e) × (e ≤ at + 95)
-words-end V W = let q = W (V .sizing .ghost) (V .sizing .shut) .end in let l = small-words (V .sizing .shut .type _) (V .small) in (omega arith, omega arith)
+words-end {s} {d} {out} {out′} {n} {c} B W = let q = W (B .sizing .ghost) (B .sizing .shut) .end in let l = small-words (B .sizing .shut .type c) (B .small) in (omega arith, omega arith)
 
 module _ {doc p : List ℕ} {k : ℕ} (N : Node doc p paragraphs k) {s d w : List ℕ} (A : ParagraphAsk s d w (paragraphAt doc k)) {n : ℕ} (en : n ≡ getD p 2 0) (q : kindAt doc k ≡ 5) where
   five : Defined doc k expressions n (operandAt doc k (n + 3)) (paragraphAt doc k ≡ abbreviation k (operandAt doc k 1) (take n (drop 3 (part doc k))) (exprAt doc (operandAt doc k (n + 3))))

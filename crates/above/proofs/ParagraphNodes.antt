@@ -1,7 +1,7 @@
 -- Paragraphs by the words of their node: Given, Axiom, Constraint.
 use mathlib.Core.Path.{_≡_, refl, sym, ap, subst, _∙_}
-use mathlib.Core.Bool.{Bool, true, false}
-use mathlib.Core.List.{List}
+use mathlib.Core.Bool.{Bool, true, false, not}
+use mathlib.Core.List.{List, [], _∷_}
 use Prim.Native.Nat.{ℕ, _+_, _*_, _-_, _≤_, _<_, _^_}
 use native.Mathlib.Omega.{arith}
 use lib.ListN.{length, getD, drop, replicate, length-drop}
@@ -13,7 +13,7 @@ use Rattle.syntax.specs.Nodes.{kindAt}
 use Rattle.syntax.specs.Promise.{At}
 use Rattle.syntax.specs.Tree.{Paragraph, given, axiomatic, constraint}
 use Rattle.syntax.proofs.TreeCounts.{at-most}
-use Rattle.syntax.proofs.TreeParagraph.{paragraph-given, paragraph-axiomatic, paragraph-constraint}
+use Rattle.syntax.proofs.TreeParagraph.{paragraph-range, paragraph-given, paragraph-axiomatic, paragraph-constraint}
 use Rattle.syntax.proofs.TreeShape.{One}
 use Rattle.types.specs.Types.{Tys}
 use Rattle.solver.specs.Settled.{heap}
@@ -39,6 +39,28 @@ paragraph-told {s} {s′} {d} {w} {w′} {p} {f} {x} {c} {e} {r} L D =
     (subst (λ z. ParagraphDone s s′ d w w′ p f z (r .at) (r .count)) (sym (L .place-is))
     (subst (λ z. ParagraphDone s s′ d w w′ p f x z (r .count)) (sym (L .at-is))
     (subst (λ z. ParagraphDone s s′ d w w′ p f x e z) (sym (L .count-is)) D)))
+
+pub refusing : (b : Bool) → not b ≡ true → b ≡ false
+refusing true e = sym e
+refusing false e = refl
+
+pub agreeing : (b : Bool) → not b ≡ false → b ≡ true
+agreeing true e = refl
+agreeing false e = sym e
+
+pub node-of : {doc p : List ℕ} {k s : ℕ} → At doc s k → p ≡ part doc k → Node doc p s k
+node-of a e = record { at = a; words = e }
+
+pub kind-is : {doc p : List ℕ} {k q m : ℕ} → p ≡ part doc k → q ≡ getD p 0 0 → q ≡ m → kindAt doc k ≡ m
+kind-is e h i = sym (ap (λ z. getD z 0 0) e) ∙ sym h ∙ i
+
+pub kind-last : {doc p : List ℕ} {k q : ℕ} → At doc paragraphs k → p ≡ part doc k → q ≡ getD p 0 0 → (q ≡ 2 → ⊥) → (q ≡ 3 → ⊥) → (q ≡ 4 → ⊥) → (q ≡ 5 → ⊥) → kindAt doc k ≡ 6
+kind-last {doc} {p} {k} {q} N e h a b c d =
+    let r = paragraph-range doc k N in
+    let x = r .0 in
+    let y = r .1 in
+    let z : kindAt doc k ≡ q = kind-is e h refl in
+    omega (arith, a, b, c, d)
 
 pub node-small : {doc p : List ℕ} {k s : ℕ} → Node doc p s k → k < 2 ^ 32
 node-small N = let z = N .at .small in omega arith
@@ -94,6 +116,13 @@ module _ {doc p : List ℕ} {k : ℕ} (N : Node doc p paragraphs k) {s d w : Lis
     pub given-short : length p ≤ 1000
     unfolding cell
     given-short = let e = ap length (N .words) in let l : length (part doc k) ≤ cell 2 1 = subst (λ z. length (part doc k) ≤ cell z 1) q (at-most doc paragraphs k (N .at)) in omega arith
+
+    pub given-some : 1 ≤ length p
+    given-some = go p (ap (λ z. getD z 0 0) (N .words) ∙ q)
+      where
+        go : (l : List ℕ) → getD l 0 0 ≡ 2 → 1 ≤ length l
+        go [] e = absurd (omega arith)
+        go (y ∷ l) e = omega arith
 
     pub given-clashes : {b : Bool} {r : Lined} → NewTold d (drop 1 p) b → b ≡ false → LinedAt r 36 k 0 0 → ParagraphDone s s d w w (paragraphAt doc k) (r .number) (r .place) (r .at) (r .count)
     given-clashes {b} T e L = paragraph-told L (given-clash s d w (paragraphAt doc k) k (drop 1 p) two (subst (NewTold d (drop 1 p)) e T) 0 0)

@@ -18,7 +18,7 @@ word-requires c κs = search needs
 
 -- src/paragraphs.rt:77:9
 text-requires : tie.Need-text-requires
-text-requires c κs = search needs
+text-requires c κs = axiom-ask (c .before .before .before .before .before .before .before .before .pre .0) (c .before .before .before .before .before .before .before .before .pre .2) (c .before .before .before .before .before .before .before .before .pre .1) (c .word .ensures .0)
 
 -- src/paragraphs.rt:79:9
 same-length : tie.Need-same-length
@@ -30,19 +30,19 @@ same-length-2 c = search needs
 
 -- src/paragraphs.rt:79:9
 returns : tie.Need-returns
-returns c = search needs
+returns c = axiom-stops (c .before .before .before .before .before .before .before .before .before .before .before .before .before .before .before .pre .0) (c .before .before .before .before .before .before .before .before .before .before .before .before .before .before .before .pre .2) (c .before .before .before .before .before .before .before .before .before .before .before .before .before .before .before .pre .1) (c .before .before .before .before .before .before .before .word .ensures .0) (c .before .before .before .before .before .before .text .ensures) (c .if1 .taken) _ _
 
 -- src/paragraphs.rt:81:5
 name-entries-requires : tie.Need-name-entries-requires
-name-entries-requires c κs = search needs
+name-entries-requires c κs = axiom-rows (c .before .before .before .before .before .before .before .before .before .before .before .before .before .before .before .before .before .pre .0) (c .before .before .before .before .before .before .before .before .before .before .before .before .before .before .before .before .before .pre .2) (c .before .before .before .before .before .before .before .before .before .before .before .before .before .before .before .before .before .pre .1) (c .before .before .before .before .before .before .before .before .before .word .ensures .0) (c .before .before .before .before .before .before .before .before .text .ensures) (c .before .before .if1 .left)
 
 -- src/paragraphs.rt:82:5
 wipe-requires : tie.Need-wipe-requires
-wipe-requires c κs = search needs
+wipe-requires c κs = axiom-end (c .before .before .before .before .before .before .before .before .before .before .before .before .before .before .before .before .before .before .before .before .before .pre .0) (c .before .before .before .before .before .before .before .before .before .before .before .before .before .before .before .before .before .before .before .before .before .pre .2) (c .before .before .before .before .before .before .before .before .before .before .before .before .before .before .before .before .before .before .before .before .before .pre .1) (c .before .before .before .before .before .before .before .before .before .before .before .before .before .word .ensures .0) (c .before .before .before .before .before .before .before .before .before .before .before .before .text .ensures) (c .before .before .before .before .before .before .if1 .left)
 
 -- src/paragraphs.rt:83:5
 lined-at-requires : tie.Need-lined-at-requires
-lined-at-requires c κs = search needs
+lined-at-requires c κs = node-small (c .before .before .before .before .before .before .before .before .before .before .before .before .before .before .before .before .before .before .before .before .before .before .before .before .pre .0)
 
 -- src/paragraphs.rt:66:1
 same-length-3 : tie.Need-same-length-3
@@ -54,7 +54,7 @@ same-length-4 c = search needs
 
 -- src/paragraphs.rt:66:1
 returns-2 : tie.Need-returns-2
-returns-2 c = search needs
+returns-2 c = axiom-told (c .before .before .before .before .before .before .before .before .before .before .before .before .before .before .before .before .before .before .before .before .before .before .before .before .before .pre .0) (c .before .before .before .before .before .before .before .before .before .before .before .before .before .before .before .before .before .before .before .before .before .before .before .before .before .pre .2) (c .before .before .before .before .before .before .before .before .before .before .before .before .before .before .before .before .before .before .before .before .before .before .before .before .before .pre .1) (c .before .before .before .before .before .before .before .before .before .before .before .before .before .before .before .before .before .word .ensures .0) (c .before .before .before .before .before .before .before .before .before .before .before .before .before .before .before .before .text .ensures) (c .before .before .before .before .before .before .before .before .before .before .if1 .left) (c .before .before .before .before .before .before .before .name-entries .ensures) (c .before .before .before .wipe .ensures) (c .lined-at .ensures)
 
 pub axiomatic-spec : {M : Type 1} → statement M
 axiomatic-spec =

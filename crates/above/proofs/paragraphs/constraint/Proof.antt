@@ -16,7 +16,7 @@ word-requires c κs = search needs
 
 -- src/paragraphs.rt:154:9
 pred-requires : tie.Need-pred-requires
-pred-requires c κs = search needs
+pred-requires c κs = constraint-ask (c .before .before .before .before .before .before .before .before .pre .0) (c .before .before .before .before .before .before .before .before .pre .2) (c .before .before .before .before .before .before .before .before .pre .1) (c .word .ensures .0)
 
 -- src/paragraphs.rt:155:5
 unlined-requires : tie.Need-unlined-requires
@@ -32,7 +32,7 @@ same-length-2 c = search needs
 
 -- src/paragraphs.rt:143:1
 returns : tie.Need-returns
-returns c = search needs
+returns c = constraint-told (c .before .before .before .before .before .before .before .before .before .before .before .before .before .before .pre .0) (c .before .before .before .before .before .before .before .before .before .before .before .before .before .before .pre .2) (c .before .before .before .before .before .before .before .before .before .before .before .before .before .before .pre .1) (c .before .before .before .before .before .before .word .ensures .0) (c .before .before .before .before .before .pred .ensures) (c .unlined .ensures)
 
 pub constraint-spec : {M : Type 1} → statement M
 constraint-spec =

@@ -227,7 +227,7 @@ schema-schema-requires : (t : ℕ) → schema-lts.Need-schema-requires (
   conjoin-reads.Asked,
   conjoin-reads.Learnt,
 ) (schema-at t) schema.Post
-schema-schema-requires t c κs = (let l = left-lower _ _ _ _ (c .before .before .before .before .before .before .before .before .before .before .before .pre .1 .0) (c .before .before .before .before .before .before .part .ensures) (c .before .before .before .before .before .word .ensures .0) _ _ _ _ _ _ (c .before .before .before .before .before .before .before .before .before .before .before .pre .1 .1) (c .before .before .before .before .if1 .left) (c .before .before .before .if2 .left) _ (c .word2 .ensures .0) in omega (arith, c .before .before .before .before .before .before .before .before .before .before .before .pre .0, l), left-at _ _ _ _ (c .before .before .before .before .before .before .before .before .before .before .before .pre .1 .0) (c .before .before .before .before .before .before .part .ensures) (c .before .before .before .before .before .word .ensures .0) _ _ _ _ _ _ (c .before .before .before .before .before .before .before .before .before .before .before .pre .1 .1) (c .before .before .before .before .if1 .left) (c .before .before .before .if2 .left) _ (c .word2 .ensures .0), left-asked _ _ _ _ (c .before .before .before .before .before .before .before .before .before .before .before .pre .1 .0) (c .before .before .before .before .before .before .part .ensures) (c .before .before .before .before .before .word .ensures .0) _ _ _ _ _ _ (c .before .before .before .before .before .before .before .before .before .before .before .pre .1 .1) (c .before .before .before .before .if1 .left) (c .before .before .before .if2 .left) _ (c .word2 .ensures .0))
+schema-schema-requires t c κs = (let l = left-lower _ _ _ _ (c .before .before .before .before .before .before .before .before .before .before .before .pre .1 .0) (c .before .before .before .before .before .before .part .ensures) (c .before .before .before .before .before .word .ensures .0) _ _ _ _ _ _ (c .before .before .before .before .before .before .before .before .before .before .before .pre .1 .1) (c .before .before .before .before .if1 .left) (c .before .before .before .if2 .left) _ (c .word2 .ensures .0) in omega (arith, c .before .before .before .before .before .before .before .before .before .before .before .pre .0, l), (left-at _ _ _ _ (c .before .before .before .before .before .before .before .before .before .before .before .pre .1 .0) (c .before .before .before .before .before .before .part .ensures) (c .before .before .before .before .before .word .ensures .0) _ _ _ _ _ _ (c .before .before .before .before .before .before .before .before .before .before .before .pre .1 .1) (c .before .before .before .before .if1 .left) (c .before .before .before .if2 .left) _ (c .word2 .ensures .0), left-asked _ _ _ _ (c .before .before .before .before .before .before .before .before .before .before .before .pre .1 .0) (c .before .before .before .before .before .before .part .ensures) (c .before .before .before .before .before .word .ensures .0) _ _ _ _ _ _ (c .before .before .before .before .before .before .before .before .before .before .before .pre .1 .1) (c .before .before .before .before .if1 .left) (c .before .before .before .if2 .left) _ (c .word2 .ensures .0)))
 
 -- src/schemas.rt:85:9
 schema-same-length-5 : (t : ℕ) → schema-lts.Need-same-length-5 (
@@ -329,7 +329,7 @@ schema-schema-requires-2 : (t : ℕ) → schema-lts.Need-schema-requires-2 (
   conjoin-reads.Asked,
   conjoin-reads.Learnt,
 ) (schema-at t) schema.Post
-schema-schema-requires-2 t c κs = (let l = right-lower _ _ _ _ (c .before .before .before .before .before .before .before .before .before .before .before .before .before .before .before .before .before .before .before .before .before .pre .1 .0) (c .before .before .before .before .before .before .before .before .before .before .before .before .before .before .before .before .part .ensures) (c .before .before .before .before .before .before .before .before .before .before .before .before .before .before .before .word .ensures .0) _ _ _ _ _ _ (c .before .before .before .before .before .before .before .before .before .before .before .before .before .before .before .before .before .before .before .before .before .pre .1 .1) (c .before .before .before .before .before .before .before .before .before .before .before .before .before .before .if1 .left) (c .before .before .before .before .before .before .before .before .before .before .before .before .before .if2 .left) _ (c .before .before .before .before .before .before .before .before .before .before .word2 .ensures .0) _ _ _ _ _ _ (c .before .before .before .before .before .before .before .before .before .schema .ensures) (c .before .before .before .if3 .left) _ (c .word3 .ensures .0) in omega (arith, c .before .before .before .before .before .before .before .before .before .before .before .before .before .before .before .before .before .before .before .before .before .pre .0, l), right-at _ _ _ _ (c .before .before .before .before .before .before .before .before .before .before .before .before .before .before .before .before .before .before .before .before .before .pre .1 .0) (c .before .before .before .before .before .before .before .before .before .before .before .before .before .before .before .before .part .ensures) (c .before .before .before .before .before .before .before .before .before .before .before .before .before .before .before .word .ensures .0) _ _ _ _ _ _ (c .before .before .before .before .before .before .before .before .before .before .before .before .before .before .before .before .before .before .before .before .before .pre .1 .1) (c .before .before .before .before .before .before .before .before .before .before .before .before .before .before .if1 .left) (c .before .before .before .before .before .before .before .before .before .before .before .before .before .if2 .left) _ (c .before .before .before .before .before .before .before .before .before .before .word2 .ensures .0) _ _ _ _ _ _ (c .before .before .before .before .before .before .before .before .before .schema .ensures) (c .before .before .before .if3 .left) _ (c .word3 .ensures .0), right-asked _ _ _ _ (c .before .before .before .before .before .before .before .before .before .before .before .before .before .before .before .before .before .before .before .before .before .pre .1 .0) (c .before .before .before .before .before .before .before .before .before .before .before .before .before .before .before .before .part .ensures) (c .before .before .before .before .before .before .before .before .before .before .before .before .before .before .before .word .ensures .0) _ _ _ _ _ _ (c .before .before .before .before .before .before .before .before .before .before .before .before .before .before .before .before .before .before .before .before .before .pre .1 .1) (c .before .before .before .before .before .before .before .before .before .before .before .before .before .before .if1 .left) (c .before .before .before .before .before .before .before .before .before .before .before .before .before .if2 .left) _ (c .before .before .before .before .before .before .before .before .before .before .word2 .ensures .0) _ _ _ _ _ _ (c .before .before .before .before .before .before .before .before .before .schema .ensures) (c .before .before .before .if3 .left) _ (c .word3 .ensures .0))
+schema-schema-requires-2 t c κs = (let l = right-lower _ _ _ _ (c .before .before .before .before .before .before .before .before .before .before .before .before .before .before .before .before .before .before .before .before .before .pre .1 .0) (c .before .before .before .before .before .before .before .before .before .before .before .before .before .before .before .before .part .ensures) (c .before .before .before .before .before .before .before .before .before .before .before .before .before .before .before .word .ensures .0) _ _ _ _ _ _ (c .before .before .before .before .before .before .before .before .before .before .before .before .before .before .before .before .before .before .before .before .before .pre .1 .1) (c .before .before .before .before .before .before .before .before .before .before .before .before .before .before .if1 .left) (c .before .before .before .before .before .before .before .before .before .before .before .before .before .if2 .left) _ (c .before .before .before .before .before .before .before .before .before .before .word2 .ensures .0) _ _ _ _ _ _ (c .before .before .before .before .before .before .before .before .before .schema .ensures) (c .before .before .before .if3 .left) _ (c .word3 .ensures .0) in omega (arith, c .before .before .before .before .before .before .before .before .before .before .before .before .before .before .before .before .before .before .before .before .before .pre .0, l), (right-at _ _ _ _ (c .before .before .before .before .before .before .before .before .before .before .before .before .before .before .before .before .before .before .before .before .before .pre .1 .0) (c .before .before .before .before .before .before .before .before .before .before .before .before .before .before .before .before .part .ensures) (c .before .before .before .before .before .before .before .before .before .before .before .before .before .before .before .word .ensures .0) _ _ _ _ _ _ (c .before .before .before .before .before .before .before .before .before .before .before .before .before .before .before .before .before .before .before .before .before .pre .1 .1) (c .before .before .before .before .before .before .before .before .before .before .before .before .before .before .if1 .left) (c .before .before .before .before .before .before .before .before .before .before .before .before .before .if2 .left) _ (c .before .before .before .before .before .before .before .before .before .before .word2 .ensures .0) _ _ _ _ _ _ (c .before .before .before .before .before .before .before .before .before .schema .ensures) (c .before .before .before .if3 .left) _ (c .word3 .ensures .0), right-asked _ _ _ _ (c .before .before .before .before .before .before .before .before .before .before .before .before .before .before .before .before .before .before .before .before .before .pre .1 .0) (c .before .before .before .before .before .before .before .before .before .before .before .before .before .before .before .before .part .ensures) (c .before .before .before .before .before .before .before .before .before .before .before .before .before .before .before .word .ensures .0) _ _ _ _ _ _ (c .before .before .before .before .before .before .before .before .before .before .before .before .before .before .before .before .before .before .before .before .before .pre .1 .1) (c .before .before .before .before .before .before .before .before .before .before .before .before .before .before .if1 .left) (c .before .before .before .before .before .before .before .before .before .before .before .before .before .if2 .left) _ (c .before .before .before .before .before .before .before .before .before .before .word2 .ensures .0) _ _ _ _ _ _ (c .before .before .before .before .before .before .before .before .before .schema .ensures) (c .before .before .before .if3 .left) _ (c .word3 .ensures .0)))
 
 -- src/schemas.rt:89:9
 schema-same-length-7 : (t : ℕ) → schema-lts.Need-same-length-7 (
@@ -414,7 +414,7 @@ schema-same-length-9 : (t : ℕ) → schema-lts.Need-same-length-9 (
   conjoin-reads.Asked,
   conjoin-reads.Learnt,
 ) (schema-at t) schema.Post
-schema-same-length-9 t c = search needs
+schema-same-length-9 t c = omega (arith, c .before .before .before .before .conjoin .kept .0, c .before .before .before .before .before .before .before .before .before .before .before .before .before .schema2 .kept .0, c .before .before .before .before .before .before .before .before .before .before .before .before .before .before .before .before .before .before .before .before .before .before .before .schema .kept .0)
 
 -- src/schemas.rt:62:1
 schema-same-length-10 : (t : ℕ) → schema-lts.Need-same-length-10 (

@@ -1,3 +1,4 @@
+use Rattle.above.proofs.ParagraphNodes.{refusing, agreeing}
 use Rattle.above.proofs.SchemaNodes.{join-clash, keep-ready, merge-ready, join-many, join-done}
 use mathlib.Core.Path.{refl}
 use native.Mathlib.Omega.{arith}
@@ -34,7 +35,7 @@ same-length-2 c = search needs
 
 -- src/schemas.rt:50:9
 returns : tie.Need-returns
-returns c = search needs
+returns c = join-clash _ _ _ _ _ _ _ _ _ _ (c .before .before .rows-agree .ensures) (refusing _ (c .before .if1 .taken)) _ (c .lined-at .ensures)
 
 -- src/schemas.rt:52:9
 span-requires : tie.Need-span-requires
@@ -46,11 +47,11 @@ add-keep-rows c = search needs
 
 -- src/schemas.rt:53:9
 keep-rows-requires : tie.Need-keep-rows-requires
-keep-rows-requires c κs = search needs
+keep-rows-requires c κs = let A = c .before .before .before .before .before .before .before .before .before .before .pre .1 in keep-ready _ _ _ _ _ _ _ _ 0 A _ (c .before .before .span .ensures) _ (omega arith)
 
 -- src/schemas.rt:54:9
 merge-requires : tie.Need-merge-requires
-merge-requires c κs = search needs
+merge-requires c κs = merge-ready _ _ _ _ _ _ _ _ 0 (c .before .before .before .before .before .before .before .before .before .before .before .before .before .before .before .before .pre .1) _ _ _ (c .before .before .before .before .before .before .before .before .span .ensures) _ _ (omega arith) (c .before .before .before .before .before .keep-rows .ensures)
 
 -- src/schemas.rt:56:9
 lined-at-requires-2 : tie.Need-lined-at-requires-2
@@ -66,7 +67,7 @@ same-length-4 c = search needs
 
 -- src/schemas.rt:56:9
 returns-2 : tie.Need-returns-2
-returns-2 c = search needs
+returns-2 c = join-many _ _ _ _ _ _ _ _ _ (c .before .before .before .before .before .before .before .before .before .before .before .before .before .before .before .before .before .before .before .before .before .pre .1) _ _ _ (c .before .before .before .before .before .before .before .before .before .before .before .before .before .span .ensures) _ _ (omega arith) (c .before .before .before .before .before .before .before .before .before .before .keep-rows .ensures) _ (c .before .before .before .before .before .before .before .before .before .before .before .before .before .before .before .rows-agree .ensures) (agreeing _ (c .before .before .before .before .before .before .before .before .before .before .before .before .before .before .if1 .left)) _ _ (c .before .before .before .before .merge .ensures) _ (c .before .if2 .taken) (c .lined-at2 .ensures)
 
 -- src/schemas.rt:58:5
 lined-at-requires-3 : tie.Need-lined-at-requires-3
@@ -82,7 +83,7 @@ same-length-6 c = search needs
 
 -- src/schemas.rt:34:1
 returns-3 : tie.Need-returns-3
-returns-3 c = search needs
+returns-3 c = join-done _ _ _ _ _ _ _ _ _ (c .before .before .before .before .before .before .before .before .before .before .before .before .before .before .before .before .before .before .before .before .before .pre .1) _ _ _ (c .before .before .before .before .before .before .before .before .before .before .before .before .before .span .ensures) _ _ (omega arith) (c .before .before .before .before .before .before .before .before .before .before .keep-rows .ensures) _ (c .before .before .before .before .before .before .before .before .before .before .before .before .before .before .before .rows-agree .ensures) (agreeing _ (c .before .before .before .before .before .before .before .before .before .before .before .before .before .before .if1 .left)) _ _ (c .before .before .before .before .merge .ensures) _ (c .before .if2 .left) (c .lined-at3 .ensures)
 
 pub conjoin-spec : {M : Type 1} → statement M
 conjoin-spec =
