@@ -116,10 +116,10 @@ module _ {doc p : List ℕ} {k : ℕ} (N : Node doc p paragraphs k) {s d w : Lis
                         wording s d w (paragraphAt doc k) k (getD p 1 0) ps (exprAt doc x) tree A s₁ w₁ n at₁ P (five .few) s₂ w₂ number place cell n′ top′ at₂ T fine s₃ C′ M′ v Z small
 
                     pub abbreviation-told : {s₄ w₃ w₄ : List ℕ} {end name : ℕ} {r : Lined} → length s₃ ≡ length s₂ → name ≡ getD p 1 0 → WordsAre s₃ d w₂ w₃ n′ cell 1028 end →
-                        w₄ ≡ sets w₃ 1024 (end - 1024 - 1 ∷ 1 ∷ name ∷ n ∷ []) → s₄ ≡ sets s₃ 1 (replicate (at₂ - 1) 0) → LinedAt r 0 k 1 1024 →
+                        w₄ ≡ sets w₃ 1024 ((end - 1024 - 1) ∷ 1 ∷ name ∷ n ∷ []) → s₄ ≡ sets s₃ 1 (replicate (at₂ - 1) 0) → LinedAt r 0 k 1 1024 →
                         ParagraphDone s s₄ d w w₄ (paragraphAt doc k) (r .number) (r .place) (r .at) (r .count)
                     abbreviation-told {s₄} {w₃} {w₄} {end} {name} z ei W hw h L =
                         paragraph-told L
                         (anywhere
                         (abbreviation-done s d w (paragraphAt doc k) k (getD p 1 0) ps (exprAt doc x) tree A s₁ w₁ n at₁ P (five .few) s₂ w₂ number place cell n′ top′ at₂ T fine s₃ C′ M′ v Z small
-                        z s₄ w₃ w₄ end (end - 1024 - 1) given-count h W refl (hw ∙ ap (λ j. sets w₃ 1024 (end - 1024 - 1 ∷ 1 ∷ j ∷ n ∷ [])) ei)))
+                        z s₄ w₃ w₄ end (end - 1024 - 1) given-count h W refl (hw ∙ ap (λ j. sets w₃ 1024 ((end - 1024 - 1) ∷ 1 ∷ j ∷ n ∷ [])) ei)))

@@ -4,7 +4,7 @@ use mathlib.Core.Bool.{Bool, true, false, not}
 use mathlib.Core.List.{List, [], _∷_}
 use Prim.Native.Nat.{ℕ, _+_, _*_, _-_, _≤_, _<_, _^_}
 use native.Mathlib.Omega.{arith}
-use lib.ListN.{length, getD, drop, replicate, length-drop}
+use lib.ListN.{length, getD, take, drop, replicate, length-drop}
 use lib.Seq.{sets}
 use Rattle.layout.specs.Layout.{part}
 use Rattle.syntax.specs.Decode.{paragraphAt, textAt, predAt}
@@ -14,7 +14,7 @@ use Rattle.syntax.specs.Promise.{At}
 use Rattle.syntax.specs.Tree.{Paragraph, given, axiomatic, constraint}
 use Rattle.syntax.proofs.TreeCounts.{at-most}
 use Rattle.syntax.proofs.TreeParagraph.{paragraph-range, paragraph-given, paragraph-axiomatic, paragraph-constraint}
-use Rattle.syntax.proofs.TreeShape.{One}
+use Rattle.syntax.proofs.TreeShape.{One, all-at, _▹_}
 use Rattle.types.specs.Types.{Tys}
 use Rattle.solver.specs.Settled.{heap}
 use Rattle.solver.specs.Written.{Wrote}
@@ -25,6 +25,7 @@ use Rattle.walk.specs.Paragraphs.{ParagraphAsk, ParagraphDone}
 use Rattle.walk.specs.Predicates.{PredAsk, PredDone}
 use Rattle.walk.specs.Texts.{TextAsk, TextDone}
 use Rattle.entries.specs.Entries.{TypesAt, givenEntries, nameEntries, TableAsk}
+use Rattle.entries.specs.Parameters.{ParametersPushed}
 use Rattle.entries.proofs.Constraint.{constraint-asked, constraint-done}
 use Rattle.entries.proofs.Given.{given-clash, given-done}
 use Rattle.entries.proofs.Axiomatic.{axiom-asked, axiom-stopped, axiom-table, axiom-done}
@@ -48,19 +49,24 @@ pub agreeing : (b : Bool) → not b ≡ false → b ≡ true
 agreeing true e = refl
 agreeing false e = sym e
 
+-- All parameters, from the first on.
+pub all-parameters : {s s′ w w′ : List ℕ} (p : List ℕ) {n at : ℕ} → ParametersPushed s s′ w w′ (take (n - 0) (drop (0 + 3) p)) 0 n at → ParametersPushed s s′ w w′ (take n (drop 3 p)) 0 n at
+all-parameters {s} {s′} {w} {w′} p {n} {at} P = subst (λ j. ParametersPushed s s′ w w′ (take j (drop 3 p)) 0 n at) (let z : n - 0 ≡ n = omega arith in z) P
+
 pub node-of : {doc p : List ℕ} {k s : ℕ} → At doc s k → p ≡ part doc k → Node doc p s k
 node-of a e = record { at = a; words = e }
 
-pub kind-is : {doc p : List ℕ} {k q m : ℕ} → p ≡ part doc k → q ≡ getD p 0 0 → q ≡ m → kindAt doc k ≡ m
-kind-is e h i = sym (ap (λ z. getD z 0 0) e) ∙ sym h ∙ i
+pub kind-is : (doc p : List ℕ) (k q m : ℕ) → p ≡ part doc k → q ≡ getD p 0 0 → q ≡ m → kindAt doc k ≡ m
+kind-is doc p k q m e h i = sym (ap (λ z. getD z 0 0) e) ∙ sym h ∙ i
 
 pub kind-last : {doc p : List ℕ} {k q : ℕ} → At doc paragraphs k → p ≡ part doc k → q ≡ getD p 0 0 → (q ≡ 2 → ⊥) → (q ≡ 3 → ⊥) → (q ≡ 4 → ⊥) → (q ≡ 5 → ⊥) → kindAt doc k ≡ 6
 kind-last {doc} {p} {k} {q} N e h a b c d =
     let r = paragraph-range doc k N in
-    let x = r .0 in
-    let y = r .1 in
-    let z : kindAt doc k ≡ q = kind-is e h refl in
-    omega (arith, a, b, c, d)
+    let x = r .1 in
+    let z : q ≡ kindAt doc k = sym (kind-is doc p k q q e h refl) in
+    all-at (λ j. kindAt doc k ≡ j → kindAt doc k ≡ 6) 2 5
+    ((λ y. absurd (a (z ∙ y))) ▹ (λ y. absurd (b (z ∙ y))) ▹ (λ y. absurd (c (z ∙ y))) ▹ (λ y. absurd (d (z ∙ y))) ▹ (λ y. y) ▹ tt)
+    (kindAt doc k) (r .0) (omega arith) refl
 
 pub node-small : {doc p : List ℕ} {k s : ℕ} → Node doc p s k → k < 2 ^ 32
 node-small N = let z = N .at .small in omega arith

@@ -1,5 +1,4 @@
 use Rattle.above.proofs.ParagraphNodes.{node-small, refusing, agreeing, given-some, given-short, given-clashes, given-told}
-use Rattle.above.proofs.ParagraphNodes.{node-small, given-short, given-clashes, given-told}
 use mathlib.Core.Path.{refl}
 use native.Mathlib.Omega.{arith}
 use borrow.Author.Needs.{needs}

@@ -24,7 +24,7 @@ word-requires c κs = search needs
 
 -- src/paragraphs.rt:175:9
 given-requires : tie.Need-given-requires
-given-requires c κs = (node-of (c .before .before .before .before .before .before .before .before .before .pre .0) (c .before .before .before .before .part .ensures), kind-is (c .before .before .before .before .part .ensures) (c .before .before .before .word .ensures .0) (c .before .before .if1 .taken), c .before .before .before .before .before .before .before .before .before .pre .1)
+given-requires c κs = (node-of (c .before .before .before .before .before .before .before .before .before .pre .0) (c .before .before .before .before .part .ensures), kind-is _ _ _ _ _ (c .before .before .before .before .part .ensures) (c .before .before .before .word .ensures .0) (c .before .before .if1 .taken), c .before .before .before .before .before .before .before .before .before .pre .1)
 
 -- src/paragraphs.rt:175:9
 same-length : tie.Need-same-length
@@ -40,7 +40,7 @@ returns c = c .before .before .given .ensures
 
 -- src/paragraphs.rt:178:9
 axiomatic-requires : tie.Need-axiomatic-requires
-axiomatic-requires c κs = (node-of (c .before .before .before .before .before .before .before .before .before .before .pre .0) (c .before .before .before .before .before .part .ensures), kind-is (c .before .before .before .before .before .part .ensures) (c .before .before .before .before .word .ensures .0) (c .before .before .if2 .taken), c .before .before .before .before .before .before .before .before .before .before .pre .1)
+axiomatic-requires c κs = (node-of (c .before .before .before .before .before .before .before .before .before .before .pre .0) (c .before .before .before .before .before .part .ensures), kind-is _ _ _ _ _ (c .before .before .before .before .before .part .ensures) (c .before .before .before .before .word .ensures .0) (c .before .before .if2 .taken), c .before .before .before .before .before .before .before .before .before .before .pre .1)
 
 -- src/paragraphs.rt:178:9
 same-length-3 : tie.Need-same-length-3
@@ -56,7 +56,7 @@ returns-2 c = c .before .before .before .before .axiomatic .ensures
 
 -- src/paragraphs.rt:181:9
 schema-paragraph-requires : tie.Need-schema-paragraph-requires
-schema-paragraph-requires c κs = (node-of (c .before .before .before .before .before .before .before .before .before .before .before .pre .0) (c .before .before .before .before .before .before .part .ensures), kind-is (c .before .before .before .before .before .before .part .ensures) (c .before .before .before .before .before .word .ensures .0) (c .before .before .if3 .taken), c .before .before .before .before .before .before .before .before .before .before .before .pre .1)
+schema-paragraph-requires c κs = (node-of (c .before .before .before .before .before .before .before .before .before .before .before .pre .0) (c .before .before .before .before .before .before .part .ensures), kind-is _ _ _ _ _ (c .before .before .before .before .before .before .part .ensures) (c .before .before .before .before .before .word .ensures .0) (c .before .before .if3 .taken), c .before .before .before .before .before .before .before .before .before .before .before .pre .1)
 
 -- src/paragraphs.rt:181:9
 same-length-5 : tie.Need-same-length-5
@@ -72,7 +72,7 @@ returns-3 c = c .before .before .before .before .schema-paragraph .ensures
 
 -- src/paragraphs.rt:184:9
 abbreviation-requires : tie.Need-abbreviation-requires
-abbreviation-requires c κs = (node-of (c .before .before .before .before .before .before .before .before .before .before .before .before .pre .0) (c .before .before .before .before .before .before .before .part .ensures), kind-is (c .before .before .before .before .before .before .before .part .ensures) (c .before .before .before .before .before .before .word .ensures .0) (c .before .before .if4 .taken), c .before .before .before .before .before .before .before .before .before .before .before .before .pre .1)
+abbreviation-requires c κs = (node-of (c .before .before .before .before .before .before .before .before .before .before .before .before .pre .0) (c .before .before .before .before .before .before .before .part .ensures), kind-is _ _ _ _ _ (c .before .before .before .before .before .before .before .part .ensures) (c .before .before .before .before .before .before .word .ensures .0) (c .before .before .if4 .taken), c .before .before .before .before .before .before .before .before .before .before .before .before .pre .1)
 
 -- src/paragraphs.rt:184:9
 same-length-7 : tie.Need-same-length-7

@@ -414,7 +414,7 @@ schema-same-length-9 : (t : ℕ) → schema-lts.Need-same-length-9 (
   conjoin-reads.Asked,
   conjoin-reads.Learnt,
 ) (schema-at t) schema.Post
-schema-same-length-9 t c = omega (arith, c .before .before .before .before .conjoin .kept .0, c .before .before .before .before .before .before .before .before .before .before .before .before .before .schema2 .kept .0, c .before .before .before .before .before .before .before .before .before .before .before .before .before .before .before .before .before .before .before .before .before .before .before .schema .kept .0)
+schema-same-length-9 t c = omega (arith, c .before .before .before .before .conjoin .kept .0, c .before .before .before .before .before .before .before .before .before .before .before .before .before .schema2 .kept .1 .0, c .before .before .before .before .before .before .before .before .before .before .before .before .before .before .before .before .before .before .before .before .before .before .before .schema .kept .1 .0)
 
 -- src/schemas.rt:62:1
 schema-same-length-10 : (t : ℕ) → schema-lts.Need-same-length-10 (

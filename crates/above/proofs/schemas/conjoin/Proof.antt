@@ -1,5 +1,5 @@
-use Rattle.above.proofs.ParagraphNodes.{refusing, agreeing}
 use Rattle.above.proofs.SchemaNodes.{join-clash, keep-ready, merge-ready, join-many, join-done}
+use Rattle.above.proofs.ParagraphNodes.{refusing, agreeing}
 use mathlib.Core.Path.{refl}
 use native.Mathlib.Omega.{arith}
 use borrow.Author.Needs.{needs}
