@@ -72,14 +72,7 @@ fn given(doc: &[u32], a: &[u32], d: &[u32], w: &mut [u32], k: usize, p: &[u32]) 
 }
 
 // 3 Axiom: its Text's identifiers become global.
-fn axiomatic(
-    doc: &[u32],
-    a: &mut [u32],
-    d: &[u32],
-    w: &mut [u32],
-    k: usize,
-    p: &[u32],
-) -> Lined
+fn axiomatic(doc: &[u32], a: &mut [u32], d: &[u32], w: &mut [u32], k: usize, p: &[u32]) -> Lined
     requires { ⌜ Node (now doc) (now p) paragraphs k × (kindAt (now doc) k ≡ 3) × ParagraphAsk (now a) (now d) (now w) (paragraphAt (now doc) k) ⌝ }
     ensures { λ r. ⌜ ParagraphDone (now (a .entry)) (now (a .exit)) (now (d .entry)) (now (w .entry)) (now (w .exit)) (paragraphAt (now (doc .entry)) k) (r .number) (r .place) (r .at) (r .count) ⌝ }
 {
@@ -116,14 +109,7 @@ fn schema_paragraph(
 }
 
 // 5 Abbreviation: parameters, a closed piece, 36, 38, one entry.
-fn abbreviation(
-    doc: &[u32],
-    a: &mut [u32],
-    d: &[u32],
-    w: &mut [u32],
-    k: usize,
-    p: &[u32],
-) -> Lined
+fn abbreviation(doc: &[u32], a: &mut [u32], d: &[u32], w: &mut [u32], k: usize, p: &[u32]) -> Lined
     requires { ⌜ Node (now doc) (now p) paragraphs k × (kindAt (now doc) k ≡ 5) × ParagraphAsk (now a) (now d) (now w) (paragraphAt (now doc) k) ⌝ }
     ensures { λ r. ⌜ ParagraphDone (now (a .entry)) (now (a .exit)) (now (d .entry)) (now (w .entry)) (now (w .exit)) (paragraphAt (now (doc .entry)) k) (r .number) (r .place) (r .at) (r .count) ⌝ }
 {
@@ -149,14 +135,7 @@ fn abbreviation(
 }
 
 // 6 Constraint: no entry.
-fn constraint(
-    doc: &[u32],
-    a: &mut [u32],
-    d: &[u32],
-    w: &mut [u32],
-    k: usize,
-    p: &[u32],
-) -> Lined
+fn constraint(doc: &[u32], a: &mut [u32], d: &[u32], w: &mut [u32], k: usize, p: &[u32]) -> Lined
     requires { ⌜ Node (now doc) (now p) paragraphs k × (kindAt (now doc) k ≡ 6) × ParagraphAsk (now a) (now d) (now w) (paragraphAt (now doc) k) ⌝ }
     ensures { λ r. ⌜ ParagraphDone (now (a .entry)) (now (a .exit)) (now (d .entry)) (now (w .entry)) (now (w .exit)) (paragraphAt (now (doc .entry)) k) (r .number) (r .place) (r .at) (r .count) ⌝ }
 {
