@@ -36,6 +36,7 @@ pub mod Actuals
 pub mod Brought
 pub mod Bringing
 pub mod TableRows
+pub mod Keeping
 pub mod Merged
 pub mod Inclusions
 pub mod IncludeNodes
