@@ -35,6 +35,11 @@ static void same_check(const uint32_t *document, size_t words, uint32_t number, 
     }
 }
 
+static void same_fit(const uint32_t *document, size_t words, const uint32_t *state, size_t state_words, uint32_t number, uint32_t place) {
+    static uint32_t dictionary[16384], work[16384];
+    same_finding("z_fit", z_fit(document, words, state, state_words, dictionary, WORDS(dictionary), work, WORDS(work)), number, place);
+}
+
 /* Prints into a buffer of this size, with a byte after it that must stay. */
 static void same_text(uint64_t finding, const uint32_t *dictionary, size_t words, size_t size, const char *wanted) {
     char buffer[Z_PRINT_SIZE(16) + 1];
@@ -53,6 +58,7 @@ static void same_text(uint64_t finding, const uint32_t *dictionary, size_t words
 int main(void) {
     const uint32_t document[] = {2, 5, 2, 7, 2, 2, 4, 1, 1};
     const uint32_t state[] = {0};
+    const uint32_t sized[] = {1, 3, 1, 20};
     const uint32_t dictionary[] = {1, 3, 6, 1, 4, 0, 3, 2, 4, 0, 0};
     const char *lines = "accepted 9 1\n1 4 0 : 3 2 4\n";
     same_finding("z_read", z_read(document, WORDS(document)), 0, 0);
@@ -60,6 +66,8 @@ int main(void) {
     same_finding("z_state", z_state(document, WORDS(document), state, WORDS(state)), 41, 0);
     same_check(document, WORDS(document), 0, 0, dictionary, WORDS(dictionary));
     same_check(document, 0, 11, 0, dictionary, 0);
+    same_fit(document, WORDS(document), state, WORDS(state), 41, 0);
+    same_fit(document, WORDS(document), sized, WORDS(sized), 0, 0);
     same_text(0, dictionary, WORDS(dictionary), Z_PRINT_SIZE(WORDS(dictionary)), lines);
     same_text(0, dictionary, WORDS(dictionary), strlen(lines) + 1, lines);
     same_text(0, dictionary, WORDS(dictionary), strlen(lines), "");

@@ -6,6 +6,7 @@ ghost use lib.ListN.{length};
 ghost use Rattle.syntax.specs.Reading.{readOf};
 ghost use Rattle.states.specs.States.{stateCheckOf};
 ghost use Rattle.typing.specs.Check.{checkOf};
+ghost use Rattle.fit.specs.Fit.{fitOf};
 ghost use Rattle.printer.specs.Print.{printOf};
 ghost use Rattle.printer.specs.Buffer.{Printed};
 ghost use Rattle.capi.specs.Code.{codeOf, findingOf, checkCode, Decided, runCode, Ran};
@@ -53,6 +54,14 @@ pub extern "C" fn z_check(doc: &[u32], dict: &mut [u32], work: &mut [u32]) -> u6
     ensures { λ n. ⌜ Decided (checkOf (now (doc .entry)) (length (now (dict .entry))) (length (now (work .entry)))) (length (now (dict .entry))) (length (now (work .entry))) n (now (dict .exit)) (now (work .exit)) ⌝ }
 {
     check_code(checker::check(doc, dict, work))
+}
+
+// The check of a document, then a state against its dictionary: the check's finding first, then 41 and 42 with the entry. The areas as after a check.
+#[no_mangle]
+pub extern "C" fn z_fit(doc: &[u32], state: &[u32], dict: &mut [u32], work: &mut [u32]) -> u64
+    ensures { λ n. ⌜ Decided (fitOf (now (doc .entry)) (now (state .entry)) (length (now (dict .entry))) (length (now (work .entry)))) (length (now (dict .entry))) (length (now (work .entry))) n (now (dict .exit)) (now (work .exit)) ⌝ }
+{
+    check_code(fitting::fit(doc, state, dict, work))
 }
 
 // A run's finding as one number: 0 where it holds, 1 * 2^32 + node where it fails, else number * 2^32 + place.
