@@ -22,9 +22,8 @@ use Rattle.syntax.proofs.TreeText.{line-range, line-declaration, line-inclusion
 use Rattle.syntax.proofs.TreeLists.{lines-go, lines-end}
 use Rattle.states.specs.Names.{Name, namesAs, lineNames, paragraphNames, namesOf}
 use Rattle.states.specs.Table.{lineCount}
-use Rattle.states.proofs.NameLaws.{as-length, text-line, given-names, given-words, axiom-names, other-names, document-go, document-end}
+use Rattle.states.proofs.NameLaws.{as-length, text-line, given-names, axiom-names, other-names, document-go, document-end}
 use Rattle.fitting.specs.Roles.{nobody, identifierAt, roleOf}
-use Rattle.fitting.specs.declared.names.Role.{Role}
 use Rattle.fitting.specs.declared.names.Role.the-variants.{Given, Declared}
 
 -- ---- in a list after another

@@ -1,18 +1,16 @@
 -- 42's test on a dictionary area, and at an entry of a state.
 use mathlib.Core.Path.{_≡_, refl, sym, ap, subst, _∙_}
-use mathlib.Core.Bool.{Bool, true, false, cond, false≢true}
+use mathlib.Core.Bool.{Bool, true, false, cond}
 use mathlib.Core.List.{List, [], _∷_, _++_}
 use Prim.Native.Nat.{ℕ, zero, suc, _+_, _-_, _≤_, _<_}
 use native.Mathlib.Omega.{arith}
-use lib.Dec.{eqb, leb}
+use lib.Dec.{leb}
 use lib.ListN.{length, getD, drop}
 use borrow.Author.Tests.{eqb-true, leb-true}
 use Rattle.words.proofs.Loops.{and-left, and-right}
 use Rattle.layout.specs.Layout.{count, laidOut, part}
-use Rattle.layout.proofs.Laws.{laid}
 use Rattle.syntax.specs.Decode.{treeOf}
-use Rattle.syntax.specs.declared.Reading.{Reading}
-use Rattle.syntax.specs.declared.Reading.the-variants.{Readable, Refused}
+use Rattle.syntax.specs.declared.Reading.the-variants.{Readable}
 use Rattle.types.specs.Types.{Ty, size}
 use Rattle.types.specs.Formed.{WellFormed as Formed}
 use Rattle.types.specs.Words.{words}
@@ -21,7 +19,6 @@ use Rattle.values.specs.Form.{isValue}
 use Rattle.values.specs.Typed.{isOf, hasType}
 use Rattle.values.proofs.TypedValues.{typed-value}
 use Rattle.typing.specs.Dictionary.{Dictionary, Named, unnamed, ofGlobal, nameIn}
-use Rattle.typing.specs.Check.{accepted, checkOf}
 use Rattle.typing.specs.WellFormed.{FormedAnswer}
 use Rattle.typing.proofs.CheckRight.{accepted-says}
 use Rattle.typing.proofs.FormedCheck.{check-formed}
@@ -30,7 +27,6 @@ use Rattle.dictionary.specs.Lookup.{typeAt, NameFound}
 use Rattle.states.specs.Names.{Name, documentNames}
 use Rattle.states.specs.Decode.{valueOf}
 use Rattle.states.specs.States.{nameAt, sizesIn, valueNumber, isPaired, stateForm, stateOf}
-use Rattle.evaluation.specs.Claims.{WellFormed}
 use Rattle.evaluation.proofs.Decoding.{Words, value-read}
 use Rattle.evaluation.proofs.StateWords.{words-part}
 use Rattle.evaluation.proofs.StatePlace.{state-well}
@@ -40,7 +36,6 @@ use Rattle.fit.proofs.OfType.{of-type, of-has, has-of}
 use Rattle.soundness.proofs.Fitted.{RecordedAs, Recording, document-recorded, formed-in}
 use Rattle.fitting.specs.Roles.{nobody, roleOf}
 use Rattle.fitting.specs.Held.{Held, Tested}
-use Rattle.fitting.specs.declared.names.Role.{Role}
 use Rattle.fitting.specs.declared.names.Role.the-variants.{Given, Declared}
 
 -- ---- words after a recorded type change nothing

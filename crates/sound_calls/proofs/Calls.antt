@@ -1,5 +1,5 @@
 -- Demand 3 over the calls, from demand 3 on the definitions.
-use mathlib.Core.Path.{_≡_, refl, sym, ap, _∙_}
+use mathlib.Core.Path.{_≡_, refl, sym, _∙_}
 use mathlib.Core.List.{List}
 use Prim.Native.Nat.{ℕ}
 use native.Mathlib.Omega.{arith}
@@ -7,14 +7,14 @@ use lib.ListN.{length}
 use Rattle.typing.specs.Dictionary.{Dictionary}
 use Rattle.typing.specs.Check.{Answer, accepted, refused, checkOf}
 use Rattle.typing.specs.Areas.{findingOf}
-use Rattle.typing.specs.declared.Finding.the-variants.{Accepted, Refused as Rejected}
+use Rattle.typing.specs.declared.Finding.the-variants.{Accepted}
 use Rattle.fit.specs.Fit.{fitOf}
 use Rattle.evaluation.specs.Run.{runOf}
 use Rattle.evaluation.specs.declared.Finding.{Finding}
 use Rattle.evaluator.specs.Named.{RunCall}
 use Rattle.soundness.specs.Demand.{Sound}
 use Rattle.soundness.proofs.Demand.{demand-three, fit-sound}
-use Rattle.sound_calls.specs.Calls.{SoundCall, OfRecordedTypes, FittedRuns, CheckedRuns}
+use Rattle.sound_calls.specs.Calls.{SoundCall, FittedRuns, CheckedRuns}
 
 -- the finding Accepted is that of an accepting answer
 record Accepting (a : Answer) : Type 0 where

@@ -1,8 +1,8 @@
 -- What the parts of the program print, and that the first 65,537 bytes of an input decide its report.
 use mathlib.Core.Path.{_≡_, refl, sym, ap, ap₂, subst, _∙_}
 use mathlib.Core.Bool.{Bool, true, false, _&&_}
-use mathlib.Core.List.{List, [], _∷_, _++_}
-use Prim.Native.Nat.{ℕ, zero, suc, _+_, _*_, _-_, _/_, _%_, _^_, _≤_, _<_}
+use mathlib.Core.List.{List, [], _∷_}
+use Prim.Native.Nat.{ℕ, suc, _*_, _-_, _/_, _%_, _^_, _≤_, _<_}
 use native.Mathlib.Omega.{arith}
 use lib.ListN.{length, getD, take, drop, replicate, length-take, length-append, length-replicate}
 use lib.Seq.{take-at, take-all}
@@ -14,7 +14,7 @@ use Rattle.typing.specs.declared.Finding.{Finding}
 use Rattle.typing.specs.declared.Finding.the-variants.{Refused}
 use Rattle.printer.specs.Print.{printOf, printedAnswer, printedOf}
 use Rattle.printer.specs.Buffer.{Printed, printedBytes, printedLength}
-use Rattle.printer.specs.Bounds.{Words, none, word, OfWords, placed}
+use Rattle.printer.specs.Bounds.{Words, none, word, OfWords}
 use Rattle.printer.specs.Lines.{refusedLine, refusedBytes, atBytes, spaced}
 use Rattle.printer.specs.Decimal.{decimal, digits}
 use Rattle.printer.proofs.Lengths.{print-length}

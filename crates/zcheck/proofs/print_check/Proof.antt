@@ -1,13 +1,7 @@
-use mathlib.Core.Path.{subst, _∙_}
 use native.Mathlib.Omega.{arith}
 use contract.Lifetimes.{Lfts}
-use Prim.Native.Nat.{ℕ}
-use lib.ListN.{length}
-use Rattle.typing.specs.Areas.{Checked}
 use Rattle.typing.specs.declared.Finding.{Finding}
 use Rattle.typing.specs.declared.Finding.the-variants.{Accepted, Refused}
-use Rattle.printer.specs.Print.{printOf}
-use Rattle.printer.specs.Buffer.{Printed}
 use Rattle.printer.specs.Bounds.{OfWords, noPlace, placed}
 use borrow.Author.Needs.{needs}
 use Rattle.zcheck.proofs.Reports.{check-prints}
