@@ -25,6 +25,16 @@ uint64_t z_read(const uint32_t *document, size_t words);
 /* A document with a state: reading's finding; then 41 with the entry of the state that is ill formed, 0 for its pairs; 0 where there is none. */
 uint64_t z_state(const uint32_t *document, size_t words, const uint32_t *state, size_t state_words);
 
+/* The check of a document: reading's finding; then 21 where the work area has under 16384 words; then 22 where the dictionary has no room in its
+ * area, 31 to 38 with the node; 0 where the document is accepted. After acceptance the dictionary area holds the dictionary with zeros after it,
+ * after a refusal zeros. The work area is zero after it. */
+uint64_t z_check(const uint32_t *document, size_t words, uint32_t *dictionary, size_t dictionary_words, uint32_t *work, size_t work_words);
+
+/* The check of a document, then a state against its dictionary: the check's finding; then 41 as z_state; then 42 with the entry whose value is not
+ * of its recorded type; 0 where both are accepted. The areas as after z_check. */
+uint64_t z_fit(const uint32_t *document, size_t words, const uint32_t *state, size_t state_words, uint32_t *dictionary, size_t dictionary_words,
+               uint32_t *work, size_t work_words);
+
 /* A run of a document on a state: reading's finding; then 21 where the work area has under 16384 words; then 41 as z_state; then that of the
  * paragraphs: 0 where the run holds, number 1 with the node where it fails, 51 to 55 with the node. The work area is zero after it. */
 uint64_t z_run(const uint32_t *document, size_t words, const uint32_t *state, size_t state_words, uint32_t *work, size_t work_words);

@@ -14,6 +14,32 @@ static void same_finding(const char *name, uint64_t found, uint32_t number, uint
     }
 }
 
+/* A check with a dictionary area of 12 words, and what it leaves there with zeros after it. */
+static void same_check(const uint32_t *document, size_t words, uint32_t number, uint32_t place, const uint32_t *dictionary, size_t count) {
+    static uint32_t work[16384];
+    uint32_t area[12];
+    memset(area, 0xff, sizeof area);
+    memset(work, 0xff, sizeof work);
+    same_finding("z_check", z_check(document, words, area, WORDS(area), work, WORDS(work)), number, place);
+    for (size_t i = 0; i < WORDS(area); i++) {
+        if (area[i] != (i < count ? dictionary[i] : 0)) {
+            printf("z_check: word %zu of the dictionary area is %u\n", i, area[i]);
+            differences++;
+        }
+    }
+    for (size_t i = 0; i < WORDS(work); i++) {
+        if (work[i] != 0) {
+            printf("z_check: word %zu of the work area is %u\n", i, work[i]);
+            differences++;
+        }
+    }
+}
+
+static void same_fit(const uint32_t *document, size_t words, const uint32_t *state, size_t state_words, uint32_t number, uint32_t place) {
+    static uint32_t dictionary[16384], work[16384];
+    same_finding("z_fit", z_fit(document, words, state, state_words, dictionary, WORDS(dictionary), work, WORDS(work)), number, place);
+}
+
 /* Prints into a buffer of this size, with a byte after it that must stay. */
 static void same_text(uint64_t finding, const uint32_t *dictionary, size_t words, size_t size, const char *wanted) {
     char buffer[Z_PRINT_SIZE(16) + 1];
@@ -32,11 +58,16 @@ static void same_text(uint64_t finding, const uint32_t *dictionary, size_t words
 int main(void) {
     const uint32_t document[] = {2, 5, 2, 7, 2, 2, 4, 1, 1};
     const uint32_t state[] = {0};
+    const uint32_t sized[] = {1, 3, 1, 20};
     const uint32_t dictionary[] = {1, 3, 6, 1, 4, 0, 3, 2, 4, 0, 0};
     const char *lines = "accepted 9 1\n1 4 0 : 3 2 4\n";
     same_finding("z_read", z_read(document, WORDS(document)), 0, 0);
     same_finding("z_read of no words", z_read(document, 0), 11, 0);
     same_finding("z_state", z_state(document, WORDS(document), state, WORDS(state)), 41, 0);
+    same_check(document, WORDS(document), 0, 0, dictionary, WORDS(dictionary));
+    same_check(document, 0, 11, 0, dictionary, 0);
+    same_fit(document, WORDS(document), state, WORDS(state), 41, 0);
+    same_fit(document, WORDS(document), sized, WORDS(sized), 0, 0);
     same_text(0, dictionary, WORDS(dictionary), Z_PRINT_SIZE(WORDS(dictionary)), lines);
     same_text(0, dictionary, WORDS(dictionary), strlen(lines) + 1, lines);
     same_text(0, dictionary, WORDS(dictionary), strlen(lines), "");

@@ -10,6 +10,8 @@ use Rattle.syntax.specs.declared.Reading.the-variants.{Readable, Refused}
 use Rattle.evaluation.specs.Run.{runOf}
 use Rattle.evaluation.specs.declared.Finding.{Finding as RunFinding}
 use Rattle.evaluation.specs.declared.Finding.the-variants.{Holds, Fails, Refused as Stopped}
+use Rattle.typing.specs.Check.{Answer}
+use Rattle.typing.specs.Areas.{findingOf as findingIn, dictionaryAfter, workAfter}
 use Rattle.typing.specs.declared.Finding.{Finding}
 use Rattle.typing.specs.declared.Finding.the-variants.{Accepted, Refused as Refused′}
 
@@ -21,6 +23,17 @@ codeOf (Refused number place) = number * 4294967296 + place
 -- the finding of a check that a number codes
 unfoldable pub findingOf : ℕ → Finding
 findingOf code = cond (eqb code 0) Accepted (Refused′ (code / 4294967296) (code % 4294967296))
+
+-- a check's finding, or a fit's
+unfoldable pub checkCode : Finding → ℕ
+checkCode Accepted = 0
+checkCode (Refused′ number place) = number * 4294967296 + place
+
+-- the check call and the fit call, with areas of d and w words: the number of their answer, and what each area then holds
+pub record Decided (a : Answer) (d w code : ℕ) (dictionary work : List ℕ) : Type 0 where
+  pub finding : code ≡ checkCode (findingIn a)
+  pub recorded : dictionary ≡ dictionaryAfter a d
+  pub cleared : work ≡ workAfter w
 
 -- a run's finding: 0 where it holds, 1 × 2^32 + node where it fails, else number × 2^32 + place
 unfoldable pub runCode : RunFinding → ℕ

@@ -5,9 +5,11 @@ ghost use mathlib.Core.Path.{_≡_};
 ghost use lib.ListN.{length};
 ghost use Rattle.syntax.specs.Reading.{readOf};
 ghost use Rattle.states.specs.States.{stateCheckOf};
+ghost use Rattle.typing.specs.Check.{checkOf};
+ghost use Rattle.fit.specs.Fit.{fitOf};
 ghost use Rattle.printer.specs.Print.{printOf};
 ghost use Rattle.printer.specs.Buffer.{Printed};
-ghost use Rattle.capi.specs.Code.{codeOf, findingOf, runCode, Ran};
+ghost use Rattle.capi.specs.Code.{codeOf, findingOf, checkCode, Decided, runCode, Ran};
 
 // A finding as one number: 0 where there is none, else number * 2^32 + place.
 fn code_of(r: Reading) -> u64
@@ -33,6 +35,33 @@ pub extern "C" fn z_state(doc: &[u32], state: &[u32]) -> u64
     ensures { λ n. ⌜ n ≡ codeOf (stateCheckOf (now (doc .entry)) (now (state .entry))) ⌝ }
 {
     code_of(states::check_state(doc, state))
+}
+
+// A check's finding as one number.
+fn check_code(f: Finding) -> u64
+    ensures { λ n. ⌜ n ≡ checkCode f ⌝ }
+{
+    match f {
+        Finding::Accepted => 0,
+        Finding::Refused { number, place } => (number as u64) * 4294967296 + (place as u64),
+    }
+}
+
+// The check of a document: reading's finding first, then 21, 22 and those of the paragraphs. After acceptance the dictionary area holds the
+// dictionary and zeros after it, after a refusal zeros; the work area is zeros afterwards.
+#[no_mangle]
+pub extern "C" fn z_check(doc: &[u32], dict: &mut [u32], work: &mut [u32]) -> u64
+    ensures { λ n. ⌜ Decided (checkOf (now (doc .entry)) (length (now (dict .entry))) (length (now (work .entry)))) (length (now (dict .entry))) (length (now (work .entry))) n (now (dict .exit)) (now (work .exit)) ⌝ }
+{
+    check_code(checker::check(doc, dict, work))
+}
+
+// The check of a document, then a state against its dictionary: the check's finding first, then 41 and 42 with the entry. The areas as after a check.
+#[no_mangle]
+pub extern "C" fn z_fit(doc: &[u32], state: &[u32], dict: &mut [u32], work: &mut [u32]) -> u64
+    ensures { λ n. ⌜ Decided (fitOf (now (doc .entry)) (now (state .entry)) (length (now (dict .entry))) (length (now (work .entry)))) (length (now (dict .entry))) (length (now (work .entry))) n (now (dict .exit)) (now (work .exit)) ⌝ }
+{
+    check_code(fitting::fit(doc, state, dict, work))
 }
 
 // A run's finding as one number: 0 where it holds, 1 * 2^32 + node where it fails, else number * 2^32 + place.

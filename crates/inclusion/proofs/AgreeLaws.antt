@@ -17,15 +17,16 @@ use Rattle.signatures.specs.Rows.{rows}
 use Rattle.signatures.specs.Tables.{Finds}
 use Rattle.signatures.specs.Carried.{Carries}
 use Rattle.signatures.proofs.CallLaws.{found-term, no-term}
-use Rattle.signatures.proofs.CarryLaws.{carries-other}
 use Rattle.pieces.specs.Piece.{Steady, Walked, Settled}
-use Rattle.pieces.proofs.Between.{walked-skip, walked-then, equal-noted, equal-refused, settled-later, refuses-first, refuses-second}
+use Rattle.pieces.proofs.Between.{walked-skip, walked-then, equal-noted, equal-refused, refuses-first, refuses-second}
 use Rattle.instances.specs.Fill.{fill}
 use Rattle.instances.proofs.FillLaws.{fill-under}
 use Rattle.merging.specs.Merging.{Rows}
-use Rattle.inclusion.specs.Components.{Component, Placed, ActualTypes}
+use Rattle.names.specs.Components.{Component}
+use Rattle.inclusion.specs.Components.{Placed, ActualTypes}
 use Rattle.inclusion.specs.Filling.{Comparing, SameFilled, RowsAsk, AgreeAsk, OneAsk, OneTold, AgreeTold}
 use Rattle.inclusion.proofs.StandLaws.{stands-back, fill-alike}
+use Rattle.inclusion.proofs.LaterLaws.{actuals-later, placed-later}
 
 abbrev pub None : ℕ → Type 0
 None x = ⊥
@@ -35,19 +36,6 @@ module _ (s d : List ℕ) where
   pub component-settled : (H : Items) (U : List ℕ) (i z : ℕ) (places : List ℕ) (t : Term) (p : ℕ) (A : ActualTypes s d H U i z places) (C : Component s d (row i 1 z) t p) →
       Settled H t (fill (A .types) (C .type))
   component-settled H U i z places t p A C τ m = ap (under τ) (C .means) ∙ fill-under τ (row i 1 z) (C .type) ∙ ap (λ hs. fill hs (C .type)) (A .settled τ m)
-
-  -- Items more: types stay.
-  pub actuals-later : (H c : Items) (U : List ℕ) (i z : ℕ) (places : List ℕ) → ActualTypes s d H U i z places → ActualTypes s d (H ⨾ c) U i z places
-  unfolding Meets
-  actuals-later H c U i z places A = record { types = A .types; settled = λ τ m. A .settled τ (m .0); shown = A .shown; stand = A .stand; alike = A .alike; over = A .over }
-
-  placed-later : (H c : Items) (U : List ℕ) (t : Term) (p : ℕ) → Placed s d H U t p → Placed s d (H ⨾ c) U t p
-  placed-later H c U t p P =
-      let T = P .typed in
-      record { typed = record { type = T .type; reads = T .reads; settled = settled-later H c t (T .type) (T .settled); over = T .over }; small = P .small }
-
-  carries-later : (H c : Items) (U : List ℕ) (r : Signature) (rs : List (ℕ × ℕ)) → Carries (Placed s d H U) r rs → Carries (Placed s d (H ⨾ c) U) r rs
-  carries-later H c U r rs C = carries-other (Placed s d H U) (Placed s d (H ⨾ c) U) (placed-later H c U) r rs C
 
 -- One component, beside the row where its identifier is found.
 module _ (s d w : List ℕ) (base m p id : ℕ) (places : List ℕ) (r : ℕ) (F : Finds w base m id r) where
@@ -156,7 +144,7 @@ module _ (s d w : List ℕ) (base m : ℕ) (places : List ℕ) where
         goes′ y H U n i z (naming v t x) r S A C D =
             let c = sameType n t (termIn v r) in
             let W = first H U n i z v t r S A (C .0) (C .1) D in
-            walked-then H c (mergeNames n x r) U U U None S W (N .goes y (H ⨾ c) U n i z x r (W .steady) (actuals-later s d H c U i z places A) (C .2) (carries-later s d H c U r _ D))
+            walked-then H c (mergeNames n x r) U U U None S W (N .goes y (H ⨾ c) U n i z x r (W .steady) (actuals-later s d H c U i z places A) (C .2) (placed-later s d H c U r _ D))
 
         stops′ : b ≡ false → (H : Items) (U : List ℕ) (n i z : ℕ) (x r : Signature) → Steady H U → ActualTypes s d H U i z places → Carries (Component s d (row i 1 z)) x (rows w source (suc j)) →
             Carries (Placed s d H U) r (rows w base m) → Refuses (mergeNames n x r) (Meets H) 36 n
@@ -164,7 +152,7 @@ module _ (s d w : List ℕ) (base m : ℕ) (places : List ℕ) where
         stops′ y H U n i z (naming v t x) r S A C D =
             let c = sameType n t (termIn v r) in
             let W = first H U n i z v t r S A (C .0) (C .1) D in
-            refuses-second H c (mergeNames n x r) 36 n (W .goes) (N .stops y (H ⨾ c) U n i z x r (W .steady) (actuals-later s d H c U i z places A) (C .2) (carries-later s d H c U r _ D))
+            refuses-second H c (mergeNames n x r) 36 n (W .goes) (N .stops y (H ⨾ c) U n i z x r (W .steady) (actuals-later s d H c U i z places A) (C .2) (placed-later s d H c U r _ D))
 
   pub one-asked : (source k : ℕ) → (k ≡ 0 → ⊥) → AgreeAsk s d w base m source k places → (p : ℕ) → p ≡ getD w (source + 1) 0 → OneAsk s d w base m p places
   one-asked source k e A p q = record { actuals = A .brought .actuals; type = first-readable s d w source k e (A .brought .table) p q; table = A .table }

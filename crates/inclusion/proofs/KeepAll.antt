@@ -14,7 +14,9 @@ use Rattle.signatures.specs.Rows.{rows, placeIn}
 use Rattle.signatures.specs.Tables.{Finds}
 use Rattle.signatures.proofs.RowLaws.{rows-kept}
 use Rattle.instances.specs.Fill.{fill}
+use Rattle.inclusion.specs.NewRows.{newRows}
 use Rattle.inclusion.specs.Keeping.{Written, Found, Fresh, RowAsk, RowKept, AllAsk, AllKept}
+use Rattle.inclusion.proofs.NewRowLaws.{rows-few, one-more, one-same}
 
 pub finds-same : (w w′ : List ℕ) (base m i f : ℕ) → ((x : ℕ) → base ≤ x → x < base + 2 * m → getD w′ x 0 ≡ getD w x 0) → Finds w′ base m i f → Finds w base m i f
 finds-same w w′ base m i f h F =
@@ -35,6 +37,9 @@ module _ (s d w₀ : List ℕ) (base m source k : ℕ) (places : List ℕ) (at f
 
   pub all-start : Kept w₀ 0 free
   all-start = record { size = refl; words = λ i l h. refl; more = omega arith; short = omega arith; each = λ j l. absurd (omega arith) }
+
+  pub all-short : (w : List ℕ) (j e : ℕ) → Kept w j e → e ≤ free + 95 * j
+  all-short w j e K = let a = K .short in let b = rows-few w₀ source j (rows w₀ base m) in omega arith
 
   module _ (w : List ℕ) (j e : ℕ) (l : j < k) (K : Kept w j e) where
     abbrev r : ℕ
@@ -57,7 +62,7 @@ module _ (s d w₀ : List ℕ) (base m source k : ℕ) (places : List ℕ) (at f
     step-asked =
         let a = K .size in
         let b = K .more in
-        let c = K .short in
+        let c = all-short w j e K in
         let f = A .scratch in
         let g = A .many in
         let h = A .near in
@@ -73,6 +78,10 @@ module _ (s d w₀ : List ℕ) (base m source k : ℕ) (places : List ℕ) (at f
           near = omega arith;
           place = omega arith;
         }
+
+    -- Row j counts as at first.
+    row-counts : newRows (rows w r 1) (rows w base m) ≡ newRows (rows w₀ r 1) (rows w₀ base m)
+    row-counts = one-same w w₀ r (rows w base m) identifier-same ∙ ap (newRows (rows w₀ r 1)) (rows-kept w₀ w base m table-same)
 
     module _ (w₁ : List ℕ) (e₁ : ℕ) (R : RowKept s d w w₁ base m r places (at + (e - free)) e e₁) where
       -- What an earlier row got stays.
@@ -116,6 +125,8 @@ module _ (s d w₀ : List ℕ) (base m source k : ℕ) (places : List ℕ) (at f
           let c = K .more in
           let f = K .short in
           let g = A .beside .1 in
+          let h = row-counts in
+          let u = one-more w₀ source j (rows w₀ base m) in
           record {
             size = R .size ∙ K .size;
             words = λ i z n. R .words i (omega arith) (λ q. n j (omega arith) q) ∙ K .words i z (λ x y q. n x (omega arith) q);

@@ -2,6 +2,7 @@
 use mathlib.Core.Path.{_≡_, sym, ap, subst, _∙_}
 use mathlib.Core.List.{List}
 use mathlib.Core.Logic.{inl, inr}
+use mathlib.Core.Option.{none as nothing}
 use Prim.Native.Nat.{ℕ, _+_, _*_, _≤_, _<_}
 use native.Mathlib.Omega.{arith}
 use lib.ListN.{length, getD, set, length-set}
@@ -11,11 +12,14 @@ use Rattle.types.specs.Words.{words}
 use Rattle.types.proofs.Words.{words-few}
 use Rattle.solver.specs.Settled.{heap, Reads}
 use Rattle.solver.specs.Written.{Wrote}
+use Rattle.signatures.specs.Rows.{rows, placeIn}
 use Rattle.signatures.specs.Tables.{Finds}
+use Rattle.signatures.proofs.IncludeLaws.{has-none}
 use Rattle.instances.specs.Fill.{fill}
 use Rattle.instances.specs.Filled.{Row, FillWriting, FillWrote}
 use Rattle.instances.proofs.Moving.{sets-before, sets-in}
 use Rattle.inclusion.specs.Keeping.{Written, RowAsk, RowKept}
+use Rattle.inclusion.proofs.NewRowLaws.{one-new}
 
 module _ (s d w : List ℕ) (base m r : ℕ) (places : List ℕ) (own e : ℕ) (A : RowAsk s d w base m r places own e) where
   -- An identifier of the table.
@@ -63,8 +67,9 @@ module _ (s d w : List ℕ) (base m r : ℕ) (places : List ℕ) (own e : ℕ) (
       pub row-length : length w₁ ≡ length w
       row-length = ap length (W₀ .area) ∙ length-sets w e ws
 
-      pub row-fresh : (w′ : List ℕ) → w′ ≡ set w₁ (r + 1) own → RowKept s d w w′ base m r places own e z
-      row-fresh w′ g =
+      pub row-fresh : (i f : ℕ) → i ≡ getD w r 0 → Finds w base m i f → m ≤ f → (w′ : List ℕ) → w′ ≡ set w₁ (r + 1) own → RowKept s d w w′ base m r places own e z
+      row-fresh i f o F b w′ g =
+          let n = one-new w r (rows w base m) (has-none (getD w r 0) (rows w base m) (subst (λ u. placeIn u (rows w base m) ≡ nothing) o (F .absent b))) in
           let x = A .row in
           let y = A .room in
           let q = few c (A .actuals .types) (A .readable .reads) (A .actuals .stand) in

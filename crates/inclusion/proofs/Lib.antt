@@ -1,10 +1,13 @@
 pub mod SameLaws
 pub mod StandLaws
+pub mod LaterLaws
 pub mod AgreeLaws
 pub mod SmallLaws
+pub mod FillsLaws
 pub mod OverlapLaws
 pub mod LargeLaws
 pub mod StoreLaws
+pub mod NewRowLaws
 pub mod KeepRow
 pub mod KeepAll
 pub mod MoveLaws

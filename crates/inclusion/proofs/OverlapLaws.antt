@@ -15,24 +15,14 @@ use Rattle.signatures.specs.Rows.{rows}
 use Rattle.signatures.specs.Tables.{Finds}
 use Rattle.signatures.specs.Carried.{Carries}
 use Rattle.signatures.proofs.CallLaws.{found-term, no-term}
-use Rattle.signatures.proofs.CarryLaws.{carries-other}
 use Rattle.pieces.specs.Piece.{Steady, Walked}
 use Rattle.pieces.proofs.Between.{walked-skip, walked-then, equal-refused, settled-later, refuses-first, refuses-second}
 use Rattle.inclusion.specs.Components.{Placed}
 use Rattle.inclusion.specs.Storing.{OverlapTold}
+use Rattle.inclusion.proofs.LaterLaws.{placed-later}
 
 abbrev None : ℕ → Type 0
 None x = ⊥
-
--- Items more: what is placed stays so.
-pub placed-later : (s d : List ℕ) (H c : Items) (U : List ℕ) (z : Signature) (rs : List (ℕ × ℕ)) → Carries (Placed s d H U) z rs → Carries (Placed s d (H ⨾ c) U) z rs
-placed-later s d H c U z rs C =
-    carries-other (Placed s d H U) (Placed s d (H ⨾ c) U)
-    (λ t p A. record {
-      typed = record { type = A .typed .type; reads = A .typed .reads; settled = settled-later H c t (A .typed .type) (A .typed .settled); over = A .typed .over };
-      small = A .small;
-    })
-    z rs C
 
 module _ (s d w : List ℕ) (base m : ℕ) where
   overlap-none : (is : List ℕ) → is ≡ [] → OverlapTold s d w base m is true

@@ -22,10 +22,12 @@ use Rattle.pieces.proofs.Between.{walked-skip, walked-then, small-noted, small-
 use Rattle.instances.specs.Fill.{fill}
 use Rattle.instances.specs.Filled.{Row, Filling, FilledSize}
 use Rattle.instances.proofs.FillSizes.{size-few}
-use Rattle.inclusion.specs.Components.{Component, ActualTypes}
+use Rattle.names.specs.Components.{Component}
+use Rattle.inclusion.specs.Components.{ActualTypes}
 use Rattle.inclusion.specs.Filling.{RowsAsk, SmallTold}
 use Rattle.inclusion.proofs.StandLaws.{fill-alike, over-alike}
-use Rattle.inclusion.proofs.AgreeLaws.{None, component-settled, actuals-later, first-readable}
+use Rattle.inclusion.proofs.LaterLaws.{actuals-later}
+use Rattle.inclusion.proofs.AgreeLaws.{None, component-settled, first-readable}
 
 size-over : (g : Ty) (v : ℕ) → v ≡ cap (size g) → 32 < v → 32 < size g
 size-over g v e l = cap-cases (size g) _ (λ m q. omega arith) (λ m q. omega arith)

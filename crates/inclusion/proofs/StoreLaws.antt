@@ -2,51 +2,50 @@
 use mathlib.Core.Path.{_≡_, refl, sym, ap, subst, _∙_}
 use mathlib.Core.List.{List}
 use mathlib.Core.Logic.{inl, inr}
-use Prim.Native.Nat.{ℕ, _+_, _-_, _≤_, _<_, _^_}
+use Prim.Native.Nat.{ℕ, _+_, _-_, _≤_, _<_}
 use native.Mathlib.Omega.{arith}
 use lib.ListN.{length, getD}
 use lib.Seq.{sets, length-sets}
 use Rattle.types.specs.Types.{Ty, size}
+use Rattle.types.specs.Formed.{WellFormed}
 use Rattle.types.specs.Words.{words}
-use Rattle.solver.specs.Store.{run}
 use Rattle.solver.specs.Sizes.{cap}
+use Rattle.solver.specs.Settled.{heap, Reads}
 use Rattle.solver.proofs.Marking.{cap-cases}
-use Rattle.solver.proofs.Words.{run-length}
-use Rattle.instances.specs.Clean.{Clean}
+use Rattle.solver.proofs.Reading.{heap-length, heap-low}
 use Rattle.instances.proofs.FillSizes.{size-few}
-use Rattle.instances.proofs.CleanLaws.{written-clean}
-use Rattle.instances.proofs.Moving.{sets-before, sets-run, moved-new}
+use Rattle.instances.proofs.Moving.{sets-before, sets-in, reads-at}
 use Rattle.pieces.specs.Stage.{Ghost}
 use Rattle.pieces.specs.Closed.{Shut, SizeIs, Wording, WordsAre}
+use Rattle.inclusion.specs.Components.{StandsFor}
 use Rattle.inclusion.specs.Large.{large}
-use Rattle.inclusion.specs.Storing.{Stored, StoreAsk, TypeStored}
+use Rattle.inclusion.specs.Storing.{Scratch, StoreAsk, TypeStored}
+use Rattle.inclusion.specs.Keeping.{Written, ShownAsk, ShownWords, Moved}
 use Rattle.inclusion.proofs.LargeLaws.{powers-length, powers-size, powers-formed}
 
--- Words written from `at` on, where the area is clean, and a zero word after them.
-pub words-stored : (s : List ℕ) (at : ℕ) (ws : List ℕ) → Clean s at → Stored s (sets s at ws) at (at + length ws + 1)
-words-stored s at ws C = record {
-  size = length-sets s at ws;
-  before = λ i l. sets-before s at ws i l;
-  after = written-clean s at ws C;
-  more = omega arith;
-}
+-- Words written to the work area from `free` on.
+scratch-sets : (w : List ℕ) (free : ℕ) (ws : List ℕ) → Scratch w (sets w free ws) free
+scratch-sets w free ws = record { size = length-sets w free ws; before = λ i l. sets-before w free ws i l }
+
+written-sets : (w : List ℕ) (free e : ℕ) (g : Ty) → free + length (words g) ≤ length w → e ≡ free + length (words g) → Written (sets w free (words g)) free e g
+written-sets w free e g r q = record { fits = omega arith; words-at = λ x l. sets-in w free (words g) x r l }
 
 over-size : (g : Ty) (v : ℕ) → v ≡ cap (size g) → 32 < v → 32 < size g
 over-size g v e l = cap-cases (size g) _ (λ m q. omega arith) (λ m q. omega arith)
 
-module _ (s d w : List ℕ) (n c at free : ℕ) (A : StoreAsk s d w n c at free) (v : ℕ) (Z : SizeIs s d n c v) where
+module _ (s d w : List ℕ) (n c free : ℕ) (A : ShownAsk s d w n c free) (v : ℕ) (Z : SizeIs s d n c v) where
   -- A type over size 32.
-  pub store-large : 32 < v → (s′ : List ℕ) → s′ ≡ sets s at (words large) → TypeStored s s′ d w w n c at free (at + 33 + 1)
-  store-large l s′ e =
+  pub shown-large : 32 < v → (w′ : List ℕ) → w′ ≡ sets w free (words large) → ShownWords s d w w′ n c free (free + 33)
+  shown-large l w′ q =
       let z = powers-length 32 in
       let y = powers-size 32 in
-      let r = A .room in
-      subst (λ x. TypeStored s x d w w n c at free (at + 33 + 1)) (sym e)
+      let r = A .scratch in
+      subst (λ x. ShownWords s d w x n c free (free + 33)) (sym q)
       (record {
-        stored = subst (λ x. Stored s (sets s at (words large)) at (at + x + 1)) z (words-stored s at (words large) (A .clean));
-        scratch = record { size = refl; before = λ i q. refl };
+        scratch = scratch-sets w free (words large);
+        more = omega arith;
         short = omega arith;
-        stands = λ G S f. (large, moved-new s at (words large) (A .size) (omega arith) d large (powers-formed 32) refl, inr (omega arith, over-size (S .type c) v (Z G S) l));
+        shows = λ G S f. (large, powers-formed 32, written-sets w free (free + 33) large (omega arith) (omega arith), inr (omega arith, over-size (S .type c) v (Z G S) l));
       })
 
   -- A type of size 32 at most.
@@ -54,53 +53,57 @@ module _ (s d w : List ℕ) (n c at free : ℕ) (A : StoreAsk s d w n c at free)
     few : (G : Ghost) (S : Shut s d n G) → (v ≡ size (S .type c)) × (length (words (S .type c)) ≤ 95)
     few G S = size-few (S .type c) v (Z G S) l
 
-    pub store-asked : Wording s d n c free
-    store-asked = let q = few (A .sizing .ghost) (A .sizing .shut) .0 in record { sizing = A .sizing; small = omega arith; place = A .near }
+    pub wording-asked : Wording s d n c free
+    wording-asked = let q = few (A .sizing .ghost) (A .sizing .shut) .0 in record { sizing = A .sizing; small = omega arith; place = A .near }
 
-    module _ (w′ : List ℕ) (e : ℕ) (W : WordsAre s d w w′ n c free e) where
-      module _ (G : Ghost) (S : Shut s d n G) where
-        abbrev g : Ty
-        g = S .type c
-
-        pub wrote-end : e ≡ free + length (words g)
-        wrote-end = W G S .end
-
-        wrote-run : run w′ free (e - free) ≡ words g
-        wrote-run =
+    pub shown-small : (w′ : List ℕ) (e : ℕ) → WordsAre s d w w′ n c free e → ShownWords s d w w′ n c free e
+    shown-small w′ e W =
+        let G₀ = A .sizing .ghost in
+        let S₀ = A .sizing .shut in
+        let q = few G₀ S₀ .1 in
+        let x = W G₀ S₀ .end in
+        record {
+          scratch = subst (λ u. Scratch w u free) (sym (W G₀ S₀ .area)) (scratch-sets w free (words (S₀ .type c)));
+          more = omega arith;
+          short = omega arith;
+          shows = λ G S f. (S .type c, f, written G S, inl refl);
+        }
+      where
+        written : (G : Ghost) (S : Shut s d n G) → Written w′ free e (S .type c)
+        written G S =
             let q = few G S .1 in
             let r = A .scratch in
-            let y : e - free ≡ length (words g) = (let x = wrote-end in omega arith) in
-            ap (λ z. run w′ free z) y ∙ ap (λ z. run z free (length (words g))) (W G S .area) ∙ sets-run w free (words g) (omega arith)
+            subst (λ u. Written u free e (S .type c)) (sym (W G S .area)) (written-sets w free e (S .type c) (omega arith) (W G S .end))
 
-      pub wrote-room : (free ≤ e) × (e ≤ free + 95) × (length w′ ≡ length w)
-      wrote-room =
-          let G = A .sizing .ghost in
-          let S = A .sizing .shut in
-          let q = few G S .1 in
-          let x = wrote-end G S in
-          (omega arith, omega arith, ap length (W G S .area) ∙ length-sets w free (words (S .type c)))
+-- Words that were moved to `at` are read there.
+pub moved-reads : (s s′ d w : List ℕ) (at free k end′ o : ℕ) (g : Ty) → length s ≡ 52224 → at + k ≤ 39936 → Moved s s′ w at free k end′ → WellFormed g → Written w (free + o) (free + k) g →
+    Reads (heap s′ d) (at + o) g
+moved-reads s s′ d w at free k end′ o g size room M formed W =
+    let f = W .fits in
+    let size′ = M .stored .size ∙ size in
+    let z = heap-length s′ d size′ in
+    reads-at (heap s′ d) (at + o) g formed (omega arith)
+    (λ j l.
+    let x : at + o + j ≡ at + (o + j) = omega arith in
+    let y : free + (o + j) ≡ free + o + j = omega arith in
+    heap-low s′ d (at + o + j) size′ (omega arith) ∙ ap (λ q. getD s′ q 0) x ∙ M .words (o + j) (omega arith) ∙ ap (λ q. getD w q 0) y ∙ W .words-at j l)
 
-      pub copy-asked : (free + (e - free) ≤ length w′) × (free + (e - free) < 2 ^ 40) × (at + (e - free) < 2 ^ 40)
-      copy-asked =
-          let x = wrote-room in
-          let r = A .room in
-          let t = A .scratch in
-          let q = A .near in
-          (omega arith, omega arith, omega arith)
-
-      pub store-small : (s′ : List ℕ) → s′ ≡ sets s at (run w′ free (e - free)) → TypeStored s s′ d w w′ n c at free (at + (e - free) + 1)
-      store-small s′ q =
-          let G₀ = A .sizing .ghost in
-          let S₀ = A .sizing .shut in
-          let x = wrote-room in
-          let r = A .room in
-          let t = A .scratch in
-          let ws = run w′ free (e - free) in
-          let z = run-length w′ free (e - free) (omega arith) in
-          subst (λ y. TypeStored s y d w w′ n c at free (at + (e - free) + 1)) (sym q)
-          (record {
-            stored = subst (λ y. Stored s (sets s at ws) at (at + y + 1)) z (words-stored s at ws (A .clean));
-            scratch = record { size = x .2; before = λ i p. ap (λ y. getD y i 0) (W G₀ S₀ .area) ∙ sets-before w free (words (S₀ .type c)) i p };
-            short = omega arith;
-            stands = λ G S f. (S .type c, moved-new s at ws (A .size) (omega arith) d (S .type c) f (wrote-run G S), inl refl);
-          })
+pub type-stored : (s d w : List ℕ) (n c at end free : ℕ) → StoreAsk s d w n c at end free → (w′ : List ℕ) (e : ℕ) → ShownWords s d w w′ n c free e → (s′ : List ℕ) (end′ : ℕ) →
+    Moved s s′ w′ at free (e - free) end′ → TypeStored s s′ d w w′ n c at free end′
+type-stored s d w n c at end free A w′ e W s′ end′ M =
+    let b = W .short in
+    let m = M .short in
+    record { stored = M .stored; scratch = W .scratch; short = omega arith; stands = stands′ }
+  where
+    stands′ : (G : Ghost) (S : Shut s d n G) → WellFormed (S .type c) → (h : Ty) × Reads (heap s′ d) at h × StandsFor h (S .type c)
+    stands′ G S f =
+        let X = W .shows G S f in
+        let a = W .more in
+        let b = W .short in
+        let p : at + 0 ≡ at = omega arith in
+        let q : free ≡ free + 0 = omega arith in
+        let r : e ≡ free + (e - free) = omega arith in
+        let t = A .room in
+        let u = A .before in
+        let Y = subst (λ z. Written w′ (free + 0) z (X .0)) r (subst (λ z. Written w′ z e (X .0)) q (X .2)) in
+        (X .0, subst (λ z. Reads (heap s′ d) z (X .0)) p (moved-reads s s′ d w′ at free (e - free) end′ 0 (X .0) (A .size) (omega arith) M (X .1) Y), X .3)

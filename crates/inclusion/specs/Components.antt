@@ -1,27 +1,30 @@
--- What an Include brings (document 01, "Include"): components of a recorded schema, whose parameters stand for the actuals' element types.
+-- What an Include brings (document 01, "Include"): components of a recorded schema (names/specs/Components), whose parameters
+-- stand for the actuals' element types.
 use mathlib.Core.Path.{_≡_}
-use mathlib.Core.List.{List, []}
+use mathlib.Core.List.{List}
 use mathlib.Core.Logic.{_⊎_}
 use Prim.Native.Nat.{ℕ, suc, _≤_, _<_}
 use Rattle.types.specs.Equations.{In}
-use Rattle.types.specs.Instance.{instance}
-use Rattle.types.specs.Types.{Ty, Tys, tnil, tcons, Term, Terms, Each, unders, size}
+use Rattle.types.specs.Types.{Ty, Tys, tnil, tcons, Term, Each, unders, size}
 use Rattle.typing.specs.Unknowns.{Table, slot, row}
 use Rattle.typing.specs.Items.{Items, Meets}
 use Rattle.solver.specs.Settled.{heap, Reads}
+use Rattle.pieces.specs.Piece.{Settled}
+use Rattle.instances.specs.Fill.{fill}
 use Rattle.instances.specs.Filled.{Row}
 use Rattle.merging.specs.Merging.{TypedAt}
-
--- The words of a recorded type stand at the place p; the term t is that type with the terms X for its parameters.
-pub record Component (s d : List ℕ) (X : Terms) (t : Term) (p : ℕ) : Type 0 where
-  pub type : Ty
-  pub reads : Reads (heap s d) p type
-  pub means : t ≡ instance X type
 
 -- A settled term whose type's words stand at p, of size 32 at most: what tables and scopes hold.
 pub record Placed (s d : List ℕ) (H : Items) (U : List ℕ) (t : Term) (p : ℕ) : Type 0 where
   pub typed : TypedAt s d H U t p
   pub small : size (typed .type) ≤ 32
+
+-- A type stands at p; with the types gs for its parameters it is the type of the settled term t.
+pub record Fills (s d : List ℕ) (H : Items) (U : List ℕ) (gs : Tys) (t : Term) (p : ℕ) : Type 0 where
+  pub type : Ty
+  pub reads : Reads (heap s d) p type
+  pub settled : Settled H t (fill gs type)
+  pub over : Each (λ x. In x U) t
 
 -- The type h stands for g: it is g, or both are over size 32 (38), where no component may mention either.
 abbrev pub StandsFor : Ty → Ty → Type 0

@@ -17,7 +17,8 @@ use Rattle.instances.specs.Fill.{fill}
 use Rattle.instances.specs.Filled.{Row, Actuals}
 use Rattle.merging.specs.Merging.{Rows}
 use Rattle.pieces.specs.Piece.{Steady, Walked}
-use Rattle.inclusion.specs.Components.{Component, Placed, ActualTypes}
+use Rattle.names.specs.Components.{Component}
+use Rattle.inclusion.specs.Components.{Placed, ActualTypes}
 
 -- A type at p with actuals for its parameters, beside the type at q.
 pub record Comparing (s d : List ℕ) (p : ℕ) (places : List ℕ) (q : ℕ) : Type 0 where

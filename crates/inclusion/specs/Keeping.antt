@@ -1,23 +1,42 @@
--- The steps of keeping what an Include brings: one row, all rows, and the words moved into the caller's part.
+-- The steps of writing types into the caller's part: words of types in the work area, of one cell or of the rows that an Include brings, which are then
+-- moved.
 use mathlib.Core.Path.{_≡_}
 use mathlib.Core.List.{List}
 use mathlib.Core.Logic.{_⊎_}
 use Prim.Native.Nat.{ℕ, suc, _+_, _-_, _*_, _≤_, _<_, _^_}
 use lib.ListN.{length, getD}
 use Rattle.types.specs.Types.{Ty, Tys, size}
+use Rattle.types.specs.Formed.{WellFormed}
 use Rattle.types.specs.Words.{words}
 use Rattle.solver.specs.Settled.{heap, Reads, Readable}
+use Rattle.signatures.specs.Rows.{rows}
 use Rattle.signatures.specs.Tables.{Finds}
 use Rattle.instances.specs.Clean.{Clean}
 use Rattle.instances.specs.Fill.{fill}
 use Rattle.instances.specs.Filled.{Row, Actuals}
 use Rattle.merging.specs.Merging.{Rows}
-use Rattle.inclusion.specs.Storing.{Stored}
+use Rattle.pieces.specs.Stage.{Ghost}
+use Rattle.pieces.specs.Closed.{Shut, Sizing}
+use Rattle.inclusion.specs.Components.{StandsFor}
+use Rattle.inclusion.specs.NewRows.{newRows}
+use Rattle.inclusion.specs.Storing.{Stored, Scratch}
 
 -- The words of g stand in w at p, and end by e.
 pub record Written (w : List ℕ) (p e : ℕ) (g : Ty) : Type 0 where
   pub fits : p + length (words g) ≤ e
   pub words-at : (x : ℕ) → x < length (words g) → getD w (p + x) 0 ≡ getD (words g) x 0
+
+-- ONE CELL: the words of its type, or of the stand-in, go to the words of w from `free` on.
+pub record ShownAsk (s d w : List ℕ) (n c free : ℕ) : Type 0 where
+  pub sizing : Sizing s d n c
+  pub scratch : free + 96 ≤ length w
+  pub near : free < 2 ^ 32
+
+pub record ShownWords (s d w w′ : List ℕ) (n c free e : ℕ) : Type 0 where
+  pub scratch : Scratch w w′ free
+  pub more : free ≤ e
+  pub short : e ≤ free + 95
+  pub shows : (G : Ghost) (S : Shut s d n G) → WellFormed (S .type c) → (h : Ty) × WellFormed h × Written w′ free e h × StandsFor h (S .type c)
 
 -- The row at r has the place of the table's row with the same identifier, ..
 pub record Found (w w′ : List ℕ) (base m r : ℕ) : Type 0 where
@@ -46,7 +65,7 @@ pub record RowKept (s d w w′ : List ℕ) (base m r : ℕ) (places : List ℕ) 
   pub size : length w′ ≡ length w
   pub words : (i : ℕ) → i < e → (i ≡ r + 1 → ⊥) → getD w′ i 0 ≡ getD w i 0
   pub more : e ≤ e′
-  pub short : e′ ≤ e + 95
+  pub short : e′ ≤ e + 95 * newRows (rows w r 1) (rows w base m)
   pub kept : Found w w′ base m r ⊎ Fresh s d w w′ r places own e e′
 
 -- ALL ROWS: words more go to the words of w from `free` on; they are to stand at `at`.
@@ -65,7 +84,7 @@ pub record AllKept (s d w w′ : List ℕ) (base m source k : ℕ) (places : Lis
   pub size : length w′ ≡ length w
   pub words : (i : ℕ) → i < free → ((j : ℕ) → j < k → i ≡ source + 2 * j + 1 → ⊥) → getD w′ i 0 ≡ getD w i 0
   pub more : free ≤ e
-  pub short : e ≤ free + 95 * k
+  pub short : e ≤ free + 95 * newRows (rows w source k) (rows w base m)
   pub each : (j : ℕ) → j < k → Found w w′ base m (source + 2 * j) ⊎ ((o : ℕ) × Fresh s d w w′ (source + 2 * j) places (at + o) (free + o) e)
 
 -- THE WORDS MOVED: k words of w at `free`, to `at`; what stood there, up to `end`, is wiped.

@@ -7,7 +7,7 @@ use Prim.Native.Nat.{ℕ, suc, _+_, _*_, _≤_, _<_, _^_}
 use lib.ListN.{length, getD}
 use Rattle.types.specs.Types.{Ty, Tys, Term, size}
 use Rattle.types.specs.Formed.{WellFormed}
-use Rattle.typing.specs.Unknowns.{Table, row}
+use Rattle.typing.specs.Unknowns.{Table}
 use Rattle.typing.specs.Items.{Items, Meets, Refuses}
 use Rattle.typing.specs.Signatures.{Signature}
 use Rattle.typing.specs.Conditions.{mergeNames, mergeDeclared, smallTypes}
@@ -22,7 +22,8 @@ use Rattle.merging.specs.Merging.{Rows}
 use Rattle.pieces.specs.Piece.{Steady, Walked, Settled}
 use Rattle.pieces.specs.Stage.{Ghost}
 use Rattle.pieces.specs.Closed.{Shut, Sizing}
-use Rattle.inclusion.specs.Components.{Component, Placed, StandsFor, ActualTypes}
+use Rattle.inclusion.specs.Components.{Placed, Fills, StandsFor, AllStandFor}
+use Rattle.inclusion.specs.NewRows.{newRows}
 
 -- Words written from `at` on: those before stay, and from `end` on the area is clean.
 pub record Stored (s s′ : List ℕ) (at end : ℕ) : Type 0 where
@@ -36,22 +37,25 @@ pub record Scratch (w w′ : List ℕ) (free : ℕ) : Type 0 where
   pub size : length w′ ≡ length w
   pub before : (i : ℕ) → i < free → getD w′ i 0 ≡ getD w i 0
 
--- THE TYPE OF A CELL of a closed piece: cell c of n; there is room for it in both areas.
-pub record StoreAsk (s d w : List ℕ) (n c at free : ℕ) : Type 0 where
+-- THE TYPE OF A CELL of a closed piece: cell c of n; there is room for it in both areas. The words between `at` and `end` are those of the piece's own inner
+-- types; they are overwritten.
+pub record StoreAsk (s d w : List ℕ) (n c at end free : ℕ) : Type 0 where
   pub sizing : Sizing s d n c
   pub size : length s ≡ 52224
-  pub clean : Clean s at
+  pub clean : Clean s end
+  pub gap : (i : ℕ) → suc i ≡ at → getD s i 0 ≡ 0
   pub some : 1 ≤ at
-  pub room : at + 96 < 39936
+  pub before : at ≤ end
+  pub room : end + 96 < 39936
   pub scratch : free + 96 ≤ length w
   pub near : free < 2 ^ 32
 
 -- Its words stand at `at`; of a type over size 32, those of another type over size 32. That the type is well formed follows from the piece's items, which
 -- the caller has.
-pub record TypeStored (s s′ d w w′ : List ℕ) (n c at free end : ℕ) : Type 0 where
-  pub stored : Stored s s′ at end
+pub record TypeStored (s s′ d w w′ : List ℕ) (n c at free end′ : ℕ) : Type 0 where
+  pub stored : Stored s s′ at end′
   pub scratch : Scratch w w′ free
-  pub short : end ≤ at + 96
+  pub short : end′ ≤ at + 96
   pub stands : (G : Ghost) (S : Shut s d n G) → WellFormed (S .type c) → (h : Ty) × Reads (heap s′ d) at h × StandsFor h (S .type c)
 
 -- 36 for a Decl whose type is over size 32: no identifier of it may be in the table, whose types are small.
@@ -87,7 +91,9 @@ pub record RowsKept (s s′ d w w′ : List ℕ) (base m source k : ℕ) (places
   pub size : length w′ ≡ length w
   -- in the work area only the places of the rows at `source` and words from `free` on change
   pub words : (i : ℕ) → i < free → ((j : ℕ) → j < k → i ≡ source + 2 * j + 1 → ⊥) → getD w′ i 0 ≡ getD w i 0
-  pub short : end′ ≤ at + 96 * k
-  pub placed : (H : Items) (U : List ℕ) (n i z : ℕ) (q r : Signature) → ActualTypes s d H U i z places → Carries (Component s d (row i 1 z)) q (rows w source k) →
+  -- only types of rows that the table does not have are written
+  pub new : end′ ≤ at + 96 * newRows (rows w source k) (rows w base m)
+  -- the rows' types, with the types gs for their parameters; types hs that stand for those are the actuals
+  pub placed : (H : Items) (U : List ℕ) (n : ℕ) (q r : Signature) (hs gs : Tys) → Row (heap s d) places hs → AllStandFor hs gs → Carries (Fills s d H U gs) q (rows w source k) →
       Carries (Placed s d H U) r (rows w base m) → ((τ : Table) → Meets H τ → Meets (mergeNames n q r) τ) → ((τ : Table) → Meets H τ → Meets (smallTypes n q) τ) →
       Steady H U → Carries (Placed s′ d H U) q (rows w′ source k)

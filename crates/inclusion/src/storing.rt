@@ -15,7 +15,7 @@ ghost use lib.Seq.{sets};
 ghost use Rattle.types.specs.Words as types;
 ghost use Rattle.inclusion.specs.Large.{large};
 ghost use Rattle.inclusion.specs.Storing.{StoreAsk, TypeStored, OverlapTold, KeepAsk, RowsKept};
-ghost use Rattle.inclusion.specs.Keeping.{RowAsk, RowKept, AllAsk, AllKept, MoveAsk, Moved};
+ghost use Rattle.inclusion.specs.Keeping.{ShownAsk, ShownWords, RowAsk, RowKept, AllAsk, AllKept, MoveAsk, Moved};
 
 // 38: the size that a declared type may have.
 const LARGEST: usize = 32;
@@ -42,7 +42,33 @@ fn put_large(a: &mut [u32], at: usize)
     store(a, at + LARGE_POWERS, INTEGERS);
 }
 
-// The type of cell c, of the n of a closed piece, from `at` on: where the area is clean then.
+// The words of the type of cell c, of the n of a closed piece, or of the stand-in, from the word `free` of w on. Where they end.
+fn shown_words(a: &[u32], d: &[u32], w: &mut [u32], n: usize, c: usize, free: usize) -> usize
+    requires { ⌜ ShownAsk (now a) (now d) (now w) n c free ⌝ }
+    ensures { λ e. ⌜ ShownWords (now (a .entry)) (now (d .entry)) (now (w .entry)) (now (w .exit)) n c free e ⌝ }
+{
+    if LARGEST < settled_size(a, d, n, c) {
+        put_large(w, free);
+        return free + LARGE_WORDS;
+    }
+    settled_words(a, d, n, c, w, free)
+}
+
+// The k words of w at `free`, moved to `at`; what else stood there, up to `end`, is wiped. Where the area is clean then.
+fn move_words(a: &mut [u32], w: &[u32], at: usize, end: usize, free: usize, k: usize) -> usize
+    requires { ⌜ MoveAsk (now a) (now w) at end free k ⌝ }
+    ensures { λ e. ⌜ Moved (now (a .entry)) (now (a .exit)) (now (w .entry)) at free k e ⌝ }
+{
+    let stop = at + k;
+    copy_words(a, at, w, free, k);
+    wipe(a, stop, end);
+    if k == 0 {
+        return at;
+    }
+    stop + 1
+}
+
+// The type of cell c, of the n of a closed piece, from `at` on; the words of its own inner types stand between `at` and `end`. Where the area is clean then.
 pub fn store_type(
     a: &mut [u32],
     d: &[u32],
@@ -50,19 +76,14 @@ pub fn store_type(
     n: usize,
     c: usize,
     at: usize,
+    end: usize,
     free: usize,
 ) -> usize
-    requires { ⌜ StoreAsk (now a) (now d) (now w) n c at free ⌝ }
-    ensures { λ e. ⌜ TypeStored (now (a .entry)) (now (a .exit)) (now (d .entry)) (now (w .entry)) (now (w .exit)) n c at free e ⌝ }
+    requires { ⌜ StoreAsk (now a) (now d) (now w) n c at end free ⌝ }
+    ensures { λ z. ⌜ TypeStored (now (a .entry)) (now (a .exit)) (now (d .entry)) (now (w .entry)) (now (w .exit)) n c at free z ⌝ }
 {
-    if LARGEST < settled_size(a, d, n, c) {
-        put_large(a, at);
-        return at + LARGE_WORDS + 1;
-    }
-    let e = settled_words(a, d, n, c, w, free);
-    let k = e - free;
-    copy_words(a, at, w, free, k);
-    at + k + 1
+    let e = shown_words(a, d, w, n, c, free);
+    move_words(a, w, at, end, free, e - free)
 }
 
 // None of the identifiers that are the words from j on of the part is in the table of m rows at base.
@@ -130,20 +151,6 @@ fn keep_all(
         j += 1;
     }
     e
-}
-
-// The k words of w at `free`, moved to `at`; what else stood there, up to `end`, is wiped. Where the area is clean then.
-fn move_words(a: &mut [u32], w: &[u32], at: usize, end: usize, free: usize, k: usize) -> usize
-    requires { ⌜ MoveAsk (now a) (now w) at end free k ⌝ }
-    ensures { λ e. ⌜ Moved (now (a .entry)) (now (a .exit)) (now (w .entry)) at free k e ⌝ }
-{
-    let stop = at + k;
-    copy_words(a, at, w, free, k);
-    wipe(a, stop, end);
-    if k == 0 {
-        return at;
-    }
-    stop + 1
 }
 
 // What an Include brings: the k rows at source, with the actuals of `row` for the parameters, beside the table of m rows at base. The actuals' words stand

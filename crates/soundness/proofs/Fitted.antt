@@ -48,11 +48,11 @@ use Rattle.soundness.proofs.Kept.{kept, given-recorded}
 
 -- ---- what the dictionary records for the names of a state
 
-unfoldable RecordedAs : Bool → Dictionary → ℕ → Type 0
+unfoldable pub RecordedAs : Bool → Dictionary → ℕ → Type 0
 RecordedAs true E i = nameIn i E ≡ ofGlobal 0 (givenSet i)
 RecordedAs false E i = (g : Ty) × (nameIn i E ≡ ofGlobal 0 g) × (size g ≤ 32)
 
-abbrev Recording : Dictionary → Name → Type 0
+abbrev pub Recording : Dictionary → Name → Type 0
 Recording E n = RecordedAs (n .isGiven) E (n .identifier)
 
 every-append : {P : Name → Type 0} {xs ys : List Name} → Every P xs → Every P ys → Every P (xs ++ ys)
@@ -153,7 +153,7 @@ formed-either true p q g h m w k e = subst WellFormed (type-of p q g h e) w
     type-of p q g h e = cc
 formed-either false p q g h m w k e = k e
 
-formed-in : (E : Dictionary) (i q : ℕ) (g : Ty) → FormedDictionary E → nameIn i E ≡ ofGlobal q g → WellFormed g
+pub formed-in : (E : Dictionary) (i q : ℕ) (g : Ty) → FormedDictionary E → nameIn i E ≡ ofGlobal q g → WellFormed g
 unfolding FormedDictionary nameIn
 formed-in blank i q g f e = let z : _≡_ {A = ℕ} 0 1 = cc in absurd (omega arith)
 formed-in (E ▸ nameEntry j p h) i q g f e = formed-either (eqb i j) p q h g (nameIn i E) (f .1) (λ x. formed-in E i q g (f .0) x) e
@@ -222,7 +222,7 @@ fit-says doc state d w E e = check (checkOf doc d w) refl e
     check (accepted D) c e = states _ D c refl e
     check (refused n p) c e = not-accepted n p E e
 
-document-recorded : (tree : Document) (d : ℕ) (E : Dictionary) → Accepts (paragraphsOf tree) blank d E → Every (Recording E) (documentNames tree)
+pub document-recorded : (tree : Document) (d : ℕ) (E : Dictionary) → Accepts (paragraphsOf tree) blank d E → Every (Recording E) (documentNames tree)
 unfolding paragraphsOf documentNames
 document-recorded (document n ps) d E h = names-recorded E ps blank d h
 

@@ -198,7 +198,7 @@ module _ (doc : List ℕ) (k : ℕ) (ih : (j : ℕ) → j < k → SizedAt doc j)
         paragraph = paragraph-sized;
       }
 
-all-sized : (doc : List ℕ) (n k : ℕ) → k < n → SizedAt doc k
+pub all-sized : (doc : List ℕ) (n k : ℕ) → k < n → SizedAt doc k
 all-sized doc zero k h = absurd (omega arith)
 all-sized doc (suc n) k h = sized doc k (λ j l. all-sized doc n j (omega arith))
 

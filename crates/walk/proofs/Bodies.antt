@@ -2,17 +2,16 @@
 use mathlib.Core.Path.{_≡_, refl, _∙_}
 use mathlib.Core.Bool.{Bool}
 use mathlib.Core.List.{List, [], _∷_, _++_}
-use mathlib.Core.Logic.{inl, inr, ⊎-elim}
-use Prim.Native.Nat.{ℕ, _+_, _*_, _-_, _≤_, _<_}
+use mathlib.Core.Logic.{inl, ⊎-elim}
+use Prim.Native.Nat.{ℕ, _+_, _*_, _-_, _≤_}
 use native.Mathlib.Omega.{arith}
 use lib.ListN.{length, length-append}
 use Rattle.syntax.specs.Decode.{pairsFrom}
 use Rattle.syntax.specs.Limited.{LimitedText}
 use Rattle.syntax.specs.Tree.{Pred, Lines, text}
 use Rattle.syntax.specs.TreeNumbers.{predNumbers, linesNumbers, textNumbers}
-use Rattle.types.specs.Equations.{In}
 use Rattle.typing.specs.Dictionary.{Dictionary}
-use Rattle.typing.specs.Items.{Items, _⨾_, Meets, Refuses}
+use Rattle.typing.specs.Items.{Items, _⨾_, Meets}
 use Rattle.typing.specs.Rules.{predItems, linesItems, textItems}
 use Rattle.typing.specs.Scopes.{Scope, inside, textSignature, linesSignature}
 use Rattle.typing.specs.Signatures.{noNames}
@@ -24,7 +23,7 @@ use Rattle.pieces.proofs.Between.{refuses-first, refuses-second, walked-then, w
 use Rattle.names.specs.Scoped.{Scoped}
 use Rattle.inclusion.specs.Components.{Placed}
 use Rattle.walk.specs.Predicates.{Walking, PredAsk, PredDone}
-use Rattle.walk.specs.Texts.{TextAsk, TextDone, Declared, LinesAsk, LinesDone, LinesWent}
+use Rattle.walk.specs.Texts.{TextAsk, TextDone, LinesAsk, LinesDone, LinesWent}
 use Rattle.walk.specs.Visits.{Owned, Fresh, EachOnce, idle, Spared, Went, globalsIf}
 use Rattle.walk.proofs.Nodes.{once-left, once-right, fresh-left, fresh-right, owned-left, owned-right, owned-apart}
 use Rattle.walk.proofs.Passing.{scoped-after}

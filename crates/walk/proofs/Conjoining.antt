@@ -7,6 +7,7 @@ use native.Mathlib.Omega.{arith}
 use borrow.Author.Tests.{lt-ltb, le-ltb}
 use lib.Dec.{ltb}
 use lib.ListN.{length, getD, length-append}
+use lib.Seq.{length-sets}
 use Rattle.syntax.specs.Limited.{LimitedSchema}
 use Rattle.syntax.specs.Tree.{Schema, both}
 use Rattle.syntax.specs.TreeNumbers.{schemaNumbers}
@@ -18,10 +19,11 @@ use Rattle.typing.specs.Rules.{schemaItems}
 use Rattle.typing.specs.Scopes.{Scope, schemaSignature}
 use Rattle.typing.specs.Signatures.{Signature, countNames, merge}
 use Rattle.typing.specs.Unknowns.{Table}
-use Rattle.signatures.specs.Rows.{rows, mergeRows}
+use Rattle.signatures.specs.Rows.{rows, flat, mergeRows}
 use Rattle.signatures.specs.Carried.{Carries}
 use Rattle.signatures.specs.Tables.{Table as Written}
 use Rattle.signatures.proofs.CallLaws.{carried}
+use Rattle.signatures.proofs.RowLaws.{getD-below}
 use Rattle.signatures.proofs.CarryLaws.{carries-other, carries-merge, carries-count}
 use Rattle.merging.specs.Merging.{TypedAt, RowsTold}
 use Rattle.instances.specs.Clean.{Clean}
@@ -36,7 +38,7 @@ use Rattle.walk.specs.Visits.{Owned, Fresh, EachOnce, idle, Spared}
 use Rattle.walk.proofs.Nodes.{fresh-left, fresh-after, once-left, once-right, owned-left, owned-right}
 use Rattle.walk.proofs.Passing.{walking-first}
 use Rattle.walk.proofs.Rooms.{between-part, crowd-part}
-use Rattle.walk.proofs.Scopes.{scoped-stored, scoped-spared, scoped-walked, carries-stored, carries-spared, carries-walked, carries-later, spared-on, spared-less}
+use Rattle.walk.proofs.Scopes.{scoped-stored, scoped-spared, scoped-walked, carries-stored, carries-spared, carries-walked, carries-later, spared-on, spared-less, stored-on}
 
 -- What holds of both sides, before anything is merged.
 abbrev pub Sides : Items → Schema → Schema → Scope → Items
@@ -53,6 +55,28 @@ pub record Paired (s s′ d w w′ : List ℕ) (m n free : ℕ) (H : Items) (U :
 
 typed-rows : (s d : List ℕ) (H : Items) (U : List ℕ) (r : Signature) (rs : List (ℕ × ℕ)) → Carries (Placed s d H U) r rs → Carries (TypedAt s d H U) r rs
 typed-rows s d H U r rs C = carries-other (Placed s d H U) (TypedAt s d H U) (λ t p P. P .typed) r rs C
+
+-- A table written at `base` leaves what is below.
+pub spared-table : (w w′ : List ℕ) (stack base : ℕ) (rs : List (ℕ × ℕ)) (n : ℕ) → 2 * stack ≤ base → Written w w′ base rs n → Spared w w′ stack base
+spared-table w w′ stack base rs n l T = record {
+  size = ap length (T .words) ∙ length-sets w base (flat rs);
+  scope = λ i q. ap (λ z. getD z i 0) (T .words) ∙ getD-below (flat rs) w base i (omega arith);
+  frames = λ i p q. ap (λ z. getD z i 0) (T .words) ∙ getD-below (flat rs) w base i q;
+}
+
+-- Items that bring no unknowns hold in every table that meets those before.
+pub noted : (H c : Items) (U : List ℕ) (M : ℕ → Type 0) → Walked H c U U M → (τ : Table) → Meets H τ → Meets c τ
+unfolding Meets
+noted H c U M W τ m = let x = W .extends τ m in W .steady .local (x .0) τ (x .2) (x .1) .1
+
+-- 38: sixteen identifiers.
+pub few-refused : (H : Items) (k : ℕ) (q : Signature) → 16 < countNames q → Refuses (fewNames k q) (Meets H) 38 k
+unfolding fewNames refuseIf
+few-refused H k q l = rw (lt-ltb 16 (countNames q) l) (refused H 38 k)
+
+pub few-noted : (H : Items) (U : List ℕ) (M : ℕ → Type 0) (k : ℕ) (q : Signature) → Steady H U → countNames q ≤ 16 → Walked H (fewNames k q) U U M
+unfolding fewNames refuseIf
+few-noted H U M k q S l = rw (le-ltb 16 (countNames q) l) (walked-skip H U M S)
 
 module _ (s d w : List ℕ) (stack at free k : ℕ) (a b : Schema) (A : SchemaAsk s d w stack at free (both k a b)) where
   abbrev na : List ℕ
@@ -238,3 +262,89 @@ module _ (s d w : List ℕ) (stack at free k : ℕ) (a b : Schema) (A : SchemaAs
                 (refuses-first (Sides H a b Γ) (mergeNames k (schemaSignature b Γ) (schemaSignature a Γ)) (fewNames k (merge (schemaSignature b Γ) (schemaSignature a Γ))) 36 k
                 (T .stops refl (Sides H a b Γ) (Z .unknowns) k (schemaSignature b Γ) (schemaSignature a Γ) (Z .second .steady) (right-now H U Γ Z) (left-now H U Γ Z)));
           }
+
+          -- AFTER 36. The right side's rows have their types in s₃, w₃, and both tables are merged in w₄.
+          module _ (T : RowsTold s₂ d w₂ free m (free + 64) n true) (s₃ w₃ w₄ : List ℕ) (r e : ℕ) (E : Spared w₁ w₃ stack (free + 64)) (B : Stored s₁ s₃ at₁ e)
+              (kept : (H : Items) (U : List ℕ) (Γ : Scope) (Z : Paired s₁ s₂ d w₁ w₂ m n free H U Γ a b) →
+              ((τ : Table) → Meets (Sides H a b Γ) τ → Meets (mergeNames k (schemaSignature b Γ) (schemaSignature a Γ)) τ) →
+              Carries (Placed s₃ d (Sides H a b Γ) (Z .unknowns)) (schemaSignature b Γ) (rows w₃ (free + 64) n))
+              (W : Written w₃ w₄ free (mergeRows (rows w₃ (free + 64) n) (rows w₃ free m)) r) where
+            spared₄ : Spared w w₄ stack free
+            spared₄ =
+                let f = A .walking .room .low in
+                let q = A .walking .room .stack in
+                spared-on w w₁ w₄ stack free (P .spared)
+                (spared-on w₁ w₃ w₄ stack free (spared-less w₁ w₃ stack stack (free + 64) free (omega arith) (omega arith) E)
+                (spared-table w₃ w₄ stack free (mergeRows (rows w₃ (free + 64) n) (rows w₃ free m)) r (omega arith) W))
+
+            module _ (H : Items) (U : List ℕ) (Γ : Scope) (Z : Paired s₁ s₂ d w₁ w₂ m n free H U Γ a b) where
+              abbrev met : Items
+              met = mergeNames k (schemaSignature b Γ) (schemaSignature a Γ)
+
+              abbrev joined : Signature
+              joined = merge (schemaSignature b Γ) (schemaSignature a Γ)
+
+              agreed : Walked (Sides H a b Γ) met (Z .unknowns) (Z .unknowns) (λ x. ⊥)
+              agreed = T .goes refl (Sides H a b Γ) (Z .unknowns) k (schemaSignature b Γ) (schemaSignature a Γ) (Z .second .steady) (right-now H U Γ Z) (left-now H U Γ Z)
+
+              merged : Carries (Placed s₃ d (Sides H a b Γ) (Z .unknowns)) joined (mergeRows (rows w₃ (free + 64) n) (rows w₃ free m))
+              merged =
+                  carries-merge (Placed s₃ d (Sides H a b Γ) (Z .unknowns)) (schemaSignature b Γ) (schemaSignature a Γ) (rows w₃ (free + 64) n) (rows w₃ free m)
+                  (kept H U Γ Z (noted (Sides H a b Γ) met (Z .unknowns) (λ x. ⊥) agreed)) (left-later s₃ w₃ e B E H U Γ Z)
+
+              counted : countNames joined ≡ r
+              counted = carries-count (Placed s₃ d (Sides H a b Γ) (Z .unknowns)) joined (mergeRows (rows w₃ (free + 64) n) (rows w₃ free m)) merged ∙ sym (W .count)
+
+            -- 38
+            pub both-many : 16 < r → (m′ at′ : ℕ) → SchemaDone s s₃ d w w₄ stack at free (both k a b) 38 k m′ at′
+            unfolding schemaItems
+            both-many l m′ at′ = record {
+              spared = spared₄;
+              stored = λ x. absurd (omega arith);
+              short = λ x. absurd (omega arith);
+              few = λ x. absurd (omega arith);
+              goes = λ x. absurd (omega arith);
+              stops = λ x H U S Γ D C F.
+                  let Z = both-paired H U S Γ D C F in
+                  let G = agreed H U Γ Z in
+                  let c = counted H U Γ Z in
+                  both-refused H U Γ Z 38 (met H U Γ Z) (fewNames k (joined H U Γ Z))
+                  (refuses-second (Sides H a b Γ) (met H U Γ Z) (fewNames k (joined H U Γ Z)) 38 k (G .goes) (few-refused (Sides H a b Γ ⨾ met H U Γ Z) k (joined H U Γ Z) (omega arith)));
+            }
+
+            pub both-done : r ≤ 16 → m ≤ r → e ≤ at₁ + 96 * (r - m) → SchemaDone s s₃ d w w₄ stack at free (both k a b) 0 k r e
+            unfolding schemaItems schemaSignature schemaNumbers Meets
+            both-done l q h = record {
+              spared = spared₄;
+              stored = λ x. stored-on s s₁ s₃ at at₁ e stored B;
+              short = λ x. let y = P .short fine in omega arith;
+              few = λ x. l;
+              goes = λ x H U S Γ D C F.
+                  let Z = both-paired H U S Γ D C F in
+                  let G = agreed H U Γ Z in
+                  let c = counted H U Γ Z in
+                  let N = (na ++ nb) ++ last in
+                  let sa = schemaItems a Γ in
+                  let sb = schemaItems b Γ in
+                  let M = met H U Γ Z in
+                  let O = fewNames k (joined H U Γ Z) in
+                  let y = P .spared .size in
+                  let z = E .size in
+                  let g = A .walking .room .frames in
+                  let u = A .walking .room .wide in
+                  record {
+                    unknowns = Z .unknowns;
+                    walked =
+                        walked-then H sa (sb ⨾ (M ⨾ O)) U (Z .middle) (Z .unknowns) (Owned N) S
+                        (walked-mine H sa U (Z .middle) (Owned na) (Owned N) (λ i o. owned-left (na ++ nb) last i (owned-left na nb i o)) (Z .first))
+                        (walked-then (H ⨾ sa) sb (M ⨾ O) (Z .middle) (Z .unknowns) (Z .unknowns) (Owned N) (Z .first .steady)
+                        (walked-mine (H ⨾ sa) sb (Z .middle) (Z .unknowns) (Owned nb) (Owned N) (λ i o. owned-left (na ++ nb) last i (owned-right na nb i o)) (Z .second))
+                        (walked-then (Sides H a b Γ) M O (Z .unknowns) (Z .unknowns) (Z .unknowns) (Owned N) (Z .second .steady)
+                        (walked-mine (Sides H a b Γ) M (Z .unknowns) (Z .unknowns) (λ i. ⊥) (Owned N) (λ i o. absurd o) G)
+                        (few-noted (Sides H a b Γ ⨾ M) (Z .unknowns) (Owned N) k (joined H U Γ Z) (G .steady) (omega arith))));
+                    signature =
+                        carries-later s₃ d (Sides H a b Γ) (H ⨾ (sa ⨾ (sb ⨾ (M ⨾ O)))) (Z .unknowns) (Z .unknowns) (λ i j. j) (λ τ j. ((j .0, j .1 .0), j .1 .1 .0)) (joined H U Γ Z) (rows w₄ free r)
+                        (carried (Placed s₃ d (Sides H a b Γ) (Z .unknowns)) w₃ w₄ free (mergeRows (rows w₃ (free + 64) n) (rows w₃ free m)) r (joined H U Γ Z) W (omega arith) (merged H U Γ Z));
+                  };
+              stops = λ x. absurd (x refl);
+            }

@@ -11,7 +11,7 @@ use Rattle.syntax.specs.Tree.{Expr, exprNode}
 use Rattle.syntax.specs.TreeNumbers.{exprNumbers}
 use Rattle.types.specs.Equations.{In, InP}
 use Rattle.types.specs.Formed.{WellFormed}
-use Rattle.types.specs.Types.{Ty, cons, nil, under, size}
+use Rattle.types.specs.Types.{Ty, cons, nil, under}
 use Rattle.typing.specs.Conditions.{typeOf, isPower}
 use Rattle.typing.specs.Dictionary.{Dictionary}
 use Rattle.typing.specs.Items.{Items, skip, _⨾_, piece, Meets, Passes, Refuses}
@@ -20,14 +20,13 @@ use Rattle.typing.specs.Scopes.{Scope}
 use Rattle.typing.specs.Unknowns.{slot, unknownAt}
 use Rattle.typing.proofs.Sized.{SizedExpr}
 use Rattle.solver.specs.Settled.{lower, heap, Reads}
-use Rattle.solver.specs.Sizes.{cap}
 use Rattle.instances.specs.Clean.{Clean}
 use Rattle.instances.proofs.CleanLaws.{clean-lower}
 use Rattle.instances.proofs.Moving.{lower-words}
 use Rattle.pieces.specs.Piece.{Steady, Walked, Settled}
 use Rattle.pieces.specs.Stage.{Ghost, Stands, SlotOf, Cell, Advanced, Room}
 use Rattle.pieces.specs.Building.{Introduced, Powered, Working}
-use Rattle.pieces.specs.Closed.{Closing, Closed, Shut, Sizing, SizeIs}
+use Rattle.pieces.specs.Closed.{Closing, Closed, Shut, Sizing}
 use Rattle.pieces.proofs.ClosingLaws.{all-in}
 use Rattle.pieces.proofs.Stages.{next, next-stands, placed-cell, next-unvisited, wider-mine, introduced-wider, introduce-then, stop-then, one-cell}
 use Rattle.pieces.proofs.Walks.{stops-left}
@@ -40,8 +39,8 @@ use Rattle.walk.proofs.Nodes.{slots-same}
 use Rattle.walk.proofs.Opening.{opened, piece-refused, whole, whole-stands, piece-walked, piece-several}
 use Rattle.walk.proofs.Forming.{settled-formed}
 
--- What the closed piece comes to: its unknown has one type, and a type that stands for it stands at the place p; v is its size, at most 33.
-pub record Element (s d : List ℕ) (H c : Items) (U : List ℕ) (Mine : ℕ → Type 0) (n k p v : ℕ) : Type 0 where
+-- What the closed piece comes to: its unknown has one type, which has Q, and a type that stands for it stands at the place p.
+pub record Element (s d : List ℕ) (H c : Items) (U : List ℕ) (Mine : ℕ → Type 0) (n k p : ℕ) (Q : Ty → Type 0) : Type 0 where
   pub unknowns : List ℕ
   pub walked : Walked H c U unknowns Mine
   pub type : Ty
@@ -50,7 +49,7 @@ pub record Element (s d : List ℕ) (H c : Items) (U : List ℕ) (Mine : ℕ →
   pub shown : Ty
   pub reads : Reads (heap s d) p shown
   pub alike : StandsFor shown type
-  pub sized : v ≡ cap (size type)
+  pub sized : Q type
 
 -- The unknowns of the expression, and the one of the node.
 abbrev pub ElementOwned : Expr → ℕ → ℕ → ℕ → Type 0
@@ -147,6 +146,10 @@ module _ (s d w : List ℕ) (rows at free : ℕ) (a : Expr) (n k : ℕ) (big : l
               pub element-sizing : Sizing s₃ d (c₁ + 2) c₁
               element-sizing = record { ghost = G₃; shut = shut; made = omega arith }
 
+              pub element-size : length s₃ ≡ 52224
+              element-size =
+                  Z .stands (top₁ + 1) G₃ (whole-stands s s₂ s₃ d (c₁ + 2) (top₁ + 1) H U n (elementItems a n k Γ) Mine (both .advanced) few) .piece .solved .held .size
+
               type-settled : Settled (H ⨾ piece n (elementItems a n k Γ)) (unknownAt n k) (shut .type c₁)
               unfolding under
               type-settled τ m = shut .types n (slot n k) c₁ (both .placed) τ m
@@ -156,10 +159,10 @@ module _ (s d w : List ℕ) (rows at free : ℕ) (a : Expr) (n k : ℕ) (big : l
 
   -- THE TYPE IS STORED at `at`.
   module _ (fine : number ≡ 0) (s₂ : List ℕ) (b : Bool) (P : Powered s₁ s₂ d c₁ top₁ cell b) (yes : b ≡ true) (s₃ : List ℕ) (Z : Closed s₂ s₃ d (c₁ + 2) true)
-      (sized : SizedExpr a) (s₄ : List ℕ) (v p : ℕ) (measured : SizeIs s₃ d (c₁ + 2) c₁ v)
+      (sized : SizedExpr a) (s₄ : List ℕ) (p : ℕ) (Q : Ty → Type 0) (measured : (G : Ghost) (S : Shut s₃ d (c₁ + 2) G) → Q (S .type c₁))
       (stands : (G : Ghost) (S : Shut s₃ d (c₁ + 2) G) → WellFormed (S .type c₁) → (h : Ty) × Reads (heap s₄ d) p h × StandsFor h (S .type c₁)) where
     pub element-done : (Γ : Scope) (D : Dictionary) (H : Items) (U : List ℕ) → Steady H U → Scoped s d w rows (idle H U) Γ D → ElementNew a n k U →
-        Element s₄ d H (piece n (elementItems a n k Γ)) U Mine n k p v
+        Element s₄ d H (piece n (elementItems a n k Γ)) U Mine n k p Q
     unfolding under
     element-done Γ D H U S C F =
         let W = element-walked Γ D H U S C F fine s₂ b P yes s₃ Z in
@@ -167,8 +170,8 @@ module _ (s d w : List ℕ) (rows at free : ℕ) (a : Expr) (n k : ℕ) (big : l
         let t = type-settled Γ D H U S C F fine s₂ b P yes s₃ Z in
         let τ = W .steady .some in
         let f : WellFormed (K .type c₁) =
-            subst WellFormed (t (τ .0) (τ .1))
-            (settled-formed s d w rows a (ElementNew a n k) Γ D n k (λ H′ U′ S′ C′ F′. element-walked Γ D H′ U′ S′ C′ F′ fine s₂ b P yes s₃ Z .goes) sized H U C F (τ .0) (τ .1))
+        subst WellFormed (t (τ .0) (τ .1))
+        (settled-formed s d w rows a (ElementNew a n k) Γ D n k (λ H′ U′ S′ C′ F′. element-walked Γ D H′ U′ S′ C′ F′ fine s₂ b P yes s₃ Z .goes) sized H U C F (τ .0) (τ .1))
         in
         let q = stands (G₃ Γ D H U S C F fine s₂ b P yes s₃ Z) K f in
         record {

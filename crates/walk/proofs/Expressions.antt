@@ -1,10 +1,9 @@
 -- Expressions with no, one or two operands: what is asked of their operands and of their rules, and what follows.
-use mathlib.Core.Path.{_≡_, refl, subst}
+use mathlib.Core.Path.{_≡_, subst}
 use mathlib.Core.List.{List, [], _∷_, _++_}
-use Prim.Native.Nat.{ℕ, zero, suc, _+_, _-_, _≤_, _<_}
+use Prim.Native.Nat.{ℕ, _+_, _-_, _≤_}
 use native.Mathlib.Omega.{arith}
 use lib.ListN.{length}
-use Rattle.syntax.specs.Limited.{LimitedExpr}
 use Rattle.syntax.specs.Tree.{Expr, exprNode}
 use Rattle.syntax.specs.TreeNumbers.{exprNumbers}
 use Rattle.types.specs.Types.{Term, nil, cons}
@@ -13,16 +12,14 @@ use Rattle.typing.specs.Items.{Items, _⨾_}
 use Rattle.typing.specs.Rules.{exprItems}
 use Rattle.typing.specs.Scopes.{Scope}
 use Rattle.typing.specs.Unknowns.{slot}
-use Rattle.pieces.specs.Stage.{Ghost, Room, Cell}
+use Rattle.pieces.specs.Stage.{Room, Cell}
 use Rattle.pieces.specs.Building.{Building, Working}
 use Rattle.pieces.proofs.Stages.{building, no-cells, one-cell, two-cells}
 use Rattle.rules.specs.Equations.{Combined}
 use Rattle.rules.specs.Formers.{Derived}
-use Rattle.walk.specs.Visits.{EachOnce}
 use Rattle.walk.specs.Expressions.{Visiting, ExprAsk, ExprDone}
 use Rattle.walk.specs.Parts.{nothing, Part, Ending}
 use Rattle.walk.specs.Shapes.{Alone, Over, Joining}
-use Rattle.walk.proofs.Nodes.{once-right}
 use Rattle.walk.proofs.Rooms.{inside-room}
 use Rattle.walk.proofs.Visiting.{visiting-part, visiting-low}
 use Rattle.walk.proofs.Parts.{part-then, part-stops, part-next, part-leaves}

@@ -51,14 +51,14 @@ line-walked H a b c d e U U′ M S A B C D E =
 
 -- LINES AFTER IT: the items `rest` after the line's own.
 module _ (H a b c d e rest : Items) where
-  abbrev alone : Items
+  abbrev pub alone : Items
   alone = lineItems a b c d e skip
 
   regroup : (τ : Table) → Meets (H ⨾ alone) τ ↔ And (And (And (Meets H) a) (b ⨾ c)) (d ⨾ e) τ
   unfolding Meets
   regroup τ = (λ h. (((h .0, h .1 .0), h .1 .1 .0), h .1 .1 .1 .0), λ h. (h .0 .0 .0, (h .0 .0 .1, (h .0 .1, (h .1, tt)))))
 
-  whole-line : (τ : Table) → Meets ((H ⨾ alone) ⨾ rest) τ ↔ Meets (H ⨾ lineItems a b c d e rest) τ
+  pub whole-line : (τ : Table) → Meets ((H ⨾ alone) ⨾ rest) τ ↔ Meets (H ⨾ lineItems a b c d e rest) τ
   unfolding Meets
   whole-line τ = (
     λ h. (h .0 .0, (h .0 .1 .0, (h .0 .1 .1 .0, (h .0 .1 .1 .1 .0, h .1)))),

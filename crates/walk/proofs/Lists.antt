@@ -1,18 +1,17 @@
 -- Operands one after another: their cells stand in the words `parts`.
 use mathlib.Core.Path.{_≡_, refl, sym, ap, subst, _∙_}
 use mathlib.Core.List.{List, [], _∷_, _++_}
-use Prim.Native.Nat.{ℕ, zero, suc, _+_, _*_, _≤_, _<_}
+use Prim.Native.Nat.{ℕ, suc, _+_, _*_, _≤_, _<_}
 use native.Mathlib.Omega.{arith}
 use lib.ListN.{length, getD, set, take, length-set}
 use lib.Seq.{ext-getD, getD-set-same, getD-set-other}
 use Rattle.syntax.specs.Limited.{LimitedExpr}
-use Rattle.syntax.specs.Tree.{Expr, Exprs, none, more, exprNode, exprsLength}
+use Rattle.syntax.specs.Tree.{Expr, Exprs, none, more, exprsLength}
 use Rattle.syntax.specs.TreeNumbers.{exprNumbers, exprsNumbers}
-use Rattle.types.specs.Types.{Term, cons}
+use Rattle.types.specs.Types.{cons}
 use Rattle.typing.specs.Conditions.{typeOf, typesOf}
 use Rattle.typing.specs.Items.{skip, _⨾_}
 use Rattle.typing.specs.Rules.{exprItems, exprsItems}
-use Rattle.typing.specs.Unknowns.{slot}
 use Rattle.solver.specs.Store.{run}
 use Rattle.solver.proofs.Words.{run-at, run-length, run-cons}
 use Rattle.pieces.specs.Stage.{Ghost, Cell}

@@ -11,7 +11,7 @@ use Rattle.typing.specs.Items.{Items, skip, _⨾_, piece, Meets, Agree, Passes,
 use Rattle.typing.proofs.ItemLaws.{passes-ext, refuses-ext}
 use Rattle.pieces.specs.Piece.{Steady, Walked, Stops}
 use Rattle.pieces.specs.Stage.{Ghost, Stands, Advanced}
-use Rattle.pieces.specs.Closed.{Closed, Shut}
+use Rattle.pieces.specs.Closed.{Closed}
 use Rattle.pieces.proofs.Growing.{begin}
 use Rattle.pieces.proofs.Walks.{Alike, piece-alike}
 use Rattle.walk.specs.Visits.{idle}

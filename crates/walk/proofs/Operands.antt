@@ -1,29 +1,27 @@
 -- Operands are parts, and so are rules over their cells.
-use mathlib.Core.Path.{_≡_, refl, sym, subst}
+use mathlib.Core.Path.{_≡_, subst}
 use mathlib.Core.List.{List, [], _∷_}
-use Prim.Native.Nat.{ℕ, _*_, _≤_, _<_}
+use Prim.Native.Nat.{ℕ, _*_, _≤_}
 use native.Mathlib.Omega.{arith}
-use lib.ListN.{length, take}
+use lib.ListN.{length}
 use Rattle.syntax.specs.Tree.{Expr, Exprs, none, exprNode, exprsLength}
 use Rattle.syntax.specs.TreeNumbers.{exprNumbers, exprsNumbers}
-use Rattle.types.specs.Types.{Term, nil}
+use Rattle.types.specs.Types.{Term}
 use Rattle.typing.specs.Conditions.{typeOf, typesOf}
-use Rattle.typing.specs.Dictionary.{Dictionary}
 use Rattle.typing.specs.Items.{Items}
 use Rattle.typing.specs.Rules.{exprItems, exprsItems, referenceItems, thetaItems}
 use Rattle.typing.specs.Scopes.{Scope, nameAt, schemaNamed}
 use Rattle.typing.specs.Unknowns.{slot}
 use Rattle.solver.specs.Store.{run}
 use Rattle.instances.specs.Clean.{Clean}
-use Rattle.pieces.specs.Stage.{Ghost, Stands, Cell}
-use Rattle.pieces.specs.Building.{Cells, Introduced}
+use Rattle.pieces.specs.Stage.{Cell}
+use Rattle.pieces.specs.Building.{Cells}
 use Rattle.pieces.proofs.Stages.{next-cell, placed-cell, no-cells}
 use Rattle.rules.specs.Equations.{Combined}
 use Rattle.rules.specs.Formers.{Listed, Derived}
-use Rattle.names.specs.Scoped.{Scoped}
 use Rattle.names.specs.References.{Actuals, RefersWith}
 use Rattle.names.specs.Thetas.{ThetaRuled}
-use Rattle.walk.specs.Visits.{Owned, Fresh, Spared}
+use Rattle.walk.specs.Visits.{Owned, Fresh}
 use Rattle.walk.specs.Expressions.{ExprDone, ExprsDone}
 use Rattle.walk.specs.Parts.{Fact, nothing, Part, Ending}
 use Rattle.walk.proofs.Scopes.{spared-refl}

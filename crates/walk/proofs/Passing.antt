@@ -1,7 +1,7 @@
 -- From one part of the tree to the next, between pieces.
 use mathlib.Core.Path.{_≡_, sym, subst, _∙_}
 use mathlib.Core.List.{List, [], _∷_, _++_}
-use Prim.Native.Nat.{ℕ, _+_, _≤_, _<_, _^_}
+use Prim.Native.Nat.{ℕ, _+_, _≤_}
 use native.Mathlib.Omega.{arith}
 use lib.ListN.{length, length-append}
 use Rattle.types.specs.Types.{Term}
@@ -18,8 +18,7 @@ use Rattle.pieces.specs.Stage.{Ghost}
 use Rattle.pieces.proofs.Between.{walked-then, walked-mine}
 use Rattle.names.specs.Scoped.{SettledAt, Scoped}
 use Rattle.walk.specs.Predicates.{Walking}
-use Rattle.walk.specs.Room.{Between, Crowd}
-use Rattle.walk.specs.Visits.{Owned, Fresh, EachOnce, idle, Spared, Went}
+use Rattle.walk.specs.Visits.{Owned, idle, Spared, Went}
 use Rattle.walk.proofs.Nodes.{fresh-left, fresh-after, once-left, once-right, owned-left, owned-right}
 use Rattle.walk.proofs.Rooms.{between-part, crowd-part}
 use Rattle.walk.proofs.Scopes.{scoped-spared, scoped-walked}
@@ -42,7 +41,7 @@ scoped-after s s′ d w w′ n free Γ D H c U U′ M W e P C =
     (scoped-spared s d w w′ n free (idle (H ⨾ c) U′) Γ D P (scoped-walked s d w n Γ D H c U U′ M W C))
 
 -- The first part, on a shorter path.
-pub walking-first : (s d w : List ℕ) (rows at free h h′ : ℕ) (l m : List ℕ) → h′ ≤ h → Walking s d w rows at free h (l ++ m) → Walking s d w rows at free h′ l
+unfoldable pub walking-first : (s d w : List ℕ) (rows at free h h′ : ℕ) (l m : List ℕ) → h′ ≤ h → Walking s d w rows at free h (l ++ m) → Walking s d w rows at free h′ l
 walking-first s d w rows at free h h′ l m p K =
     let B = K .room in
     let n = length-append l m in

@@ -1,8 +1,8 @@
 -- 28 and 29: a Text, then a predicate that sees what it declares. The types that the Text stored are wiped at the end.
-use mathlib.Core.Path.{_≡_, refl, _∙_}
+use mathlib.Core.Path.{_≡_, _∙_}
 use mathlib.Core.Bool.{false}
 use mathlib.Core.List.{List, [], _∷_, _++_}
-use Prim.Native.Nat.{ℕ, _+_, _-_, _≤_, _<_}
+use Prim.Native.Nat.{ℕ, _+_, _-_, _≤_}
 use native.Mathlib.Omega.{arith}
 use lib.ListN.{length, replicate, length-append}
 use lib.Seq.{sets}
@@ -10,7 +10,7 @@ use Rattle.syntax.specs.Limited.{LimitedPred}
 use Rattle.syntax.specs.Tree.{Pred, Text, Quantifier, quantified}
 use Rattle.syntax.specs.TreeNumbers.{predNumbers, textNumbers}
 use Rattle.typing.specs.Dictionary.{Dictionary, blank}
-use Rattle.typing.specs.Items.{Items, _⨾_, Meets, Refuses}
+use Rattle.typing.specs.Items.{Items, _⨾_}
 use Rattle.typing.specs.Rules.{predItems, textItems}
 use Rattle.typing.specs.Scopes.{Scope, inside}
 use Rattle.pieces.specs.Piece.{Steady}
@@ -18,8 +18,8 @@ use Rattle.pieces.proofs.Between.{refuses-first, refuses-second}
 use Rattle.names.specs.Scoped.{Scoped}
 use Rattle.walk.specs.Predicates.{Walking, PredAsk, PredDone}
 use Rattle.walk.specs.Texts.{TextAsk, TextDone, Declared}
-use Rattle.walk.specs.Visits.{Owned, Fresh, EachOnce, idle, Spared, Went, globalsIf}
-use Rattle.walk.proofs.Nodes.{once-left, once-right, fresh-left, fresh-after}
+use Rattle.walk.specs.Visits.{Fresh, EachOnce, idle, Spared, Went, globalsIf}
+use Rattle.walk.proofs.Nodes.{once-right, fresh-left, fresh-after}
 use Rattle.walk.proofs.Passing.{walking-first, went-then}
 use Rattle.walk.proofs.Rooms.{between-part, crowd-part}
 use Rattle.walk.proofs.Scopes.{spared-on, spared-less}

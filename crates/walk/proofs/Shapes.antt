@@ -1,5 +1,5 @@
 -- The shape of each kind of expression.
-use mathlib.Core.Path.{_≡_, refl}
+use mathlib.Core.Path.{refl}
 use mathlib.Core.List.{[], _∷_, append-assoc}
 use Prim.Native.Nat.{ℕ}
 use Rattle.syntax.specs.Limited.{LimitedExpr}

@@ -1,8 +1,7 @@
 -- The two sides of a relation and the relation itself, as one closed piece between pieces.
-use mathlib.Core.Path.{_≡_, refl, _∙_}
+use mathlib.Core.Path.{_≡_, _∙_}
 use mathlib.Core.Bool.{true, false}
 use mathlib.Core.List.{List, [], _∷_, _++_}
-use mathlib.Core.Logic.{inl, inr}
 use Prim.Native.Nat.{ℕ, _+_, _*_, _-_, _≤_, _<_}
 use native.Mathlib.Omega.{arith}
 use lib.ListN.{length, length-append}
@@ -16,8 +15,7 @@ use Rattle.typing.specs.Items.{Items, skip, _⨾_, piece, Meets, Refuses}
 use Rattle.typing.specs.Rules.{exprItems}
 use Rattle.typing.specs.Scopes.{Scope}
 use Rattle.typing.specs.Unknowns.{slot}
-use Rattle.solver.specs.Settled.{lower}
-use Rattle.pieces.specs.Piece.{Steady, Stops}
+use Rattle.pieces.specs.Piece.{Steady}
 use Rattle.pieces.specs.Stage.{Ghost, Stands, Advanced, Cell, Room, SlotOf}
 use Rattle.pieces.specs.Building.{Introduced, Working}
 use Rattle.pieces.specs.Closed.{Closing, Closed}
@@ -29,7 +27,7 @@ use Rattle.inclusion.specs.Storing.{Stored}
 use Rattle.walk.specs.Expressions.{ExprAsk, ExprDone}
 use Rattle.walk.specs.Predicates.{Walking}
 use Rattle.walk.specs.Room.{Inside}
-use Rattle.walk.specs.Visits.{Owned, Fresh, EachOnce, idle, Spared, Went}
+use Rattle.walk.specs.Visits.{Owned, Fresh, idle, Spared, Went}
 use Rattle.walk.proofs.Nodes.{once-left, once-right, fresh-left, fresh-after, owned-left, owned-right, owned-in, last-in}
 use Rattle.walk.proofs.Rooms.{begin-inside, inside-part, inside-next}
 use Rattle.walk.proofs.Scopes.{scoped-stored, scoped-later, scoped-spared, stored-on, spared-on}

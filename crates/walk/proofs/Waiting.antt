@@ -1,19 +1,19 @@
 -- A piece waits while pieces inside it are visited: its store is saved in the work area, and taken up again.
-use mathlib.Core.Path.{_≡_, refl, sym, ap, subst, _∙_}
+use mathlib.Core.Path.{_≡_, sym, ap, subst, _∙_}
 use mathlib.Core.List.{List, _++_}
 use mathlib.Core.Logic.{inr}
-use Prim.Native.Nat.{ℕ, zero, suc, _+_, _*_, _-_, _≤_, _<_, _^_}
+use Prim.Native.Nat.{ℕ, suc, _+_, _*_, _-_, _≤_, _<_, _^_}
 use native.Mathlib.Omega.{arith}
 use lib.ListN.{length, getD, length-append}
-use lib.Seq.{sets, length-sets, ext-getD}
-use Rattle.types.specs.Equations.{In, Pairs}
+use lib.Seq.{length-sets, ext-getD}
+use Rattle.types.specs.Equations.{In}
 use Rattle.types.specs.Types.{Ty}
 use Rattle.typing.specs.Dictionary.{Dictionary}
-use Rattle.typing.specs.Items.{Items, skip, _⨾_, Meets, Agree, Refuses}
+use Rattle.typing.specs.Items.{Items, _⨾_, Meets, Agree, Refuses}
 use Rattle.typing.specs.Scopes.{Scope}
 use Rattle.typing.specs.Unknowns.{Table}
 use Rattle.solver.specs.Store.{frozen, tagAt, run}
-use Rattle.solver.specs.Settled.{lower, Pinned}
+use Rattle.solver.specs.Settled.{lower}
 use Rattle.solver.specs.Written.{Wrote}
 use Rattle.solver.proofs.Growing.{load-same}
 use Rattle.solver.proofs.Words.{run-at, run-length}
@@ -22,7 +22,7 @@ use Rattle.instances.proofs.AlikeLaws.{alike-fits, alike-fits-back}
 use Rattle.instances.proofs.CleanLaws.{clean-all-below}
 use Rattle.instances.proofs.Moving.{sets-before}
 use Rattle.instances.proofs.Saving.{saved-length, saved-stands, restored-lower, restored-length, resumed}
-use Rattle.pieces.specs.Piece.{Solution, Steady, Walked, Later}
+use Rattle.pieces.specs.Piece.{Solution, Steady, Walked}
 use Rattle.pieces.specs.Rows.{ghostAfter}
 use Rattle.pieces.specs.Stage.{Ghost, Stands, Uses, Advanced}
 use Rattle.pieces.proofs.ClosingLaws.{resumed as taken-up, resumed-later}
@@ -31,7 +31,7 @@ use Rattle.names.specs.Scoped.{Scoped}
 use Rattle.inclusion.specs.Storing.{Stored}
 use Rattle.walk.specs.Visits.{Owned, Fresh, idle, Spared}
 use Rattle.walk.specs.Room.{Between, Inside}
-use Rattle.walk.specs.Expressions.{Visiting, Visited}
+use Rattle.walk.specs.Expressions.{Visiting}
 use Rattle.walk.specs.Predicates.{Walking}
 use Rattle.walk.specs.Parts.{Fact, nothing, Step, Ending}
 use Rattle.walk.proofs.Nodes.{fresh-left, once-left}

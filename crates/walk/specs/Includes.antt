@@ -9,6 +9,7 @@ use Rattle.syntax.specs.Limited.{LimitedInclude, LimitedExprs}
 use Rattle.syntax.specs.Tree.{Include, include, Exprs, exprsLength}
 use Rattle.syntax.specs.TreeNumbers.{includeNumbers, exprsNumbers}
 use Rattle.types.specs.Equations.{In}
+use Rattle.types.specs.Formed.{Ascending}
 use Rattle.types.specs.Types.{Ty}
 use Rattle.typing.specs.Conditions.{smallTypes}
 use Rattle.typing.specs.Dictionary.{Dictionary}
@@ -17,12 +18,13 @@ use Rattle.typing.specs.Rules.{includeItems, actualItems}
 use Rattle.typing.specs.Scopes.{Scope, includeSignature, includeNode}
 use Rattle.typing.specs.Unknowns.{slot, unknownAt, row}
 use Rattle.solver.specs.Settled.{heap, Reads}
-use Rattle.signatures.specs.Rows.{rows}
+use Rattle.signatures.specs.Rows.{rows, identifiersOf}
 use Rattle.signatures.specs.Carried.{Carries}
 use Rattle.pieces.specs.Piece.{Steady, Walked, Settled}
 use Rattle.pieces.specs.Rows.{SlotsFrom}
 use Rattle.names.specs.Scoped.{Scoped}
-use Rattle.inclusion.specs.Components.{Component, Placed, StandsFor, ActualTypes}
+use Rattle.names.specs.Components.{Component}
+use Rattle.inclusion.specs.Components.{Placed, StandsFor, ActualTypes}
 use Rattle.inclusion.specs.Storing.{Stored}
 use Rattle.walk.specs.Visits.{Owned, Fresh, idle, Spared}
 use Rattle.walk.specs.Predicates.{Walking}
@@ -52,6 +54,7 @@ pub record IncludeDone (s s′ d w w′ : List ℕ) (stack at free : ℕ) (i : I
   pub short : number ≡ 0 → at′ ≤ at + 96 * actualCount i
   pub few : number ≡ 0 → m ≤ 16
   pub recorded : number ≡ 0 → (j : ℕ) → j < m → 39936 ≤ getD w′ (free + 2 * j + 1) 0
+  pub ascending : number ≡ 0 → Ascending (identifiersOf (rows w′ free m))
   pub goes : number ≡ 0 → (H : Items) (U : List ℕ) → Steady H U → (Γ : Scope) (D : Dictionary) → Scoped s d w stack (idle H U) Γ D → Fresh (includeNumbers i) U →
       Brought s′ d w′ m free H U Γ i places′
   pub stops : (number ≡ 0 → ⊥) → (H : Items) (U : List ℕ) → Steady H U → (Γ : Scope) (D : Dictionary) → Scoped s d w stack (idle H U) Γ D → Fresh (includeNumbers i) U →
@@ -69,6 +72,7 @@ pub record ActualsAsk (s d w : List ℕ) (stack at free k j : ℕ) (xs : Exprs) 
   pub texts : ℕ
   pub limited : LimitedExprs height texts xs
   pub walking : Walking s d w stack at free height (exprsNumbers xs)
+  pub few : length (exprsNumbers xs) ≤ 24
   pub own : (x : ℕ) → SlotsFrom k (suc j) x → In x (walking .known) → ⊥
   pub apart : In k (exprsNumbers xs) → ⊥
   pub row : length places ≡ 4

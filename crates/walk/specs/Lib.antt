@@ -8,3 +8,4 @@ pub mod Parts
 pub mod Shapes
 pub mod Schemas
 pub mod Paragraphs
+pub mod Joining

@@ -1,6 +1,6 @@
 -- Expressions by their operands: the items, nodes and limits of an expression whose node is k, after those of its operands.
 use mathlib.Core.Path.{_≡_}
-use mathlib.Core.List.{List, [], _∷_, _++_}
+use mathlib.Core.List.{[], _∷_, _++_}
 use Prim.Native.Nat.{ℕ, _-_, _≤_}
 use Rattle.syntax.specs.Limited.{LimitedExpr, LimitedExprs}
 use Rattle.syntax.specs.Tree.{Expr, Exprs, exprNode}

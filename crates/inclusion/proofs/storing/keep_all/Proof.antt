@@ -1,7 +1,7 @@
 use native.Mathlib.Omega.{arith}
 use Prim.Native.Nat.{_-_, _≤_}
 use Rattle.inclusion.specs.Keeping.{AllKept}
-use Rattle.inclusion.proofs.KeepAll.{all-start, step-asked, all-step, all-end}
+use Rattle.inclusion.proofs.KeepAll.{all-start, all-short, step-asked, all-step, all-end}
 use borrow.Author.Needs.{needs}
 use Rattle.inclusion.proofs.storing.keep_all.Statement.{statement}
 use Rattle.inclusion.proofs.storing.keep_all.Tie as tie
@@ -19,16 +19,16 @@ loop-holds : tie.Need-loop-holds Inv-loop μ-loop
 loop-holds c = (omega arith, all-start _ _ _ _ _ _ _ _ _ _ (c .before .before .before .before .pre))
 
 mul-keep-row : tie.Need-mul-keep-row Inv-loop μ-loop
-mul-keep-row c = let P = c .before .before .before .before .before .before .before .pre in let I = c .before .before .loop .inv in let r = P .beside .1 in let q = P .near in let x = P .room in let y = I .1 .more in let z = I .1 .short in let u = P .many in let t = c .before .loop-test .taken in omega arith
+mul-keep-row c = let P = c .before .before .before .before .before .before .before .pre in let I = c .before .before .loop .inv in let r = P .beside .1 in let q = P .near in let x = P .room in let y = I .1 .more in let z = all-short _ _ _ _ _ _ _ _ _ _ P _ _ _ (I .1) in let u = P .many in let t = c .before .loop-test .taken in omega arith
 
 add-keep-row : tie.Need-add-keep-row Inv-loop μ-loop
-add-keep-row c = let P = c .before .before .before .before .before .before .before .pre in let I = c .before .before .loop .inv in let r = P .beside .1 in let q = P .near in let x = P .room in let y = I .1 .more in let z = I .1 .short in let u = P .many in let t = c .before .loop-test .taken in omega arith
+add-keep-row c = let P = c .before .before .before .before .before .before .before .pre in let I = c .before .before .loop .inv in let r = P .beside .1 in let q = P .near in let x = P .room in let y = I .1 .more in let z = all-short _ _ _ _ _ _ _ _ _ _ P _ _ _ (I .1) in let u = P .many in let t = c .before .loop-test .taken in omega arith
 
 sub-keep-row : tie.Need-sub-keep-row Inv-loop μ-loop
-sub-keep-row c = let P = c .before .before .before .before .before .before .before .pre in let I = c .before .before .loop .inv in let r = P .beside .1 in let q = P .near in let x = P .room in let y = I .1 .more in let z = I .1 .short in let u = P .many in let t = c .before .loop-test .taken in omega arith
+sub-keep-row c = let P = c .before .before .before .before .before .before .before .pre in let I = c .before .before .loop .inv in let r = P .beside .1 in let q = P .near in let x = P .room in let y = I .1 .more in let z = all-short _ _ _ _ _ _ _ _ _ _ P _ _ _ (I .1) in let u = P .many in let t = c .before .loop-test .taken in omega arith
 
 add-keep-row-2 : tie.Need-add-keep-row-2 Inv-loop μ-loop
-add-keep-row-2 c = let P = c .before .before .before .before .before .before .before .pre in let I = c .before .before .loop .inv in let r = P .beside .1 in let q = P .near in let x = P .room in let y = I .1 .more in let z = I .1 .short in let u = P .many in let t = c .before .loop-test .taken in omega arith
+add-keep-row-2 c = let P = c .before .before .before .before .before .before .before .pre in let I = c .before .before .loop .inv in let r = P .beside .1 in let q = P .near in let x = P .room in let y = I .1 .more in let z = all-short _ _ _ _ _ _ _ _ _ _ P _ _ _ (I .1) in let u = P .many in let t = c .before .loop-test .taken in omega arith
 
 keep-row-requires : tie.Need-keep-row-requires Inv-loop μ-loop
 keep-row-requires c κs = step-asked _ _ _ _ _ _ _ _ _ _ (c .before .before .before .before .before .before .before .pre) _ _ _ (c .before .loop-test .taken) (c .before .before .loop .inv .1)

@@ -65,7 +65,7 @@ same-length-2 : tie.Need-same-length-2
 same-length-2 c = search needs
 
 returns-2 : tie.Need-returns-2
-returns-2 c = row-fresh _ _ _ _ _ _ _ _ _ (c .before .before .before .before .before .before .before .before .before .before .before .before .before .before .before .before .before .before .pre) _ (c .before .before .before .before .before .before .before .before .word3 .ensures .0) _ _ (c .before .before .before .before .before .before .write-filled .ensures) _ (c .before .before .store2 .ensures)
+returns-2 c = row-fresh _ _ _ _ _ _ _ _ _ (c .before .before .before .before .before .before .before .before .before .before .before .before .before .before .before .before .before .before .pre) _ (c .before .before .before .before .before .before .before .before .word3 .ensures .0) _ _ (c .before .before .before .before .before .before .write-filled .ensures) _ _ (c .before .before .before .before .before .before .before .before .before .before .before .before .word .ensures .0) (c .before .before .before .before .before .before .before .before .before .before .before .find .ensures) (c .before .before .before .before .before .before .before .before .before .before .if1 .left) _ (c .before .before .store2 .ensures)
 
 pub keep-row-spec : {M : Type 1} → statement M
 keep-row-spec =

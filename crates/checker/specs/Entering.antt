@@ -1,0 +1,52 @@
+-- One paragraph entered into the dictionary.
+use mathlib.Core.Path.{_≡_}
+use mathlib.Core.List.{List, _∷_}
+use Prim.Native.Nat.{ℕ, _+_, _≤_, _<_, _^_}
+use lib.ListN.{length}
+use Rattle.layout.specs.Layout.{count, part}
+use Rattle.syntax.specs.Nodes.{operandAt}
+use Rattle.syntax.specs.Reading.{readOf}
+use Rattle.syntax.specs.Tree.{Paragraph}
+use Rattle.syntax.specs.declared.Reading.the-variants.{Readable}
+use Rattle.typing.specs.Dictionary.{Dictionary, dictionaryLength}
+use Rattle.typing.specs.Entries.{extend}
+use Rattle.typing.specs.Items.{Meets, Any, Passes}
+use Rattle.typing.specs.Rules.{paragraphItems}
+use Rattle.typing.specs.Unknowns.{Table}
+use Rattle.typing.specs.Verdicts.{RefusesAt}
+use Rattle.typing.specs.declared.Finding.{Finding}
+use Rattle.typing.specs.declared.Finding.the-variants.{Accepted, Refused}
+use Rattle.solver.specs.Settled.{lower}
+use Rattle.instances.specs.Clean.{Clean}
+use Rattle.names.specs.Scoped.{Recorded}
+
+-- Node k is a paragraph of a readable document, operand `place` of its Document.
+pub record Listed (doc : List ℕ) (k : ℕ) : Type 0 where
+  pub read : readOf doc ≡ Readable
+  pub place : ℕ
+  pub some : 1 ≤ place
+  pub most : place < length (part doc (count doc))
+  pub is : k ≡ operandAt doc (count doc) place
+
+-- The areas between paragraphs: the pool is empty, and the dictionary so far has few words, whatever the length of its area.
+pub record Ready (s d w : List ℕ) : Type 0 where
+  pub size : length s ≡ 52224
+  pub clean : Clean s 1
+  pub wide : 16384 ≤ length w
+  pub dictionary : Dictionary
+  pub recorded : Recorded dictionary d
+  pub few : dictionaryLength dictionary < 2 ^ 30
+
+-- The paragraph p passes over the dictionary D, and the area d holds D with its entries.
+pub record Grown (p : Paragraph) (D : Dictionary) (d : List ℕ) : Type 0 where
+  pub passes : Passes (paragraphItems p D) Any
+  pub table : Table
+  pub meets : Meets (paragraphItems p D) table
+  pub recorded : Recorded (extend p D table) d
+  pub short : dictionaryLength (extend p D table) ≤ dictionaryLength D + 16384
+
+-- Accepted: p passes, and the pool is empty again; otherwise p refuses, before any paragraphs ps.
+pub record Entered (s s′ d d′ : List ℕ) (p : Paragraph) (r : Finding) : Type 0 where
+  pub low : r ≡ Accepted → lower s′ ≡ lower s
+  pub goes : r ≡ Accepted → (D : Dictionary) → Recorded D d → Grown p D d′
+  pub stops : (f m : ℕ) → r ≡ Refused f m → (D : Dictionary) → Recorded D d → (ps : List Paragraph) → RefusesAt (p ∷ ps) D (length d) f m

@@ -1,0 +1,3 @@
+-- What the steps of the check call ask and promise.
+pub mod Entering
+pub mod Answering

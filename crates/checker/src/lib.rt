@@ -1,0 +1,126 @@
+// The check call: a document's finding, and the dictionary of an accepted one. The definitions are in the crate `typing`, specs/Areas and specs/Check.
+use dictionary::growth::begin;
+use layout::part;
+use reader::nodes::operand;
+use reader::read;
+use syntax::Reading;
+use typing::Finding;
+use words::clear;
+use words::word;
+
+pub mod entering;
+
+use crate::entering::DICTIONARY_AREA;
+use crate::entering::enter;
+ghost use mathlib.Core.Path.{_≡_};
+ghost use Prim.Native.Nat.{_≤_, _<_};
+ghost use lib.ListN.{length};
+ghost use Rattle.layout.specs.Layout.{count};
+ghost use Rattle.syntax.specs.Decode.{treeOf, paragraphsFrom};
+ghost use Rattle.syntax.specs.Reading.{readOf};
+ghost use Rattle.syntax.specs.declared.Reading.the-variants.{Readable};
+ghost use Rattle.typing.specs.Areas.{Checked};
+ghost use Rattle.typing.specs.Check.{paragraphsOf};
+ghost use Rattle.typing.specs.Dictionary.{Dictionary, blank};
+ghost use Rattle.names.specs.Scoped.{Recorded};
+ghost use Rattle.checker.specs.Answering.{ParagraphsAsk, Answered, TreeAnswered, Answering};
+
+// The fewest words of a work area.
+const WORK_WORDS: usize = 16384;
+
+// 21: a work area that is too short.
+const WORK_AREA: u32 = 21;
+
+// The words of the solver's area.
+const SOLVER_WORDS: usize = 52224;
+
+// The m paragraphs from operand i of the Document on.
+fn paragraphs_from(
+    doc: &[u32],
+    a: &mut [u32],
+    dict: &mut [u32],
+    work: &mut [u32],
+    i: usize,
+    m: usize,
+) -> Finding
+    requires { ⌜ ParagraphsAsk (now doc) (now a) (now dict) (now work) i m ⌝ }
+    ensures { λ r. ⌜ ((D : Dictionary) → Recorded D (now (dict .entry)) → Answered (paragraphsFrom (now (doc .entry)) (count (now (doc .entry))) i m) D (length (now (dict .entry))) (now (dict .exit)) r) ⌝ }
+{
+    if m == 0 {
+        return Finding::Accepted;
+    }
+    let n = word(doc, 0);
+    let k = operand(doc, n, i);
+    let entered = enter(doc, a, dict, work, k);
+    match entered {
+        Finding::Accepted => paragraphs_from(doc, a, dict, work, i + 1, m - 1),
+        Finding::Refused { number, place } => Finding::Refused {
+            number: number,
+            place: place,
+        },
+    }
+}
+
+// The paragraphs of a readable document, with areas that have room for a dictionary and for the work.
+fn check_paragraphs(doc: &[u32], dict: &mut [u32], work: &mut [u32]) -> Finding
+    requires { ⌜ (readOf (now doc) ≡ Readable) × (16384 ≤ length (now work)) × (0 < length (now dict)) ⌝ }
+    ensures { λ r. ⌜ Answered (paragraphsOf (treeOf (now (doc .entry)))) blank (length (now (dict .entry))) (now (dict .exit)) r ⌝ }
+{
+    let mut a = [0u32; SOLVER_WORDS];
+    begin(dict);
+    let n = word(doc, 0);
+    let m = part(doc, n).len() - 1;
+    paragraphs_from(doc, &mut a, dict, work, 1, m)
+}
+
+// A readable document: 21, then 22 at 0, then the paragraphs.
+fn check_tree(doc: &[u32], dict: &mut [u32], work: &mut [u32]) -> Finding
+    requires { ⌜ readOf (now doc) ≡ Readable ⌝ }
+    ensures { λ r. ⌜ TreeAnswered (treeOf (now (doc .entry))) (length (now (dict .entry))) (length (now (work .entry))) (now (dict .exit)) r ⌝ }
+{
+    if work.len() < WORK_WORDS {
+        return Finding::Refused {
+            number: WORK_AREA,
+            place: 0,
+        };
+    }
+    if dict.len() == 0 {
+        return Finding::Refused {
+            number: DICTIONARY_AREA,
+            place: 0,
+        };
+    }
+    check_paragraphs(doc, dict, work)
+}
+
+// Reading's finding where there is one. The areas are not cleared yet.
+fn check_words(doc: &[u32], dict: &mut [u32], work: &mut [u32]) -> Finding
+    ensures { λ r. ⌜ Answering (now (doc .entry)) (length (now (dict .entry))) (length (now (work .entry))) (now (dict .exit)) r ⌝ }
+{
+    let reading = read(doc);
+    match reading {
+        Reading::Readable => check_tree(doc, dict, work),
+        Reading::Refused { number, place } => Finding::Refused {
+            number: number,
+            place: place,
+        },
+    }
+}
+
+// The check of any words, with areas of any length.
+pub fn check(doc: &[u32], dict: &mut [u32], work: &mut [u32]) -> Finding
+    ensures { λ r. ⌜ Checked (now (doc .entry)) (length (now (dict .entry))) (length (now (work .entry))) r (now (dict .exit)) (now (work .exit)) ⌝ }
+{
+    let found = check_words(doc, dict, work);
+    clear(work);
+    match found {
+        Finding::Accepted => Finding::Accepted,
+        Finding::Refused { number, place } => {
+            clear(dict);
+            Finding::Refused {
+                number: number,
+                place: place,
+            }
+        }
+    }
+}

@@ -1,0 +1,10 @@
+pub mod Writing
+pub mod Waits
+pub mod Beginning
+pub mod Constraint
+pub mod Given
+pub mod CarriedTypes
+pub mod Axiomatic
+pub mod ParameterLaws
+pub mod SchemaParagraph
+pub mod Abbreviation

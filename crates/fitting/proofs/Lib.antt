@@ -1,0 +1,3 @@
+pub mod NameWalk
+pub mod Types
+pub mod Findings

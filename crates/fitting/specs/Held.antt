@@ -1,0 +1,35 @@
+-- What the functions below the fit call ask of a dictionary area, and what they say.
+use mathlib.Core.Path.{_≡_}
+use mathlib.Core.Bool.{Bool}
+use mathlib.Core.List.{List}
+use Prim.Native.Nat.{ℕ, _≤_}
+use lib.ListN.{length}
+use Rattle.syntax.specs.declared.Reading.{Reading}
+use Rattle.syntax.specs.declared.Reading.the-variants.{Readable, Refused}
+use Rattle.types.specs.Types.{Ty, size}
+use Rattle.types.specs.Formed.{WellFormed}
+use Rattle.types.specs.Words.{words}
+use Rattle.values.specs.Value.{Value, encode}
+use Rattle.values.specs.Typed.{isOf}
+use Rattle.typing.specs.Dictionary.{Dictionary, ofGlobal, nameIn}
+use Rattle.typing.specs.Check.{accepted, checkOf}
+use Rattle.typing.specs.declared.Finding.{Finding}
+use Rattle.typing.specs.declared.Finding.the-variants.{Accepted, Refused as Rejected}
+use Rattle.dictionary.specs.Holds.{Holds}
+
+-- an area that holds the dictionary with which the check accepts the document
+pub record Held (doc dict : List ℕ) (E : Dictionary) : Type 0 where
+  pub room : ℕ
+  pub work : ℕ
+  pub checked : checkOf doc room work ≡ accepted E
+  pub holds : Holds E dict
+
+-- 42's test of a value's words against the type that a dictionary records for a name
+pub record Tested (dict : List ℕ) (id : ℕ) (w : List ℕ) (r : Bool) : Type 0 where
+  pub told : (E : Dictionary) (v : Value) (g : Ty) → Holds E dict → encode v ≡ w → length w ≤ 64 → nameIn id E ≡ ofGlobal 0 g → WellFormed g → size g ≤ 32
+      → r ≡ isOf v (words g)
+
+-- what is found of a state, as a finding of the fit call
+unfoldable pub saidBy : Reading → Finding
+saidBy Readable = Accepted
+saidBy (Refused number place) = Rejected number place

@@ -1,0 +1,61 @@
+// The fit call: the check, then a state against its dictionary, 41 and 42. The definitions are in the crate `fit`.
+use syntax::Reading;
+use typing::Finding;
+use words::clear;
+
+mod names;
+mod recorded;
+
+ghost use mathlib.Core.Path.{_≡_};
+ghost use lib.ListN.{length};
+ghost use Rattle.syntax.specs.Reading.{readOf};
+ghost use Rattle.syntax.specs.Decode.{treeOf};
+ghost use Rattle.syntax.specs.declared.Reading.the-variants.{Readable};
+ghost use Rattle.typing.specs.Dictionary.{Dictionary};
+ghost use Rattle.typing.specs.Areas.{findingOf};
+ghost use Rattle.states.specs.Names.{documentNames};
+ghost use Rattle.states.specs.States.{stateOf};
+ghost use Rattle.fit.specs.Fit.{fitState};
+ghost use Rattle.fit.specs.Areas.{Fitted};
+ghost use Rattle.fitting.specs.Held.{Held};
+
+// The finding of a state for a document that the check accepted: 41, then 42.
+fn fit_state(doc: &[u32], state: &[u32], dict: &[u32]) -> Finding
+    requires { ⌜ readOf (now doc) ≡ Readable ⌝ }
+    ensures { λ r. ⌜ ((E : Dictionary) → Held (now (doc .entry)) (now (dict .entry)) E → r ≡ findingOf (fitState (stateOf (documentNames (treeOf (now (doc .entry)))) (now (state .entry))) E (documentNames (treeOf (now (doc .entry)))) (now (state .entry)))) ⌝ }
+{
+    let formed = states::check_names(doc, state);
+    match formed {
+        Reading::Readable => recorded::finding_of(recorded::check_types(doc, state, dict)),
+        Reading::Refused { number, place } => Finding::Refused {
+            number: number,
+            place: place,
+        },
+    }
+}
+
+// The check of a document, then a state against its dictionary. On acceptance the dictionary stays; after a refusal both areas are zeros.
+pub fn fit(doc: &[u32], state: &[u32], dict: &mut [u32], work: &mut [u32]) -> Finding
+    ensures { λ r. ⌜ Fitted (now (doc .entry)) (now (state .entry)) (length (now (dict .entry))) (length (now (work .entry))) r (now (dict .exit)) (now (work .exit)) ⌝ }
+{
+    let checked = checker::check(doc, dict, work);
+    match checked {
+        Finding::Accepted => {
+            let fitted = fit_state(doc, state, dict);
+            match fitted {
+                Finding::Accepted => Finding::Accepted,
+                Finding::Refused { number, place } => {
+                    clear(dict);
+                    Finding::Refused {
+                        number: number,
+                        place: place,
+                    }
+                }
+            }
+        }
+        Finding::Refused { number, place } => Finding::Refused {
+            number: number,
+            place: place,
+        },
+    }
+}

@@ -1,0 +1,4 @@
+pub mod SchemaNodes
+pub mod ParagraphNodes
+pub mod Defined
+pub mod AbbreviationNodes

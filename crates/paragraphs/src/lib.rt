@@ -1,0 +1,3 @@
+// Schema expressions and paragraphs, above the functions over nodes.
+pub mod paragraphs;
+pub mod schemas;

@@ -1,0 +1,166 @@
+// Paragraphs: their findings, and the entries that wait for their end. The pool is empty before and after.
+use visiting::nodes::expr;
+use visiting::nodes::pred;
+use visiting::nodes::text;
+use visiting::results::Lined;
+use visiting::results::lined_at;
+use visiting::results::unlined;
+use crate::schemas::schema;
+use entries::given_entries;
+use entries::name_entries;
+use entries::parameters::push_parameters;
+use entries::put_head;
+use entries::schema_entry;
+use instances::wipe;
+use layout::part;
+use merging::names_new;
+use pieces::closing::close;
+use pieces::closing::settled_size;
+use pieces::closing::settled_words;
+use words::span;
+use words::word;
+ghost use mathlib.Core.Path.{_≡_};
+ghost use Rattle.syntax.specs.Kinds.{paragraphs};
+ghost use Rattle.syntax.specs.Nodes.{kindAt};
+ghost use Rattle.syntax.specs.Promise.{At};
+ghost use Rattle.syntax.specs.Decode.{paragraphAt};
+ghost use Rattle.walk.specs.Paragraphs.{ParagraphAsk, ParagraphDone};
+ghost use Rattle.visiting.specs.Nodes.{Node};
+
+// Kinds.
+const GIVEN: usize = 2;
+
+const AXIOM: usize = 3;
+
+const SCHEMA: usize = 4;
+
+const ABBREVIATION: usize = 5;
+
+// The work area: rows of the scope, then tables and frames.
+const FRAMES: usize = 512;
+
+// Where the entries wait in it.
+const ENTRIES: usize = 1024;
+
+// The words before an entry's type, and the class of a name.
+const HEAD: usize = 4;
+
+const NAME: usize = 1;
+
+// Where the runs of an empty store begin.
+const RUNS: usize = 4096;
+
+const SEVERAL: u32 = 34;
+
+const CLASH: u32 = 36;
+
+const TOO_LARGE: u32 = 38;
+
+// The largest size of a declared type.
+const MOST_SIZE: usize = 32;
+
+// 2 Given: 36, and entries as written.
+fn given(doc: &[u32], a: &[u32], d: &[u32], w: &mut [u32], k: usize, p: &[u32]) -> Lined
+    requires { ⌜ Node (now doc) (now p) paragraphs k × (kindAt (now doc) k ≡ 2) × ParagraphAsk (now a) (now d) (now w) (paragraphAt (now doc) k) ⌝ }
+    ensures { λ r. ⌜ ParagraphDone (now (a .entry)) (now (a .entry)) (now (d .entry)) (now (w .entry)) (now (w .exit)) (paragraphAt (now (doc .entry)) k) (r .number) (r .place) (r .at) (r .count) ⌝ }
+{
+    if !names_new(d, p, 1) {
+        return lined_at(CLASH, k, 0, 0);
+    }
+    given_entries(w, p, 1, ENTRIES);
+    lined_at(0, k, p.len() - 1, ENTRIES)
+}
+
+// 3 Axiom: its Text's identifiers become global.
+fn axiomatic(doc: &[u32], a: &mut [u32], d: &[u32], w: &mut [u32], k: usize, p: &[u32]) -> Lined
+    requires { ⌜ Node (now doc) (now p) paragraphs k × (kindAt (now doc) k ≡ 3) × ParagraphAsk (now a) (now d) (now w) (paragraphAt (now doc) k) ⌝ }
+    ensures { λ r. ⌜ ParagraphDone (now (a .entry)) (now (a .exit)) (now (d .entry)) (now (w .entry)) (now (w .exit)) (paragraphAt (now (doc .entry)) k) (r .number) (r .place) (r .at) (r .count) ⌝ }
+{
+    let t = text(doc, a, d, w, 0, 1, FRAMES, word(p, 1), true);
+    if t.number != 0 {
+        return t;
+    }
+    name_entries(a, d, w, FRAMES, t.count, ENTRIES);
+    wipe(a, 1, t.at);
+    lined_at(0, k, t.count, ENTRIES)
+}
+
+// 4 Schema: parameters, schema expression, one entry.
+fn schema_paragraph(
+    doc: &[u32],
+    a: &mut [u32],
+    d: &[u32],
+    w: &mut [u32],
+    k: usize,
+    p: &[u32],
+) -> Lined
+    requires { ⌜ Node (now doc) (now p) paragraphs k × (kindAt (now doc) k ≡ 4) × ParagraphAsk (now a) (now d) (now w) (paragraphAt (now doc) k) ⌝ }
+    ensures { λ r. ⌜ ParagraphDone (now (a .entry)) (now (a .exit)) (now (d .entry)) (now (w .entry)) (now (w .exit)) (paragraphAt (now (doc .entry)) k) (r .number) (r .place) (r .at) (r .count) ⌝ }
+{
+    let n = word(p, 2);
+    let at = push_parameters(a, w, p, 0, n);
+    let t = schema(doc, a, d, w, n, at, FRAMES, word(p, n + 3));
+    if t.number != 0 {
+        return t;
+    }
+    schema_entry(a, d, w, FRAMES, t.count, word(p, 1), n, ENTRIES);
+    wipe(a, 1, t.at);
+    lined_at(0, k, 1, ENTRIES)
+}
+
+// 5 Abbreviation: parameters, a closed piece, 36, 38, one entry.
+fn abbreviation(doc: &[u32], a: &mut [u32], d: &[u32], w: &mut [u32], k: usize, p: &[u32]) -> Lined
+    requires { ⌜ Node (now doc) (now p) paragraphs k × (kindAt (now doc) k ≡ 5) × ParagraphAsk (now a) (now d) (now w) (paragraphAt (now doc) k) ⌝ }
+    ensures { λ r. ⌜ ParagraphDone (now (a .entry)) (now (a .exit)) (now (d .entry)) (now (w .entry)) (now (w .exit)) (paragraphAt (now (doc .entry)) k) (r .number) (r .place) (r .at) (r .count) ⌝ }
+{
+    let n = word(p, 2);
+    let at = push_parameters(a, w, p, 0, n);
+    let x = expr(doc, a, d, w, n, 0, RUNS, at, FRAMES, word(p, n + 3));
+    if x.number != 0 {
+        return unlined(x.number, x.place);
+    }
+    if !close(a, d, x.cells) {
+        return lined_at(SEVERAL, k, 0, 0);
+    }
+    if !names_new(d, span(p, 1, 1), 0) {
+        return lined_at(CLASH, k, 0, 0);
+    }
+    if MOST_SIZE < settled_size(a, d, x.cells, x.cell) {
+        return lined_at(TOO_LARGE, k, 0, 0);
+    }
+    let e = settled_words(a, d, x.cells, x.cell, w, ENTRIES + HEAD);
+    put_head(w, ENTRIES, e - ENTRIES - 1, NAME, word(p, 1), n);
+    wipe(a, 1, x.at);
+    lined_at(0, k, 1, ENTRIES)
+}
+
+// 6 Constraint: no entry.
+fn constraint(doc: &[u32], a: &mut [u32], d: &[u32], w: &mut [u32], k: usize, p: &[u32]) -> Lined
+    requires { ⌜ Node (now doc) (now p) paragraphs k × (kindAt (now doc) k ≡ 6) × ParagraphAsk (now a) (now d) (now w) (paragraphAt (now doc) k) ⌝ }
+    ensures { λ r. ⌜ ParagraphDone (now (a .entry)) (now (a .exit)) (now (d .entry)) (now (w .entry)) (now (w .exit)) (paragraphAt (now (doc .entry)) k) (r .number) (r .place) (r .at) (r .count) ⌝ }
+{
+    let x = pred(doc, a, d, w, 0, 1, FRAMES, word(p, 1));
+    unlined(x.number, x.place)
+}
+
+// A paragraph: `count` of its entries wait at the place `at` of the work area.
+pub fn paragraph(doc: &[u32], a: &mut [u32], d: &[u32], w: &mut [u32], k: usize) -> Lined
+    requires { ⌜ At (now doc) paragraphs k × ParagraphAsk (now a) (now d) (now w) (paragraphAt (now doc) k) ⌝ }
+    ensures { λ r. ⌜ ParagraphDone (now (a .entry)) (now (a .exit)) (now (d .entry)) (now (w .entry)) (now (w .exit)) (paragraphAt (now (doc .entry)) k) (r .number) (r .place) (r .at) (r .count) ⌝ }
+{
+    let p = part(doc, k);
+    let q = word(p, 0);
+    if q == GIVEN {
+        return given(doc, a, d, w, k, p);
+    }
+    if q == AXIOM {
+        return axiomatic(doc, a, d, w, k, p);
+    }
+    if q == SCHEMA {
+        return schema_paragraph(doc, a, d, w, k, p);
+    }
+    if q == ABBREVIATION {
+        return abbreviation(doc, a, d, w, k, p);
+    }
+    constraint(doc, a, d, w, k, p)
+}

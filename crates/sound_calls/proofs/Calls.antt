@@ -1,0 +1,44 @@
+-- Demand 3 over the calls, from demand 3 on the definitions.
+use mathlib.Core.Path.{_≡_, refl, sym, _∙_}
+use mathlib.Core.List.{List}
+use Prim.Native.Nat.{ℕ}
+use native.Mathlib.Omega.{arith}
+use lib.ListN.{length}
+use Rattle.typing.specs.Dictionary.{Dictionary}
+use Rattle.typing.specs.Check.{Answer, accepted, refused, checkOf}
+use Rattle.typing.specs.Areas.{findingOf}
+use Rattle.typing.specs.declared.Finding.the-variants.{Accepted}
+use Rattle.fit.specs.Fit.{fitOf}
+use Rattle.evaluation.specs.Run.{runOf}
+use Rattle.evaluation.specs.declared.Finding.{Finding}
+use Rattle.evaluator.specs.Named.{RunCall}
+use Rattle.soundness.specs.Demand.{Sound}
+use Rattle.soundness.proofs.Demand.{demand-three, fit-sound}
+use Rattle.sound_calls.specs.Calls.{SoundCall, FittedRuns, CheckedRuns}
+
+-- the finding Accepted is that of an accepting answer
+record Accepting (a : Answer) : Type 0 where
+  dictionary : Dictionary
+  answer : a ≡ accepted dictionary
+
+accepting : (a : Answer) → Accepted ≡ findingOf a → Accepting a
+unfolding findingOf
+accepting (accepted E) e = record { dictionary = E; answer = refl }
+accepting (refused n p) e = let z : _≡_ {A = ℕ} 0 1 = cc in absurd (omega arith)
+
+call-sound : {doc state before after : List ℕ} {r : Finding} → RunCall doc state before after r → Sound doc (runOf doc state (length before)) → SoundCall doc state before r
+call-sound c s = record { noMisfit = λ node e. s .noMisfit node (sym (c .finding) ∙ e); listed = s .listed }
+
+pub fitted-runs : FittedRuns
+fitted-runs = record {
+  sound = λ doc state dict work before after d w r f c.
+      let a = accepting (fitOf doc state d w) (f .finding) in
+      call-sound c (fit-sound doc state d w (length before) (a .dictionary) (a .answer));
+}
+
+pub checked-runs : CheckedRuns
+checked-runs = record {
+  sound = λ doc state dict work before after d w r f t c.
+      let a = accepting (checkOf doc d w) (f .finding) in
+      call-sound c (demand-three doc state d w (length before) (a .dictionary) (a .answer) (t .fits (a .dictionary) (a .answer)));
+}

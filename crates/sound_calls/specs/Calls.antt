@@ -1,0 +1,39 @@
+-- Demand 3 over the calls. Fitted, Checked and RunCall are what the calls promise (crates fit, typing and evaluator).
+use mathlib.Core.Path.{_≡_}
+use mathlib.Core.List.{List}
+use Prim.Native.Nat.{ℕ}
+use lib.ListN.{length}
+use Rattle.syntax.specs.Decode.{treeOf}
+use Rattle.typing.specs.Dictionary.{Dictionary}
+use Rattle.typing.specs.Check.{accepted, paragraphsOf, checkOf}
+use Rattle.typing.specs.Areas.{Checked}
+use Rattle.typing.specs.declared.Finding.the-variants.{Accepted}
+use Rattle.states.specs.Names.{documentNames}
+use Rattle.states.specs.States.{valueIn}
+use Rattle.fit.specs.Recorded.{Fits}
+use Rattle.fit.specs.Areas.{Fitted}
+use Rattle.evaluation.specs.Claims.{Listed}
+use Rattle.evaluation.specs.Run.{runOf}
+use Rattle.evaluation.specs.declared.Finding.{Finding}
+use Rattle.evaluation.specs.declared.Finding.the-variants.{Refused}
+use Rattle.evaluator.specs.Named.{RunCall}
+use Rattle.soundness.specs.Demand.{OfItsType}
+
+-- A run call with the finding r, in a work area that held `before`: r is not 51 at any node, and every entry of the list has its node's accepted type.
+pub record SoundCall (doc state before : List ℕ) (r : Finding) : Type 0 where
+  pub noMisfit : (node : ℕ) → r ≡ Refused 51 node → ⊥
+  pub listed : Listed (OfItsType (paragraphsOf (treeOf doc))) (runOf doc state (length before) .list)
+
+-- each value of the state is of the type that the accepted dictionary records for its name
+pub record OfRecordedTypes (doc state : List ℕ) (d w : ℕ) : Type 0 where
+  pub fits : (E : Dictionary) → checkOf doc d w ≡ accepted E → Fits E (documentNames (treeOf doc)) (valueIn (documentNames (treeOf doc)) state)
+
+-- what the fit call accepts, every run call of that document and state is sound on
+pub record FittedRuns : Type 0 where
+  pub sound : (doc state dict work before after : List ℕ) (d w : ℕ) (r : Finding) → Fitted doc state d w Accepted dict work → RunCall doc state before after r
+      → SoundCall doc state before r
+
+-- the same after the check call, for a state whose values are of their recorded types; that it is well formed is no premise, since else the run is 41
+pub record CheckedRuns : Type 0 where
+  pub sound : (doc state dict work before after : List ℕ) (d w : ℕ) (r : Finding) → Checked doc d w Accepted dict work → OfRecordedTypes doc state d w
+      → RunCall doc state before after r → SoundCall doc state before r

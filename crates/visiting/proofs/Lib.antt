@@ -1,0 +1,14 @@
+pub mod ExprNodes
+pub mod ListNodes
+pub mod WaitingNodes
+pub mod LeafLaws
+pub mod PredLaws
+pub mod RelLaws
+pub mod QuantLaws
+pub mod TextLaws
+pub mod LineNodes
+pub mod SizedNodes
+pub mod DeclNodes
+pub mod ActualNodes
+pub mod BringsNodes
+pub mod InclNodes

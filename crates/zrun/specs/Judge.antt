@@ -1,0 +1,9 @@
+-- What the program finds of a document and a state: the fit call's refusal, else the run's finding.
+use Rattle.typing.specs.Check.{Answer, accepted, refused}
+use Rattle.evaluation.specs.Run.{Ran}
+use Rattle.evaluation.specs.declared.Finding.{Finding}
+use Rattle.evaluation.specs.declared.Finding.the-variants.{Refused}
+
+unfoldable pub judgeOf : Answer → Ran → Finding
+judgeOf (accepted E) r = r .finding
+judgeOf (refused number place) r = Refused number place
