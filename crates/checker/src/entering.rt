@@ -1,9 +1,9 @@
 // One paragraph of the Document: its finding, or its entries in the dictionary.
-use paragraphs::paragraphs::paragraph;
-use visiting::results::Lined;
 use dictionary::growth::size;
 use dictionary::waiting::append_all;
+use paragraphs::paragraphs::paragraph;
 use typing::Finding;
+use visiting::results::Lined;
 use words::span;
 ghost use mathlib.Core.Path.{_≡_};
 ghost use mathlib.Core.List.{List};

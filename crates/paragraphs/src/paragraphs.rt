@@ -1,10 +1,4 @@
 // Paragraphs: their findings, and the entries that wait for their end. The pool is empty before and after.
-use visiting::nodes::expr;
-use visiting::nodes::pred;
-use visiting::nodes::text;
-use visiting::results::Lined;
-use visiting::results::lined_at;
-use visiting::results::unlined;
 use crate::schemas::schema;
 use entries::given_entries;
 use entries::name_entries;
@@ -17,6 +11,12 @@ use merging::names_new;
 use pieces::closing::close;
 use pieces::closing::settled_size;
 use pieces::closing::settled_words;
+use visiting::nodes::expr;
+use visiting::nodes::pred;
+use visiting::nodes::text;
+use visiting::results::Lined;
+use visiting::results::lined_at;
+use visiting::results::unlined;
 use words::span;
 use words::word;
 ghost use mathlib.Core.Path.{_≡_};

@@ -1,12 +1,12 @@
 // Schema expressions: a Text, an Include, a Conjunction. What one declares is a table at `free`.
-use visiting::nodes::brings;
-use visiting::nodes::text;
-use visiting::results::Lined;
-use visiting::results::lined_at;
 use inclusion::storing::keep_rows;
 use layout::part;
 use merging::rows_agree;
 use signatures::tables::merge;
+use visiting::nodes::brings;
+use visiting::nodes::text;
+use visiting::results::Lined;
+use visiting::results::lined_at;
 use words::span;
 use words::word;
 ghost use Prim.Native.Nat.{_<_, _^_};

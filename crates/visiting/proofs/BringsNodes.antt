@@ -58,7 +58,6 @@ brings-told {s} {s′} {d} {w} {w′} {stack} {at} {free} {number} {place} {coun
 
 module _ {doc s d w places s₁ w₁ places₁ row : List ℕ} {stack at free k number place m at₁ : ℕ} (N : At doc includes k) (A : BringsAsk s d w stack at free (includeAt doc k))
     (I : IncludeDone s s₁ d w w₁ stack at free (includeAt doc k) places places₁ number place m at₁) (fine : number ≡ 0) (R : row ≡ take (actualCount (includeAt doc k)) places₁) where
-
   pub node-brings-rows : RowsAsk s₁ d w₁ free m row
   node-brings-rows = subst (RowsAsk s₁ d w₁ free m) (sym R) (brought-ask s s₁ d w w₁ stack at free (A .height) (includeAt doc k) places places₁ number place m at₁ (A .walking) I fine)
 
