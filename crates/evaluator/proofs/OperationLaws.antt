@@ -10,14 +10,14 @@ use lib.ListN.{length, getD, take, drop, replicate, length-append}
 use lib.Seq.{take-at, drop-at}
 use borrow.Author.Tests.{le-leb, lt-leb}
 use Rattle.values.specs.Value.{Value, int, element, set, tuple, Values, nil, cons, count, encode, encodes}
-use Rattle.values.specs.Integer.{in32}
+use Rattle.integers.specs.Integer.{in32}
 use Rattle.values.specs.Held.{keep as words}
 use Rattle.values.specs.Numbers.{numberOf}
 use Rattle.values.specs.Span.{span}
 use Rattle.values.specs.Sets.{apply, insert}
 use Rattle.values.specs.Order.{compare}
-use Rattle.values.specs.declared.words.Order.{Order}
-use Rattle.values.specs.declared.words.Order.the-variants.{Less, Same, Greater}
+use Rattle.values.specs.declared.order.Order.{Order}
+use Rattle.values.specs.declared.order.Order.the-variants.{Less, Same, Greater}
 use Rattle.values.specs.declared.sets.Applied.{Applied}
 use Rattle.values.specs.declared.sets.Applied.the-variants.{Found, Undefined}
 use Rattle.values.specs.declared.sets.Applied.the-variants as Sets

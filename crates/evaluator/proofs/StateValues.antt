@@ -14,15 +14,15 @@ use mir.Val.{Fits}
 use mir.ValLaws.{toZ-fits}
 use Rattle.words.proofs.Loops.{and-left, and-right}
 use Rattle.layout.specs.Layout.{part}
-use Rattle.values.specs.Integer.{signed}
+use Rattle.integers.specs.Integer.{signed}
 use Rattle.values.specs.Value.{Value, int, element, Values, encode, encodes}
 use Rattle.values.specs.Held.{keep}
 use Rattle.values.specs.Form.{isValue, shapeOf, valueLength}
 use Rattle.values.specs.Givens.{elements, elementsFrom}
 use Rattle.values.specs.declared.held.Held.{Held}
-use Rattle.values.specs.declared.form.Shape.{Shape}
-use Rattle.values.specs.declared.form.Shape.the-variants.{Broken, Leaf, Set, Tuple}
-use Rattle.values.proofs.Elements.{elements-words}
+use Rattle.values.specs.declared.shapes.Shape.{Shape}
+use Rattle.values.specs.declared.shapes.Shape.the-variants.{Broken, Leaf, Set, Tuple}
+use Rattle.forms.proofs.Elements.{elements-words}
 use Rattle.states.specs.Names.{Name}
 use Rattle.states.specs.Decode.{valuesFrom, valueByShape, valueAt, valueOf}
 use Rattle.states.specs.States.{nameAt, sizesIn, isSize, givenNumber, valueNumber, entryFrom, entryValue, valueIn}

@@ -1,9 +1,9 @@
 // The names of a document with the values that a state gives them, and their blocks in the work area.
 use crate::blocks::put_entry;
 use crate::blocks::put_name;
+use forms::givens::given_set;
 use layout::part;
 use states::places::place_of;
-use values::givens::given_set;
 use values::held::Held;
 use values::held::hold;
 use values::held::over;

@@ -3,21 +3,20 @@ use crate::worked::Worked;
 use crate::worked::go;
 use crate::worked::judge;
 use crate::worked::stop;
+use integers::integer;
+use integers::integer::Integer;
 use values::held::Held;
 use values::held::append;
 use values::held::hold;
-use values::integer;
-use values::integer::Integer;
 use values::numbers::Number;
 use values::numbers::integer_value;
 use values::numbers::number_of;
+use values::order::same;
 use values::sets;
 use values::sets::Applied;
 use values::span::span;
-use values::words::from;
-use values::words::part;
-use values::words::same;
-use values::words::word;
+use words::from;
+use words::word;
 ghost use mathlib.Core.Path.{_≡_};
 ghost use mathlib.Core.Bool.{true, false};
 ghost use mathlib.Core.List.{List, [], _∷_, _++_};
@@ -86,7 +85,7 @@ fn number(v: Held) -> Number
 {
     let w = v.words;
     let len = v.len;
-    number_of(part(&w, 0, len))
+    number_of(words::span(&w, 0, len))
 }
 
 pub fn arithmetic(k: usize, q: usize, a: Held, b: Held) -> Worked
@@ -139,7 +138,7 @@ pub fn equal(a: Held, b: Held) -> Worked
     let m = a.len;
     let v = b.words;
     let n = b.len;
-    judge(same(part(&u, 0, m), part(&v, 0, n)))
+    judge(same(words::span(&u, 0, m), words::span(&v, 0, n)))
 }
 
 // Member against a value, which must be a set.
@@ -152,7 +151,7 @@ pub fn among(k: usize, v: Held, s: Held) -> Worked
     let w = s.words;
     let n = s.len;
     if word(&w, 0) == 3 {
-        return judge(sets::is_member(part(&w, 0, n), part(&u, 0, m)));
+        return judge(sets::is_member(words::span(&w, 0, n), words::span(&u, 0, m)));
     }
     stop(51, k)
 }
@@ -166,7 +165,7 @@ pub fn added(k: usize, s: Held, v: Held) -> Worked
     let m = s.len;
     let w = v.words;
     let n = v.len;
-    let t = sets::insert(part(&u, 0, m), part(&w, 0, n));
+    let t = sets::insert(words::span(&u, 0, m), words::span(&w, 0, n));
     if 64 < t.len {
         return stop(55, k);
     }
@@ -182,9 +181,9 @@ pub fn applied(k: usize, f: Held, a: Held) -> Worked
     let m = f.len;
     let w = a.words;
     let n = a.len;
-    let p = sets::apply(part(&u, 0, m), part(&w, 0, n));
+    let p = sets::apply(words::span(&u, 0, m), words::span(&w, 0, n));
     match p {
-        Applied::Found { at, len } => go(hold(part(part(&u, 0, m), at, len)), false),
+        Applied::Found { at, len } => go(hold(words::span(words::span(&u, 0, m), at, len)), false),
         Applied::Misfit => stop(51, k),
         Applied::Undefined => stop(52, k),
     }
@@ -217,7 +216,7 @@ pub fn member_at(v: Held, at: usize, len: usize) -> Held
     ensures { λ r. ⌜ r ≡ words (take len (drop at (v .words))) ⌝ }
 {
     let w = v.words;
-    hold(part(&w, at, len))
+    hold(words::span(&w, at, len))
 }
 
 // The value of a Number, at most 2,147,483,647.
@@ -249,7 +248,7 @@ pub fn joined(s: Held, v: Held) -> Held
 {
     let w = v.words;
     let n = v.len;
-    append(s, part(&w, 0, n))
+    append(s, words::span(&w, 0, n))
 }
 
 // What the left side says of and, or, implies, kinds 25 to 27.

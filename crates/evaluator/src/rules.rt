@@ -32,7 +32,7 @@ use layout::part;
 use values::held::Held;
 use values::held::empty;
 use values::span::span;
-use values::words::from;
+use words::from;
 use words::word;
 ghost use mathlib.Core.Path.{_≡_};
 ghost use mathlib.Core.List.{List};

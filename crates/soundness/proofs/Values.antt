@@ -6,10 +6,10 @@ use native.Mathlib.Omega.{arith}
 use lib.IntN.{ℤ}
 use lib.Dec.{leb}
 use Rattle.values.specs.Value.{Value, Values, nil, cons}
-use Rattle.values.specs.declared.words.Order.{Order}
-use Rattle.values.specs.declared.words.Order.the-variants.{Less, Same, Greater}
-use Rattle.values.specs.declared.integer.Integer.{Integer}
-use Rattle.values.specs.declared.integer.Integer.the-variants.{Whole, Undefined, Outside}
+use Rattle.values.specs.declared.order.Order.{Order}
+use Rattle.values.specs.declared.order.Order.the-variants.{Less, Same, Greater}
+use Rattle.integers.specs.declared.integer.Integer.{Integer}
+use Rattle.integers.specs.declared.integer.Integer.the-variants.{Whole, Undefined, Outside}
 use Rattle.types.specs.Former as Former
 use Rattle.types.specs.Types.{Ty, node, Tys, tnil, tcons}
 use Rattle.fit.specs.HasType.{Has, isInteger, isElement, isSet, isTuple, MembersHave, noMember, aMember, PartsHave, noPart, aPart}

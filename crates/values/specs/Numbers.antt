@@ -4,7 +4,7 @@ use mathlib.Core.Bool.{cond}
 use Prim.Native.Nat.{ℕ}
 use lib.Dec.{eqb}
 use lib.ListN.{getD}
-use Rattle.values.specs.Integer.{signed}
+use Rattle.integers.specs.Integer.{signed}
 use Rattle.values.specs.declared.numbers.Number.{Number}
 use Rattle.values.specs.declared.numbers.Number.the-variants.{Integer, Misfit}
 

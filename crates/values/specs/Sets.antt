@@ -6,8 +6,8 @@ use lib.Dec.{eqb}
 use lib.ListN.{getD, take, drop}
 use Rattle.values.specs.Order.{compare, same}
 use Rattle.values.specs.Span.{span}
-use Rattle.values.specs.declared.words.Order.{Order}
-use Rattle.values.specs.declared.words.Order.the-variants.{Less, Same, Greater}
+use Rattle.values.specs.declared.order.Order.{Order}
+use Rattle.values.specs.declared.order.Order.the-variants.{Less, Same, Greater}
 use Rattle.values.specs.declared.sets.Place.{Place}
 use Rattle.values.specs.declared.sets.Place.the-variants.{At, Already}
 use Rattle.values.specs.declared.sets.Applied.{Applied}

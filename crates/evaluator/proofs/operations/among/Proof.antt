@@ -11,7 +11,7 @@ returns c =
     let t = tag-set 0 y (sym (held-tag _ y hy) ∙ sym (c .before .before .before .before .before .before .before .word .ensures .0) ∙ c .before .before .before .before .before .before .if1 .taken) in
     let l = hy .short in
     among-set _ 0 x y _ (t .0) (t .1) (c .judge .ensures .0)
-    (c .judge .ensures .1 ∙ (rw (c .before .before .before .before .part .ensures ∙ held-whole _ y hy, c .before .before .part2 .ensures ∙ held-whole _ x hx, t .1) at (c .before .is-member .ensures)) ∙ member-value (t .0) x (rw (t .1) at l))
+    (c .judge .ensures .1 ∙ (rw (c .before .before .before .before .span .ensures ∙ held-whole _ y hy, c .before .before .span2 .ensures ∙ held-whole _ x hx, t .1) at (c .before .is-member .ensures)) ∙ member-value (t .0) x (rw (t .1) at l))
 
 returns-2 : tie.Need-returns-2
 returns-2 c = λ x y hx hy. among-other _ 0 x y _ (λ e. c .before .if1 .left (c .before .before .word .ensures .0 ∙ held-tag _ y hy ∙ e)) (c .stop .ensures)

@@ -2,7 +2,7 @@ use mathlib.Core.Path.{subst}
 use mir.Syntax.{w32}
 use mir.Val.{SFits}
 use mir.ValLaws.{toZ-ofZ}
-use Rattle.values.specs.declared.integer.Integer.{Integer}
+use Rattle.integers.specs.declared.integer.Integer.{Integer}
 use Rattle.evaluation.specs.Operations.{keepInteger}
 use Rattle.evaluator.specs.Worked.{Told, Valued}
 use mathlib.Core.Path.{_∙_, sym}

@@ -8,7 +8,7 @@ use Rattle.evaluator.proofs.operations.equal.Tie as tie
 
 returns : tie.Need-returns
 unfolding sameValue
-returns c = λ x y hx hy. fine (c .judge .ensures .0) (record { flag = c .judge .ensures .1 ∙ (rw (c .before .before .before .before .part .ensures ∙ held-whole _ x hx, c .before .before .part2 .ensures ∙ held-whole _ y hy) at (c .before .same .ensures)) })
+returns c = λ x y hx hy. fine (c .judge .ensures .0) (record { flag = c .judge .ensures .1 ∙ (rw (c .before .before .before .before .span .ensures ∙ held-whole _ x hx, c .before .before .span2 .ensures ∙ held-whole _ y hy) at (c .before .same .ensures)) })
 
 pub equal-spec : {M : Type 1} → statement M
 equal-spec =

@@ -8,7 +8,7 @@ use Rattle.evaluator.proofs.operations.joined.Statement.{statement}
 use Rattle.evaluator.proofs.operations.joined.Tie as tie
 
 returns : tie.Need-returns
-returns c = λ ws x e h. c .append .ensures ws e ∙ ap (λ (l : List ℕ). keep (ws ++ l)) (c .before .part .ensures ∙ held-whole _ x h)
+returns c = λ ws x e h. c .append .ensures ws e ∙ ap (λ (l : List ℕ). keep (ws ++ l)) (c .before .span .ensures ∙ held-whole _ x h)
 
 pub joined-spec : {M : Type 1} → statement M
 joined-spec = tie.close (tie.spec (λ c. search needs) (λ c κs. search needs) (λ c κs. search needs) returns)

@@ -5,7 +5,7 @@ use Rattle.evaluator.proofs.operations.member_at.Statement.{statement}
 use Rattle.evaluator.proofs.operations.member_at.Tie as tie
 
 returns : tie.Need-returns
-returns c = c .hold .ensures ∙ ap keep (c .before .part .ensures)
+returns c = c .hold .ensures ∙ ap keep (c .before .span .ensures)
 
 pub member-at-spec : {M : Type 1} → statement M
 member-at-spec = tie.close (tie.spec (λ c. search needs) (λ c κs. search needs) (λ c κs. search needs) returns)

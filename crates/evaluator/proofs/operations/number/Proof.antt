@@ -6,7 +6,7 @@ use Rattle.evaluator.proofs.operations.number.Statement.{statement}
 use Rattle.evaluator.proofs.operations.number.Tie as tie
 
 returns : tie.Need-returns
-returns c = λ x h. c .number-of .ensures ∙ ap numberOf (c .before .part .ensures ∙ held-whole _ x h)
+returns c = λ x h. c .number-of .ensures ∙ ap numberOf (c .before .span .ensures ∙ held-whole _ x h)
 
 pub number-spec : {M : Type 1} → statement M
 number-spec = tie.close (tie.spec (λ c. search needs) (λ c κs. search needs) (λ c κs. search needs) returns)

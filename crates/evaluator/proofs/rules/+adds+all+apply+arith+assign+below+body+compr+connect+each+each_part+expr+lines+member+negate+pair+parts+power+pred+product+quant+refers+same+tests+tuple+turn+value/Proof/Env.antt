@@ -112,7 +112,7 @@ use Rattle.evaluator.proofs.worked.stopped.Reads as stopped-reads
 use Rattle.layout.proofs.part.Reads as part-reads
 use Rattle.values.proofs.held.empty.Reads as empty-reads
 use Rattle.values.proofs.span.span.Reads as span-reads
-use Rattle.values.proofs.words.from.Reads as from-reads
+use Rattle.words.proofs.from.Reads as from-reads
 use Rattle.words.proofs.word.Reads as word-reads
 
 abbrev pub μ-adds : Measures 4 adds-kinds.ps ℕ
