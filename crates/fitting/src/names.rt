@@ -1,7 +1,7 @@
 // The name of an entry of the state, found in the document.
 use layout::part;
-use reader::nodes::kind_at;
-use reader::nodes::operand;
+use node_forms::nodes::kind_at;
+use node_forms::nodes::operand;
 use states::names::line_count;
 use states::names::text_count;
 use words::word;

@@ -1,7 +1,7 @@
 // The names of a readable document, in Document order: how many, and the givens among them with the sizes that a state gives them.
 use layout::part;
-use reader::nodes::kind_at;
-use reader::nodes::operand;
+use node_forms::nodes::kind_at;
+use node_forms::nodes::operand;
 use words::store;
 use words::word;
 ghost use mathlib.Core.Path.{_≡_};

@@ -2,8 +2,8 @@
 use crate::names::line_count;
 use crate::names::text_count;
 use layout::part;
-use reader::nodes::kind_at;
-use reader::nodes::operand;
+use node_forms::nodes::kind_at;
+use node_forms::nodes::operand;
 use words::word;
 ghost use mathlib.Core.Path.{_≡_};
 ghost use mathlib.Core.Bool.{true};
