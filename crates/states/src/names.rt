@@ -44,6 +44,21 @@ pub fn text_count(doc: &[u32], t: usize) -> usize
     n
 }
 
+// The number of names of paragraph p.
+pub fn paragraph_count(doc: &[u32], p: usize) -> usize
+    requires { ⌜ At (now doc) paragraphs p ⌝ }
+    ensures { λ r. ⌜ (r ≡ length (paragraphNames (paragraphAt (now (doc .entry)) p))) × (r ≤ 64) ⌝ }
+{
+    let q = kind_at(doc, p);
+    if q == 2 {
+        return part(doc, p).len() - 1;
+    }
+    if q == 3 {
+        return text_count(doc, operand(doc, p, 1));
+    }
+    0
+}
+
 // The pair of entry k, whose name is the given that word i is.
 fn put_pair(w: &[u32], i: usize, state: &[u32], k: usize, table: &mut [u32])
     requires { ⌜ k < 2 ^ 32 ⌝ }

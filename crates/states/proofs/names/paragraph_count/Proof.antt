@@ -3,10 +3,10 @@ use native.Mathlib.Omega.{arith}
 use lib.ListN.{length}
 use Rattle.states.proofs.NameLaws.{given-words, given-count, axiom-names, other-names}
 use borrow.Author.Needs.{needs}
-use Rattle.states.proofs.places.paragraph_count.Statement.{statement}
-use Rattle.states.proofs.places.paragraph_count.Tie as tie
-use Rattle.states.proofs.places.paragraph_count.Reads as reads
-use Rattle.states.proofs.places.paragraph_count.Lts as lts
+use Rattle.states.proofs.names.paragraph_count.Statement.{statement}
+use Rattle.states.proofs.names.paragraph_count.Tie as tie
+use Rattle.states.proofs.names.paragraph_count.Reads as reads
+use Rattle.states.proofs.names.paragraph_count.Lts as lts
 use Rattle.layout.proofs.part.Reads as part-reads
 use Rattle.node_forms.proofs.nodes.kind_at.Reads as kind-at-reads
 use Rattle.node_forms.proofs.nodes.operand.Reads as operand-reads
