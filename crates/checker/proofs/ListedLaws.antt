@@ -19,7 +19,7 @@ use Rattle.typing.specs.Check.{paragraphsOf}
 use Rattle.typing.specs.Entries.{paragraphNode}
 use Rattle.typing.proofs.Sized.{SizedParagraph, SizedParagraphs}
 use Rattle.typing.proofs.SizedTree.{tree-sized}
-use Rattle.solver.proofs.Growing.{lt-or-ge}
+use Rattle.cells.proofs.Growing.{lt-or-ge}
 use Rattle.checker.specs.Entering.{Listed}
 
 -- What holds of a list of paragraphs holds of the paragraph at each place.

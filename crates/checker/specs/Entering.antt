@@ -16,7 +16,7 @@ use Rattle.typing.specs.Unknowns.{Table}
 use Rattle.typing.specs.Verdicts.{RefusesAt}
 use Rattle.typing.specs.declared.Finding.{Finding}
 use Rattle.typing.specs.declared.Finding.the-variants.{Accepted, Refused}
-use Rattle.solver.specs.Settled.{lower}
+use Rattle.cells.specs.Settled.{lower}
 use Rattle.instances.specs.Clean.{Clean}
 use Rattle.names.specs.Scoped.{Recorded}
 

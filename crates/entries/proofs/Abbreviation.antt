@@ -18,7 +18,7 @@ use Rattle.typing.specs.Items.{Items, skip, _⨾_, small, piece, Meets, Refuses
 use Rattle.typing.specs.Rules.{paragraphItems, exprItems}
 use Rattle.typing.specs.Scopes.{Scope, globals, withParameters}
 use Rattle.typing.specs.Unknowns.{Table, slot}
-use Rattle.solver.specs.Settled.{lower}
+use Rattle.cells.specs.Settled.{lower}
 use Rattle.solver.specs.Sizes.{cap}
 use Rattle.solver.specs.Written.{Wrote}
 use Rattle.solver.proofs.Marking.{cap-cases}

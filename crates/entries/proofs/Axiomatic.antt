@@ -15,7 +15,7 @@ use Rattle.typing.specs.Entries.{extend}
 use Rattle.typing.specs.Items.{skip, _⨾_, Meets}
 use Rattle.typing.specs.Rules.{paragraphItems, textItems}
 use Rattle.typing.specs.Scopes.{globals, textSignature}
-use Rattle.solver.specs.Settled.{lower, heap, Areas}
+use Rattle.cells.specs.Settled.{lower, heap, Areas}
 use Rattle.solver.specs.Written.{Wrote}
 use Rattle.signatures.specs.Rows.{rows}
 use Rattle.signatures.proofs.RowLaws.{rows-length}

@@ -10,7 +10,7 @@ use Rattle.typing.specs.Entries.{addSignature}
 use Rattle.typing.specs.Items.{Items, Meets}
 use Rattle.typing.specs.Signatures.{Signature, noNames, naming, namesOf, termsOf, bindingOf}
 use Rattle.typing.specs.Unknowns.{Table}
-use Rattle.solver.specs.Settled.{heap}
+use Rattle.cells.specs.Settled.{heap}
 use Rattle.signatures.specs.Rows.{identifiersOf}
 use Rattle.signatures.specs.Carried.{Carries}
 use Rattle.signatures.proofs.CarryLaws.{carries-names}

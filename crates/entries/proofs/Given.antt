@@ -13,7 +13,7 @@ use Rattle.typing.specs.Entries.{extend, addGivens}
 use Rattle.typing.specs.Items.{skip, Meets}
 use Rattle.typing.specs.Rules.{paragraphItems}
 use Rattle.typing.specs.Unknowns.{givenSet}
-use Rattle.solver.specs.Settled.{lower}
+use Rattle.cells.specs.Settled.{lower}
 use Rattle.solver.specs.Written.{Wrote}
 use Rattle.dictionary.specs.Waiting.{withEntries, waiting}
 use Rattle.merging.specs.Merging.{NewTold}

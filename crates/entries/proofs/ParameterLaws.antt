@@ -15,7 +15,7 @@ use Rattle.typing.specs.Dictionary.{Dictionary}
 use Rattle.typing.specs.Items.{skip}
 use Rattle.typing.specs.Scopes.{Scope, local, withParameters}
 use Rattle.typing.specs.Unknowns.{powerOf, parameterOf}
-use Rattle.solver.specs.Settled.{heap, Reads}
+use Rattle.cells.specs.Settled.{heap, Reads}
 use Rattle.signatures.specs.Rows.{flat, stack}
 use Rattle.signatures.specs.Carried.{Stacked}
 use Rattle.signatures.specs.Tables.{Pushed}

@@ -14,7 +14,7 @@ use Rattle.typing.specs.Entries.{extend}
 use Rattle.typing.specs.Items.{skip, _⨾_, Meets}
 use Rattle.typing.specs.Rules.{paragraphItems, schemaItems}
 use Rattle.typing.specs.Scopes.{Scope, globals, withParameters, schemaSignature}
-use Rattle.solver.specs.Settled.{lower, heap}
+use Rattle.cells.specs.Settled.{lower, heap}
 use Rattle.solver.specs.Written.{Wrote}
 use Rattle.signatures.specs.Rows.{rows}
 use Rattle.signatures.proofs.RowLaws.{rows-length}

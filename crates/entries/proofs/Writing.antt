@@ -13,7 +13,7 @@ use Rattle.types.specs.Types.{Ty, Tys, node, tnil, tcons, size}
 use Rattle.types.specs.Words.{words, second, partWords}
 use Rattle.types.proofs.Words.{words-few}
 use Rattle.typing.specs.Dictionary.{Entry, nameEntry, schemaEntry, entryWords}
-use Rattle.solver.specs.Settled.{heap, Reads, Reading}
+use Rattle.cells.specs.Settled.{heap, Reads, Reading}
 use Rattle.solver.specs.Written.{Wrote, Copied}
 use Rattle.signatures.specs.Rows.{rows, identifiersOf}
 use Rattle.signatures.proofs.RowLaws.{rows-kept, getD-below, rows-length}

@@ -6,7 +6,7 @@ use Rattle.types.specs.Former.{binding}
 use Rattle.types.specs.Types.{Ty, Tys, node, tnil, tcons, size}
 use Rattle.typing.specs.Dictionary.{Entry, nameEntry, schemaEntry, entryWords}
 use Rattle.typing.specs.Unknowns.{givenSet}
-use Rattle.solver.specs.Settled.{heap, Reads, Areas}
+use Rattle.cells.specs.Settled.{heap, Reads, Areas}
 use Rattle.signatures.specs.Rows.{rows, identifiersOf}
 
 -- The types of the rows: their words stand at the places.

@@ -1,7 +1,7 @@
 // The entries of a paragraph, written into the work area, where they wait for its end: each after its length. specs/Entries.antt.
 pub mod parameters;
 
-use solver::put_type;
+use solver::writing::put_type;
 use words::store;
 use words::word;
 ghost use mathlib.Core.Path.{_≡_};
@@ -12,7 +12,7 @@ ghost use lib.Seq.{sets};
 ghost use Rattle.types.specs.Types.{Ty, Tys};
 ghost use Rattle.types.specs.Words.{partWords};
 ghost use Rattle.typing.specs.Dictionary.{nameEntry};
-ghost use Rattle.solver.specs.Settled.{heap, Reads};
+ghost use Rattle.cells.specs.Settled.{heap, Reads};
 ghost use Rattle.solver.specs.Written.{Wrote};
 ghost use Rattle.signatures.specs.Rows.{rows, identifiersOf};
 ghost use Rattle.dictionary.specs.Waiting.{waiting};

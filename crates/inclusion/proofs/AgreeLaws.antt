@@ -12,7 +12,7 @@ use Rattle.typing.specs.Items.{Items, _⨾_, Meets, Refuses}
 use Rattle.typing.specs.Signatures.{Signature, noNames, naming, termIn}
 use Rattle.typing.specs.Conditions.{sameType, mergeNames}
 use Rattle.syntax.specs.Decode.{pairsFrom}
-use Rattle.solver.specs.Settled.{heap, Reads, Readable}
+use Rattle.cells.specs.Settled.{heap, Reads, Readable}
 use Rattle.signatures.specs.Rows.{rows}
 use Rattle.signatures.specs.Tables.{Finds}
 use Rattle.signatures.specs.Carried.{Carries}

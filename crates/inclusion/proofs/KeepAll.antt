@@ -8,8 +8,8 @@ use native.Mathlib.Omega.{arith}
 use lib.ListN.{getD}
 use Rattle.types.specs.Types.{Ty, size}
 use Rattle.types.specs.Words.{words}
-use Rattle.solver.specs.Settled.{heap, Reads, Readable}
-use Rattle.solver.proofs.Growing.{lt-or-ge}
+use Rattle.cells.specs.Settled.{heap, Reads, Readable}
+use Rattle.cells.proofs.Growing.{lt-or-ge}
 use Rattle.signatures.specs.Rows.{rows, placeIn}
 use Rattle.signatures.specs.Tables.{Finds}
 use Rattle.signatures.proofs.RowLaws.{rows-kept}

@@ -10,7 +10,7 @@ use lib.Seq.{length-sets, getD-set-same, getD-set-other}
 use Rattle.types.specs.Types.{Ty, Tys, size}
 use Rattle.types.specs.Words.{words}
 use Rattle.types.proofs.Words.{words-few}
-use Rattle.solver.specs.Settled.{heap, Reads}
+use Rattle.cells.specs.Settled.{heap, Reads}
 use Rattle.solver.specs.Written.{Wrote}
 use Rattle.signatures.specs.Rows.{rows, placeIn}
 use Rattle.signatures.specs.Tables.{Finds}

@@ -12,8 +12,8 @@ use Rattle.typing.specs.Items.{Items, Meets}
 use Rattle.typing.specs.Signatures.{Signature, noNames, naming, termIn}
 use Rattle.typing.specs.Conditions.{sameType, mergeNames, smallTypes}
 use Rattle.syntax.specs.Decode.{pairsFrom}
-use Rattle.solver.specs.Settled.{heap, Reads}
-use Rattle.solver.proofs.Growing.{lt-or-ge}
+use Rattle.cells.specs.Settled.{heap, Reads}
+use Rattle.cells.proofs.Growing.{lt-or-ge}
 use Rattle.signatures.specs.Rows.{rows}
 use Rattle.signatures.specs.Tables.{Finds}
 use Rattle.signatures.specs.Carried.{Carries}

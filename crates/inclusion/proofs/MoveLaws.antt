@@ -6,9 +6,9 @@ use Prim.Native.Nat.{ℕ, suc, _+_, _-_, _≤_, _<_}
 use native.Mathlib.Omega.{arith}
 use lib.ListN.{length, getD, replicate, length-replicate, getD-replicate}
 use lib.Seq.{sets, length-sets}
-use Rattle.solver.specs.Store.{run}
-use Rattle.solver.proofs.Words.{run-at, run-length}
-use Rattle.solver.proofs.Growing.{lt-or-ge}
+use Rattle.cells.specs.Store.{run}
+use Rattle.cells.proofs.Words.{run-at, run-length}
+use Rattle.cells.proofs.Growing.{lt-or-ge}
 use Rattle.instances.proofs.Moving.{sets-before, sets-after, sets-in}
 use Rattle.inclusion.specs.Keeping.{MoveAsk, Moved}
 

@@ -11,7 +11,7 @@ use borrow.Author.Tests.{ne-eqb, eqb-false, ltb-true, ltb-false}
 use Rattle.syntax.specs.Decode.{pairsFrom}
 use Rattle.types.specs.Formed.{Ascending}
 use Rattle.typing.specs.Signatures.{renamed}
-use Rattle.solver.proofs.Growing.{lt-or-ge}
+use Rattle.cells.proofs.Growing.{lt-or-ge}
 use Rattle.signatures.specs.Rows.{rows, identifiersOf, hasRow, insertRow, mergeRows, renameRows}
 use Rattle.signatures.proofs.RowLaws.{rows-length}
 use Rattle.signatures.proofs.InsertLaws.{rows-more}

@@ -9,10 +9,10 @@ use Rattle.types.specs.Types.{Ty, Tys, node, tnil, tcons}
 use Rattle.types.specs.Formed.{partCountType, FormedType, FormedTypes, Arity}
 use Rattle.types.specs.Words.{second, words, partWords}
 use Rattle.types.proofs.Words.{words-one}
-use Rattle.solver.specs.Settled.{Reads, leadWords, nameWords, partsOf}
+use Rattle.cells.specs.Settled.{Reads, leadWords, nameWords, partsOf}
 use Rattle.solver.specs.Written.{lead}
-use Rattle.solver.specs.Parts.{Names, Rest}
-use Rattle.solver.proofs.Reading.{rest-start, Part, part-next, parts-are, tag-at, second-at, word-in, place-low}
+use Rattle.cells.specs.Parts.{Names, Rest}
+use Rattle.cells.proofs.Reading.{rest-start, Part, part-next, parts-are, tag-at, second-at, word-in, place-low}
 use Rattle.instances.specs.Fill.{fill, fills}
 use Rattle.instances.proofs.FillLaws.{fills-count, fill-node}
 use Rattle.instances.proofs.FillWords.{lead-length}

@@ -14,7 +14,7 @@ use Rattle.typing.specs.Conditions.{smallTypes}
 use Rattle.syntax.specs.Decode.{pairsFrom}
 use Rattle.signatures.specs.Rows.{rows}
 use Rattle.signatures.specs.Carried.{Carries}
-use Rattle.solver.specs.Settled.{heap, Reads}
+use Rattle.cells.specs.Settled.{heap, Reads}
 use Rattle.solver.specs.Sizes.{cap}
 use Rattle.solver.proofs.Marking.{cap-cases}
 use Rattle.pieces.specs.Piece.{Steady, Walked}

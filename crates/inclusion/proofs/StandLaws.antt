@@ -5,7 +5,7 @@ use Prim.Native.Nat.{ℕ, zero, suc, _≤_, _<_}
 use native.Mathlib.Omega.{arith}
 use Rattle.types.specs.Former.{Former, int, given, parameter, power, product, binding}
 use Rattle.types.specs.Types.{Ty, Tys, node, tnil, tcons, size, sizes}
-use Rattle.solver.proofs.Growing.{lt-or-ge}
+use Rattle.cells.proofs.Growing.{lt-or-ge}
 use Rattle.instances.specs.Fill.{nthType, actualType, fillFormer, fill, fills}
 use Rattle.inclusion.specs.Components.{AllStandFor}
 

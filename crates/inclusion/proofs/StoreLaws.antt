@@ -10,9 +10,9 @@ use Rattle.types.specs.Types.{Ty, size}
 use Rattle.types.specs.Formed.{WellFormed}
 use Rattle.types.specs.Words.{words}
 use Rattle.solver.specs.Sizes.{cap}
-use Rattle.solver.specs.Settled.{heap, Reads}
+use Rattle.cells.specs.Settled.{heap, Reads}
 use Rattle.solver.proofs.Marking.{cap-cases}
-use Rattle.solver.proofs.Reading.{heap-length, heap-low}
+use Rattle.cells.proofs.Reading.{heap-length, heap-low}
 use Rattle.instances.proofs.FillSizes.{size-few}
 use Rattle.instances.proofs.Moving.{sets-before, sets-in, reads-at}
 use Rattle.pieces.specs.Stage.{Ghost}

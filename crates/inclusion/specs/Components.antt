@@ -8,7 +8,7 @@ use Rattle.types.specs.Equations.{In}
 use Rattle.types.specs.Types.{Ty, Tys, tnil, tcons, Term, Each, unders, size}
 use Rattle.typing.specs.Unknowns.{Table, slot, row}
 use Rattle.typing.specs.Items.{Items, Meets}
-use Rattle.solver.specs.Settled.{heap, Reads}
+use Rattle.cells.specs.Settled.{heap, Reads}
 use Rattle.pieces.specs.Piece.{Settled}
 use Rattle.instances.specs.Fill.{fill}
 use Rattle.instances.specs.Filled.{Row}

@@ -9,8 +9,8 @@ use Rattle.typing.specs.Unknowns.{row}
 use Rattle.typing.specs.Items.{Items, Meets, Refuses}
 use Rattle.typing.specs.Signatures.{Signature, termIn}
 use Rattle.typing.specs.Conditions.{sameType, mergeNames, smallTypes}
-use Rattle.solver.specs.Calls.{Tells}
-use Rattle.solver.specs.Settled.{heap, Reads, Readable, Areas}
+use Rattle.cells.specs.Calls.{Tells}
+use Rattle.cells.specs.Settled.{heap, Reads, Readable, Areas}
 use Rattle.signatures.specs.Rows.{rows}
 use Rattle.signatures.specs.Carried.{Carries}
 use Rattle.instances.specs.Fill.{fill}

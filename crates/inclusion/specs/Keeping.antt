@@ -8,7 +8,7 @@ use lib.ListN.{length, getD}
 use Rattle.types.specs.Types.{Ty, Tys, size}
 use Rattle.types.specs.Formed.{WellFormed}
 use Rattle.types.specs.Words.{words}
-use Rattle.solver.specs.Settled.{heap, Reads, Readable}
+use Rattle.cells.specs.Settled.{heap, Reads, Readable}
 use Rattle.signatures.specs.Rows.{rows}
 use Rattle.signatures.specs.Tables.{Finds}
 use Rattle.instances.specs.Clean.{Clean}

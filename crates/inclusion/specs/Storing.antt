@@ -11,7 +11,7 @@ use Rattle.typing.specs.Unknowns.{Table}
 use Rattle.typing.specs.Items.{Items, Meets, Refuses}
 use Rattle.typing.specs.Signatures.{Signature}
 use Rattle.typing.specs.Conditions.{mergeNames, mergeDeclared, smallTypes}
-use Rattle.solver.specs.Settled.{heap, Reads}
+use Rattle.cells.specs.Settled.{heap, Reads}
 use Rattle.signatures.specs.Rows.{rows}
 use Rattle.signatures.specs.Carried.{Carries}
 use Rattle.instances.specs.Clean.{Clean}

@@ -1,19 +1,19 @@
 // 36 and 38 of what an Include brings.
+use cells::type_words::lead_words;
+use cells::type_words::name_words;
+use cells::type_words::parts_of;
+use cells::type_words::same_type;
+use cells::type_words::skip;
+use cells::type_words::type_word;
 use instances::actual;
 use instances::filled_size;
 use signatures::tables::find;
-use solver::lead_words;
-use solver::name_words;
-use solver::parts_of;
-use solver::same_type;
-use solver::skip;
-use solver::type_word;
 use words::word;
 ghost use mathlib.Core.Path.{_≡_};
 ghost use Prim.Native.Nat.{ℕ, _+_, _<_, _^_};
 ghost use lib.ListN.{length, getD};
-ghost use Rattle.solver.specs.Calls.{Tells};
-ghost use Rattle.solver.specs.Settled.{heap};
+ghost use Rattle.cells.specs.Calls.{Tells};
+ghost use Rattle.cells.specs.Settled.{heap};
 ghost use Rattle.inclusion.specs.Filling.{Comparing, SameFilled, OneAsk, OneTold, RowsAsk, AgreeAsk, AgreeTold, SmallTold};
 
 // The tag of a parameter.

@@ -11,13 +11,13 @@ use Rattle.types.specs.Equations.{Pairs}
 use Rattle.types.specs.Follows.{unk}
 use Rattle.types.specs.Types.{Ty}
 use Rattle.types.specs.Words.{words}
-use Rattle.solver.specs.Store.{frozen, linkAt, Cell, view, Held, Solved}
-use Rattle.solver.specs.Calls.{Above}
-use Rattle.solver.specs.Settled.{heap, wordAt, Reads, Readable, Pinned, Obeys, Fits}
+use Rattle.cells.specs.Store.{frozen, linkAt, Cell, view, Held, Solved}
+use Rattle.cells.specs.Calls.{Above}
+use Rattle.cells.specs.Settled.{heap, wordAt, Reads, Readable, Pinned, Obeys, Fits}
 use Rattle.solver.specs.Answers.{SolutionOf}
-use Rattle.solver.proofs.Words.{link-same, frozen-length}
-use Rattle.solver.proofs.Reading.{reads-one}
-use Rattle.solver.proofs.Growing.{Agree, cell-agree, view-agree, solved-grow, load-same, lt-or-ge}
+use Rattle.cells.proofs.Words.{link-same, frozen-length}
+use Rattle.cells.proofs.Reading.{reads-one}
+use Rattle.cells.proofs.Growing.{Agree, cell-agree, view-agree, solved-grow, load-same, lt-or-ge}
 use Rattle.instances.specs.Moved.{Below, AllBelow, StillRead, Alike}
 use Rattle.instances.proofs.Moving.{below-reads, moved-alike, moved-reads}
 

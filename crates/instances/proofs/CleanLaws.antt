@@ -8,9 +8,9 @@ use lib.ListN.{length, getD, replicate, length-replicate, getD-replicate}
 use lib.Seq.{sets, length-sets, ext-getD}
 use Rattle.types.specs.Types.{Ty}
 use Rattle.types.specs.Words.{words}
-use Rattle.solver.specs.Settled.{lower, heap, wordAt, Reads}
-use Rattle.solver.proofs.Reading.{word-in, words-some, lower-length, heap-low}
-use Rattle.solver.proofs.Growing.{lt-or-ge}
+use Rattle.cells.specs.Settled.{lower, heap, wordAt, Reads}
+use Rattle.cells.proofs.Reading.{word-in, words-some, lower-length, heap-low}
+use Rattle.cells.proofs.Growing.{lt-or-ge}
 use Rattle.instances.specs.Moved.{Below, AllBelow}
 use Rattle.instances.specs.Clean.{Clean}
 use Rattle.instances.proofs.Apart.{first-word, no-zeros}

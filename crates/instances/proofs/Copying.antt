@@ -5,8 +5,8 @@ use Prim.Native.Nat.{ℕ, suc, _+_, _-_, _≤_, _<_}
 use native.Mathlib.Omega.{arith}
 use lib.ListN.{length, getD, set, drop, replicate}
 use lib.Seq.{sets}
-use Rattle.solver.specs.Store.{run}
-use Rattle.solver.proofs.Words.{run-at, run-length}
+use Rattle.cells.specs.Store.{run}
+use Rattle.cells.proofs.Words.{run-at, run-length}
 use Rattle.solver.proofs.Summing.{copy-step, copy-end}
 
 -- All words stand where those past the j-th are written over out.

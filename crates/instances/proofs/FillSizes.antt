@@ -9,10 +9,10 @@ use Rattle.types.specs.Types.{Ty, Tys, node, tnil, tcons, size, sizes}
 use Rattle.types.specs.Formed.{partCountType}
 use Rattle.types.specs.Words.{words}
 use Rattle.types.proofs.Words.{words-few}
-use Rattle.solver.specs.Settled.{Reads, leadWords, nameWords, partsOf}
+use Rattle.cells.specs.Settled.{Reads, leadWords, nameWords, partsOf}
 use Rattle.solver.specs.Sizes.{cap}
-use Rattle.solver.specs.Parts.{Rest}
-use Rattle.solver.proofs.Reading.{rest-start, part-next, parts-are, tag-at, place-low}
+use Rattle.cells.specs.Parts.{Rest}
+use Rattle.cells.proofs.Reading.{rest-start, part-next, parts-are, tag-at, place-low}
 use Rattle.solver.proofs.Marking.{cap-cases}
 use Rattle.solver.proofs.Summing.{cap-step, cap-small}
 use Rattle.instances.specs.Fill.{fill, fills}

@@ -9,12 +9,12 @@ use Rattle.types.specs.Former.{Former, int, given, parameter, power, product, b
 use Rattle.types.specs.Types.{Ty, Tys, node, tnil, tcons}
 use Rattle.types.specs.Formed.{partCountType}
 use Rattle.types.specs.Words.{second, words, partWords}
-use Rattle.solver.specs.Store.{run}
-use Rattle.solver.specs.Settled.{Reads, leadWords, nameWords, partsOf}
+use Rattle.cells.specs.Store.{run}
+use Rattle.cells.specs.Settled.{Reads, leadWords, nameWords, partsOf}
 use Rattle.solver.specs.Written.{lead, Wrote}
-use Rattle.solver.specs.Parts.{Names, Rest}
-use Rattle.solver.proofs.Reading.{rest-start, Part, part-next, parts-are, tag-at, inside, place-low}
-use Rattle.solver.proofs.Words.{run-cons, run-length}
+use Rattle.cells.specs.Parts.{Names, Rest}
+use Rattle.cells.proofs.Reading.{rest-start, Part, part-next, parts-are, tag-at, inside, place-low}
+use Rattle.cells.proofs.Words.{run-cons, run-length}
 use Rattle.solver.proofs.Writer.{sets-append}
 use Rattle.instances.specs.Fill.{fill, fills}
 use Rattle.instances.proofs.FillLaws.{fills-count, fill-node}

@@ -9,13 +9,13 @@ use lib.Seq.{sets, length-sets, getD-set-same, getD-set-other, getD-take, ext-ge
 use Rattle.types.specs.Types.{Ty}
 use Rattle.types.specs.Formed.{WellFormed}
 use Rattle.types.specs.Words.{words}
-use Rattle.solver.specs.Store.{frozen, linkAt, fieldAt, run}
-use Rattle.solver.specs.Settled.{lower, heap, wordAt, Reads}
+use Rattle.cells.specs.Store.{frozen, linkAt, fieldAt, run}
+use Rattle.cells.specs.Settled.{lower, heap, wordAt, Reads}
 use Rattle.solver.specs.Sizes.{markAt}
 use Rattle.solver.specs.Written.{Wrote}
-use Rattle.solver.proofs.Words.{run-at, run-length, link-same, frozen-length}
-use Rattle.solver.proofs.Reading.{word-in, inside, heap-length, heap-low, heap-high}
-use Rattle.solver.proofs.Growing.{frozen-at, run-frame}
+use Rattle.cells.proofs.Words.{run-at, run-length, link-same, frozen-length}
+use Rattle.cells.proofs.Reading.{word-in, inside, heap-length, heap-low, heap-high}
+use Rattle.cells.proofs.Growing.{frozen-at, run-frame}
 use Rattle.instances.specs.Moved.{Below, Alike}
 
 -- Writing leaves what lies before and after.

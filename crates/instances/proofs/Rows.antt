@@ -9,8 +9,8 @@ use Rattle.types.specs.Former.{Former, int, given, parameter, power, product, b
 use Rattle.types.specs.Types.{Ty, Tys, node, tnil, tcons, size}
 use Rattle.types.specs.Formed.{partCountType, FormedType, FormedTypes, Arity, WellFormed}
 use Rattle.types.specs.Words.{second, words, partWords}
-use Rattle.solver.specs.Settled.{Reads}
-use Rattle.solver.proofs.Reading.{reads-one, tag-at, second-at}
+use Rattle.cells.specs.Settled.{Reads}
+use Rattle.cells.proofs.Reading.{reads-one, tag-at, second-at}
 use Rattle.instances.specs.Fill.{nthType, actualType, fillFormer, fill, fills}
 use Rattle.instances.specs.Filled.{Row, placeOf}
 use Rattle.instances.proofs.FillLaws.{fill-formed}

@@ -5,13 +5,13 @@ use Prim.Native.Nat.{ℕ, _+_, _*_, _-_, _≤_, _<_}
 use native.Mathlib.Omega.{arith}
 use lib.ListN.{length, getD, length-append, List·getD-append}
 use lib.Seq.{sets, length-sets, getD-append-add, ext-getD}
-use Rattle.solver.specs.Store.{frozen, fieldAt, run}
-use Rattle.solver.specs.Calls.{Above}
-use Rattle.solver.specs.Settled.{lower, wordAt}
+use Rattle.cells.specs.Store.{frozen, fieldAt, run}
+use Rattle.cells.specs.Calls.{Above}
+use Rattle.cells.specs.Settled.{lower, wordAt}
 use Rattle.solver.specs.Written.{Wrote}
-use Rattle.solver.proofs.Words.{run-at, run-length}
-use Rattle.solver.proofs.Reading.{lower-length}
-use Rattle.solver.proofs.Growing.{frozen-at}
+use Rattle.cells.proofs.Words.{run-at, run-length}
+use Rattle.cells.proofs.Reading.{lower-length}
+use Rattle.cells.proofs.Growing.{frozen-at}
 use Rattle.solver.proofs.Writer.{sets-append}
 use Rattle.instances.specs.Moved.{AllBelow, StillRead, Alike, saved, restored, Resumed}
 use Rattle.instances.proofs.Moving.{sets-before, sets-in, sets-run, lower-at}

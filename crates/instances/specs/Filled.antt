@@ -5,7 +5,7 @@ use Prim.Native.Nat.{ℕ, zero, suc, _+_, _≤_, _<_, _^_}
 use lib.ListN.{length}
 use Rattle.types.specs.Types.{Ty, Tys, tnil, tcons, size}
 use Rattle.types.specs.Words.{words}
-use Rattle.solver.specs.Settled.{heap, Reads, Areas}
+use Rattle.cells.specs.Settled.{heap, Reads, Areas}
 use Rattle.solver.specs.Sizes.{cap}
 use Rattle.solver.specs.Written.{Wrote}
 use Rattle.instances.specs.Fill.{nthType, actualType, fill}

@@ -8,9 +8,9 @@ use lib.Seq.{sets}
 use Rattle.types.specs.Types.{Ty}
 use Rattle.types.specs.Words.{words}
 use Rattle.types.specs.Equations.{Pairs}
-use Rattle.solver.specs.Store.{frozen, fieldAt, run, Solved}
-use Rattle.solver.specs.Calls.{Above}
-use Rattle.solver.specs.Settled.{heap, wordAt, Reads, Pinned, Obeys}
+use Rattle.cells.specs.Store.{frozen, fieldAt, run, Solved}
+use Rattle.cells.specs.Calls.{Above}
+use Rattle.cells.specs.Settled.{heap, wordAt, Reads, Pinned, Obeys}
 use Rattle.solver.specs.Answers.{SolutionOf}
 
 -- The words of g at p lie below `at`, or in the dictionary.

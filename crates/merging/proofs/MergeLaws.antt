@@ -13,7 +13,7 @@ use Rattle.types.proofs.Terms.{bool-no}
 use Rattle.typing.specs.Items.{Items, skip, _⨾_, Meets, Refuses}
 use Rattle.typing.specs.Signatures.{Signature, noNames, naming, termIn}
 use Rattle.typing.specs.Conditions.{sameType, mergeDeclared, mergeNames}
-use Rattle.solver.specs.Settled.{heap, Reads, Readable, Readings, SameType}
+use Rattle.cells.specs.Settled.{heap, Reads, Readable, Readings, SameType}
 use Rattle.syntax.specs.Decode.{pairsFrom}
 use Rattle.signatures.specs.Rows.{rows}
 use Rattle.signatures.specs.Tables.{Finds}

@@ -10,7 +10,7 @@ use Rattle.typing.specs.Dictionary.{Dictionary}
 use Rattle.typing.specs.Items.{Items, Meets, Refuses}
 use Rattle.typing.specs.Signatures.{Signature, termIn}
 use Rattle.typing.specs.Conditions.{sameType, mergeDeclared, mergeNames, newNames}
-use Rattle.solver.specs.Settled.{heap, Reads, Readable, Areas}
+use Rattle.cells.specs.Settled.{heap, Reads, Readable, Areas}
 use Rattle.signatures.specs.Rows.{rows}
 use Rattle.signatures.specs.Carried.{Carries}
 use Rattle.dictionary.specs.Holds.{Holds}

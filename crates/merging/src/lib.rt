@@ -14,7 +14,7 @@ fn agrees(a: &[u32], d: &[u32], work: &[u32], base: usize, m: usize, id: usize, 
 {
     let r = find(work, base, m, id);
     if r < m {
-        return solver::same_type(a, d, p, word(work, base + 2 * r + 1));
+        return cells::type_words::same_type(a, d, p, word(work, base + 2 * r + 1));
     }
     true
 }

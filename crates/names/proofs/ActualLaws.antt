@@ -12,7 +12,7 @@ use Rattle.types.specs.Types.{Term, cons, nil}
 use Rattle.typing.specs.Conditions.{typeOf}
 use Rattle.typing.specs.Items.{Items, skip, equate, Meets, Agree, Passes}
 use Rattle.typing.specs.Unknowns.{unknownAt, powerOf}
-use Rattle.solver.specs.Settled.{lower}
+use Rattle.cells.specs.Settled.{lower}
 use Rattle.pieces.specs.Piece.{Stops}
 use Rattle.pieces.specs.Stage.{Ghost, Stands, Cell, Room, Uses, Advanced, Comparing, Equated}
 use Rattle.pieces.specs.Building.{Building, Built}

@@ -11,8 +11,8 @@ use Rattle.types.specs.Types.{Ty}
 use Rattle.typing.specs.Conditions.{freshRow, typed, arePowers}
 use Rattle.typing.specs.Items.{Items, _⨾_, Meets, Agree}
 use Rattle.typing.specs.Unknowns.{slot, unknownAt, row}
-use Rattle.solver.specs.Settled.{lower, heap, Reads}
-use Rattle.solver.proofs.Settling.{heap-kept}
+use Rattle.cells.specs.Settled.{lower, heap, Reads}
+use Rattle.cells.proofs.SettlingLaws.{heap-kept}
 use Rattle.pieces.specs.Piece.{Goes, Stops}
 use Rattle.pieces.specs.Stage.{Ghost, Stands, Cell, Room, Unvisited, SlotOf, Advanced}
 use Rattle.pieces.specs.Building.{Introduced}

@@ -14,13 +14,13 @@ use Rattle.types.specs.Types.{Ty, Tys, node, tcons, Each, Eachs, under, unders}
 use Rattle.typing.specs.Unknowns.{Table}
 use Rattle.typing.specs.Items.{_⨾_, Meets}
 use Rattle.typing.specs.Signatures.{Signature, noNames, naming, termsOf, bindingOf}
-use Rattle.solver.specs.Store.{frozen, load, run}
-use Rattle.solver.specs.Calls.{Above, Adding, Added, Making, Made}
+use Rattle.cells.specs.Store.{frozen, load, run}
+use Rattle.cells.specs.Calls.{Above, Adding, Added, Making, Made}
 use Rattle.solver.specs.Growth.{Builds, Putting}
-use Rattle.solver.specs.Settled.{heap, Reads, Readable, Obeys, Entering, Entered}
-use Rattle.solver.proofs.Settling.{heap-kept}
-use Rattle.solver.proofs.Words.{frozen-length, run-cons}
-use Rattle.solver.proofs.Growing.{made-above, made-load}
+use Rattle.cells.specs.Settled.{heap, Reads, Readable, Obeys, Entering, Entered}
+use Rattle.cells.proofs.SettlingLaws.{heap-kept}
+use Rattle.cells.proofs.Words.{frozen-length, run-cons}
+use Rattle.cells.proofs.Growing.{made-above, made-load}
 use Rattle.solver.proofs.Extending.{above-wide, added-above, added-builds, added-here, added-load, added-other, builds-on, builds-refl, former-builds, former-type}
 use Rattle.solver.proofs.Instancing.{put-ask, name-ask}
 use Rattle.signatures.specs.Rows.{rows, identifiersOf}

@@ -9,8 +9,8 @@ use Rattle.typing.specs.Dictionary.{Dictionary}
 use Rattle.typing.specs.Items.{Items}
 use Rattle.typing.specs.Scopes.{Scope}
 use Rattle.typing.specs.Signatures.{Signature}
-use Rattle.solver.specs.Settled.{lower, Reads}
-use Rattle.solver.proofs.Settling.{heap-kept}
+use Rattle.cells.specs.Settled.{lower, Reads}
+use Rattle.cells.proofs.SettlingLaws.{heap-kept}
 use Rattle.signatures.specs.Carried.{Carries}
 use Rattle.signatures.specs.Rows.{stack}
 use Rattle.signatures.proofs.CarryLaws.{carries-other}

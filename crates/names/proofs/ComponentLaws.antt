@@ -11,9 +11,9 @@ use Rattle.types.specs.Instance.{instance, instances, instanceFormer}
 use Rattle.types.specs.Types.{Ty, Tys, node, tnil, tcons, Term, Terms}
 use Rattle.types.specs.Words.{words, second}
 use Rattle.typing.specs.Signatures.{Signature, noNames, naming, componentsOf, withNames}
-use Rattle.solver.specs.Settled.{heap, Reads, nameWords, leadWords}
-use Rattle.solver.specs.Parts.{Rest}
-use Rattle.solver.proofs.Reading.{tag-at, second-at, rest-start, part-next, names-length, heap-length, place-low}
+use Rattle.cells.specs.Settled.{heap, Reads, nameWords, leadWords}
+use Rattle.cells.specs.Parts.{Rest}
+use Rattle.cells.proofs.Reading.{tag-at, second-at, rest-start, part-next, names-length, heap-length, place-low}
 use Rattle.signatures.specs.Rows.{rows, flat}
 use Rattle.signatures.specs.Tables.{Table}
 use Rattle.signatures.specs.Carried.{Carries}

@@ -7,7 +7,7 @@ use Rattle.types.specs.Equations.{In}
 use Rattle.types.specs.Types.{nil, under, Each}
 use Rattle.types.proofs.Instance.{instance-none}
 use Rattle.typing.specs.Unknowns.{slot, row}
-use Rattle.solver.specs.Settled.{Entering, Entered}
+use Rattle.cells.specs.Settled.{Entering, Entered}
 use Rattle.solver.specs.Growth.{unknowns, Instancing, Instanced}
 use Rattle.pieces.proofs.Stages.{room-less}
 use Rattle.names.specs.Enlarged.{Enlarged}

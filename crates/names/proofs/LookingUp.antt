@@ -17,7 +17,7 @@ use Rattle.typing.specs.Conditions.{typed}
 use Rattle.typing.specs.Dictionary.{Dictionary, blank, _▸_, nameEntry, schemaEntry, Named, unnamed, ofLocal, ofGlobal, nameIn}
 use Rattle.typing.specs.Items.{Items, refusal, Refuses}
 use Rattle.typing.specs.Rules.{referenceItems}
-use Rattle.solver.specs.Settled.{lower, heap, Reads, Readable, Entering}
+use Rattle.cells.specs.Settled.{lower, heap, Reads, Readable, Entering}
 use Rattle.dictionary.specs.Holds.{Holds}
 use Rattle.dictionary.specs.Lookup.{parametersAt, typeAt, NameFound, Recorded as Entry}
 use Rattle.dictionary.proofs.LookupLaws.{name-formed}

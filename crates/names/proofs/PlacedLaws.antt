@@ -16,7 +16,7 @@ use Rattle.typing.specs.Scopes.{Scope, nameAt}
 use Rattle.typing.specs.Signatures.{Signature, noNames, naming, namesOf, someStroked}
 use Rattle.typing.specs.Strokes.{decorate, takes}
 use Rattle.typing.specs.Unknowns.{Table}
-use Rattle.solver.proofs.Reading.{place-low, heap-length}
+use Rattle.cells.proofs.Reading.{place-low, heap-length}
 use Rattle.signatures.specs.Rows.{rows as rowsOf, identifiersOf, strokedRows}
 use Rattle.signatures.specs.Carried.{Carries}
 use Rattle.signatures.proofs.ScopeLaws.{stack-kept}

@@ -10,8 +10,8 @@ use Rattle.types.specs.Types.{Ty, Term}
 use Rattle.typing.specs.Conditions.{freshRow, typed}
 use Rattle.typing.specs.Items.{Items, _⨾_}
 use Rattle.typing.specs.Unknowns.{slot, unknownAt, row}
-use Rattle.solver.specs.Settled.{heap, Reads, Entering, Entered}
-use Rattle.solver.proofs.Settling.{heap-kept}
+use Rattle.cells.specs.Settled.{heap, Reads, Entering, Entered}
+use Rattle.cells.proofs.SettlingLaws.{heap-kept}
 use Rattle.pieces.specs.Stage.{Ghost, Stands, Cell, Uses, Unvisited, SlotOf, Advanced}
 use Rattle.pieces.specs.Building.{Introduced}
 use Rattle.pieces.proofs.Walks.{later-on}

@@ -9,9 +9,9 @@ use Rattle.types.specs.Equations.{In, Pairs, pair, end}
 use Rattle.typing.specs.Unknowns.{Table, slot}
 use Rattle.typing.specs.Items.{Items, _⨾_, fresh, Meets, Agree, Passes}
 use Rattle.typing.specs.Conditions.{freshRow}
-use Rattle.solver.specs.Store.{frozen, load, run, Solved}
-use Rattle.solver.specs.Calls.{Making, Made}
-use Rattle.solver.proofs.Growing.{made-above, made-load}
+use Rattle.cells.specs.Store.{frozen, load, run, Solved}
+use Rattle.cells.specs.Calls.{Making, Made}
+use Rattle.cells.proofs.Growing.{made-above, made-load}
 use Rattle.solver.proofs.Extending.{made-grows}
 use Rattle.pieces.specs.Piece.{Later}
 use Rattle.pieces.specs.Stage.{Ghost, Stands, Unvisited, Advanced}

@@ -4,11 +4,11 @@ use mathlib.Core.List.{List}
 use Prim.Native.Nat.{ℕ, suc, _+_}
 use native.Mathlib.Omega.{arith}
 use Rattle.types.specs.Types.{Term}
-use Rattle.solver.specs.Store.{frozen}
-use Rattle.solver.specs.Calls.{Above}
+use Rattle.cells.specs.Store.{frozen}
+use Rattle.cells.specs.Calls.{Above}
 use Rattle.solver.specs.Growth.{Builds}
-use Rattle.solver.specs.Settled.{lower, heap, Reads, Readable, Entering, Entered}
-use Rattle.solver.proofs.Settling.{heap-kept}
+use Rattle.cells.specs.Settled.{lower, heap, Reads, Readable, Entering, Entered}
+use Rattle.cells.proofs.SettlingLaws.{heap-kept}
 use Rattle.pieces.specs.Stage.{Ghost, Stands, Cell, Room, Uses}
 use Rattle.pieces.proofs.Walks.{later-refl, later-on, denotes-later}
 use Rattle.pieces.proofs.Stages.{room-less, plain-making}

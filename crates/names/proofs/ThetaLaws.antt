@@ -13,7 +13,7 @@ use Rattle.typing.specs.Dictionary.{Dictionary, Named, ofGlobal, nameIn}
 use Rattle.typing.specs.Items.{refusal}
 use Rattle.typing.specs.Rules.{thetaName, typeInScope}
 use Rattle.typing.specs.Scopes.{Scope, nameAt}
-use Rattle.solver.specs.Settled.{heap, Reads}
+use Rattle.cells.specs.Settled.{heap, Reads}
 use Rattle.dictionary.specs.Holds.{Holds}
 use Rattle.dictionary.specs.Lookup.{parametersAt, typeAt, NameFound}
 use Rattle.signatures.specs.Tables.{Finds}

@@ -19,7 +19,7 @@ use Rattle.typing.specs.Rules.{thetaNames, thetaItems, thetaSignature}
 use Rattle.typing.specs.Scopes.{Scope, schemaNamed}
 use Rattle.typing.specs.Signatures.{Signature, namesOf, bindingOf, componentsOf, someStroked}
 use Rattle.typing.specs.Unknowns.{slot}
-use Rattle.solver.specs.Settled.{heap, Reads}
+use Rattle.cells.specs.Settled.{heap, Reads}
 use Rattle.dictionary.specs.Holds.{Holds}
 use Rattle.dictionary.specs.Lookup.{parametersAt, typeAt, SchemaFound, Recorded as Entry}
 use Rattle.dictionary.proofs.LookupLaws.{schema-formed}

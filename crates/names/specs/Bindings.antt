@@ -8,10 +8,10 @@ use Rattle.typing.specs.Conditions.{typed}
 use Rattle.typing.specs.Unknowns.{slot, powerOf}
 use Rattle.typing.specs.Signatures.{Signature, bindingOf}
 use Rattle.types.specs.Equations.{Pairs}
-use Rattle.solver.specs.Store.{frozen, load, Solved}
-use Rattle.solver.specs.Calls.{Above}
+use Rattle.cells.specs.Store.{frozen, load, Solved}
+use Rattle.cells.specs.Calls.{Above}
 use Rattle.solver.specs.Growth.{Builds}
-use Rattle.solver.specs.Settled.{lower, heap, Reads, Readable, Obeys}
+use Rattle.cells.specs.Settled.{lower, heap, Reads, Readable, Obeys}
 use Rattle.signatures.specs.Rows.{rows}
 use Rattle.signatures.specs.Carried.{Carries}
 use Rattle.pieces.specs.Stage.{Ghost, Stands, Cell, Room, Uses, Unvisited, SlotOf}

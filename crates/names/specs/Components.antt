@@ -8,7 +8,7 @@ use Rattle.types.specs.Instance.{instance}
 use Rattle.types.specs.Types.{Ty, Tys, node, tnil, tcons, Term, Terms}
 use Rattle.types.specs.Words.{words}
 use Rattle.typing.specs.Signatures.{componentsOf}
-use Rattle.solver.specs.Settled.{heap, Reads, Areas}
+use Rattle.cells.specs.Settled.{heap, Reads, Areas}
 use Rattle.signatures.specs.Rows.{rows}
 use Rattle.signatures.specs.Tables.{Table}
 use Rattle.signatures.specs.Carried.{Carries}

@@ -13,8 +13,8 @@ use Rattle.typing.specs.Items.{Items, skip, _⨾_, equate}
 use Rattle.typing.specs.Rules.{referenceItems}
 use Rattle.typing.specs.Scopes.{Scope, nameAt}
 use Rattle.typing.specs.Unknowns.{slot, unknownAt, row, powerOf}
-use Rattle.solver.specs.Store.{frozen, load, Solved}
-use Rattle.solver.specs.Settled.{lower, heap, Reads}
+use Rattle.cells.specs.Store.{frozen, load, Solved}
+use Rattle.cells.specs.Settled.{lower, heap, Reads}
 use Rattle.pieces.specs.Stage.{Ghost, Stands, Cell, Room, Uses, Unvisited, SlotOf, Advanced, Ruled}
 use Rattle.pieces.specs.Piece.{Stops}
 use Rattle.pieces.specs.Building.{Introduced}

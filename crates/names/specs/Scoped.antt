@@ -11,7 +11,7 @@ use Rattle.typing.specs.Items.{_⨾_, Meets}
 use Rattle.typing.specs.Dictionary.{Dictionary, blank, _▸_, nameEntry, schemaEntry}
 use Rattle.typing.specs.Scopes.{Scope}
 use Rattle.typing.specs.WellFormed.{FormedDictionary}
-use Rattle.solver.specs.Settled.{heap, Reads}
+use Rattle.cells.specs.Settled.{heap, Reads}
 use Rattle.dictionary.specs.Holds.{Holds}
 use Rattle.signatures.specs.Rows.{stack}
 use Rattle.signatures.specs.Carried.{Stacked}

@@ -12,7 +12,7 @@ use Rattle.typing.specs.Conditions.{refuseIf}
 use Rattle.typing.specs.Scopes.{Scope, nameAt, schemaNamed}
 use Rattle.typing.specs.Signatures.{Signature, namesOf, someStroked}
 use Rattle.typing.specs.Strokes.{decorate, takes}
-use Rattle.solver.specs.Settled.{lower}
+use Rattle.cells.specs.Settled.{lower}
 use Rattle.signatures.specs.Rows.{rows as rowsOf, identifiersOf}
 use Rattle.signatures.specs.Carried.{Carries}
 use Rattle.pieces.specs.Piece.{Stops}

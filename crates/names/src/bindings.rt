@@ -1,5 +1,5 @@
 // The binding of a signature, whose rows stand in the work area: a settled cell for each place, then a binding over them.
-use solver::Grown;
+use solver::entering::Grown;
 use words::word;
 ghost use Prim.Native.Nat.{_<_, _^_};
 ghost use Rattle.solver.specs.Growth.{Putting};
@@ -14,7 +14,7 @@ fn settle_places(a: &mut [u32], d: &[u32], w: &[u32], base: usize, m: usize, n: 
 {
     let mut j = 0;
     while j < m {
-        solver::new_settled(a, d, n + j, word(w, base + 2 * j + 1));
+        cells::growth::new_settled(a, d, n + j, word(w, base + 2 * j + 1));
         j += 1;
     }
 }
@@ -24,8 +24,8 @@ fn put_row(a: &mut [u32], n: usize, top: usize, m: usize, j: usize, c: usize, id
     requires { ⌜ (Putting (now a) n top m j c) × (id < 2 ^ 32) ⌝ }
     ensures { λ _. ⌜ RowPut (now (a .entry)) (now (a .exit)) n top m j c id ⌝ }
 {
-    solver::add_word(a, n, top + j, c as u32);
-    solver::add_word(a, n, top + m + j, id as u32);
+    cells::growth::add_word(a, n, top + j, c as u32);
+    cells::growth::add_word(a, n, top + m + j, id as u32);
 }
 
 // The cells first, first + 1, .. as parts in the run at top, with the identifiers of the m rows at base. The cells are n.
@@ -57,7 +57,7 @@ pub fn binding(
     let cell = n + m;
     put_rows(a, w, base, m, n, cell, top);
     let ids = top + m;
-    solver::new_cell(a, cell, BINDING, ids as u32, top as u32, m as u32);
+    cells::growth::new_cell(a, cell, BINDING, ids as u32, top as u32, m as u32);
     Grown {
         cell: cell,
         cells: cell + 1,
@@ -81,7 +81,7 @@ pub fn schema_set(
     let b = binding(a, d, w, base, m, n, top);
     let cell = b.cells;
     let end = b.top;
-    pieces::cells::power(a, cell, end, b.cell);
+    pieces::formers::power(a, cell, end, b.cell);
     Grown {
         cell: cell,
         cells: cell + 1,

@@ -1,7 +1,7 @@
 // The components of a recorded binding as rows of the work area.
+use cells::type_words::skip;
+use cells::type_words::type_word;
 use signatures::tables::put_row;
-use solver::skip;
-use solver::type_word;
 ghost use Rattle.names.specs.Components.{ComponentsAsked, ComponentRows};
 
 // The binding at p: a row for each component, from base on. The number of rows.

@@ -3,10 +3,10 @@ use dictionary::lookup::entry_of_name;
 use dictionary::lookup::parameters_of;
 use dictionary::lookup::type_place;
 use signatures::tables::find;
-use solver::Grown;
+use solver::entering::Grown;
 use words::word;
 ghost use Rattle.names.specs.References.{RowAsked, RowMade, InstanceAsked, InstanceOf, TypedAt, RecordedAt, Generic, Consulted, Global, Referring, Refers, EquatingActuals, ActualsEquated, ApplyingAt, AppliedAt, ConsultedWith, GlobalApplied, ReferringWith, RefersWith};
-ghost use Rattle.solver.specs.Settled.{Entering};
+ghost use Rattle.cells.specs.Settled.{Entering};
 
 const UNKNOWN_NAME: u32 = 31;
 
@@ -32,7 +32,7 @@ fn fresh_row(a: &mut [u32], n: usize, p: usize)
 {
     let mut j = 0;
     while j < p {
-        solver::new_unknown(a, n + j);
+        cells::growth::new_unknown(a, n + j);
         j += 1;
     }
 }
@@ -51,14 +51,14 @@ fn instance(
     ensures { λ r. ⌜ InstanceOf (now (a .entry)) (now (a .exit)) (now (d .entry)) n top p first m (r .cell) (r .cells) (r .top) ⌝ }
 {
     if m == 0 {
-        solver::new_settled(a, d, n, p);
+        cells::growth::new_settled(a, d, n, p);
         return Grown {
             cell: n,
             cells: n + 1,
             top: top,
         };
     }
-    solver::enter(a, d, n, top, p, first, m)
+    solver::entering::enter(a, d, n, top, p, first, m)
 }
 
 // The type at p, settled, as the type of a node.
@@ -66,7 +66,7 @@ fn settled(a: &mut [u32], d: &[u32], n: usize, top: usize, p: usize) -> Grown
     requires { ⌜ Entering (now a) (now d) n p ⌝ }
     ensures { λ r. ⌜ TypedAt (now (a .entry)) (now (a .exit)) (now (d .entry)) n top p (r .cell) (r .cells) (r .top) ⌝ }
 {
-    solver::new_settled(a, d, n, p);
+    cells::growth::new_settled(a, d, n, p);
     Grown {
         cell: n,
         cells: n + 1,
@@ -156,7 +156,7 @@ fn equate_actuals(
             top: top,
         };
     }
-    pieces::cells::power(a, n, top, first);
+    pieces::formers::power(a, n, top, first);
     if pieces::equal(a, d, n + 1, word(parts, i), n) {
         return equate_actuals(a, d, n + 1, top + 1, first + 1, parts, i + 1, m);
     }

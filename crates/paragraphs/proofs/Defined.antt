@@ -16,7 +16,7 @@ use Rattle.syntax.specs.Promise.{At}
 use Rattle.syntax.specs.Tree.{Paragraph, schema, abbreviation}
 use Rattle.syntax.proofs.TreeParagraph.{Defined, paragraph-schema, paragraph-abbreviation}
 use Rattle.types.specs.Types.{Tys}
-use Rattle.solver.specs.Settled.{heap}
+use Rattle.cells.specs.Settled.{heap}
 use Rattle.solver.specs.Written.{Wrote}
 use Rattle.signatures.specs.Rows.{rows}
 use Rattle.merging.specs.Merging.{NewTold}

@@ -16,7 +16,7 @@ use Rattle.syntax.proofs.TreeCounts.{at-most}
 use Rattle.syntax.proofs.TreeParagraph.{paragraph-range, paragraph-given, paragraph-axiomatic, paragraph-constraint}
 use Rattle.syntax.proofs.TreeShape.{One, all-at, _▹_}
 use Rattle.types.specs.Types.{Tys}
-use Rattle.solver.specs.Settled.{heap}
+use Rattle.cells.specs.Settled.{heap}
 use Rattle.solver.specs.Written.{Wrote}
 use Rattle.signatures.specs.Rows.{rows}
 use Rattle.dictionary.specs.Waiting.{waiting}

@@ -9,14 +9,14 @@ use lib.ListN.{length}
 use Rattle.types.proofs.Terms.{bool-no}
 use Rattle.types.specs.Types.{size}
 use Rattle.typing.specs.Items.{piece, Meets, Passes, Refuses}
-use Rattle.solver.specs.Store.{frozen}
+use Rattle.cells.specs.Store.{frozen}
 use Rattle.types.specs.Words.{words}
-use Rattle.solver.specs.Calls.{Above}
+use Rattle.cells.specs.Calls.{Above}
 use Rattle.solver.specs.Sizes.{cap, markAt, Read, Tested, Measuring, Measured}
 use Rattle.solver.specs.Answers.{Finite, Left}
 use Rattle.solver.specs.Written.{Writing, Typed}
 use Rattle.solver.proofs.Accepted.{model, least}
-use Rattle.solver.proofs.Growing.{lt-or-ge}
+use Rattle.cells.proofs.Growing.{lt-or-ge}
 use Rattle.solver.proofs.Marking.{cap-low}
 use Rattle.solver.proofs.Sizing.{high}
 use Rattle.pieces.specs.Piece.{Piece, Solution}

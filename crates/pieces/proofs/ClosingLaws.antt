@@ -9,8 +9,8 @@ use Rattle.types.specs.Equations.{AllP, In, InP, Pairs, pair, end}
 use Rattle.types.specs.Types.{Ty}
 use Rattle.typing.specs.Unknowns.{Table}
 use Rattle.typing.specs.Items.{Items, _⨾_, piece, Meets, Agree, Passes, Refuses}
-use Rattle.solver.specs.Store.{frozen, tagAt, Solved}
-use Rattle.solver.specs.Settled.{Pinned, Fits}
+use Rattle.cells.specs.Store.{frozen, tagAt, Solved}
+use Rattle.cells.specs.Settled.{Pinned, Fits}
 use Rattle.solver.specs.Sizes.{Same, Tested}
 use Rattle.solver.specs.Answers.{SolutionOf, Finite, Left, Differ}
 use Rattle.solver.proofs.Accepted.{same-pinned, same-obeys}

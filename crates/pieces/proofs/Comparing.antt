@@ -4,7 +4,7 @@ use mathlib.Core.Bool.{Bool, true, false}
 use mathlib.Core.List.{List}
 use Prim.Native.Nat.{ℕ, _<_}
 use Rattle.types.proofs.Terms.{bool-no}
-use Rattle.solver.specs.Merging.{Asking, Merged}
+use Rattle.cells.specs.Merging.{Asking, Merged}
 use Rattle.solver.specs.Sizes.{Read, Tested}
 use Rattle.pieces.specs.Piece.{Piece}
 use Rattle.pieces.specs.Stage.{Comparing, Equated}

@@ -10,7 +10,7 @@ use Rattle.types.specs.Equations.{In, Pairs, pair}
 use Rattle.types.specs.Types.{Ty, Term}
 use Rattle.typing.specs.Items.{Items, _⨾_, fresh, select}
 use Rattle.typing.specs.Unknowns.{slot}
-use Rattle.solver.specs.Store.{frozen, load}
+use Rattle.cells.specs.Store.{frozen, load}
 use Rattle.pieces.specs.Piece.{Solution, Stops, Later}
 use Rattle.pieces.specs.Stage.{Ghost, Stands, Room, Cell, Unvisited, SlotOf, Advanced}
 use Rattle.pieces.specs.Building.{Introduced}

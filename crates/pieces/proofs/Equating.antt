@@ -9,10 +9,10 @@ use Rattle.types.specs.Equations.{AllP, In, InP, Pairs, Solves, pair}
 use Rattle.types.specs.Types.{Ty, Tys, tcons, node, Term, Terms, unknown, con, nil, cons, under, unders, Each, Eachs}
 use Rattle.typing.specs.Unknowns.{Table}
 use Rattle.typing.specs.Items.{Items, _⨾_, equate, Meets, Agree, Passes, Refuses}
-use Rattle.solver.specs.Store.{frozen, tagAt, Solved}
-use Rattle.solver.specs.Settled.{Obeys, Fits, Pinned}
-use Rattle.solver.specs.Merging.{Merged, Done}
-use Rattle.solver.specs.Merging as Merging
+use Rattle.cells.specs.Store.{frozen, tagAt, Solved}
+use Rattle.cells.specs.Settled.{Obeys, Fits, Pinned}
+use Rattle.cells.specs.Merging.{Merged, Done}
+use Rattle.cells.specs.Merging as Merging
 use Rattle.solver.specs.Sizes.{Same, Tested}
 use Rattle.solver.specs.Answers.{SolutionOf}
 use Rattle.solver.proofs.Accepted.{same-pinned, same-obeys}

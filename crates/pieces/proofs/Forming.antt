@@ -10,11 +10,11 @@ use Rattle.types.specs.Equations.{In, Pairs}
 use Rattle.types.specs.Finite.{fromList}
 use Rattle.types.specs.Former.{Former, formerOf, int, power, product}
 use Rattle.types.specs.Types.{Ty, node}
-use Rattle.solver.specs.Store.{frozen, run, Solved}
-use Rattle.solver.specs.Calls.{Above, Adding, Added, Making, Made}
-use Rattle.solver.specs.Settled.{Fits}
-use Rattle.solver.proofs.Words.{frozen-length}
-use Rattle.solver.proofs.Growing.{made-above, made-load, run-frame}
+use Rattle.cells.specs.Store.{frozen, run, Solved}
+use Rattle.cells.specs.Calls.{Above, Adding, Added, Making, Made}
+use Rattle.cells.specs.Settled.{Fits}
+use Rattle.cells.proofs.Words.{frozen-length}
+use Rattle.cells.proofs.Growing.{made-above, made-load, run-frame}
 use Rattle.solver.proofs.Extending.{above-wide, added-builds, added-here, added-load, added-other, builds-on, builds-refl, former-builds, former-type}
 use Rattle.pieces.specs.Building.{Building, Laid, Built, Integer}
 use Rattle.pieces.specs.Stage.{Uses}

@@ -10,14 +10,14 @@ use Rattle.types.specs.Equations.{AllP, In, InP, Pairs, Solves, end, pair}
 use Rattle.types.specs.Types.{Ty, ℤ}
 use Rattle.typing.specs.Unknowns.{Table}
 use Rattle.typing.specs.Items.{Items, skip, _⨾_, fresh, Meets, Agree}
-use Rattle.solver.specs.Store.{frozen, tagAt, view, Solved}
-use Rattle.solver.specs.Calls.{Making, Made}
+use Rattle.cells.specs.Store.{frozen, tagAt, view, Solved}
+use Rattle.cells.specs.Calls.{Making, Made}
 use Rattle.solver.specs.Growth.{Grows, Builds, Extension}
-use Rattle.solver.specs.Settled.{heap, Reads, Entering, Entered}
+use Rattle.cells.specs.Settled.{heap, Reads, Entering, Entered}
 use Rattle.solver.proofs.Accepted.{start}
 use Rattle.solver.proofs.Extending.{restrict, extends-solves, made-grows, extend-unknown, entered-grows}
-use Rattle.solver.proofs.Growing.{view-made, lt-or-ge}
-use Rattle.solver.proofs.Heads.{view-unk, view-shape}
+use Rattle.cells.proofs.Growing.{view-made, lt-or-ge}
+use Rattle.cells.proofs.Heads.{view-unk, view-shape}
 use Rattle.pieces.specs.Piece.{Solution, Matches, SameOn, Local, Piece, Accounted, Later}
 use Rattle.pieces.proofs.Updates.{put, put-hit, put-miss}
 use Rattle.pieces.proofs.Walks.{items-earlier}

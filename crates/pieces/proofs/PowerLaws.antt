@@ -10,7 +10,7 @@ use Rattle.types.specs.Former.{power}
 use Rattle.types.specs.Types.{Term, unknown, nil, cons}
 use Rattle.typing.specs.Items.{fresh, equate}
 use Rattle.typing.specs.Unknowns.{slot, powerOf}
-use Rattle.solver.specs.Calls.{Making, Made}
+use Rattle.cells.specs.Calls.{Making, Made}
 use Rattle.solver.proofs.Extending.{made-grows}
 use Rattle.pieces.specs.Piece.{Stops}
 use Rattle.pieces.specs.Stage.{Ghost, Stands, Room, Cell, Comparing, Equated, Uses}

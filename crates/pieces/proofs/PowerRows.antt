@@ -12,7 +12,7 @@ use Rattle.types.specs.Types.{Terms, nil, cons}
 use Rattle.typing.proofs.Slots.{slots-apart}
 use Rattle.typing.specs.Conditions.{typeOf, typesOf, isPower, arePowers}
 use Rattle.typing.specs.Unknowns.{slot, unknownAt, row}
-use Rattle.solver.specs.Store.{run}
+use Rattle.cells.specs.Store.{run}
 use Rattle.pieces.specs.Piece.{Stops}
 use Rattle.pieces.specs.Stage.{Ghost, Stands, Room, Cell, Advanced, Uses}
 use Rattle.pieces.specs.Building.{Cells, Introduced, Working, Powered, powerItems}

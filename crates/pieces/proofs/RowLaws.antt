@@ -12,8 +12,8 @@ use Rattle.types.specs.Types.{Term, Terms, nil, cons}
 use Rattle.typing.specs.Conditions.{typeOf, typesOf, areMembers}
 use Rattle.typing.specs.Items.{Items, equate}
 use Rattle.typing.specs.Unknowns.{unknownAt}
-use Rattle.solver.specs.Store.{run}
-use Rattle.solver.proofs.Words.{run-cons}
+use Rattle.cells.specs.Store.{run}
+use Rattle.cells.proofs.Words.{run-cons}
 use Rattle.pieces.specs.Piece.{Stops}
 use Rattle.pieces.specs.Stage.{Ghost, Stands, Cell, Advanced, Comparing, Equated}
 use Rattle.pieces.specs.Building.{Cells}

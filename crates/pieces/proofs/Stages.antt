@@ -14,10 +14,10 @@ use Rattle.types.specs.Types.{Ty, node, tcons, Term, Terms, unknown, con, nil, 
 use Rattle.typing.specs.Unknowns.{Table, slot}
 use Rattle.typing.specs.Items.{Items, _⨾_, skip, fresh, equate, Meets, Agree, Passes}
 use Rattle.typing.specs.Conditions.{typed}
-use Rattle.solver.specs.Store.{frozen, load, run}
-use Rattle.solver.specs.Calls.{Above, Making, Made}
+use Rattle.cells.specs.Store.{frozen, load, run}
+use Rattle.cells.specs.Calls.{Above, Making, Made}
 use Rattle.solver.specs.Growth.{Builds}
-use Rattle.solver.proofs.Growing.{made-above, made-load}
+use Rattle.cells.proofs.Growing.{made-above, made-load}
 use Rattle.pieces.specs.Piece.{Solution, Matches, Piece, Later, Stops}
 use Rattle.pieces.specs.Stage.{Ghost, Stands, Room, Cell, Advanced, SlotOf, Uses, Ruled, Equated}
 use Rattle.pieces.specs.Building.{Building, Built, Cells, Introduced}

@@ -10,10 +10,10 @@ use Rattle.types.specs.Former.{Former}
 use Rattle.types.specs.Types.{Ty, node, Term, unknown, Terms, nil, cons}
 use Rattle.typing.specs.Items.{Items, _⨾_, fresh, equate}
 use Rattle.typing.specs.Unknowns.{powerOf}
-use Rattle.solver.specs.Store.{frozen, load, run, Solved}
-use Rattle.solver.specs.Calls.{Above}
+use Rattle.cells.specs.Store.{frozen, load, run, Solved}
+use Rattle.cells.specs.Calls.{Above}
 use Rattle.solver.specs.Growth.{Builds}
-use Rattle.solver.specs.Settled.{lower, Fits}
+use Rattle.cells.specs.Settled.{lower, Fits}
 use Rattle.pieces.specs.Piece.{Stops}
 use Rattle.pieces.specs.Stage.{Ghost, Stands, Cell, Advanced, Room, Uses}
 

@@ -9,8 +9,8 @@ use Rattle.types.specs.Types.{Ty, size}
 use Rattle.types.specs.Words.{words}
 use Rattle.typing.specs.Unknowns.{Table}
 use Rattle.typing.specs.Items.{_⨾_, piece, Meets, Passes, Refuses}
-use Rattle.solver.specs.Store.{frozen}
-use Rattle.solver.specs.Settled.{lower}
+use Rattle.cells.specs.Store.{frozen}
+use Rattle.cells.specs.Settled.{lower}
 use Rattle.solver.specs.Sizes.{cap, Model}
 use Rattle.solver.specs.Written.{Resolved, Wrote}
 use Rattle.pieces.specs.Piece.{Solution, Steady, Extends}

@@ -8,8 +8,8 @@ use Rattle.types.specs.Equations.{AllP, In, InP, Pairs, Solves}
 use Rattle.types.specs.Types.{Ty, Term, under}
 use Rattle.typing.specs.Unknowns.{Table}
 use Rattle.typing.specs.Items.{Items, _⨾_, Meets, Agree, Passes, Refuses}
-use Rattle.solver.specs.Store.{frozen, tagAt, Solved}
-use Rattle.solver.specs.Settled.{Pinned, Obeys, Fits}
+use Rattle.cells.specs.Store.{frozen, tagAt, Solved}
+use Rattle.cells.specs.Settled.{Pinned, Obeys, Fits}
 
 -- σ gives the n cells types that fit their formers, solve the equations P₀ between them, and are those that settled cells refer to.
 pub record Solution (s d : List ℕ) (n : ℕ) (P₀ : Pairs ℕ) (σ : ℕ → Ty) : Type 0 where

@@ -9,8 +9,8 @@ use Rattle.types.specs.Equations.{In, Pairs}
 use Rattle.typing.specs.Conditions.{typesOf, arePowers, areMembers}
 use Rattle.typing.specs.Items.{Items, _⨾_}
 use Rattle.typing.specs.Unknowns.{slot, unknownAt, row}
-use Rattle.solver.specs.Store.{frozen}
-use Rattle.solver.specs.Settled.{lower}
+use Rattle.cells.specs.Store.{frozen}
+use Rattle.cells.specs.Settled.{lower}
 use Rattle.pieces.specs.Piece.{Stops}
 use Rattle.pieces.specs.Stage.{Ghost, Stands, Cell, Advanced, Uses}
 use Rattle.pieces.specs.Building.{Cells}

@@ -10,9 +10,9 @@ use Rattle.types.specs.Equations.{In, InP, Pairs, pair}
 use Rattle.types.specs.Types.{Ty, Term, Each}
 use Rattle.typing.specs.Unknowns.{slot}
 use Rattle.typing.specs.Items.{Items, _⨾_, equate}
-use Rattle.solver.specs.Store.{frozen, load}
-use Rattle.solver.specs.Settled.{lower}
-use Rattle.solver.specs.Calls.{Above}
+use Rattle.cells.specs.Store.{frozen, load}
+use Rattle.cells.specs.Settled.{lower}
+use Rattle.cells.specs.Calls.{Above}
 use Rattle.pieces.specs.Piece.{Piece, Denotes, Later, Goes, Stops}
 
 pub record Ghost : Type 0 where

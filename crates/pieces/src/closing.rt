@@ -7,8 +7,8 @@ pub fn close(a: &mut [u32], d: &[u32], n: usize) -> bool
     requires { ⌜ Closing (now a) (now d) n ⌝ }
     ensures { λ r. ⌜ Closed (now (a .entry)) (now (a .exit)) (now (d .entry)) n r ⌝ }
 {
-    solver::finite(a, n);
-    if solver::left_open(a, n) {
+    solver::acyclicity::finite(a, n);
+    if solver::openness::left_open(a, n) {
         return false;
     }
     true
@@ -19,7 +19,7 @@ pub fn settled_size(a: &[u32], d: &[u32], n: usize, c: usize) -> usize
     requires { ⌜ Sizing (now a) (now d) n c ⌝ }
     ensures { λ v. ⌜ SizeIs (now (a .entry)) (now (d .entry)) n c v ⌝ }
 {
-    solver::cell_size(a, d, c)
+    solver::sizes::cell_size(a, d, c)
 }
 
 // The words of the type of cell c, from `at` on in out: where they end.
@@ -27,5 +27,5 @@ pub fn settled_words(a: &[u32], d: &[u32], n: usize, c: usize, out: &mut [u32], 
     requires { ⌜ Wording (now a) (now d) n c at ⌝ }
     ensures { λ e. ⌜ WordsAre (now (a .entry)) (now (d .entry)) (now (out .entry)) (now (out .exit)) n c at e ⌝ }
 {
-    solver::write(a, d, out, at, c)
+    solver::writing::write(a, d, out, at, c)
 }

@@ -1,8 +1,8 @@
 // Closed pieces on the solver's store: the solutions of the store are the typings that meet the items visited so far. specs/Piece.antt has the
 // invariant, specs/Stage.antt what functions ask and promise, proofs/ the laws: one for each thing that a typing rule does.
 
-pub mod cells;
 pub mod closing;
+pub mod formers;
 pub mod members;
 pub mod powers;
 
@@ -13,8 +13,8 @@ pub fn equal(a: &mut [u32], d: &[u32], n: usize, x: usize, y: usize) -> bool
     requires { ⌜ Comparing (now a) (now d) n x y ⌝ }
     ensures { λ r. ⌜ Equated (now (a .entry)) (now (a .exit)) (now (d .entry)) n x y r ⌝ }
 {
-    if solver::merge(a, d, x, y) {
-        return solver::finite(a, n);
+    if cells::unification::merge(a, d, x, y) {
+        return solver::acyclicity::finite(a, n);
     }
     false
 }

@@ -2,7 +2,7 @@
 
 ghost use Prim.Native.Nat.{_+_, _≤_};
 ghost use lib.ListN.{length};
-ghost use Rattle.solver.specs.Store.{run};
+ghost use Rattle.cells.specs.Store.{run};
 ghost use Rattle.pieces.specs.Rows.{Meeting, Members};
 
 // The q cells in the words of `parts` from j on have the type of cell y: false where no typing meets that too.

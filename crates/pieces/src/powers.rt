@@ -1,10 +1,10 @@
 // The equation of a type with the power of a new unknown. The store has n cells, whose runs end at `top`.
 
-use crate::cells;
+use crate::formers;
 ghost use mathlib.Core.List.{[], _∷_};
 ghost use Prim.Native.Nat.{_+_, _*_, _≤_};
 ghost use lib.ListN.{length};
-ghost use Rattle.solver.specs.Store.{run};
+ghost use Rattle.cells.specs.Store.{run};
 ghost use Rattle.pieces.specs.Building.{Powered, Working};
 ghost use Rattle.pieces.specs.Rows.{Powers};
 
@@ -13,8 +13,8 @@ pub fn is_power(a: &mut [u32], d: &[u32], n: usize, top: usize, c: usize) -> boo
     requires { ⌜ Working (now a) (now d) n top 2 (c ∷ []) ⌝ }
     ensures { λ r. ⌜ Powered (now (a .entry)) (now (a .exit)) (now (d .entry)) n top c r ⌝ }
 {
-    solver::new_unknown(a, n);
-    cells::power(a, n + 1, top, n);
+    cells::growth::new_unknown(a, n);
+    formers::power(a, n + 1, top, n);
     crate::equal(a, d, n + 2, c, n + 1)
 }
 

@@ -9,8 +9,8 @@ use Rattle.types.specs.Former.{power, product}
 use Rattle.types.specs.Types.{Term, unknown, nil, cons}
 use Rattle.typing.specs.Items.{Items, _⨾_, fresh, equate}
 use Rattle.typing.specs.Unknowns.{slot, powerOf, pairOf}
-use Rattle.solver.specs.Calls.{Making, Made}
-use Rattle.solver.specs.Settled.{lower}
+use Rattle.cells.specs.Calls.{Making, Made}
+use Rattle.cells.specs.Settled.{lower}
 use Rattle.solver.proofs.Extending.{made-grows}
 use Rattle.pieces.specs.Piece.{Stops}
 use Rattle.pieces.specs.Building.{Building, Built, Cells, Introduced, Working}

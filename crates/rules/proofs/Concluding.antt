@@ -8,8 +8,8 @@ use Rattle.types.specs.Equations.{In}
 use Rattle.types.specs.Types.{Term}
 use Rattle.typing.specs.Conditions.{typed}
 use Rattle.typing.specs.Unknowns.{slot}
-use Rattle.solver.specs.Store.{frozen}
-use Rattle.solver.specs.Calls.{Above}
+use Rattle.cells.specs.Store.{frozen}
+use Rattle.cells.specs.Calls.{Above}
 use Rattle.solver.specs.Growth.{Builds}
 use Rattle.pieces.specs.Stage.{Ghost, Stands, Cell, Unvisited, SlotOf, Uses, Ruled}
 use Rattle.pieces.specs.Building.{Introduced}

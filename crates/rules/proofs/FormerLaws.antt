@@ -9,8 +9,8 @@ use Rattle.types.specs.Former.{int, power, product}
 use Rattle.types.specs.Types.{nil, cons}
 use Rattle.typing.specs.Conditions.{typesOf}
 use Rattle.typing.specs.Unknowns.{integer, powerOf, productOf}
-use Rattle.solver.specs.Store.{run}
-use Rattle.solver.specs.Calls.{Making}
+use Rattle.cells.specs.Store.{run}
+use Rattle.cells.specs.Calls.{Making}
 use Rattle.solver.proofs.Extending.{builds-on}
 use Rattle.pieces.specs.Stage.{Ghost, Stands, Cell}
 use Rattle.pieces.specs.Building.{Building, Built, Integer}

@@ -11,9 +11,9 @@ use Rattle.types.specs.Types.{Term, nil}
 use Rattle.typing.specs.Conditions.{typed}
 use Rattle.typing.specs.Items.{Items, _⨾_, equate}
 use Rattle.typing.specs.Unknowns.{slot, integer}
-use Rattle.solver.specs.Store.{frozen}
-use Rattle.solver.specs.Calls.{Making}
-use Rattle.solver.specs.Settled.{lower}
+use Rattle.cells.specs.Store.{frozen}
+use Rattle.cells.specs.Calls.{Making}
+use Rattle.cells.specs.Settled.{lower}
 use Rattle.pieces.specs.Piece.{Stops}
 use Rattle.pieces.specs.Stage.{Ghost, Ready, Stands, Comparing, Cell, Unvisited, SlotOf, Advanced, Room, Uses, Equated}
 use Rattle.pieces.specs.Building.{Integer, Built, Introduced, Working}

@@ -14,7 +14,7 @@ use Rattle.typing.proofs.Slots.{slots-apart}
 use Rattle.typing.specs.Conditions.{typed, typesOf, arePowers}
 use Rattle.typing.specs.Items.{Items, _⨾_}
 use Rattle.typing.specs.Unknowns.{slot, row, powerOf, productOf}
-use Rattle.solver.specs.Store.{run}
+use Rattle.cells.specs.Store.{run}
 use Rattle.pieces.specs.Stage.{Ghost, Stands, Room, Cell, Unvisited, Advanced, SlotOf, Uses}
 use Rattle.pieces.specs.Building.{Building, Built, Cells, Introduced, Working}
 use Rattle.pieces.specs.Rows.{everySecond, SlotsFrom, PowersOf, Powers}

@@ -7,7 +7,7 @@ use native.Mathlib.Omega.{arith}
 use Rattle.types.specs.Former.{power}
 use Rattle.types.specs.Types.{Term, nil, cons}
 use Rattle.typing.specs.Unknowns.{powerOf}
-use Rattle.solver.specs.Settled.{lower}
+use Rattle.cells.specs.Settled.{lower}
 use Rattle.pieces.specs.Building.{Building, Built, Working}
 use Rattle.pieces.specs.Stage.{Ghost, Stands, Comparing, Cell, Equated, SlotOf}
 use Rattle.pieces.proofs.Stages.{building, one-cell, built-stands, built-old, built-cell, built-before, equal-advanced}

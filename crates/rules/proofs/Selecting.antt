@@ -8,9 +8,9 @@ use native.Mathlib.Omega.{arith}
 use Rattle.types.specs.Component.{componentType}
 use Rattle.types.specs.Types.{Ty, Term}
 use Rattle.typing.specs.Unknowns.{slot}
-use Rattle.solver.specs.Store.{frozen}
-use Rattle.solver.specs.Calls.{Above}
-use Rattle.solver.specs.Settled.{heap, Readable, Entering, Entered}
+use Rattle.cells.specs.Store.{frozen}
+use Rattle.cells.specs.Calls.{Above}
+use Rattle.cells.specs.Settled.{heap, Readable, Entering, Entered}
 use Rattle.solver.specs.Sizes.{Read, Tested}
 use Rattle.solver.specs.Answers.{SolutionOf, Looking, Looked}
 use Rattle.pieces.specs.Piece.{Solution, Piece, Later}

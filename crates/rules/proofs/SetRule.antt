@@ -13,8 +13,8 @@ use Rattle.typing.proofs.Slots.{slots-apart}
 use Rattle.typing.specs.Conditions.{typed, typesOf, areMembers}
 use Rattle.typing.specs.Items.{fresh, _⨾_}
 use Rattle.typing.specs.Unknowns.{slot, unknownAt, powerOf}
-use Rattle.solver.specs.Store.{load, run}
-use Rattle.solver.specs.Calls.{Making, Made}
+use Rattle.cells.specs.Store.{load, run}
+use Rattle.cells.specs.Calls.{Making, Made}
 use Rattle.solver.proofs.Extending.{made-grows}
 use Rattle.pieces.specs.Stage.{Ghost, Stands, Room, Cell, Unvisited, Advanced, SlotOf, Uses}
 use Rattle.pieces.specs.Building.{Building, Built, Introduced}

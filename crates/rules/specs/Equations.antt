@@ -9,7 +9,7 @@ use Rattle.types.specs.Types.{Term}
 use Rattle.typing.specs.Conditions.{typed}
 use Rattle.typing.specs.Items.{Items, _⨾_, fresh, equate, select}
 use Rattle.typing.specs.Unknowns.{slot, unknownAt, integer, powerOf, pairOf}
-use Rattle.solver.specs.Settled.{lower}
+use Rattle.cells.specs.Settled.{lower}
 use Rattle.pieces.specs.Piece.{Stops}
 use Rattle.pieces.specs.Stage.{Ghost, Stands, Cell, Unvisited, SlotOf, Advanced, Ruled, Uses}
 use Rattle.pieces.specs.Building.{Working}

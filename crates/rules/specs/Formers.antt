@@ -8,7 +8,7 @@ use Rattle.types.specs.Types.{Term}
 use Rattle.typing.specs.Conditions.{typed, typesOf, arePowers, areMembers}
 use Rattle.typing.specs.Items.{Items, _⨾_, fresh}
 use Rattle.typing.specs.Unknowns.{slot, unknownAt, row, integer, powerOf, productOf}
-use Rattle.solver.specs.Settled.{lower}
+use Rattle.cells.specs.Settled.{lower}
 use Rattle.pieces.specs.Stage.{Ghost, Stands, Room, Cell, Unvisited, Ruled, Uses}
 use Rattle.pieces.specs.Building.{Cells, powerItems}
 

@@ -17,7 +17,7 @@ pub fn number_rule(a: &mut [u32], n: usize, top: usize) -> Ruling
     requires { ⌜ Building (now a) n top 1 [] ⌝ }
     ensures { λ r. ⌜ ((d : List ℕ) → Listed (now (a .entry)) (now (a .exit)) d n top [] (r .number) (r .cell) (r .cells) (r .top) 1 numberItems) ⌝ }
 {
-    pieces::cells::integer(a, n);
+    pieces::formers::integer(a, n);
     Ruling {
         number: 0,
         cell: n,
@@ -31,8 +31,8 @@ pub fn integers_rule(a: &mut [u32], n: usize, top: usize) -> Ruling
     requires { ⌜ Building (now a) n top 2 [] ⌝ }
     ensures { λ r. ⌜ ((d : List ℕ) → Listed (now (a .entry)) (now (a .exit)) d n top [] (r .number) (r .cell) (r .cells) (r .top) 2 integersItems) ⌝ }
 {
-    pieces::cells::integer(a, n);
-    pieces::cells::power(a, n + 1, top, n);
+    pieces::formers::integer(a, n);
+    pieces::formers::power(a, n + 1, top, n);
     Ruling {
         number: 0,
         cell: n + 1,
@@ -46,7 +46,7 @@ pub fn tuple_rule(a: &mut [u32], n: usize, top: usize, parts: &[u32], m: usize) 
     requires { ⌜ (m ≤ 6) × (m ≤ length (now parts)) × Building (now a) n top 4 (take m (now parts)) ⌝ }
     ensures { λ r. ⌜ ((d : List ℕ) → Listed (now (a .entry)) (now (a .exit)) d n top (take m (now (parts .entry))) (r .number) (r .cell) (r .cells) (r .top) 4 tupleItems) ⌝ }
 {
-    pieces::cells::product(a, n, top, parts, m);
+    pieces::formers::product(a, n, top, parts, m);
     Ruling {
         number: 0,
         cell: n,
@@ -60,7 +60,7 @@ pub fn comprehension_rule(a: &mut [u32], n: usize, top: usize, c: usize) -> Ruli
     requires { ⌜ Building (now a) n top 1 (c ∷ []) ⌝ }
     ensures { λ r. ⌜ ((d : List ℕ) → Derived (now (a .entry)) (now (a .exit)) d n top c (r .number) (r .cell) (r .cells) (r .top) 1 comprehensionItems) ⌝ }
 {
-    pieces::cells::power(a, n, top, c);
+    pieces::formers::power(a, n, top, c);
     Ruling {
         number: 0,
         cell: n,
@@ -75,8 +75,8 @@ pub fn power_rule(a: &mut [u32], d: &[u32], n: usize, top: usize, c: usize) -> R
     ensures { λ r. ⌜ Derived (now (a .entry)) (now (a .exit)) (now (d .entry)) n top c (r .number) (r .cell) (r .cells) (r .top) 4 powerRuleItems ⌝ }
 {
     if pieces::powers::is_power(a, d, n, top, c) {
-        pieces::cells::power(a, n + 2, top + 1, n);
-        pieces::cells::power(a, n + 3, top + 2, n + 2);
+        pieces::formers::power(a, n + 2, top + 1, n);
+        pieces::formers::power(a, n + 3, top + 2, n + 2);
         return Ruling {
             number: 0,
             cell: n + 3,
@@ -97,9 +97,9 @@ pub fn set_rule(a: &mut [u32], d: &[u32], n: usize, top: usize, parts: &[u32], m
     requires { ⌜ (m ≤ length (now parts)) × Operating (now a) (now d) n top 2 (take m (now parts)) ⌝ }
     ensures { λ r. ⌜ Listed (now (a .entry)) (now (a .exit)) (now (d .entry)) n top (take m (now (parts .entry))) (r .number) (r .cell) (r .cells) (r .top) 2 setItems ⌝ }
 {
-    solver::new_unknown(a, n);
+    cells::growth::new_unknown(a, n);
     if pieces::members::are_members(a, d, n + 1, parts, 0, m, n) {
-        pieces::cells::power(a, n + 1, top, n);
+        pieces::formers::power(a, n + 1, top, n);
         return Ruling {
             number: 0,
             cell: n + 1,
@@ -144,8 +144,8 @@ pub fn product_rule(
         every_second(&mut row, n, m);
         let c = n + 2 * m;
         let end = top + m + m;
-        pieces::cells::product(a, c, top + m, &row, m);
-        pieces::cells::power(a, c + 1, end, c);
+        pieces::formers::product(a, c, top + m, &row, m);
+        pieces::formers::power(a, c + 1, end, c);
         return Ruling {
             number: 0,
             cell: c + 1,

@@ -15,7 +15,7 @@ const MISMATCH: u32 = 33;
 // No component of this name: finding 35.
 const NO_COMPONENT: u32 = 35;
 
-// What solver::component adds to the place of type words.
+// What solver::components::component adds to the place of type words.
 const SETTLED: usize = 1025;
 
 // x = y.
@@ -40,7 +40,7 @@ pub fn membership(a: &mut [u32], d: &[u32], n: usize, top: usize, x: usize, y: u
     requires { ⌜ Working (now a) (now d) n top 1 (x ∷ y ∷ []) ⌝ }
     ensures { λ r. ⌜ Related (now (a .entry)) (now (a .exit)) (now (d .entry)) n top x y (r .number) (r .cells) membershipItems ⌝ }
 {
-    pieces::cells::power(a, n, top, x);
+    pieces::formers::power(a, n, top, x);
     if pieces::equal(a, d, n + 1, n, y) {
         return Relation {
             number: 0,
@@ -58,7 +58,7 @@ fn both_integers(a: &mut [u32], d: &[u32], n: usize, x: usize, y: usize) -> bool
     requires { ⌜ Relating (now a) (now d) n x y 1 ⌝ }
     ensures { λ r. ⌜ Both (now (a .entry)) (now (a .exit)) (now (d .entry)) n x y r ⌝ }
 {
-    pieces::cells::integer(a, n);
+    pieces::formers::integer(a, n);
     if pieces::equal(a, d, n + 1, x, n) {
         return pieces::equal(a, d, n + 1, y, n);
     }
@@ -108,9 +108,9 @@ pub fn apply_rule(a: &mut [u32], d: &[u32], n: usize, top: usize, x: usize, y: u
     requires { ⌜ Working (now a) (now d) n top 4 (x ∷ y ∷ []) ⌝ }
     ensures { λ r. ⌜ Combined (now (a .entry)) (now (a .exit)) (now (d .entry)) n top x y (r .number) (r .cell) (r .cells) (r .top) 4 applyItems ⌝ }
 {
-    solver::new_unknown(a, n);
-    pieces::cells::pair(a, n + 1, top, y, n);
-    pieces::cells::power(a, n + 2, top + 2, n + 1);
+    cells::growth::new_unknown(a, n);
+    pieces::formers::pair(a, n + 1, top, y, n);
+    pieces::formers::power(a, n + 2, top + 2, n + 1);
     if pieces::equal(a, d, n + 3, x, n + 2) {
         return Ruling {
             number: 0,
@@ -132,8 +132,8 @@ pub fn select_rule(a: &mut [u32], d: &[u32], n: usize, top: usize, x: usize, id:
     requires { ⌜ Working (now a) (now d) n top 1 (x ∷ []) ⌝ }
     ensures { λ r. ⌜ Derived (now (a .entry)) (now (a .exit)) (now (d .entry)) n top x (r .number) (r .cell) (r .cells) (r .top) 1 (selectItems id) ⌝ }
 {
-    solver::finite(a, n);
-    let v = solver::component(a, d, x, id);
+    solver::acyclicity::finite(a, n);
+    let v = solver::components::component(a, d, x, id);
     if v == 0 {
         return Ruling {
             number: NO_COMPONENT,
@@ -150,7 +150,7 @@ pub fn select_rule(a: &mut [u32], d: &[u32], n: usize, top: usize, x: usize, id:
             top: top,
         };
     }
-    solver::new_settled(a, d, n, v - SETTLED);
+    cells::growth::new_settled(a, d, n, v - SETTLED);
     Ruling {
         number: 0,
         cell: n,

@@ -15,15 +15,15 @@ use Rattle.types.specs.Classes.{rep}
 use Rattle.types.specs.Equations.{Pairs, end}
 use Rattle.types.specs.Types.{Ty, size}
 use Rattle.types.specs.Words.{words}
-use Rattle.solver.specs.Store.{frozen, tagAt, linkAt, view, load, Held, Solved}
-use Rattle.solver.specs.Settled.{heap, wordAt, Reads, Readable, Pinned, Obeys, Fits}
+use Rattle.cells.specs.Store.{frozen, tagAt, linkAt, view, load, Held, Solved}
+use Rattle.cells.specs.Settled.{heap, wordAt, Reads, Readable, Pinned, Obeys, Fits}
 use Rattle.solver.specs.Sizes.{cap, markAt, Sized, Same, Tested, Model, Least, Measured}
 use Rattle.solver.specs.Answers.{SolutionOf, Left}
 use Rattle.solver.specs.Written.{Resolved, Writing}
-use Rattle.solver.proofs.Links.{stop-rep}
-use Rattle.solver.proofs.Marking.{mk-c, sat-all}
-use Rattle.solver.proofs.Settling.{heap-kept}
-use Rattle.solver.proofs.Growing.{lt-or-ge}
+use Rattle.cells.proofs.LinkLaws.{stop-rep}
+use Rattle.cells.proofs.Solutions.{mk-c, sat-all}
+use Rattle.cells.proofs.SettlingLaws.{heap-kept}
+use Rattle.cells.proofs.Growing.{lt-or-ge}
 use Rattle.solver.proofs.Sizing.{high}
 
 -- Any area of 52,224 words is a store with no cells.

@@ -16,16 +16,16 @@ use Rattle.types.specs.Finite.{fromList, typeOfView}
 use Rattle.types.specs.Follows.{View, shape, unk}
 use Rattle.types.specs.Former.{Former, formerOf, int}
 use Rattle.types.specs.Types.{Ty, node, tnil}
-use Rattle.solver.specs.Store.{frozen, tagAt, argAt, firstAt, countAt, fieldAt, partsAt, formerAt, run, view, viewOf, load, Both, Cell, Held, Solved}
-use Rattle.solver.specs.Calls.{put, Making, Made, Above, Adding, Added}
-use Rattle.solver.specs.Settled.{lower, heap, wordAt, Reads, Readable, Fits, Obeys, Pinned, Entering, Entered}
+use Rattle.cells.specs.Store.{frozen, tagAt, argAt, firstAt, countAt, fieldAt, partsAt, formerAt, run, view, viewOf, load, Both, Cell, Held, Solved}
+use Rattle.cells.specs.Calls.{put, Making, Made, Above, Adding, Added}
+use Rattle.cells.specs.Settled.{lower, heap, wordAt, Reads, Readable, Fits, Obeys, Pinned, Entering, Entered}
 use Rattle.solver.specs.Answers.{SolutionOf}
 use Rattle.solver.specs.Growth.{Extension, Grows, Builds}
-use Rattle.solver.proofs.Heads.{view-shape, view-unk}
-use Rattle.solver.proofs.Growing.{lt-or-ge, view-made, frozen-at, load-same, word-other, fields-same}
-use Rattle.solver.proofs.Reading.{reads-one}
-use Rattle.solver.proofs.Entering.{made-low, made-pinned, made-before, made-after}
-use Rattle.solver.proofs.Settling.{heap-kept}
+use Rattle.cells.proofs.Heads.{view-shape, view-unk}
+use Rattle.cells.proofs.Growing.{lt-or-ge, view-made, frozen-at, load-same, word-other, fields-same}
+use Rattle.cells.proofs.Reading.{reads-one}
+use Rattle.cells.proofs.Entering.{made-low, made-pinned, made-before, made-after}
+use Rattle.cells.proofs.SettlingLaws.{heap-kept}
 
 -- Two assignments that are the same below n.
 abbrev pub SameBelow : ℕ → (ℕ → Ty) → (ℕ → Ty) → Type 0

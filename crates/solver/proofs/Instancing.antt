@@ -16,15 +16,15 @@ use Rattle.types.specs.Formed.{partCountType}
 use Rattle.types.specs.Instance.{nth, actual, instanceFormer, instance, instances}
 use Rattle.types.specs.Types.{Ty, Tys, Term, Terms, con, node, tcons, tnil, size, sizes, under, unders, unknown}
 use Rattle.types.specs.Words.{second, words}
-use Rattle.solver.specs.Store.{frozen, load, run, view, Solved}
-use Rattle.solver.specs.Calls.{Above, Adding, Added, Making, Made}
-use Rattle.solver.specs.Parts.{Names, Rest}
-use Rattle.solver.specs.Settled.{lower, heap, leadWords, nameWords, partsOf, Areas, Ends, Fits, Reading, Reads}
+use Rattle.cells.specs.Store.{frozen, load, run, view, Solved}
+use Rattle.cells.specs.Calls.{Above, Adding, Added, Making, Made}
+use Rattle.cells.specs.Parts.{Names, Rest}
+use Rattle.cells.specs.Settled.{lower, heap, leadWords, nameWords, partsOf, Areas, Ends, Fits, Reading, Reads}
 use Rattle.solver.specs.Growth.{argOf, unknowns, Builds, Forming, Formed, Grows, InRow, Instance, Instanced, Instances, InstancedParts, Instancing, InstancingParts, Putting, PutPart, Room}
-use Rattle.solver.proofs.Words.{frozen-length, run-cons}
-use Rattle.solver.proofs.Growing.{made-above, made-load, run-frame}
-use Rattle.solver.proofs.Settling.{heap-kept}
-use Rattle.solver.proofs.Reading.{Part, heap-length, is-binding, lead-1, lead-3, like-yes, name-5, part-next, parts-3, parts-4, parts-are, place-low, rest-start, second-at, tag-at, words-some}
+use Rattle.cells.proofs.Words.{frozen-length, run-cons}
+use Rattle.cells.proofs.Growing.{made-above, made-load, run-frame}
+use Rattle.cells.proofs.SettlingLaws.{heap-kept}
+use Rattle.cells.proofs.Reading.{Part, heap-length, is-binding, lead-1, lead-3, like-yes, name-5, part-next, parts-3, parts-4, parts-are, place-low, rest-start, second-at, tag-at, words-some}
 use Rattle.solver.proofs.Extending.{above-wide, added-above, added-builds, added-here, added-load, added-other, builds-on, builds-refl, fits-old, former-builds, former-type}
 
 -- Room for more is room for less. A type in the dictionary has at most 32 formers (finding 38), so room for 32 is enough.

@@ -15,16 +15,16 @@ use Rattle.types.specs.Finite.{fromList}
 use Rattle.types.specs.Former.{Former, binding, given, identifiers, int, parameter, power, product}
 use Rattle.types.specs.Types.{Ty, Tys, node, tcons, tnil, ℤ}
 use mathlib.Core.Logic.{_⊎_, inl, inr}
-use Rattle.solver.specs.Store.{frozen, linkAt, tagAt, argAt, firstAt, countAt, run, partsAt, formerAt, Held, Solved}
-use Rattle.solver.specs.Calls.{Known, Root}
+use Rattle.cells.specs.Store.{frozen, linkAt, tagAt, argAt, firstAt, countAt, run, partsAt, formerAt, Held, Solved}
+use Rattle.cells.specs.Calls.{Known, Root}
 use Rattle.solver.specs.Sizes.{Solution}
-use Rattle.solver.specs.Settled.{heap, wordAt, Reads, Readable, Pinned, Found, Component}
+use Rattle.cells.specs.Settled.{heap, wordAt, Reads, Readable, Pinned, Found, Component}
 use Rattle.solver.specs.Answers.{Finite, SolutionOf, Without, Looking, LookingRoot, Looked}
-use Rattle.solver.proofs.Links.{rep-below, stop-rep}
-use Rattle.solver.proofs.Words.{run-at, run-length}
-use Rattle.solver.proofs.Heads.{parts-length, head-five, not-five, binding-inj}
+use Rattle.cells.proofs.LinkLaws.{rep-below, stop-rep}
+use Rattle.cells.proofs.Words.{run-at, run-length, getD-in}
+use Rattle.cells.proofs.Heads.{parts-length, head-five, not-five, binding-inj}
 use Rattle.solver.proofs.Marking.{by-rep}
-use Rattle.solver.proofs.Answering.{formed, getD-in}
+use Rattle.solver.proofs.Answering.{formed}
 use Rattle.solver.proofs.Opening.{solution-with, open-type}
 
 abbrev pub plain : {s d : List ℕ} {n : ℕ} {P₀ : Pairs ℕ} → SolutionOf s d n P₀ → Solution (frozen s) n P₀

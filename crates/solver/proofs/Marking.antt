@@ -1,7 +1,7 @@
 -- Marks: sums that stop at 33, sizes, and what a mark changes.
 use mathlib.Core.Path.{_≡_, refl, sym, ap, ap₂, subst, _∙_}
 use mathlib.Core.Bool.{Bool, true, false}
-use mathlib.Core.List.{List, [], _∷_, map}
+use mathlib.Core.List.{List, map}
 use mathlib.Core.Logic.{_⊎_, inl, inr, ⊎-elim}
 use Prim.Native.Nat.{ℕ, zero, suc, _+_, _-_, _≤_, _<_}
 use native.Mathlib.Omega.{arith}
@@ -9,26 +9,26 @@ use native.Mathlib.Nat.{eq-or-lt-of-le, eq-zero-or-pos}
 use lib.Dec.{eqb}
 use lib.ListN.{length, set, length-set}
 use lib.Seq.{getD-set-same, getD-set-other, take-set-le}
-use Rattle.solver.specs.Settled.{lower, wordAt}
+use Rattle.cells.specs.Settled.{lower, wordAt}
 use borrow.Author.Tests.{eqb-true, eqb-false, lt-ltb, le-ltb}
 use Rattle.types.proofs.Classify.{build}
 use Rattle.types.proofs.Finite.{all-of, depth, solution, solution-sat, tree-by, tree-same}
 use Rattle.types.proofs.Rational.{rep-sat}
 use Rattle.types.proofs.Transfer.{follows-holds}
 use Rattle.types.specs.Classes.{Closed, rep}
-use Rattle.types.specs.Equations.{AllP, In, Pairs, Solves, end, pair}
+use Rattle.types.specs.Equations.{AllP, In, Pairs, end}
 use Rattle.types.specs.Finite.{bounded, boundedView, fromList, typeOf, typeOfView}
 use Rattle.types.specs.Follows.{Follows, View, shape, unk}
 use Rattle.types.specs.Former.{Former, int}
 use Rattle.types.specs.Types.{Ty, node, size, sizes, tnil}
-use Rattle.solver.specs.Store.{frozen, tagAt, partsAt, formerAt, view, free, Held, Solved}
+use Rattle.cells.specs.Store.{frozen, tagAt, partsAt, formerAt, view, free, Held, Solved}
 use Rattle.solver.specs.Sizes.{cap, markAt, bare, typeAt, Sized, Marks, Same, Solution}
-use Rattle.solver.specs.Calls.{Known, Root}
-use Rattle.solver.proofs.Links.{rep-below, upto, upto-in, upto-len}
-use Rattle.solver.proofs.Words.{frozen-set, link-same}
-use Rattle.solver.proofs.Heads.{view-unk, view-shape}
-use Rattle.solver.proofs.Linking.{held-same}
-use Rattle.solver.proofs.Growing.{view-made, lt-or-ge}
+use Rattle.cells.proofs.LinkLaws.{rep-below, upto, upto-in, upto-len}
+use Rattle.cells.proofs.Solutions.{mk-c, sat-all}
+use Rattle.cells.proofs.Words.{frozen-set, link-same}
+use Rattle.cells.proofs.Heads.{view-unk, view-shape}
+use Rattle.cells.proofs.Linking.{held-same}
+use Rattle.cells.proofs.Growing.{view-made, lt-or-ge}
 
 pub cap-low : (x : ℕ) → x < 33 → cap x ≡ x
 unfolding cap
@@ -138,21 +138,6 @@ module _ (s : List ℕ) (n : ℕ) (L : Pairs ℕ) (H : Held s n L) where
   unfolding typeAt
   sized-class i j v e z =
       record { finite = sym (by-class n i j e) ∙ z .finite; size = z .size ∙ ap (λ y. cap (size y)) (tree-by r Vw (λ j. node int tnil) n i j e) }
-
--- What finite solutions say.
-gs-inj : (a b : List Ty) → fromList a ≡ fromList b → a ≡ b
-unfolding fromList
-gs-inj [] [] q = refl
-gs-inj [] (y ∷ b) q = let z : _≡_ {A = ℕ} 0 1 = cc in absurd (omega arith)
-gs-inj (x ∷ a) [] q = let z : _≡_ {A = ℕ} 0 1 = cc in absurd (omega arith)
-gs-inj (x ∷ a) (y ∷ b) q = let e : x ≡ y = cc in let t : fromList a ≡ fromList b = cc in ap₂ _∷_ e (gs-inj a b t)
-
-pub mk-c : (h k : Former) (a b : List Ty) → build h a ≡ build k b → a ≡ b
-mk-c h k a b q = let t : fromList a ≡ fromList b = cc in gs-inj a b t
-
-pub sat-all : (σ : ℕ → Ty) (R : ℕ → ℕ → Type 0) → ((a b : ℕ) → R a b → σ a ≡ σ b) → (L : Pairs ℕ) → AllP R L → Solves σ L
-sat-all σ R f end h = tt
-sat-all σ R f (pair a b L) h = (f a b (h .0), sat-all σ R f L (h .1))
 
 module _ (s : List ℕ) (n : ℕ) (P₀ L : Pairs ℕ) (S : Solved s n P₀ L) where
   pub by-rep : (X : Solution (frozen s) n P₀) → (i : ℕ) → X .σ (rep eqb L i) ≡ X .σ i
@@ -269,9 +254,3 @@ module _ (s : List ℕ) (i v : ℕ) (size : length s ≡ 52224) (l : i < 1024) w
           let m = mark-miss j (eqb-false j i t) in
           subst (λ y. Sized y n L j (markAt (set s (40960 + i) v) j)) (sym e)
           (subst (λ y. Sized (frozen s) n L j y) (sym m) (M .right j q (λ y. d (m ∙ y)) (λ y. f (m ∙ y))))
-
-pub known-root : (s : List ℕ) (i r : ℕ) → Known s i → Root s i r → Known s r
-known-root s i r k q = record { n = k .n; L = k .L; held = k .held; made = subst (λ z. z < k .n) (q .is (k .n) (k .L) (k .held) (k .made)) (rep-below (k .n) (k .L) (k .held .inside) i (k .made)) }
-
-pub few-cell : (s : List ℕ) (i : ℕ) → Known s i → i < 1024
-few-cell s i k = let f = k .held .few in let l = k .made in omega arith

@@ -16,17 +16,17 @@ use Rattle.types.specs.Equations.{In, Pairs, Solves}
 use Rattle.types.specs.Finite.{bounded, boundedView, fromList, typeOf}
 use Rattle.types.specs.Follows.{View, shape, unk}
 use Rattle.types.specs.Types.{Ty, Tys, node, ℤ, ℙℤ}
-use Rattle.solver.specs.Store.{frozen, linkAt, linkPart, tagAt, view, Held, Solved}
-use Rattle.solver.specs.Calls.{Root}
+use Rattle.cells.specs.Store.{frozen, linkAt, linkPart, tagAt, view, Held, Solved}
+use Rattle.cells.specs.Calls.{Root}
 use Rattle.solver.specs.Sizes.{Solution, Tested}
 use Rattle.solver.specs.Answers.{Finite, SolutionOf, Differ, Left}
-use Rattle.solver.specs.Settled.{heap, Reads, Readable, wordAt, Pinned, Obeys, Fits}
-use Rattle.solver.proofs.Links.{rep-below, stop-rep}
-use Rattle.solver.proofs.Words.{link-none}
-use Rattle.solver.proofs.Heads.{view-unk, view-shape}
+use Rattle.cells.specs.Settled.{heap, Reads, Readable, wordAt, Pinned, Obeys, Fits}
+use Rattle.cells.proofs.LinkLaws.{rep-below, stop-rep}
+use Rattle.cells.proofs.Words.{link-none}
+use Rattle.cells.proofs.Heads.{view-unk, view-shape}
 use Rattle.solver.proofs.Marking.{kids-below, by-rep, solve-with}
-use Rattle.solver.proofs.Reading.{reads-one, below-next}
-use Rattle.solver.proofs.Growing.{lt-or-ge}
+use Rattle.cells.proofs.Reading.{reads-one, below-next}
+use Rattle.cells.proofs.Growing.{lt-or-ge}
 
 -- The type that cell i refers to, and g where it does not.
 choose : (s d : List ℕ) (n : ℕ) → Pinned s d n → Ty → (i : ℕ) (b c : Bool) → ltb i n ≡ b → ltb (wordAt s i) 1025 ≡ c → Ty

@@ -13,12 +13,12 @@ use Rattle.types.specs.Finite.{fromList, typeOf, typeOfView}
 use Rattle.types.specs.Follows.{View, shape, unk}
 use Rattle.types.specs.Former.{int}
 use Rattle.types.specs.Types.{Ty, node, size, sizes, tnil}
-use Rattle.solver.specs.Store.{frozen, tagAt, firstAt, countAt, run, view}
-use Rattle.solver.specs.Calls.{Root}
-use Rattle.solver.specs.Settled.{wordAt}
+use Rattle.cells.specs.Store.{frozen, tagAt, firstAt, countAt, run, view}
+use Rattle.cells.specs.Calls.{Root}
+use Rattle.cells.specs.Settled.{wordAt}
 use Rattle.solver.specs.Sizes.{cap, markAt, typeAt, Model, UnknownSize, Measuring, Measured}
 use Rattle.solver.specs.Answers.{Looking}
-use Rattle.solver.proofs.Growing.{lt-or-ge}
+use Rattle.cells.proofs.Growing.{lt-or-ge}
 use Rattle.solver.proofs.Marking.{cap-low, cap-high}
 use Rattle.solver.proofs.Summing.{ToAdd, add-start, size-some}
 use Rattle.solver.proofs.Writer.{r-below, m-by, m-type, m-settled, m-readable}

@@ -12,12 +12,12 @@ use Rattle.types.specs.Former.{identifiers, tag}
 use Rattle.types.specs.Types.{Ty, Tys, node, tnil, tcons, size, sizes}
 use Rattle.types.specs.Formed.{partCountType}
 use Rattle.types.specs.Words.{words}
-use Rattle.solver.specs.Store.{run}
-use Rattle.solver.specs.Settled.{Reads, leadWords, nameWords, partsOf}
+use Rattle.cells.specs.Store.{run}
+use Rattle.cells.specs.Settled.{Reads, leadWords, nameWords, partsOf}
 use Rattle.solver.specs.Sizes.{cap}
-use Rattle.solver.proofs.Words.{run-cons}
-use Rattle.solver.specs.Parts.{Rest}
-use Rattle.solver.proofs.Reading.{rest-start, part-next, parts-are, tag-at, place-low}
+use Rattle.cells.proofs.Words.{run-cons}
+use Rattle.cells.specs.Parts.{Rest}
+use Rattle.cells.proofs.Reading.{rest-start, part-next, parts-are, tag-at, place-low}
 use Rattle.solver.proofs.Marking.{cap-cases, cap-add, cap-part}
 
 -- n parts, j passed; sum with the sizes of the others is m, up to 33.

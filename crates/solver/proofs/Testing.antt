@@ -10,11 +10,11 @@ use lib.ListN.{length, set}
 use Rattle.types.proofs.Terms.{bool-no}
 use Rattle.types.specs.Equations.{Pairs}
 use Rattle.types.specs.Types.{size, sizes}
-use Rattle.solver.specs.Store.{frozen, partsAt, Held, Solved}
-use Rattle.solver.specs.Calls.{Known}
+use Rattle.cells.specs.Store.{frozen, partsAt, Held, Solved}
+use Rattle.cells.specs.Calls.{Known}
 use Rattle.solver.specs.Sizes.{markAt, typeAt, Sized, Marks, Same, Read, Falls, Visited, Before, Calm, Visits, Cleared, Solution, TestedFrom, Tested}
-use Rattle.solver.proofs.Heads.{view-shape}
-use Rattle.solver.proofs.Growing.{lt-or-ge}
+use Rattle.cells.proofs.Heads.{view-shape}
+use Rattle.cells.proofs.Growing.{lt-or-ge}
 use Rattle.solver.proofs.Marking.{cap-le, cap-pos, by-rep, solve, same-refl, same-on, same-held, same-solved, mark-same, mark-hit, mark-miss}
 use Rattle.solver.proofs.Summing.{part-size, size-some}
 

@@ -16,11 +16,11 @@ use Rattle.types.specs.Finite.{fromList}
 use Rattle.types.specs.Follows.{Clash, View, shape, unk}
 use Rattle.types.specs.Former.{Former, int}
 use Rattle.types.specs.Types.{Term, Terms, Ty, con, cons, nil, node, under, unders, unknown}
-use Rattle.solver.specs.Store.{frozen, tagAt, formerAt, partsAt, view, Cell, Both, Held, Solved}
+use Rattle.cells.specs.Store.{frozen, tagAt, formerAt, partsAt, view, Cell, Both, Held, Solved}
 use Rattle.solver.specs.Sizes.{Solution}
 use Rattle.solver.specs.Types.{tyl, tyOf, ty}
-use Rattle.solver.proofs.Heads.{view-unk, view-shape}
-use Rattle.solver.proofs.Growing.{view-made}
+use Rattle.cells.proofs.Heads.{view-unk, view-shape}
+use Rattle.cells.proofs.Growing.{view-made}
 use Rattle.solver.proofs.Marking.{kids-below}
 
 tyl-list : (ts : List Term) → toList (tyl ts) ≡ ts

@@ -14,12 +14,11 @@ use Rattle.types.specs.Classes.{rep}
 use Rattle.types.specs.Equations.{In, Pairs}
 use Rattle.types.specs.Finite.{bounded, fromList}
 use Rattle.types.specs.Types.{size, sizes}
-use Rattle.solver.specs.Store.{frozen, linkAt, tagAt, firstAt, countAt, run, partsAt, view, Held}
-use Rattle.solver.specs.Calls.{Known}
+use Rattle.cells.specs.Store.{frozen, linkAt, tagAt, firstAt, countAt, run, partsAt, view, Held}
+use Rattle.cells.specs.Calls.{Known}
 use Rattle.solver.specs.Sizes.{cap, markAt, bare, arityOf, arityAt, typeAt, Sized, Marks, Same, Falls, Onward, Reached, Visited}
-use Rattle.solver.proofs.Links.{far, far-le, far-less, hop-below, hop-rep, stop-rep}
-use Rattle.solver.proofs.Words.{run-at, run-length}
-use Rattle.solver.proofs.Answering.{getD-in, in-getD}
+use Rattle.cells.proofs.LinkLaws.{far, far-le, far-less, hop-below, hop-rep, stop-rep}
+use Rattle.cells.proofs.Words.{run-at, run-length, getD-in, in-getD}
 use Rattle.solver.proofs.Marking.{cap-le, cap-pos, cap-low, sized-unk, sized-shape, sized-class, same-refl, same-on, same-held, mark-same, mark-hit, mark-miss, bare-mark, bare-less, marks-set}
 use Rattle.solver.proofs.Summing.{ToAdd, add-start, add-step, add-end}
 

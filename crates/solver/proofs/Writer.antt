@@ -18,19 +18,18 @@ use Rattle.types.specs.Types.{Ty, node, size, tnil}
 use Rattle.types.specs.Former.{formerOf, tag}
 use Rattle.types.specs.Words.{second, words, partWords}
 use Rattle.types.specs.Formed.{partCountType}
-use Rattle.solver.specs.Store.{frozen, tagAt, argAt, firstAt, countAt, run, partsAt, formerAt, view, Cell}
+use Rattle.cells.specs.Store.{frozen, tagAt, argAt, firstAt, countAt, run, partsAt, formerAt, view, Cell}
 use Rattle.solver.specs.Sizes.{markAt, typeAt, Marked, Model}
 use Rattle.solver.specs.Written.{lead, leadOf, leadAt, nameAt, rest, Resolved, Wrote}
-use Rattle.solver.specs.Settled.{heap, wordAt, Reads, Readable}
+use Rattle.cells.specs.Settled.{heap, wordAt, Reads, Readable}
 use Rattle.types.proofs.Rational.{rep-sat}
-use Rattle.solver.proofs.Links.{rep-below}
-use Rattle.solver.proofs.Words.{run-cons, run-length, run-at}
-use Rattle.solver.proofs.Heads.{view-shape}
+use Rattle.cells.proofs.LinkLaws.{rep-below}
+use Rattle.cells.proofs.Words.{run-cons, run-length, run-at, getD-in}
+use Rattle.cells.proofs.Heads.{view-shape}
 use Rattle.solver.proofs.Marking.{cap-low, cap-high}
-use Rattle.solver.proofs.Growing.{lt-or-ge}
-use Rattle.solver.proofs.Answering.{getD-in}
+use Rattle.cells.proofs.Growing.{lt-or-ge}
 use Rattle.solver.proofs.Summing.{part-size}
-use Rattle.solver.specs.Calls.{Root}
+use Rattle.cells.specs.Calls.{Root}
 
 pub sets-append : (l : List ℕ) (i : ℕ) (a b : List ℕ) → sets l i (a ++ b) ≡ sets (sets l i a) (i + length a) b
 sets-append l i [] b = ap (λ k. sets l k b) (let e : i ≡ i + 0 = omega arith in e)

@@ -1,21 +1,19 @@
 -- Findings 34 and 35.
 use mathlib.Core.Path.{_≡_}
 use mathlib.Core.Bool.{Bool, true, false}
-use mathlib.Core.List.{List, [], _∷_, map}
+use mathlib.Core.List.{List}
 use mathlib.Core.Option.{some, none}
-use Prim.Native.Nat.{ℕ, zero, suc, _+_, _-_, _≤_, _<_, _^_}
+use Prim.Native.Nat.{ℕ, suc, _-_, _≤_, _<_, _^_}
 use lib.Dec.{eqb}
 use lib.ListN.{length, getD}
 use Rattle.types.specs.Classes.{rep}
 use Rattle.types.specs.Component.{componentType}
 use Rattle.types.specs.Equations.{In, Pairs, Solves}
-use Rattle.types.specs.Finite.{bounded, fromList}
-use Rattle.types.specs.Follows.{View, shape, unk}
-use Rattle.types.specs.Former.{Former, binding, power}
-use Rattle.types.specs.Types.{Ty, Tys, node, tcons, tnil}
-use Rattle.solver.specs.Store.{frozen, linkAt, tagAt, view, Held, Solved}
+use Rattle.types.specs.Finite.{bounded}
+use Rattle.types.specs.Types.{Ty}
+use Rattle.cells.specs.Store.{frozen, linkAt, tagAt, view, Held, Solved}
 use Rattle.solver.specs.Written.{Resolved}
-use Rattle.solver.specs.Settled.{heap, wordAt, Reads, Readable, Pinned, Obeys, Fits, Found}
+use Rattle.cells.specs.Settled.{heap, Readable, Pinned, Obeys, Fits, Found}
 
 -- All cells have finite types.
 abbrev pub Finite : List ℕ → ℕ → Pairs ℕ → Type 0
@@ -77,21 +75,3 @@ pub record Looked (s d : List ℕ) (i id v : ℕ) : Type 0 where
   pub settled : 1025 ≤ v → (n : ℕ) (P₀ L : Pairs ℕ) → Solved s n P₀ L → Pinned s d n → i < n → (X : SolutionOf s d n P₀) → Found (heap s d) (v - 1025) (componentType id (X .σ i))
   pub place : 1025 ≤ v → (n : ℕ) (L : Pairs ℕ) → Held s n L → Pinned s d n → i < n → Readable (heap s d) (v - 1025)
   pub absent : v ≡ 0 → (n : ℕ) (P₀ L : Pairs ℕ) → Solved s n P₀ L → Pinned s d n → i < n → Finite (frozen s) n L → Without s d n P₀ i id
-
--- A power of g.
-abbrev pub powerOf : Ty → Ty
-powerOf g = node power (tcons g tnil)
-
--- A solution where cell i is no power.
-pub record NoPower (s d : List ℕ) (n : ℕ) (P₀ : Pairs ℕ) (i : ℕ) : Type 0 where
-  pub solution : SolutionOf s d n P₀
-  pub lacks : (g : Ty) → solution .σ i ≡ powerOf g → ⊥
-
--- The element type of cell i. c + 1, below 1025: in every solution cell i is the power of the type of cell c. 1025 + p: in every solution it is the power
--- of the type whose words stand at p. 0: in some solution it is no power.
-pub record Element (s d : List ℕ) (i v : ℕ) : Type 0 where
-  pub found : (c : ℕ) → v ≡ suc c → v < 1025 → (n : ℕ) (P₀ L : Pairs ℕ) → Solved s n P₀ L → i < n → (X : SolutionOf s d n P₀) → X .σ i ≡ powerOf (X .σ c)
-  pub below : (c : ℕ) → v ≡ suc c → v < 1025 → (n : ℕ) (L : Pairs ℕ) → Held s n L → i < n → c < n
-  pub settled : 1025 ≤ v → (n : ℕ) (P₀ L : Pairs ℕ) → Solved s n P₀ L → Pinned s d n → i < n → (X : SolutionOf s d n P₀) → (g : Ty) → Reads (heap s d) (v - 1025) g → X .σ i ≡ powerOf g
-  pub place : 1025 ≤ v → (n : ℕ) (L : Pairs ℕ) → Held s n L → Pinned s d n → i < n → Readable (heap s d) (v - 1025)
-  pub absent : v ≡ 0 → (n : ℕ) (P₀ L : Pairs ℕ) → Solved s n P₀ L → Pinned s d n → i < n → Finite (frozen s) n L → NoPower s d n P₀ i

@@ -9,10 +9,10 @@ use Rattle.types.specs.Follows.{unk}
 use Rattle.types.specs.Formed.{partCountType}
 use Rattle.types.specs.Instance.{instance, instances}
 use Rattle.types.specs.Types.{Ty, Tys, Terms, cons, nil, size, sizes, under, unders, unknown}
-use Rattle.solver.specs.Store.{frozen, load, run, view, Solved}
-use Rattle.solver.specs.Calls.{Above, Making, Made}
-use Rattle.solver.specs.Parts.{Rest}
-use Rattle.solver.specs.Settled.{lower, heap, Fits, Obeys, Pinned, Reads}
+use Rattle.cells.specs.Store.{frozen, load, run, view, Solved}
+use Rattle.cells.specs.Calls.{Above, Making, Made}
+use Rattle.cells.specs.Parts.{Rest}
+use Rattle.cells.specs.Settled.{lower, heap, Fits, Obeys, Pinned, Reads}
 
 -- σ goes on in the store s of n′ cells: the same below n.
 pub record Extension (s d : List ℕ) (n n′ : ℕ) (σ : ℕ → Ty) : Type 0 where

@@ -11,8 +11,8 @@ use Rattle.types.specs.Finite.{bounded, fromList, typeOf}
 use Rattle.types.specs.Follows.{shape}
 use Rattle.types.specs.Former.{Former, int}
 use Rattle.types.specs.Types.{Ty, node, size, tnil}
-use Rattle.solver.specs.Store.{frozen, linkAt, tagAt, countAt, partsAt, view, free, Held, Solved}
-use Rattle.solver.specs.Settled.{lower, heap, wordAt, Reads, Pinned, Obeys, Fits}
+use Rattle.cells.specs.Store.{frozen, linkAt, tagAt, countAt, partsAt, view, free, Held, Solved}
+use Rattle.cells.specs.Settled.{lower, heap, wordAt, Reads, Pinned, Obeys, Fits}
 
 -- Sizes stop at 33.
 unfoldable pub cap : ℕ → ℕ

@@ -3,7 +3,7 @@ use mathlib.Core.List.{List, [], _∷_, map}
 use Prim.Native.Nat.{ℕ, zero, suc}
 use Rattle.types.specs.Former.{Former, int}
 use Rattle.types.specs.Types.{Term, Terms, con, cons, nil, unknown}
-use Rattle.solver.specs.Store.{tagAt, formerAt, partsAt}
+use Rattle.cells.specs.Store.{tagAt, formerAt, partsAt}
 
 unfoldable pub tyl : List Term → Terms
 tyl [] = nil

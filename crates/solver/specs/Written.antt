@@ -11,8 +11,8 @@ use Rattle.types.specs.Equations.{Pairs}
 use Rattle.types.specs.Words.{second, words}
 use Rattle.types.specs.Former.{tag, Former, binding, given, identifiers, int, parameter, power, product}
 use Rattle.types.specs.Types.{Ty, Tys, node, tcons, tnil}
-use Rattle.solver.specs.Store.{frozen, tagAt, argAt, firstAt, countAt, Held}
-use Rattle.solver.specs.Settled.{heap, wordAt, Reads}
+use Rattle.cells.specs.Store.{frozen, tagAt, argAt, firstAt, countAt, Held}
+use Rattle.cells.specs.Settled.{heap, wordAt, Reads}
 use Rattle.solver.specs.Sizes.{markAt, Model}
 
 -- The first words of a type whose former has n parts.

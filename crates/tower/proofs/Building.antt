@@ -8,14 +8,13 @@ use native.Mathlib.Omega.{arith}
 use native.Mathlib.Nat.{eq-or-lt-of-le, suc-mul, zero-mul}
 use lib.ListN.{length, getD}
 use Rattle.types.specs.Equations.{end}
-use Rattle.solver.specs.Store.{frozen, load, run}
-use Rattle.solver.specs.Calls.{Above, Adding, Added, Making, Made}
-use Rattle.solver.specs.Merging.{Asking, Merged}
+use Rattle.cells.specs.Store.{frozen, load, run}
+use Rattle.cells.specs.Calls.{Above, Adding, Added, Making, Made}
+use Rattle.cells.specs.Merging.{Asking, Merged}
 use Rattle.solver.specs.Sizes.{markAt, Sized, Tested, Measuring}
 use Rattle.solver.proofs.Accepted.{start, same-pinned}
-use Rattle.solver.proofs.Answering.{in-getD}
-use Rattle.solver.proofs.Words.{run-at, run-length, frozen-length}
-use Rattle.solver.proofs.Growing.{made-load, made-above}
+use Rattle.cells.proofs.Words.{run-at, run-length, frozen-length, in-getD}
+use Rattle.cells.proofs.Growing.{made-load, made-above}
 use Rattle.solver.proofs.Extending.{added-builds, added-load, added-other, added-here, made-grows}
 use Rattle.tower.specs.Ready.{Ready, Row, Rowing, Rowed, Room, Built, Forming, Applying, Applied, Towering, Towered}
 

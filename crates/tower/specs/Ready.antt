@@ -5,9 +5,9 @@ use mathlib.Core.List.{List}
 use Prim.Native.Nat.{ℕ, _+_, _*_, _-_, _≤_, _<_, _^_}
 use lib.ListN.{length, getD}
 use Rattle.types.specs.Equations.{Pairs}
-use Rattle.solver.specs.Store.{frozen, load, Solved}
-use Rattle.solver.specs.Calls.{Above}
-use Rattle.solver.specs.Settled.{Pinned}
+use Rattle.cells.specs.Store.{frozen, load, Solved}
+use Rattle.cells.specs.Calls.{Above}
+use Rattle.cells.specs.Settled.{Pinned}
 
 -- The store s of n cells, whose runs end at `top`: the last k words of the runs are cells, the parts of the next one.
 pub record Ready (s d : List ℕ) (n top k : ℕ) : Type 0 where

@@ -36,7 +36,7 @@ fn row(a: &mut [u32], n: usize, top: usize, first: usize, step: usize, m: usize)
     let mut x = first;
     let mut j = 0;
     while j < m {
-        solver::add_word(a, n, top + j, x as u32);
+        cells::growth::add_word(a, n, top + j, x as u32);
         x += step;
         j += 1;
     }
@@ -57,7 +57,7 @@ fn former(
     ensures { λ _. ⌜ Built (now (a .entry)) (now (a .exit)) n top 1 m ⌝ }
 {
     row(a, n, top, first, step, m);
-    solver::new_cell(a, n, tag, arg, top as u32, m as u32);
+    cells::growth::new_cell(a, n, tag, arg, top as u32, m as u32);
 }
 
 // The type ℙ (X × (X⁶ × X⁶ × X⁶ × X⁶)) of f: X is cell n.
@@ -92,15 +92,15 @@ fn level(a: &mut [u32], d: &[u32], n: usize, top: usize, x: usize) -> bool
 {
     generic(a, n, top);
     applied(a, n + 8, top + 31, x);
-    solver::merge(a, d, n + 7, n + 10)
+    cells::unification::merge(a, d, n + 7, n + 10)
 }
 
 // What the solver says of cell x of the n cells.
 fn ask(a: &mut [u32], d: &[u32], n: usize, x: usize) -> Outcome
     requires { ⌜ Asked (now a) (now d) n x ⌝ }
 {
-    if solver::finite(a, n) {
-        let size = solver::cell_size(a, d, x);
+    if solver::acyclicity::finite(a, n) {
+        let size = solver::sizes::cell_size(a, d, x);
         return Outcome::Solved { size: size };
     }
     Outcome::Cycle
@@ -137,7 +137,7 @@ fn tower(a: &mut [u32], d: &[u32], start: u32, levels: usize, tie: bool) -> Outc
         let n = 1 + CELLS * levels;
         let x = n - 3;
         if tie {
-            if solver::merge(a, d, 0, x) {
+            if cells::unification::merge(a, d, 0, x) {
                 return ask(a, d, n, x);
             }
             return Outcome::Clash;

@@ -12,7 +12,7 @@ use Rattle.typing.specs.Conditions.{newNames, newName}
 use Rattle.typing.specs.Dictionary.{Dictionary, blank, nameIn}
 use Rattle.typing.specs.Items.{Items, skip, _⨾_}
 use Rattle.typing.specs.Signatures.{Signature}
-use Rattle.solver.specs.Settled.{heap, Reads}
+use Rattle.cells.specs.Settled.{heap, Reads}
 use Rattle.solver.specs.Sizes.{cap}
 use Rattle.solver.proofs.Marking.{cap-cases}
 use Rattle.signatures.specs.Rows.{rows}

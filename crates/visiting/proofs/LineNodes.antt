@@ -15,7 +15,7 @@ use Rattle.syntax.specs.Tree.{Lines, end, declaration, inclusion}
 use Rattle.syntax.proofs.TreeCounts.{at-most}
 use Rattle.syntax.proofs.TreeLists.{lines-go, lines-end}
 use Rattle.syntax.proofs.TreeText.{text-kind, line-range, line-declaration, line-inclusion}
-use Rattle.solver.proofs.Growing.{lt-or-ge}
+use Rattle.cells.proofs.Growing.{lt-or-ge}
 use Rattle.walk.specs.Texts.{LinesAsk, LinesDone}
 use Rattle.walk.proofs.Lining.{Before, lines-none, decl-before, incl-before, line-ask, line-refused, lines-ask, lines-then}
 use Rattle.visiting.specs.Nodes.{Node, LinedAt}

@@ -13,7 +13,7 @@ use Rattle.syntax.specs.Promise.{At, Lower}
 use Rattle.syntax.specs.Tree.{Pred, not, connected}
 use Rattle.syntax.proofs.TreePred.{pred-truth, pred-not, pred-connected}
 use Rattle.syntax.proofs.TreeShape.{One, Two}
-use Rattle.solver.proofs.Growing.{lt-or-ge}
+use Rattle.cells.proofs.Growing.{lt-or-ge}
 use Rattle.walk.specs.Predicates.{PredAsk, PredDone}
 use Rattle.walk.proofs.Connecting.{truth-done, not-part, not-done, connected-first, connected-stopped, connected-second, connected-done}
 use Rattle.visiting.specs.Nodes.{Node, Found}

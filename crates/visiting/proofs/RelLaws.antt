@@ -14,7 +14,7 @@ use Rattle.syntax.specs.Promise.{Lower}
 use Rattle.syntax.specs.Tree.{Expr}
 use Rattle.syntax.proofs.TreePred.{pred-relation}
 use Rattle.syntax.proofs.TreeShape.{Two}
-use Rattle.solver.proofs.Growing.{lt-or-ge}
+use Rattle.cells.proofs.Growing.{lt-or-ge}
 use Rattle.pieces.specs.Building.{Working}
 use Rattle.pieces.specs.Closed.{Closing, Closed}
 use Rattle.rules.specs.Equations.{Related}

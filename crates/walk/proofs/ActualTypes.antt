@@ -8,7 +8,7 @@ use lib.ListN.{length, getD, take}
 use Rattle.types.specs.Types.{Tys, tnil, tcons, unders}
 use Rattle.typing.specs.Items.{Items, Meets}
 use Rattle.typing.specs.Unknowns.{Table, row}
-use Rattle.solver.specs.Settled.{heap}
+use Rattle.cells.specs.Settled.{heap}
 use Rattle.instances.specs.Filled.{Row}
 use Rattle.inclusion.specs.Components.{AllStandFor, ActualTypes}
 use Rattle.walk.specs.Includes.{ActualAt, ActualOwned, ActualFresh}

@@ -20,8 +20,8 @@ use Rattle.typing.specs.Scopes.{Scope}
 use Rattle.typing.specs.Unknowns.{Table, slot, unknownAt}
 use Rattle.typing.proofs.Sized.{SizedExpr}
 use Rattle.typing.proofs.Slots.{slots-apart}
-use Rattle.solver.specs.Settled.{heap, Reads}
-use Rattle.solver.proofs.Growing.{lt-or-ge}
+use Rattle.cells.specs.Settled.{heap, Reads}
+use Rattle.cells.proofs.Growing.{lt-or-ge}
 use Rattle.instances.specs.Clean.{Clean}
 use Rattle.pieces.specs.Piece.{Steady, Walked, Settled}
 use Rattle.pieces.specs.Rows.{SlotsFrom}

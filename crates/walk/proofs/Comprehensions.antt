@@ -16,7 +16,7 @@ use Rattle.typing.specs.Items.{Items, _⨾_}
 use Rattle.typing.specs.Rules.{exprItems, textItems}
 use Rattle.typing.specs.Scopes.{Scope, inside}
 use Rattle.typing.specs.Unknowns.{slot}
-use Rattle.solver.specs.Settled.{lower}
+use Rattle.cells.specs.Settled.{lower}
 use Rattle.solver.specs.Written.{Wrote}
 use Rattle.signatures.specs.Rows.{stack}
 use Rattle.signatures.proofs.ScopeLaws.{stacked-other}

@@ -19,7 +19,7 @@ use Rattle.typing.specs.Rules.{exprItems}
 use Rattle.typing.specs.Scopes.{Scope}
 use Rattle.typing.specs.Unknowns.{slot, unknownAt}
 use Rattle.typing.proofs.Sized.{SizedExpr}
-use Rattle.solver.specs.Settled.{lower, heap, Reads}
+use Rattle.cells.specs.Settled.{lower, heap, Reads}
 use Rattle.instances.specs.Clean.{Clean}
 use Rattle.instances.proofs.CleanLaws.{clean-lower}
 use Rattle.instances.proofs.Moving.{lower-words}

@@ -23,7 +23,7 @@ use Rattle.typing.specs.Rules.{includeRule, includeItems, actualItems}
 use Rattle.typing.specs.Scopes.{Scope, schemaNamed, brought, includeSignature, includeNode}
 use Rattle.typing.specs.Signatures.{Signature, componentsOf, strokeAll, renameAll, wrongNames}
 use Rattle.typing.specs.Unknowns.{row}
-use Rattle.solver.specs.Settled.{heap, Reads}
+use Rattle.cells.specs.Settled.{heap, Reads}
 use Rattle.dictionary.specs.Holds.{Holds}
 use Rattle.dictionary.specs.Lookup.{parametersAt, typeAt, SchemaFound, Recorded as Entry}
 use Rattle.dictionary.proofs.LookupLaws.{schema-formed}

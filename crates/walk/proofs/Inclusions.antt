@@ -18,8 +18,8 @@ use Rattle.typing.specs.Rules.{includeItems, linesItems}
 use Rattle.typing.specs.Scopes.{Scope, includeNode, includeSignature, linesSignature}
 use Rattle.typing.specs.Signatures.{Signature, namesOf, countNames, merge}
 use Rattle.typing.specs.Unknowns.{Table as Typing, row}
-use Rattle.solver.specs.Settled.{heap, Reads}
-use Rattle.solver.proofs.Reading.{reads-one}
+use Rattle.cells.specs.Settled.{heap, Reads}
+use Rattle.cells.proofs.Reading.{reads-one}
 use Rattle.dictionary.specs.Holds.{Holds}
 use Rattle.signatures.specs.Rows.{rows, flat, identifiersOf, mergeRows}
 use Rattle.signatures.specs.Tables.{Table, Beside}

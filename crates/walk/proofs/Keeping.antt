@@ -18,8 +18,8 @@ use Rattle.typing.specs.Scopes.{Scope, schemaSignature}
 use Rattle.typing.specs.Signatures.{Signature, noNames, naming, namesOf}
 use Rattle.typing.specs.Unknowns.{Table}
 use Rattle.typing.proofs.FormedScopes.{schema-rising}
-use Rattle.solver.specs.Settled.{heap, Reads, Areas}
-use Rattle.solver.proofs.Reading.{reads-one}
+use Rattle.cells.specs.Settled.{heap, Reads, Areas}
+use Rattle.cells.proofs.Reading.{reads-one}
 use Rattle.signatures.specs.Rows.{rows, identifiersOf, mergeRows, hasRow}
 use Rattle.signatures.specs.Carried.{Carries}
 use Rattle.signatures.proofs.CarryLaws.{carries-names}

@@ -12,7 +12,7 @@ use Rattle.typing.specs.Items.{Items, _⨾_}
 use Rattle.typing.specs.Rules.{exprsItems, referenceItems}
 use Rattle.typing.specs.Scopes.{Scope, nameAt}
 use Rattle.typing.specs.Unknowns.{slot}
-use Rattle.solver.specs.Store.{run}
+use Rattle.cells.specs.Store.{run}
 use Rattle.pieces.specs.Stage.{Ghost}
 use Rattle.pieces.specs.Building.{Cells, Building}
 use Rattle.pieces.proofs.Stages.{building}

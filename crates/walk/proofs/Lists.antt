@@ -12,8 +12,8 @@ use Rattle.types.specs.Types.{cons}
 use Rattle.typing.specs.Conditions.{typeOf, typesOf}
 use Rattle.typing.specs.Items.{skip, _⨾_}
 use Rattle.typing.specs.Rules.{exprItems, exprsItems}
-use Rattle.solver.specs.Store.{run}
-use Rattle.solver.proofs.Words.{run-at, run-length, run-cons}
+use Rattle.cells.specs.Store.{run}
+use Rattle.cells.proofs.Words.{run-at, run-length, run-cons}
 use Rattle.pieces.specs.Stage.{Ghost, Cell}
 use Rattle.pieces.specs.Building.{Cells}
 use Rattle.pieces.proofs.Walks.{stops-left}

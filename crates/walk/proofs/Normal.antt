@@ -16,7 +16,7 @@ use Rattle.types.specs.Formed.{partCount, partCountType, Formed, Formeds, Forme
 use Rattle.typing.specs.Unknowns.{Table}
 use Rattle.typing.specs.Items.{Items, skip, _⨾_, fresh, equate, select, small, refusal, piece, Known, Meets, And, Passes}
 use Rattle.typing.proofs.FormedItems.{FormedItems}
-use Rattle.solver.proofs.Growing.{lt-or-ge}
+use Rattle.cells.proofs.Growing.{lt-or-ge}
 
 abbrev pub Decided : Type 0 → Type 0
 Decided A = A ⊎ (A → ⊥)

@@ -12,7 +12,7 @@ use Rattle.typing.specs.Items.{Items}
 use Rattle.typing.specs.Rules.{exprItems, exprsItems, referenceItems, thetaItems}
 use Rattle.typing.specs.Scopes.{Scope, nameAt, schemaNamed}
 use Rattle.typing.specs.Unknowns.{slot}
-use Rattle.solver.specs.Store.{run}
+use Rattle.cells.specs.Store.{run}
 use Rattle.instances.specs.Clean.{Clean}
 use Rattle.pieces.specs.Stage.{Cell}
 use Rattle.pieces.specs.Building.{Cells}

@@ -9,7 +9,7 @@ use Rattle.typing.specs.Dictionary.{Dictionary}
 use Rattle.typing.specs.Items.{Items, _⨾_}
 use Rattle.typing.specs.Scopes.{Scope}
 use Rattle.typing.specs.Unknowns.{slot}
-use Rattle.solver.specs.Settled.{lower}
+use Rattle.cells.specs.Settled.{lower}
 use Rattle.instances.specs.Clean.{Clean}
 use Rattle.pieces.specs.Piece.{Stops}
 use Rattle.pieces.specs.Stage.{Ghost, Stands, Uses, Advanced, SlotOf, Unvisited, Ruled}

@@ -8,8 +8,8 @@ use Rattle.types.specs.Types.{Term}
 use Rattle.typing.specs.Dictionary.{Dictionary}
 use Rattle.typing.specs.Items.{Items, _⨾_}
 use Rattle.typing.specs.Scopes.{Scope}
-use Rattle.solver.specs.Settled.{lower, Reads}
-use Rattle.solver.proofs.Settling.{heap-kept}
+use Rattle.cells.specs.Settled.{lower, Reads}
+use Rattle.cells.proofs.SettlingLaws.{heap-kept}
 use Rattle.signatures.specs.Rows.{stack}
 use Rattle.signatures.proofs.ScopeLaws.{stacked-other}
 use Rattle.instances.proofs.CleanLaws.{clean-lower}

@@ -5,7 +5,7 @@ use mathlib.Core.Logic.{inl, inr, ⊎-elim}
 use Prim.Native.Nat.{ℕ, suc, _+_, _*_, _-_, _≤_}
 use native.Mathlib.Omega.{arith}
 use lib.ListN.{length}
-use Rattle.solver.specs.Store.{load}
+use Rattle.cells.specs.Store.{load}
 use Rattle.pieces.specs.Stage.{Room, Uses}
 use Rattle.pieces.proofs.Stages.{room-less}
 use Rattle.walk.specs.Room.{Between, Crowd, Inside}

@@ -20,7 +20,7 @@ use Rattle.typing.specs.Rules.{exprItems, includeItems, schemaItems}
 use Rattle.typing.specs.Scopes.{Scope, includeSignature, includeNode}
 use Rattle.typing.specs.Signatures.{Signature, bindingOf}
 use Rattle.typing.specs.Unknowns.{Table, slot, powerOf}
-use Rattle.solver.specs.Settled.{lower}
+use Rattle.cells.specs.Settled.{lower}
 use Rattle.solver.specs.Written.{Wrote}
 use Rattle.signatures.specs.Rows.{rows as rowsOf}
 use Rattle.signatures.specs.Carried.{Carries}

@@ -12,7 +12,7 @@ use Rattle.typing.specs.Items.{Items, _⨾_, Meets}
 use Rattle.typing.specs.Scopes.{Scope}
 use Rattle.typing.specs.Signatures.{Signature}
 use Rattle.typing.specs.Unknowns.{Table}
-use Rattle.solver.specs.Settled.{lower, heap, Reads}
+use Rattle.cells.specs.Settled.{lower, heap, Reads}
 use Rattle.signatures.specs.Rows.{rows, stack}
 use Rattle.signatures.specs.Carried.{Carries, Stacked}
 use Rattle.signatures.proofs.CarryLaws.{carries-other}

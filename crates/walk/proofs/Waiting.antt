@@ -12,11 +12,11 @@ use Rattle.typing.specs.Dictionary.{Dictionary}
 use Rattle.typing.specs.Items.{Items, _⨾_, Meets, Agree, Refuses}
 use Rattle.typing.specs.Scopes.{Scope}
 use Rattle.typing.specs.Unknowns.{Table}
-use Rattle.solver.specs.Store.{frozen, tagAt, run}
-use Rattle.solver.specs.Settled.{lower}
+use Rattle.cells.specs.Store.{frozen, tagAt, run}
+use Rattle.cells.specs.Settled.{lower}
 use Rattle.solver.specs.Written.{Wrote}
-use Rattle.solver.proofs.Growing.{load-same}
-use Rattle.solver.proofs.Words.{run-at, run-length}
+use Rattle.cells.proofs.Growing.{load-same}
+use Rattle.cells.proofs.Words.{run-at, run-length}
 use Rattle.instances.specs.Moved.{saved, restored, Resumed}
 use Rattle.instances.proofs.AlikeLaws.{alike-fits, alike-fits-back}
 use Rattle.instances.proofs.CleanLaws.{clean-all-below}

@@ -5,7 +5,7 @@ use Prim.Native.Nat.{ℕ, _-_, _≤_, _<_}
 use native.Mathlib.Omega.{arith}
 use lib.ListN.{length, replicate}
 use lib.Seq.{sets, length-sets}
-use Rattle.solver.specs.Settled.{lower}
+use Rattle.cells.specs.Settled.{lower}
 use Rattle.instances.specs.Clean.{Clean}
 use Rattle.instances.proofs.Moving.{lower-words, sets-before}
 use Rattle.instances.proofs.CleanLaws.{clean-lower, clean-same, wiped-clean}

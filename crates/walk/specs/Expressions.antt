@@ -13,7 +13,7 @@ use Rattle.typing.specs.Items.{Items}
 use Rattle.typing.specs.Rules.{exprItems, exprsItems}
 use Rattle.typing.specs.Scopes.{Scope}
 use Rattle.typing.specs.Unknowns.{slot}
-use Rattle.solver.specs.Store.{run}
+use Rattle.cells.specs.Store.{run}
 use Rattle.instances.specs.Clean.{Clean}
 use Rattle.pieces.specs.Piece.{Stops}
 use Rattle.pieces.specs.Stage.{Ghost, Stands, Uses, Advanced}

@@ -17,7 +17,7 @@ use Rattle.typing.specs.Items.{Items, _⨾_, Meets, Refuses}
 use Rattle.typing.specs.Rules.{includeItems, actualItems}
 use Rattle.typing.specs.Scopes.{Scope, includeSignature, includeNode}
 use Rattle.typing.specs.Unknowns.{slot, unknownAt, row}
-use Rattle.solver.specs.Settled.{heap, Reads}
+use Rattle.cells.specs.Settled.{heap, Reads}
 use Rattle.signatures.specs.Rows.{rows, identifiersOf}
 use Rattle.signatures.specs.Carried.{Carries}
 use Rattle.pieces.specs.Piece.{Steady, Walked, Settled}

@@ -11,7 +11,7 @@ use Rattle.typing.specs.Entries.{extend}
 use Rattle.typing.specs.Items.{Meets, Any, Passes, Refuses}
 use Rattle.typing.specs.Rules.{paragraphItems}
 use Rattle.typing.specs.Unknowns.{Table}
-use Rattle.solver.specs.Settled.{lower}
+use Rattle.cells.specs.Settled.{lower}
 use Rattle.dictionary.specs.Waiting.{withEntries, waiting, Waits}
 use Rattle.instances.specs.Clean.{Clean}
 use Rattle.names.specs.Scoped.{Recorded}

@@ -10,7 +10,7 @@ use Rattle.typing.specs.Dictionary.{Dictionary}
 use Rattle.typing.specs.Items.{Items, Meets, Refuses}
 use Rattle.typing.specs.Rules.{predItems}
 use Rattle.typing.specs.Scopes.{Scope}
-use Rattle.solver.specs.Settled.{lower}
+use Rattle.cells.specs.Settled.{lower}
 use Rattle.instances.specs.Clean.{Clean}
 use Rattle.pieces.specs.Piece.{Steady}
 use Rattle.names.specs.Scoped.{Scoped}

@@ -8,7 +8,7 @@ use borrow.Fn.PlainCycle.{Measures, is, falls, and}
 use Rattle.entries.proofs.put_parts.Reads as put-parts
 use Rattle.entries.proofs.put_parts.Kinds as put-parts-kinds
 use Rattle.entries.proofs.+put_parts.Lts-put_parts as put-parts-lts
-use Rattle.solver.proofs.put_type.Reads as put-type-reads
+use Rattle.solver.proofs.writing.put_type.Reads as put-type-reads
 use Rattle.words.proofs.store.Reads as store-reads
 use Rattle.words.proofs.word.Reads as word-reads
 use Rattle.entries.proofs.+put_parts.{statement}

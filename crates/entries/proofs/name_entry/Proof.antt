@@ -7,7 +7,7 @@ use Rattle.entries.proofs.name_entry.Tie as tie
 use Rattle.entries.proofs.name_entry.Reads as reads
 use Rattle.entries.proofs.name_entry.Lts as lts
 use Rattle.entries.proofs.put_head.Reads as put-head-reads
-use Rattle.solver.proofs.put_type.Reads as put-type-reads
+use Rattle.solver.proofs.writing.put_type.Reads as put-type-reads
 
 -- src/lib.rt:70:31
 add-put-type : tie.Need-add-put-type

@@ -3,9 +3,9 @@ use native.Mathlib.Omega.{arith}
 use Prim.Native.Nat.{_+_, _-_, _≤_, ℕ, _<_}
 use lib.ListN.{length}
 use Rattle.types.specs.Types.{Ty, Tys, size, tnil}
-use Rattle.solver.specs.Settled.{heap, Reads}
+use Rattle.cells.specs.Settled.{heap, Reads}
 use Rattle.solver.specs.Sizes.{cap}
-use Rattle.solver.proofs.Reading.{heap-length, place-few}
+use Rattle.cells.proofs.Reading.{heap-length, place-few}
 use Rattle.solver.proofs.Marking.{cap-le}
 use Rattle.instances.specs.Fill.{nthType, actualType, fill}
 use Rattle.instances.specs.Filled.{Row}
@@ -18,12 +18,12 @@ use Rattle.instances.proofs.filled_size.Reads as filled-size
 use Rattle.instances.proofs.filled_size.Kinds as filled-size-kinds
 use Rattle.instances.proofs.+filled_size.Lts-filled_size as filled-size-lts
 use Rattle.instances.proofs.actual_size.Reads as actual-size-reads
-use Rattle.solver.proofs.capped.Reads as capped-reads
-use Rattle.solver.proofs.lead_words.Reads as lead-words-reads
-use Rattle.solver.proofs.name_words.Reads as name-words-reads
-use Rattle.solver.proofs.parts_of.Reads as parts-of-reads
-use Rattle.solver.proofs.skip.Reads as skip-reads
-use Rattle.solver.proofs.type_word.Reads as type-word-reads
+use Rattle.solver.proofs.sizes.capped.Reads as capped-reads
+use Rattle.cells.proofs.type_words.lead_words.Reads as lead-words-reads
+use Rattle.cells.proofs.type_words.name_words.Reads as name-words-reads
+use Rattle.cells.proofs.type_words.parts_of.Reads as parts-of-reads
+use Rattle.cells.proofs.type_words.skip.Reads as skip-reads
+use Rattle.cells.proofs.type_words.type_word.Reads as type-word-reads
 use Rattle.instances.proofs.+filled_size.{statement}
 use Rattle.instances.proofs.+filled_size.Tie.{close}
 

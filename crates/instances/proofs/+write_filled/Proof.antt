@@ -1,13 +1,13 @@
-use Rattle.solver.proofs.Words.{run-length}
+use Rattle.cells.proofs.Words.{run-length}
 use mathlib.Core.Path.{_≡_, refl, sym, ap, _∙_}
 use native.Mathlib.Omega.{arith}
 use Prim.Native.Nat.{_+_, _-_, ℕ, _<_}
 use lib.ListN.{length, length-append}
 use lib.Seq.{sets}
 use Rattle.types.specs.Types.{Ty, Tys}
-use Rattle.solver.specs.Store.{run}
-use Rattle.solver.specs.Settled.{heap, Reads}
-use Rattle.solver.proofs.Reading.{heap-length, place-few}
+use Rattle.cells.specs.Store.{run}
+use Rattle.cells.specs.Settled.{heap, Reads}
+use Rattle.cells.proofs.Reading.{heap-length, place-few}
 use Rattle.instances.specs.Filled.{Row}
 use Rattle.instances.proofs.FillWords.{body, fill-words, lead-inside, Emitting, emit-start, emit-step, emit-end, wrote-all}
 use borrow.Author.Needs.{needs}
@@ -18,11 +18,11 @@ use Rattle.instances.proofs.write_filled.Kinds as write-filled-kinds
 use Rattle.instances.proofs.+write_filled.Lts-write_filled as write-filled-lts
 use Rattle.instances.proofs.put_words.Reads as put-words-reads
 use Rattle.instances.proofs.write_actual.Reads as write-actual-reads
-use Rattle.solver.proofs.lead_words.Reads as lead-words-reads
-use Rattle.solver.proofs.name_words.Reads as name-words-reads
-use Rattle.solver.proofs.parts_of.Reads as parts-of-reads
-use Rattle.solver.proofs.skip.Reads as skip-reads
-use Rattle.solver.proofs.type_word.Reads as type-word-reads
+use Rattle.cells.proofs.type_words.lead_words.Reads as lead-words-reads
+use Rattle.cells.proofs.type_words.name_words.Reads as name-words-reads
+use Rattle.cells.proofs.type_words.parts_of.Reads as parts-of-reads
+use Rattle.cells.proofs.type_words.skip.Reads as skip-reads
+use Rattle.cells.proofs.type_words.type_word.Reads as type-word-reads
 use Rattle.instances.proofs.+write_filled.{statement}
 use Rattle.instances.proofs.+write_filled.Tie.{close}
 

@@ -2,7 +2,7 @@ use mathlib.Core.Path.{_≡_, sym, ap, _∙_}
 use native.Mathlib.Omega.{arith}
 use Prim.Native.Nat.{suc, _-_}
 use Rattle.types.specs.Types.{size}
-use Rattle.solver.specs.Settled.{heap}
+use Rattle.cells.specs.Settled.{heap}
 use Rattle.solver.specs.Sizes.{cap}
 use Rattle.solver.proofs.Summing.{cap-small}
 use Rattle.instances.proofs.Rows.{row-some, actual-none, actual-some, parameter-size}
@@ -12,7 +12,7 @@ use Rattle.instances.proofs.actual_size.Tie as tie
 use Rattle.instances.proofs.actual_size.Reads as reads
 use Rattle.instances.proofs.actual_size.Lts as lts
 use Rattle.instances.proofs.actual.Reads as actual-reads
-use Rattle.solver.proofs.type_size.Reads as type-size-reads
+use Rattle.solver.proofs.sizes.type_size.Reads as type-size-reads
 
 actual-requires : tie.Need-actual-requires
 actual-requires c κs = search needs

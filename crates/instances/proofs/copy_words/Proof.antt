@@ -2,7 +2,7 @@ use mathlib.Core.Path.{_≡_, refl, sym, ap, subst, _∙_}
 use native.Mathlib.Omega.{arith}
 use Prim.Native.Nat.{_+_, _-_, _≤_}
 use lib.ListN.{length, length-set}
-use Rattle.solver.specs.Store.{run}
+use Rattle.cells.specs.Store.{run}
 use Rattle.instances.proofs.Copying.{Copied, copied-start, copied-step, copied-end}
 use borrow.Author.Needs.{needs}
 use Rattle.instances.proofs.copy_words.Statement.{statement}

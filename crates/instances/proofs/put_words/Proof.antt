@@ -2,16 +2,16 @@ use mathlib.Core.Path.{_≡_, refl, sym, ap, subst, _∙_}
 use native.Mathlib.Omega.{arith}
 use Prim.Native.Nat.{_+_, _-_, _≤_}
 use lib.ListN.{length, length-set}
-use Rattle.solver.specs.Store.{run}
-use Rattle.solver.specs.Settled.{heap}
-use Rattle.solver.proofs.Words.{run-length}
+use Rattle.cells.specs.Store.{run}
+use Rattle.cells.specs.Settled.{heap}
+use Rattle.cells.proofs.Words.{run-length}
 use Rattle.instances.proofs.Copying.{Copied, copied-start, copied-step, copied-end}
 use borrow.Author.Needs.{needs}
 use Rattle.instances.proofs.put_words.Statement.{statement}
 use Rattle.instances.proofs.put_words.Tie as tie
 use Rattle.instances.proofs.put_words.Reads as reads
 use Rattle.instances.proofs.put_words.Lts as lts
-use Rattle.solver.proofs.type_word.Reads as type-word-reads
+use Rattle.cells.proofs.type_words.type_word.Reads as type-word-reads
 use Rattle.words.proofs.store.Reads as store-reads
 
 abbrev Inv-loop : tie.InvT-loop

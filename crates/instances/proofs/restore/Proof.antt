@@ -1,7 +1,7 @@
 use mathlib.Core.Path.{ap, _∙_}
 use Prim.Native.Nat.{_+_, _*_, _-_}
 use lib.Seq.{sets}
-use Rattle.solver.specs.Store.{run}
+use Rattle.cells.specs.Store.{run}
 use Rattle.instances.specs.Moved.{restored}
 use borrow.Author.Needs.{needs}
 use Rattle.instances.proofs.restore.Statement.{statement}

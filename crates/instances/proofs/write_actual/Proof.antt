@@ -5,10 +5,10 @@ use native.Mathlib.Omega.{arith}
 use Prim.Native.Nat.{suc, _+_, _-_}
 use Rattle.types.specs.Types.{tnil}
 use Rattle.types.specs.Words.{words}
-use Rattle.solver.specs.Store.{run}
-use Rattle.solver.specs.Settled.{heap}
+use Rattle.cells.specs.Store.{run}
+use Rattle.cells.specs.Settled.{heap}
 use Rattle.solver.specs.Written.{Wrote}
-use Rattle.solver.proofs.Reading.{place-few, inside}
+use Rattle.cells.proofs.Reading.{place-few, inside}
 use Rattle.instances.specs.Fill.{nthType, actualType, fill}
 use Rattle.instances.specs.Filled.{placeOf}
 use Rattle.instances.proofs.Rows.{row-some, actual-none, actual-some, parameter-fill, parameter-words}
@@ -20,8 +20,8 @@ use Rattle.instances.proofs.write_actual.Reads as reads
 use Rattle.instances.proofs.write_actual.Lts as lts
 use Rattle.instances.proofs.actual.Reads as actual-reads
 use Rattle.instances.proofs.put_words.Reads as put-words-reads
-use Rattle.solver.proofs.put_type.Reads as put-type-reads
-use Rattle.solver.proofs.type_word.Reads as type-word-reads
+use Rattle.solver.proofs.writing.put_type.Reads as put-type-reads
+use Rattle.cells.proofs.type_words.type_word.Reads as type-word-reads
 
 add-type-word : tie.Need-add-type-word
 add-type-word c = let P = c .before .before .before .before .pre .0 in let f = place-few _ _ _ _ (P .filling .actuals .areas) (P .filling .reads) in omega arith

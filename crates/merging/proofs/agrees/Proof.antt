@@ -5,7 +5,7 @@ use Rattle.merging.proofs.agrees.Tie as tie
 use Rattle.merging.proofs.agrees.Reads as reads
 use Rattle.merging.proofs.agrees.Lts as lts
 use Rattle.signatures.proofs.tables.find.Reads as find-reads
-use Rattle.solver.proofs.same_type.Reads as same-type-reads
+use Rattle.cells.proofs.type_words.same_type.Reads as same-type-reads
 use Rattle.words.proofs.word.Reads as word-reads
 
 -- src/lib.rt:12:9

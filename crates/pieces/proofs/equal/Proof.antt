@@ -4,8 +4,8 @@ use Rattle.pieces.proofs.equal.Statement.{statement}
 use Rattle.pieces.proofs.equal.Tie as tie
 use Rattle.pieces.proofs.equal.Reads as reads
 use Rattle.pieces.proofs.equal.Lts as lts
-use Rattle.solver.proofs.finite.Reads as finite-reads
-use Rattle.solver.proofs.merge.Reads as merge-reads
+use Rattle.solver.proofs.acyclicity.finite.Reads as finite-reads
+use Rattle.cells.proofs.unification.merge.Reads as merge-reads
 
 -- src/lib.rt:12:8
 merge-requires : tie.Need-merge-requires

@@ -5,8 +5,8 @@ use Prim.Native.Nat.{ℕ, _+_, _-_, _<_}
 use lib.ListN.{length}
 use Rattle.types.specs.Types.{Ty, Tys}
 use Rattle.types.proofs.Terms.{bool-no}
-use Rattle.solver.specs.Settled.{heap, Reads}
-use Rattle.solver.proofs.Reading.{heap-length, place-few}
+use Rattle.cells.specs.Settled.{heap, Reads}
+use Rattle.cells.proofs.Reading.{heap-length, place-few}
 use Rattle.instances.specs.Filled.{Row}
 use Rattle.inclusion.proofs.SameLaws.{Matching, lead-needed, match-start, match-step, match-end}
 use borrow.Author.Tests.{not-true, not-false}
@@ -18,11 +18,11 @@ use Rattle.inclusion.proofs.filling.same_filled.Kinds as same-filled-ki
 use Rattle.inclusion.proofs.filling.+same_filled.Lts-same_filled as same-filled-lts
 use Rattle.inclusion.proofs.filling.same_actual.Reads as same-actual-reads
 use Rattle.inclusion.proofs.filling.same_words.Reads as same-words-reads
-use Rattle.solver.proofs.lead_words.Reads as lead-words-reads
-use Rattle.solver.proofs.name_words.Reads as name-words-reads
-use Rattle.solver.proofs.parts_of.Reads as parts-of-reads
-use Rattle.solver.proofs.skip.Reads as skip-reads
-use Rattle.solver.proofs.type_word.Reads as type-word-reads
+use Rattle.cells.proofs.type_words.lead_words.Reads as lead-words-reads
+use Rattle.cells.proofs.type_words.name_words.Reads as name-words-reads
+use Rattle.cells.proofs.type_words.parts_of.Reads as parts-of-reads
+use Rattle.cells.proofs.type_words.skip.Reads as skip-reads
+use Rattle.cells.proofs.type_words.type_word.Reads as type-word-reads
 use Rattle.inclusion.proofs.filling.+same_filled.{statement}
 use Rattle.inclusion.proofs.filling.+same_filled.Tie.{close}
 

@@ -3,9 +3,9 @@ use native.Mathlib.Omega.{arith}
 use Prim.Native.Nat.{suc, _+_, _-_}
 use lib.ListN.{getD}
 use Rattle.types.specs.Types.{tnil}
-use Rattle.solver.specs.Calls.{Tells}
-use Rattle.solver.specs.Settled.{heap}
-use Rattle.solver.proofs.Reading.{place-few}
+use Rattle.cells.specs.Calls.{Tells}
+use Rattle.cells.specs.Settled.{heap}
+use Rattle.cells.proofs.Reading.{place-few}
 use Rattle.instances.specs.Fill.{nthType, actualType, fill}
 use Rattle.instances.specs.Filled.{placeOf}
 use Rattle.instances.proofs.Rows.{row-some, actual-none, actual-some, parameter-fill}
@@ -16,8 +16,8 @@ use Rattle.inclusion.proofs.filling.same_actual.Tie as tie
 use Rattle.inclusion.proofs.filling.same_actual.Reads as reads
 use Rattle.inclusion.proofs.filling.same_actual.Lts as lts
 use Rattle.instances.proofs.actual.Reads as actual-reads
-use Rattle.solver.proofs.same_type.Reads as same-type-reads
-use Rattle.solver.proofs.type_word.Reads as type-word-reads
+use Rattle.cells.proofs.type_words.same_type.Reads as same-type-reads
+use Rattle.cells.proofs.type_words.type_word.Reads as type-word-reads
 
 add-type-word : tie.Need-add-type-word
 add-type-word c = let P = c .before .before .before .pre .0 in let f = place-few _ _ _ _ (P .actuals .areas) (P .left .reads) in omega arith

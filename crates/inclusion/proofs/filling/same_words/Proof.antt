@@ -4,15 +4,15 @@ use native.Mathlib.Omega.{arith}
 use Prim.Native.Nat.{_+_, _-_, _≤_}
 use lib.ListN.{getD}
 use Rattle.types.proofs.Terms.{bool-no}
-use Rattle.solver.specs.Settled.{heap}
-use Rattle.solver.proofs.Reading.{below-next}
+use Rattle.cells.specs.Settled.{heap}
+use Rattle.cells.proofs.Reading.{below-next}
 use Rattle.inclusion.proofs.SameLaws.{SameWords}
 use borrow.Author.Needs.{needs}
 use Rattle.inclusion.proofs.filling.same_words.Statement.{statement}
 use Rattle.inclusion.proofs.filling.same_words.Tie as tie
 use Rattle.inclusion.proofs.filling.same_words.Reads as reads
 use Rattle.inclusion.proofs.filling.same_words.Lts as lts
-use Rattle.solver.proofs.type_word.Reads as type-word-reads
+use Rattle.cells.proofs.type_words.type_word.Reads as type-word-reads
 
 abbrev Inv-loop : tie.InvT-loop
 Inv-loop a d p q k j₀ j = (j ≤ k) × SameWords (heap a d) p q j

@@ -6,7 +6,7 @@ use Rattle.names.proofs.bindings.binding.Reads as reads
 use Rattle.names.proofs.bindings.binding.Lts as lts
 use Rattle.names.proofs.bindings.put_rows.Reads as put-rows-reads
 use Rattle.names.proofs.bindings.settle_places.Reads as settle-places-reads
-use Rattle.solver.proofs.new_cell.Reads as new-cell-reads
+use Rattle.cells.proofs.growth.new_cell.Reads as new-cell-reads
 
 -- src/bindings.rt:64:5
 settle-places-requires : tie.Need-settle-places-requires

@@ -4,7 +4,7 @@ use Rattle.names.proofs.bindings.put_row.Statement.{statement}
 use Rattle.names.proofs.bindings.put_row.Tie as tie
 use Rattle.names.proofs.bindings.put_row.Reads as reads
 use Rattle.names.proofs.bindings.put_row.Lts as lts
-use Rattle.solver.proofs.add_word.Reads as add-word-reads
+use Rattle.cells.proofs.growth.add_word.Reads as add-word-reads
 
 -- src/bindings.rt:27:28
 add-add-word : tie.Need-add-add-word

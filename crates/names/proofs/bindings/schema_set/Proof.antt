@@ -6,7 +6,7 @@ use Rattle.names.proofs.bindings.schema_set.Tie as tie
 use Rattle.names.proofs.bindings.schema_set.Reads as reads
 use Rattle.names.proofs.bindings.schema_set.Lts as lts
 use Rattle.names.proofs.bindings.binding.Reads as binding-reads
-use Rattle.pieces.proofs.cells.power.Reads as power-reads
+use Rattle.pieces.proofs.formers.power.Reads as power-reads
 
 -- src/bindings.rt:81:9
 binding-requires : tie.Need-binding-requires

@@ -9,7 +9,7 @@ use Rattle.names.proofs.bindings.settle_places.Statement.{statement}
 use Rattle.names.proofs.bindings.settle_places.Tie as tie
 use Rattle.names.proofs.bindings.settle_places.Reads as reads
 use Rattle.names.proofs.bindings.settle_places.Lts as lts
-use Rattle.solver.proofs.new_settled.Reads as new-settled-reads
+use Rattle.cells.proofs.growth.new_settled.Reads as new-settled-reads
 use Rattle.words.proofs.word.Reads as word-reads
 
 abbrev Inv-loop : tie.InvT-loop

@@ -1,6 +1,6 @@
 use Rattle.names.proofs.ComponentLaws.{Writing, writing-start, writing-next, writing-end, components-of, component-few}
-use Rattle.solver.proofs.Reading.{place-few, names-length}
-use Rattle.solver.specs.Settled.{heap, Reads}
+use Rattle.cells.proofs.Reading.{place-few, names-length}
+use Rattle.cells.specs.Settled.{heap, Reads}
 use Rattle.types.specs.Types.{Tys, node}
 use Rattle.types.specs.Former.{binding}
 use lib.ListN.{length}
@@ -14,8 +14,8 @@ use Rattle.names.proofs.components.component_rows.Tie as tie
 use Rattle.names.proofs.components.component_rows.Reads as reads
 use Rattle.names.proofs.components.component_rows.Lts as lts
 use Rattle.signatures.proofs.tables.put_row.Reads as put-row-reads
-use Rattle.solver.proofs.skip.Reads as skip-reads
-use Rattle.solver.proofs.type_word.Reads as type-word-reads
+use Rattle.cells.proofs.type_words.skip.Reads as skip-reads
+use Rattle.cells.proofs.type_words.type_word.Reads as type-word-reads
 
 abbrev Inv-loop : tie.InvT-loop
 Inv-loop a d w₀ p base m at₀ j₀ w at j = (j ≤ m) × (length w ≡ length w₀) × ((ids : List ℕ) (gs : Tys) → Reads (heap a d) p (node (binding ids) gs) → Writing (heap a d) w₀ w p base m at j ids gs)

@@ -8,7 +8,7 @@ use borrow.Fn.PlainCycle.{Measures, is, falls, and}
 use Rattle.names.proofs.references.equate_actuals.Reads as equate-actuals
 use Rattle.names.proofs.references.equate_actuals.Kinds as equate-actuals-kinds
 use Rattle.names.proofs.references.+equate_actuals.Lts-equate_actuals as equate-actuals-lts
-use Rattle.pieces.proofs.cells.power.Reads as power-reads
+use Rattle.pieces.proofs.formers.power.Reads as power-reads
 use Rattle.pieces.proofs.equal.Reads as equal-reads
 use Rattle.words.proofs.word.Reads as word-reads
 use Rattle.names.proofs.references.+equate_actuals.{statement}

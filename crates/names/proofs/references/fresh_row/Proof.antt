@@ -9,7 +9,7 @@ use Rattle.names.proofs.references.fresh_row.Statement.{statement}
 use Rattle.names.proofs.references.fresh_row.Tie as tie
 use Rattle.names.proofs.references.fresh_row.Reads as reads
 use Rattle.names.proofs.references.fresh_row.Lts as lts
-use Rattle.solver.proofs.new_unknown.Reads as new-unknown-reads
+use Rattle.cells.proofs.growth.new_unknown.Reads as new-unknown-reads
 
 abbrev Inv-loop : tie.InvT-loop
 Inv-loop a₀ n p j₀ a j = (j ≤ p) × (length a ≡ length a₀) × RowMade a₀ a n j

@@ -4,8 +4,8 @@ use Rattle.names.proofs.references.instance.Statement.{statement}
 use Rattle.names.proofs.references.instance.Tie as tie
 use Rattle.names.proofs.references.instance.Reads as reads
 use Rattle.names.proofs.references.instance.Lts as lts
-use Rattle.solver.proofs.enter.Reads as enter-reads
-use Rattle.solver.proofs.new_settled.Reads as new-settled-reads
+use Rattle.solver.proofs.entering.enter.Reads as enter-reads
+use Rattle.cells.proofs.growth.new_settled.Reads as new-settled-reads
 
 -- src/references.rt:23:9
 new-settled-requires : tie.Need-new-settled-requires

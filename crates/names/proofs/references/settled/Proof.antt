@@ -4,7 +4,7 @@ use Rattle.names.proofs.references.settled.Statement.{statement}
 use Rattle.names.proofs.references.settled.Tie as tie
 use Rattle.names.proofs.references.settled.Reads as reads
 use Rattle.names.proofs.references.settled.Lts as lts
-use Rattle.solver.proofs.new_settled.Reads as new-settled-reads
+use Rattle.cells.proofs.growth.new_settled.Reads as new-settled-reads
 
 -- src/references.rt:47:5
 new-settled-requires : tie.Need-new-settled-requires

@@ -4,8 +4,8 @@ use Rattle.pieces.proofs.closing.close.Statement.{statement}
 use Rattle.pieces.proofs.closing.close.Tie as tie
 use Rattle.pieces.proofs.closing.close.Reads as reads
 use Rattle.pieces.proofs.closing.close.Lts as lts
-use Rattle.solver.proofs.finite.Reads as finite-reads
-use Rattle.solver.proofs.left_open.Reads as left-open-reads
+use Rattle.solver.proofs.acyclicity.finite.Reads as finite-reads
+use Rattle.solver.proofs.openness.left_open.Reads as left-open-reads
 
 finite-requires : tie.Need-finite-requires
 finite-requires c κs = closing-read _ _ _ (c .before .before .before .pre)

@@ -4,7 +4,7 @@ use Rattle.pieces.proofs.closing.settled_size.Statement.{statement}
 use Rattle.pieces.proofs.closing.settled_size.Tie as tie
 use Rattle.pieces.proofs.closing.settled_size.Reads as reads
 use Rattle.pieces.proofs.closing.settled_size.Lts as lts
-use Rattle.solver.proofs.cell_size.Reads as cell-size-reads
+use Rattle.solver.proofs.sizes.cell_size.Reads as cell-size-reads
 
 cell-size-requires : tie.Need-cell-size-requires
 cell-size-requires c κs = may-measure _ _ _ _ (c .before .before .pre)

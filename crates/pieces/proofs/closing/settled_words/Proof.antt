@@ -4,7 +4,7 @@ use Rattle.pieces.proofs.closing.settled_words.Statement.{statement}
 use Rattle.pieces.proofs.closing.settled_words.Tie as tie
 use Rattle.pieces.proofs.closing.settled_words.Reads as reads
 use Rattle.pieces.proofs.closing.settled_words.Lts as lts
-use Rattle.solver.proofs.write.Reads as write-reads
+use Rattle.solver.proofs.writing.write.Reads as write-reads
 
 write-requires : tie.Need-write-requires
 write-requires c κs = may-write _ _ _ _ _ (c .before .before .before .before .pre)

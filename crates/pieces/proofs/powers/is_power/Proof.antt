@@ -4,9 +4,9 @@ use Rattle.pieces.proofs.powers.is_power.Statement.{statement}
 use Rattle.pieces.proofs.powers.is_power.Tie as tie
 use Rattle.pieces.proofs.powers.is_power.Reads as reads
 use Rattle.pieces.proofs.powers.is_power.Lts as lts
-use Rattle.pieces.proofs.cells.power.Reads as power-reads
+use Rattle.pieces.proofs.formers.power.Reads as power-reads
 use Rattle.pieces.proofs.equal.Reads as equal-reads
-use Rattle.solver.proofs.new_unknown.Reads as new-unknown-reads
+use Rattle.cells.proofs.growth.new_unknown.Reads as new-unknown-reads
 
 new-unknown-requires : tie.Need-new-unknown-requires
 new-unknown-requires c κs = unknown-making _ _ _ _ _ (c .before .before .before .pre)

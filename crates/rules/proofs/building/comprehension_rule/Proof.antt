@@ -4,7 +4,7 @@ use Rattle.rules.proofs.building.comprehension_rule.Statement.{statemen
 use Rattle.rules.proofs.building.comprehension_rule.Tie as tie
 use Rattle.rules.proofs.building.comprehension_rule.Reads as reads
 use Rattle.rules.proofs.building.comprehension_rule.Lts as lts
-use Rattle.pieces.proofs.cells.power.Reads as power-reads
+use Rattle.pieces.proofs.formers.power.Reads as power-reads
 
 power-requires : tie.Need-power-requires
 power-requires c κs = search needs

@@ -5,8 +5,8 @@ use Rattle.rules.proofs.building.integers_rule.Statement.{statement}
 use Rattle.rules.proofs.building.integers_rule.Tie as tie
 use Rattle.rules.proofs.building.integers_rule.Reads as reads
 use Rattle.rules.proofs.building.integers_rule.Lts as lts
-use Rattle.pieces.proofs.cells.integer.Reads as integer-reads
-use Rattle.pieces.proofs.cells.power.Reads as power-reads
+use Rattle.pieces.proofs.formers.integer.Reads as integer-reads
+use Rattle.pieces.proofs.formers.power.Reads as power-reads
 
 integer-requires : tie.Need-integer-requires
 integer-requires c κs = integer-making _ _ _ _ _ (c .before .before .pre) (omega arith)

@@ -5,7 +5,7 @@ use Rattle.rules.proofs.building.number_rule.Statement.{statement}
 use Rattle.rules.proofs.building.number_rule.Tie as tie
 use Rattle.rules.proofs.building.number_rule.Reads as reads
 use Rattle.rules.proofs.building.number_rule.Lts as lts
-use Rattle.pieces.proofs.cells.integer.Reads as integer-reads
+use Rattle.pieces.proofs.formers.integer.Reads as integer-reads
 
 integer-requires : tie.Need-integer-requires
 integer-requires c κs = integer-making _ _ _ _ _ (c .before .before .pre) (omega arith)

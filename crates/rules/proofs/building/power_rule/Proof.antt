@@ -4,7 +4,7 @@ use Rattle.rules.proofs.building.power_rule.Statement.{statement}
 use Rattle.rules.proofs.building.power_rule.Tie as tie
 use Rattle.rules.proofs.building.power_rule.Reads as reads
 use Rattle.rules.proofs.building.power_rule.Lts as lts
-use Rattle.pieces.proofs.cells.power.Reads as power-reads
+use Rattle.pieces.proofs.formers.power.Reads as power-reads
 use Rattle.pieces.proofs.powers.is_power.Reads as is-power-reads
 
 is-power-requires : tie.Need-is-power-requires

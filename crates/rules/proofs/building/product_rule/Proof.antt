@@ -5,8 +5,8 @@ use Rattle.rules.proofs.building.product_rule.Statement.{statement}
 use Rattle.rules.proofs.building.product_rule.Tie as tie
 use Rattle.rules.proofs.building.product_rule.Reads as reads
 use Rattle.rules.proofs.building.product_rule.Lts as lts
-use Rattle.pieces.proofs.cells.power.Reads as power-reads
-use Rattle.pieces.proofs.cells.product.Reads as product-reads
+use Rattle.pieces.proofs.formers.power.Reads as power-reads
+use Rattle.pieces.proofs.formers.product.Reads as product-reads
 use Rattle.pieces.proofs.powers.are_powers.Reads as are-powers-reads
 use Rattle.rules.proofs.building.every_second.Reads as every-second-reads
 

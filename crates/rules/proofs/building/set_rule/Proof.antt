@@ -4,9 +4,9 @@ use Rattle.rules.proofs.building.set_rule.Statement.{statement}
 use Rattle.rules.proofs.building.set_rule.Tie as tie
 use Rattle.rules.proofs.building.set_rule.Reads as reads
 use Rattle.rules.proofs.building.set_rule.Lts as lts
-use Rattle.pieces.proofs.cells.power.Reads as power-reads
+use Rattle.pieces.proofs.formers.power.Reads as power-reads
 use Rattle.pieces.proofs.members.are_members.Reads as are-members-reads
-use Rattle.solver.proofs.new_unknown.Reads as new-unknown-reads
+use Rattle.cells.proofs.growth.new_unknown.Reads as new-unknown-reads
 
 new-unknown-requires : tie.Need-new-unknown-requires
 new-unknown-requires c κs = set-unknown _ _ _ _ _ _ (c .before .before .before .before .pre)

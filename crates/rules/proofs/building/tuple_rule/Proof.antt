@@ -4,7 +4,7 @@ use Rattle.rules.proofs.building.tuple_rule.Statement.{statement}
 use Rattle.rules.proofs.building.tuple_rule.Tie as tie
 use Rattle.rules.proofs.building.tuple_rule.Reads as reads
 use Rattle.rules.proofs.building.tuple_rule.Lts as lts
-use Rattle.pieces.proofs.cells.product.Reads as product-reads
+use Rattle.pieces.proofs.formers.product.Reads as product-reads
 
 product-requires : tie.Need-product-requires
 product-requires c κs = search needs

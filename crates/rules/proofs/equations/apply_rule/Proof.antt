@@ -5,10 +5,10 @@ use Rattle.rules.proofs.equations.apply_rule.Statement.{statement}
 use Rattle.rules.proofs.equations.apply_rule.Tie as tie
 use Rattle.rules.proofs.equations.apply_rule.Reads as reads
 use Rattle.rules.proofs.equations.apply_rule.Lts as lts
-use Rattle.pieces.proofs.cells.pair.Reads as pair-reads
-use Rattle.pieces.proofs.cells.power.Reads as power-reads
+use Rattle.pieces.proofs.formers.pair.Reads as pair-reads
+use Rattle.pieces.proofs.formers.power.Reads as power-reads
 use Rattle.pieces.proofs.equal.Reads as equal-reads
-use Rattle.solver.proofs.new_unknown.Reads as new-unknown-reads
+use Rattle.cells.proofs.growth.new_unknown.Reads as new-unknown-reads
 
 new-unknown-requires : tie.Need-new-unknown-requires
 new-unknown-requires c κs = apply-making _ _ _ _ _ _ (c .before .before .before .pre)

@@ -5,7 +5,7 @@ use Rattle.rules.proofs.equations.both_integers.Statement.{statement}
 use Rattle.rules.proofs.equations.both_integers.Tie as tie
 use Rattle.rules.proofs.equations.both_integers.Reads as reads
 use Rattle.rules.proofs.equations.both_integers.Lts as lts
-use Rattle.pieces.proofs.cells.integer.Reads as integer-reads
+use Rattle.pieces.proofs.formers.integer.Reads as integer-reads
 use Rattle.pieces.proofs.equal.Reads as equal-reads
 
 integer-requires : tie.Need-integer-requires

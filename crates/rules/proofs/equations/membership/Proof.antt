@@ -5,7 +5,7 @@ use Rattle.rules.proofs.equations.membership.Statement.{statement}
 use Rattle.rules.proofs.equations.membership.Tie as tie
 use Rattle.rules.proofs.equations.membership.Reads as reads
 use Rattle.rules.proofs.equations.membership.Lts as lts
-use Rattle.pieces.proofs.cells.power.Reads as power-reads
+use Rattle.pieces.proofs.formers.power.Reads as power-reads
 use Rattle.pieces.proofs.equal.Reads as equal-reads
 
 power-requires : tie.Need-power-requires

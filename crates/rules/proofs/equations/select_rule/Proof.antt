@@ -5,9 +5,9 @@ use Rattle.rules.proofs.equations.select_rule.Statement.{statement}
 use Rattle.rules.proofs.equations.select_rule.Tie as tie
 use Rattle.rules.proofs.equations.select_rule.Reads as reads
 use Rattle.rules.proofs.equations.select_rule.Lts as lts
-use Rattle.solver.proofs.component.Reads as component-reads
-use Rattle.solver.proofs.finite.Reads as finite-reads
-use Rattle.solver.proofs.new_settled.Reads as new-settled-reads
+use Rattle.solver.proofs.components.component.Reads as component-reads
+use Rattle.solver.proofs.acyclicity.finite.Reads as finite-reads
+use Rattle.cells.proofs.growth.new_settled.Reads as new-settled-reads
 
 finite-requires : tie.Need-finite-requires
 finite-requires c κs = select-reads _ _ _ _ _ _ (c .before .before .before .pre)

@@ -1,0 +1,110 @@
+-- What each function asks and promises. The ghost values n, P₀, L are those of any reading of the area: a function asks that there is one, and
+-- promises for each.
+use mathlib.Core.Path.{_≡_}
+use mathlib.Core.Bool.{Bool, true, false}
+use mathlib.Core.List.{List}
+use mathlib.Core.Option.{some}
+use Prim.Native.Nat.{ℕ, suc, _+_, _*_, _≤_, _<_}
+use lib.Dec.{eqb}
+use lib.ListN.{length, getD, set}
+use Rattle.types.specs.Classes.{rep, zipN}
+use Rattle.types.specs.Equations.{In, Pairs, end, pair}
+use Rattle.types.specs.Follows.{Clash, View, shape, unk}
+use Rattle.types.specs.Former.{formerOf}
+use Rattle.cells.specs.Store.{frozen, linkAt, fieldAt, tagAt, argAt, firstAt, countAt, run, partsAt, formerAt, viewOf, view, Cell, load, weight, Held, Solved, pending, Busy}
+
+-- The words of a new cell n.
+unfoldable pub put : List ℕ → ℕ → ℕ → ℕ → ℕ → ℕ → List ℕ
+put s n t a f c = set (set (set (set (set s (39936 + n) 0) (46080 + 4 * n) t) (46081 + 4 * n) a) (46082 + 4 * n) f) (46083 + 4 * n) c
+
+-- A new cell may be made of these words.
+pub record Making (s : List ℕ) (n t a f c : ℕ) : Type 0 where
+  pub P₀ : Pairs ℕ
+  pub L : Pairs ℕ
+  pub solved : Solved s n P₀ L
+  pub few : n < 1024
+  pub tags : t ≤ 6
+  pub plain : t < 2 → a ≡ 0
+  pub powers : t ≡ 3 → a ≡ 0
+  pub products : t ≡ 4 → a ≡ c
+  pub one : t ≡ 3 → c ≡ 1
+  pub low : 4096 ≤ f
+  pub room : f + c ≤ 6144
+  pub named-low : t ≡ 5 → 4096 ≤ a
+  pub named : t ≡ 5 → a + c ≤ 6144
+  pub older : (k : ℕ) → In k (run (frozen s) f c) → k < n
+  pub fit : load (frozen s) n + 1 + c < 2048
+
+-- Cell n is made; nothing else changed.
+pub record Made (s s′ : List ℕ) (n t a f c : ℕ) : Type 0 where
+  pub words : s′ ≡ put s n t a f c
+  pub grown : (P₀ L : Pairs ℕ) → Solved s n P₀ L → Solved s′ (suc n) P₀ L
+  pub old : (i : ℕ) → i < n → view (frozen s′) (suc n) i ≡ view (frozen s) n i
+  pub new : view (frozen s′) (suc n) n ≡ viewOf t (formerOf t a (run (frozen s) a c)) (run (frozen s) f c)
+
+-- The runs of the cells end at or below the place `top`.
+pub record Above (w : List ℕ) (n top : ℕ) : Type 0 where
+  pub low : 4096 ≤ top
+  pub parts : (i : ℕ) → i < n → firstAt w i + countAt w i ≤ top
+  pub names : (i : ℕ) → i < n → tagAt w i ≡ 5 → argAt w i + countAt w i ≤ top
+
+pub record Adding (s : List ℕ) (n top : ℕ) : Type 0 where
+  pub P₀ : Pairs ℕ
+  pub L : Pairs ℕ
+  pub solved : Solved s n P₀ L
+  pub above : Above (frozen s) n top
+  pub room : top < 6144
+
+-- A word more in the runs, at `top`.
+pub record Added (s s′ : List ℕ) (n top x : ℕ) : Type 0 where
+  pub words : s′ ≡ set s (46080 + top) x
+  pub grown : (P₀ L : Pairs ℕ) → Solved s n P₀ L → Solved s′ n P₀ L
+  pub old : (i : ℕ) → i < n → view (frozen s′) n i ≡ view (frozen s) n i
+  pub above : Above (frozen s′) n (suc top)
+
+-- The answer b tells whether A.
+pub record Tells (b : Bool) (A : Type 0) : Type 0 where
+  pub holds : b ≡ true → A
+  pub fails : b ≡ false → A → ⊥
+
+pub record Known (s : List ℕ) (i : ℕ) : Type 0 where
+  pub n : ℕ
+  pub L : Pairs ℕ
+  pub held : Held s n L
+  pub made : i < n
+
+-- r is the representative of i.
+pub record Root (s : List ℕ) (i r : ℕ) : Type 0 where
+  pub is : (n : ℕ) (L : Pairs ℕ) → Held s n L → i < n → rep eqb L i ≡ r
+  pub free : linkAt s r ≡ 0
+
+pub record Runs (w : List ℕ) (p q k : ℕ) : Type 0 where
+  pub size : length w ≡ 6144
+  pub left : p + k ≤ length w
+  pub right : q + k ≤ length w
+
+-- Two cells of which the runs can be compared.
+pub record Two (w : List ℕ) (x y : ℕ) : Type 0 where
+  pub size : length w ≡ 6144
+  pub few-x : x < 1024
+  pub few-y : y < 1024
+  pub left : Cell w x
+  pub right : Cell w y
+  pub shaped-x : 0 < tagAt w x
+  pub shaped-y : 0 < tagAt w y
+
+abbrev pub Alike : List ℕ → ℕ → ℕ → Type 0
+Alike w x y = (formerAt w x ≡ formerAt w y) × (countAt w x ≡ countAt w y)
+
+pub record Pushing (s : List ℕ) (k x y : ℕ) : Type 0 where
+  pub size : length s ≡ 52224
+  pub two : Two (frozen s) x y
+  pub same : countAt (frozen s) x ≡ countAt (frozen s) y
+  pub fit : k + countAt (frozen s) x ≤ 2048
+
+-- The pairs of parts of x and y stand on the k pairs that were pending.
+pub record Pushed (s s′ : List ℕ) (k x y r : ℕ) : Type 0 where
+  pub count : r ≡ k + countAt (frozen s) x
+  pub still : frozen s′ ≡ frozen s
+  pub front : (i : ℕ) → i < 41984 → getD s′ i 0 ≡ getD s i 0
+  pub pairs : zipN (partsAt (frozen s) x) (partsAt (frozen s) y) (pending s k) ≡ some (pending s′ r)

@@ -1,0 +1,7 @@
+pub mod Layout
+pub mod Store
+pub mod Calls
+pub mod Flat
+pub mod Settled
+pub mod Merging
+pub mod Parts

@@ -1,0 +1,42 @@
+// Finding 34: cells whose types are left open.
+use cells::area::LINKS;
+use cells::area::field;
+use cells::links::find;
+use words::word;
+ghost use mathlib.Core.Path.{_≡_};
+ghost use Prim.Native.Nat.{_<_};
+ghost use Rattle.cells.specs.Store.{frozen, tagAt};
+ghost use Rattle.cells.specs.Settled.{wordAt};
+ghost use Rattle.solver.specs.Answers.{Left};
+ghost use Rattle.solver.specs.Sizes.{Read};
+ghost use Rattle.cells.specs.Calls.{Tells};
+
+// Cell r is an unknown, and refers to no type.
+fn is_open(a: &[u32], r: usize) -> bool
+    requires { ⌜ r < 1024 ⌝ }
+    ensures { λ b. ⌜ Tells b ((tagAt (frozen (now (a .entry))) r ≡ 0) × (wordAt (now (a .entry)) r < 1025)) ⌝ }
+{
+    if field(a, r, 0) != 0 {
+        return false;
+    }
+    if word(a, LINKS + r) < 1025 {
+        return true;
+    }
+    false
+}
+
+// Is there a cell whose type the equations and the settled types leave open?
+pub fn left_open(a: &[u32], n: usize) -> bool
+    requires { ⌜ Read (now a) n ⌝ }
+    ensures { λ r. ⌜ Left (now (a .entry)) n r ⌝ }
+{
+    let mut i = 0;
+    while i < n {
+        let r = find(a, i);
+        if is_open(a, r) {
+            return true;
+        }
+        i += 1;
+    }
+    false
+}

@@ -1,0 +1,80 @@
+// Sizes of types, at most 33.
+use cells::area::LINKS;
+use cells::area::MARKS;
+use cells::area::field;
+use cells::area::part;
+use cells::links::find;
+use cells::type_words::lead_words;
+use cells::type_words::name_words;
+use cells::type_words::parts_of;
+use cells::type_words::skip;
+use cells::type_words::type_word;
+use words::word;
+ghost use mathlib.Core.Path.{_≡_};
+ghost use Rattle.cells.specs.Settled.{Reading};
+ghost use Rattle.solver.specs.Answers.{LookingRoot};
+ghost use Rattle.solver.specs.Sizes.{cap, TypeSize, UnknownSize, Measuring, Measured};
+
+// Sizes stop at 33.
+pub fn capped(x: usize) -> usize
+    ensures { λ r. ⌜ r ≡ cap x ⌝ }
+{
+    if x < 33 {
+        return x;
+    }
+    33
+}
+
+// The size of the type at p, at most 33.
+pub fn type_size(a: &[u32], d: &[u32], p: usize) -> usize
+    requires { ⌜ Reading (now a) (now d) p ⌝ }
+    ensures { λ v. ⌜ TypeSize (now (a .entry)) (now (d .entry)) p v ⌝ }
+{
+    let t = type_word(a, d, p);
+    let w = name_words(t);
+    let n = parts_of(a, d, t, p);
+    let mut at = p + lead_words(t);
+    let mut sum = 1;
+    let mut j = 0;
+    while j < n {
+        let q = at + w;
+        sum = capped(sum + type_size(a, d, q));
+        at = skip(a, d, q);
+        j += 1;
+    }
+    sum
+}
+
+// The size of the unknown r, a representative, at most 33.
+fn unknown_size(a: &[u32], d: &[u32], r: usize) -> usize
+    requires { ⌜ LookingRoot (now a) (now d) r ⌝ }
+    ensures { λ v. ⌜ UnknownSize (now (a .entry)) (now (d .entry)) r v ⌝ }
+{
+    let q = word(a, LINKS + r);
+    if q < 1025 {
+        return 1;
+    }
+    type_size(a, d, q - 1025)
+}
+
+// The size of the type of cell i, at most 33. The marks are those of `finite`.
+pub fn cell_size(a: &[u32], d: &[u32], i: usize) -> usize
+    requires { ⌜ Measuring (now a) (now d) i ⌝ }
+    ensures { λ v. ⌜ Measured (now (a .entry)) (now (d .entry)) i v ⌝ }
+{
+    if 32 < word(a, MARKS + i) {
+        return 33;
+    }
+    let r = find(a, i);
+    if field(a, r, 0) == 0 {
+        return unknown_size(a, d, r);
+    }
+    let k = field(a, r, 3);
+    let mut sum = 1;
+    let mut j = 0;
+    while j < k {
+        sum = capped(sum + cell_size(a, d, part(a, r, j)));
+        j += 1;
+    }
+    sum
+}
