@@ -8,7 +8,7 @@ use Rattle.values.specs.Integer.{signed}
 use Rattle.values.specs.declared.numbers.Number.{Number}
 use Rattle.values.specs.declared.numbers.Number.the-variants.{Integer, Misfit}
 
-unfoldable pub findingOf : Number → ℕ
+abbrev pub findingOf : Number → ℕ
 findingOf (Integer z) = 0
 findingOf Misfit = 51
 

@@ -50,7 +50,7 @@ unfoldable pub insert : List ℕ → List ℕ → List ℕ
 insert s m = insertAt (place s m) s m
 
 -- Apply: the lowest pair whose first part is a; 51 at a member before it that is no pair, 52 where there is none
-unfoldable pub findingOf : Applied → ℕ
+abbrev pub findingOf : Applied → ℕ
 findingOf (Found at len) = 0
 findingOf Misfit = 51
 findingOf Undefined = 52
