@@ -5,4 +5,4 @@ pub mod Decoding
 pub mod StateWords
 pub mod StatePlace
 pub mod RunFindings
-pub mod Marked
+pub mod RuleLaws

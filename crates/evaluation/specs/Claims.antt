@@ -5,7 +5,7 @@ use mathlib.Core.Bool.{true, false}
 use Prim.Native.Nat.{ℕ, _≤_, _<_}
 use lib.ListN.{length}
 use Rattle.values.specs.Value.{Value}
-use Rattle.syntax.specs.Tree.{Document}
+use Rattle.syntax.specs.Tree.{Document, Expr, Exprs, Include, integers, product, power, selection, theta, schemaSet}
 use Rattle.syntax.specs.Reading.{readOf}
 use Rattle.syntax.specs.Decode.{treeOf}
 use Rattle.syntax.specs.declared.Reading.the-variants.{Readable, Refused as Unreadable}
@@ -28,6 +28,15 @@ pub data Good (E : ℕ → Value → Type 0) (S : ℕ → ℕ → Type 0) {A : T
 pub data Last (n : ℕ) : Outcome Value → Type 0 where
   last : (t : List Event) (v : Value) → Last n (done (t ++ (worked n v ∷ [])) v)
   none : {t : List Event} {number node : ℕ} → Last n (stopped t number node)
+
+-- the expressions that are 54 as values (R23)
+pub data NotRun : Expr → Type 0 where
+  noIntegers : (n : ℕ) → NotRun (integers n)
+  noPower : (n : ℕ) (a : Expr) → NotRun (power n a)
+  noProduct : (n : ℕ) (xs : Exprs) → NotRun (product n xs)
+  noSelect : (n : ℕ) (a : Expr) (i : ℕ) → NotRun (selection n a i)
+  noTheta : (n s k : ℕ) → NotRun (theta n s k)
+  noSchemaSet : (n : ℕ) (i : Include) → NotRun (schemaSet n i)
 
 -- a state is ill formed at entry k, or at 0 for its pairs: all Given entries in entry order, then the others (R20)
 pub data IllFormed (ns : List Name) (state : List ℕ) : ℕ → Type 0 where

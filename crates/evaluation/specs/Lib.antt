@@ -7,5 +7,4 @@ pub mod Assignments
 pub mod Rules
 pub mod Paragraphs
 pub mod Run
-pub mod Marked
 pub mod Claims

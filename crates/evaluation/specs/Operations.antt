@@ -4,21 +4,25 @@ use Prim.Native.Nat.{ℕ}
 use lib.IntN.{ℤ}
 use lib.Dec.{leb, eqb}
 use Rattle.values.specs.Value.{Value, int, element, set, tuple, Values, nil, cons}
-use Rattle.integers.specs.Integer.{sum, difference, product, quotient, remainder}
+use Rattle.integers.specs.Integer.{findingOf, sum, difference, product, quotient, remainder}
+use Rattle.values.specs.Numbers.{findingOf as numberFinding}
+use Rattle.values.specs.Sets.{findingOf as applyFinding}
 use Rattle.integers.specs.declared.integer.Integer.{Integer}
 use Rattle.integers.specs.declared.integer.Integer.the-variants.{Whole, Undefined, Outside}
+use Rattle.values.specs.declared.numbers.Number.the-variants as Number
+use Rattle.values.specs.declared.sets.Applied.the-variants as Applied
 use Rattle.syntax.specs.Tree.{Operator, plus, minus, times, Connective, and, or, implies}
 use Rattle.syntax.specs.Tree as Tree
 use Rattle.values.specs.SetValues.{insertValue, Image, found, misfit, undefined, applyValue}
 use Rattle.evaluation.specs.Members.{wordCount}
 use Rattle.evaluation.specs.Outcomes.{Outcome, _>>=_, pure, stop, keep}
 
--- 51: a value of a sort that the operation at node n cannot use
+-- 51: a value of a sort that the operation at node n cannot use. The numbers of answers that are enums stand in their findingOf.
 unfoldable pub asInteger : ℕ → Value → Outcome ℤ
 asInteger n (int z) = pure z
-asInteger n (element g k) = stop 51 n
-asInteger n (set vs) = stop 51 n
-asInteger n (tuple vs) = stop 51 n
+asInteger n (element g k) = stop (numberFinding Number.Misfit) n
+asInteger n (set vs) = stop (numberFinding Number.Misfit) n
+asInteger n (tuple vs) = stop (numberFinding Number.Misfit) n
 
 unfoldable pub asSet : ℕ → Value → Outcome Values
 asSet n (int z) = stop 51 n
@@ -43,8 +47,8 @@ add n v vs = let r = insertValue v vs in addIf (leb (wordCount (set r)) 64) n r
 -- Apply: the lowest pair whose first part equals the argument a; a member that is no pair, met before it, is 51; none found is 52
 unfoldable pub image : ℕ → Image → Outcome Value
 image n (found v) = pure v
-image n misfit = stop 51 n
-image n undefined = stop 52 n
+image n misfit = stop (applyFinding Applied.Misfit) n
+image n undefined = stop (applyFinding Applied.Undefined) n
 
 unfoldable pub findPair : ℕ → Value → Values → Outcome Value
 findPair n a vs = image n (applyValue a vs)
@@ -52,8 +56,8 @@ findPair n a vs = image n (applyValue a vs)
 -- arithmetic: 52 where there is no result, then 53 where it is outside 32 bits signed (R23)
 unfoldable pub keepInteger : ℕ → Integer → Outcome Value
 keepInteger n (Whole z) = keep n (int z)
-keepInteger n Undefined = stop 52 n
-keepInteger n Outside = stop 53 n
+keepInteger n Undefined = stop (findingOf Undefined) n
+keepInteger n Outside = stop (findingOf Outside) n
 
 unfoldable pub calculate : Operator → ℤ → ℤ → Integer
 calculate plus a b = sum a b

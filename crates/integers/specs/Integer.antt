@@ -21,7 +21,7 @@ abbrev pub in32 : ℤ → Bool
 in32 z = ltb (mag z) (2 ^ 31)
 
 -- the finding of each answer; a whole number has none
-unfoldable pub findingOf : Integer → ℕ
+abbrev pub findingOf : Integer → ℕ
 findingOf (Whole z) = 0
 findingOf Undefined = 52
 findingOf Outside = 53

@@ -3,5 +3,3 @@ pub mod LineLaws
 pub mod Decimal
 pub mod SizeLaws
 pub mod Lengths
-pub mod Marked
-pub mod Printed

@@ -5,9 +5,7 @@ pub mod Operands
 pub mod DepthLaws
 pub mod WithinLimits
 pub mod PathLaws
-pub mod Marked
 pub mod LowerNodes
-pub mod TreeMarked
 pub mod TreeShape
 pub mod TreeExpr
 pub mod TreePred

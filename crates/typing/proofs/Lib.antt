@@ -13,7 +13,6 @@ pub mod Sized
 pub mod SizedTree
 pub mod FormedItems
 pub mod FormedCheck
-pub mod Marked
 pub mod GlobalNames
 pub mod WrittenOnce
 pub mod SecondCase
