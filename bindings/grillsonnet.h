@@ -5,7 +5,7 @@
  * areas may run at the same time. Areas that a call writes to overlap no other area of that call.
  *
  * A finding is one number: 0 where there is none, else number * 2^32 + place. Z_NUMBER and Z_PLACE take it apart. Number and place are document
- * 01's: a node of the document, an entry of the state, or 0. */
+ * 01's, but for number 1 of a run that fails: a node of the document, an entry of the state, or 0. */
 #ifndef GRILLSONNET_H
 #define GRILLSONNET_H
 
@@ -25,9 +25,10 @@ uint64_t z_read(const uint32_t *document, size_t words);
 /* A document with a state: reading's finding; then 41 with the entry of the state that is ill formed, 0 for its pairs; 0 where there is none. */
 uint64_t z_state(const uint32_t *document, size_t words, const uint32_t *state, size_t state_words);
 
-/* The check of a document: reading's finding; then 21 where the work area has under 16384 words; then 22 where the dictionary has no room in its
- * area, 31 to 38 with the node; 0 where the document is accepted. After acceptance the dictionary area holds the dictionary with zeros after it,
- * after a refusal zeros. The work area is zero after it. */
+/* The check of a document: reading's finding; then 21 where the work area has under 16384 words; then 22 at 0 where the dictionary area has no words;
+ * then, paragraph by paragraph, 31 to 38 with the node, last 22 with the paragraph where the dictionary through it has no room in its area; 0 where
+ * the document is accepted. After acceptance the dictionary area holds the dictionary with zeros after it, after a refusal zeros. The work area is
+ * zero after it. */
 uint64_t z_check(const uint32_t *document, size_t words, uint32_t *dictionary, size_t dictionary_words, uint32_t *work, size_t work_words);
 
 /* The check of a document, then a state against its dictionary: the check's finding; then 41 as z_state; then 42 with the entry whose value is not

@@ -1,11 +1,9 @@
 //! Links the archive that `rt staticlib capi` writes, or the one that Z_LIB
-//! names. Which calls it has the build script of a crate above knows by
-//! DEP_CAPI_CALLS; this crate knows of those to come by a cfg of the name.
+//! names. Which calls it has, the build script of a crate above knows by
+//! DEP_CAPI_CALLS.
 
 use std::path::{Path, PathBuf};
 use std::process::Command;
-
-const TO_COME: [&str; 3] = ["z_check", "z_fit", "z_run"];
 
 fn main() {
     let archive = archive();
@@ -13,15 +11,8 @@ fn main() {
     println!("cargo::rerun-if-env-changed=Z_LIB");
     println!("cargo::rerun-if-changed=build.rs");
     println!("cargo::rerun-if-changed={}", archive.display());
-    let symbols = symbols(&archive);
-    for call in TO_COME {
-        println!("cargo::rustc-check-cfg=cfg({call})");
-        if symbols.iter().any(|symbol| symbol == call) {
-            println!("cargo::rustc-cfg={call}");
-        }
-    }
     println!("cargo::metadata=archive={}", archive.display());
-    println!("cargo::metadata=calls={}", symbols.join(" "));
+    println!("cargo::metadata=calls={}", symbols(&archive).join(" "));
     link(&archive);
 }
 

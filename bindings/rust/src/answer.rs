@@ -13,7 +13,8 @@ pub struct Finding {
 #[derive(Clone, Copy, PartialEq, Eq, Debug)]
 pub enum Ending {
     Holds,
-    /// At the node of a constraint that is false.
+    /// At the Decl whose test is false, or at the Axiom or Constraint whose
+    /// predicate is false.
     FailsAt(u32),
 }
 

@@ -30,7 +30,6 @@ pub fn state(document: &[u32], state: &[u32]) -> Result<(), Finding> {
 
 /// The check: after acceptance the dictionary area holds the dictionary with
 /// zeros after it, after a refusal zeros. The work area is zero after it.
-#[cfg(z_check)]
 pub fn check(document: &[u32], dictionary: &mut [u32], work: &mut [u32]) -> Result<(), Finding> {
     answer::of_finding(unsafe {
         raw::z_check(
@@ -46,7 +45,6 @@ pub fn check(document: &[u32], dictionary: &mut [u32], work: &mut [u32]) -> Resu
 
 /// The check, then the state: 41, and 42 for a value that does not fit its
 /// type. The areas as after a check.
-#[cfg(z_fit)]
 pub fn fit(
     document: &[u32],
     state: &[u32],
@@ -68,7 +66,6 @@ pub fn fit(
 }
 
 /// The run of a document on a state. The work area is zero after it.
-#[cfg(z_run)]
 pub fn run(document: &[u32], state: &[u32], work: &mut [u32]) -> Result<Ending, Finding> {
     answer::of_run(unsafe {
         raw::z_run(

@@ -11,7 +11,6 @@ extern "C" {
         state_words: usize,
     ) -> u64;
 
-    #[cfg(z_check)]
     pub fn z_check(
         document: *const u32,
         words: usize,
@@ -21,7 +20,6 @@ extern "C" {
         work_words: usize,
     ) -> u64;
 
-    #[cfg(z_fit)]
     pub fn z_fit(
         document: *const u32,
         words: usize,
@@ -33,7 +31,6 @@ extern "C" {
         work_words: usize,
     ) -> u64;
 
-    #[cfg(z_run)]
     pub fn z_run(
         document: *const u32,
         words: usize,

@@ -47,8 +47,9 @@ fn check_code(f: Finding) -> u64
     }
 }
 
-// The check of a document: reading's finding first, then 21, 22 and those of the paragraphs. After acceptance the dictionary area holds the
-// dictionary and zeros after it, after a refusal zeros; the work area is zeros afterwards.
+// The check of a document: reading's finding first, then 21, then 22 at 0 where the dictionary area has no words; then, paragraph by paragraph, 31 to 38
+// with the node, last 22 with the paragraph. After acceptance the dictionary area holds the dictionary and zeros after it, after a refusal zeros; the
+// work area is zeros afterwards.
 #[no_mangle]
 pub extern "C" fn z_check(doc: &[u32], dict: &mut [u32], work: &mut [u32]) -> u64
     ensures { λ n. ⌜ Decided (checkOf (now (doc .entry)) (length (now (dict .entry))) (length (now (work .entry)))) (length (now (dict .entry))) (length (now (work .entry))) n (now (dict .exit)) (now (work .exit)) ⌝ }

@@ -8,7 +8,7 @@ use typing::Finding;
 use words::clear;
 use words::word;
 
-pub mod entering;
+mod entering;
 
 use crate::entering::DICTIONARY_AREA;
 use crate::entering::enter;

@@ -78,9 +78,9 @@ unfoldable mutual
       evalExpr a scope >>= λ v. asSet n v >>= λ vs. evalLines ls scope >>= λ ds. pure (domains xs vs ds)
   evalLines (inclusion i ls) scope = stopInclude i
 
-  -- Member's test of v against an expression, of which `value` is the evaluation: ℤ needs an integer, Power a set whose members pass, Product a
-  -- tuple of that many parts that pass, any other E is worked out anew and must be a set; a wrong sort or number of parts is 51 at the node
-  -- tested against. ℤ, Power and Product leave no entry in the list (R26).
+  -- Member's test of v against an expression: ℤ needs an integer, Power a set whose members pass, Product a tuple of that many parts that pass, any
+  -- other E is worked out anew and must be a set; a wrong sort or number of parts is 51 at the node tested against. ℤ, Power and Product leave no
+  -- entry in the list (R26). `value` is the expression's own evaluation, handed in because a structural block calls itself on operands only.
   pub testExpr : Expr → (Scope → Outcome Value) → Value → Scope → Outcome Bool
   testExpr (reference n i xs) value v scope = value scope >>= amongMembers n v
   testExpr (number n k) value v scope = value scope >>= amongMembers n v
@@ -96,7 +96,7 @@ unfoldable mutual
   testExpr (arithmetic n o a b) value v scope = value scope >>= amongMembers n v
   testExpr (comprehension n t a) value v scope = value scope >>= amongMembers n v
 
-  -- part by part, the first miss ends it
+  -- part by part, the first miss ends it; there are as many parts as expressions, else `sameCount` has stopped, so neither list ends first
   pub testExprs : Exprs → Values → Scope → Outcome Bool
   testExprs none vs scope = pure true
   testExprs (more a xs) nil scope = pure true

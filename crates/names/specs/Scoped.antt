@@ -35,7 +35,7 @@ IsBinding g = (ids : List ℕ) × (gs : Tys) × (g ≡ node (binding ids) gs)
 abbrev pub SchemaType : Ty → Type 0
 SchemaType g = FewParts g × IsBinding g
 
--- Entries keep to the limits: 0 to 4 parameters, types of size 32 at most, 16 identifiers at most (document 01, paragraphs 4 and 5, and 38).
+-- Entries keep to the limits: a name has 4 parameters at most and a type of size 32 at most, a schema the type of a schema (document 01, kinds 4 and 5, and 38).
 unfoldable pub Limited : Dictionary → Type 0
 Limited blank = Unit {0}
 Limited (D ▸ nameEntry i p g) = Limited D × (p ≤ 4) × (size g ≤ 32)

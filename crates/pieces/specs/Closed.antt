@@ -21,7 +21,7 @@ pub record Closing (s d : List ℕ) (n : ℕ) : Type 0 where
   pub top : ℕ
   pub ready : Ready s d n top
 
--- The piece G has one solution, `type`, and the marks of the store are the sizes. Any node m may close it.
+-- The piece G has one solution, `type`, and the store has the marks of `finite`, in which a settled cell counts 1. Any node m may close it.
 pub record Shut (s d : List ℕ) (n : ℕ) (G : Ghost) : Type 0 where
   pub type : ℕ → Ty
   pub solution : Solution s d n (G .equations) type

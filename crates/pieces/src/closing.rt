@@ -2,7 +2,7 @@
 
 ghost use Rattle.pieces.specs.Closed.{Closing, Closed, Sizing, SizeIs, Wording, WordsAre};
 
-// Has the piece of the n cells one solution? Its types are finite, as those of every piece; the test for that marks their sizes.
+// Has the piece of the n cells one solution? Its types are finite, as those of every piece; the test for that sets the marks.
 pub fn close(a: &mut [u32], d: &[u32], n: usize) -> bool
     requires { ⌜ Closing (now a) (now d) n ⌝ }
     ensures { λ r. ⌜ Closed (now (a .entry)) (now (a .exit)) (now (d .entry)) n r ⌝ }

@@ -74,6 +74,7 @@ entryFrom (n ∷ ns) i k = cond (eqb (n .identifier) i) k (entryFrom ns i (suc k
 unfoldable pub entryValue : (ℕ → ℕ) → Name → List ℕ → Value
 entryValue sizes n w = cond (n .isGiven) (elements (n .identifier) (getD w 0 0)) (valueOf sizes w)
 
+-- What comes for an identifier without an entry is never used: a run and a fit ask for names of the document only.
 unfoldable pub valueIn : List Name → List ℕ → State
 valueIn ns state i = let k = entryFrom ns i 1 in entryValue (sizesIn ns state) (nameAt ns k) (part state k)
 

@@ -31,6 +31,7 @@ givenBy table state k = cond (eqb (getD table (2 * k) 0) 0) 0 (cond (isSize (par
 unfoldable pub valueBy : List ℕ → List ℕ → ℕ → ℕ
 valueBy table state k = cond (eqb (getD table (2 * k) 0) 0) (cond (isValue (sizeOf table) (part state k)) 0 41) 0
 
--- the entry of a name among those of line v, the first of which has entry k; 0 for none
+-- the entry of a name among those of line v, the first of which has entry k; 0 for none. `true`, although they are no givens: the place is the same
+-- for both (`as-any`).
 unfoldable pub linePlace : List ℕ → ℕ → ℕ → ℕ → ℕ
 linePlace doc v name k = cond (eqb (kindAt doc v) 11) (entryFrom (namesAs true (drop 2 (part doc v))) name k) 0

@@ -19,7 +19,8 @@ ghost use Rattle.states.specs.Names.{namesAs, lineNames, paragraphNames,
 ghost use Rattle.states.specs.States.{entryFrom};
 ghost use Rattle.states.specs.Table.{linePlace};
 
-// The entry of a name among the words from `from` on, the first of which has entry k; 0 for none.
+// The entry of a name among the words from `from` on, the first of which has entry k; 0 for none. `true` stands for givens and others alike: the place is
+// the same.
 fn place_in(w: &[u32], from: usize, k: usize, name: usize) -> usize
     requires { ⌜ (k < 2 ^ 16) × (length (now w) ≤ 256) ⌝ }
     ensures { λ r. ⌜ r ≡ entryFrom (namesAs true (drop from (now (w .entry)))) name k ⌝ }
@@ -103,12 +104,4 @@ pub fn place_of(doc: &[u32], name: usize) -> usize
         i += 1;
     }
     0
-}
-
-// The words of the entry of a name, as a part of the state; no words where the document declares no such name.
-pub fn entry_of<'a>(doc: &[u32], state: &'a [u32], name: usize) -> &'a [u32]
-    requires { ⌜ readOf (now doc) ≡ Readable ⌝ }
-    ensures { λ r. ⌜ now r ≡ part (now (state .entry)) (entryFrom (documentNames (treeOf (now (doc .entry)))) name 1) ⌝ }
-{
-    part(state, place_of(doc, name))
 }

@@ -81,7 +81,7 @@ unfoldable mutual
   -- Product, Power: operands are powers; power of product, power of power
   exprItems (product n xs) Γ = exprsItems xs Γ ⨾ arePowers n xs 1 ⨾ typed n (powerOf (productOf (row n 1 (exprsLength xs))))
   exprItems (power n a) Γ = exprItems a Γ ⨾ isPower n 1 a ⨾ typed n (powerOf (powerOf (unknownAt n 1)))
-  -- Apply: function = power of (argument × result)
+  -- Apply: function = power of (argument × result); "here the argument meets the first part only"
   exprItems (application n a b) Γ =
       exprItems a Γ ⨾ exprItems b Γ ⨾ fresh (slot n 0) ⨾ equate 33 n (typeOf a) (powerOf (pairOf (typeOf b) (unknownAt n 0)))
   -- Select: its component's type, 35 also where only a later node would settle it (R14)
