@@ -18,7 +18,7 @@ use Rattle.values.specs.Order.{compareWord, orElse, compare, isLess, isSame, sa
 use Rattle.values.specs.Givens.{elementsFrom, elements, smallSize, sizeFrom, sizeOf}
 use Rattle.values.specs.Form.{elementShape, groupShape, shapeOf, follows, nextFits, groupEnd, byShape, valueLength, isValue}
 use Rattle.values.specs.SetValues.{sameValue, isIn, insertBy, insertValue, applyValue}
-use Rattle.evaluation.specs.Members.{wordCount}
+use Rattle.evaluation.specs.WordCount.{wordCount}
 use Rattle.evaluation.specs.Outcomes.{after, _>>=_, keepIf, keep}
 use Rattle.evaluation.specs.Scope.{pick, lookup, refer}
 use Rattle.evaluation.specs.Operations.{asInteger, asSet, asTuple, addIf, add, image, findPair, keepInteger, calculate, connect, allPass, countIf, sameCount}

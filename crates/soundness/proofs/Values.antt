@@ -14,7 +14,7 @@ use Rattle.types.specs.Former as Former
 use Rattle.types.specs.Types.{Ty, node, Tys, tnil, tcons}
 use Rattle.fit.specs.HasType.{Has, isInteger, isElement, isSet, isTuple, MembersHave, noMember, aMember, PartsHave, noPart, aPart}
 use Rattle.values.specs.SetValues.{sameValue, insertBy, insertValue, Image, found, misfit, undefined, applyValue}
-use Rattle.evaluation.specs.Members.{wordCount}
+use Rattle.evaluation.specs.WordCount.{wordCount}
 use Rattle.evaluation.specs.Outcomes.{Outcome, keepIf, keep}
 use Rattle.evaluation.specs.Operations.{asInteger, asSet, asTuple, addIf, add, image, findPair, keepInteger}
 use Rattle.evaluation.specs.Claims.{empty, entry, Good, finished}
