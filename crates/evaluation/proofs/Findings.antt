@@ -15,7 +15,7 @@ use Rattle.syntax.specs.Tree.{comprehension, Exprs, none, more, Pred, truth, eq
 use Rattle.syntax.specs.Tree.{declaration, inclusion, Include, include}
 use Rattle.syntax.specs.Tree as Tree
 use Rattle.values.specs.SetValues.{Image, found, misfit, undefined, applyValue}
-use Rattle.evaluation.specs.Members.{wordCount}
+use Rattle.evaluation.specs.WordCount.{wordCount}
 use Rattle.evaluation.specs.Outcomes.{Outcome, _>>=_, pure, stop, keepIf, keep}
 use Rattle.evaluation.specs.Scope.{Scope, Meaning, valued, generic, unknown, refer}
 use Rattle.evaluation.specs.Operations.{asInteger, asSet, asTuple, addIf, add, image, findPair, keepInteger, connect, allPass, countIf, sameCount}

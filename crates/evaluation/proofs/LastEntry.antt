@@ -8,7 +8,7 @@ use Rattle.values.specs.Value.{Value}
 use Rattle.integers.specs.declared.integer.Integer.{Integer}
 use Rattle.integers.specs.declared.integer.Integer.the-variants.{Whole, Undefined, Outside}
 use Rattle.syntax.specs.Tree.{Expr, reference, number, integers, set, tuple, product, power, application, selection, theta, schemaSet, arithmetic, comprehension, Exprs, none, more, exprNode}
-use Rattle.evaluation.specs.Members.{wordCount}
+use Rattle.evaluation.specs.WordCount.{wordCount}
 use Rattle.evaluation.specs.Outcomes.{Event, worked, Outcome, done, stopped, after, _>>=_, keepIf, keep}
 use Rattle.evaluation.specs.Scope.{Scope, Meaning, valued, generic, unknown, refer}
 use Rattle.evaluation.specs.Operations.{keepInteger}

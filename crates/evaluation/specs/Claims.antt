@@ -9,7 +9,7 @@ use Rattle.syntax.specs.Tree.{Document, Expr, Exprs, Include, integers, product
 use Rattle.syntax.specs.Reading.{readOf}
 use Rattle.syntax.specs.Decode.{treeOf}
 use Rattle.syntax.specs.declared.Reading.the-variants.{Readable, Refused as Unreadable}
-use Rattle.evaluation.specs.Members.{wordCount}
+use Rattle.evaluation.specs.WordCount.{wordCount}
 use Rattle.evaluation.specs.Outcomes.{Event, worked, Outcome, done, stopped}
 use Rattle.states.specs.Names.{Name, documentNames}
 use Rattle.states.specs.States.{isPaired, givenNumber, valueNumber, stateOf}

@@ -1,5 +1,5 @@
 -- Document 01, "States and runs", in reading order.
-pub mod Members
+pub mod WordCount
 pub mod Outcomes
 pub mod Scope
 pub mod Operations

@@ -14,7 +14,7 @@ use Rattle.values.specs.declared.sets.Applied.the-variants as Applied
 use Rattle.syntax.specs.Tree.{Operator, plus, minus, times, Connective, and, or, implies}
 use Rattle.syntax.specs.Tree as Tree
 use Rattle.values.specs.SetValues.{insertValue, Image, found, misfit, undefined, applyValue}
-use Rattle.evaluation.specs.Members.{wordCount}
+use Rattle.evaluation.specs.WordCount.{wordCount}
 use Rattle.evaluation.specs.Outcomes.{Outcome, _>>=_, pure, stop, keep}
 
 -- 51: a value of a sort that the operation at node n cannot use. The numbers of answers that are enums stand in their findingOf.

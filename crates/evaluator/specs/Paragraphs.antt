@@ -19,7 +19,7 @@ pub record Roomy (work : List ℕ) (n m : ℕ) : Type 0 where
   pub few : n + m ≤ 64
   pub wide : 16384 ≤ length work
 
--- the identifiers of an Axiom's Decls, with the values that the state gives them
+-- the identifiers of an Axiom's Decls, with the values that the state gives them; `bindGivens` binds any identifiers
 unfoldable pub bindLines : Lines → State → Scope → Scope
 bindLines end state scope = scope
 bindLines (declaration n a xs ls) state scope = bindLines ls state (bindGivens xs state scope)

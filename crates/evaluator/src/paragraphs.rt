@@ -48,7 +48,7 @@ fn fail(k: usize) -> Worked
     }
 }
 
-// The identifiers of Decl v, with the words x, from j on: the value of each is tested against the Decl's expression.
+// The identifiers of Decl v, with the words x, from j on: the value of each is tested against the Decl's expression. `true` stands for givens and others alike.
 fn test_names(
     doc: &[u32],
     state: &[u32],

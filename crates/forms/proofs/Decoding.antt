@@ -1,4 +1,4 @@
--- `isValue` holds of exactly the words of well-formed values of at most 64 words.
+-- `isValue` holds of the words of every well-formed value of at most 64 words; that it holds of no others is in Reading.
 use mathlib.Core.Path.{_≡_, refl, _∙_}
 use mathlib.Core.Bool.{Bool, true, false, false≢true}
 use mathlib.Core.List.{List, [], _∷_, _++_, append-assoc, append-nil}

@@ -49,7 +49,7 @@ use Rattle.states.specs.Names.{namesAs, lineNames, paragraphNames, namesOf as n
 use Rattle.states.specs.Decode.{valuesFrom, valueByShape, valueAt, valueOf}
 use Rattle.states.specs.States.{sizeTable, sizesIn, isSize, givenNumber, valueNumber, isPaired, entriesOf, stateIf, stateOf, entryFrom, entryValue}
 use Rattle.states.specs.States.{valueIn}
-use Rattle.evaluation.specs.Members.{wordCount}
+use Rattle.evaluation.specs.WordCount.{wordCount}
 use Rattle.evaluation.specs.Operations.{image, asInteger, asSet, asTuple, addIf, add, findPair, keepInteger, calculate, connect, allPass, countIf}
 use Rattle.evaluation.specs.Operations.{sameCount}
 use Rattle.evaluation.specs.Outcomes.{after, _>>=_, keepIf, keep}

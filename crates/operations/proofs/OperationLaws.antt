@@ -36,7 +36,7 @@ use Rattle.values.proofs.Holding.{held-part, held-words, held-len, keep-fits}
 use Rattle.values.proofs.IntegerValues.{number-value}
 use Rattle.words.proofs.Loops.{and-left, and-right}
 use Rattle.values.proofs.Encoding.{span-value}
-use Rattle.evaluation.specs.Members.{wordCount}
+use Rattle.evaluation.specs.WordCount.{wordCount}
 use Rattle.evaluation.specs.Outcomes.{Outcome, _>>=_, pure, stop, keepIf, keep}
 use Rattle.evaluation.specs.Operations.{asInteger, asSet, asTuple, addIf, add, image, findPair, keepInteger, calculate}
 use Rattle.operations.specs.declared.worked.Worked.{Worked}

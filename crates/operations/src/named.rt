@@ -58,7 +58,7 @@ fn put_stated(doc: &[u32], state: &[u32], table: &[u32], work: &mut [u32], b: us
     put_name(work, b, name, held_name(doc, state, table, name));
 }
 
-// The identifiers among the words w from j on, in blocks from b on.
+// The identifiers among the words w from j on, in blocks from b on. `true` stands for givens and others alike: Declares looks at identifiers only.
 pub fn put_names(
     doc: &[u32],
     state: &[u32],
