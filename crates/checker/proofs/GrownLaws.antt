@@ -20,7 +20,7 @@ use Rattle.typing.proofs.FormedCheck.{FormedSolved, solve-formed, extend-formed
 use Rattle.typing.proofs.FormedItems.{formedParagraph}
 use Rattle.typing.proofs.ItemLaws.{not-both}
 use Rattle.typing.proofs.OneType.{extend-same}
-use Rattle.typing.proofs.Sized.{SizedParagraph}
+use Rattle.syntax.proofs.Sized.{SizedParagraph}
 use Rattle.typing.proofs.SolvingRight.{Verdict, solve-right}
 use Rattle.dictionary.specs.Holds.{Holds}
 use Rattle.dictionary.specs.Waiting.{withEntries, waiting}

@@ -5,4 +5,9 @@ pub mod Decoding
 pub mod StateWords
 pub mod StatePlace
 pub mod RunFindings
+pub mod WordOrder
+pub mod FormedState
+pub mod FormedRules
+pub mod FormedRun
+pub mod LowestPair
 pub mod Marked

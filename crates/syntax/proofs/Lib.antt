@@ -27,3 +27,5 @@ pub mod LimitedTree
 pub mod LimitedMore
 pub mod TreeWords
 pub mod OnceBelow
+pub mod Sized
+pub mod SizedTree

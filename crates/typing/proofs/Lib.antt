@@ -9,7 +9,6 @@ pub mod CheckRight
 pub mod FormedInstances
 pub mod FormedSignatures
 pub mod FormedScopes
-pub mod Sized
 pub mod SizedTree
 pub mod FormedItems
 pub mod FormedCheck
