@@ -14,6 +14,7 @@ pub mod FormedItems
 pub mod FormedCheck
 pub mod Marked
 pub mod GlobalNames
+pub mod RenamedNames
 pub mod WrittenOnce
 pub mod SecondCase
 pub mod NamesKept
