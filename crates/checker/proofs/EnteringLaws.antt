@@ -21,7 +21,7 @@ use Rattle.dictionary.specs.Holds.{Holds}
 use Rattle.dictionary.specs.Waiting.{withEntries, waiting, Waits, Waiting, AppendedAll}
 use Rattle.dictionary.proofs.Places.{size-held}
 use Rattle.dictionary.proofs.WaitingLaws.{entries-grow}
-use Rattle.names.specs.Scoped.{Recorded}
+use Rattle.names.specs.Scoped.{DictionaryHeld}
 use Rattle.names.proofs.FewParameters.{few-parameters}
 use Rattle.walk.specs.Paragraphs.{ParagraphAsk, Extended, ParagraphDone}
 use Rattle.checker.specs.Entering.{Listed, Ready, Entered}
@@ -105,7 +105,7 @@ module _ (doc : List ℕ) (k : ℕ) (L : Listed doc k) (s s′ d w w′ : List �
         omega arith
 
     module _ (d′ : List ℕ) (r : Bool) (A : (D : Dictionary) (es : List Entry) → length es ≡ c → Holds D d → Waits es w′ at → dictionaryLength (withEntries es D) ≤ 2 ^ 31 → AppendedAll D es d d′ r) where
-      appended : (D : Dictionary) (S : Recorded D d) (E : Extended w′ p D at c) → AppendedAll D (E .entries) d d′ r
+      appended : (D : Dictionary) (S : DictionaryHeld D d) (E : Extended w′ p D at c) → AppendedAll D (E .entries) d d′ r
       appended D S E = A D (E .entries) (E .counted) (S .holds) (E .waits) (short-all D (E .entries) (S .holds) (E .short))
 
       pub entered-accepted : r ≡ true → Entered s s′ d d′ (paragraphAt doc k) Accepted

@@ -17,12 +17,12 @@ use Rattle.typing.specs.WellFormed.{FormedDictionary}
 use Rattle.typing.specs.declared.Finding.{Finding}
 use Rattle.dictionary.specs.Holds.{Holds}
 use Rattle.instances.specs.Clean.{Clean}
-use Rattle.names.specs.Scoped.{Recorded, Limited}
+use Rattle.names.specs.Scoped.{DictionaryHeld, Limited}
 use Rattle.checker.specs.Answering.{ParagraphsAsk, Answered}
 use Rattle.checker.proofs.DocumentWords.{words-some}
 
 -- The first paragraph: an area that is zero holds the empty dictionary.
-pub blank-recorded : (d : List ℕ) → Holds blank d → Recorded blank d
+pub blank-recorded : (d : List ℕ) → Holds blank d → DictionaryHeld blank d
 unfolding FormedDictionary Limited
 blank-recorded d H = record { holds = H; formed = tt; limited = tt }
 

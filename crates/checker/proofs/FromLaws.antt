@@ -19,7 +19,7 @@ use Rattle.typing.specs.declared.Finding.{Finding}
 use Rattle.typing.specs.declared.Finding.the-variants.{Accepted, Refused}
 use Rattle.dictionary.specs.Holds.{Holds}
 use Rattle.instances.proofs.CleanLaws.{clean-lower}
-use Rattle.names.specs.Scoped.{Recorded}
+use Rattle.names.specs.Scoped.{DictionaryHeld}
 use Rattle.checker.specs.Entering.{Listed, Grown, Entered}
 use Rattle.checker.specs.Answering.{ParagraphsAsk, Answered}
 use Rattle.checker.proofs.AnsweringLaws.{told-refused}
@@ -39,7 +39,7 @@ answers-next p ps D d′ G (accepted E) h = (G .passes, (G .table, G .meets, G .
 answers-next p ps D d′ G (refused f m) h = inr (G .passes, (G .table, G .meets, inr (G .recorded .holds .fits, h)))
 
 module _ (doc : List ℕ) (i m : ℕ) where
-  pub from-none : m ≡ 0 → (d : List ℕ) (D : Dictionary) → Recorded D d → Answered (paragraphsFrom doc (count doc) i m) D (length d) d Accepted
+  pub from-none : m ≡ 0 → (d : List ℕ) (D : Dictionary) → DictionaryHeld D d → Answered (paragraphsFrom doc (count doc) i m) D (length d) d Accepted
   unfolding AnswersFrom Accepts paragraphsFrom gather findingOf
   from-none z d D R = rw z (record { answer = accepted D; answers = refl; told = record { finding = refl; held = λ E q. let e : D ≡ E = cc in subst (λ (X : Dictionary). Holds X d) e (R .holds) } })
 
@@ -50,7 +50,7 @@ module _ (doc : List ℕ) (i m : ℕ) where
     from-first : paragraphAt doc k ∷ rest ≡ paragraphsFrom doc (count doc) i m
     from-first = ap (λ (j : ℕ). paragraphAt doc j ∷ rest) is ∙ sym (from-next doc (count doc) i m some)
 
-    pub from-stops : (s s′ d d′ : List ℕ) (r : Finding) → Entered s s′ d d′ (paragraphAt doc k) r → (f j : ℕ) → r ≡ Refused f j → (D : Dictionary) → Recorded D d
+    pub from-stops : (s s′ d d′ : List ℕ) (r : Finding) → Entered s s′ d d′ (paragraphAt doc k) r → (f j : ℕ) → r ≡ Refused f j → (D : Dictionary) → DictionaryHeld D d
         → Answered (paragraphsFrom doc (count doc) i m) D (length d) d′ (Refused f j)
     unfolding AnswersFrom
     from-stops s s′ d d′ r E f j q D R = record {
@@ -60,7 +60,7 @@ module _ (doc : List ℕ) (i m : ℕ) where
     }
 
     pub from-goes : (s s′ d d₁ : List ℕ) (r : Finding) → Entered s s′ d d₁ (paragraphAt doc k) r → r ≡ Accepted → length d₁ ≡ length d → (d′ : List ℕ) (a : Finding)
-        → ((D : Dictionary) → Recorded D d₁ → Answered rest D (length d₁) d′ a) → (D : Dictionary) → Recorded D d
+        → ((D : Dictionary) → DictionaryHeld D d₁ → Answered rest D (length d₁) d′ a) → (D : Dictionary) → DictionaryHeld D d
         → Answered (paragraphsFrom doc (count doc) i m) D (length d) d′ a
     from-goes s s′ d d₁ r E q e d′ a N D R =
         let G = E .goes q D R in

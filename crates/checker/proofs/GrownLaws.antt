@@ -20,13 +20,13 @@ use Rattle.typing.proofs.FormedCheck.{FormedSolved, solve-formed, extend-formed
 use Rattle.typing.proofs.FormedItems.{formedParagraph}
 use Rattle.typing.proofs.ItemLaws.{not-both}
 use Rattle.typing.proofs.OneType.{extend-same}
-use Rattle.typing.proofs.Sized.{SizedParagraph}
+use Rattle.syntax.proofs.Sized.{SizedParagraph}
 use Rattle.typing.proofs.SolvingRight.{Verdict, solve-right}
 use Rattle.dictionary.specs.Holds.{Holds}
 use Rattle.dictionary.specs.Waiting.{withEntries, waiting}
 use Rattle.dictionary.proofs.Monotone.{length-more}
 use Rattle.names.specs.Extended.{FewParameters}
-use Rattle.names.specs.Scoped.{Recorded}
+use Rattle.names.specs.Scoped.{DictionaryHeld}
 use Rattle.names.proofs.LimitedKept.{limited-extend}
 
 -- Any table that meets the items gives the entries that the solver's own table gives, and that table is well formed.
@@ -44,7 +44,7 @@ module _ (p : Paragraph) (D : Dictionary) (τ : Table) (P : Passes (paragraphIte
           (extend-formed (tableOf s) (λ x. sol-fit Arity s k (λ y. ℤ) (λ y. integer-formed) x) p D f)
       go (refuse g m) v k = absurd (not-both t Any g m P v)
 
-  pub extended-recorded : SizedParagraph p → FewParameters p → (d d′ : List ℕ) → Recorded D d → Holds (extend p D τ) d′ → Recorded (extend p D τ) d′
+  pub extended-recorded : SizedParagraph p → FewParameters p → (d d′ : List ℕ) → DictionaryHeld D d → Holds (extend p D τ) d′ → DictionaryHeld (extend p D τ) d′
   extended-recorded z f d d′ R H = record { holds = H; formed = extended-formed z (R .formed); limited = limited-extend p D τ f (R .limited) M }
 
 -- An entry that waits takes one word more in the dictionary, for its offset.

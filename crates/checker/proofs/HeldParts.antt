@@ -10,7 +10,7 @@ use Rattle.dictionary.specs.Growth.{sizeAt}
 use Rattle.dictionary.specs.Holds.{Holds}
 use Rattle.dictionary.proofs.LiftLaws.{drop-zeros}
 use Rattle.dictionary.proofs.Places.{size-held}
-use Rattle.names.specs.Scoped.{Recorded}
+use Rattle.names.specs.Scoped.{DictionaryHeld}
 
 take-zeros : (m k : ℕ) → take m (replicate (m + k) 0) ≡ replicate {A = ℕ} m 0
 take-zeros zero k = refl
@@ -70,7 +70,7 @@ held-whole D d m H =
     }
 
 -- The words in use.
-pub recorded-part : (D : Dictionary) (d part : List ℕ) (n : ℕ) → n ≡ sizeAt d → part ≡ take n (drop 0 d) → Recorded D d → Recorded D part
+pub recorded-part : (D : Dictionary) (d part : List ℕ) (n : ℕ) → n ≡ sizeAt d → part ≡ take n (drop 0 d) → DictionaryHeld D d → DictionaryHeld D part
 recorded-part D d part n e q R =
     let h = R .holds in
     let s = size-held D d h in

@@ -17,7 +17,7 @@ use Rattle.syntax.proofs.TreeShape.{all-at, _▹_}
 use Rattle.syntax.proofs.TreeParagraph.{paragraph-range, paragraph-given, paragraph-axiomatic, paragraph-schema, paragraph-abbreviation, paragraph-constraint, document-law}
 use Rattle.typing.specs.Check.{paragraphsOf}
 use Rattle.typing.specs.Entries.{paragraphNode}
-use Rattle.typing.proofs.Sized.{SizedParagraph, SizedParagraphs}
+use Rattle.syntax.proofs.Sized.{SizedParagraph, SizedParagraphs}
 use Rattle.typing.proofs.SizedTree.{tree-sized}
 use Rattle.cells.proofs.Growing.{lt-or-ge}
 use Rattle.checker.specs.Entering.{Listed}

@@ -18,7 +18,7 @@ use Rattle.typing.specs.declared.Finding.{Finding}
 use Rattle.typing.specs.declared.Finding.the-variants.{Accepted, Refused}
 use Rattle.cells.specs.Settled.{lower}
 use Rattle.instances.specs.Clean.{Clean}
-use Rattle.names.specs.Scoped.{Recorded}
+use Rattle.names.specs.Scoped.{DictionaryHeld}
 
 -- Node k is a paragraph of a readable document, operand `place` of its Document.
 pub record Listed (doc : List ℕ) (k : ℕ) : Type 0 where
@@ -34,7 +34,7 @@ pub record Ready (s d w : List ℕ) : Type 0 where
   pub clean : Clean s 1
   pub wide : 16384 ≤ length w
   pub dictionary : Dictionary
-  pub recorded : Recorded dictionary d
+  pub recorded : DictionaryHeld dictionary d
   pub few : dictionaryLength dictionary < 2 ^ 30
 
 -- The paragraph p passes over the dictionary D, and the area d holds D with its entries.
@@ -42,11 +42,11 @@ pub record Grown (p : Paragraph) (D : Dictionary) (d : List ℕ) : Type 0 where
   pub passes : Passes (paragraphItems p D) Any
   pub table : Table
   pub meets : Meets (paragraphItems p D) table
-  pub recorded : Recorded (extend p D table) d
+  pub recorded : DictionaryHeld (extend p D table) d
   pub short : dictionaryLength (extend p D table) ≤ dictionaryLength D + 16384
 
 -- Accepted: p passes, and the pool is empty again; otherwise p refuses, before any paragraphs ps.
 pub record Entered (s s′ d d′ : List ℕ) (p : Paragraph) (r : Finding) : Type 0 where
   pub low : r ≡ Accepted → lower s′ ≡ lower s
-  pub goes : r ≡ Accepted → (D : Dictionary) → Recorded D d → Grown p D d′
-  pub stops : (f m : ℕ) → r ≡ Refused f m → (D : Dictionary) → Recorded D d → (ps : List Paragraph) → RefusesAt (p ∷ ps) D (length d) f m
+  pub goes : r ≡ Accepted → (D : Dictionary) → DictionaryHeld D d → Grown p D d′
+  pub stops : (f m : ℕ) → r ≡ Refused f m → (D : Dictionary) → DictionaryHeld D d → (ps : List Paragraph) → RefusesAt (p ∷ ps) D (length d) f m

@@ -22,7 +22,7 @@ ghost use Rattle.syntax.specs.declared.Reading.the-variants.{Readable};
 ghost use Rattle.typing.specs.Areas.{Checked};
 ghost use Rattle.typing.specs.Check.{paragraphsOf};
 ghost use Rattle.typing.specs.Dictionary.{Dictionary, blank};
-ghost use Rattle.names.specs.Scoped.{Recorded};
+ghost use Rattle.names.specs.Scoped.{DictionaryHeld};
 ghost use Rattle.checker.specs.Answering.{ParagraphsAsk, Answered, TreeAnswered, Answering};
 
 // The fewest words of a work area.
@@ -44,7 +44,7 @@ fn paragraphs_from(
     m: usize,
 ) -> Finding
     requires { ⌜ ParagraphsAsk (now doc) (now a) (now dict) (now work) i m ⌝ }
-    ensures { λ r. ⌜ ((D : Dictionary) → Recorded D (now (dict .entry)) → Answered (paragraphsFrom (now (doc .entry)) (count (now (doc .entry))) i m) D (length (now (dict .entry))) (now (dict .exit)) r) ⌝ }
+    ensures { λ r. ⌜ ((D : Dictionary) → DictionaryHeld D (now (dict .entry)) → Answered (paragraphsFrom (now (doc .entry)) (count (now (doc .entry))) i m) D (length (now (dict .entry))) (now (dict .exit)) r) ⌝ }
 {
     if m == 0 {
         return Finding::Accepted;

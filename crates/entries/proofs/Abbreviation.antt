@@ -31,7 +31,7 @@ use Rattle.pieces.specs.Piece.{Walked, Settled}
 use Rattle.pieces.specs.Stage.{Ghost}
 use Rattle.pieces.proofs.Between.{walked-then, walked-mine, refuses-first, refuses-second, small-noted, small-refused}
 use Rattle.pieces.proofs.Stages.{next, next-stands, placed-cell}
-use Rattle.names.specs.Scoped.{Scoped, Recorded}
+use Rattle.names.specs.Scoped.{Scoped, DictionaryHeld}
 use Rattle.inclusion.specs.Storing.{Stored}
 use Rattle.walk.specs.Expressions.{ExprAsk, ExprDone}
 use Rattle.walk.specs.Paragraphs.{ParagraphAsk, ParagraphDone}
@@ -55,7 +55,7 @@ module _ (s d w : List ℕ) (p : Paragraph) (k i : ℕ) (ps : List ℕ) (a : Exp
   abbrev around : Dictionary → Scope
   around D = withParameters ps 1 (globals D)
 
-  begun : (D : Dictionary) → Recorded D d → Scoped s₁ d w₁ n (idle skip []) (around D) D
+  begun : (D : Dictionary) → DictionaryHeld D d → Scoped s₁ d w₁ n (idle skip []) (around D) D
   begun D R = P .scoped d (globals D) D (no-rows s d w D R)
 
   nodes-few : length (exprNumbers a) ≤ 24
@@ -119,10 +119,10 @@ module _ (s d w : List ℕ) (p : Paragraph) (k i : ℕ) (ps : List ℕ) (a : Exp
       abbrev Mine : ℕ → Type 0
       Mine = Owned (exprNumbers a)
 
-      went : (D : Dictionary) → Recorded D d → Introduced s₁ s₂ d 0 4096 n′ top′ G₀ (body D) Mine (slot (exprNode a) 0) cell
+      went : (D : Dictionary) → DictionaryHeld D d → Introduced s₁ s₂ d 0 4096 n′ top′ G₀ (body D) Mine (slot (exprNode a) 0) cell
       went D R = T .goes fine G₀ (opened s₁ d skip [] nothing-before (P .stored .size ∙ A .size) (A .few)) (around D) D (begun D R) (nothing-known (exprNumbers a))
 
-      ghost : (D : Dictionary) (R : Recorded D d) → Ghost
+      ghost : (D : Dictionary) (R : DictionaryHeld D d) → Ghost
       ghost D R = next s₁ s₂ d 0 4096 n′ top′ G₀ (body D) Mine (went D R .advanced)
 
       pub closing-asked : Closing s₂ d n′
@@ -152,17 +152,17 @@ module _ (s d w : List ℕ) (p : Paragraph) (k i : ℕ) (ps : List ℕ) (a : Exp
       })
 
       module _ (s₃ : List ℕ) (C : Closed s₂ s₃ d n′ true) where
-        closed : (D : Dictionary) (R : Recorded D d) → Walked skip (piece k (body D)) [] (went D R .advanced .mentioned) Mine
+        closed : (D : Dictionary) (R : DictionaryHeld D d) → Walked skip (piece k (body D)) [] (went D R .advanced .mentioned) Mine
         closed D R = piece-walked s₁ s₂ s₃ d n′ top′ skip [] k (body D) Mine (went D R .advanced) (A .few) C
 
-        shut : (D : Dictionary) (R : Recorded D d) → Shut s₃ d n′ (next s₁ s₂ d 0 4096 n′ top′ G₀ (body D) Mine (went D R .advanced))
+        shut : (D : Dictionary) (R : DictionaryHeld D d) → Shut s₃ d n′ (next s₁ s₂ d 0 4096 n′ top′ G₀ (body D) Mine (went D R .advanced))
         shut D R =
             C .goes refl top′ (next s₁ s₂ d 0 4096 n′ top′ G₀ (body D) Mine (went D R .advanced)) (next-stands s₁ s₂ d 0 4096 n′ top′ G₀ (body D) Mine (went D R .advanced) (A .few))
 
-        abbrev type : (D : Dictionary) (R : Recorded D d) → Ty
+        abbrev type : (D : Dictionary) (R : DictionaryHeld D d) → Ty
         type D R = shut D R .type cell
 
-        settled : (D : Dictionary) (R : Recorded D d) → Settled (skip ⨾ piece k (body D)) (typeOf a) (type D R)
+        settled : (D : Dictionary) (R : DictionaryHeld D d) → Settled (skip ⨾ piece k (body D)) (typeOf a) (type D R)
         unfolding Meets under
         settled D R τ m = shut D R .types k (slot (exprNode a) 0) cell (went D R .placed) τ (m .0, (tt, m .1))
 
@@ -179,7 +179,7 @@ module _ (s d w : List ℕ) (p : Paragraph) (k i : ℕ) (ps : List ℕ) (a : Exp
         pub sizing : Sizing s₃ d n′ cell
         sizing = own-sizing
 
-        refuse-second : (D : Dictionary) (R : Recorded D d) (f m : ℕ) → Refuses (rest D) (Meets (skip ⨾ piece k (body D))) f m → Refuses (paragraphItems (abbreviation k i ps a) D) (Meets skip) f m
+        refuse-second : (D : Dictionary) (R : DictionaryHeld D d) (f m : ℕ) → Refuses (rest D) (Meets (skip ⨾ piece k (body D))) f m → Refuses (paragraphItems (abbreviation k i ps a) D) (Meets skip) f m
         unfolding paragraphItems
         refuse-second D R f m r = refuses-second skip (piece k (body D)) (rest D) f m (closed D R .goes) r
 
@@ -197,13 +197,13 @@ module _ (s d w : List ℕ) (p : Paragraph) (k i : ℕ) (ps : List ℕ) (a : Exp
         })
 
         module _ (N : NewTold d (i ∷ []) true) (v : ℕ) (Z : SizeIs s₃ d n′ cell v) where
-          new : (D : Dictionary) (R : Recorded D d) → Walked (skip ⨾ piece k (body D)) (newNames k (i ∷ []) D) (went D R .advanced .mentioned) (went D R .advanced .mentioned) (λ x. ⊥)
+          new : (D : Dictionary) (R : DictionaryHeld D d) → Walked (skip ⨾ piece k (body D)) (newNames k (i ∷ []) D) (went D R .advanced .mentioned) (went D R .advanced .mentioned) (λ x. ⊥)
           new D R = N .goes refl D (skip ⨾ piece k (body D)) (went D R .advanced .mentioned) k (R .holds) (closed D R .steady)
 
-          measured : (D : Dictionary) (R : Recorded D d) → v ≡ cap (size (type D R))
+          measured : (D : Dictionary) (R : DictionaryHeld D d) → v ≡ cap (size (type D R))
           measured D R = Z (next s₁ s₂ d 0 4096 n′ top′ G₀ (body D) Mine (went D R .advanced)) (shut D R)
 
-          settled-then : (D : Dictionary) (R : Recorded D d) → Settled ((skip ⨾ piece k (body D)) ⨾ newNames k (i ∷ []) D) (typeOf a) (type D R)
+          settled-then : (D : Dictionary) (R : DictionaryHeld D d) → Settled ((skip ⨾ piece k (body D)) ⨾ newNames k (i ∷ []) D) (typeOf a) (type D R)
           unfolding Meets
           settled-then D R τ m = settled D R τ (m .0)
 
@@ -264,7 +264,7 @@ module _ (s d w : List ℕ) (p : Paragraph) (k i : ℕ) (ps : List ℕ) (a : Exp
               stops = λ z. absurd (z refl);
             })
               where
-                wrote : (D : Dictionary) (R : Recorded D d) → Wrote w₂ w₄ 1024 end (entryWaits (nameEntry i (length ps) (type D R)))
+                wrote : (D : Dictionary) (R : DictionaryHeld D d) → Wrote w₂ w₄ 1024 end (entryWaits (nameEntry i (length ps) (type D R)))
                 wrote D R =
                     subst (λ j. Wrote w₂ w₄ 1024 end (entryWaits (nameEntry i j (type D R)))) c
                     (head-wrote (words (type D R)) w₂ w₃ w₄ 1024 end len 1 i n (W (next s₁ s₂ d 0 4096 n′ top′ G₀ (body D) Mine (went D R .advanced)) (shut D R)) l hw)

@@ -20,7 +20,7 @@ use Rattle.solver.specs.Written.{Wrote}
 use Rattle.signatures.specs.Rows.{rows}
 use Rattle.signatures.proofs.RowLaws.{rows-length}
 use Rattle.dictionary.specs.Waiting.{waiting}
-use Rattle.names.specs.Scoped.{Recorded}
+use Rattle.names.specs.Scoped.{DictionaryHeld}
 use Rattle.walk.specs.Paragraphs.{ParagraphAsk, ParagraphDone}
 use Rattle.walk.specs.Texts.{TextAsk, TextDone, Declared}
 use Rattle.walk.specs.Visits.{globalsIf}
@@ -56,10 +56,10 @@ module _ (s d w : List ℕ) (p : Paragraph) (k : ℕ) (t : Text) (e : p ≡ axio
     })
 
     module _ (A : ParagraphAsk s d w p) (fine : number ≡ 0) where
-      went : (D : Dictionary) → Recorded D d → Declared s′ d w′ 0 m 512 skip [] (globals D) D true t
+      went : (D : Dictionary) → DictionaryHeld D d → Declared s′ d w′ 0 m 512 skip [] (globals D) D true t
       went D R = T .goes fine skip [] nothing-before (globals D) D (no-rows s d w D R) (nothing-known (textNumbers t))
 
-      own : (D : Dictionary) → Recorded D d → TypesOf s′ d (skip ⨾ textItems t (globals D) (globalsIf true D)) (textSignature t (globals D)) (rows w′ 512 m)
+      own : (D : Dictionary) → DictionaryHeld D d → TypesOf s′ d (skip ⨾ textItems t (globals D) (globalsIf true D)) (textSignature t (globals D)) (rows w′ 512 m)
       own D R =
           let X = went D R in
           types-of s′ d (skip ⨾ textItems t (globals D) (globalsIf true D)) (X .unknowns) (textSignature t (globals D)) (rows w′ 512 m) (X .signature)

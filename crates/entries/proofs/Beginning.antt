@@ -15,7 +15,7 @@ use Rattle.signatures.specs.Rows.{stack}
 use Rattle.signatures.specs.Carried.{Stacked}
 use Rattle.instances.specs.Clean.{Clean}
 use Rattle.pieces.specs.Piece.{Steady, Walked}
-use Rattle.names.specs.Scoped.{Scoped, Recorded}
+use Rattle.names.specs.Scoped.{Scoped, DictionaryHeld}
 use Rattle.walk.specs.Predicates.{Walking}
 use Rattle.walk.specs.Room.{Between}
 use Rattle.walk.specs.Visits.{Fresh, EachOnce, idle}
@@ -27,7 +27,7 @@ nothing-before = record { local = λ τ τ′ h m. tt; some = (λ x. ℤ, tt) }
 pub nothing-known : (l : List ℕ) → Fresh l []
 nothing-known l x o i = i
 
-pub no-rows : (s d w : List ℕ) (D : Dictionary) → Recorded D d → Scoped s d w 0 (idle skip []) (globals D) D
+pub no-rows : (s d w : List ℕ) (D : Dictionary) → DictionaryHeld D d → Scoped s d w 0 (idle skip []) (globals D) D
 unfolding Stacked stack
 no-rows s d w D R = record { stacked = refl; recorded = R }
 

@@ -19,7 +19,7 @@ use Rattle.solver.specs.Written.{Wrote}
 use Rattle.signatures.specs.Rows.{rows}
 use Rattle.signatures.proofs.RowLaws.{rows-length}
 use Rattle.dictionary.specs.Waiting.{withEntries, waiting}
-use Rattle.names.specs.Scoped.{Scoped, Recorded}
+use Rattle.names.specs.Scoped.{Scoped, DictionaryHeld}
 use Rattle.inclusion.specs.Storing.{Stored}
 use Rattle.walk.specs.Paragraphs.{ParagraphAsk, ParagraphDone}
 use Rattle.walk.specs.Schemas.{SchemaAsk, SchemaDone, SchemaWent}
@@ -41,7 +41,7 @@ module _ (s d w : List ℕ) (p : Paragraph) (k name : ℕ) (ps : List ℕ) (x : 
   abbrev around : Dictionary → Scope
   around D = withParameters ps 1 (globals D)
 
-  begun : (D : Dictionary) → Recorded D d → Scoped s₁ d w₁ n (idle skip []) (around D) D
+  begun : (D : Dictionary) → DictionaryHeld D d → Scoped s₁ d w₁ n (idle skip []) (around D) D
   begun D R = P .scoped d (globals D) D (no-rows s d w D R)
 
   pub schema-asked : SchemaAsk s₁ d w₁ n at₁ 512 x
@@ -70,10 +70,10 @@ module _ (s d w : List ℕ) (p : Paragraph) (k name : ℕ) (ps : List ℕ) (x : 
     })
 
     module _ (fine : number ≡ 0) where
-      went : (D : Dictionary) → Recorded D d → SchemaWent s₂ d w₂ m 512 skip [] (around D) x
+      went : (D : Dictionary) → DictionaryHeld D d → SchemaWent s₂ d w₂ m 512 skip [] (around D) x
       went D R = T .goes fine skip [] nothing-before (around D) D (begun D R) (nothing-known (schemaNumbers x))
 
-      own : (D : Dictionary) → Recorded D d → TypesOf s₂ d (skip ⨾ schemaItems x (around D)) (schemaSignature x (around D)) (rows w₂ 512 m)
+      own : (D : Dictionary) → DictionaryHeld D d → TypesOf s₂ d (skip ⨾ schemaItems x (around D)) (schemaSignature x (around D)) (rows w₂ 512 m)
       own D R = let X = went D R in types-of s₂ d (skip ⨾ schemaItems x (around D)) (X .unknowns) (schemaSignature x (around D)) (rows w₂ 512 m) (X .signature)
 
       stored : Stored s s₂ 1 at₂

@@ -6,3 +6,8 @@ pub mod StateWords
 pub mod StatePlace
 pub mod RunFindings
 pub mod RuleLaws
+pub mod WordOrder
+pub mod FormedState
+pub mod FormedRules
+pub mod FormedRun
+pub mod LowestPair

@@ -5,6 +5,7 @@ use mathlib.Core.Bool.{true, false}
 use Prim.Native.Nat.{ℕ, _≤_, _<_}
 use lib.ListN.{length}
 use Rattle.values.specs.Value.{Value}
+use Rattle.values.specs.WellFormed.{wellFormed}
 use Rattle.syntax.specs.Tree.{Document, Expr, Exprs, Include, integers, product, power, selection, theta, schemaSet}
 use Rattle.syntax.specs.Reading.{readOf}
 use Rattle.syntax.specs.Decode.{treeOf}
@@ -50,10 +51,15 @@ pub record WellFormed (ns : List Name) (state : List ℕ) : Type 0 where
   pub givens : (j : ℕ) → 1 ≤ j → j ≤ length ns → givenNumber ns state j ≡ 0
   pub others : (j : ℕ) → 1 ≤ j → j ≤ length ns → valueNumber ns state j ≡ 0
 
--- each listed value has at most 64 words; a stop of the evaluation rules is 51 to 55
+-- each listed value has at most 64 words
 abbrev pub Short : ℕ → Value → Type 0
 Short n v = wordCount v ≤ 64
 
+-- each listed value is well formed: integers of 32 bits, elements below their given's size, members ascending and distinct, 2 to 6 parts
+abbrev pub Formed : (ℕ → ℕ) → ℕ → Value → Type 0
+Formed size n v = wellFormed size v ≡ true
+
+-- a stop of the evaluation rules is 51 to 55
 abbrev pub Trouble : ℕ → ℕ → Type 0
 Trouble number node = (51 ≤ number) × (number ≤ 55)
 

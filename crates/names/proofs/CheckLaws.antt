@@ -16,7 +16,7 @@ use Rattle.typing.specs.Signatures.{Signature, someStroked}
 use Rattle.typing.specs.Unknowns.{Table}
 use Rattle.signatures.specs.Rows.{rows as rowsOf, strokedRows}
 use Rattle.pieces.specs.Stage.{Ghost}
-use Rattle.names.specs.Thetas.{Idle, RowsOver, RowsPlaced, Checked}
+use Rattle.names.specs.Thetas.{Idle, RowsOver, RowsPlaced, ThetaChecks}
 use Rattle.names.proofs.IdleLaws.{idle-refuses}
 use Rattle.names.proofs.PlacedLaws.{same-ids, stroked-same}
 
@@ -36,7 +36,7 @@ some-parameters : (p : ℕ) → (p ≡ 0 → ⊥) → ltb 0 p ≡ true
 some-parameters p ne = ⊎-elim (λ z. absurd (ne z)) (λ z. lt-ltb 0 p (omega arith)) (eq-zero-or-pos p)
 
 module _ (d w w′ : List ℕ) (rows base m p k : ℕ) (fine : Bool) (R : RowsPlaced d w w′ rows base m k fine) where
-  pub checked-names : fine ≡ false → Checked d w w′ rows base m p k 31
+  pub checked-names : fine ≡ false → ThetaChecks d w w′ rows base m p k 31
   unfolding Refuses
   checked-names e = record {
     below = R .below;
@@ -45,7 +45,7 @@ module _ (d w w′ : List ℕ) (rows base m p k : ℕ) (fine : Bool) (R : RowsPl
   }
 
   module _ (e : fine ≡ true) where
-    pub checked-parameters : (p ≡ 0 → ⊥) → Checked d w w′ rows base m p k 32
+    pub checked-parameters : (p ≡ 0 → ⊥) → ThetaChecks d w w′ rows base m p k 32
     checked-parameters ne = record {
       below = R .below;
       goes = λ z. absurd (omega arith);
@@ -58,7 +58,7 @@ module _ (d w w′ : List ℕ) (rows base m p k : ℕ) (fine : Bool) (R : RowsPl
       stroked : (s : List ℕ) (G : Ghost) (Γ : Scope) (r : Signature) → RowsOver s d w rows base m G Γ r → someStroked k r ≡ b
       stroked s G Γ r B = stroked-same k r (rowsOf w′ base m) (B .names ∙ sym (same-ids w w′ base m (R .names))) ∙ sym eb
 
-      pub checked-strokes : b ≡ true → Checked d w w′ rows base m p k 37
+      pub checked-strokes : b ≡ true → ThetaChecks d w w′ rows base m p k 37
       checked-strokes t = record {
         below = R .below;
         goes = λ y. absurd (omega arith);
@@ -68,7 +68,7 @@ module _ (d w w′ : List ℕ) (rows base m p k : ℕ) (fine : Bool) (R : RowsPl
             (refused-if (someStroked k r) 37 n rest (Meets (H ⨾ u)) (stroked s G Γ r B ∙ t)));
       }
 
-      pub checked-all : b ≡ false → Checked d w w′ rows base m p k 0
+      pub checked-all : b ≡ false → ThetaChecks d w w′ rows base m p k 0
       checked-all f = record {
         below = R .below;
         goes = λ y s G Γ r B.

@@ -26,7 +26,7 @@ use Rattle.signatures.proofs.CallLaws.{found-local, no-local}
 use Rattle.pieces.specs.Piece.{Stops}
 use Rattle.pieces.specs.Stage.{Ruled}
 use Rattle.pieces.proofs.Stages.{rule-goes, rule-stops, room-less}
-use Rattle.names.specs.Scoped.{SettledAt, Limited, Recorded}
+use Rattle.names.specs.Scoped.{SettledAt, Limited, DictionaryHeld}
 use Rattle.names.specs.References.{TypedAt, RecordedAt, Generic, Consulted, Global, Referring, Refers}
 use Rattle.names.proofs.Standing.{entering}
 
@@ -78,7 +78,7 @@ module _ (s d : List ℕ) (n top id e : ℕ) (found : (D : Dictionary) → Holds
   }
 
   module _ (some : e ≡ 0 → ⊥) (m : ℕ) (em : m ≡ parametersAt d e) (q : ℕ) (eq : q ≡ typeAt d e) where
-    module _ (D : Dictionary) (R : Recorded D d) where
+    module _ (D : Dictionary) (R : DictionaryHeld D d) where
       pub entry-some : 1 ≤ e
       entry-some = ⊎-elim (λ z. absurd (some z)) (λ z. omega arith) (eq-zero-or-pos e)
 

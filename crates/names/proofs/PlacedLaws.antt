@@ -23,7 +23,7 @@ use Rattle.signatures.proofs.ScopeLaws.{stack-kept}
 use Rattle.signatures.specs.Carried.{Stacked}
 use Rattle.pieces.specs.Stage.{Ghost}
 use Rattle.names.specs.Scoped.{SettledAt, Scoped}
-use Rattle.names.specs.Thetas.{InScope, RowsAsked, Placed, RowPlaced, Idle, RowsOver, RowsPlaced}
+use Rattle.names.specs.Thetas.{InScope, RowsAsked, ComponentInScope, RowPlaced, Idle, RowsOver, RowsPlaced}
 use Rattle.names.proofs.IdleLaws.{idle-refuses}
 
 -- The scope is the same where its words are.
@@ -158,7 +158,7 @@ takes-first false c e = absurd (true≢false e)
 
 module _ (s d : List ℕ) (G : Ghost) (Γ : Scope) (k : ℕ) (w : List ℕ) where
   pub theta-carried : (r : Signature) (b m : ℕ) → namesOf r ≡ identifiersOf (rowsOf w b m) → someStroked k r ≡ false →
-      ((i : ℕ) → i < m → Placed s d G Γ k (getD w (b + 2 * i) 0) (getD w (b + 2 * i + 1) 0)) → Carries (SettledAt s d G) (thetaSignature k r Γ) (rowsOf w b m)
+      ((i : ℕ) → i < m → ComponentInScope s d G Γ k (getD w (b + 2 * i) 0) (getD w (b + 2 * i + 1) 0)) → Carries (SettledAt s d G) (thetaSignature k r Γ) (rowsOf w b m)
   unfolding namesOf identifiersOf pairsFrom someStroked thetaSignature Carries
   theta-carried noNames b zero e u h = tt
   theta-carried noNames b (suc m) e u h = let z = ap length e in absurd (omega arith)
@@ -170,13 +170,13 @@ module _ (s d : List ℕ) (G : Ghost) (Γ : Scope) (k : ℕ) (w : List ℕ) wher
       let x : b + 2 * 0 ≡ b = omega arith in
       let y : b + 2 * 0 + 1 ≡ suc b = omega arith in
       let p = h 0 (omega arith) in
-      let q : Placed s d G Γ k i (getD w (suc b) 0) = subst (λ (z : ℕ). Placed s d G Γ k i (getD w z 0)) y (subst (λ (z : ℕ). Placed s d G Γ k z (getD w (b + 2 * 0 + 1) 0)) (ap (λ (z : ℕ). getD w z 0) x ∙ sym a) p) in (
+      let q : ComponentInScope s d G Γ k i (getD w (suc b) 0) = subst (λ (z : ℕ). ComponentInScope s d G Γ k i (getD w z 0)) y (subst (λ (z : ℕ). ComponentInScope s d G Γ k z (getD w (b + 2 * 0 + 1) 0)) (ap (λ (z : ℕ). getD w z 0) x ∙ sym a) p) in (
         a,
         q .settled (v .0),
         theta-carried r (suc (suc b)) m c (v .1)
             (λ j l.
             let f : b + 2 * suc j ≡ suc (suc b) + 2 * j = omega arith in
-            subst (λ (z : ℕ). Placed s d G Γ k (getD w z 0) (getD w (z + 1) 0)) f (h (suc j) (omega arith))),
+            subst (λ (z : ℕ). ComponentInScope s d G Γ k (getD w z 0) (getD w (z + 1) 0)) f (h (suc j) (omega arith))),
       )
 
 -- THE LOOP: j rows have their places.
@@ -184,7 +184,7 @@ pub record Placing (d w₀ w : List ℕ) (rows base j k : ℕ) : Type 0 where
   pub below : (i : ℕ) → i < base → getD w i 0 ≡ getD w₀ i 0
   pub names : (i : ℕ) → getD w (base + 2 * i) 0 ≡ getD w₀ (base + 2 * i) 0
   pub placed : (s : List ℕ) (G : Ghost) (Γ : Scope) (D : Dictionary) → Scoped s d w₀ rows G Γ D → length s ≡ 52224 → (i : ℕ) → i < j →
-      Placed s d G Γ k (getD w₀ (base + 2 * i) 0) (getD w (base + 2 * i + 1) 0)
+      ComponentInScope s d G Γ k (getD w₀ (base + 2 * i) 0) (getD w (base + 2 * i + 1) 0)
 
 pub placing-start : (d w : List ℕ) (rows base k : ℕ) → Placing d w w rows base 0 k
 placing-start d w rows base k = record { below = λ i l. refl; names = λ i. refl; placed = λ s G Γ D C z i l. absurd (omega arith) }
@@ -224,10 +224,10 @@ module _ (d w₀ w : List ℕ) (rows base m j k : ℕ) (A : RowsAsked d w₀ row
       placed = λ s G Γ D C z i l.
           ⊎-elim
           (λ e.
-          subst (λ (x : ℕ). Placed s d G Γ k (getD w₀ (base + 2 * x) 0) (getD w′ (base + 2 * x + 1) 0)) (sym e)
-          (subst (λ (x : ℕ). Placed s d G Γ k x (getD w′ (base + 2 * j + 1) 0)) (I .names j) (R .placed f s G Γ D (scoped-now s G Γ D C) z)))
+          subst (λ (x : ℕ). ComponentInScope s d G Γ k (getD w₀ (base + 2 * x) 0) (getD w′ (base + 2 * x + 1) 0)) (sym e)
+          (subst (λ (x : ℕ). ComponentInScope s d G Γ k x (getD w′ (base + 2 * j + 1) 0)) (I .names j) (R .placed f s G Γ D (scoped-now s G Γ D C) z)))
           (λ q.
-          subst (Placed s d G Γ k (getD w₀ (base + 2 * i) 0)) (sym (R .others (base + 2 * i + 1) (λ e. omega arith))) (I .placed s G Γ D C z i q))
+          subst (ComponentInScope s d G Γ k (getD w₀ (base + 2 * i) 0)) (sym (R .others (base + 2 * i + 1) (λ e. omega arith))) (I .placed s G Γ D C z i q))
           (eq-or-lt-of-le (let y : i ≤ j = omega arith in y));
     }
 
@@ -261,6 +261,6 @@ module _ (d w₀ w : List ℕ) (rows base m j k : ℕ) (A : RowsAsked d w₀ row
         n;
     carries = λ e s G Γ r B u.
         theta-carried s d G Γ k w r base m (B .names ∙ sym (same-ids w₀ w base m (I .names))) u
-        (λ i l. subst (λ (x : ℕ). Placed s d G Γ k x (getD w (base + 2 * i + 1) 0)) (sym (I .names i)) (I .placed s G Γ (B .dictionary) (B .scoped) (B .size) i (omega arith)));
+        (λ i l. subst (λ (x : ℕ). ComponentInScope s d G Γ k x (getD w (base + 2 * i + 1) 0)) (sym (I .names i)) (I .placed s G Γ (B .dictionary) (B .scoped) (B .size) i (omega arith)));
     stops = λ e. absurd (true≢false e);
   }

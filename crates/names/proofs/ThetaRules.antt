@@ -34,8 +34,8 @@ use Rattle.pieces.specs.Building.{Introduced}
 use Rattle.pieces.proofs.Stages.{rule-goes, rule-stops, room-less}
 use Rattle.names.specs.Bindings.{Binding, Bound}
 use Rattle.names.specs.Components.{Component, ComponentsAsked, ComponentsOf, ComponentRows}
-use Rattle.names.specs.Scoped.{SettledAt, SchemaType, Limited, Recorded, Scoped}
-use Rattle.names.specs.Thetas.{RowsAsked, RowsOver, Fine, Checked, ThetaAsked, ThetaRuled}
+use Rattle.names.specs.Scoped.{SettledAt, SchemaType, Limited, DictionaryHeld, Scoped}
+use Rattle.names.specs.Thetas.{RowsAsked, RowsOver, Fine, ThetaChecks, ThetaAsked, ThetaRuled}
 use Rattle.names.proofs.CheckLaws.{idle-if, no-parameters}
 use Rattle.names.proofs.IdleLaws.{introduced-idle}
 use Rattle.names.proofs.LookingUp.{dictionary-reads}
@@ -101,7 +101,7 @@ module _ (s d w : List ℕ) (n top rows base id k : ℕ) (B : ThetaAsked s d w n
     size : length s ≡ 52224
     size = B .referring .stands .piece .solved .held .size
 
-    module _ (D : Dictionary) (R : Recorded D d) where
+    module _ (D : Dictionary) (R : DictionaryHeld D d) where
       entry-some : 1 ≤ e
       entry-some = ⊎-elim (λ z. absurd (some z)) (λ z. omega arith) (eq-zero-or-pos e)
 
@@ -147,7 +147,7 @@ module _ (s d w : List ℕ) (n top rows base id k : ℕ) (B : ThetaAsked s d w n
         }
 
     module _ (w₁ : List ℕ) (m : ℕ) (K : ComponentRows s d w w₁ (39936 + q) base m) where
-      rows-of : (D : Dictionary) (R : Recorded D d) → ComponentsOf s d w w₁ (39936 + q) base m (ids D R) (gs D R)
+      rows-of : (D : Dictionary) (R : DictionaryHeld D d) → ComponentsOf s d w w₁ (39936 + q) base m (ids D R) (gs D R)
       rows-of D R = K .of (ids D R) (gs D R) (binding-reads D R)
 
       abbrev own : ComponentsOf s d w w₁ (39936 + q) base m (ids (B .referring .dictionary) (B .referring .scoped .recorded)) (gs (B .referring .dictionary) (B .referring .scoped .recorded))
@@ -196,7 +196,7 @@ module _ (s d w : List ℕ) (n top rows base id k : ℕ) (B : ThetaAsked s d w n
                 ∙ carries-names (Component s d nil) (componentsOf (instance nil (node (binding (ids D R)) (gs D R)))) (rowsOf w₁ base m) (rows-of D R .carries nil);
           }
 
-      module _ (p : ℕ) (ep : p ≡ parametersAt d e) (w₂ : List ℕ) (number : ℕ) (T : Checked d w₁ w₂ rows base m p k number) where
+      module _ (p : ℕ) (ep : p ≡ parametersAt d e) (w₂ : List ℕ) (number : ℕ) (T : ThetaChecks d w₁ w₂ rows base m p k number) where
         found-schema : (G : Ghost) (Γ : Scope) (D : Dictionary) (C : Scoped s d w rows G Γ D) → schemaNamed id Γ ≡ aSchema p (entry D (C .recorded) .type)
         found-schema G Γ D C =
             let E = entry D (C .recorded) in

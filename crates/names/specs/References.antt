@@ -18,7 +18,7 @@ use Rattle.cells.specs.Settled.{lower, heap, Reads}
 use Rattle.pieces.specs.Stage.{Ghost, Stands, Cell, Room, Uses, Unvisited, SlotOf, Advanced, Ruled}
 use Rattle.pieces.specs.Piece.{Stops}
 use Rattle.pieces.specs.Building.{Introduced}
-use Rattle.names.specs.Scoped.{SettledAt, Recorded, Scoped}
+use Rattle.names.specs.Scoped.{SettledAt, DictionaryHeld, Scoped}
 use Rattle.names.specs.Enlarged.{Enlarged}
 
 -- A new row of p unknowns may be made: cells n, n + 1, ..
@@ -93,14 +93,14 @@ pub record Consulted (s d : List ℕ) (n top : ℕ) : Type 0 where
   pub node : ℕ
   pub unvisited : Unvisited node ghost
   pub dictionary : Dictionary
-  pub recorded : Recorded dictionary d
+  pub recorded : DictionaryHeld dictionary d
   pub room : Room s n top 40
 
 -- A RECORDED NAME WITHOUT ACTUALS.
 pub record Global (s s′ d : List ℕ) (n top id number cell n′ top′ : ℕ) : Type 0 where
   pub low : lower s′ ≡ lower s
   pub uses : number ≡ 0 → Uses s s′ n top n′ top′ 40
-  pub ruled : (G : Ghost) → Stands s d n top G → (k : ℕ) → Unvisited k G → (D : Dictionary) → Recorded D d → Ruled s s′ d n top k number cell n′ top′ G (referenceItems k none (nameIn id D))
+  pub ruled : (G : Ghost) → Stands s d n top G → (k : ℕ) → Unvisited k G → (D : Dictionary) → DictionaryHeld D d → Ruled s s′ d n top k number cell n′ top′ G (referenceItems k none (nameIn id D))
 
 -- A name may be looked up in scope.
 pub record Referring (s d w : List ℕ) (n top rows : ℕ) : Type 0 where
@@ -180,7 +180,7 @@ pub record ConsultedWith (s d : List ℕ) (n top : ℕ) (parts : List ℕ) (m : 
 pub record GlobalApplied (s s′ d : List ℕ) (n top id : ℕ) (parts : List ℕ) (m number cell n′ top′ : ℕ) : Type 0 where
   pub low : lower s′ ≡ lower s
   pub uses : number ≡ 0 → Uses s s′ n top n′ top′ 40
-  pub ruled : (G : Ghost) → Stands s d n top G → (k : ℕ) → Unvisited k G → (D : Dictionary) → Recorded D d → (xs : Exprs) → Actuals s d n G parts 0 xs → exprsLength xs ≡ m →
+  pub ruled : (G : Ghost) → Stands s d n top G → (k : ℕ) → Unvisited k G → (D : Dictionary) → DictionaryHeld D d → (xs : Exprs) → Actuals s d n G parts 0 xs → exprsLength xs ≡ m →
       Ruled s s′ d n top k number cell n′ top′ G (referenceItems k xs (nameIn id D))
 
 -- REF: a name in scope with m actuals, whose cells stand in `parts`.

@@ -42,7 +42,7 @@ Limited (D ▸ nameEntry i p g) = Limited D × (p ≤ 4) × (size g ≤ 32)
 Limited (D ▸ schemaEntry s p g) = Limited D × SchemaType g
 
 -- The area d holds the dictionary D, whose entries are well formed and within the limits.
-pub record Recorded (D : Dictionary) (d : List ℕ) : Type 0 where
+pub record DictionaryHeld (D : Dictionary) (d : List ℕ) : Type 0 where
   pub holds : Holds D d
   pub formed : FormedDictionary D
   pub limited : Limited D
@@ -50,4 +50,4 @@ pub record Recorded (D : Dictionary) (d : List ℕ) : Type 0 where
 -- The rows of w stand for the scope Γ, with the dictionary D below it.
 pub record Scoped (s d w : List ℕ) (rows : ℕ) (G : Ghost) (Γ : Scope) (D : Dictionary) : Type 0 where
   pub stacked : Stacked (SettledAt s d G) Γ (stack w 0 rows) D
-  pub recorded : Recorded D d
+  pub recorded : DictionaryHeld D d

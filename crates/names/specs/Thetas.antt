@@ -40,14 +40,14 @@ pub record RowsAsked (d w : List ℕ) (rows base m k : ℕ) : Type 0 where
   pub stroke : k < 4
 
 -- ONE COMPONENT i: where it takes the stroke, the decorated identifier is in scope, and its settled type stands at q.
-pub record Placed (s d : List ℕ) (G : Ghost) (Γ : Scope) (k i q : ℕ) : Type 0 where
+pub record ComponentInScope (s d : List ℕ) (G : Ghost) (Γ : Scope) (k i q : ℕ) : Type 0 where
   pub passes : (n : ℕ) → thetaName (takes k i) n (nameAt (decorate k i) Γ) ≡ skip
   pub settled : takes k i ≡ true → SettledAt s d G (typeInScope (nameAt (decorate k i) Γ)) q
 
 -- The row at `at` has the place of that type; false: 31.
 pub record RowPlaced (d w w′ : List ℕ) (rows at k : ℕ) (fine : Bool) : Type 0 where
   pub others : (i : ℕ) → (i ≡ at + 1 → ⊥) → getD w′ i 0 ≡ getD w i 0
-  pub placed : fine ≡ true → (s : List ℕ) (G : Ghost) (Γ : Scope) (D : Dictionary) → Scoped s d w rows G Γ D → length s ≡ 52224 → Placed s d G Γ k (getD w at 0) (getD w′ (at + 1) 0)
+  pub placed : fine ≡ true → (s : List ℕ) (G : Ghost) (Γ : Scope) (D : Dictionary) → Scoped s d w rows G Γ D → length s ≡ 52224 → ComponentInScope s d G Γ k (getD w at 0) (getD w′ (at + 1) 0)
   pub refused : fine ≡ false → (s : List ℕ) (G : Ghost) (Γ : Scope) (D : Dictionary) → Scoped s d w rows G Γ D → (n : ℕ) →
       thetaName (takes k (getD w at 0)) n (nameAt (decorate k (getD w at 0)) Γ) ≡ refusal 31 n
 
@@ -85,7 +85,7 @@ pub record Fine (s d w′ : List ℕ) (base m p k : ℕ) (G : Ghost) (Γ : Scope
   pub strokes : someStroked k r ≡ false
   pub carries : Carries (SettledAt s d G) (thetaSignature k r Γ) (rowsOf w′ base m)
 
-pub record Checked (d w w′ : List ℕ) (rows base m p k number : ℕ) : Type 0 where
+pub record ThetaChecks (d w w′ : List ℕ) (rows base m p k number : ℕ) : Type 0 where
   pub below : (i : ℕ) → i < base → getD w′ i 0 ≡ getD w i 0
   pub goes : number ≡ 0 → (s : List ℕ) (G : Ghost) (Γ : Scope) (r : Signature) → RowsOver s d w rows base m G Γ r → Fine s d w′ base m p k G Γ r
   pub stops : (number ≡ 0 → ⊥) → (s : List ℕ) (G : Ghost) (Γ : Scope) (r : Signature) → RowsOver s d w rows base m G Γ r → (n : ℕ) (H t rest : Items) →

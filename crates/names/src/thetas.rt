@@ -13,7 +13,7 @@ use words::store;
 use words::word;
 ghost use Prim.Native.Nat.{_+_, _*_, _≤_};
 ghost use lib.ListN.{length};
-ghost use Rattle.names.specs.Thetas.{InScope, RowsAsked, RowPlaced, RowsPlaced, Checked, ThetaAsked, ThetaRuled};
+ghost use Rattle.names.specs.Thetas.{InScope, RowsAsked, RowPlaced, RowsPlaced, ThetaChecks, ThetaAsked, ThetaRuled};
 
 const UNKNOWN_NAME: u32 = 31;
 
@@ -89,7 +89,7 @@ fn checks(
     stroke: usize,
 ) -> u32
     requires { ⌜ RowsAsked (now d) (now w) rows base m stroke ⌝ }
-    ensures { λ r. ⌜ Checked (now (d .entry)) (now (w .entry)) (now (w .exit)) rows base m p stroke r ⌝ }
+    ensures { λ r. ⌜ ThetaChecks (now (d .entry)) (now (w .entry)) (now (w .exit)) rows base m p stroke r ⌝ }
 {
     if !place_rows(d, w, rows, base, m, stroke) {
         return UNKNOWN_NAME;

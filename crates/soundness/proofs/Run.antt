@@ -53,7 +53,7 @@ unless-fits n false h = fails
 -- a type that a later paragraph's node has
 type-later : (p : Paragraph) (ps : List Paragraph) (D : Dictionary) → Passes (paragraphItems p D) Any → (τ : Table) → Meets (paragraphItems p D) τ → (m : ℕ) (g : Ty) → HasType ps (extend p D τ) m g → HasType (p ∷ ps) D m g
 unfolding HasType
-type-later p ps D c τ h m g y = inr (λ σ s. subst (λ (X : Dictionary). HasType ps X m g) (extend-same p D c τ σ h s) y)
+type-later p ps D c τ h m g y = ((τ, h), inr (λ σ s. subst (λ (X : Dictionary). HasType ps X m g) (extend-same p D c τ σ h s) y))
 
 global-inj : (q : ℕ) (g h : Ty) → ofGlobal q g ≡ ofGlobal q h → g ≡ h
 global-inj q g h e = cc
@@ -124,7 +124,7 @@ module _ (R : ℕ → Ty → Type 0) (E : Dictionary) (state : State) where
       let τ = acc .1 .0 in
       let h = acc .1 .1 in
       let both = every-split (lineNames ls) f in
-      let ty : (j : ℕ) → InParagraph j (axiomatic n (text m p ls)) → R j (τ (slot j 0)) = λ j q. k j _ (inl (q, λ ρ s. one-type (axiomatic n (text m p ls)) D (acc .0) ρ τ s h j q)) in
+      let ty : (j : ℕ) → InParagraph j (axiomatic n (text m p ls)) → R j (τ (slot j 0)) = λ j q. k j _ ((τ, h), inl (q, λ ρ s. one-type (axiomatic n (text m p ls)) D (acc .0) ρ τ s h j q)) in
       let S = linesSignature ls (globals D) noNames in
       bind-good
       (bind-good
@@ -140,7 +140,7 @@ module _ (R : ℕ → Ty → Type 0) (E : Dictionary) (state : State) where
       let τ = acc .1 .0 in
       let h = acc .1 .1 in
       bind-good
-      (bind-good (expr-typed R τ e names (λ j q. k j _ (inl (q, λ ρ s. one-type (abbreviation n i [] e) D (acc .0) ρ τ s h j q))) (h .0) (scope-change σ τ D names o))
+      (bind-good (expr-typed R τ e names (λ j q. k j _ ((τ, h), inl (q, λ ρ s. one-type (abbreviation n i [] e) D (acc .0) ρ τ s h j q))) (h .0) (scope-change σ τ D names o))
       λ v hv. pure-good (goesOn (scope-record τ D names i 0 _ _ (scope-change σ τ D names o) (asGlobal hv))))
       λ s so. then-any _ so λ names′ o′. paragraphs-typed ps _ d τ names′ (acc .1 .3) f (λ j t y. k j t (type-later (abbreviation n i [] e) ps D (acc .0) τ (acc .1 .1) j t y)) o′
   paragraphs-typed (abbreviation n i (x ∷ xs) e ∷ ps) D d σ names acc f k o =
@@ -151,7 +151,7 @@ module _ (R : ℕ → Ty → Type 0) (E : Dictionary) (state : State) where
       let τ = acc .1 .0 in
       let h = acc .1 .1 in
       bind-good
-      (bind-good (pred-typed R τ p names (λ j q. k j _ (inl (q, λ ρ s. one-type (constraint n p) D (acc .0) ρ τ s h j q))) h (scope-change σ τ D names o)) λ c _. pure-good (unless-fits n c (scope-change σ τ D names o)))
+      (bind-good (pred-typed R τ p names (λ j q. k j _ ((τ, h), inl (q, λ ρ s. one-type (constraint n p) D (acc .0) ρ τ s h j q))) h (scope-change σ τ D names o)) λ c _. pure-good (unless-fits n c (scope-change σ τ D names o)))
       λ s so. then-any _ so λ names′ o′. paragraphs-typed ps _ d τ names′ (acc .1 .3) f (λ j t y. k j t (type-later (constraint n p) ps D (acc .0) τ (acc .1 .1) j t y)) o′
 
 -- a document whose paragraphs are accepted with E, a state that fits E

@@ -1,4 +1,5 @@
 -- Laws of the names of a document and of the table of givens.
 pub mod NameLaws
 pub mod TableLaws
+pub mod GivenSizes
 pub mod PlaceLaws

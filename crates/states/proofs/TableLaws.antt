@@ -149,7 +149,7 @@ size-shift a b t g i (suc n) =
     let f : suc (suc (2 * i)) + 1 ≡ suc (suc (2 * i + 1)) = omega arith in
     rw (e, f) (ap (cond (eqb (getD t (2 * i) 0) g) (smallSize (getD t (2 * i + 1) 0))) (size-shift a b t g (suc i) n))
 
-size-cons : (a b : ℕ) (t : List ℕ) (g : ℕ) → sizeOf (a ∷ b ∷ t) g ≡ cond (eqb a g) (smallSize b) (sizeOf t g)
+pub size-cons : (a b : ℕ) (t : List ℕ) (g : ℕ) → sizeOf (a ∷ b ∷ t) g ≡ cond (eqb a g) (smallSize b) (sizeOf t g)
 unfolding sizeOf sizeFrom
 size-cons a b t g =
     let e : suc (suc (length t)) / 2 ≡ suc (length t / 2) = omega arith in

@@ -30,7 +30,7 @@ use Rattle.typing.proofs.FormedSignatures.{FormedTerms, merge-formed, d
 use Rattle.typing.proofs.FormedSignatures.{binding-formed}
 use Rattle.typing.proofs.FormedScopes.{FormedScope, FormedNamed, FormedFound, nameAt-formed, schemaNamed-formed, included-formed}
 use Rattle.typing.proofs.FormedScopes.{schema-formed, inside-formed, parameters-formed, included-rising}
-use Rattle.typing.proofs.Sized.{SizedExpr, SizedExprs, SizedPred, SizedText, SizedLines, SizedInclude, SizedSchema, SizedParagraph}
+use Rattle.syntax.proofs.Sized.{SizedExpr, SizedExprs, SizedPred, SizedText, SizedLines, SizedInclude, SizedSchema, SizedParagraph}
 
 unfoldable pub FormedItems : Items → Type 0
 FormedItems skip = Unit {0}

@@ -12,7 +12,7 @@ use Rattle.syntax.specs.Nodes.{operandAt}
 use Rattle.syntax.specs.Promise.{At, Lower}
 use Rattle.syntax.specs.Tree.{Exprs, none, more, exprsLength}
 use Rattle.syntax.proofs.TreeLists.{exprs-go, exprs-end}
-use Rattle.typing.proofs.Sized.{SizedExpr}
+use Rattle.syntax.proofs.Sized.{SizedExpr}
 use Rattle.pieces.specs.Building.{Powered, Working}
 use Rattle.pieces.specs.Closed.{Closing, Closed, Sizing}
 use Rattle.inclusion.specs.Storing.{StoreAsk, TypeStored}

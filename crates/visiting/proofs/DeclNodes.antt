@@ -18,7 +18,7 @@ use Rattle.syntax.proofs.TreeCounts.{at-most, at-least}
 use Rattle.syntax.proofs.TreeShape.{One}
 use Rattle.syntax.proofs.TreeText.{line-declaration}
 use Rattle.types.specs.Types.{Ty}
-use Rattle.typing.proofs.Sized.{SizedExpr}
+use Rattle.syntax.proofs.Sized.{SizedExpr}
 use Rattle.cells.specs.Settled.{heap, Reads, Readable}
 use Rattle.signatures.specs.Rows.{rows, declareRows}
 use Rattle.signatures.specs.Tables.{Table}

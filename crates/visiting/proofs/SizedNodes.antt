@@ -5,8 +5,8 @@ use native.Mathlib.Omega.{arith}
 use Rattle.syntax.specs.Decode.{exprAt}
 use Rattle.syntax.specs.Kinds.{expressions}
 use Rattle.syntax.specs.Promise.{At}
-use Rattle.typing.proofs.Sized.{SizedExpr}
-use Rattle.typing.proofs.SizedTree.{all-sized}
+use Rattle.syntax.proofs.Sized.{SizedExpr}
+use Rattle.syntax.proofs.SizedTree.{all-sized}
 
 pub expr-sized : (doc : List ℕ) (k : ℕ) → At doc expressions k → SizedExpr (exprAt doc k)
 expr-sized doc k h = all-sized doc (suc k) k (omega arith) .expr h

@@ -18,7 +18,7 @@ use Rattle.typing.specs.Items.{Items, skip, _⨾_, piece, Meets, Refuses}
 use Rattle.typing.specs.Rules.{exprItems, actualItems}
 use Rattle.typing.specs.Scopes.{Scope}
 use Rattle.typing.specs.Unknowns.{Table, slot, unknownAt}
-use Rattle.typing.proofs.Sized.{SizedExpr}
+use Rattle.syntax.proofs.Sized.{SizedExpr}
 use Rattle.typing.proofs.Slots.{slots-apart}
 use Rattle.cells.specs.Settled.{heap, Reads}
 use Rattle.cells.proofs.Growing.{lt-or-ge}

@@ -20,7 +20,7 @@ use Rattle.typing.specs.Rules.{exprItems, linesItems}
 use Rattle.typing.specs.Scopes.{Scope, linesSignature}
 use Rattle.typing.specs.Signatures.{Signature, countNames, declare}
 use Rattle.typing.specs.Unknowns.{slot, unknownAt}
-use Rattle.typing.proofs.Sized.{SizedExpr}
+use Rattle.syntax.proofs.Sized.{SizedExpr}
 use Rattle.cells.specs.Settled.{lower, heap, Reads}
 use Rattle.solver.specs.Sizes.{cap}
 use Rattle.solver.proofs.Marking.{cap-cases}

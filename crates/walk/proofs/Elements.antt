@@ -18,7 +18,7 @@ use Rattle.typing.specs.Items.{Items, skip, _⨾_, piece, Meets, Passes, Refuse
 use Rattle.typing.specs.Rules.{exprItems}
 use Rattle.typing.specs.Scopes.{Scope}
 use Rattle.typing.specs.Unknowns.{slot, unknownAt}
-use Rattle.typing.proofs.Sized.{SizedExpr}
+use Rattle.syntax.proofs.Sized.{SizedExpr}
 use Rattle.cells.specs.Settled.{lower, heap, Reads}
 use Rattle.instances.specs.Clean.{Clean}
 use Rattle.instances.proofs.CleanLaws.{clean-lower}

@@ -18,7 +18,7 @@ use Rattle.typing.specs.Unknowns.{Table, slot}
 use Rattle.typing.specs.WellFormed.{FormedDictionary}
 use Rattle.typing.proofs.FormedItems.{FormedItems, isPower-formed, formedExpr}
 use Rattle.typing.proofs.FormedScopes.{FormedScope}
-use Rattle.typing.proofs.Sized.{SizedExpr}
+use Rattle.syntax.proofs.Sized.{SizedExpr}
 use Rattle.signatures.specs.Carried.{Stacked}
 use Rattle.signatures.specs.Rows.{stack}
 use Rattle.pieces.specs.Piece.{SameOn, Steady}

@@ -38,7 +38,7 @@ use Rattle.signatures.proofs.IncludeLaws.{stroke-length}
 use Rattle.pieces.specs.Piece.{Steady, Walked}
 use Rattle.pieces.proofs.Between.{walked-skip, walked-then, walked-mine, refuses-first, refuses-second, refused}
 use Rattle.names.specs.Components.{Component, ComponentsAsked, ComponentsOf, ComponentRows}
-use Rattle.names.specs.Scoped.{SettledAt, SchemaType, Recorded, Scoped}
+use Rattle.names.specs.Scoped.{SettledAt, SchemaType, DictionaryHeld, Scoped}
 use Rattle.names.proofs.ComponentLaws.{components-high}
 use Rattle.names.proofs.LookingUp.{dictionary-reads}
 use Rattle.names.proofs.ThetaRules.{schema-limited}
@@ -119,7 +119,7 @@ module _ (s d w : List ℕ) (stack at free n id k : ℕ) (xs : Exprs) (rs : List
         subst (λ c. Refuses c (Meets H) 31 n) (sym (items-absent n id k xs rs Γ (in-dictionary H U Γ D C ∙ found D (C .recorded .holds) .absent z))) (refused H 31 n))
 
     module _ (some : e ≡ 0 → ⊥) where
-      entry : (D : Dictionary) → Recorded D d → Entry Found (schemaIn id D) aSchema d e
+      entry : (D : Dictionary) → DictionaryHeld D d → Entry Found (schemaIn id D) aSchema d e
       entry D R = found D (R .holds) .present (⊎-elim (λ z. absurd (some z)) (λ z. omega arith) (eq-zero-or-pos e))
 
       -- 32
@@ -175,7 +175,7 @@ module _ (s d w : List ℕ) (stack at free n id k : ℕ) (xs : Exprs) (rs : List
             size : length s₁ ≡ 52224
             size = P .stored fine .size ∙ A .walking .size
 
-            module _ (D : Dictionary) (R : Recorded D d) where
+            module _ (D : Dictionary) (R : DictionaryHeld D d) where
               limits : SchemaType (entry D R .type)
               limits = schema-limited D id (entry D R .parameters) (entry D R .type) (R .limited) (entry D R .means)
 
@@ -214,7 +214,7 @@ module _ (s d w : List ℕ) (stack at free n id k : ℕ) (xs : Exprs) (rs : List
                 }
 
             module _ (w₂ : List ℕ) (c : ℕ) (K : ComponentRows s₁ d w₁ w₂ (39936 + q) (free + 32) c) where
-              of : (D : Dictionary) (R : Recorded D d) → ComponentsOf s₁ d w₁ w₂ (39936 + q) (free + 32) c (ids D R) (gs D R)
+              of : (D : Dictionary) (R : DictionaryHeld D d) → ComponentsOf s₁ d w₁ w₂ (39936 + q) (free + 32) c (ids D R) (gs D R)
               of D R = K .of (ids D R) (gs D R) (binding-reads D R)
 
               own-rows : ComponentsOf s₁ d w₁ w₂ (39936 + q) (free + 32) c (ids (A .walking .dictionary) (A .walking .scoped .recorded)) (gs (A .walking .dictionary) (A .walking .scoped .recorded))
@@ -247,7 +247,7 @@ module _ (s d w : List ℕ) (stack at free n id k : ℕ) (xs : Exprs) (rs : List
                     (record { size = z ∙ table-length w₁ (free + 32) w₂ _ c (own-rows .table); scope = λ j y. below j (omega arith); frames = λ j x y. below j y })
 
                 -- what is wrong with the names
-                wrong-is : (D : Dictionary) (R : Recorded D d) → wrong ≡ wrongNames k rs (componentsOf (instance nil (entry D R .type)))
+                wrong-is : (D : Dictionary) (R : DictionaryHeld D d) → wrong ≡ wrongNames k rs (componentsOf (instance nil (entry D R .type)))
                 wrong-is D R =
                     brought-wrong (Component s₁ d nil) w₂ w₃ (free + 32) c free k rs wrong m B (componentsOf (instance nil (node (binding (ids D R)) (gs D R)))) (of D R .carries nil)
                     ∙ ap (λ g. wrongNames k rs (componentsOf (instance nil g))) (sym (limits D R .1 .2))

@@ -14,14 +14,14 @@ use Rattle.typing.specs.Unknowns.{Table}
 use Rattle.cells.specs.Settled.{lower}
 use Rattle.dictionary.specs.Waiting.{withEntries, waiting, Waits}
 use Rattle.instances.specs.Clean.{Clean}
-use Rattle.names.specs.Scoped.{Recorded}
+use Rattle.names.specs.Scoped.{DictionaryHeld}
 use Rattle.names.specs.Extended.{FewParameters}
 use Rattle.walk.specs.Visits.{EachOnce}
 
 -- The pool is empty.
 pub record ParagraphAsk (s d w : List ℕ) (p : Paragraph) : Type 0 where
   pub dictionary : Dictionary
-  pub recorded : Recorded dictionary d
+  pub recorded : DictionaryHeld dictionary d
   pub size : length s ≡ 52224
   pub few : length d < 2 ^ 31
   pub wide : 16384 ≤ length w
@@ -45,5 +45,5 @@ pub record Extended (w : List ℕ) (p : Paragraph) (D : Dictionary) (at count : 
 pub record ParagraphDone (s s′ d w w′ : List ℕ) (p : Paragraph) (number place at count : ℕ) : Type 0 where
   pub size : length w′ ≡ length w
   pub low : number ≡ 0 → lower s′ ≡ lower s
-  pub goes : number ≡ 0 → (D : Dictionary) → Recorded D d → Extended w′ p D at count
-  pub stops : (number ≡ 0 → ⊥) → (D : Dictionary) → Recorded D d → Refuses (paragraphItems p D) Any number place
+  pub goes : number ≡ 0 → (D : Dictionary) → DictionaryHeld D d → Extended w′ p D at count
+  pub stops : (number ≡ 0 → ⊥) → (D : Dictionary) → DictionaryHeld D d → Refuses (paragraphItems p D) Any number place
