@@ -8,14 +8,14 @@ use native.Mathlib.Nat.{mod-lt, div-le-self, zero-lt-suc}
 use lib.IntN.{ℤ, pos, negsuc}
 use lib.Dec.{leb, eqb}
 use borrow.Author.Tests.{ltb-true, lt-ltb, le-leb}
-use Rattle.values.specs.Integer.{in32, kept, sum, difference, floorDiv, floorMod, byDivisor, quotient, remainder}
-use Rattle.values.specs.Integer as Integers
+use Rattle.integers.specs.Integer.{in32, kept, sum, difference, floorDiv, floorMod, byDivisor, quotient, remainder}
+use Rattle.integers.specs.Integer as Integers
 use Rattle.values.specs.Value.{Value, int, element, Values, nil, cons, count}
 use Rattle.values.specs.Value as Value
 use Rattle.values.specs.WellFormed.{ascends, wellFormed, allWellFormed}
 use Rattle.values.specs.SetValues.{sameValue, insertValue, Image, found, misfit, undefined, applyValue}
-use Rattle.values.specs.declared.integer.Integer.{Integer}
-use Rattle.values.specs.declared.integer.Integer.the-variants.{Whole, Undefined, Outside}
+use Rattle.integers.specs.declared.integer.Integer.{Integer}
+use Rattle.integers.specs.declared.integer.Integer.the-variants.{Whole, Undefined, Outside}
 use Rattle.values.proofs.Unique.{and-left, and-right, both}
 use Rattle.values.proofs.Inserting.{insert-wellFormed}
 use Rattle.syntax.specs.Tree.{Operator, plus, minus, times, Connective, and, or, implies, Quantifier, forall, exists}

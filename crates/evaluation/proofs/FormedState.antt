@@ -12,13 +12,13 @@ use borrow.Author.Tests.{eqb-true, leb-true, lt-ltb, le-leb}
 use mir.Syntax.{w32}
 use mir.ValLaws.{toZ-pos, toZ-fits}
 use Rattle.layout.specs.Layout.{part}
-use Rattle.values.specs.Integer.{signed}
+use Rattle.integers.specs.Integer.{signed}
 use Rattle.values.specs.Order.{orElse, compare, isLess}
 use Rattle.values.specs.Value.{Value, element, Values, cons, encode}
 use Rattle.values.specs.WellFormed.{ascends, wellFormed, allWellFormed}
 use Rattle.values.specs.Givens.{elementsFrom, elements, smallSize}
 use Rattle.values.specs.Form.{shapeOf, follows, nextFits, groupEnd, byShape, valueLength, isValue}
-use Rattle.values.specs.declared.form.Shape.{Shape}
+use Rattle.values.specs.declared.shapes.Shape.{Shape}
 use Rattle.values.proofs.Unique.{and-left, and-right, both}
 use Rattle.states.specs.Names.{Name}
 use Rattle.states.specs.Decode.{valuesFrom, valueByShape, valueAt, valueOf}
