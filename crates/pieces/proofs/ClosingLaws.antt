@@ -16,7 +16,7 @@ use Rattle.solver.specs.Answers.{SolutionOf, Finite, Left, Differ}
 use Rattle.solver.proofs.Accepted.{same-pinned, same-obeys}
 use Rattle.solver.proofs.Opening.{finite-none}
 use Rattle.pieces.specs.Piece.{Solution, Matches, SameOn, Local, Goes, Piece, Accounted, Later, Steady, Extends}
-use Rattle.pieces.proofs.Equating.{same-back}
+use Rattle.solver.proofs.Marking.{same-back}
 
 pub all-in : (R : ℕ → ℕ → Type 0) (P : Pairs ℕ) (a b : ℕ) → AllP R P → InP a b P → R a b
 all-in R end a b q i = absurd i

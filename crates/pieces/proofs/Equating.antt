@@ -1,23 +1,18 @@
 -- An equation between two cells: 33, and 36 where identifiers merge.
 use mathlib.Core.Path.{_≡_, refl, sym, ap, subst, _∙_}
-use mathlib.Core.Bool.{Bool, true, false}
-use mathlib.Core.List.{List, [], _∷_}
+use mathlib.Core.Bool.{true, false}
+use mathlib.Core.List.{List}
 use mathlib.Core.Logic.{_⊎_, _↔_, inl, inr, ⊎-elim}
-use Prim.Native.Nat.{ℕ, suc, _<_, _≤_}
-use native.Mathlib.Omega.{arith}
-use Rattle.types.specs.Equations.{AllP, In, InP, Pairs, Solves, pair}
-use Rattle.types.specs.Types.{Ty, Tys, tcons, node, Term, Terms, unknown, con, nil, cons, under, unders, Each, Eachs}
+use Prim.Native.Nat.{ℕ}
+use Rattle.types.specs.Equations.{AllP, In, Pairs, pair}
+use Rattle.types.specs.Types.{Ty, tcons, node, Term, Terms, unknown, con, nil, cons, under, unders, Each, Eachs}
 use Rattle.typing.specs.Unknowns.{Table}
 use Rattle.typing.specs.Items.{Items, _⨾_, equate, Meets, Agree, Passes, Refuses}
-use Rattle.cells.specs.Store.{frozen, tagAt, Solved}
-use Rattle.cells.specs.Settled.{Obeys, Fits, Pinned}
-use Rattle.cells.specs.Merging.{Merged, Done}
-use Rattle.cells.specs.Merging as Merging
-use Rattle.solver.specs.Sizes.{Same, Tested}
-use Rattle.solver.specs.Answers.{SolutionOf}
-use Rattle.solver.proofs.Accepted.{same-pinned, same-obeys}
-use Rattle.solver.proofs.Opening.{finite-some, finite-none}
-use Rattle.pieces.specs.Piece.{Solution, Matches, SameOn, Goes, Stops, Piece, Accounted, Denotes, Later}
+use Rattle.cells.specs.Store.{tagAt}
+use Rattle.cells.specs.Settled.{Fits}
+use Rattle.cells.specs.Merging.{Same, Done}
+use Rattle.solver.specs.Equation.{Equation}
+use Rattle.pieces.specs.Piece.{Solution, Matches, SameOn, Goes, Stops, Piece, Denotes, Later}
 use Rattle.pieces.proofs.Walks.{items-earlier}
 
 -- Tables that agree on the unknowns of a term give it one type.
@@ -32,10 +27,7 @@ mutual
   unders-same U τ τ′ h nil i = refl
   unders-same U τ τ′ h (cons a ts) i = λ z. tcons (under-same U τ τ′ h a (i .0) z) (unders-same U τ τ′ h ts (i .1) z)
 
-pub same-back : (s s′ : List ℕ) → Same s s′ → Same s′ s
-same-back s s′ K = record { size = sym (K .size); still = sym (K .still); links = λ i l. sym (K .links i l); low = sym (K .low); refs = λ i l. sym (K .refs i l) }
-
-module _ (s u d : List ℕ) (n x y : ℕ) (P₀ : Pairs ℕ) (H t : Items) (U₀ U : List ℕ) (ρ : Pairs ℕ) (Q : Piece s d n P₀ H t U₀ U ρ) (lx : x < n) (ly : y < n)
+module _ (s s′ d : List ℕ) (n x y : ℕ) (P₀ : Pairs ℕ) (H t : Items) (U₀ U : List ℕ) (ρ : Pairs ℕ) (Q : Piece s d n P₀ H t U₀ U ρ)
     (f m : ℕ) (a b : Term) (Da : Denotes s d n P₀ H t ρ x a) (Db : Denotes s d n P₀ H t ρ y b) where
   abbrev item : Items
   item = equate f m a b
@@ -56,86 +48,66 @@ module _ (s u d : List ℕ) (n x y : ℕ) (P₀ : Pairs ℕ) (H t : Items) (U₀
   unfolding Refuses
   refused none = (refl, refl, λ τ h e. let q = Q .sound τ h in none (q .0) (q .1) (joined τ h e (q .0) (q .1) (q .2)))
 
-  pub stop-merge : Merged s u d x y false → Stops H t item f m
-  stop-merge M = refused (λ σ S e. M .stops refl n P₀ (Q .L) (Q .solved) (Q .pinned) lx ly σ (S .fits) (e, S .sat) (S .obeys))
+  pub stop : Equation s s′ d n x y false → Stops H t item f m
+  stop M = refused (λ σ S e. M .stops refl P₀ (Q .L) (Q .solved) (Q .pinned) σ (S .fits) (e, S .sat) (S .obeys))
 
-  module _ (M : Merged s u d x y true) where
+  module _ (M : Equation s s′ d n x y true) where
     abbrev P₁ : Pairs ℕ
     P₁ = pair x y P₀
 
-    done : Done u n P₁
-    done = M .goes refl n P₀ (Q .L) (Q .solved) (Q .pinned) lx ly
+    done : Done s′ n P₁
+    done = M .goes refl P₀ (Q .L) (Q .solved) (Q .pinned)
 
-    same : Merging.Same s u d n P₁
-    same = M .same refl n P₀ (Q .L) (Q .solved) (Q .pinned) lx ly
+    same : Same s s′ d n P₁
+    same = M .same refl P₀ (Q .L) (Q .solved) (Q .pinned)
 
-    to-u : (σ : ℕ → Ty) → Solution s d n P₀ σ → σ x ≡ σ y → Solution u d n P₁ σ
-    to-u σ S e = record {
+    to : (σ : ℕ → Ty) → Solution s d n P₀ σ → σ x ≡ σ y → Solution s′ d n P₁ σ
+    to σ S e = record {
       fits = subst (λ w. Fits w n σ) (sym (M .still)) (S .fits);
       sat = (e, S .sat);
       obeys = same .to σ (S .fits) (e, S .sat) (S .obeys);
     }
 
-    from-u : (σ : ℕ → Ty) → Solution u d n P₁ σ → Solution s d n P₀ σ
-    from-u σ S = let F = subst (λ w. Fits w n σ) (M .still) (S .fits) in record { fits = F; sat = S .sat .1; obeys = same .from σ F (S .sat) (S .obeys) }
+    back : (σ : ℕ → Ty) → Solution s′ d n P₁ σ → Solution s d n P₀ σ
+    back σ S = let F = subst (λ w. Fits w n σ) (M .still) (S .fits) in record { fits = F; sat = S .sat .1; obeys = same .from σ F (S .sat) (S .obeys) }
 
-    pub stop-finite : (s′ : List ℕ) → Tested u s′ n false → Stops H t item f m
-    stop-finite s′ T = refused
-        (λ σ S e. let X = to-u σ S e in finite-none u s′ d n T P₁ (done .L) (done .solved) (record { σ = σ; fits = X .fits; sat = X .sat; obeys = X .obeys }))
+    has-one : (σ : ℕ → Ty) × Solution s′ d n P₁ σ
+    has-one = let X = M .some refl P₀ (Q .L) (Q .solved) (Q .pinned) in (X .σ, record { fits = X .fits; sat = X .sat; obeys = X .obeys })
 
-    module _ (s′ : List ℕ) (T : Tested u s′ n true) where
-      few : n ≤ 1024
-      few = Q .solved .held .few
+    complete′ : (σ : ℕ → Ty) → Solution s′ d n P₁ σ → (τ₀ : Table) → Meets H τ₀ → (τ : Table) × Meets (H ⨾ (t ⨾ item)) τ × Matches ρ τ σ × SameOn U₀ τ τ₀
+    complete′ σ S τ₀ h =
+        let B = back σ S in
+        let q = Q .complete σ B τ₀ h in
+        (q .0, met (q .0) (q .1) (sym (Da (q .0) (q .1) σ B (q .2)) ∙ S .sat .0 ∙ Db (q .0) (q .1) σ B (q .2)), q .2, q .3)
 
-      to : (σ : ℕ → Ty) → Solution u d n P₁ σ → Solution s′ d n P₁ σ
-      to σ S = record { fits = subst (λ w. Fits w n σ) (sym (T .still)) (S .fits); sat = S .sat; obeys = same-obeys u s′ d n (T .same) few σ (S .obeys) }
+    agree′ : (τ τ′ : Table) → Agree (t ⨾ item) τ τ′ ↔ AllP (λ z c. τ z ≡ τ′ z) ρ
+    unfolding Agree
+    agree′ τ τ′ = (λ h. Q .agree τ τ′ .0 (h .0), λ h. (Q .agree τ τ′ .1 h, tt))
 
-      from : (σ : ℕ → Ty) → Solution s′ d n P₁ σ → Solution u d n P₁ σ
-      from σ S = record { fits = subst (λ w. Fits w n σ) (T .still) (S .fits); sat = S .sat; obeys = same-obeys s′ u d n (same-back u s′ (T .same)) few σ (S .obeys) }
+    pub equated : Each (λ z. In z U) a → Each (λ z. In z U) b → Piece s′ d n P₁ H (t ⨾ item) U₀ U ρ
+    equated Ea Eb = record {
+      L = done .L;
+      solved = done .solved;
+      pinned = same .pinned;
+      tracked = Q .tracked;
+      more = Q .more;
+      start = Q .start;
+      local = λ τ τ′ h k.
+          met τ′ (Q .local τ τ′ h (items-earlier H t item τ k)) (sym (under-same U τ τ′ h a Ea) ∙ equal-in τ k ∙ under-same U τ τ′ h b Eb);
+      sound = λ τ k.
+          let h = items-earlier H t item τ k in
+          let q = Q .sound τ h in
+          (q .0, to (q .0) (q .1) (joined τ h (equal-in τ k) (q .0) (q .1) (q .2)), q .2);
+      complete = complete′;
+      some = has-one;
+      agree = agree′;
+      open-cells = λ i l e.
+          ⊎-elim (λ z. inl z) (λ z. inr (z .0, λ σ S. z .1 σ (back σ S))) (Q .open-cells i l (sym (ap (λ w. tagAt w i) (M .still)) ∙ e));
+    }
 
-      back : (σ : ℕ → Ty) → Solution s′ d n P₁ σ → Solution s d n P₀ σ
-      back σ S = from-u σ (from σ S)
+    pub equated-goes : Goes H t item
+    unfolding Passes
+    equated-goes = let c = complete′ (has-one .0) (has-one .1) (Q .start .0) (Q .start .1) in (c .0, items-earlier H t item (c .0) (c .1), equal-in (c .0) (c .1))
 
-      has-one : (σ : ℕ → Ty) × Solution s′ d n P₁ σ
-      has-one = let X = finite-some u s′ d n T P₁ (done .L) (done .solved) (same .pinned) in (X .σ, to (X .σ) (record { fits = X .fits; sat = X .sat; obeys = X .obeys }))
-
-      complete′ : (σ : ℕ → Ty) → Solution s′ d n P₁ σ → (τ₀ : Table) → Meets H τ₀ → (τ : Table) × Meets (H ⨾ (t ⨾ item)) τ × Matches ρ τ σ × SameOn U₀ τ τ₀
-      complete′ σ S τ₀ h =
-          let B = back σ S in
-          let q = Q .complete σ B τ₀ h in
-          (q .0, met (q .0) (q .1) (sym (Da (q .0) (q .1) σ B (q .2)) ∙ S .sat .0 ∙ Db (q .0) (q .1) σ B (q .2)), q .2, q .3)
-
-      still : frozen s′ ≡ frozen s
-      still = T .still ∙ M .still
-
-      agree′ : (τ τ′ : Table) → Agree (t ⨾ item) τ τ′ ↔ AllP (λ z c. τ z ≡ τ′ z) ρ
-      unfolding Agree
-      agree′ τ τ′ = (λ h. Q .agree τ τ′ .0 (h .0), λ h. (Q .agree τ τ′ .1 h, tt))
-
-      pub equated : Each (λ z. In z U) a → Each (λ z. In z U) b → Piece s′ d n P₁ H (t ⨾ item) U₀ U ρ
-      equated Ea Eb = record {
-        L = done .L;
-        solved = T .grown P₁ (done .L) (done .solved);
-        pinned = same-pinned u s′ d n (T .same) few (same .pinned);
-        tracked = Q .tracked;
-        more = Q .more;
-        start = Q .start;
-        local = λ τ τ′ h k.
-            met τ′ (Q .local τ τ′ h (items-earlier H t item τ k)) (sym (under-same U τ τ′ h a Ea) ∙ equal-in τ k ∙ under-same U τ τ′ h b Eb);
-        sound = λ τ k.
-            let h = items-earlier H t item τ k in
-            let q = Q .sound τ h in
-            (q .0, to (q .0) (to-u (q .0) (q .1) (joined τ h (equal-in τ k) (q .0) (q .1) (q .2))), q .2);
-        complete = complete′;
-        some = has-one;
-        agree = agree′;
-        open-cells = λ i l e.
-            ⊎-elim (λ z. inl z) (λ z. inr (z .0, λ σ S. z .1 σ (back σ S))) (Q .open-cells i l (sym (ap (λ w. tagAt w i) still) ∙ e));
-      }
-
-      pub equated-goes : Goes H t item
-      unfolding Passes
-      equated-goes = let c = complete′ (has-one .0) (has-one .1) (Q .start .0) (Q .start .1) in (c .0, items-earlier H t item (c .0) (c .1), equal-in (c .0) (c .1))
-
-      pub equated-later : Later s s′ d n n P₀ P₁ H t (t ⨾ item) ρ ρ
-      equated-later = record { solutions = back; items = items-earlier H t item; unknowns = λ τ σ k. k }
+    pub equated-later : Later s s′ d n n P₀ P₁ H t (t ⨾ item) ρ ρ
+    equated-later = record { solutions = back; items = items-earlier H t item; unknowns = λ τ σ k. k }

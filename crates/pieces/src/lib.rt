@@ -13,8 +13,5 @@ pub fn equal(a: &mut [u32], d: &[u32], n: usize, x: usize, y: usize) -> bool
     requires { ⌜ Comparing (now a) (now d) n x y ⌝ }
     ensures { λ r. ⌜ Equated (now (a .entry)) (now (a .exit)) (now (d .entry)) n x y r ⌝ }
 {
-    if cells::unification::merge(a, d, x, y) {
-        return solver::acyclicity::finite(a, n);
-    }
-    false
+    solver::equate(a, d, n, x, y)
 }

@@ -163,6 +163,9 @@ module _ (s : List ℕ) (n : ℕ) (P₀ L : Pairs ℕ) (S : Solved s n P₀ L) w
 pub same-refl : (s : List ℕ) → Same s s
 same-refl s = record { size = refl; still = refl; links = λ i l. refl; low = refl; refs = λ i l. refl }
 
+pub same-back : (s s′ : List ℕ) → Same s s′ → Same s′ s
+same-back s s′ K = record { size = sym (K .size); still = sym (K .still); links = λ i l. sym (K .links i l); low = sym (K .low); refs = λ i l. sym (K .refs i l) }
+
 pub same-on : (s t u : List ℕ) → Same s t → Same t u → Same s u
 same-on s t u a b = record { size = b .size ∙ a .size; still = b .still ∙ a .still; links = λ i l. b .links i l ∙ a .links i l; low = b .low ∙ a .low; refs = λ i l. b .refs i l ∙ a .refs i l }
 

@@ -92,7 +92,7 @@ fn clear_marks(a: &mut [u32], from: usize, n: usize)
 }
 
 // Do the n cells from `from` on have finite types? Each of them is visited once; visits nest at most as deep as there are cells.
-pub fn finite_from(a: &mut [u32], from: usize, n: usize) -> bool
+fn finite_from(a: &mut [u32], from: usize, n: usize) -> bool
     requires { ⌜ Read (now a) n ⌝ }
     ensures { λ r. ⌜ TestedFrom (now (a .entry)) (now (a .exit)) from n r ⌝ }
 {
