@@ -3,6 +3,7 @@ use dictionary::growth::size;
 use dictionary::waiting::append_all;
 use paragraphs::paragraphs::paragraph;
 use typing::Finding;
+use typing::findings::DICTIONARY_AREA;
 use visiting::results::Lined;
 use words::span;
 ghost use mathlib.Core.Path.{_≡_};
@@ -18,9 +19,6 @@ ghost use Rattle.checker.specs.Entering.{Listed, Ready, Entered};
 
 // The words of an area that a dictionary may use: offsets and lengths are 32 bits.
 const MOST_WORDS: usize = 2147483648;
-
-// 22: no room in the dictionary's area.
-pub const DICTIONARY_AREA: u32 = 22;
 
 // The paragraph at node k, over the words of the dictionary that are in use.
 fn visit(doc: &[u32], a: &mut [u32], dict: &[u32], work: &mut [u32], k: usize) -> Lined

@@ -10,8 +10,9 @@ use words::word;
 
 mod entering;
 
-use crate::entering::DICTIONARY_AREA;
 use crate::entering::enter;
+use typing::findings::DICTIONARY_AREA;
+use typing::findings::WORK_AREA;
 ghost use mathlib.Core.Path.{_≡_};
 ghost use Prim.Native.Nat.{_≤_, _<_};
 ghost use lib.ListN.{length};
@@ -27,9 +28,6 @@ ghost use Rattle.checker.specs.Answering.{ParagraphsAsk, Answered, TreeA
 
 // The fewest words of a work area.
 const WORK_WORDS: usize = 16384;
-
-// 21: a work area that is too short.
-const WORK_AREA: u32 = 21;
 
 // The words of the solver's area.
 const SOLVER_WORDS: usize = 52224;

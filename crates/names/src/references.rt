@@ -4,15 +4,12 @@ use dictionary::lookup::parameters_of;
 use dictionary::lookup::type_place;
 use signatures::tables::find;
 use solver::entering::Grown;
+use typing::findings::UNEQUAL;
+use typing::findings::UNKNOWN_NAME;
+use typing::findings::WRONG_COUNT;
 use words::word;
 ghost use Rattle.names.specs.References.{RowAsked, RowMade, InstanceAsked, InstanceOf, TypedAt, RecordedAt, Generic, Consulted, Global, Referring, Refers, EquatingActuals, ActualsEquated, ApplyingAt, AppliedAt, ConsultedWith, GlobalApplied, ReferringWith, RefersWith};
 ghost use Rattle.cells.specs.Settled.{Entering};
-
-const UNKNOWN_NAME: u32 = 31;
-
-const WRONG_COUNT: u32 = 32;
-
-const UNEQUAL: u32 = 33;
 
 // Where the dictionary's words begin among the places.
 const DICTIONARY: usize = 39936;

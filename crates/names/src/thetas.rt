@@ -9,17 +9,14 @@ use dictionary::lookup::type_place;
 use signatures::includes::some_stroked;
 use signatures::includes::takes;
 use signatures::tables::find;
+use typing::findings::BAD_RENAME;
+use typing::findings::UNKNOWN_NAME;
+use typing::findings::WRONG_COUNT;
 use words::store;
 use words::word;
 ghost use Prim.Native.Nat.{_+_, _*_, _≤_};
 ghost use lib.ListN.{length};
 ghost use Rattle.names.specs.Thetas.{InScope, RowsAsked, RowPlaced, RowsPlaced, ThetaChecks, ThetaAsked, ThetaRuled};
-
-const UNKNOWN_NAME: u32 = 31;
-
-const WRONG_COUNT: u32 = 32;
-
-const WRONG_STROKE: u32 = 37;
 
 // Where the dictionary's words begin among the places; and counted from 1.
 const DICTIONARY: usize = 39936;
@@ -98,7 +95,7 @@ fn checks(
         return WRONG_COUNT;
     }
     if some_stroked(w, base, m, stroke) {
-        return WRONG_STROKE;
+        return BAD_RENAME;
     }
     0
 }

@@ -11,6 +11,10 @@ use merging::names_new;
 use pieces::closing::close;
 use pieces::closing::settled_size;
 use pieces::closing::settled_words;
+use typing::findings::CLASH;
+use typing::findings::MOST_SIZE;
+use typing::findings::SEVERAL;
+use typing::findings::TOO_LARGE;
 use visiting::nodes::expr;
 use visiting::nodes::pred;
 use visiting::nodes::text;
@@ -49,15 +53,6 @@ const NAME: usize = 1;
 
 // Where the runs of an empty store begin.
 const RUNS: usize = 4096;
-
-const SEVERAL: u32 = 34;
-
-const CLASH: u32 = 36;
-
-const TOO_LARGE: u32 = 38;
-
-// The largest size of a declared type.
-const MOST_SIZE: usize = 32;
 
 // 2 Given: 36, and entries as written.
 fn given(doc: &[u32], a: &[u32], d: &[u32], w: &mut [u32], k: usize, p: &[u32]) -> Lined

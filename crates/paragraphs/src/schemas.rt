@@ -3,6 +3,9 @@ use inclusion::storing::keep_rows;
 use layout::part;
 use merging::rows_agree;
 use signatures::tables::merge;
+use typing::findings::CLASH;
+use typing::findings::MOST_NAMES;
+use typing::findings::TOO_LARGE;
 use visiting::nodes::brings;
 use visiting::nodes::text;
 use visiting::results::Lined;
@@ -18,13 +21,6 @@ ghost use Rattle.walk.specs.Schemas.{SchemaAsk, SchemaDone};
 
 // Words of a table of 32 rows.
 const TABLE: usize = 64;
-
-const CLASH: u32 = 36;
-
-const TOO_LARGE: u32 = 38;
-
-// The most identifiers of a signature.
-const MOST_NAMES: usize = 16;
 
 const TEXT: usize = 10;
 

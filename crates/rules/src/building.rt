@@ -1,6 +1,7 @@
 // Rules whose types are built of their operands' types. The store has n cells, whose runs end at `top`.
 
 use crate::ruling::Ruling;
+use typing::findings::UNEQUAL;
 ghost use mathlib.Core.List.{List, [], _∷_};
 ghost use mathlib.Core.Path.{_≡_};
 ghost use Prim.Native.Nat.{ℕ, _+_, _*_, _≤_, _<_, _^_};
@@ -8,9 +9,6 @@ ghost use lib.ListN.{length, take};
 ghost use Rattle.pieces.specs.Building.{Building, Working};
 ghost use Rattle.pieces.specs.Rows.{everySecond};
 ghost use Rattle.rules.specs.Formers.{Operating, Listed, Derived, numberItems, integersItems, tupleItems, productItems, setItems, comprehensionItems, powerRuleItems};
-
-// No equation holds: finding 33.
-const MISMATCH: u32 = 33;
 
 // Number: ℤ.
 pub fn number_rule(a: &mut [u32], n: usize, top: usize) -> Ruling
@@ -85,7 +83,7 @@ pub fn power_rule(a: &mut [u32], d: &[u32], n: usize, top: usize, c: usize) -> R
         };
     }
     Ruling {
-        number: MISMATCH,
+        number: UNEQUAL,
         cell: c,
         cells: n,
         top: top,
@@ -108,7 +106,7 @@ pub fn set_rule(a: &mut [u32], d: &[u32], n: usize, top: usize, parts: &[u32], m
         };
     }
     Ruling {
-        number: MISMATCH,
+        number: UNEQUAL,
         cell: n,
         cells: n,
         top: top,
@@ -154,7 +152,7 @@ pub fn product_rule(
         };
     }
     Ruling {
-        number: MISMATCH,
+        number: UNEQUAL,
         cell: n,
         cells: n,
         top: top,

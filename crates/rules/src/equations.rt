@@ -2,18 +2,14 @@
 
 use crate::ruling::Relation;
 use crate::ruling::Ruling;
+use typing::findings::NO_COMPONENT;
+use typing::findings::UNEQUAL;
 ghost use mathlib.Core.List.{[], _∷_};
 ghost use Prim.Native.Nat.{ℕ};
 ghost use Rattle.pieces.specs.Building.{Working};
 ghost use Rattle.pieces.specs.Stage.{Comparing};
 ghost use Rattle.rules.specs.Equations.{Relating, Related, Both, Combined, equalityItems, membershipItems, comparisonItems, applyItems, arithmeticItems, selectItems};
 ghost use Rattle.rules.specs.Formers.{Derived};
-
-// No equation holds: finding 33.
-const MISMATCH: u32 = 33;
-
-// No component of this name: finding 35.
-const NO_COMPONENT: u32 = 35;
 
 // What solver::components::component adds to the place of type words.
 const SETTLED: usize = 1025;
@@ -30,7 +26,7 @@ pub fn equality(a: &mut [u32], d: &[u32], n: usize, x: usize, y: usize) -> Relat
         };
     }
     Relation {
-        number: MISMATCH,
+        number: UNEQUAL,
         cells: n,
     }
 }
@@ -48,7 +44,7 @@ pub fn membership(a: &mut [u32], d: &[u32], n: usize, top: usize, x: usize, y: u
         };
     }
     Relation {
-        number: MISMATCH,
+        number: UNEQUAL,
         cells: n,
     }
 }
@@ -77,7 +73,7 @@ pub fn comparison(a: &mut [u32], d: &[u32], n: usize, x: usize, y: usize) -> Rel
         };
     }
     Relation {
-        number: MISMATCH,
+        number: UNEQUAL,
         cells: n,
     }
 }
@@ -96,7 +92,7 @@ pub fn arithmetic_rule(a: &mut [u32], d: &[u32], n: usize, top: usize, x: usize,
         };
     }
     Ruling {
-        number: MISMATCH,
+        number: UNEQUAL,
         cell: n,
         cells: n,
         top: top,
@@ -120,7 +116,7 @@ pub fn apply_rule(a: &mut [u32], d: &[u32], n: usize, top: usize, x: usize, y: u
         };
     }
     Ruling {
-        number: MISMATCH,
+        number: UNEQUAL,
         cell: n,
         cells: n,
         top: top,

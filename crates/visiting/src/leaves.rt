@@ -7,6 +7,7 @@ use rules::equations::comparison;
 use rules::equations::equality;
 use rules::equations::membership;
 use rules::ruling::Relation;
+use typing::findings::MOST_SIZE;
 ghost use mathlib.Core.List.{[], _∷_};
 ghost use Prim.Native.Nat.{_+_, _*_, _≤_};
 ghost use lib.ListN.{length, drop};
@@ -15,9 +16,6 @@ ghost use Rattle.merging.specs.Merging.{DeclaredAsk};
 ghost use Rattle.pieces.specs.Building.{Working};
 ghost use Rattle.rules.specs.Equations.{Related};
 ghost use Rattle.visiting.specs.Leaves.{relationItems, FitsTold, NewIfTold};
-
-// The largest size of a declared type.
-const MOST_SIZE: usize = 32;
 
 const EQUAL: usize = 21;
 

@@ -45,6 +45,15 @@ use signatures::includes::bring;
 use signatures::scopes::push;
 use signatures::tables::declare;
 use signatures::tables::merge;
+use typing::findings::BAD_RENAME;
+use typing::findings::CLASH;
+use typing::findings::MOST_NAMES;
+use typing::findings::MOST_SIZE;
+use typing::findings::SEVERAL;
+use typing::findings::TOO_LARGE;
+use typing::findings::UNEQUAL;
+use typing::findings::UNKNOWN_NAME;
+use typing::findings::WRONG_COUNT;
 use words::span;
 use words::store;
 use words::word;
@@ -73,25 +82,6 @@ const DICTIONARY: usize = 39936;
 const TABLE: usize = 64;
 
 const HALF: usize = 32;
-
-const UNKNOWN_NAME: u32 = 31;
-
-const WRONG_COUNT: u32 = 32;
-
-const UNEQUAL: u32 = 33;
-
-const SEVERAL: u32 = 34;
-
-const CLASH: u32 = 36;
-
-const BAD_RENAME: u32 = 37;
-
-const TOO_LARGE: u32 = 38;
-
-// The largest size of a declared type, and the most identifiers of a signature.
-const MOST_SIZE: usize = 32;
-
-const MOST_NAMES: usize = 16;
 
 // The operands from word i of node k's part on, one after another: their cells go to the words of `parts` from j on.
 fn opers(
