@@ -2,7 +2,7 @@
 use mathlib.Core.Path.{_≡_, refl, ap, sym, subst, _∙_}
 use mathlib.Core.Bool.{Bool, true, false, _||_, cond, false≢true}
 use mathlib.Core.List.{List, [], _∷_}
-use mathlib.Core.Logic.{_↔_}
+use mathlib.Core.Logic.{_↔_, _⊎_, inl, inr, ⊎-elim}
 use Prim.Native.Nat.{ℕ, zero, suc, _≤_, _<_}
 use native.Mathlib.Omega.{arith}
 use lib.Dec.{ltb, eqb}
@@ -12,7 +12,7 @@ use Rattle.words.specs.Loops.{has}
 use Rattle.types.specs.Types.{Term}
 use Rattle.types.specs.Formed.{Ascending}
 use Rattle.typing.specs.Strokes.{decorate}
-use Rattle.typing.specs.Signatures.{Signature, noNames, naming, countNames, namesOf, insertName, strokeAll, renamed, renameAll}
+use Rattle.typing.specs.Signatures.{Signature, noNames, naming, countNames, namesOf, insertName, strokeAll, renamed, renameAll, someStroked, wrongOld, wrongNames}
 use Rattle.typing.proofs.FormedSignatures.{Rising, rename-rising}
 use Rattle.typing.proofs.GlobalNames.{eqb-swap, has-insert}
 
@@ -23,6 +23,10 @@ neither false b e = (refl, e)
 second-of : (a b : Bool) → a ≡ false → (a || b) ≡ true → b ≡ true
 second-of true b n e = absurd (false≢true (sym n))
 second-of false b n e = e
+
+which : (a b : Bool) → (a || b) ≡ true → (a ≡ true) ⊎ (b ≡ true)
+which true b e = inl refl
+which false b e = inr e
 
 either-way : (a b : Bool) → b ≡ true → (a || b) ≡ true
 either-way true b e = refl
@@ -149,3 +153,24 @@ module _ (k : ℕ) (rs : List (ℕ × ℕ)) where
 pub fewer-names : (k : ℕ) (rs : List (ℕ × ℕ)) (s : Signature) → (ltb (countNames (renameAll rs (strokeAll k s))) (countNames s) ≡ true) ↔ Collision k rs s
 fewer-names k rs s =
     (λ e. collision k rs s (ltb-true _ _ e), λ c. lt-ltb _ _ (fewer k rs s (c .first) (c .second) (c .before) (c .within) (c .alike)))
+
+-- 37 at an Include: a stroke on a stroked component, an old name that is no component or stands twice, or two components that get one identifier
+module _ (k : ℕ) (rs : List (ℕ × ℕ)) (s : Signature) where
+  abbrev stroked : Bool
+  stroked = someStroked k s
+
+  abbrev old : Bool
+  old = wrongOld rs (strokeAll k s)
+
+  abbrev few : Bool
+  few = ltb (countNames (renameAll rs (strokeAll k s))) (countNames s)
+
+  reasons : (stroked || (old || few)) ≡ true → (stroked ≡ true) ⊎ ((old ≡ true) ⊎ Collision k rs s)
+  reasons e = ⊎-elim (λ a. inl a) (λ b. inr (⊎-elim (λ c. inl c) (λ d. inr (fewer-names k rs s .0 d)) (which old few b))) (which stroked (old || few) e)
+
+  refused : (stroked ≡ true) ⊎ ((old ≡ true) ⊎ Collision k rs s) → (stroked || (old || few)) ≡ true
+  refused c = ⊎-elim (λ a. rw a) (λ b. either-way stroked _ (⊎-elim (λ a. rw a) (λ d. either-way old _ (fewer-names k rs s .1 d)) b)) c
+
+  pub wrong-names : (wrongNames k rs s ≡ true) ↔ ((someStroked k s ≡ true) ⊎ ((wrongOld rs (strokeAll k s) ≡ true) ⊎ Collision k rs s))
+  unfolding wrongNames
+  wrong-names = (reasons, refused)
