@@ -29,7 +29,7 @@ pub fn set_link(a: &mut [u32], x: usize, y: usize)
     store(a, LINKS + x, (y + 1) as u32);
 }
 
-// The representative of cell i.
+// The representative of cell i: at most two reads where links are direct, and one more for each link of a merge since.
 pub fn find(a: &[u32], i: usize) -> usize
     requires { ⌜ Known (now a) i ⌝ }
     ensures { λ r. ⌜ Root (now (a .entry)) i r ⌝ }
@@ -43,7 +43,7 @@ pub fn find(a: &[u32], i: usize) -> usize
     k
 }
 
-// Cell i linked straight to its representative. The caller's ghost count of cells is n.
+// The link of cell i made direct. The caller's ghost count of cells is n.
 fn shorten(a: &mut [u32], i: usize, n: usize)
     requires { ⌜ (Sound (now a) n) × (i < n) ⌝ }
     ensures { λ _. ⌜ Straight (now (a .entry)) (now (a .exit)) i n ⌝ }
@@ -54,7 +54,7 @@ fn shorten(a: &mut [u32], i: usize, n: usize)
     }
 }
 
-// All links straight: a find is then two reads, up to the links of the next merge.
+// All links made direct.
 pub fn flatten(a: &mut [u32], n: usize)
     requires { ⌜ Sound (now a) n ⌝ }
     ensures { λ _. ⌜ Flattened (now (a .entry)) (now (a .exit)) n ⌝ }

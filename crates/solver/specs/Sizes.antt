@@ -89,24 +89,19 @@ pub record Visited (s s′ : List ℕ) (r : ℕ) (fine : Bool) : Type 0 where
   pub goes : fine ≡ true → Reached s s′ r
   pub stops : fine ≡ false → (n : ℕ) (L : Pairs ℕ) → Held s n L → r < n → (m : ℕ → ℕ) → Falls (frozen s) n L m → ((i : ℕ) → i < n → markAt s i ≡ 34 → m r < m i) → ⊥
 
--- The marks of the cells before `from` are their sizes.
-abbrev pub Before : List ℕ → ℕ → ℕ → Pairs ℕ → Type 0
-Before s from n L = (i : ℕ) → i < from → Sized (frozen s) n L i (markAt s i)
-
 -- No cell is being visited.
 abbrev pub Calm : List ℕ → ℕ → Type 0
 Calm s n = (i : ℕ) → i < n → markAt s i ≡ 34 → ⊥
 
--- The visits of the n cells from `from` on.
-pub record Visits (s s′ : List ℕ) (from n : ℕ) (fine : Bool) : Type 0 where
+-- The visits of the n cells.
+pub record Visits (s s′ : List ℕ) (n : ℕ) (fine : Bool) : Type 0 where
   pub same : Same s s′
-  pub goes : fine ≡ true → (L : Pairs ℕ) → Held s n L → Marks s n L → Calm s n → Before s from n L → (i : ℕ) → i < n → Sized (frozen s) n L i (markAt s′ i)
+  pub goes : fine ≡ true → (L : Pairs ℕ) → Held s n L → Marks s n L → (i : ℕ) → i < n → Sized (frozen s) n L i (markAt s′ i)
   pub stops : fine ≡ false → (L : Pairs ℕ) → Held s n L → Calm s n → (m : ℕ → ℕ) → Falls (frozen s) n L m → ⊥
 
-pub record Cleared (s s′ : List ℕ) (from n : ℕ) : Type 0 where
+pub record Cleared (s s′ : List ℕ) (n : ℕ) : Type 0 where
   pub same : Same s s′
-  pub none : (i : ℕ) → from ≤ i → i < n → markAt s′ i ≡ 0
-  pub kept : (i : ℕ) → i < from → markAt s′ i ≡ markAt s i
+  pub none : (i : ℕ) → i < n → markAt s′ i ≡ 0
 
 -- A solution in finite types of the cells, and of the equations P₀.
 pub record Solution (w : List ℕ) (n : ℕ) (P₀ : Pairs ℕ) : Type 0 where
@@ -122,12 +117,6 @@ pub record Tested (s s′ : List ℕ) (n : ℕ) (fine : Bool) : Type 0 where
   pub sizes : fine ≡ true → (P₀ L : Pairs ℕ) → Solved s n P₀ L → (i : ℕ) → i < n → Sized (frozen s) n L i (markAt s′ i)
   pub solves : fine ≡ true → (P₀ L : Pairs ℕ) → Solved s n P₀ L → Solution (frozen s) n P₀
   pub endless : fine ≡ false → (P₀ L : Pairs ℕ) → Solved s n P₀ L → Solution (frozen s) n P₀ → ⊥
-
--- The same where only the cells from `from` on are tested: those before have been, and their marks are still their sizes.
-pub record TestedFrom (s s′ : List ℕ) (from n : ℕ) (fine : Bool) : Type 0 where
-  pub same : Same s s′
-  pub sizes : fine ≡ true → (L : Pairs ℕ) → Held s n L → Before s from n L → (i : ℕ) → i < n → Sized (frozen s) n L i (markAt s′ i)
-  pub endless : fine ≡ false → (P₀ L : Pairs ℕ) → Solved s n P₀ L → Before s from n L → Solution (frozen s) n P₀ → ⊥
 
 -- `finite` has answered true.
 pub record Marked (s : List ℕ) (n : ℕ) (L : Pairs ℕ) : Type 0 where

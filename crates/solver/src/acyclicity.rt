@@ -9,7 +9,7 @@ use words::word;
 ghost use mathlib.Core.Path.{_≡_};
 ghost use Prim.Native.Nat.{_<_, _^_};
 ghost use Rattle.cells.specs.Store.{frozen};
-ghost use Rattle.solver.specs.Sizes.{arityAt, Read, Visited, Visits, Cleared, TestedFrom, Tested};
+ghost use Rattle.solver.specs.Sizes.{arityAt, Read, Visited, Visits, Cleared, Tested};
 ghost use Rattle.cells.specs.Calls.{Known};
 
 // The mark of a cell that is being visited, past every size.
@@ -64,12 +64,11 @@ fn visit(a: &mut [u32], i: usize) -> bool
     true
 }
 
-// Visits the n cells from `from` on.
-fn visit_all(a: &mut [u32], from: usize, n: usize) -> bool
+fn visit_all(a: &mut [u32], n: usize) -> bool
     requires { ⌜ Read (now a) n ⌝ }
-    ensures { λ b. ⌜ Visits (now (a .entry)) (now (a .exit)) from n b ⌝ }
+    ensures { λ b. ⌜ Visits (now (a .entry)) (now (a .exit)) n b ⌝ }
 {
-    let mut i = from;
+    let mut i = 0;
     while i < n {
         if visit(a, i) {
             i += 1;
@@ -80,30 +79,22 @@ fn visit_all(a: &mut [u32], from: usize, n: usize) -> bool
     true
 }
 
-fn clear_marks(a: &mut [u32], from: usize, n: usize)
+fn clear_marks(a: &mut [u32], n: usize)
     requires { ⌜ Read (now a) n ⌝ }
-    ensures { λ _. ⌜ Cleared (now (a .entry)) (now (a .exit)) from n ⌝ }
+    ensures { λ _. ⌜ Cleared (now (a .entry)) (now (a .exit)) n ⌝ }
 {
-    let mut i = from;
+    let mut i = 0;
     while i < n {
         store(a, MARKS + i, 0);
         i += 1;
     }
 }
 
-// Do the n cells from `from` on have finite types? Each of them is visited once; visits nest at most as deep as there are cells.
-fn finite_from(a: &mut [u32], from: usize, n: usize) -> bool
-    requires { ⌜ Read (now a) n ⌝ }
-    ensures { λ r. ⌜ TestedFrom (now (a .entry)) (now (a .exit)) from n r ⌝ }
-{
-    clear_marks(a, from, n);
-    visit_all(a, from, n)
-}
-
-// Do all n cells have finite types?
+// Do all n cells have finite types? Each is visited once; visits nest at most as deep as there are cells.
 pub fn finite(a: &mut [u32], n: usize) -> bool
     requires { ⌜ Read (now a) n ⌝ }
     ensures { λ r. ⌜ Tested (now (a .entry)) (now (a .exit)) n r ⌝ }
 {
-    finite_from(a, 0, n)
+    clear_marks(a, n);
+    visit_all(a, n)
 }

@@ -15,7 +15,7 @@ ghost use Rattle.solver.specs.Answers.{Placed, LookingRoot, Looking, Loo
 ghost use Rattle.cells.specs.Calls.{Runs};
 
 // The place of the type of the component id in the type at p, and 0 where there is none.
-pub fn settled_component(a: &[u32], d: &[u32], p: usize, id: usize) -> usize
+fn settled_component(a: &[u32], d: &[u32], p: usize, id: usize) -> usize
     requires { ⌜ Reading (now a) (now d) p ⌝ }
     ensures { λ r. ⌜ Component (now (a .entry)) (now (d .entry)) p id r ⌝ }
 {

@@ -1,7 +1,8 @@
 use mathlib.Core.Path.{_≡_, sym, subst}
 use Prim.Native.Nat.{_+_, _-_}
 use native.Mathlib.Omega.{arith}
-use Rattle.solver.proofs.Testing.{ClearTo, clear-start, clear-step, clear-end}
+use Rattle.solver.specs.Sizes.{Cleared}
+use Rattle.solver.proofs.Testing.{clear-start, clear-step, clear-end}
 use borrow.Author.Needs.{needs}
 use Rattle.solver.proofs.acyclicity.clear_marks.Statement.{statement}
 use Rattle.solver.proofs.acyclicity.clear_marks.Tie as tie
@@ -10,13 +11,13 @@ use Rattle.solver.proofs.acyclicity.clear_marks.Lts as lts
 use Rattle.words.proofs.store.Reads as store-reads
 
 abbrev Inv-loop : tie.InvT-loop
-Inv-loop a₀ from n i₀ a i = ClearTo a₀ a from i
+Inv-loop a₀ n i₀ a i = Cleared a₀ a i
 
 abbrev μ-loop : tie.MeasureT-loop
-μ-loop a₀ from n i₀ a i = n - i
+μ-loop a₀ n i₀ a i = n - i
 
 loop-holds : tie.Need-loop-holds Inv-loop μ-loop
-loop-holds c = clear-start _ _
+loop-holds c = clear-start _
 
 add-store : tie.Need-add-store Inv-loop μ-loop
 add-store c = let f = c .before .before .before .before .pre .held .few in let t = c .before .loop-test .taken in omega arith
@@ -34,13 +35,13 @@ loop-again : tie.Need-loop-again Inv-loop μ-loop
 loop-again c =
     let s = c .before .before .before .before .before .before .before in
     let i = c .before .before .before .before .before .loop .i in
-    subst (λ z. ClearTo (s .args .a .now) z (s .args .from) (i + 1)) (sym (c .before .before .store .ensures)) (clear-step _ _ _ _ i (c .before .before .before .before .before .loop .inv) (s .pre) (c .before .before .before .before .loop-test .taken))
+    subst (λ z. Cleared (s .args .a .now) z (i + 1)) (sym (c .before .before .store .ensures)) (clear-step _ _ _ i (c .before .before .before .before .before .loop .inv) (s .pre) (c .before .before .before .before .loop-test .taken))
 
 same-length : tie.Need-same-length Inv-loop μ-loop
-same-length c = c .before .loop .inv .cleared .same .size
+same-length c = c .before .loop .inv .same .size
 
 returns : tie.Need-returns Inv-loop μ-loop
-returns c = clear-end _ _ _ _ _ (c .loop-test .left) (c .before .loop .inv)
+returns c = clear-end _ _ _ _ (c .loop-test .left) (c .before .loop .inv)
 
 pub clear-marks-spec : {M : Type 1} → statement M
 clear-marks-spec =
