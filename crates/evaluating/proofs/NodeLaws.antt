@@ -6,10 +6,10 @@ use mathlib.Core.List.{List, [], _∷_, _++_, append-assoc, append-nil}
 use Prim.Native.Nat.{ℕ, zero, suc, _+_, _*_, _-_, _≤_, _<_}
 use native.Mathlib.Omega.{arith}
 use native.Mathlib.Nat.{eq-or-lt-of-le}
-use lib.Dec.{ltb, leb}
+use lib.Dec.{leb}
 use Rattle.words.proofs.Loops.{and-left, and-right}
 use lib.ListN.{length, getD, take, drop}
-use borrow.Author.Tests.{lt-ltb, le-ltb, leb-true, ltb-true, ltb-false}
+use borrow.Author.Tests.{leb-true}
 use Rattle.layout.specs.Layout.{count, part}
 use Rattle.values.specs.Value.{Value, Values, nil, cons, encode, encodes}
 use Rattle.values.specs.Value as Value
@@ -36,10 +36,9 @@ use Rattle.evaluation.specs.Operations.{add, connect}
 use Rattle.evaluation.specs.Rules.{evalExpr, evalExprs, evalMembers, evalPred, test}
 use Rattle.operations.specs.Steps.{arithmeticOf, atMostOf, imageOf, decisionOf}
 use Rattle.operations.specs.declared.worked.Worked.{Worked}
-use Rattle.operations.specs.declared.worked.Both.{Both}
-use Rattle.operations.specs.Worked.{narrow, allNarrow, Holds, Told, fine, ceased, Valued, Judged, Gathered, Joined, Pair, both, first, second, Stops}
+use Rattle.operations.specs.Worked.{narrow, allNarrow, Holds, Told, fine, ceased, Valued, Judged, Gathered, Joined}
 use Rattle.evaluating.specs.Ready.{Ready, Handed, Operands}
-use Rattle.operations.proofs.ToldLaws.{after-told, stop-told, go-told, halt-told, at-pure, pair-go, pair-halt}
+use Rattle.operations.proofs.ToldLaws.{after-told, stop-told, go-told, halt-told, at-pure}
 use Rattle.operations.proofs.OperationLaws.{keep-fine, narrow-cons}
 
 abbrev allBelow : ℕ → List ℕ → Bool
@@ -68,16 +67,6 @@ small-rows q = below 256 table refl (columns * q + 1)
 pub few-words : (doc : List ℕ) (s k : ℕ) → At doc s k → length (part doc k) ≤ 256
 unfolding cell
 few-words doc s k h = omega (arith, at-most doc s k h, small-rows (kindAt doc k))
-
--- ---- two operands
-pub pair-first : {r : Worked} {o p : Outcome Value} (h g : Held) → Told Valued r o → (r .number ≡ 0 → ⊥) → Pair (record { left = h; right = g; number = r .number; place = r .place }) o p
-pair-first h g (fine z a) e = absurd (e z)
-pair-first h g (ceased a b c) e = first a b c
-
-pub pair-both : {r s : Worked} {o p : Outcome Value} → Told Valued r o → r .number ≡ 0 → Told Valued s p → Pair (record { left = r .held; right = s .held; number = s .number; place = s .place }) o p
-pair-both (fine z h) e (fine y g) = both y (h .held) (g .held)
-pair-both (fine z h) e (ceased a b c) = second a b c
-pair-both (ceased a b c) e q = absurd (c (sym a ∙ e))
 
 -- ---- expressions one after the other
 module _ (doc : List ℕ) (k e i : ℕ) (scope : Scope) (ws : List ℕ) where
@@ -160,13 +149,19 @@ module _ {doc work w : List ℕ} {n k : ℕ} (h : Handed doc work w expressions 
     unfolding evalExpr
     reference-go scope t z g = rw reference-tree (go-told t z (λ vs j. g))
 
-    pub has-actuals : ltb 2 (length w) ≡ hasActuals (exprsFrom doc k 2 (length w - 2))
+    pub has-actuals : 2 < length w → true ≡ hasActuals (exprsFrom doc k 2 (length w - 2))
     unfolding hasActuals
-    has-actuals = go (ltb 2 (length w)) refl
-      where
-        go : (b : Bool) → ltb 2 (length w) ≡ b → b ≡ hasActuals (exprsFrom doc k 2 (length w - 2))
-        go true e = sym (ap hasActuals (exprs-go doc k (length w) 2 (ltb-true 2 (length w) e)))
-        go false e = sym (ap hasActuals (exprs-end doc k (length w) 2 (ltb-false 2 (length w) e)))
+    has-actuals l = sym (ap hasActuals (exprs-go doc k (length w) 2 l))
+
+    -- without actuals
+    module _ (scope : Scope) (l : length w ≤ 2) where
+      pub no-actuals : false ≡ hasActuals (exprsFrom doc k 2 (length w - 2))
+      unfolding hasActuals
+      no-actuals = sym (ap hasActuals (exprs-end doc k (length w) 2 l))
+
+      pub reference-plain : {s : Worked} → Told Valued s (refer k (exprsFrom doc k 2 (length w - 2)) (lookup (getD w 1 0) scope)) → Told Valued s (evalExpr (exprAt doc k) scope)
+      unfolding evalExpr evalExprs
+      reference-plain {s} g = rw reference-tree (subst (λ (xs : Exprs). Told Valued s (evalExprs xs scope >>= λ vs. refer k (exprsFrom doc k 2 (length w - 2)) (lookup (getD w 1 0) scope))) (sym (exprs-end doc k (length w) 2 l)) (at-pure _ _ g))
 
   -- 33 Set, 34 Tuple, 35 Product
   pub member-operands : (q : ℕ) → kindAt doc k ≡ q → 33 ≤ q → q ≤ 35 → Operands doc w k expressions 1
@@ -198,28 +193,16 @@ module _ {doc work w : List ℕ} {n k : ℕ} (h : Handed doc work w expressions 
     pub apply-operands : kindAt doc k ≡ 37 → Lower doc k expressions a × Lower doc k expressions b
     apply-operands q = let l = expr-application doc k (h .ready .at) q a b (in-words h 1 a x) (in-words h 2 b y) in (l .left, l .right)
 
-    pub apply-stop : kindAt doc k ≡ 37 → (scope : Scope) {r : Both} {s : Worked} → Pair r (evalExpr (exprAt doc a) scope) (evalExpr (exprAt doc b) scope) → (r .number ≡ 0 → ⊥) →
-        Stops s (r .number) (r .place) → Told Valued s (evalExpr (exprAt doc k) scope)
-    unfolding evalExpr
-    apply-stop q scope p z t = rw (expr-application doc k (h .ready .at) q a b (in-words h 1 a x) (in-words h 2 b y) .tree) (pair-halt _ p z t)
-
-    pub apply-go : kindAt doc k ≡ 37 → (scope : Scope) {r : Both} {s : Worked} → Pair r (evalExpr (exprAt doc a) scope) (evalExpr (exprAt doc b) scope) → r .number ≡ 0 →
-        ((u v : Value) → Holds (r .left) u → Holds (r .right) v → Told Valued s (imageOf k u v)) → Told Valued s (evalExpr (exprAt doc k) scope)
+    pub apply-told : kindAt doc k ≡ 37 → (scope : Scope) → {s : Worked} → Told Valued s (evalExpr (exprAt doc a) scope >>= λ u. evalExpr (exprAt doc b) scope >>= λ v. imageOf k u v) → Told Valued s (evalExpr (exprAt doc k) scope)
     unfolding evalExpr imageOf
-    apply-go q scope p z g = rw (expr-application doc k (h .ready .at) q a b (in-words h 1 a x) (in-words h 2 b y) .tree) (pair-go p z g)
+    apply-told q scope t = rw (expr-application doc k (h .ready .at) q a b (in-words h 1 a x) (in-words h 2 b y) .tree) t
 
     pub arith-operands : 41 ≤ kindAt doc k → kindAt doc k ≤ 45 → Lower doc k expressions a × Lower doc k expressions b
     arith-operands c d = let l = expr-arithmetic doc k (h .ready .at) (kindAt doc k) refl c d a b (in-words h 1 a x) (in-words h 2 b y) in (l .left, l .right)
 
-    pub arith-stop : 41 ≤ kindAt doc k → kindAt doc k ≤ 45 → (scope : Scope) {r : Both} {s : Worked} → Pair r (evalExpr (exprAt doc a) scope) (evalExpr (exprAt doc b) scope) → (r .number ≡ 0 → ⊥) →
-        Stops s (r .number) (r .place) → Told Valued s (evalExpr (exprAt doc k) scope)
-    unfolding evalExpr
-    arith-stop c d scope p z t = rw (expr-arithmetic doc k (h .ready .at) (kindAt doc k) refl c d a b (in-words h 1 a x) (in-words h 2 b y) .tree) (pair-halt _ p z t)
-
-    pub arith-go : 41 ≤ kindAt doc k → kindAt doc k ≤ 45 → (scope : Scope) {r : Both} {s : Worked} → Pair r (evalExpr (exprAt doc a) scope) (evalExpr (exprAt doc b) scope) → r .number ≡ 0 →
-        ((u v : Value) → Holds (r .left) u → Holds (r .right) v → Told Valued s (arithmeticOf k (kindAt doc k) u v)) → Told Valued s (evalExpr (exprAt doc k) scope)
+    pub arith-told : 41 ≤ kindAt doc k → kindAt doc k ≤ 45 → (scope : Scope) → {s : Worked} → Told Valued s (evalExpr (exprAt doc a) scope >>= λ u. evalExpr (exprAt doc b) scope >>= λ v. arithmeticOf k (kindAt doc k) u v) → Told Valued s (evalExpr (exprAt doc k) scope)
     unfolding evalExpr arithmeticOf
-    arith-go c d scope p z g = rw (expr-arithmetic doc k (h .ready .at) (kindAt doc k) refl c d a b (in-words h 1 a x) (in-words h 2 b y) .tree) (pair-go p z g)
+    arith-told c d scope t = rw (expr-arithmetic doc k (h .ready .at) (kindAt doc k) refl c d a b (in-words h 1 a x) (in-words h 2 b y) .tree) t
 
 -- a node has its kind among its words
 pub node-words : {doc work w : List ℕ} {s n k : ℕ} → Handed doc work w s n k → 1 ≤ length w
@@ -238,25 +221,13 @@ module _ {doc work w : List ℕ} {n k : ℕ} (h : Handed doc work w predicates n
     relation-tree = pred-relation doc k (h .ready .at) q e c d a b (in-words h 1 a x) (in-words h 2 b y) .tree
 
   module _ (a b : ℕ) (x : a ≡ getD w 1 0) (y : b ≡ getD w 2 0) (scope : Scope) where
-    pub equal-stop : kindAt doc k ≡ 21 → {r : Both} {s : Worked} → Pair r (evalExpr (exprAt doc a) scope) (evalExpr (exprAt doc b) scope) → (r .number ≡ 0 → ⊥) →
-        Stops s (r .number) (r .place) → Told Judged s (evalPred (predAt doc k) scope)
+    pub equal-told : kindAt doc k ≡ 21 → {s : Worked} → Told Judged s (evalExpr (exprAt doc a) scope >>= λ u. evalExpr (exprAt doc b) scope >>= λ v. pure (sameValue u v)) → Told Judged s (evalPred (predAt doc k) scope)
     unfolding evalPred
-    equal-stop q p z t = rw (relation-tree 21 q (omega arith) (omega arith) a b x y) (pair-halt _ p z t)
+    equal-told q t = rw (relation-tree 21 q (omega arith) (omega arith) a b x y) t
 
-    pub equal-go : kindAt doc k ≡ 21 → {r : Both} {s : Worked} → Pair r (evalExpr (exprAt doc a) scope) (evalExpr (exprAt doc b) scope) → r .number ≡ 0 →
-        ((u v : Value) → Holds (r .left) u → Holds (r .right) v → Told Judged s (pure (sameValue u v))) → Told Judged s (evalPred (predAt doc k) scope)
-    unfolding evalPred
-    equal-go q p z g = rw (relation-tree 21 q (omega arith) (omega arith) a b x y) (pair-go p z g)
-
-    pub below-stop : kindAt doc k ≡ 23 → {r : Both} {s : Worked} → Pair r (evalExpr (exprAt doc a) scope) (evalExpr (exprAt doc b) scope) → (r .number ≡ 0 → ⊥) →
-        Stops s (r .number) (r .place) → Told Judged s (evalPred (predAt doc k) scope)
-    unfolding evalPred
-    below-stop q p z t = rw (relation-tree 23 q (omega arith) (omega arith) a b x y) (pair-halt _ p z t)
-
-    pub below-go : kindAt doc k ≡ 23 → {r : Both} {s : Worked} → Pair r (evalExpr (exprAt doc a) scope) (evalExpr (exprAt doc b) scope) → r .number ≡ 0 →
-        ((u v : Value) → Holds (r .left) u → Holds (r .right) v → Told Judged s (atMostOf k u v)) → Told Judged s (evalPred (predAt doc k) scope)
+    pub below-told : kindAt doc k ≡ 23 → {s : Worked} → Told Judged s (evalExpr (exprAt doc a) scope >>= λ u. evalExpr (exprAt doc b) scope >>= λ v. atMostOf k u v) → Told Judged s (evalPred (predAt doc k) scope)
     unfolding evalPred atMostOf
-    below-go q p z g = rw (relation-tree 23 q (omega arith) (omega arith) a b x y) (pair-go p z g)
+    below-told q t = rw (relation-tree 23 q (omega arith) (omega arith) a b x y) t
 
     pub member-stop : kindAt doc k ≡ 22 → {r : Worked} → Told Valued r (evalExpr (exprAt doc a) scope) → (r .number ≡ 0 → ⊥) → Told Judged r (evalPred (predAt doc k) scope)
     unfolding evalPred

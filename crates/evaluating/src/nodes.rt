@@ -23,12 +23,10 @@ use operations::numbers::arithmetic;
 use operations::numbers::at_most;
 use operations::numbers::is_integer;
 use operations::numbers::number_value;
-use operations::worked::Both;
 use operations::worked::Worked;
 use operations::worked::go;
 use operations::worked::judge;
 use operations::worked::stop;
-use operations::worked::stopped;
 use values::held::Held;
 use values::held::empty;
 use values::span::span;
@@ -52,7 +50,7 @@ ghost use Rattle.evaluation.specs.Assignments.{Domains};
 ghost use Rattle.evaluation.specs.Operations.{allPass};
 ghost use Rattle.evaluation.specs.Rules.{evalExpr, evalExprs, evalMembers, evalPred, test, testExprs};
 ghost use Rattle.evaluating.specs.Turns.{bodyAt, turnAt};
-ghost use Rattle.operations.specs.Worked.{Holds, Told, Valued, Judged, Gathered, Joined, Pair};
+ghost use Rattle.operations.specs.Worked.{Holds, Told, Valued, Judged, Gathered, Joined};
 ghost use Rattle.operations.specs.Blocks.{Scoped, Leaves};
 ghost use Rattle.evaluating.specs.Ready.{Ready, Handed, Operands, Scoping, Assigns, Tells, Rest, Evaluates, Decides, LinesTold, AssignTold, EachTold, BodyTold};
 
@@ -116,11 +114,14 @@ fn refers(doc: &[u32], state: &[u32], work: &mut [u32], n: usize, k: usize, w: &
     requires { ⌜ Handed (now doc) (now work) (now w) expressions n k × (kindAt (now doc) k ≡ 30) ⌝ }
     ensures { λ r. ⌜ Evaluates (now (doc .entry)) k n (now (state .entry)) (now (work .entry)) (now (work .exit)) r ⌝ }
 {
+    if w.len() <= 2 {
+        return refer(state, &work[..], n, k, word(w, 1), false);
+    }
     let x = parts(doc, state, work, n, k, w, 2, empty());
     if x.number != 0 {
         return x;
     }
-    refer(state, &work[..], n, k, word(w, 1), 2 < w.len())
+    refer(state, &work[..], n, k, word(w, 1), true)
 }
 
 // 34 Tuple.
@@ -136,50 +137,21 @@ fn tuple(doc: &[u32], state: &[u32], work: &mut [u32], n: usize, k: usize, w: &[
     kept(k, h)
 }
 
-// Both operands, one after the other.
-fn pair(
-    doc: &[u32],
-    state: &[u32],
-    work: &mut [u32],
-    n: usize,
-    k: usize,
-    a: usize,
-    b: usize,
-) -> Both
-    requires { ⌜ Ready (now doc) (now work) expressions n a × Ready (now doc) (now work) expressions n b × (a < k) × (b < k) ⌝ }
-    ensures { λ r. ⌜ Leaves n (now (work .entry)) (now (work .exit)) ((scope : Scope) → Scoped (now (state .entry)) (now (work .entry)) n scope → Pair r (evalExpr (exprAt (now (doc .entry)) a) scope) (evalExpr (exprAt (now (doc .entry)) b) scope)) ⌝ }
-{
-    let x = expr(doc, state, work, n, a);
-    let h = x.held;
-    if x.number != 0 {
-        return Both {
-            left: h,
-            right: h,
-            number: x.number,
-            place: x.place,
-        };
-    }
-    let y = expr(doc, state, work, n, b);
-    let g = y.held;
-    Both {
-        left: h,
-        right: g,
-        number: y.number,
-        place: y.place,
-    }
-}
-
 // 37 Apply.
 fn apply(doc: &[u32], state: &[u32], work: &mut [u32], n: usize, k: usize, w: &[u32]) -> Worked
     requires { ⌜ Handed (now doc) (now work) (now w) expressions n k × (kindAt (now doc) k ≡ 37) ⌝ }
     ensures { λ r. ⌜ Evaluates (now (doc .entry)) k n (now (state .entry)) (now (work .entry)) (now (work .exit)) r ⌝ }
 {
-    let p = pair(doc, state, work, n, k, word(w, 1), word(w, 2));
-    if p.number != 0 {
-        return stopped(p.number, p.place);
+    let x = expr(doc, state, work, n, word(w, 1));
+    if x.number != 0 {
+        return x;
     }
-    let f = p.left;
-    let a = p.right;
+    let y = expr(doc, state, work, n, word(w, 2));
+    if y.number != 0 {
+        return y;
+    }
+    let f = x.held;
+    let a = y.held;
     applied(k, f, a)
 }
 
@@ -188,12 +160,16 @@ fn arith(doc: &[u32], state: &[u32], work: &mut [u32], n: usize, k: usize, w: &[
     requires { ⌜ Handed (now doc) (now work) (now w) expressions n k × (41 ≤ kindAt (now doc) k) × (kindAt (now doc) k ≤ 45) ⌝ }
     ensures { λ r. ⌜ Evaluates (now (doc .entry)) k n (now (state .entry)) (now (work .entry)) (now (work .exit)) r ⌝ }
 {
-    let p = pair(doc, state, work, n, k, word(w, 1), word(w, 2));
-    if p.number != 0 {
-        return stopped(p.number, p.place);
+    let x = expr(doc, state, work, n, word(w, 1));
+    if x.number != 0 {
+        return x;
     }
-    let a = p.left;
-    let b = p.right;
+    let y = expr(doc, state, work, n, word(w, 2));
+    if y.number != 0 {
+        return y;
+    }
+    let a = x.held;
+    let b = y.held;
     arithmetic(k, word(w, 0), a, b)
 }
 
@@ -237,12 +213,16 @@ fn same(doc: &[u32], state: &[u32], work: &mut [u32], n: usize, k: usize, w: &[u
     requires { ⌜ Handed (now doc) (now work) (now w) predicates n k × (kindAt (now doc) k ≡ 21) ⌝ }
     ensures { λ r. ⌜ Decides (now (doc .entry)) k n (now (state .entry)) (now (work .entry)) (now (work .exit)) r ⌝ }
 {
-    let p = pair(doc, state, work, n, k, word(w, 1), word(w, 2));
-    if p.number != 0 {
-        return stopped(p.number, p.place);
+    let x = expr(doc, state, work, n, word(w, 1));
+    if x.number != 0 {
+        return x;
     }
-    let a = p.left;
-    let b = p.right;
+    let y = expr(doc, state, work, n, word(w, 2));
+    if y.number != 0 {
+        return y;
+    }
+    let a = x.held;
+    let b = y.held;
     equal(a, b)
 }
 
@@ -264,12 +244,16 @@ fn below(doc: &[u32], state: &[u32], work: &mut [u32], n: usize, k: usize, w: &[
     requires { ⌜ Handed (now doc) (now work) (now w) predicates n k × (kindAt (now doc) k ≡ 23) ⌝ }
     ensures { λ r. ⌜ Decides (now (doc .entry)) k n (now (state .entry)) (now (work .entry)) (now (work .exit)) r ⌝ }
 {
-    let p = pair(doc, state, work, n, k, word(w, 1), word(w, 2));
-    if p.number != 0 {
-        return stopped(p.number, p.place);
+    let x = expr(doc, state, work, n, word(w, 1));
+    if x.number != 0 {
+        return x;
     }
-    let a = p.left;
-    let b = p.right;
+    let y = expr(doc, state, work, n, word(w, 2));
+    if y.number != 0 {
+        return y;
+    }
+    let a = x.held;
+    let b = y.held;
     at_most(k, a, b)
 }
 

@@ -6,8 +6,7 @@ use Prim.Native.Nat.{ℕ}
 use Rattle.values.specs.Value.{Value}
 use Rattle.evaluation.specs.Outcomes.{Event, Outcome, after, _>>=_, pure, stop}
 use Rattle.operations.specs.declared.worked.Worked.{Worked}
-use Rattle.operations.specs.declared.worked.Both.{Both}
-use Rattle.operations.specs.Worked.{Told, fine, ceased, Holds, Stops, Pair, both, first, second}
+use Rattle.operations.specs.Worked.{Told, fine, ceased, Holds, Valued, Stops}
 
 pub after-told : {A : Type 0} {R : Worked → A → Type 0} {r : Worked} (t : List Event) {o : Outcome A} → Told R r o → Told R r (after t o)
 unfolding after
@@ -39,20 +38,13 @@ pub at-stop : {A B : Type 0} {Q : Worked → B → Type 0} {r : Worked} {n k : �
 unfolding _>>=_
 at-stop f s z = ceased (s .number) (s .place) z
 
--- two values
-pub pair-go : {B : Type 0} {Q : Worked → B → Type 0} {r : Both} {s : Worked} {o p : Outcome Value} {f : Value → Value → Outcome B}
-    → Pair r o p → r .number ≡ 0 → ((x y : Value) → Holds (r .left) x → Holds (r .right) y → Told Q s (f x y)) → Told Q s (o >>= λ x. p >>= λ y. f x y)
-unfolding _>>=_
-pair-go (both {t} {u} z h g) e k = after-told t (after-told u (k _ _ h g))
-pair-go (first a b c) e k = absurd (c (sym a ∙ e))
-pair-go (second a b c) e k = absurd (c (sym a ∙ e))
+-- two values, one after the other: the second stops, or the rest is told
+module _ {B : Type 0} {Q : Worked → B → Type 0} {r s : Worked} {o p : Outcome Value} (a : Told Valued r o) (z : r .number ≡ 0) (b : Told Valued s p) where
+  pub second-told : (f : Value → Value → Outcome B) → (s .number ≡ 0 → ⊥) → Told Q s (o >>= λ x. p >>= λ y. f x y)
+  second-told f e = go-told a z (λ x h. halt-told (f x) b e)
 
-pub pair-halt : {B : Type 0} {Q : Worked → B → Type 0} {r : Both} {s : Worked} {o p : Outcome Value} (f : Value → Value → Outcome B)
-    → Pair r o p → (r .number ≡ 0 → ⊥) → Stops s (r .number) (r .place) → Told Q s (o >>= λ x. p >>= λ y. f x y)
-unfolding _>>=_ after
-pair-halt f (both z h g) e t = absurd (e z)
-pair-halt f (first a b c) e t = ceased (t .number ∙ a) (t .place ∙ b) c
-pair-halt f (second a b c) e t = ceased (t .number ∙ a) (t .place ∙ b) c
+  pub both-told : {t : Worked} {f : Value → Value → Outcome B} → s .number ≡ 0 → ((x y : Value) → Holds (r .held) x → Holds (s .held) y → Told Q t (f x y)) → Told Q t (o >>= λ x. p >>= λ y. f x y)
+  both-told e k = go-told a z (λ x h. go-told b e (λ y g. k x y (h .held) (g .held)))
 
 -- a choice by a truth value
 pub choose-told : {A : Type 0} {R : Worked → A → Type 0} {r : Worked} (b : Bool) {x y : Outcome A} → (b ≡ true → Told R r x) → (b ≡ false → Told R r y)

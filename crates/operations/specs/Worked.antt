@@ -11,7 +11,6 @@ use Rattle.values.specs.declared.held.Held.{Held}
 use Rattle.evaluation.specs.Outcomes.{Event, Outcome, done, stopped}
 use Rattle.evaluation.specs.Assignments.{Flow, go, halt}
 use Rattle.operations.specs.declared.worked.Worked.{Worked}
-use Rattle.operations.specs.declared.worked.Both.{Both}
 
 -- the integers of a value are of 32 bits signed
 unfoldable mutual
@@ -55,12 +54,6 @@ pub record Joined (ws : List ℕ) (n : ℕ) (r : Worked) (vs : Values) : Type 0 
   pub counted : count vs ≡ n
   pub words : r .held ≡ keep (ws ++ encodes vs)
   pub narrow : allNarrow vs ≡ true
-
--- two values worked out one after the other, or where the first of them stopped
-pub data Pair (r : Both) : Outcome Value → Outcome Value → Type 0 where
-  both : {t u : List Event} {x y : Value} → r .number ≡ 0 → Holds (r .left) x → Holds (r .right) y → Pair r (done t x) (done u y)
-  first : {t : List Event} {number node : ℕ} {o : Outcome Value} → r .number ≡ number → r .place ≡ node → (number ≡ 0 → ⊥) → Pair r (stopped t number node) o
-  second : {t u : List Event} {x : Value} {number node : ℕ} → r .number ≡ number → r .place ≡ node → (number ≡ 0 → ⊥) → Pair r (done t x) (stopped u number node)
 
 -- a stop, and what goes on
 pub record Stops (r : Worked) (n k : ℕ) : Type 0 where

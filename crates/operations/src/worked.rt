@@ -12,30 +12,16 @@ pub struct Worked {
     pub place: u32,
 }
 
-// Two values, worked out one after the other.
-pub struct Both {
-    pub left: Held,
-    pub right: Held,
-    pub number: u32,
-    pub place: u32,
-}
-
-pub fn stopped(number: u32, place: u32) -> Worked
-    ensures { λ r. ⌜ Stops r number place ⌝ }
+pub fn stop(number: u32, k: usize) -> Worked
+    requires { ⌜ k ≤ 1024 ⌝ }
+    ensures { λ r. ⌜ Stops r number k ⌝ }
 {
     Worked {
         held: empty(),
         flag: false,
         number: number,
-        place: place,
+        place: k as u32,
     }
-}
-
-pub fn stop(number: u32, k: usize) -> Worked
-    requires { ⌜ k ≤ 1024 ⌝ }
-    ensures { λ r. ⌜ Stops r number k ⌝ }
-{
-    stopped(number, k as u32)
 }
 
 pub fn go(held: Held, flag: bool) -> Worked

@@ -17,8 +17,8 @@ use Prim.Native.Nat.{ℕ, _<_}
 use borrow.Fn.Kinds.{In}
 use borrow.Fn.PlainCycle.{Measures, is, falls, and}
 use Rattle.evaluating.proofs.nodes.expr.Reads as expr
-use Rattle.evaluating.proofs.nodes.+adds+all+apply+arith+assign+below+body+compr+connect+each+each_part+expr+lines+member+negate+pair+parts+power+pred+product+quant+refers+same+tests+tuple+turn+value.Lts-expr as expr-lts
-use Rattle.evaluating.proofs.nodes.+adds+all+apply+arith+assign+below+body+compr+connect+each+each_part+expr+lines+member+negate+pair+parts+power+pred+product+quant+refers+same+tests+tuple+turn+value.Proof.Env.{expr-at, expr-calls}
+use Rattle.evaluating.proofs.nodes.+adds+all+apply+arith+assign+below+body+compr+connect+each+each_part+expr+lines+member+negate+parts+power+pred+product+quant+refers+same+tests+tuple+turn+value.Lts-expr as expr-lts
+use Rattle.evaluating.proofs.nodes.+adds+all+apply+arith+assign+below+body+compr+connect+each+each_part+expr+lines+member+negate+parts+power+pred+product+quant+refers+same+tests+tuple+turn+value.Proof.Env.{expr-at, expr-calls}
 
 expr-refers-requires : (t : ℕ) → expr-lts.Need-refers-requires (expr-calls t) (expr-at t) expr.Post
 expr-refers-requires t c κs = let s = c .before .before .before .before .before .before .before in (omega arith, (handed-of (s .pre .1) (c .before .before .before .part .ensures), sym (ap (λ (l : List ℕ). getD l 0 0) (c .before .before .before .part .ensures)) ∙ sym (c .before .before .word .ensures .0) ∙ c .before .match .keys1))

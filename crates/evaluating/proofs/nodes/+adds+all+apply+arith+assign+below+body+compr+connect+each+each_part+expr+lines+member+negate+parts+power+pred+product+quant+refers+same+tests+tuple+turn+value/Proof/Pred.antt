@@ -15,8 +15,8 @@ use Prim.Native.Nat.{ℕ, _<_}
 use borrow.Fn.Kinds.{In}
 use borrow.Fn.PlainCycle.{Measures, is, falls, and}
 use Rattle.evaluating.proofs.nodes.pred.Reads as pred
-use Rattle.evaluating.proofs.nodes.+adds+all+apply+arith+assign+below+body+compr+connect+each+each_part+expr+lines+member+negate+pair+parts+power+pred+product+quant+refers+same+tests+tuple+turn+value.Lts-pred as pred-lts
-use Rattle.evaluating.proofs.nodes.+adds+all+apply+arith+assign+below+body+compr+connect+each+each_part+expr+lines+member+negate+pair+parts+power+pred+product+quant+refers+same+tests+tuple+turn+value.Proof.Env.{pred-at, pred-calls}
+use Rattle.evaluating.proofs.nodes.+adds+all+apply+arith+assign+below+body+compr+connect+each+each_part+expr+lines+member+negate+parts+power+pred+product+quant+refers+same+tests+tuple+turn+value.Lts-pred as pred-lts
+use Rattle.evaluating.proofs.nodes.+adds+all+apply+arith+assign+below+body+compr+connect+each+each_part+expr+lines+member+negate+parts+power+pred+product+quant+refers+same+tests+tuple+turn+value.Proof.Env.{pred-at, pred-calls}
 
 pred-same-requires : (t : ℕ) → pred-lts.Need-same-requires (pred-calls t) (pred-at t) pred.Post
 pred-same-requires t c κs = let s = c .before .before .before .before .before .before .before in (omega arith, (handed-of (s .pre .1) (c .before .before .before .part .ensures), sym (ap (λ (l : List ℕ). getD l 0 0) (c .before .before .before .part .ensures)) ∙ sym (c .before .before .word .ensures .0) ∙ c .before .match .keys1))

@@ -5,85 +5,82 @@ use borrow.Fn.Kinds.{In}
 use borrow.Fn.PlainCycle.{Measures, is, falls, and}
 use Rattle.evaluating.proofs.nodes.adds.Reads as adds
 use Rattle.evaluating.proofs.nodes.adds.Kinds as adds-kinds
-use Rattle.evaluating.proofs.nodes.+adds+all+apply+arith+assign+below+body+compr+connect+each+each_part+expr+lines+member+negate+pair+parts+power+pred+product+quant+refers+same+tests+tuple+turn+value.Lts-adds as adds-lts
+use Rattle.evaluating.proofs.nodes.+adds+all+apply+arith+assign+below+body+compr+connect+each+each_part+expr+lines+member+negate+parts+power+pred+product+quant+refers+same+tests+tuple+turn+value.Lts-adds as adds-lts
 use Rattle.evaluating.proofs.nodes.all.Reads as all
 use Rattle.evaluating.proofs.nodes.all.Kinds as all-kinds
-use Rattle.evaluating.proofs.nodes.+adds+all+apply+arith+assign+below+body+compr+connect+each+each_part+expr+lines+member+negate+pair+parts+power+pred+product+quant+refers+same+tests+tuple+turn+value.Lts-all as all-lts
+use Rattle.evaluating.proofs.nodes.+adds+all+apply+arith+assign+below+body+compr+connect+each+each_part+expr+lines+member+negate+parts+power+pred+product+quant+refers+same+tests+tuple+turn+value.Lts-all as all-lts
 use Rattle.evaluating.proofs.nodes.apply.Reads as apply
 use Rattle.evaluating.proofs.nodes.apply.Kinds as apply-kinds
-use Rattle.evaluating.proofs.nodes.+adds+all+apply+arith+assign+below+body+compr+connect+each+each_part+expr+lines+member+negate+pair+parts+power+pred+product+quant+refers+same+tests+tuple+turn+value.Lts-apply as apply-lts
+use Rattle.evaluating.proofs.nodes.+adds+all+apply+arith+assign+below+body+compr+connect+each+each_part+expr+lines+member+negate+parts+power+pred+product+quant+refers+same+tests+tuple+turn+value.Lts-apply as apply-lts
 use Rattle.evaluating.proofs.nodes.arith.Reads as arith
 use Rattle.evaluating.proofs.nodes.arith.Kinds as arith-kinds
-use Rattle.evaluating.proofs.nodes.+adds+all+apply+arith+assign+below+body+compr+connect+each+each_part+expr+lines+member+negate+pair+parts+power+pred+product+quant+refers+same+tests+tuple+turn+value.Lts-arith as arith-lts
+use Rattle.evaluating.proofs.nodes.+adds+all+apply+arith+assign+below+body+compr+connect+each+each_part+expr+lines+member+negate+parts+power+pred+product+quant+refers+same+tests+tuple+turn+value.Lts-arith as arith-lts
 use Rattle.evaluating.proofs.nodes.assign.Reads as assign
 use Rattle.evaluating.proofs.nodes.assign.Kinds as assign-kinds
-use Rattle.evaluating.proofs.nodes.+adds+all+apply+arith+assign+below+body+compr+connect+each+each_part+expr+lines+member+negate+pair+parts+power+pred+product+quant+refers+same+tests+tuple+turn+value.Lts-assign as assign-lts
+use Rattle.evaluating.proofs.nodes.+adds+all+apply+arith+assign+below+body+compr+connect+each+each_part+expr+lines+member+negate+parts+power+pred+product+quant+refers+same+tests+tuple+turn+value.Lts-assign as assign-lts
 use Rattle.evaluating.proofs.nodes.below.Reads as below
 use Rattle.evaluating.proofs.nodes.below.Kinds as below-kinds
-use Rattle.evaluating.proofs.nodes.+adds+all+apply+arith+assign+below+body+compr+connect+each+each_part+expr+lines+member+negate+pair+parts+power+pred+product+quant+refers+same+tests+tuple+turn+value.Lts-below as below-lts
+use Rattle.evaluating.proofs.nodes.+adds+all+apply+arith+assign+below+body+compr+connect+each+each_part+expr+lines+member+negate+parts+power+pred+product+quant+refers+same+tests+tuple+turn+value.Lts-below as below-lts
 use Rattle.evaluating.proofs.nodes.body.Reads as body
 use Rattle.evaluating.proofs.nodes.body.Kinds as body-kinds
-use Rattle.evaluating.proofs.nodes.+adds+all+apply+arith+assign+below+body+compr+connect+each+each_part+expr+lines+member+negate+pair+parts+power+pred+product+quant+refers+same+tests+tuple+turn+value.Lts-body as body-lts
+use Rattle.evaluating.proofs.nodes.+adds+all+apply+arith+assign+below+body+compr+connect+each+each_part+expr+lines+member+negate+parts+power+pred+product+quant+refers+same+tests+tuple+turn+value.Lts-body as body-lts
 use Rattle.evaluating.proofs.nodes.compr.Reads as compr
 use Rattle.evaluating.proofs.nodes.compr.Kinds as compr-kinds
-use Rattle.evaluating.proofs.nodes.+adds+all+apply+arith+assign+below+body+compr+connect+each+each_part+expr+lines+member+negate+pair+parts+power+pred+product+quant+refers+same+tests+tuple+turn+value.Lts-compr as compr-lts
+use Rattle.evaluating.proofs.nodes.+adds+all+apply+arith+assign+below+body+compr+connect+each+each_part+expr+lines+member+negate+parts+power+pred+product+quant+refers+same+tests+tuple+turn+value.Lts-compr as compr-lts
 use Rattle.evaluating.proofs.nodes.connect.Reads as connect
 use Rattle.evaluating.proofs.nodes.connect.Kinds as connect-kinds
-use Rattle.evaluating.proofs.nodes.+adds+all+apply+arith+assign+below+body+compr+connect+each+each_part+expr+lines+member+negate+pair+parts+power+pred+product+quant+refers+same+tests+tuple+turn+value.Lts-connect as connect-lts
+use Rattle.evaluating.proofs.nodes.+adds+all+apply+arith+assign+below+body+compr+connect+each+each_part+expr+lines+member+negate+parts+power+pred+product+quant+refers+same+tests+tuple+turn+value.Lts-connect as connect-lts
 use Rattle.evaluating.proofs.nodes.each.Reads as each
 use Rattle.evaluating.proofs.nodes.each.Kinds as each-kinds
-use Rattle.evaluating.proofs.nodes.+adds+all+apply+arith+assign+below+body+compr+connect+each+each_part+expr+lines+member+negate+pair+parts+power+pred+product+quant+refers+same+tests+tuple+turn+value.Lts-each as each-lts
+use Rattle.evaluating.proofs.nodes.+adds+all+apply+arith+assign+below+body+compr+connect+each+each_part+expr+lines+member+negate+parts+power+pred+product+quant+refers+same+tests+tuple+turn+value.Lts-each as each-lts
 use Rattle.evaluating.proofs.nodes.each_part.Reads as each-part
 use Rattle.evaluating.proofs.nodes.each_part.Kinds as each-part-kinds
-use Rattle.evaluating.proofs.nodes.+adds+all+apply+arith+assign+below+body+compr+connect+each+each_part+expr+lines+member+negate+pair+parts+power+pred+product+quant+refers+same+tests+tuple+turn+value.Lts-each_part as each-part-lts
+use Rattle.evaluating.proofs.nodes.+adds+all+apply+arith+assign+below+body+compr+connect+each+each_part+expr+lines+member+negate+parts+power+pred+product+quant+refers+same+tests+tuple+turn+value.Lts-each_part as each-part-lts
 use Rattle.evaluating.proofs.nodes.expr.Reads as expr
 use Rattle.evaluating.proofs.nodes.expr.Kinds as expr-kinds
-use Rattle.evaluating.proofs.nodes.+adds+all+apply+arith+assign+below+body+compr+connect+each+each_part+expr+lines+member+negate+pair+parts+power+pred+product+quant+refers+same+tests+tuple+turn+value.Lts-expr as expr-lts
+use Rattle.evaluating.proofs.nodes.+adds+all+apply+arith+assign+below+body+compr+connect+each+each_part+expr+lines+member+negate+parts+power+pred+product+quant+refers+same+tests+tuple+turn+value.Lts-expr as expr-lts
 use Rattle.evaluating.proofs.nodes.lines.Reads as lines
 use Rattle.evaluating.proofs.nodes.lines.Kinds as lines-kinds
-use Rattle.evaluating.proofs.nodes.+adds+all+apply+arith+assign+below+body+compr+connect+each+each_part+expr+lines+member+negate+pair+parts+power+pred+product+quant+refers+same+tests+tuple+turn+value.Lts-lines as lines-lts
+use Rattle.evaluating.proofs.nodes.+adds+all+apply+arith+assign+below+body+compr+connect+each+each_part+expr+lines+member+negate+parts+power+pred+product+quant+refers+same+tests+tuple+turn+value.Lts-lines as lines-lts
 use Rattle.evaluating.proofs.nodes.member.Reads as member
 use Rattle.evaluating.proofs.nodes.member.Kinds as member-kinds
-use Rattle.evaluating.proofs.nodes.+adds+all+apply+arith+assign+below+body+compr+connect+each+each_part+expr+lines+member+negate+pair+parts+power+pred+product+quant+refers+same+tests+tuple+turn+value.Lts-member as member-lts
+use Rattle.evaluating.proofs.nodes.+adds+all+apply+arith+assign+below+body+compr+connect+each+each_part+expr+lines+member+negate+parts+power+pred+product+quant+refers+same+tests+tuple+turn+value.Lts-member as member-lts
 use Rattle.evaluating.proofs.nodes.negate.Reads as negate
 use Rattle.evaluating.proofs.nodes.negate.Kinds as negate-kinds
-use Rattle.evaluating.proofs.nodes.+adds+all+apply+arith+assign+below+body+compr+connect+each+each_part+expr+lines+member+negate+pair+parts+power+pred+product+quant+refers+same+tests+tuple+turn+value.Lts-negate as negate-lts
-use Rattle.evaluating.proofs.nodes.pair.Reads as pair
-use Rattle.evaluating.proofs.nodes.pair.Kinds as pair-kinds
-use Rattle.evaluating.proofs.nodes.+adds+all+apply+arith+assign+below+body+compr+connect+each+each_part+expr+lines+member+negate+pair+parts+power+pred+product+quant+refers+same+tests+tuple+turn+value.Lts-pair as pair-lts
+use Rattle.evaluating.proofs.nodes.+adds+all+apply+arith+assign+below+body+compr+connect+each+each_part+expr+lines+member+negate+parts+power+pred+product+quant+refers+same+tests+tuple+turn+value.Lts-negate as negate-lts
 use Rattle.evaluating.proofs.nodes.parts.Reads as parts
 use Rattle.evaluating.proofs.nodes.parts.Kinds as parts-kinds
-use Rattle.evaluating.proofs.nodes.+adds+all+apply+arith+assign+below+body+compr+connect+each+each_part+expr+lines+member+negate+pair+parts+power+pred+product+quant+refers+same+tests+tuple+turn+value.Lts-parts as parts-lts
+use Rattle.evaluating.proofs.nodes.+adds+all+apply+arith+assign+below+body+compr+connect+each+each_part+expr+lines+member+negate+parts+power+pred+product+quant+refers+same+tests+tuple+turn+value.Lts-parts as parts-lts
 use Rattle.evaluating.proofs.nodes.power.Reads as power
 use Rattle.evaluating.proofs.nodes.power.Kinds as power-kinds
-use Rattle.evaluating.proofs.nodes.+adds+all+apply+arith+assign+below+body+compr+connect+each+each_part+expr+lines+member+negate+pair+parts+power+pred+product+quant+refers+same+tests+tuple+turn+value.Lts-power as power-lts
+use Rattle.evaluating.proofs.nodes.+adds+all+apply+arith+assign+below+body+compr+connect+each+each_part+expr+lines+member+negate+parts+power+pred+product+quant+refers+same+tests+tuple+turn+value.Lts-power as power-lts
 use Rattle.evaluating.proofs.nodes.pred.Reads as pred
 use Rattle.evaluating.proofs.nodes.pred.Kinds as pred-kinds
-use Rattle.evaluating.proofs.nodes.+adds+all+apply+arith+assign+below+body+compr+connect+each+each_part+expr+lines+member+negate+pair+parts+power+pred+product+quant+refers+same+tests+tuple+turn+value.Lts-pred as pred-lts
+use Rattle.evaluating.proofs.nodes.+adds+all+apply+arith+assign+below+body+compr+connect+each+each_part+expr+lines+member+negate+parts+power+pred+product+quant+refers+same+tests+tuple+turn+value.Lts-pred as pred-lts
 use Rattle.evaluating.proofs.nodes.product.Reads as product
 use Rattle.evaluating.proofs.nodes.product.Kinds as product-kinds
-use Rattle.evaluating.proofs.nodes.+adds+all+apply+arith+assign+below+body+compr+connect+each+each_part+expr+lines+member+negate+pair+parts+power+pred+product+quant+refers+same+tests+tuple+turn+value.Lts-product as product-lts
+use Rattle.evaluating.proofs.nodes.+adds+all+apply+arith+assign+below+body+compr+connect+each+each_part+expr+lines+member+negate+parts+power+pred+product+quant+refers+same+tests+tuple+turn+value.Lts-product as product-lts
 use Rattle.evaluating.proofs.nodes.quant.Reads as quant
 use Rattle.evaluating.proofs.nodes.quant.Kinds as quant-kinds
-use Rattle.evaluating.proofs.nodes.+adds+all+apply+arith+assign+below+body+compr+connect+each+each_part+expr+lines+member+negate+pair+parts+power+pred+product+quant+refers+same+tests+tuple+turn+value.Lts-quant as quant-lts
+use Rattle.evaluating.proofs.nodes.+adds+all+apply+arith+assign+below+body+compr+connect+each+each_part+expr+lines+member+negate+parts+power+pred+product+quant+refers+same+tests+tuple+turn+value.Lts-quant as quant-lts
 use Rattle.evaluating.proofs.nodes.refers.Reads as refers
 use Rattle.evaluating.proofs.nodes.refers.Kinds as refers-kinds
-use Rattle.evaluating.proofs.nodes.+adds+all+apply+arith+assign+below+body+compr+connect+each+each_part+expr+lines+member+negate+pair+parts+power+pred+product+quant+refers+same+tests+tuple+turn+value.Lts-refers as refers-lts
+use Rattle.evaluating.proofs.nodes.+adds+all+apply+arith+assign+below+body+compr+connect+each+each_part+expr+lines+member+negate+parts+power+pred+product+quant+refers+same+tests+tuple+turn+value.Lts-refers as refers-lts
 use Rattle.evaluating.proofs.nodes.same.Reads as same
 use Rattle.evaluating.proofs.nodes.same.Kinds as same-kinds
-use Rattle.evaluating.proofs.nodes.+adds+all+apply+arith+assign+below+body+compr+connect+each+each_part+expr+lines+member+negate+pair+parts+power+pred+product+quant+refers+same+tests+tuple+turn+value.Lts-same as same-lts
+use Rattle.evaluating.proofs.nodes.+adds+all+apply+arith+assign+below+body+compr+connect+each+each_part+expr+lines+member+negate+parts+power+pred+product+quant+refers+same+tests+tuple+turn+value.Lts-same as same-lts
 use Rattle.evaluating.proofs.nodes.tests.Reads as tests
 use Rattle.evaluating.proofs.nodes.tests.Kinds as tests-kinds
-use Rattle.evaluating.proofs.nodes.+adds+all+apply+arith+assign+below+body+compr+connect+each+each_part+expr+lines+member+negate+pair+parts+power+pred+product+quant+refers+same+tests+tuple+turn+value.Lts-tests as tests-lts
+use Rattle.evaluating.proofs.nodes.+adds+all+apply+arith+assign+below+body+compr+connect+each+each_part+expr+lines+member+negate+parts+power+pred+product+quant+refers+same+tests+tuple+turn+value.Lts-tests as tests-lts
 use Rattle.evaluating.proofs.nodes.tuple.Reads as tuple
 use Rattle.evaluating.proofs.nodes.tuple.Kinds as tuple-kinds
-use Rattle.evaluating.proofs.nodes.+adds+all+apply+arith+assign+below+body+compr+connect+each+each_part+expr+lines+member+negate+pair+parts+power+pred+product+quant+refers+same+tests+tuple+turn+value.Lts-tuple as tuple-lts
+use Rattle.evaluating.proofs.nodes.+adds+all+apply+arith+assign+below+body+compr+connect+each+each_part+expr+lines+member+negate+parts+power+pred+product+quant+refers+same+tests+tuple+turn+value.Lts-tuple as tuple-lts
 use Rattle.evaluating.proofs.nodes.turn.Reads as turn
 use Rattle.evaluating.proofs.nodes.turn.Kinds as turn-kinds
-use Rattle.evaluating.proofs.nodes.+adds+all+apply+arith+assign+below+body+compr+connect+each+each_part+expr+lines+member+negate+pair+parts+power+pred+product+quant+refers+same+tests+tuple+turn+value.Lts-turn as turn-lts
+use Rattle.evaluating.proofs.nodes.+adds+all+apply+arith+assign+below+body+compr+connect+each+each_part+expr+lines+member+negate+parts+power+pred+product+quant+refers+same+tests+tuple+turn+value.Lts-turn as turn-lts
 use Rattle.evaluating.proofs.nodes.value.Reads as value
 use Rattle.evaluating.proofs.nodes.value.Kinds as value-kinds
-use Rattle.evaluating.proofs.nodes.+adds+all+apply+arith+assign+below+body+compr+connect+each+each_part+expr+lines+member+negate+pair+parts+power+pred+product+quant+refers+same+tests+tuple+turn+value.Lts-value as value-lts
+use Rattle.evaluating.proofs.nodes.+adds+all+apply+arith+assign+below+body+compr+connect+each+each_part+expr+lines+member+negate+parts+power+pred+product+quant+refers+same+tests+tuple+turn+value.Lts-value as value-lts
 use Rattle.operations.proofs.blocks.put_domains.Reads as put-domains-reads
 use Rattle.operations.proofs.blocks.put_head.Reads as put-head-reads
 use Rattle.operations.proofs.blocks.refer.Reads as refer-reads
@@ -108,7 +105,6 @@ use Rattle.operations.proofs.logic.verdict.Reads as verdict-reads
 use Rattle.operations.proofs.worked.go.Reads as go-reads
 use Rattle.operations.proofs.worked.judge.Reads as judge-reads
 use Rattle.operations.proofs.worked.stop.Reads as stop-reads
-use Rattle.operations.proofs.worked.stopped.Reads as stopped-reads
 use Rattle.layout.proofs.part.Reads as part-reads
 use Rattle.values.proofs.held.empty.Reads as empty-reads
 use Rattle.values.proofs.span.span.Reads as span-reads
@@ -159,9 +155,6 @@ abbrev pub μ-member : Measures 4 member-kinds.ps ℕ
 
 abbrev pub μ-negate : Measures 4 negate-kinds.ps ℕ
 μ-negate κs a = 1099511627776 * a .1 .1 .1 .1 .0 + 1000
-
-abbrev pub μ-pair : Measures 3 pair-kinds.ps ℕ
-μ-pair κs a = 1099511627776 * a .1 .1 .1 .1 .0
 
 abbrev pub μ-parts : Measures 4 parts-kinds.ps ℕ
 μ-parts κs a = 1099511627776 * a .1 .1 .1 .1 .0 + (256 - a .1 .1 .1 .1 .1 .1 .0)
@@ -287,12 +280,6 @@ negate-at t = and 4 negate-kinds.ps (is 4 negate-kinds.ps μ-negate t) negate.Pr
 abbrev pub negate-below : ℕ → In 4 negate-kinds.ps
 negate-below t = and 4 negate-kinds.ps (falls 4 negate-kinds.ps _<_ μ-negate t) negate.Pre
 
-abbrev pub pair-at : ℕ → In 3 pair-kinds.ps
-pair-at t = and 3 pair-kinds.ps (is 3 pair-kinds.ps μ-pair t) pair.Pre
-
-abbrev pub pair-below : ℕ → In 3 pair-kinds.ps
-pair-below t = and 3 pair-kinds.ps (falls 3 pair-kinds.ps _<_ μ-pair t) pair.Pre
-
 abbrev pub parts-at : ℕ → In 4 parts-kinds.ps
 parts-at t = and 4 parts-kinds.ps (is 4 parts-kinds.ps μ-parts t) parts.Pre
 
@@ -366,16 +353,16 @@ abbrev pub all-calls : ℕ → all-lts.Claims
 all-calls t = (judge-reads.Asked, judge-reads.Learnt, length-at-reads.Asked, length-at-reads.Learnt, member-at-reads.Asked, member-at-reads.Learnt, tests-below t, tests.Post, all-below t, all.Post)
 
 abbrev pub apply-calls : ℕ → apply-lts.Claims
-apply-calls t = (word-reads.Asked, word-reads.Learnt, pair-below t, pair.Post, stopped-reads.Asked, stopped-reads.Learnt, applied-reads.Asked, applied-reads.Learnt)
+apply-calls t = (word-reads.Asked, word-reads.Learnt, expr-below t, expr.Post, applied-reads.Asked, applied-reads.Learnt)
 
 abbrev pub arith-calls : ℕ → arith-lts.Claims
-arith-calls t = (word-reads.Asked, word-reads.Learnt, pair-below t, pair.Post, stopped-reads.Asked, stopped-reads.Learnt, arithmetic-reads.Asked, arithmetic-reads.Learnt)
+arith-calls t = (word-reads.Asked, word-reads.Learnt, expr-below t, expr.Post, arithmetic-reads.Asked, arithmetic-reads.Learnt)
 
 abbrev pub assign-calls : ℕ → assign-lts.Claims
 assign-calls t = (turn-below t, turn.Post, word-reads.Asked, word-reads.Learnt, each-below t, each.Post)
 
 abbrev pub below-calls : ℕ → below-lts.Claims
-below-calls t = (word-reads.Asked, word-reads.Learnt, pair-below t, pair.Post, stopped-reads.Asked, stopped-reads.Learnt, at-most-reads.Asked, at-most-reads.Learnt)
+below-calls t = (word-reads.Asked, word-reads.Learnt, expr-below t, expr.Post, at-most-reads.Asked, at-most-reads.Learnt)
 
 abbrev pub body-calls : ℕ → body-lts.Claims
 body-calls t = (word-reads.Asked, word-reads.Learnt, expr-below t, expr.Post, added-reads.Asked, added-reads.Learnt, pred-below t, pred.Post, empty-set-reads.Asked, empty-set-reads.Learnt, verdict-reads.Asked, verdict-reads.Learnt, go-reads.Asked, go-reads.Learnt)
@@ -404,9 +391,6 @@ member-calls t = (word-reads.Asked, word-reads.Learnt, expr-below t, expr.Post, 
 abbrev pub negate-calls : ℕ → negate-lts.Claims
 negate-calls t = (word-reads.Asked, word-reads.Learnt, pred-below t, pred.Post, judge-reads.Asked, judge-reads.Learnt)
 
-abbrev pub pair-calls : ℕ → pair-lts.Claims
-pair-calls t = (expr-below t, expr.Post)
-
 abbrev pub parts-calls : ℕ → parts-lts.Claims
 parts-calls t = (go-reads.Asked, go-reads.Learnt, word-reads.Asked, word-reads.Learnt, expr-below t, expr.Post, joined-reads.Asked, joined-reads.Learnt, parts-below t, parts.Post)
 
@@ -423,10 +407,10 @@ abbrev pub quant-calls : ℕ → quant-lts.Claims
 quant-calls t = (word-reads.Asked, word-reads.Learnt, part-reads.Asked, part-reads.Learnt, lines-below t, lines.Post, verdict-reads.Asked, verdict-reads.Learnt, judge-reads.Asked, judge-reads.Learnt)
 
 abbrev pub refers-calls : ℕ → refers-lts.Claims
-refers-calls t = (empty-reads.Asked, empty-reads.Learnt, parts-below t, parts.Post, word-reads.Asked, word-reads.Learnt, refer-reads.Asked, refer-reads.Learnt)
+refers-calls t = (word-reads.Asked, word-reads.Learnt, refer-reads.Asked, refer-reads.Learnt, empty-reads.Asked, empty-reads.Learnt, parts-below t, parts.Post)
 
 abbrev pub same-calls : ℕ → same-lts.Claims
-same-calls t = (word-reads.Asked, word-reads.Learnt, pair-below t, pair.Post, stopped-reads.Asked, stopped-reads.Learnt, equal-reads.Asked, equal-reads.Learnt)
+same-calls t = (word-reads.Asked, word-reads.Learnt, expr-below t, expr.Post, equal-reads.Asked, equal-reads.Learnt)
 
 abbrev pub tests-calls : ℕ → tests-lts.Claims
 tests-calls t = (part-reads.Asked, part-reads.Learnt, word-reads.Asked, word-reads.Learnt, is-integer-reads.Asked, is-integer-reads.Learnt, product-below t, product.Post, power-below t, power.Post, value-below t, value.Post)

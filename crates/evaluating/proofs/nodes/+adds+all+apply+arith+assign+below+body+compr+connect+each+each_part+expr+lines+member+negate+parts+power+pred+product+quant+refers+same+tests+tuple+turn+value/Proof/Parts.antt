@@ -15,8 +15,8 @@ use Prim.Native.Nat.{ℕ, _<_}
 use borrow.Fn.Kinds.{In}
 use borrow.Fn.PlainCycle.{Measures, is, falls, and}
 use Rattle.evaluating.proofs.nodes.parts.Reads as parts
-use Rattle.evaluating.proofs.nodes.+adds+all+apply+arith+assign+below+body+compr+connect+each+each_part+expr+lines+member+negate+pair+parts+power+pred+product+quant+refers+same+tests+tuple+turn+value.Lts-parts as parts-lts
-use Rattle.evaluating.proofs.nodes.+adds+all+apply+arith+assign+below+body+compr+connect+each+each_part+expr+lines+member+negate+pair+parts+power+pred+product+quant+refers+same+tests+tuple+turn+value.Proof.Env.{parts-at, parts-calls}
+use Rattle.evaluating.proofs.nodes.+adds+all+apply+arith+assign+below+body+compr+connect+each+each_part+expr+lines+member+negate+parts+power+pred+product+quant+refers+same+tests+tuple+turn+value.Lts-parts as parts-lts
+use Rattle.evaluating.proofs.nodes.+adds+all+apply+arith+assign+below+body+compr+connect+each+each_part+expr+lines+member+negate+parts+power+pred+product+quant+refers+same+tests+tuple+turn+value.Proof.Env.{parts-at, parts-calls}
 
 parts-returns : (t : ℕ) → parts-lts.Need-returns (parts-calls t) (parts-at t) parts.Post
 parts-returns t c =

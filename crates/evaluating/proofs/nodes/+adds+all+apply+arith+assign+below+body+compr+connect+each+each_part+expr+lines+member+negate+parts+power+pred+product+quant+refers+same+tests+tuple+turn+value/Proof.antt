@@ -1,5 +1,5 @@
-use Rattle.evaluating.proofs.nodes.+adds+all+apply+arith+assign+below+body+compr+connect+each+each_part+expr+lines+member+negate+pair+parts+power+pred+product+quant+refers+same+tests+tuple+turn+value.{statement}
-use Rattle.evaluating.proofs.nodes.+adds+all+apply+arith+assign+below+body+compr+connect+each+each_part+expr+lines+member+negate+pair+parts+power+pred+product+quant+refers+same+tests+tuple+turn+value.Tie.{close}
+use Rattle.evaluating.proofs.nodes.+adds+all+apply+arith+assign+below+body+compr+connect+each+each_part+expr+lines+member+negate+parts+power+pred+product+quant+refers+same+tests+tuple+turn+value.{statement}
+use Rattle.evaluating.proofs.nodes.+adds+all+apply+arith+assign+below+body+compr+connect+each+each_part+expr+lines+member+negate+parts+power+pred+product+quant+refers+same+tests+tuple+turn+value.Tie.{close}
 use Prim.Native.Nat.{ℕ}
 mod Env
 mod Adds
@@ -17,7 +17,6 @@ mod Expr
 mod Lines
 mod Member
 mod Negate
-mod Pair
 mod Parts
 mod Power
 mod Pred
@@ -29,7 +28,7 @@ mod Tests
 mod Tuple
 mod Turn
 mod Value
-use Env.{μ-adds, μ-all, μ-apply, μ-arith, μ-assign, μ-below, μ-body, μ-compr, μ-connect, μ-each, μ-each-part, μ-expr, μ-lines, μ-member, μ-negate, μ-pair, μ-parts, μ-power, μ-pred, μ-product, μ-quant, μ-refers, μ-same, μ-tests, μ-tuple, μ-turn, μ-value}
+use Env.{μ-adds, μ-all, μ-apply, μ-arith, μ-assign, μ-below, μ-body, μ-compr, μ-connect, μ-each, μ-each-part, μ-expr, μ-lines, μ-member, μ-negate, μ-parts, μ-power, μ-pred, μ-product, μ-quant, μ-refers, μ-same, μ-tests, μ-tuple, μ-turn, μ-value}
 use Adds.{adds-closed}
 use All.{all-closed}
 use Apply.{apply-closed}
@@ -45,7 +44,6 @@ use Expr.{expr-closed}
 use Lines.{lines-closed}
 use Member.{member-closed}
 use Negate.{negate-closed}
-use Pair.{pair-closed}
 use Parts.{parts-closed}
 use Power.{power-closed}
 use Pred.{pred-closed}
@@ -58,10 +56,10 @@ use Tuple.{tuple-closed}
 use Turn.{turn-closed}
 use Value.{value-closed}
 
-pub +adds+all+apply+arith+assign+below+body+compr+connect+each+each-part+expr+lines+member+negate+pair+parts+power+pred+product+quant+refers+same+tests+tuple+turn+value-spec :
+pub +adds+all+apply+arith+assign+below+body+compr+connect+each+each-part+expr+lines+member+negate+parts+power+pred+product+quant+refers+same+tests+tuple+turn+value-spec :
     {M : Type 1} → statement M
-+adds+all+apply+arith+assign+below+body+compr+connect+each+each-part+expr+lines+member+negate+pair+parts+power+pred+product+quant+refers+same+tests+tuple+turn+value-spec =
-    close μ-adds μ-all μ-apply μ-arith μ-assign μ-below μ-body μ-compr μ-connect μ-each μ-each-part μ-expr μ-lines μ-member μ-negate μ-pair μ-parts μ-power μ-pred μ-product μ-quant μ-refers μ-same μ-tests μ-tuple μ-turn μ-value
++adds+all+apply+arith+assign+below+body+compr+connect+each+each-part+expr+lines+member+negate+parts+power+pred+product+quant+refers+same+tests+tuple+turn+value-spec =
+    close μ-adds μ-all μ-apply μ-arith μ-assign μ-below μ-body μ-compr μ-connect μ-each μ-each-part μ-expr μ-lines μ-member μ-negate μ-parts μ-power μ-pred μ-product μ-quant μ-refers μ-same μ-tests μ-tuple μ-turn μ-value
     adds-closed
     all-closed
     apply-closed
@@ -77,7 +75,6 @@ pub +adds+all+apply+arith+assign+below+body+compr+connect+each+each-part+expr+li
     lines-closed
     member-closed
     negate-closed
-    pair-closed
     parts-closed
     power-closed
     pred-closed

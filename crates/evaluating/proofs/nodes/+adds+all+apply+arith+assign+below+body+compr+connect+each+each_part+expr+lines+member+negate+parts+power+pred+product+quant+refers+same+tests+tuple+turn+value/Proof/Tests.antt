@@ -13,8 +13,8 @@ use Prim.Native.Nat.{ℕ, _<_}
 use borrow.Fn.Kinds.{In}
 use borrow.Fn.PlainCycle.{Measures, is, falls, and}
 use Rattle.evaluating.proofs.nodes.tests.Reads as tests
-use Rattle.evaluating.proofs.nodes.+adds+all+apply+arith+assign+below+body+compr+connect+each+each_part+expr+lines+member+negate+pair+parts+power+pred+product+quant+refers+same+tests+tuple+turn+value.Lts-tests as tests-lts
-use Rattle.evaluating.proofs.nodes.+adds+all+apply+arith+assign+below+body+compr+connect+each+each_part+expr+lines+member+negate+pair+parts+power+pred+product+quant+refers+same+tests+tuple+turn+value.Proof.Env.{tests-at, tests-calls}
+use Rattle.evaluating.proofs.nodes.+adds+all+apply+arith+assign+below+body+compr+connect+each+each_part+expr+lines+member+negate+parts+power+pred+product+quant+refers+same+tests+tuple+turn+value.Lts-tests as tests-lts
+use Rattle.evaluating.proofs.nodes.+adds+all+apply+arith+assign+below+body+compr+connect+each+each_part+expr+lines+member+negate+parts+power+pred+product+quant+refers+same+tests+tuple+turn+value.Proof.Env.{tests-at, tests-calls}
 
 tests-product-requires : (t : ℕ) → tests-lts.Need-product-requires (tests-calls t) (tests-at t) tests.Post
 tests-product-requires t c κs = let s = c .before .before .before .before .before .before .before in (omega arith, (handed-of (s .pre .1) (c .before .before .before .part .ensures), sym (ap (λ (l : List ℕ). getD l 0 0) (c .before .before .before .part .ensures)) ∙ sym (c .before .before .word .ensures .0) ∙ c .before .match .keys2))

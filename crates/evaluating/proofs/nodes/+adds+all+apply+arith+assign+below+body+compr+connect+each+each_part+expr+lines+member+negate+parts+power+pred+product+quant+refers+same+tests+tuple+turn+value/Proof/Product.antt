@@ -9,8 +9,8 @@ use Prim.Native.Nat.{ℕ, _<_}
 use borrow.Fn.Kinds.{In}
 use borrow.Fn.PlainCycle.{Measures, is, falls, and}
 use Rattle.evaluating.proofs.nodes.product.Reads as product
-use Rattle.evaluating.proofs.nodes.+adds+all+apply+arith+assign+below+body+compr+connect+each+each_part+expr+lines+member+negate+pair+parts+power+pred+product+quant+refers+same+tests+tuple+turn+value.Lts-product as product-lts
-use Rattle.evaluating.proofs.nodes.+adds+all+apply+arith+assign+below+body+compr+connect+each+each_part+expr+lines+member+negate+pair+parts+power+pred+product+quant+refers+same+tests+tuple+turn+value.Proof.Env.{product-at, product-calls}
+use Rattle.evaluating.proofs.nodes.+adds+all+apply+arith+assign+below+body+compr+connect+each+each_part+expr+lines+member+negate+parts+power+pred+product+quant+refers+same+tests+tuple+turn+value.Lts-product as product-lts
+use Rattle.evaluating.proofs.nodes.+adds+all+apply+arith+assign+below+body+compr+connect+each+each_part+expr+lines+member+negate+parts+power+pred+product+quant+refers+same+tests+tuple+turn+value.Proof.Env.{product-at, product-calls}
 
 product-returns : (t : ℕ) → product-lts.Need-returns (product-calls t) (product-at t) product.Post
 product-returns t c =
