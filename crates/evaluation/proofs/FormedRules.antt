@@ -16,7 +16,8 @@ use Rattle.values.specs.WellFormed.{ascends, wellFormed, allWellFormed}
 use Rattle.values.specs.SetValues.{sameValue, insertValue, Image, found, misfit, undefined, applyValue}
 use Rattle.integers.specs.declared.integer.Integer.{Integer}
 use Rattle.integers.specs.declared.integer.Integer.the-variants.{Whole, Undefined, Outside}
-use Rattle.values.proofs.Unique.{and-left, and-right, both}
+use Rattle.words.proofs.Loops.{and-left, and-right}
+use Rattle.values.proofs.Unique.{both}
 use Rattle.values.proofs.Inserting.{insert-wellFormed}
 use Rattle.syntax.specs.Tree.{Operator, plus, minus, times, Connective, and, or, implies, Quantifier, forall, exists}
 use Rattle.syntax.specs.Tree.{Expr, reference, number, integers, set, tuple, product, power, application, selection, theta, schemaSet, arithmetic}
@@ -24,7 +25,7 @@ use Rattle.syntax.specs.Tree.{comprehension, Exprs, none, more, Pred, truth, eq
 use Rattle.syntax.specs.Tree.{declaration, inclusion, Include, include, exprsLength}
 use Rattle.syntax.specs.Tree as Tree
 use Rattle.syntax.proofs.Sized.{SizedExpr, SizedExprs, SizedPred, SizedText, SizedLines}
-use Rattle.evaluation.specs.Members.{wordCount}
+use Rattle.evaluation.specs.WordCount.{wordCount}
 use Rattle.evaluation.specs.Outcomes.{Outcome, keepIf, keep}
 use Rattle.evaluation.specs.Scope.{Scope, empty, bind, Meaning, valued, generic, unknown, pick, lookup, refer}
 use Rattle.evaluation.specs.Operations.{asInteger, asSet, asTuple, addIf, add, image, findPair, keepInteger, calculate, connect, allPass, countIf, sameCount}

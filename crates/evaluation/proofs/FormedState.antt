@@ -19,7 +19,8 @@ use Rattle.values.specs.WellFormed.{ascends, wellFormed, allWellFormed}
 use Rattle.values.specs.Givens.{elementsFrom, elements, smallSize}
 use Rattle.values.specs.Form.{shapeOf, follows, nextFits, groupEnd, byShape, valueLength, isValue}
 use Rattle.values.specs.declared.shapes.Shape.{Shape}
-use Rattle.values.proofs.Unique.{and-left, and-right, both}
+use Rattle.words.proofs.Loops.{and-left, and-right}
+use Rattle.values.proofs.Unique.{both}
 use Rattle.states.specs.Names.{Name}
 use Rattle.states.specs.Decode.{valuesFrom, valueByShape, valueAt, valueOf}
 use Rattle.states.specs.States.{nameAt, sizesIn, isSize, givenNumber, valueNumber, entryFrom, entryValue, valueIn}

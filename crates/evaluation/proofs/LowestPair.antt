@@ -9,7 +9,7 @@ use Rattle.values.specs.Order.{compare, isLess}
 use Rattle.values.specs.Value.{Value, int, element, set, tuple, Values, nil, cons, encode}
 use Rattle.values.specs.WellFormed.{ascends, wellFormed, allWellFormed}
 use Rattle.values.specs.SetValues.{sameValue, Image, found, misfit, undefined, applyValue}
-use Rattle.values.proofs.Unique.{and-left, and-right}
+use Rattle.words.proofs.Loops.{and-left, and-right}
 use Rattle.evaluation.specs.Outcomes.{pure}
 use Rattle.evaluation.specs.Operations.{image, findPair}
 use Rattle.evaluation.proofs.WordOrder.{less-trans}
