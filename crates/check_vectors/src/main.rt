@@ -417,8 +417,8 @@ const D17: [u32; 84] = [
     18,
 ];
 
-// The documents with areas of 16,384 words.
-fn main() {
+// Accepted, and the refusals of reading: 11 to 17.
+fn show_reading() {
     let mut dict = [0u32; AREA];
     let mut work = [0u32; AREA];
     show(1, &D1, &mut dict, &mut work);
@@ -430,6 +430,12 @@ fn main() {
     show(7, &D7, &mut dict, &mut work);
     show(8, &D8, &mut dict, &mut work);
     show(9, &D9, &mut dict, &mut work);
+}
+
+// The refusals of typing: 31 to 38.
+fn show_typing() {
+    let mut dict = [0u32; AREA];
+    let mut work = [0u32; AREA];
     show(10, &D10, &mut dict, &mut work);
     show(11, &D11, &mut dict, &mut work);
     show(12, &D12, &mut dict, &mut work);
@@ -438,12 +444,22 @@ fn main() {
     show(15, &D15, &mut dict, &mut work);
     show(16, &D16, &mut dict, &mut work);
     show(17, &D17, &mut dict, &mut work);
-    // 21: a work area that is one word too short
+}
+
+// Areas that are too short: 21 for a work area that lacks a word; 22 for a dictionary area of no words, and for one that lacks a word.
+fn show_areas() {
+    let mut dict = [0u32; AREA];
+    let mut work = [0u32; AREA];
     let mut short = [0u32; 16383];
     show(18, &D2, &mut dict, &mut short);
-    // 22: a dictionary area of no words, and one that is a word too short
     let mut none = [0u32; 0];
     show(19, &D2, &mut none, &mut work);
     let mut eight = [0u32; 8];
     show(20, &D2, &mut eight, &mut work);
+}
+
+fn main() {
+    show_reading();
+    show_typing();
+    show_areas();
 }

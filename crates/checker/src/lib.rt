@@ -1,7 +1,7 @@
 // The check call: a document's finding, and the dictionary of an accepted one. The definitions are in the crate `typing`, specs/Areas and specs/Check.
 use dictionary::growth::begin;
 use layout::part;
-use reader::nodes::operand;
+use node_forms::nodes::operand;
 use reader::read;
 use syntax::Reading;
 use typing::Finding;

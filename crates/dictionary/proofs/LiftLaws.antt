@@ -3,9 +3,8 @@ use mathlib.Core.Path.{_≡_, refl, sym, ap, _∙_}
 use mathlib.Core.List.{List, [], _∷_, _++_, append-assoc}
 use Prim.Native.Nat.{ℕ, zero, suc, _+_, _-_, _≤_, _<_}
 use native.Mathlib.Omega.{arith}
-use native.Mathlib.Numerals.{add-one}
-use lib.ListN.{length, getD, set, take, drop, replicate, length-append, length-drop, take-append-drop, drop-of-length-le, List·getD-append}
-use lib.Seq.{length-take-le, take-suc, drop-cons, take-append-seam, take-append-add, drop-append-seam, drop-append-add, getD-take, getD-drop, set-at, take-at, sets, sets-eq}
+use lib.ListN.{length, getD, set, take, drop, replicate, length-append, length-drop, take-append-drop, List·getD-append}
+use lib.Seq.{length-take-le, take-suc, take-append-seam, take-append-add, drop-append-seam, drop-append-add, getD-take, getD-drop, set-at, take-at, sets, sets-eq}
 use Rattle.dictionary.specs.Growth.{lifted}
 
 -- one turn, and none
@@ -82,15 +81,6 @@ lifted-lists A B Z x y =
           ∙ ap (λ (w : List ℕ). (A ++ (t .0 ∷ (t .1 ∷ []))) ++ (B ++ w)) back
           ∙ append-assoc A (t .0 ∷ (t .1 ∷ [])) (B ++ Z),
     )
-
--- one turn of copying, and none
-pub sets-go : (v out : List ℕ) (to i : ℕ) → i < length v → sets out (to + i) (drop i v) ≡ sets (set out (to + i) (getD v i 0)) (to + (i + 1)) (drop (i + 1) v)
-sets-go v out to i h =
-    let e : to + (i + 1) ≡ suc (to + i) = omega arith in
-    rw (e, add-one i, drop-cons v i 0 h)
-
-pub sets-end : (v out : List ℕ) (to i : ℕ) → length v ≤ i → sets out (to + i) (drop i v) ≡ out
-sets-end v out to i h = rw (drop-of-length-le v h)
 
 -- W over the first words of Z
 pub sets-seam : (X Z W : List ℕ) (n : ℕ) → length X ≡ n → length W ≤ length Z → sets (X ++ Z) n W ≡ X ++ (W ++ drop (length W) Z)

@@ -1,11 +1,11 @@
 // A dictionary begun in an area, and entries added to it.
 use words::clear;
+use words::copy;
 use words::store;
 use words::word;
 ghost use mathlib.Core.Path.{_≡_};
 ghost use Prim.Native.Nat.{_+_, _*_, _-_, _<_, _≤_, _^_};
 ghost use lib.ListN.{length};
-ghost use lib.Seq.{sets};
 ghost use Rattle.words.specs.Loops.{run};
 ghost use Rattle.typing.specs.Dictionary.{Entry, Dictionary, blank, entryWords};
 ghost use Rattle.dictionary.specs.Holds.{Holds};
@@ -70,19 +70,6 @@ fn add_pair(d: &mut [u32], n: usize, offset: u32, len: u32)
     raise(d, 0, 1);
     store(d, 2 * n + 1, offset);
     store(d, 2 * n + 2, len);
-}
-
-// The words w from `at` on.
-fn copy(w: &[u32], d: &mut [u32], at: usize)
-    requires { ⌜ at + length (now w) ≤ length (now d) ⌝ }
-    ensures { λ _. ⌜ now (d .exit) ≡ sets (now (d .entry)) at (now (w .entry)) ⌝ }
-{
-    let n = w.len();
-    let mut i = 0;
-    while i < n {
-        d[at + i] = w[i];
-        i += 1;
-    }
 }
 
 // An entry after n entries that end at `end`.

@@ -11,11 +11,11 @@ use borrow.Author.Tests.{eqb-true, eqb-false, ltb-false, leb-true}
 use mir.Syntax.{w32}
 use mir.Facts.{ofZ-toZ}
 use Rattle.words.proofs.Loops.{and-left, and-right}
-use Rattle.values.specs.Integer.{signed, wordOf}
+use Rattle.integers.specs.Integer.{signed, wordOf}
 use Rattle.values.specs.Value.{Value, Values, cons, count, encode, encodes}
 use Rattle.values.specs.Form.{elementShape, groupShape, shapeOf, follows, nextFits, groupEnd, byShape, valueLength, isValue}
-use Rattle.values.specs.declared.form.Shape.{Shape}
-use Rattle.values.specs.declared.form.Shape.the-variants.{Broken, Leaf, Set, Tuple}
+use Rattle.values.specs.declared.shapes.Shape.{Shape}
+use Rattle.values.specs.declared.shapes.Shape.the-variants.{Broken, Leaf, Set, Tuple}
 use Rattle.states.specs.Decode.{valuesFrom, valueByShape, valueAt, valueOf}
 
 -- words of 32 bits

@@ -8,8 +8,8 @@ use lib.Dec.{leb, eqb}
 use borrow.Author.Tests.{leb-true}
 use Rattle.values.specs.Value.{Value, int, element, Values, nil, cons}
 use Rattle.values.specs.Value as Value
-use Rattle.values.specs.declared.integer.Integer.{Integer}
-use Rattle.values.specs.declared.integer.Integer.the-variants.{Whole, Undefined, Outside}
+use Rattle.integers.specs.declared.integer.Integer.{Integer}
+use Rattle.integers.specs.declared.integer.Integer.the-variants.{Whole, Undefined, Outside}
 use Rattle.syntax.specs.Tree.{Connective, and, or, implies, Expr, reference, number, integers, set, tuple, product, power, application, selection, theta, schemaSet, arithmetic}
 use Rattle.syntax.specs.Tree.{comprehension, Exprs, none, more, Pred, truth, equal, member, atMost, connected, quantified, Text, text, Lines, end}
 use Rattle.syntax.specs.Tree.{declaration, inclusion, Include, include}

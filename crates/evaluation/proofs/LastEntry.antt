@@ -5,8 +5,8 @@ use mathlib.Core.Bool.{Bool, true, false}
 use Prim.Native.Nat.{ℕ}
 use lib.Dec.{leb}
 use Rattle.values.specs.Value.{Value}
-use Rattle.values.specs.declared.integer.Integer.{Integer}
-use Rattle.values.specs.declared.integer.Integer.the-variants.{Whole, Undefined, Outside}
+use Rattle.integers.specs.declared.integer.Integer.{Integer}
+use Rattle.integers.specs.declared.integer.Integer.the-variants.{Whole, Undefined, Outside}
 use Rattle.syntax.specs.Tree.{Expr, reference, number, integers, set, tuple, product, power, application, selection, theta, schemaSet, arithmetic, comprehension, Exprs, none, more, exprNode}
 use Rattle.evaluation.specs.Members.{wordCount}
 use Rattle.evaluation.specs.Outcomes.{Event, worked, Outcome, done, stopped, after, _>>=_, keepIf, keep}

@@ -12,7 +12,7 @@ use Rattle.syntax.specs.Limits.{textsAmong, isClosing, anyCrowded, limitNumber}
 use Rattle.syntax.specs.Reading.{readOf}
 use Rattle.syntax.specs.Decode.{gather, pairsFrom, makers, nodeAt, treeOf}
 use Rattle.syntax.specs.Tree.{exprsLength}
-use Rattle.values.specs.Integer.{signed, wordOf, findingOf, kept, sum, difference, product, floorDiv, floorMod, byDivisor, quotient, remainder}
+use Rattle.integers.specs.Integer.{signed, wordOf, findingOf, kept, sum, difference, product, floorDiv, floorMod, byDivisor, quotient, remainder}
 use Rattle.values.specs.Value.{count, encode}
 use Rattle.values.specs.Order.{compareWord, orElse, compare, isLess, isSame, same}
 use Rattle.values.specs.Givens.{elementsFrom, elements, smallSize, sizeFrom, sizeOf}

@@ -4,9 +4,9 @@ use Prim.Native.Nat.{ℕ}
 use lib.IntN.{ℤ}
 use lib.Dec.{leb, eqb}
 use Rattle.values.specs.Value.{Value, int, element, set, tuple, Values, nil, cons}
-use Rattle.values.specs.Integer.{sum, difference, product, quotient, remainder}
-use Rattle.values.specs.declared.integer.Integer.{Integer}
-use Rattle.values.specs.declared.integer.Integer.the-variants.{Whole, Undefined, Outside}
+use Rattle.integers.specs.Integer.{sum, difference, product, quotient, remainder}
+use Rattle.integers.specs.declared.integer.Integer.{Integer}
+use Rattle.integers.specs.declared.integer.Integer.the-variants.{Whole, Undefined, Outside}
 use Rattle.syntax.specs.Tree.{Operator, plus, minus, times, Connective, and, or, implies}
 use Rattle.syntax.specs.Tree as Tree
 use Rattle.values.specs.SetValues.{insertValue, Image, found, misfit, undefined, applyValue}

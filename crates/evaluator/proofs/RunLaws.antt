@@ -16,12 +16,13 @@ use Rattle.states.proofs.NameLaws.{document-names}
 use Rattle.evaluation.specs.Outcomes.{Outcome}
 use Rattle.evaluation.specs.Scope.{empty}
 use Rattle.evaluation.specs.Paragraphs.{Step, onward, failed, runParagraphs, runDocument}
-use Rattle.evaluator.specs.declared.worked.Worked.{Worked}
+use Rattle.operations.specs.declared.worked.Worked.{Worked}
 use Rattle.evaluation.specs.declared.Finding.{Finding}
 use Rattle.evaluation.specs.declared.Finding.the-variants.{Holds, Fails, Refused}
-use Rattle.evaluator.specs.Worked.{Told, fine, ceased}
+use Rattle.operations.specs.Worked.{Told, fine, ceased}
 use Rattle.evaluation.specs.Run.{ending}
-use Rattle.evaluator.specs.Named.{Declares, Stepped}
+use Rattle.operations.specs.Named.{Declares}
+use Rattle.evaluator.specs.Paragraphs.{Stepped}
 
 module _ {y : Worked} where
   pub refused-finding : {o : Outcome Step} → Told (Stepped (λ s. Unit {0})) y o → (y .number ≡ 0 → ⊥) → Refused (y .number) (y .place) ≡ ending o .finding

@@ -29,12 +29,13 @@ use Rattle.evaluation.specs.Outcomes.{Outcome, _>>=_, pure, stop}
 use Rattle.evaluation.specs.Scope.{Scope, bind, valued, generic}
 use Rattle.evaluation.specs.Rules.{evalExpr, evalPred, test, stopInclude}
 use Rattle.evaluation.specs.Paragraphs.{Step, onward, failed, then, unless, bindGivens, testNames, testLines, runParagraph, runParagraphs}
-use Rattle.evaluator.specs.declared.worked.Worked.{Worked}
-use Rattle.evaluator.specs.Worked.{Holds, Told, fine, ceased, Valued, Judged, Stops}
-use Rattle.evaluator.specs.Blocks.{Scoped}
-use Rattle.evaluator.specs.Named.{Among, Declares, Extends, bindLines, demanded, Stepped, Failed, Tested, Steps}
-use Rattle.evaluator.proofs.ToldLaws.{after-told, stop-told, go-told, halt-told, choose-told}
-use Rattle.evaluator.proofs.NamedLaws.{among-left, among-right, among-as}
+use Rattle.operations.specs.declared.worked.Worked.{Worked}
+use Rattle.operations.specs.Worked.{Holds, Told, fine, ceased, Valued, Judged, Stops}
+use Rattle.operations.specs.Blocks.{Scoped}
+use Rattle.operations.specs.Named.{Among, Declares, Extends}
+use Rattle.evaluator.specs.Paragraphs.{bindLines, demanded, Stepped, Failed, Tested, Steps}
+use Rattle.operations.proofs.ToldLaws.{after-told, stop-told, go-told, halt-told, choose-told}
+use Rattle.operations.proofs.NamedLaws.{among-left, among-right, among-as}
 
 -- ---- steps
 module _ (P : Scope → Type 0) {r : Worked} where
@@ -104,29 +105,6 @@ module _ (v : ℕ) (f : Value → Outcome Bool) (x : List ℕ) (j : ℕ) (s : St
     names-go z e m own =
         rw (drop-next x j h)
         (go-told t z (λ b q. choose-told b (λ n. m (bind (getD x j 0) (valued (s (getD x j 0))) own)) (λ n. absurd (true≢false (sym e ∙ q .flag ∙ n)))))
-
--- their blocks
-pub put-none : (state w x : List ℕ) (b j : ℕ) (s : State) → length x ≤ j → Extends state w w b (b + (length x - j)) (bindGivens (drop j x) s)
-unfolding bindGivens
-put-none state w x b j s h scope g =
-    let z : b + (length x - j) ≡ b = omega arith in
-    rw (z, drop-done x j h) g
-
-pub put-more : (state w0 w1 w2 x : List ℕ) (b j : ℕ) (s : State) → j < length x → Extends state w0 w1 b (b + 1) (bind (getD x j 0) (valued (s (getD x j 0)))) →
-    Extends state w1 w2 (b + 1) (b + 1 + (length x - (j + 1))) (bindGivens (drop (j + 1) x) s) → Extends state w0 w2 b (b + (length x - j)) (bindGivens (drop j x) s)
-unfolding bindGivens
-put-more state w0 w1 w2 x b j s h p q scope g =
-    let z : b + (length x - j) ≡ b + 1 + (length x - (j + 1)) = omega arith in
-    rw (z, drop-next x j h) (q (bind (getD x j 0) (valued (s (getD x j 0))) scope) (p scope g))
-
--- among the words from j on: the word at j, and those after it
-pub declares-here : {doc : List ℕ} (x : List ℕ) (j : ℕ) → j < length x → Declares doc (namesAs true (drop j x)) → Among (getD x j 0) (documentNames (treeOf doc))
-unfolding namesAs
-declares-here {doc} x j h d = (rw (drop-next x j h) at d) .each (getD x j 0) (Among.here refl)
-
-pub declares-later : {doc : List ℕ} (x : List ℕ) (j : ℕ) → j < length x → Declares doc (namesAs true (drop j x)) → Declares doc (namesAs true (drop (j + 1) x))
-unfolding namesAs
-declares-later {doc} x j h d = record { each = λ i a. (rw (drop-next x j h) at d) .each i (Among.there a) }
 
 -- ---- the lines of a Text, one turn at a time
 pub names-counted : (ls : Lines) → length (lineNames ls) ≡ declaredCount ls

@@ -1,5 +1,2 @@
-pub mod Steps
-pub mod Worked
-pub mod Blocks
-pub mod Ready
-pub mod Named
+pub mod Paragraphs
+pub mod RunCall

@@ -1,17 +1,12 @@
 // The run call: evaluation rules on words. The definitions are in the crate `evaluation`; nothing here looks at the checker.
-use crate::worked::Worked;
 use evaluation::Finding;
 use layout::part;
+use operations::worked::Worked;
 use syntax::Reading;
 use words::clear;
 use words::word;
 
-mod blocks;
-mod named;
-mod operations;
 mod paragraphs;
-mod rules;
-mod worked;
 
 ghost use mathlib.Core.Path.{_≡_};
 ghost use Prim.Native.Nat.{_≤_};
@@ -23,9 +18,11 @@ ghost use Rattle.states.specs.Names.{documentNames};
 ghost use Rattle.states.specs.States.{stateOf};
 ghost use Rattle.evaluation.specs.Outcomes.{Outcome};
 ghost use Rattle.evaluation.specs.Paragraphs.{Step, runDocument};
-ghost use Rattle.evaluator.specs.Worked.{Told};
+ghost use Rattle.operations.specs.Worked.{Told};
 ghost use Rattle.evaluation.specs.Run.{ending, runState, runOf};
-ghost use Rattle.evaluator.specs.Named.{said, Stepped, RunCall};
+ghost use Rattle.operations.specs.Named.{said};
+ghost use Rattle.evaluator.specs.Paragraphs.{Stepped};
+ghost use Rattle.evaluator.specs.RunCall.{RunCall};
 
 // What a result of the paragraphs says of the run.
 fn finding_of(y: Worked) -> Finding

@@ -1,16 +1,16 @@
 // The paragraphs of a run, in Document order. n is the number of blocks in the work area: the global names so far.
-use crate::blocks::put_generic;
-use crate::blocks::put_name;
-use crate::named::bounded;
-use crate::named::held_name;
-use crate::named::put_names;
-use crate::rules::expr;
-use crate::rules::pred;
-use crate::rules::tests;
-use crate::worked::Worked;
-use crate::worked::judge;
-use crate::worked::stop;
+use evaluating::nodes::expr;
+use evaluating::nodes::pred;
+use evaluating::nodes::tests;
 use layout::part;
+use operations::blocks::put_generic;
+use operations::blocks::put_name;
+use operations::named::bounded;
+use operations::named::held_name;
+use operations::named::put_names;
+use operations::worked::Worked;
+use operations::worked::judge;
+use operations::worked::stop;
 use states::names::text_count;
 use values::held::empty;
 use words::word;
@@ -29,10 +29,11 @@ ghost use Rattle.states.specs.States.{State};
 ghost use Rattle.evaluation.specs.Scope.{Scope};
 ghost use Rattle.evaluation.specs.Rules.{test};
 ghost use Rattle.evaluation.specs.Paragraphs.{bindGivens, testNames, testLines, runParagraph, runParagraphs};
-ghost use Rattle.evaluator.specs.Worked.{Told};
-ghost use Rattle.evaluator.specs.Blocks.{Scoped};
-ghost use Rattle.evaluator.specs.Ready.{Ready, Leaves};
-ghost use Rattle.evaluator.specs.Named.{Declares, Stated, demanded, Roomy, Extends, said, bindLines, Stepped, Failed, Tested, Steps};
+ghost use Rattle.operations.specs.Worked.{Told};
+ghost use Rattle.operations.specs.Blocks.{Scoped, Leaves};
+ghost use Rattle.evaluating.specs.Ready.{Ready};
+ghost use Rattle.operations.specs.Named.{Declares, Stated, Extends, said};
+ghost use Rattle.evaluator.specs.Paragraphs.{demanded, Roomy, bindLines, Stepped, Failed, Tested, Steps};
 
 // A failure at node k.
 fn fail(k: usize) -> Worked

@@ -35,7 +35,7 @@ use Rattle.typing.specs.Entries.{addGivens, addSignature, extend, paragraphNode
 use Rattle.typing.specs.Solving.{andThen, answer, passIf, selected, isSmall, isClosed, solveFrom, addUnknown, termUnknowns, unknowns, solve}
 use Rattle.typing.specs.Solving.{tableOf}
 use Rattle.typing.specs.Check.{fitting, settle, checkParagraphs, paragraphsOf, afterReading, checkOf}
-use Rattle.values.specs.Integer.{signed, wordOf}
+use Rattle.integers.specs.Integer.{signed, wordOf}
 use Rattle.values.specs.Value.{count, encode, encodes}
 use Rattle.values.specs.Order.{compareWord, orElse as orElse′, compare, isLess, isSame, same}
 use Rattle.values.specs.Givens.{elementsFrom, elements, smallSize, sizeFrom, sizeOf}

@@ -17,7 +17,7 @@ use Rattle.types.specs.Words.{words}
 use Rattle.values.specs.Value.{Value, encode}
 use Rattle.values.specs.Form.{isValue}
 use Rattle.values.specs.Typed.{isOf, hasType}
-use Rattle.values.proofs.TypedValues.{typed-value}
+use Rattle.forms.proofs.TypedValues.{typed-value}
 use Rattle.typing.specs.Dictionary.{Dictionary, Named, unnamed, ofGlobal, nameIn}
 use Rattle.typing.specs.WellFormed.{FormedAnswer}
 use Rattle.typing.proofs.CheckRight.{accepted-says}

@@ -1,9 +1,9 @@
 // The name of an entry of the state, found in the document.
 use layout::part;
-use reader::nodes::kind_at;
-use reader::nodes::operand;
+use node_forms::nodes::kind_at;
+use node_forms::nodes::operand;
 use states::names::line_count;
-use states::names::text_count;
+use states::names::paragraph_count;
 use words::word;
 ghost use mathlib.Core.Path.{_≡_};
 ghost use Prim.Native.Nat.{_-_, _≤_, _<_};
@@ -40,21 +40,6 @@ fn name_in_text(doc: &[u32], t: usize, j: usize) -> usize
         }
         at -= n;
         i += 1;
-    }
-    0
-}
-
-// The number of names of paragraph p.
-fn paragraph_count(doc: &[u32], p: usize) -> usize
-    requires { ⌜ At (now doc) paragraphs p ⌝ }
-    ensures { λ r. ⌜ r ≡ length (paragraphNames (paragraphAt (now (doc .entry)) p)) ⌝ }
-{
-    let q = kind_at(doc, p);
-    if q == 2 {
-        return part(doc, p).len() - 1;
-    }
-    if q == 3 {
-        return text_count(doc, operand(doc, p, 1));
     }
     0
 }

@@ -1075,7 +1075,8 @@ const D41: [u32; 89] = [
     5,
 ];
 
-fn main() {
+// Count and pairs: 11.
+fn show_layout() {
     show(1, &D1);
     show(2, &D2);
     show(3, &D3);
@@ -1083,6 +1084,10 @@ fn main() {
     show(5, &D5);
     show(6, &D6);
     show(7, &D7);
+}
+
+// Kinds, identifiers and lengths: 12 and 13.
+fn show_kinds() {
     show(8, &D8);
     show(9, &D9);
     show(10, &D10);
@@ -1093,6 +1098,10 @@ fn main() {
     show(15, &D15);
     show(16, &D16);
     show(17, &D17);
+}
+
+// Operands and uses: 14 and 15.
+fn show_links() {
     show(18, &D18);
     show(19, &D19);
     show(20, &D20);
@@ -1100,6 +1109,10 @@ fn main() {
     show(22, &D22);
     show(23, &D23);
     show(24, &D24);
+}
+
+// Identifiers written twice: 16.
+fn show_repeats() {
     show(25, &D25);
     show(26, &D26);
     show(27, &D27);
@@ -1107,6 +1120,10 @@ fn main() {
     show(29, &D29);
     show(30, &D30);
     show(31, &D31);
+}
+
+// Depth and numbers: 17, on both sides of each limit.
+fn show_limits() {
     show(32, &D32);
     show(33, &D33);
     show(34, &D34);
@@ -1117,11 +1134,23 @@ fn main() {
     show(39, &D39);
     show(40, &D40);
     show(41, &D41);
-    // the most nodes, and one more
+}
+
+// The most nodes, and one more.
+fn show_counts() {
     let mut d42 = [0u32; 3073];
     truths(1024, &mut d42);
     show(42, &d42);
     let mut d43 = [0u32; 3076];
     truths(1025, &mut d43);
     show(43, &d43);
+}
+
+fn main() {
+    show_layout();
+    show_kinds();
+    show_links();
+    show_repeats();
+    show_limits();
+    show_counts();
 }

@@ -5,7 +5,7 @@ use mathlib.Core.List.{List, [], _∷_}
 use Prim.Native.Nat.{ℕ, zero, suc, _+_, _-_, _≤_, _<_}
 use native.Mathlib.Omega.{arith}
 use lib.Dec.{leb, ltb, eqb}
-use lib.ListN.{length, getD, set, drop, replicate, length-set, length-take, length-drop, length-replicate}
+use lib.ListN.{length, getD, set, drop, replicate, length-set, length-take, length-drop, length-replicate, getD-replicate}
 use native.Mathlib.Decide.{ℕ-discrete}
 use lib.Seq.{getD-set-same, getD-set-other}
 use borrow.Author.Tests.{eq-eqb, ne-eqb, eqb-true, eqb-false, leb-true, ltb-true, le-leb, lt-leb, lt-ltb}
@@ -18,9 +18,9 @@ use Rattle.syntax.specs.Repeats.{declared, declaredIn, firstOperand, isAxiomDec
 use Rattle.syntax.specs.Limits.{tooDeep, isClosing, belowUpTo, anyCrowded, tooCrowded, declaredUpTo, tooNested, tooWide, tooMany, globalsUpTo, limitNumber}
 use Rattle.syntax.proofs.Accepted.{Nodes}
 use Rattle.syntax.proofs.Parents.{parent-most, parent-rises}
-use Rattle.reader.specs.Links.{places, Parents, Linked}
+use Rattle.repeats.specs.Parents.{places, Parents, Linked}
+use Rattle.repeats.proofs.ParentLaws.{nodes-of}
 use Rattle.reader.specs.Counts.{reaches, counted, over, Below, Declared, Counted, pastTree}
-use Rattle.reader.proofs.LinkLaws.{nodes-of, zeros-at}
 
 -- the table's word at k is the parent, and is in the table too
 module _ (doc up : List ℕ) (p : Parents doc up) (k a : ℕ) (h : k < places) (e : a ≡ getD up k 0) where
@@ -293,6 +293,6 @@ pub counted-none : (doc : List ℕ) → Counted doc 0 (replicate places 0) (repl
 unfolding total
 counted-none doc =
     record {
-      below = record { size = length-replicate {A = ℕ} places 0; at = λ a h c. zeros-at places a };
-      declared = record { size = length-replicate {A = ℕ} places 0; at = λ t h. zeros-at places t };
+      below = record { size = length-replicate {A = ℕ} places 0; at = λ a h c. getD-replicate {A = ℕ} places a 0 0 h };
+      declared = record { size = length-replicate {A = ℕ} places 0; at = λ t h. getD-replicate {A = ℕ} places t 0 0 h };
     }

@@ -6,7 +6,7 @@ use Prim.Native.Nat.{ℕ, zero, suc, _+_, _-_, _<_}
 use native.Mathlib.Omega.{arith}
 use native.Mathlib.Decide.{ℕ-discrete}
 use lib.Dec.{eqb}
-use lib.ListN.{length, getD, set, replicate, length-set, length-replicate}
+use lib.ListN.{length, getD, set, replicate, length-set, length-replicate, getD-replicate}
 use lib.Seq.{getD-set-same, getD-set-other}
 use borrow.Author.Tests.{eq-eqb, ne-eqb}
 use Rattle.words.specs.Loops.{run, joined, has, occurrences}
@@ -14,8 +14,8 @@ use Rattle.words.proofs.Lists.{occurrences-append, run-last}
 use Rattle.layout.specs.Layout.{count, part}
 use Rattle.syntax.specs.Kinds.{sortAt, isNodeSort}
 use Rattle.syntax.specs.Nodes.{nodesAmong, children, uses, parentAmong, parent}
-use Rattle.reader.specs.Links.{capped, bump, tallyAt, tallyNode, tallyOf, tally, linkAt, linkOf, link, places, Used, Parents, Linked}
-use Rattle.syntax.proofs.Accepted.{Nodes, Once, nodes-sound, uses-once}
+use Rattle.repeats.specs.Parents.{places, Parents}
+use Rattle.reader.specs.Links.{capped, bump, tallyAt, tallyNode, tallyOf, tally, linkAt, linkOf, link, Used}
 
 -- a number of uses is 1 exactly where the table says so
 capped-one : (n : ℕ) → eqb (capped n) 1 ≡ eqb n 1
@@ -106,18 +106,13 @@ tally-all doc v i (suc m) u h =
     ∙ rw (t .0, occurrences-append v (nodesAmong w 1 (length w - 1)) (joined (children doc) (suc i) m))
     (sym (more-add (getD u v 0) (occurrences v (nodesAmong w 1 (length w - 1))) (occurrences v (joined (children doc) (suc i) m))))
 
-pub zeros-at : (n v : ℕ) → _≡_ {A = ℕ} (getD (replicate n 0) v 0) 0
-zeros-at zero v = refl
-zeros-at (suc n) zero = refl
-zeros-at (suc n) (suc v) = zeros-at n v
-
 pub tallied : (doc : List ℕ) → Used doc (tally doc (replicate places 0))
 unfolding uses
 tallied doc =
     record {
       at = λ k h.
           tally-all doc k 1 (count doc) (replicate places 0) (rw (length-replicate {A = ℕ} places 0) h)
-          ∙ rw (zeros-at places k) (more-capped (occurrences k (joined (children doc) 1 (count doc))));
+          ∙ rw (getD-replicate {A = ℕ} places k 0 0 h) (more-capped (occurrences k (joined (children doc) 1 (count doc))));
     }
 
 -- the table of parents, over the operands of node k
@@ -174,12 +169,5 @@ unfolding parent
 linked doc few =
     record {
       few = few;
-      at = λ k h. link-all doc k (count doc) (replicate places 0) (rw (length-replicate {A = ℕ} places 0) h) (zeros-at places k) .0;
+      at = λ k h. link-all doc k (count doc) (replicate places 0) (rw (length-replicate {A = ℕ} places 0) h) (getD-replicate {A = ℕ} places k 0 0 h) .0;
     }
-
--- what findings 11 to 15 leave
-pub nodes-of : (doc up : List ℕ) → Linked doc up → Nodes doc
-nodes-of doc up l = nodes-sound doc (l .laid) (l .nodes)
-
-pub once-of : (doc up : List ℕ) → Linked doc up → Once doc
-once-of doc up l = uses-once doc (nodes-of doc up l .laid .some) (l .uses)

@@ -7,7 +7,7 @@ use lib.ListN.{length, getD, set}
 use lib.Dec.{ltb, eqb}
 use Rattle.syntax.specs.Nodes.{kindAt, parent}
 use Rattle.syntax.specs.Limits.{isClosing, belowUpTo, declaredUpTo, tooDeep, tooNested, tooWide, tooCrowded}
-use Rattle.reader.specs.Links.{places}
+use Rattle.repeats.specs.Parents.{places}
 
 -- there are at least n nodes above k
 unfoldable pub reaches : List ℕ → ℕ → ℕ → Bool

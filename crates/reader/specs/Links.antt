@@ -1,17 +1,15 @@
--- The tables of uses and parents: how the code fills them, and what they then say.
+-- The tables of uses and parents: how the code fills them, and what the first then says (the second: `repeats`, specs/Parents).
 use mathlib.Core.Path.{_≡_}
 use mathlib.Core.List.{List}
-use mathlib.Core.Bool.{true, cond}
+use mathlib.Core.Bool.{cond}
 use Prim.Native.Nat.{ℕ, _-_, _<_}
 use lib.ListN.{length, getD, set}
 use lib.Dec.{eqb}
 use Rattle.words.specs.Loops.{run}
-use Rattle.layout.specs.Layout.{count, laidOut, part}
+use Rattle.layout.specs.Layout.{count, part}
 use Rattle.syntax.specs.Kinds.{sortAt, isNodeSort}
-use Rattle.syntax.specs.Nodes.{documentForm, uses, parent}
-use Rattle.syntax.specs.Findings.{nodeNumber, useNumber}
-use Rattle.syntax.specs.Reading.{lowest}
-use Rattle.syntax.specs.declared.Reading.the-variants.{Readable}
+use Rattle.syntax.specs.Nodes.{uses}
+use Rattle.repeats.specs.Parents.{places}
 
 -- a number of uses as far as it matters: 0, 1, or 2 for more
 abbrev pub capped : ℕ → ℕ
@@ -47,20 +45,5 @@ linkOf doc k u = linkNode (part doc k) k u
 abbrev pub link : List ℕ → List ℕ → List ℕ
 link doc u = run (linkOf doc) 1 (count doc) u
 
--- a place for each node, and one for 0
-abbrev pub places : ℕ
-places = 1025
-
 pub record Used (doc u : List ℕ) : Type 0 where
   pub at : (k : ℕ) → k < places → getD u k 0 ≡ capped (uses doc k)
-
-pub record Parents (doc u : List ℕ) : Type 0 where
-  pub few : count doc < places
-  pub at : (k : ℕ) → k < places → getD u k 0 ≡ parent doc k
-
--- the document has none of the findings 11 to 15, and `up` is its table of parents
-pub record Linked (doc up : List ℕ) : Type 0 where
-  pub laid : laidOut documentForm doc ≡ true
-  pub nodes : lowest doc (nodeNumber doc) ≡ Readable
-  pub uses : lowest doc (useNumber doc) ≡ Readable
-  pub parents : Parents doc up

@@ -1,12 +1,11 @@
 // The reader of coded documents: findings 11 to 17 for any words (document 01, "The coded document", "Finding numbers").
 use layout::Form;
+use node_forms::nodes::check_nodes;
+use repeats::check_repeats;
 use syntax::Reading;
 
-mod kinds;
 mod limits;
 mod links;
-pub mod nodes;
-mod repeats;
 
 ghost use mathlib.Core.Path.{_≡_};
 ghost use mathlib.Core.Bool.{true};
@@ -18,14 +17,14 @@ ghost use Rattle.syntax.specs.Limits.{limitNumber};
 ghost use Rattle.syntax.specs.Findings.{andThen};
 ghost use Rattle.syntax.specs.Reading.{lowest, readOf};
 ghost use Rattle.syntax.specs.declared.Reading.the-variants.{Readable};
-ghost use Rattle.reader.specs.Links.{Linked};
+ghost use Rattle.repeats.specs.Parents.{Linked};
 
 // Findings 16 and 17, by the table of parents.
 fn check_tree(doc: &[u32], up: &[u32]) -> Reading
     requires { ⌜ Linked (now doc) (now up) ⌝ }
     ensures { λ r. ⌜ r ≡ andThen (lowest (now (doc .entry)) (repeatNumber (now (doc .entry)))) (lowest (now (doc .entry)) (limitNumber (now (doc .entry)))) ⌝ }
 {
-    let first = repeats::check_repeats(doc, up);
+    let first = check_repeats(doc, up);
     match first {
         Reading::Readable => limits::check_limits(doc, up),
         Reading::Refused { number, place } => Reading::Refused {
@@ -64,7 +63,7 @@ pub fn read(doc: &[u32]) -> Reading
         longest: 16384,
     };
     if layout::laid_out(doc, form) {
-        let first = nodes::check_nodes(doc);
+        let first = check_nodes(doc);
         match first {
             Reading::Readable => {
                 return check_uses_and_tree(doc);

@@ -1,8 +1,8 @@
 // Finding 17: the limits.
-use crate::kinds::is_between;
-use crate::nodes::kind_at;
-use crate::repeats::declared_at;
-use crate::repeats::globals_at;
+use node_forms::kinds::is_between;
+use node_forms::nodes::kind_at;
+use repeats::written::declared_at;
+use repeats::written::globals_at;
 use syntax::Reading;
 use words::store;
 use words::word;
@@ -13,7 +13,7 @@ ghost use Rattle.layout.specs.Layout.{count};
 ghost use Rattle.syntax.specs.Nodes.{above};
 ghost use Rattle.syntax.specs.Limits.{textsAmong, isClosing, tooNested, tooWide, limitNumber};
 ghost use Rattle.syntax.specs.Reading.{lowest};
-ghost use Rattle.reader.specs.Links.{places, Parents, Linked};
+ghost use Rattle.repeats.specs.Parents.{places, Parents, Linked};
 ghost use Rattle.reader.specs.Counts.{reaches, counted, over, Declared, Counted, pastTree};
 
 // A Decl, Include, Abbreviation, or node of kind 21 to 23.

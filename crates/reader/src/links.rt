@@ -1,8 +1,8 @@
 // Uses and parents of nodes, and finding 15.
-use crate::kinds::operand_count;
-use crate::kinds::sort_at;
-use crate::nodes::kind_at;
 use layout::part;
+use node_forms::kinds::operand_count;
+use node_forms::kinds::sort_at;
+use node_forms::nodes::kind_at;
 use syntax::Reading;
 use words::store;
 use words::word;
@@ -11,7 +11,8 @@ ghost use Prim.Native.Nat.{_≤_, _<_, _^_};
 ghost use Rattle.layout.specs.Layout.{count};
 ghost use Rattle.syntax.specs.Findings.{useNumber};
 ghost use Rattle.syntax.specs.Reading.{lowest};
-ghost use Rattle.reader.specs.Links.{bump, tallyAt, tallyNode, tally, linkAt, linkNode, link, places, Used};
+ghost use Rattle.repeats.specs.Parents.{places};
+ghost use Rattle.reader.specs.Links.{bump, tallyAt, tallyNode, tally, linkAt, linkNode, link, Used};
 
 // One more use of node v, as far as it matters.
 fn mark(used: &mut [u32], v: usize)

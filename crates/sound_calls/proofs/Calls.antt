@@ -11,7 +11,7 @@ use Rattle.typing.specs.declared.Finding.the-variants.{Accepted}
 use Rattle.fit.specs.Fit.{fitOf}
 use Rattle.evaluation.specs.Run.{runOf}
 use Rattle.evaluation.specs.declared.Finding.{Finding}
-use Rattle.evaluator.specs.Named.{RunCall}
+use Rattle.evaluator.specs.RunCall.{RunCall}
 use Rattle.soundness.specs.Demand.{Sound}
 use Rattle.soundness.proofs.Demand.{demand-three, fit-sound}
 use Rattle.sound_calls.specs.Calls.{SoundCall, FittedRuns, CheckedRuns}

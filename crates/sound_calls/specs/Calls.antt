@@ -16,7 +16,7 @@ use Rattle.evaluation.specs.Claims.{Listed}
 use Rattle.evaluation.specs.Run.{runOf}
 use Rattle.evaluation.specs.declared.Finding.{Finding}
 use Rattle.evaluation.specs.declared.Finding.the-variants.{Refused}
-use Rattle.evaluator.specs.Named.{RunCall}
+use Rattle.evaluator.specs.RunCall.{RunCall}
 use Rattle.soundness.specs.Demand.{OfItsType}
 
 -- A run call with the finding r, in a work area that held `before`: r is not 51 at any node, and every entry of the list has its node's accepted type.

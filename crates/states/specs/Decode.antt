@@ -5,11 +5,11 @@ use Prim.Native.Nat.{ℕ, zero, suc}
 use lib.IntN.{pos}
 use lib.Dec.{eqb}
 use lib.ListN.{getD, drop}
-use Rattle.values.specs.Integer.{signed}
+use Rattle.integers.specs.Integer.{signed}
 use Rattle.values.specs.Value.{Value, int, element, set, tuple, Values, nil, cons}
 use Rattle.values.specs.Form.{shapeOf, valueLength}
-use Rattle.values.specs.declared.form.Shape.{Shape}
-use Rattle.values.specs.declared.form.Shape.the-variants.{Broken, Leaf, Set, Tuple}
+use Rattle.values.specs.declared.shapes.Shape.{Shape}
+use Rattle.values.specs.declared.shapes.Shape.the-variants.{Broken, Leaf, Set, Tuple}
 
 -- n values one after the other; `size` is the words of the value at the beginning, `value` that value
 unfoldable pub valuesFrom : (List ℕ → ℕ) → (List ℕ → Value) → ℕ → List ℕ → Values

@@ -1,7 +1,7 @@
 // The entries of a state, by the table of the names: all Given entries, then the others.
+use forms::form::is_value;
 use layout::part;
 use syntax::Reading;
-use values::form::is_value;
 use words::word;
 ghost use mathlib.Core.Path.{_≡_};
 ghost use Prim.Native.Nat.{_≤_, _<_, _^_};

@@ -1,7 +1,7 @@
 // The names of a readable document, in Document order: how many, and the givens among them with the sizes that a state gives them.
 use layout::part;
-use reader::nodes::kind_at;
-use reader::nodes::operand;
+use node_forms::nodes::kind_at;
+use node_forms::nodes::operand;
 use words::store;
 use words::word;
 ghost use mathlib.Core.Path.{_≡_};
@@ -42,6 +42,21 @@ pub fn text_count(doc: &[u32], t: usize) -> usize
         i += 1;
     }
     n
+}
+
+// The number of names of paragraph p.
+pub fn paragraph_count(doc: &[u32], p: usize) -> usize
+    requires { ⌜ At (now doc) paragraphs p ⌝ }
+    ensures { λ r. ⌜ (r ≡ length (paragraphNames (paragraphAt (now (doc .entry)) p))) × (r ≤ 64) ⌝ }
+{
+    let q = kind_at(doc, p);
+    if q == 2 {
+        return part(doc, p).len() - 1;
+    }
+    if q == 3 {
+        return text_count(doc, operand(doc, p, 1));
+    }
+    0
 }
 
 // The pair of entry k, whose name is the given that word i is.

@@ -1,9 +1,9 @@
 // The entry of a name in a state.
 use crate::names::line_count;
-use crate::names::text_count;
+use crate::names::paragraph_count;
 use layout::part;
-use reader::nodes::kind_at;
-use reader::nodes::operand;
+use node_forms::nodes::kind_at;
+use node_forms::nodes::operand;
 use words::word;
 ghost use mathlib.Core.Path.{_≡_};
 ghost use mathlib.Core.Bool.{true};
@@ -80,21 +80,6 @@ fn place_in_paragraph(doc: &[u32], p: usize, k: usize, name: usize) -> usize
     }
     if q == 3 {
         return place_in_text(doc, operand(doc, p, 1), k, name);
-    }
-    0
-}
-
-// The number of names of paragraph p.
-fn paragraph_count(doc: &[u32], p: usize) -> usize
-    requires { ⌜ At (now doc) paragraphs p ⌝ }
-    ensures { λ r. ⌜ (r ≡ length (paragraphNames (paragraphAt (now (doc .entry)) p))) × (r ≤ 64) ⌝ }
-{
-    let q = kind_at(doc, p);
-    if q == 2 {
-        return part(doc, p).len() - 1;
-    }
-    if q == 3 {
-        return text_count(doc, operand(doc, p, 1));
     }
     0
 }

@@ -71,3 +71,17 @@ module _ (v : Value) (r : List ℕ) (h : length (encode v) ≤ 64) where
   pub rest-value : rest (encode v ++ r) ≡ r
   unfolding rest
   rest-value = drop-at (encode v) r (span (encode v ++ r)) (sym (span-value v r h))
+
+-- a value has two words or more, so no more values than words
+mutual
+  unfolding encode count
+
+  pub words-some : (v : Value) → 2 ≤ length (encode v)
+  words-some (int z) = omega arith
+  words-some (element g k) = omega arith
+  words-some (set vs) = omega arith
+  words-some (tuple vs) = omega arith
+
+  pub count-few : (vs : Values) → count vs ≤ length (encodes vs)
+  count-few nil = omega arith
+  count-few (cons v vs) = omega (arith, words-some v, count-few vs, length-append (encode v) (encodes vs))

@@ -4,22 +4,12 @@ use mathlib.Core.Bool.{Bool, true, false}
 use mathlib.Core.List.{List, _++_}
 use Prim.Native.Nat.{ℕ, zero, suc, _+_, _-_, _≤_, _<_}
 use native.Mathlib.Omega.{arith}
-use native.Mathlib.Numerals.{add-one}
 use lib.Dec.{leb}
-use lib.ListN.{length, getD, set, take, drop, replicate, length-append, length-replicate, drop-of-length-le}
-use lib.Seq.{sets, sets-eq, drop-cons, take-at, drop-append-add}
+use lib.ListN.{length, take, drop, replicate, length-append, length-replicate}
+use lib.Seq.{sets, sets-eq, take-at, drop-append-add}
 use borrow.Author.Tests.{le-leb, lt-leb, leb-true, leb-false}
 use Rattle.values.specs.declared.held.Held.{Held}
 use Rattle.values.specs.Held.{over, keep, findingOf}
-
--- one store of a copy, and its end
-pub sets-go : (v out : List ℕ) (to i : ℕ) → i < length v → sets out (to + i) (drop i v) ≡ sets (set out (to + i) (getD v i 0)) (to + (i + 1)) (drop (i + 1) v)
-sets-go v out to i h =
-    let e : to + (i + 1) ≡ suc (to + i) = omega arith in
-    rw (e, add-one i, drop-cons v i 0 h)
-
-pub sets-end : (v out : List ℕ) (to i : ℕ) → length v ≤ i → sets out (to + i) (drop i v) ≡ out
-sets-end v out to i h = rw (drop-of-length-le v h)
 
 pub keep-over : (ws : List ℕ) → 64 < length ws → keep ws ≡ over
 unfolding keep

@@ -10,18 +10,18 @@ use lib.Signed.{ltZ}
 use lib.ListN.{length, length-append}
 use lib.Seq.{take-at, drop-at}
 use borrow.Author.Tests.{ltb-true, le-ltb}
-use Rattle.values.specs.declared.words.Order.{Order}
-use Rattle.values.specs.declared.words.Order.the-variants.{Less, Same, Greater}
+use Rattle.values.specs.declared.order.Order.{Order}
+use Rattle.values.specs.declared.order.Order.the-variants.{Less, Same, Greater}
 use Rattle.values.specs.declared.sets.Place.the-variants.{At, Already}
-use Rattle.values.specs.Integer.{signed}
+use Rattle.integers.specs.Integer.{signed}
 use Rattle.values.specs.Order.{compareWord, orElse, compare, isLess}
 use Rattle.values.specs.Value.{Value, int, element, set, tuple, Values, nil, cons, count, encode, encodes}
 use Rattle.values.specs.Sets.{among, isMember, choose, placeFrom, place, insertAt, insert}
 use Rattle.values.specs.WellFormed.{ascends, wellFormed, allWellFormed}
 use Rattle.values.specs.SetValues.{sameValue, isIn, insertBy, insertValue}
-use Rattle.values.proofs.Encoding.{span-value, first-value, rest-value}
-use Rattle.values.proofs.Unique.{and-left, and-right, both}
-use Rattle.values.proofs.Decoding.{count-few}
+use Rattle.values.proofs.Encoding.{span-value, first-value, rest-value, count-few}
+use Rattle.words.proofs.Loops.{and-left, and-right}
+use Rattle.values.proofs.Unique.{both}
 
 -- ---- membership
 

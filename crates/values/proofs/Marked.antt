@@ -5,7 +5,7 @@ use mathlib.Core.List.{List, [], _∷_}
 use Prim.Native.Nat.{ℕ, zero, suc}
 use lib.IntN.{pos}
 use lib.ListN.{length}
-use Rattle.values.specs.Integer.{signed, wordOf}
+use Rattle.integers.specs.Integer.{signed, wordOf}
 use Rattle.values.specs.Order.{compareWord, orElse, compare, isLess, isSame, same}
 use Rattle.values.specs.Span.{head, parts, spans, span}
 use Rattle.values.specs.Value.{int, set, Values, nil, count, encode}

@@ -6,8 +6,8 @@ use Prim.Native.Nat.{ℕ, _+_, _≤_, _<_}
 use native.Mathlib.Numerals.{add-one}
 use lib.ListN.{length, getD, drop, drop-of-length-le}
 use lib.Seq.{drop-cons}
-use Rattle.values.specs.declared.words.Order.{Order}
-use Rattle.values.specs.declared.words.Order.the-variants.{Less, Same, Greater}
+use Rattle.values.specs.declared.order.Order.{Order}
+use Rattle.values.specs.declared.order.Order.the-variants.{Less, Same, Greater}
 use Rattle.values.specs.Order.{compareWord, orElse, compare, isSame}
 
 decided : (o p : Order) → isSame o ≡ false → orElse o p ≡ o

@@ -8,12 +8,7 @@ use native.Mathlib.Nat.{add-zero, add-assoc}
 use lib.Dec.{eqb, leb}
 use lib.ListN.{getD, drop}
 use lib.Seq.{getD-drop, drop-drop}
-use borrow.Author.Tests.{eq-eqb, ne-eqb, le-leb, lt-leb, lt-ltb, le-ltb}
-use borrow.Author.Needs.{needs}
 use Rattle.values.specs.Span.{head, parts, spans}
-
--- at a `return`: the tests on the way decide the definition's
-pub ruleset tests = (eq-eqb, ne-eqb, le-leb, lt-leb, lt-ltb, le-ltb, needs)
 
 pub first-word : (w : List ℕ) (at : ℕ) → getD (drop at w) 0 0 ≡ getD w at 0
 first-word w at = getD-drop at w 0 0 ∙ ap (λ (i : ℕ). getD w i 0) (add-zero at)

@@ -6,8 +6,8 @@ use Prim.Native.Nat.{ℕ, zero, suc, _+_, _^_}
 use lib.Dec.{eqb, leb, ltb}
 use lib.ListN.{length, getD, take, drop}
 use Rattle.values.specs.Order.{compare, isLess}
-use Rattle.values.specs.declared.form.Shape.{Shape}
-use Rattle.values.specs.declared.form.Shape.the-variants.{Broken, Leaf, Set, Tuple}
+use Rattle.values.specs.declared.shapes.Shape.{Shape}
+use Rattle.values.specs.declared.shapes.Shape.the-variants.{Broken, Leaf, Set, Tuple}
 
 unfoldable pub elementShape : (ℕ → ℕ) → List ℕ → Shape
 elementShape size ws = cond (ltb (length ws) 3) Broken (cond (ltb (getD ws 2 0) (size (getD ws 1 0))) (Leaf 3) Broken)

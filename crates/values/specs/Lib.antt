@@ -1,5 +1,4 @@
--- What the contracts of `values` cite. Laws about these definitions stand in proofs/.
-pub mod Integer
+-- What the contracts of `values` and `forms` cite. Laws about these definitions stand in their proofs/.
 pub mod Value
 pub mod Order
 pub mod Span

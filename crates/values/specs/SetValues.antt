@@ -2,8 +2,8 @@
 use mathlib.Core.Bool.{Bool, true, false, cond}
 use Rattle.values.specs.Order.{compare, same}
 use Rattle.values.specs.Value.{Value, int, element, set, tuple, Values, nil, cons, encode}
-use Rattle.values.specs.declared.words.Order.{Order}
-use Rattle.values.specs.declared.words.Order.the-variants.{Less, Same, Greater}
+use Rattle.values.specs.declared.order.Order.{Order}
+use Rattle.values.specs.declared.order.Order.the-variants.{Less, Same, Greater}
 
 -- = compares words
 unfoldable pub sameValue : Value → Value → Bool

@@ -8,8 +8,8 @@ use lib.ListN.{getD, drop}
 use Rattle.values.specs.Value.{Value, int, element, set, tuple, Values, nil, cons, count}
 use Rattle.values.specs.Sets.{rest}
 use Rattle.values.specs.TypeWords.{typeLength}
-use Rattle.values.specs.declared.typed.Test.{Test}
-use Rattle.values.specs.declared.typed.Test.the-variants.{Fails, Passes, Each}
+use Rattle.values.specs.declared.shapes.Test.{Test}
+use Rattle.values.specs.declared.shapes.Test.the-variants.{Fails, Passes, Each}
 
 -- where the next part's type is: after this one's words, of which a recorded type has at most 32 levels; a set's members share one
 unfoldable pub typeStep : Bool → List ℕ → ℕ

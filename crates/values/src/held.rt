@@ -1,9 +1,8 @@
 // A value by value: at most 64 words and their number. A value of over 64 words, finding 55, has the length 65.
+use words::copy;
 ghost use mathlib.Core.Path.{_≡_};
 ghost use mathlib.Core.List.{List, [], _++_};
-ghost use Prim.Native.Nat.{ℕ, _+_, _≤_};
-ghost use lib.ListN.{length};
-ghost use lib.Seq.{sets};
+ghost use Prim.Native.Nat.{ℕ};
 ghost use Rattle.values.specs.Held.{over, keep};
 
 pub struct Held {
@@ -26,19 +25,6 @@ pub fn empty() -> Held
     Held {
         words: [0u32; 64],
         len: 0,
-    }
-}
-
-// Copies words to a place of an area.
-pub fn copy(w: &[u32], out: &mut [u32], at: usize)
-    requires { ⌜ at + length (now w) ≤ length (now out) ⌝ }
-    ensures { λ _. ⌜ now (out .exit) ≡ sets (now (out .entry)) at (now (w .entry)) ⌝ }
-{
-    let n = w.len();
-    let mut i = 0;
-    while i < n {
-        out[at + i] = w[i];
-        i += 1;
     }
 }
 

@@ -1,9 +1,9 @@
 // Integers as values.
 use super::held::Held;
 use super::held::hold;
-use super::integer::signed;
-use super::integer::word_of;
-use super::words::word;
+use integers::integer::signed;
+use integers::integer::word_of;
+use words::word;
 ghost use mathlib.Core.Path.{_≡_};
 ghost use Rattle.values.specs.Held.{keep};
 ghost use Rattle.values.specs.Numbers.{numberOf};

@@ -3,13 +3,12 @@ use super::held::Held;
 use super::held::append;
 use super::held::empty;
 use super::held::hold;
+use super::order::Order;
+use super::order::compare;
+use super::order::same;
 use super::span::span;
-use super::words::Order;
-use super::words::compare;
-use super::words::from;
-use super::words::part;
-use super::words::same;
-use super::words::word;
+use words::from;
+use words::word;
 ghost use mathlib.Core.Path.{_≡_};
 ghost use Prim.Native.Nat.{_<_, _^_};
 ghost use Rattle.values.specs.Held.{keep};
@@ -32,7 +31,7 @@ pub enum Applied {
 pub fn first(w: &[u32]) -> &[u32]
     ensures { λ r. ⌜ now r ≡ first (now (w .entry)) ⌝ }
 {
-    part(w, 0, span(w))
+    words::span(w, 0, span(w))
 }
 
 pub fn is_member(s: &[u32], m: &[u32]) -> bool
@@ -78,7 +77,7 @@ fn insert_at(p: usize, s: &[u32], m: &[u32]) -> Held
 {
     let head = [3, std::num::wrapping_add_u32(word(s, 1) as u32, 1)];
     let a = append(empty(), &head);
-    let b = append(a, from(part(s, 0, p), 2));
+    let b = append(a, from(words::span(s, 0, p), 2));
     let c = append(b, m);
     append(c, from(s, p))
 }

@@ -1,5 +1,5 @@
 // How far a value's words reach, by tags and counts alone.
-use super::words::word;
+use words::word;
 ghost use mathlib.Core.Path.{_≡_};
 ghost use Prim.Native.Nat.{_<_, _≤_, _^_};
 ghost use lib.ListN.{drop};

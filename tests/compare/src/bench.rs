@@ -1,7 +1,7 @@
 //! The benchmark: the same documents to the library and to the reference, with
 //! the areas that a call takes cleared for both, and the times as a ratio.
 //!
-//! bench [--seed N] [--count M]
+//! bench [--seed N] [--count M] [--call NAME] [--documents NAME]
 
 use compare::calls::{Call, Slices, CALLS, NOT_LINKED};
 use generate::{worst, Case};
@@ -28,9 +28,13 @@ fn main() -> ExitCode {
         "{:<9}{:<34}{:>12}{:>12}{:>9}",
         "call", "documents", "library µs", "reference", "ratio"
     );
+    let chosen = |option: &str, name: &str| {
+        let at = arguments.iter().position(|argument| argument == option);
+        at.map_or(true, |at| name.contains(&arguments[at + 1]))
+    };
     let mut ratios = Vec::new();
-    for call in CALLS {
-        for (name, cases) in &sets {
+    for call in CALLS.iter().filter(|call| chosen("--call", call.name)) {
+        for (name, cases) in sets.iter().filter(|(name, _)| chosen("--documents", name)) {
             ratios.push(measure(call, name, cases));
         }
     }

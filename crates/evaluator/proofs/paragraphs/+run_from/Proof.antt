@@ -2,7 +2,7 @@ use lib.ListN.{length, getD}
 use Rattle.layout.specs.Layout.{count, part}
 use Rattle.syntax.specs.Nodes.{operandAt}
 use Rattle.states.proofs.NameLaws.{document-words}
-use Rattle.evaluator.specs.Named.{said}
+use Rattle.operations.specs.Named.{said}
 use Rattle.evaluator.proofs.StepLaws.{run-over, this-paragraph, global-sum, declares-this, declares-others, run-stops, run-goes, run-fails}
 use mathlib.Core.Path.{_≡_, refl, sym, ap, subst, _∙_}
 use mathlib.Core.Bool.{true, false}
@@ -15,7 +15,7 @@ use borrow.Fn.PlainCycle.{Measures, is, falls, and}
 use Rattle.evaluator.proofs.paragraphs.run_from.Reads as run-from
 use Rattle.evaluator.proofs.paragraphs.run_from.Kinds as run-from-kinds
 use Rattle.evaluator.proofs.paragraphs.+run_from.Lts-run_from as run-from-lts
-use Rattle.evaluator.proofs.worked.judge.Reads as judge-reads
+use Rattle.operations.proofs.worked.judge.Reads as judge-reads
 use Rattle.words.proofs.word.Reads as word-reads
 use Rattle.evaluator.proofs.paragraphs.paragraph.Reads as paragraph-reads
 use Rattle.evaluator.proofs.paragraphs.global_count.Reads as global-count-reads

@@ -3,8 +3,8 @@ use lib.ListN.{length, getD, drop}
 use Rattle.layout.specs.Layout.{part}
 use Rattle.syntax.specs.Kinds.{expressions}
 use Rattle.syntax.specs.Nodes.{kindAt, operandAt}
-use Rattle.evaluator.specs.Named.{said}
-use Rattle.evaluator.proofs.BlockLaws.{scoped-same}
+use Rattle.operations.specs.Named.{said}
+use Rattle.operations.proofs.BlockLaws.{scoped-same}
 use Rattle.states.proofs.NameLaws.{text-words}
 use Rattle.evaluator.proofs.StepLaws.{lines-over, this-line, line-kind, line-lower, few-line, include-stop, decl-stop, decl-go, decl-failed, declares-own, declares-rest}
 use mathlib.Core.Path.{_≡_, refl, sym, ap, subst, _∙_}
@@ -18,10 +18,10 @@ use borrow.Fn.PlainCycle.{Measures, is, falls, and}
 use Rattle.evaluator.proofs.paragraphs.test_lines.Reads as test-lines
 use Rattle.evaluator.proofs.paragraphs.test_lines.Kinds as test-lines-kinds
 use Rattle.evaluator.proofs.paragraphs.+test_lines.Lts-test_lines as test-lines-lts
-use Rattle.evaluator.proofs.worked.judge.Reads as judge-reads
+use Rattle.operations.proofs.worked.judge.Reads as judge-reads
 use Rattle.words.proofs.word.Reads as word-reads
 use Rattle.layout.proofs.part.Reads as part-reads
-use Rattle.evaluator.proofs.worked.stop.Reads as stop-reads
+use Rattle.operations.proofs.worked.stop.Reads as stop-reads
 use Rattle.evaluator.proofs.paragraphs.test_names.Reads as test-names-reads
 use Rattle.evaluator.proofs.paragraphs.+test_lines.{statement}
 use Rattle.evaluator.proofs.paragraphs.+test_lines.Tie.{close}

@@ -3,10 +3,11 @@ use Rattle.syntax.specs.Kinds.{expressions}
 use Rattle.syntax.specs.Decode.{treeOf, exprAt}
 use Rattle.states.specs.Names.{documentNames}
 use Rattle.evaluation.specs.Rules.{test}
-use Rattle.evaluator.specs.Ready.{Ready}
-use Rattle.evaluator.specs.Named.{Among, said}
-use Rattle.evaluator.proofs.BlockLaws.{scoped-same}
-use Rattle.evaluator.proofs.StepLaws.{names-end, names-stop, names-go, names-failed, declares-here, declares-later}
+use Rattle.evaluating.specs.Ready.{Ready}
+use Rattle.operations.specs.Named.{Among, said}
+use Rattle.operations.proofs.BlockLaws.{scoped-same}
+use Rattle.evaluator.proofs.StepLaws.{names-end, names-stop, names-go, names-failed}
+use Rattle.operations.proofs.NamedLaws.{declares-here, declares-later}
 use mathlib.Core.Path.{_≡_, refl, sym, ap, subst, _∙_}
 use mathlib.Core.Bool.{true, false}
 use mathlib.Core.List.{List}
@@ -18,10 +19,10 @@ use borrow.Fn.PlainCycle.{Measures, is, falls, and}
 use Rattle.evaluator.proofs.paragraphs.test_names.Reads as test-names
 use Rattle.evaluator.proofs.paragraphs.test_names.Kinds as test-names-kinds
 use Rattle.evaluator.proofs.paragraphs.+test_names.Lts-test_names as test-names-lts
-use Rattle.evaluator.proofs.worked.judge.Reads as judge-reads
+use Rattle.operations.proofs.worked.judge.Reads as judge-reads
 use Rattle.words.proofs.word.Reads as word-reads
-use Rattle.evaluator.proofs.named.held_name.Reads as held-name-reads
-use Rattle.evaluator.proofs.rules.tests.Reads as tests-reads
+use Rattle.operations.proofs.named.held_name.Reads as held-name-reads
+use Rattle.evaluating.proofs.nodes.tests.Reads as tests-reads
 use Rattle.evaluator.proofs.paragraphs.fail.Reads as fail-reads
 use Rattle.evaluator.proofs.paragraphs.+test_names.{statement}
 use Rattle.evaluator.proofs.paragraphs.+test_names.Tie.{close}

@@ -45,14 +45,14 @@ name-in-paragraph-requires c κs =
     let s = c .before .before .before .before .before .before .before .before in
     let d = s .args .doc .now in
     let l = c .before .before .before .before .loop in
-    (document-paragraph d (s .pre .0) (l .i) (l .inv .0) (omega (arith, l .inv .2)) _ (c .before .before .operand .ensures .0 ∙ ap (λ (m : ℕ). operandAt d m (l .i)) (l .inv .3)), omega (arith, c .before .paragraph-count .ensures))
+    (document-paragraph d (s .pre .0) (l .i) (l .inv .0) (omega (arith, l .inv .2)) _ (c .before .before .operand .ensures .0 ∙ ap (λ (m : ℕ). operandAt d m (l .i)) (l .inv .3)), omega (arith, c .before .paragraph-count .ensures .0))
 
 returns : tie.Need-returns Inv-loop μ-loop
 returns c =
     let s = c .before .before .before .before .before .before .before .before .before in
     let d = s .args .doc .now in
     let l = c .before .before .before .before .before .loop in
-    c .name-in-paragraph .ensures ∙ ap roleOf (sym (l .inv .4 ∙ document-here d (s .pre .0) (l .i) (l .inv .0) (omega (arith, l .inv .2)) (c .before .before .before .operand .result) (c .before .before .before .operand .ensures .0 ∙ ap (λ (m : ℕ). operandAt d m (l .i)) (l .inv .3)) (c .before .before .paragraph-count .result) (c .before .before .paragraph-count .ensures) (l .at) (omega arith)))
+    c .name-in-paragraph .ensures ∙ ap roleOf (sym (l .inv .4 ∙ document-here d (s .pre .0) (l .i) (l .inv .0) (omega (arith, l .inv .2)) (c .before .before .before .operand .result) (c .before .before .before .operand .ensures .0 ∙ ap (λ (m : ℕ). operandAt d m (l .i)) (l .inv .3)) (c .before .before .paragraph-count .result) (c .before .before .paragraph-count .ensures .0) (l .at) (omega arith)))
 
 add-i : tie.Need-add-i Inv-loop μ-loop
 add-i c = omega (arith, c .before .before .before .before .loop .inv .1, c .before .before .before .before .loop .inv .2, document-words (c .before .before .before .before .before .before .before .before .args .doc .now) (c .before .before .before .before .before .before .before .before .pre .0) .1)
@@ -65,7 +65,7 @@ loop-again c =
     let s = c .before .before .before .before .before .before .before .before in
     let d = s .args .doc .now in
     let l = c .before .before .before .before .loop in
-    (omega arith, omega arith, l .inv .2, l .inv .3, l .inv .4 ∙ document-past d (s .pre .0) (l .i) (l .inv .0) (omega (arith, l .inv .2)) (c .before .before .operand .result) (c .before .before .operand .ensures .0 ∙ ap (λ (m : ℕ). operandAt d m (l .i)) (l .inv .3)) (c .before .paragraph-count .result) (c .before .paragraph-count .ensures) (l .at) (omega arith))
+    (omega arith, omega arith, l .inv .2, l .inv .3, l .inv .4 ∙ document-past d (s .pre .0) (l .i) (l .inv .0) (omega (arith, l .inv .2)) (c .before .before .operand .result) (c .before .before .operand .ensures .0 ∙ ap (λ (m : ℕ). operandAt d m (l .i)) (l .inv .3)) (c .before .paragraph-count .result) (c .before .paragraph-count .ensures .0) (l .at) (omega arith))
 
 returns-2 : tie.Need-returns-2 Inv-loop μ-loop
 unfolding roleOf

@@ -13,7 +13,7 @@ use Rattle.reader.proofs.limits.crowd.Reads as crowd
 use Rattle.reader.proofs.limits.crowd.Kinds as crowd-kinds
 use Rattle.reader.proofs.limits.+crowd.Lts-crowd as crowd-lts
 use Rattle.reader.proofs.limits.is_closing.Reads as is-closing-reads
-use Rattle.reader.proofs.nodes.kind_at.Reads as kind-at-reads
+use Rattle.node_forms.proofs.nodes.kind_at.Reads as kind-at-reads
 use Rattle.words.proofs.store.Reads as store-reads
 use Rattle.words.proofs.word.Reads as word-reads
 use Rattle.reader.proofs.limits.+crowd.{statement}

@@ -11,7 +11,7 @@ use borrow.Fn.PlainCycle.{Measures, is, falls, and}
 use Rattle.reader.proofs.limits.texts_above.Reads as texts-above
 use Rattle.reader.proofs.limits.texts_above.Kinds as texts-above-kinds
 use Rattle.reader.proofs.limits.+texts_above.Lts-texts_above as texts-above-lts
-use Rattle.reader.proofs.nodes.kind_at.Reads as kind-at-reads
+use Rattle.node_forms.proofs.nodes.kind_at.Reads as kind-at-reads
 use Rattle.words.proofs.word.Reads as word-reads
 use Rattle.reader.proofs.limits.+texts_above.{statement}
 use Rattle.reader.proofs.limits.+texts_above.Tie.{close}

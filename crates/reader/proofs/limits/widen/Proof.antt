@@ -1,5 +1,5 @@
 use Rattle.reader.proofs.CountLaws.{table-parent, table-place, wide-count, declared-on, declared-same}
-use Rattle.reader.specs.Links.{places}
+use Rattle.repeats.specs.Parents.{places}
 use Rattle.syntax.specs.Repeats.{declared}
 use Rattle.syntax.specs.Nodes.{kindAt}
 use borrow.Author.Tests.{eq-eqb, ne-eqb, lt-ltb, le-ltb}

@@ -15,7 +15,7 @@ use Rattle.states.proofs.names.put_names.Tie as tie
 use Rattle.states.proofs.names.put_names.Reads as reads
 use Rattle.states.proofs.names.put_names.Lts as lts
 use Rattle.layout.proofs.part.Reads as part-reads
-use Rattle.reader.proofs.nodes.operand.Reads as operand-reads
+use Rattle.node_forms.proofs.nodes.operand.Reads as operand-reads
 use Rattle.states.proofs.names.put_paragraph.Reads as put-paragraph-reads
 use Rattle.words.proofs.word.Reads as word-reads
 

@@ -13,7 +13,7 @@ use Rattle.states.proofs.names.text_count.Tie as tie
 use Rattle.states.proofs.names.text_count.Reads as reads
 use Rattle.states.proofs.names.text_count.Lts as lts
 use Rattle.layout.proofs.part.Reads as part-reads
-use Rattle.reader.proofs.nodes.operand.Reads as operand-reads
+use Rattle.node_forms.proofs.nodes.operand.Reads as operand-reads
 use Rattle.states.proofs.names.line_count.Reads as line-count-reads
 
 abbrev Inv-loop : tie.InvT-loop

@@ -14,7 +14,7 @@ use Rattle.states.proofs.places.place_in_text.Tie as tie
 use Rattle.states.proofs.places.place_in_text.Reads as reads
 use Rattle.states.proofs.places.place_in_text.Lts as lts
 use Rattle.layout.proofs.part.Reads as part-reads
-use Rattle.reader.proofs.nodes.operand.Reads as operand-reads
+use Rattle.node_forms.proofs.nodes.operand.Reads as operand-reads
 use Rattle.states.proofs.names.line_count.Reads as line-count-reads
 use Rattle.states.proofs.places.place_in_line.Reads as place-in-line-reads
 

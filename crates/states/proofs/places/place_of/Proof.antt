@@ -16,8 +16,8 @@ use Rattle.states.proofs.places.place_of.Tie as tie
 use Rattle.states.proofs.places.place_of.Reads as reads
 use Rattle.states.proofs.places.place_of.Lts as lts
 use Rattle.layout.proofs.part.Reads as part-reads
-use Rattle.reader.proofs.nodes.operand.Reads as operand-reads
-use Rattle.states.proofs.places.paragraph_count.Reads as paragraph-count-reads
+use Rattle.node_forms.proofs.nodes.operand.Reads as operand-reads
+use Rattle.states.proofs.names.paragraph_count.Reads as paragraph-count-reads
 use Rattle.states.proofs.places.place_in_paragraph.Reads as place-in-paragraph-reads
 use Rattle.words.proofs.word.Reads as word-reads
 

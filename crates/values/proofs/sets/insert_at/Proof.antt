@@ -16,7 +16,7 @@ returns c =
     let e₂ = c .before .before .before .append2 .ensures _ e₁ in
     let e₃ = c .before .before .append3 .ensures _ e₂ in
     let e₄ = c .append4 .ensures _ e₃ in
-    e₄ ∙ rw (c .before .before .before .before .before .before .before .before .before .wrapping-add-u32 .ensures, c .before .before .before .before .before .before .before .before .before .before .word .ensures .0, c .before .before .before .before .from .ensures, c .before .before .before .before .before .part .ensures, c .before .from2 .ensures)
+    e₄ ∙ rw (c .before .before .before .before .before .before .before .before .before .wrapping-add-u32 .ensures, c .before .before .before .before .before .before .before .before .before .before .word .ensures .0, c .before .before .before .before .from .ensures, c .before .before .before .before .before .span .ensures, c .before .from2 .ensures)
     (ap (λ (l : List ℕ). keep (3 ∷ (getD (a .s .now) 1 0 + 1) % 2 ^ 32 ∷ l)) (append-assoc (drop 2 (take (a .p) (a .s .now))) (a .m .now) (drop (a .p) (a .s .now))))
 
 pub insert-at-spec : {M : Type 1} → statement M

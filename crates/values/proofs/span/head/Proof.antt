@@ -1,5 +1,6 @@
 use borrow.Author.Needs.{needs}
-use Rattle.values.proofs.Spans.{tests, head-at}
+use Rattle.words.proofs.Loops.{tests}
+use Rattle.values.proofs.Spans.{head-at}
 use Rattle.values.proofs.span.head.Statement.{statement}
 use Rattle.values.proofs.span.head.Tie as tie
 

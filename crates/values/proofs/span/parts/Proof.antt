@@ -1,5 +1,6 @@
 use borrow.Author.Needs.{needs}
-use Rattle.values.proofs.Spans.{tests, parts-at}
+use Rattle.words.proofs.Loops.{tests}
+use Rattle.values.proofs.Spans.{parts-at}
 use Rattle.values.proofs.span.parts.Statement.{statement}
 use Rattle.values.proofs.span.parts.Tie as tie
 

@@ -1,0 +1,6 @@
+pub mod NodeLaws
+pub mod TestLaws
+pub mod AssignLaws
+pub mod EachLaws
+pub mod LineLaws
+pub mod KindLaws

@@ -1,0 +1,54 @@
+use mathlib.Core.Path.{_≡_, refl, sym, subst, ap, _∙_}
+use Prim.Native.Nat.{ℕ}
+use native.Mathlib.Omega.{arith}
+use mathlib.Core.List.{List}
+use lib.ListN.{getD}
+use Rattle.values.specs.Value.{Value}
+use Rattle.syntax.specs.Kinds.{expressions}
+use Rattle.operations.specs.Steps.{arithmeticOf}
+use Rattle.operations.specs.Worked.{Told, Valued}
+use Rattle.evaluating.proofs.NodeLaws.{ready-lower, in-words, arith-operands, arith-stop, arith-go}
+-- The answers of `arith`.
+use Prim.Native.Nat.{_+_, _*_, _-_}
+use borrow.Author.Needs.{needs}
+use Prim.Native.Nat.{ℕ, _<_}
+use borrow.Fn.Kinds.{In}
+use borrow.Fn.PlainCycle.{Measures, is, falls, and}
+use Rattle.evaluating.proofs.nodes.arith.Reads as arith
+use Rattle.evaluating.proofs.nodes.+adds+all+apply+arith+assign+below+body+compr+connect+each+each_part+expr+lines+member+negate+pair+parts+power+pred+product+quant+refers+same+tests+tuple+turn+value.Lts-arith as arith-lts
+use Rattle.evaluating.proofs.nodes.+adds+all+apply+arith+assign+below+body+compr+connect+each+each_part+expr+lines+member+negate+pair+parts+power+pred+product+quant+refers+same+tests+tuple+turn+value.Proof.Env.{arith-at, arith-calls}
+
+arith-pair-requires : (t : ℕ) → arith-lts.Need-pair-requires (arith-calls t) (arith-at t) arith.Post
+arith-pair-requires t c κs =
+    let s = c .before .before .before .before .before .before .before in
+    let h = s .pre .1 .0 in
+    let o = arith-operands h _ _ (c .before .word .ensures .0) (c .word2 .ensures .0) (s .pre .1 .1) (s .pre .1 .2) in
+    let x = o .0 .below in
+    let y = o .1 .below in
+    (omega arith, (ready-lower _ expressions _ refl (h .ready) (o .0), ready-lower _ expressions _ refl (h .ready) (o .1), x, y))
+
+arith-returns : (t : ℕ) → arith-lts.Need-returns (arith-calls t) (arith-at t) arith.Post
+arith-returns t c =
+    let e = c .before .before .before .before .before .pair .ensures in
+    let s = c .before .before .before .before .before .before .before .before .before .before .before .before .before in
+    record { kept = e .kept; told = λ scope sc. arith-stop (s .pre .1 .0) _ _ (c .before .before .before .before .before .before .before .word .ensures .0) (c .before .before .before .before .before .before .word2 .ensures .0) (s .pre .1 .1) (s .pre .1 .2) scope (e .told scope sc) (c .before .if1 .taken) (c .stopped .ensures) }
+
+arith-returns-2 : (t : ℕ) → arith-lts.Need-returns-2 (arith-calls t) (arith-at t) arith.Post
+arith-returns-2 t c =
+    let e = c .before .before .before .before .before .before .before .before .pair .ensures in
+    let s = c .before .before .before .before .before .before .before .before .before .before .before .before .before .before .before .before in
+    record { kept = e .kept; told = λ scope sc. arith-go (s .pre .1 .0) _ _ (c .before .before .before .before .before .before .before .before .before .before .word .ensures .0) (c .before .before .before .before .before .before .before .before .before .word2 .ensures .0) (s .pre .1 .1) (s .pre .1 .2) scope (e .told scope sc) (c .before .before .before .before .if1 .left) (λ u v a b. subst (λ (q : ℕ). Told Valued (c .arithmetic .result) (arithmeticOf (s .args .k) q u v)) (in-words (s .pre .1 .0) 0 _ (c .before .word3 .ensures .0)) (c .arithmetic .ensures u v a b)) }
+
+pub arith-closed : {M : Type 1} (t : ℕ) → arith-lts.Closed (arith-calls t) (arith-at t) arith.Post M
+arith-closed t =
+    arith-lts.spec (arith-calls t) (arith-at t) arith.Post
+    (λ c κs. search needs)
+    (λ c κs. search needs)
+    (arith-pair-requires t)
+    (λ c κs. search needs)
+    (λ c. search needs)
+    (arith-returns t)
+    (λ c κs. search needs)
+    (λ c κs. c .before .before .before .before .before .before .before .before .before .before .before .before .before .before .before .pre .1 .0 .ready .at .small)
+    (λ c. search needs)
+    (arith-returns-2 t)

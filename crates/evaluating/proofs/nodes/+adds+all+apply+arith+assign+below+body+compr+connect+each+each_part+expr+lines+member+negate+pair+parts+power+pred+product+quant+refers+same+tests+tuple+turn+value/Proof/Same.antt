@@ -1,0 +1,47 @@
+use mathlib.Core.Path.{_≡_, refl, _∙_}
+use native.Mathlib.Omega.{arith}
+use Rattle.syntax.specs.Kinds.{expressions}
+use Rattle.evaluating.proofs.NodeLaws.{ready-lower, relation-operands, equal-stop, equal-go}
+-- The answers of `same`.
+use Prim.Native.Nat.{_+_, _*_, _-_}
+use borrow.Author.Needs.{needs}
+use Prim.Native.Nat.{ℕ, _<_}
+use borrow.Fn.Kinds.{In}
+use borrow.Fn.PlainCycle.{Measures, is, falls, and}
+use Rattle.evaluating.proofs.nodes.same.Reads as same
+use Rattle.evaluating.proofs.nodes.+adds+all+apply+arith+assign+below+body+compr+connect+each+each_part+expr+lines+member+negate+pair+parts+power+pred+product+quant+refers+same+tests+tuple+turn+value.Lts-same as same-lts
+use Rattle.evaluating.proofs.nodes.+adds+all+apply+arith+assign+below+body+compr+connect+each+each_part+expr+lines+member+negate+pair+parts+power+pred+product+quant+refers+same+tests+tuple+turn+value.Proof.Env.{same-at, same-calls}
+
+same-pair-requires : (t : ℕ) → same-lts.Need-pair-requires (same-calls t) (same-at t) same.Post
+same-pair-requires t c κs =
+    let s = c .before .before .before .before .before .before .before in
+    let h = s .pre .1 .0 in
+    let o = relation-operands h 21 (s .pre .1 .1) (omega arith) (omega arith) _ _ (c .before .word .ensures .0) (c .word2 .ensures .0) in
+    let x = o .0 .below in
+    let y = o .1 .below in
+    (omega arith, (ready-lower _ expressions _ refl (h .ready) (o .0), ready-lower _ expressions _ refl (h .ready) (o .1), x, y))
+
+same-returns : (t : ℕ) → same-lts.Need-returns (same-calls t) (same-at t) same.Post
+same-returns t c =
+    let e = c .before .before .before .before .before .pair .ensures in
+    let s = c .before .before .before .before .before .before .before .before .before .before .before .before .before in
+    record { kept = e .kept; told = λ scope sc. equal-stop (s .pre .1 .0) _ _ (c .before .before .before .before .before .before .before .word .ensures .0) (c .before .before .before .before .before .before .word2 .ensures .0) scope (s .pre .1 .1) (e .told scope sc) (c .before .if1 .taken) (c .stopped .ensures) }
+
+same-returns-2 : (t : ℕ) → same-lts.Need-returns-2 (same-calls t) (same-at t) same.Post
+same-returns-2 t c =
+    let e = c .before .before .before .before .before .before .before .pair .ensures in
+    let s = c .before .before .before .before .before .before .before .before .before .before .before .before .before .before .before in
+    record { kept = e .kept; told = λ scope sc. equal-go (s .pre .1 .0) _ _ (c .before .before .before .before .before .before .before .before .before .word .ensures .0) (c .before .before .before .before .before .before .before .before .word2 .ensures .0) scope (s .pre .1 .1) (e .told scope sc) (c .before .before .before .if1 .left) (c .equal .ensures) }
+
+pub same-closed : {M : Type 1} (t : ℕ) → same-lts.Closed (same-calls t) (same-at t) same.Post M
+same-closed t =
+    same-lts.spec (same-calls t) (same-at t) same.Post
+    (λ c κs. search needs)
+    (λ c κs. search needs)
+    (same-pair-requires t)
+    (λ c κs. search needs)
+    (λ c. search needs)
+    (same-returns t)
+    (λ c κs. search needs)
+    (λ c. search needs)
+    (same-returns-2 t)

@@ -1,0 +1,596 @@
+// The evaluation rules: functions over nodes that call each other in a cycle, the node number falling. n is the number of blocks in the work area; a
+// function over a kind's node takes its words w.
+use layout::part;
+use operations::blocks::put_domains;
+use operations::blocks::put_head;
+use operations::blocks::refer;
+use operations::collections::added;
+use operations::collections::among;
+use operations::collections::applied;
+use operations::collections::count_of;
+use operations::collections::empty_set;
+use operations::collections::equal;
+use operations::collections::joined;
+use operations::collections::kept;
+use operations::collections::length_at;
+use operations::collections::member_at;
+use operations::collections::tag_of;
+use operations::collections::tuple_head;
+use operations::logic::Decision;
+use operations::logic::decides;
+use operations::logic::verdict;
+use operations::numbers::arithmetic;
+use operations::numbers::at_most;
+use operations::numbers::is_integer;
+use operations::numbers::number_value;
+use operations::worked::Both;
+use operations::worked::Worked;
+use operations::worked::go;
+use operations::worked::judge;
+use operations::worked::stop;
+use operations::worked::stopped;
+use values::held::Held;
+use values::held::empty;
+use values::span::span;
+use words::from;
+use words::word;
+ghost use mathlib.Core.Path.{_≡_};
+ghost use mathlib.Core.List.{List};
+ghost use Prim.Native.Nat.{ℕ, suc, _+_, _*_, _-_, _≤_, _<_, _^_};
+ghost use lib.ListN.{length, getD, take};
+ghost use Rattle.layout.specs.Layout.{part};
+ghost use Rattle.values.specs.Value.{Value, Values};
+ghost use Rattle.values.specs.Value as Value;
+ghost use Rattle.values.specs.Held.{keep as words};
+ghost use Rattle.syntax.specs.Kinds.{expressions, predicates, texts, lines};
+ghost use Rattle.syntax.specs.Limited.{declaredCount};
+ghost use Rattle.syntax.specs.Nodes.{kindAt, operandAt};
+ghost use Rattle.syntax.specs.Promise.{At, Lower};
+ghost use Rattle.syntax.specs.Decode.{exprAt, predAt, exprsFrom, linesFrom};
+ghost use Rattle.evaluation.specs.Scope.{Scope};
+ghost use Rattle.evaluation.specs.Assignments.{Domains};
+ghost use Rattle.evaluation.specs.Operations.{allPass};
+ghost use Rattle.evaluation.specs.Rules.{evalExpr, evalExprs, evalMembers, evalPred, test, testExprs};
+ghost use Rattle.evaluating.specs.Turns.{bodyAt, turnAt};
+ghost use Rattle.operations.specs.Worked.{Holds, Told, Valued, Judged, Gathered, Joined, Pair};
+ghost use Rattle.operations.specs.Blocks.{Scoped, Leaves};
+ghost use Rattle.evaluating.specs.Ready.{Ready, Handed, Operands, Scoping, Assigns, Tells, Rest, Evaluates, Decides, LinesTold, AssignTold, EachTold, BodyTold};
+
+// The operands from i on as expressions, one after the other: their words after those of s.
+fn parts(
+    doc: &[u32],
+    state: &[u32],
+    work: &mut [u32],
+    n: usize,
+    k: usize,
+    w: &[u32],
+    i: usize,
+    s: Held,
+) -> Worked
+    requires { ⌜ Handed (now doc) (now work) (now w) expressions n k × Operands (now doc) (now w) k expressions i × (i ≤ 256) ⌝ }
+    ensures { λ r. ⌜ Leaves n (now (work .entry)) (now (work .exit)) ((ws : List ℕ) → s ≡ words ws → Tells (now (state .entry)) (now (work .entry)) n (Joined ws (length (now (w .entry)) - i)) r (evalExprs (exprsFrom (now (doc .entry)) k i (length (now (w .entry)) - i)))) ⌝ }
+{
+    if w.len() <= i {
+        return go(s, false);
+    }
+    let x = expr(doc, state, work, n, word(w, i));
+    if x.number != 0 {
+        return x;
+    }
+    let h = x.held;
+    parts(doc, state, work, n, k, w, i + 1, joined(s, h))
+}
+
+// The operands from i on as members, each added to the set s as it is worked out.
+fn adds(
+    doc: &[u32],
+    state: &[u32],
+    work: &mut [u32],
+    n: usize,
+    k: usize,
+    w: &[u32],
+    i: usize,
+    s: Held,
+) -> Worked
+    requires { ⌜ Handed (now doc) (now work) (now w) expressions n k × Operands (now doc) (now w) k expressions i × (i ≤ 256) ⌝ }
+    ensures { λ r. ⌜ Leaves n (now (work .entry)) (now (work .exit)) ((vs : Values) → Holds s (Value.set vs) → Tells (now (state .entry)) (now (work .entry)) n Gathered r (λ scope. evalMembers (exprsFrom (now (doc .entry)) k i (length (now (w .entry)) - i)) k scope vs)) ⌝ }
+{
+    if w.len() <= i {
+        return go(s, false);
+    }
+    let x = expr(doc, state, work, n, word(w, i));
+    if x.number != 0 {
+        return x;
+    }
+    let h = x.held;
+    let t = added(k, s, h);
+    if t.number != 0 {
+        return t;
+    }
+    let u = t.held;
+    adds(doc, state, work, n, k, w, i + 1, u)
+}
+
+// 30 Ref.
+fn refers(doc: &[u32], state: &[u32], work: &mut [u32], n: usize, k: usize, w: &[u32]) -> Worked
+    requires { ⌜ Handed (now doc) (now work) (now w) expressions n k × (kindAt (now doc) k ≡ 30) ⌝ }
+    ensures { λ r. ⌜ Evaluates (now (doc .entry)) k n (now (state .entry)) (now (work .entry)) (now (work .exit)) r ⌝ }
+{
+    let x = parts(doc, state, work, n, k, w, 2, empty());
+    if x.number != 0 {
+        return x;
+    }
+    refer(state, &work[..], n, k, word(w, 1), 2 < w.len())
+}
+
+// 34 Tuple.
+fn tuple(doc: &[u32], state: &[u32], work: &mut [u32], n: usize, k: usize, w: &[u32]) -> Worked
+    requires { ⌜ Handed (now doc) (now work) (now w) expressions n k × (kindAt (now doc) k ≡ 34) ⌝ }
+    ensures { λ r. ⌜ Evaluates (now (doc .entry)) k n (now (state .entry)) (now (work .entry)) (now (work .exit)) r ⌝ }
+{
+    let x = parts(doc, state, work, n, k, w, 1, tuple_head(w.len()));
+    if x.number != 0 {
+        return x;
+    }
+    let h = x.held;
+    kept(k, h)
+}
+
+// Both operands, one after the other.
+fn pair(
+    doc: &[u32],
+    state: &[u32],
+    work: &mut [u32],
+    n: usize,
+    k: usize,
+    a: usize,
+    b: usize,
+) -> Both
+    requires { ⌜ Ready (now doc) (now work) expressions n a × Ready (now doc) (now work) expressions n b × (a < k) × (b < k) ⌝ }
+    ensures { λ r. ⌜ Leaves n (now (work .entry)) (now (work .exit)) ((scope : Scope) → Scoped (now (state .entry)) (now (work .entry)) n scope → Pair r (evalExpr (exprAt (now (doc .entry)) a) scope) (evalExpr (exprAt (now (doc .entry)) b) scope)) ⌝ }
+{
+    let x = expr(doc, state, work, n, a);
+    let h = x.held;
+    if x.number != 0 {
+        return Both {
+            left: h,
+            right: h,
+            number: x.number,
+            place: x.place,
+        };
+    }
+    let y = expr(doc, state, work, n, b);
+    let g = y.held;
+    Both {
+        left: h,
+        right: g,
+        number: y.number,
+        place: y.place,
+    }
+}
+
+// 37 Apply.
+fn apply(doc: &[u32], state: &[u32], work: &mut [u32], n: usize, k: usize, w: &[u32]) -> Worked
+    requires { ⌜ Handed (now doc) (now work) (now w) expressions n k × (kindAt (now doc) k ≡ 37) ⌝ }
+    ensures { λ r. ⌜ Evaluates (now (doc .entry)) k n (now (state .entry)) (now (work .entry)) (now (work .exit)) r ⌝ }
+{
+    let p = pair(doc, state, work, n, k, word(w, 1), word(w, 2));
+    if p.number != 0 {
+        return stopped(p.number, p.place);
+    }
+    let f = p.left;
+    let a = p.right;
+    applied(k, f, a)
+}
+
+// 41 to 45: arithmetic.
+fn arith(doc: &[u32], state: &[u32], work: &mut [u32], n: usize, k: usize, w: &[u32]) -> Worked
+    requires { ⌜ Handed (now doc) (now work) (now w) expressions n k × (41 ≤ kindAt (now doc) k) × (kindAt (now doc) k ≤ 45) ⌝ }
+    ensures { λ r. ⌜ Evaluates (now (doc .entry)) k n (now (state .entry)) (now (work .entry)) (now (work .exit)) r ⌝ }
+{
+    let p = pair(doc, state, work, n, k, word(w, 1), word(w, 2));
+    if p.number != 0 {
+        return stopped(p.number, p.place);
+    }
+    let a = p.left;
+    let b = p.right;
+    arithmetic(k, word(w, 0), a, b)
+}
+
+// 46 Comprehension.
+fn compr(doc: &[u32], state: &[u32], work: &mut [u32], n: usize, k: usize, w: &[u32]) -> Worked
+    requires { ⌜ Handed (now doc) (now work) (now w) expressions n k × (kindAt (now doc) k ≡ 46) ⌝ }
+    ensures { λ r. ⌜ Evaluates (now (doc .entry)) k n (now (state .entry)) (now (work .entry)) (now (work .exit)) r ⌝ }
+{
+    let t = word(w, 1);
+    let x = lines(doc, state, work, n, 0, k, t, part(doc, t), 2);
+    if x.number != 0 {
+        return x;
+    }
+    if x.flag {
+        return go(empty_set(), false);
+    }
+    let h = x.held;
+    go(h, false)
+}
+
+pub fn expr(doc: &[u32], state: &[u32], work: &mut [u32], n: usize, k: usize) -> Worked
+    requires { ⌜ Ready (now doc) (now work) expressions n k ⌝ }
+    ensures { λ r. ⌜ Evaluates (now (doc .entry)) k n (now (state .entry)) (now (work .entry)) (now (work .exit)) r ⌝ }
+{
+    let w = part(doc, k);
+    let q = word(w, 0);
+    match q {
+        30 => refers(doc, state, work, n, k, w),
+        31 => number_value(word(w, 1)),
+        33 => adds(doc, state, work, n, k, w, 1, empty_set()),
+        34 => tuple(doc, state, work, n, k, w),
+        37 => apply(doc, state, work, n, k, w),
+        41..=45 => arith(doc, state, work, n, k, w),
+        46 => compr(doc, state, work, n, k, w),
+        _ => stop(54, k),
+    }
+}
+
+// 21 =.
+fn same(doc: &[u32], state: &[u32], work: &mut [u32], n: usize, k: usize, w: &[u32]) -> Worked
+    requires { ⌜ Handed (now doc) (now work) (now w) predicates n k × (kindAt (now doc) k ≡ 21) ⌝ }
+    ensures { λ r. ⌜ Decides (now (doc .entry)) k n (now (state .entry)) (now (work .entry)) (now (work .exit)) r ⌝ }
+{
+    let p = pair(doc, state, work, n, k, word(w, 1), word(w, 2));
+    if p.number != 0 {
+        return stopped(p.number, p.place);
+    }
+    let a = p.left;
+    let b = p.right;
+    equal(a, b)
+}
+
+// 22 member.
+fn member(doc: &[u32], state: &[u32], work: &mut [u32], n: usize, k: usize, w: &[u32]) -> Worked
+    requires { ⌜ Handed (now doc) (now work) (now w) predicates n k × (kindAt (now doc) k ≡ 22) ⌝ }
+    ensures { λ r. ⌜ Decides (now (doc .entry)) k n (now (state .entry)) (now (work .entry)) (now (work .exit)) r ⌝ }
+{
+    let x = expr(doc, state, work, n, word(w, 1));
+    if x.number != 0 {
+        return x;
+    }
+    let h = x.held;
+    tests(doc, state, work, n, word(w, 2), h)
+}
+
+// 23 ≤.
+fn below(doc: &[u32], state: &[u32], work: &mut [u32], n: usize, k: usize, w: &[u32]) -> Worked
+    requires { ⌜ Handed (now doc) (now work) (now w) predicates n k × (kindAt (now doc) k ≡ 23) ⌝ }
+    ensures { λ r. ⌜ Decides (now (doc .entry)) k n (now (state .entry)) (now (work .entry)) (now (work .exit)) r ⌝ }
+{
+    let p = pair(doc, state, work, n, k, word(w, 1), word(w, 2));
+    if p.number != 0 {
+        return stopped(p.number, p.place);
+    }
+    let a = p.left;
+    let b = p.right;
+    at_most(k, a, b)
+}
+
+// 24 not.
+fn negate(doc: &[u32], state: &[u32], work: &mut [u32], n: usize, k: usize, w: &[u32]) -> Worked
+    requires { ⌜ Handed (now doc) (now work) (now w) predicates n k × (kindAt (now doc) k ≡ 24) ⌝ }
+    ensures { λ r. ⌜ Decides (now (doc .entry)) k n (now (state .entry)) (now (work .entry)) (now (work .exit)) r ⌝ }
+{
+    let x = pred(doc, state, work, n, word(w, 1));
+    if x.number != 0 {
+        return x;
+    }
+    if x.flag {
+        return judge(false);
+    }
+    judge(true)
+}
+
+// 25 to 27: and, or, implies skip the right side when the left decides.
+fn connect(doc: &[u32], state: &[u32], work: &mut [u32], n: usize, k: usize, w: &[u32]) -> Worked
+    requires { ⌜ Handed (now doc) (now work) (now w) predicates n k × (25 ≤ kindAt (now doc) k) × (kindAt (now doc) k ≤ 27) ⌝ }
+    ensures { λ r. ⌜ Decides (now (doc .entry)) k n (now (state .entry)) (now (work .entry)) (now (work .exit)) r ⌝ }
+{
+    let x = pred(doc, state, work, n, word(w, 1));
+    if x.number != 0 {
+        return x;
+    }
+    let d = decides(word(w, 0), x.flag);
+    match d {
+        Decision::Known(b) => judge(b),
+        Decision::Right => pred(doc, state, work, n, word(w, 2)),
+    }
+}
+
+// 28 forall, 29 exists.
+fn quant(doc: &[u32], state: &[u32], work: &mut [u32], n: usize, k: usize, w: &[u32]) -> Worked
+    requires { ⌜ Handed (now doc) (now work) (now w) predicates n k × (28 ≤ kindAt (now doc) k) × (kindAt (now doc) k ≤ 29) ⌝ }
+    ensures { λ r. ⌜ Decides (now (doc .entry)) k n (now (state .entry)) (now (work .entry)) (now (work .exit)) r ⌝ }
+{
+    let t = word(w, 1);
+    let x = lines(doc, state, work, n, 0, k, t, part(doc, t), 2);
+    if x.number != 0 {
+        return x;
+    }
+    judge(verdict(word(w, 0), x.flag))
+}
+
+pub fn pred(doc: &[u32], state: &[u32], work: &mut [u32], n: usize, k: usize) -> Worked
+    requires { ⌜ Ready (now doc) (now work) predicates n k ⌝ }
+    ensures { λ r. ⌜ Decides (now (doc .entry)) k n (now (state .entry)) (now (work .entry)) (now (work .exit)) r ⌝ }
+{
+    let w = part(doc, k);
+    let q = word(w, 0);
+    match q {
+        21 => same(doc, state, work, n, k, w),
+        22 => member(doc, state, work, n, k, w),
+        23 => below(doc, state, work, n, k, w),
+        24 => negate(doc, state, work, n, k, w),
+        25..=27 => connect(doc, state, work, n, k, w),
+        28..=29 => quant(doc, state, work, n, k, w),
+        _ => judge(true),
+    }
+}
+
+// Member's test of the value v against the expression at node k.
+pub fn tests(doc: &[u32], state: &[u32], work: &mut [u32], n: usize, k: usize, v: Held) -> Worked
+    requires { ⌜ Ready (now doc) (now work) expressions n k ⌝ }
+    ensures { λ r. ⌜ Leaves n (now (work .entry)) (now (work .exit)) ((x : Value) → Holds v x → Tells (now (state .entry)) (now (work .entry)) n Judged r (λ scope. test (exprAt (now (doc .entry)) k) scope x)) ⌝ }
+{
+    let w = part(doc, k);
+    let q = word(w, 0);
+    match q {
+        32 => is_integer(k, v),
+        35 => product(doc, state, work, n, k, w, v),
+        36 => power(doc, state, work, n, k, w, v),
+        _ => value(doc, state, work, n, k, v),
+    }
+}
+
+// Against any other E: it is worked out anew and must be a set.
+fn value(doc: &[u32], state: &[u32], work: &mut [u32], n: usize, k: usize, v: Held) -> Worked
+    requires { ⌜ Ready (now doc) (now work) expressions n k × (kindAt (now doc) k ≡ 32 → ⊥) × (kindAt (now doc) k ≡ 35 → ⊥) × (kindAt (now doc) k ≡ 36 → ⊥) ⌝ }
+    ensures { λ r. ⌜ Leaves n (now (work .entry)) (now (work .exit)) ((x : Value) → Holds v x → Tells (now (state .entry)) (now (work .entry)) n Judged r (λ scope. test (exprAt (now (doc .entry)) k) scope x)) ⌝ }
+{
+    let x = expr(doc, state, work, n, k);
+    if x.number != 0 {
+        return x;
+    }
+    let h = x.held;
+    among(k, v, h)
+}
+
+// 36 Power: a set whose members pass.
+fn power(
+    doc: &[u32],
+    state: &[u32],
+    work: &mut [u32],
+    n: usize,
+    k: usize,
+    w: &[u32],
+    v: Held,
+) -> Worked
+    requires { ⌜ Handed (now doc) (now work) (now w) expressions n k × (kindAt (now doc) k ≡ 36) ⌝ }
+    ensures { λ r. ⌜ Leaves n (now (work .entry)) (now (work .exit)) ((x : Value) → Holds v x → Tells (now (state .entry)) (now (work .entry)) n Judged r (λ scope. test (exprAt (now (doc .entry)) k) scope x)) ⌝ }
+{
+    if tag_of(v) != 3 {
+        return stop(51, k);
+    }
+    all(doc, state, work, n, word(w, 1), v, 2, count_of(v))
+}
+
+// The next c members of v, from a place on, against the expression at node k.
+fn all(
+    doc: &[u32],
+    state: &[u32],
+    work: &mut [u32],
+    n: usize,
+    k: usize,
+    v: Held,
+    at: usize,
+    c: usize,
+) -> Worked
+    requires { ⌜ Ready (now doc) (now work) expressions n k × (at + 96 * c < 2 ^ 60) × (c < 2 ^ 32) ⌝ }
+    ensures { λ r. ⌜ Leaves n (now (work .entry)) (now (work .exit)) ((vs : Values) → Rest v at c vs → Tells (now (state .entry)) (now (work .entry)) n Judged r (λ scope. allPass vs (test (exprAt (now (doc .entry)) k) scope))) ⌝ }
+{
+    if c == 0 {
+        return judge(true);
+    }
+    let len = length_at(v, at);
+    let x = tests(doc, state, work, n, k, member_at(v, at, len));
+    if x.number != 0 {
+        return x;
+    }
+    if x.flag {
+        return all(doc, state, work, n, k, v, at + len, c - 1);
+    }
+    x
+}
+
+// 35 Product: a tuple of that many parts that pass.
+fn product(
+    doc: &[u32],
+    state: &[u32],
+    work: &mut [u32],
+    n: usize,
+    k: usize,
+    w: &[u32],
+    v: Held,
+) -> Worked
+    requires { ⌜ Handed (now doc) (now work) (now w) expressions n k × (kindAt (now doc) k ≡ 35) ⌝ }
+    ensures { λ r. ⌜ Leaves n (now (work .entry)) (now (work .exit)) ((x : Value) → Holds v x → Tells (now (state .entry)) (now (work .entry)) n Judged r (λ scope. test (exprAt (now (doc .entry)) k) scope x)) ⌝ }
+{
+    if tag_of(v) != 4 {
+        return stop(51, k);
+    }
+    if count_of(v) + 1 != w.len() {
+        return stop(51, k);
+    }
+    each_part(doc, state, work, n, k, w, 1, v, 2)
+}
+
+// The parts of v from a place on, against the operands from i on.
+fn each_part(
+    doc: &[u32],
+    state: &[u32],
+    work: &mut [u32],
+    n: usize,
+    k: usize,
+    w: &[u32],
+    i: usize,
+    v: Held,
+    at: usize,
+) -> Worked
+    requires { ⌜ Handed (now doc) (now work) (now w) expressions n k × Operands (now doc) (now w) k expressions i × (i ≤ 256) × (at + 96 * (256 - i) < 2 ^ 60) ⌝ }
+    ensures { λ r. ⌜ Leaves n (now (work .entry)) (now (work .exit)) ((vs : Values) → Rest v at (length (now (w .entry)) - i) vs → Tells (now (state .entry)) (now (work .entry)) n Judged r (λ scope. testExprs (exprsFrom (now (doc .entry)) k i (length (now (w .entry)) - i)) vs scope)) ⌝ }
+{
+    if w.len() <= i {
+        return judge(true);
+    }
+    let len = length_at(v, at);
+    let x = tests(doc, state, work, n, word(w, i), member_at(v, at, len));
+    if x.number != 0 {
+        return x;
+    }
+    if x.flag {
+        return each_part(doc, state, work, n, k, w, i + 1, v, at + len);
+    }
+    x
+}
+
+// The lines of Text t, with the words u, from i on: their sets, in blocks above the n in scope and the m of the lines before. Then the assignments.
+fn lines(
+    doc: &[u32],
+    state: &[u32],
+    work: &mut [u32],
+    n: usize,
+    m: usize,
+    k: usize,
+    t: usize,
+    u: &[u32],
+    i: usize,
+) -> Worked
+    requires { ⌜ Scoping (now doc) (now work) n 6 k × (t ≡ operandAt (now doc) k 1) × (now u ≡ part (now doc) t) × (2 ≤ i) × (length (now u) ≤ 256) × (m + declaredCount (linesFrom (now doc) t i (length (now u) - i)) ≤ 6) ⌝ }
+    ensures { λ r. ⌜ Leaves n (now (work .entry)) (now (work .exit)) (LinesTold (now (doc .entry)) k (linesFrom (now (doc .entry)) t i (length (now (u .entry)) - i)) (now (state .entry)) (now (work .entry)) n m r) ⌝ }
+{
+    if u.len() <= i {
+        return assign(doc, state, work, n, m, k, empty_set());
+    }
+    let v = word(u, i);
+    let x = part(doc, v);
+    if word(x, 0) == 12 {
+        return stop(54, v);
+    }
+    let s = expr(doc, state, work, n + m, word(x, 1));
+    if s.number != 0 {
+        return s;
+    }
+    let h = s.held;
+    if tag_of(h) != 3 {
+        return stop(51, v);
+    }
+    put_domains(work, n + m, x, 2, h);
+    lines(doc, state, work, n, m + (x.len() - 2), k, t, u, i + 1)
+}
+
+// The assignments of the m identifiers in the blocks from n on, the first slowest, ascending; s are the members gathered so far.
+fn assign(
+    doc: &[u32],
+    state: &[u32],
+    work: &mut [u32],
+    n: usize,
+    m: usize,
+    k: usize,
+    s: Held,
+) -> Worked
+    requires { ⌜ Scoping (now doc) (now work) n m k ⌝ }
+    ensures { λ r. ⌜ Assigns n m (now (work .entry)) (now (work .exit)) (AssignTold (now (doc .entry)) k (now (state .entry)) (now (work .entry)) n m s r) ⌝ }
+{
+    if m == 0 {
+        return turn(doc, state, work, n, k, s);
+    }
+    let c = word(work, 68 * n + 5);
+    each(doc, state, work, n, m - 1, k, 2, c, s)
+}
+
+// The next c members of the set of block n, which has 64 words, from a place on, each with the assignments of the m identifiers above it.
+fn each(
+    doc: &[u32],
+    state: &[u32],
+    work: &mut [u32],
+    n: usize,
+    m: usize,
+    k: usize,
+    at: usize,
+    c: usize,
+    s: Held,
+) -> Worked
+    requires { ⌜ Scoping (now doc) (now work) n (m + 1) k × (at < 2 ^ 31) × (c < 2 ^ 32) ⌝ }
+    ensures { λ r. ⌜ Assigns n (m + 1) (now (work .entry)) (now (work .exit)) (EachTold (now (doc .entry)) k (now (state .entry)) (now (work .entry)) n m at c s r) ⌝ }
+{
+    if c == 0 {
+        return go(s, false);
+    }
+    if 64 < at {
+        return go(s, false);
+    }
+    let here = 68 * n + (4 + at);
+    let len = span(from(work, here));
+    put_head(work, n, word(work, 68 * n), 2, here, len);
+    let x = assign(doc, state, work, n + 1, m, k, s);
+    if x.number != 0 {
+        return x;
+    }
+    if x.flag {
+        return x;
+    }
+    let h = x.held;
+    each(doc, state, work, n, m, k, at + len, c - 1, h)
+}
+
+// One assignment: the body, where the Text's predicate is true.
+fn turn(doc: &[u32], state: &[u32], work: &mut [u32], n: usize, k: usize, s: Held) -> Worked
+    requires { ⌜ Scoping (now doc) (now work) n 0 k ⌝ }
+    ensures { λ r. ⌜ Leaves n (now (work .entry)) (now (work .exit)) (BodyTold (turnAt (now (doc .entry)) k) (now (state .entry)) (now (work .entry)) n s r) ⌝ }
+{
+    let t = word(part(doc, k), 1);
+    let x = pred(doc, state, work, n, word(part(doc, t), 1));
+    if x.number != 0 {
+        return x;
+    }
+    if x.flag {
+        return body(doc, state, work, n, k, s, part(doc, k));
+    }
+    go(s, false)
+}
+
+// The body: a Comprehension adds its value, a quantifier stops where it is decided.
+fn body(
+    doc: &[u32],
+    state: &[u32],
+    work: &mut [u32],
+    n: usize,
+    k: usize,
+    s: Held,
+    w: &[u32],
+) -> Worked
+    requires { ⌜ Scoping (now doc) (now work) n 0 k × (now w ≡ part (now doc) k) ⌝ }
+    ensures { λ r. ⌜ Leaves n (now (work .entry)) (now (work .exit)) (BodyTold (bodyAt (now (doc .entry)) k) (now (state .entry)) (now (work .entry)) n s r) ⌝ }
+{
+    let b = word(w, 2);
+    if word(w, 0) == 46 {
+        let x = expr(doc, state, work, n, b);
+        if x.number != 0 {
+            return x;
+        }
+        let h = x.held;
+        return added(k, s, h);
+    }
+    let y = pred(doc, state, work, n, b);
+    if y.number != 0 {
+        return y;
+    }
+    go(empty_set(), verdict(word(w, 0), y.flag))
+}

@@ -1,0 +1,11 @@
+use Rattle.syntax.specs.Identifiers.{nameOf, isIdentifier}
+use borrow.Author.Needs.{needs}
+use Rattle.node_forms.proofs.kinds.is_identifier.Statement.{statement}
+use Rattle.node_forms.proofs.kinds.is_identifier.Tie as tie
+
+returns : tie.Need-returns
+unfolding nameOf isIdentifier
+returns c = c .is-name .ensures
+
+pub is-identifier-spec : {M : Type 1} → statement M
+is-identifier-spec = tie.close (tie.spec (λ c κs. search needs) returns)

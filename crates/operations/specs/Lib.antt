@@ -1,0 +1,4 @@
+pub mod Steps
+pub mod Worked
+pub mod Blocks
+pub mod Named

@@ -1,0 +1,41 @@
+// The connectives and the quantifiers: what truth values decide.
+ghost use mathlib.Core.Path.{_≡_};
+ghost use Rattle.syntax.specs.Decode.{connectiveOf, quantifierOf};
+ghost use Rattle.operations.specs.Steps.{decisionOf, verdictOf};
+
+// What the left side says of and, or, implies, kinds 25 to 27.
+pub enum Decision {
+    Known(bool),
+    Right,
+}
+
+pub fn decides(q: usize, left: bool) -> Decision
+    ensures { λ r. ⌜ r ≡ decisionOf (connectiveOf q) left ⌝ }
+{
+    if q == 26 {
+        if left {
+            return Decision::Known(true);
+        }
+        return Decision::Right;
+    }
+    if left {
+        return Decision::Right;
+    }
+    if q == 27 {
+        return Decision::Known(true);
+    }
+    Decision::Known(false)
+}
+
+// forall is false where it was stopped, and stops at a false; exists is true where it was stopped, and stops at a true. Kinds 28 and 29.
+pub fn verdict(q: usize, b: bool) -> bool
+    ensures { λ r. ⌜ r ≡ verdictOf (quantifierOf q) b ⌝ }
+{
+    if q == 29 {
+        return b;
+    }
+    if b {
+        return false;
+    }
+    true
+}

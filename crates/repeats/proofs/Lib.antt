@@ -1,0 +1,4 @@
+pub mod ParentLaws
+pub mod MarkLaws
+pub mod RepeatLaws
+pub mod WritingLaws
