@@ -531,8 +531,7 @@ fn each(
     if x.flag {
         return x;
     }
-    let h = x.held;
-    each(doc, state, work, n, m, k, at + len, c - 1, h)
+    each(doc, state, work, n, m, k, at + len, c - 1, x.held)
 }
 
 // One assignment: the body, where the Text's predicate is true.
