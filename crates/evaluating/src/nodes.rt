@@ -190,6 +190,7 @@ fn compr(doc: &[u32], state: &[u32], work: &mut [u32], n: usize, k: usize, w: &[
     go(h, false)
 }
 
+// A Ref, and the predicate true below, return at once: where they join the other arms, their results are copied once more.
 pub fn expr(doc: &[u32], state: &[u32], work: &mut [u32], n: usize, k: usize) -> Worked
     requires { ⌜ Ready (now doc) (now work) expressions n k ⌝ }
     ensures { λ r. ⌜ Evaluates (now (doc .entry)) k n (now (state .entry)) (now (work .entry)) (now (work .exit)) r ⌝ }
@@ -197,7 +198,7 @@ pub fn expr(doc: &[u32], state: &[u32], work: &mut [u32], n: usize, k: usize) ->
     let w = part(doc, k);
     let q = word(w, 0);
     match q {
-        30 => refers(doc, state, work, n, k, w),
+        30 => return refers(doc, state, work, n, k, w),
         31 => number_value(word(w, 1)),
         33 => adds(doc, state, work, n, k, w, 1, empty_set()),
         34 => tuple(doc, state, work, n, k, w),
@@ -314,7 +315,7 @@ pub fn pred(doc: &[u32], state: &[u32], work: &mut [u32], n: usize, k: usize) ->
         24 => negate(doc, state, work, n, k, w),
         25..=27 => connect(doc, state, work, n, k, w),
         28..=29 => quant(doc, state, work, n, k, w),
-        _ => judge(true),
+        _ => return judge(true),
     }
 }
 
@@ -530,8 +531,7 @@ fn each(
     if x.flag {
         return x;
     }
-    let h = x.held;
-    each(doc, state, work, n, m, k, at + len, c - 1, h)
+    each(doc, state, work, n, m, k, at + len, c - 1, x.held)
 }
 
 // One assignment: the body, where the Text's predicate is true.

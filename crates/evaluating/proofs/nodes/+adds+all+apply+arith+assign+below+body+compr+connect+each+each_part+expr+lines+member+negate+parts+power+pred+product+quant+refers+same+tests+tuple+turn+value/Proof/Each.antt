@@ -50,13 +50,13 @@ each-returns-3 t c =
 
 each-each-requires : (t : ℕ) → each-lts.Need-each-requires (each-calls t) (each-at t) each.Post
 each-each-requires t c κs =
-    let s = c .before .before .before .before .before .before .before .before .before .before .before .before .before .before .before .before .before .before .before .before .before .before .before in
+    let s = c .before .before .before .before .before .before .before .before .before .before .before .before .before .before .before .before .before .before .before .before .before .before in
     let t = s .pre .0 in
-    let z = c .before .before .before .before .before .before .before .before .before .before .before .before .before .before .before .before .before .before .before .if1 .left in
-    let y = c .before .before .before .before .before .before .before .before .before .before .before .before .before .before .before .before .before .before .if2 .left in
-    let l = c .before .before .before .before .before .before .before .before .before .before .before .before .before .before .before .span .ensures .1 in
+    let z = c .before .before .before .before .before .before .before .before .before .before .before .before .before .before .before .before .before .before .if1 .left in
+    let y = c .before .before .before .before .before .before .before .before .before .before .before .before .before .before .before .before .before .if2 .left in
+    let l = c .before .before .before .before .before .before .before .before .before .before .before .before .before .before .span .ensures .1 in
     let u = s .pre .1 .2 in
-    (omega arith, (scoping-same (s .pre .1 .0) _ (c .before .before .before .before .before .before .before .assign .kept .1 .1 .0 ∙ c .before .before .before .before .before .before .before .before .before .before .before .put-head .kept .0), omega arith, omega arith))
+    (omega arith, (scoping-same (s .pre .1 .0) _ (c .before .before .before .before .before .before .assign .kept .1 .1 .0 ∙ c .before .before .before .before .before .before .before .before .before .before .put-head .kept .0), omega arith, omega arith))
 
 each-returns-4 : (t : ℕ) → each-lts.Need-returns-4 (each-calls t) (each-at t) each.Post
 each-returns-4 t c =
@@ -71,15 +71,15 @@ each-returns-4 t c =
 
 each-returns-5 : (t : ℕ) → each-lts.Need-returns-5 (each-calls t) (each-at t) each.Post
 each-returns-5 t c =
-    let s = c .before .before .before .before .before .before .before .before .before .before .before .before .before .before .before .before .before .before .before .before .before .before .before .before .before .before in
+    let s = c .before .before .before .before .before .before .before .before .before .before .before .before .before .before .before .before .before .before .before .before .before .before .before .before .before in
     let a = s .args in
     let r = s .pre .1 .0 .room in
     let v = s .pre .1 .0 .wide in
-    let el = c .before .before .before .before .before .before .before .before .before .before .before .before .before .before .before .before .before .before .span .ensures .0 ∙ ap span (c .before .before .before .before .before .before .before .before .before .before .before .before .before .before .before .before .before .before .before .from .ensures) in
-    let e1 = rw (c .before .before .before .before .before .before .before .before .before .before .before .before .before .before .before .word .ensures .0) at (c .before .before .before .before .before .before .before .before .before .before .before .before .before .before .put-head .ensures) in
-    let A = c .before .before .before .before .before .before .before .before .before .before .assign .ensures in
+    let el = c .before .before .before .before .before .before .before .before .before .before .before .before .before .before .before .before .before .span .ensures .0 ∙ ap span (c .before .before .before .before .before .before .before .before .before .before .before .before .before .before .before .before .before .before .from .ensures) in
+    let e1 = rw (c .before .before .before .before .before .before .before .before .before .before .before .before .before .before .word .ensures .0) at (c .before .before .before .before .before .before .before .before .before .before .before .before .before .put-head .ensures) in
+    let A = c .before .before .before .before .before .before .before .before .before .assign .ensures in
     let E = c .before .before .each .ensures in
-    record { kept = E .kept ∙ each-kept (a .doc .now) (a .state .now) _ _ _ (a .n) (a .m) (a .k) (a .at) (a .c) _ _ (a .s) _ refl el e1 (omega arith) A (c .before .before .before .before .before .before .before .before .before .before .before .before .before .before .before .before .before .before .before .before .before .before .if1 .left); pends = λ ds p. E .pends ds (each-pends (a .doc .now) (a .state .now) _ _ _ (a .n) (a .m) (a .k) (a .at) (a .c) _ _ (a .s) _ refl el e1 (omega arith) A (c .before .before .before .before .before .before .before .before .before .before .before .before .before .before .before .before .before .before .before .before .before .before .if1 .left) ds p); told = each-go (a .doc .now) (a .state .now) _ _ _ (a .n) (a .m) (a .k) (a .at) (a .c) _ _ (a .s) _ refl el e1 (omega arith) A (c .before .before .before .before .before .before .before .before .before .before .before .before .before .before .before .before .before .before .before .before .before .before .if1 .left) (c .before .before .before .before .before .before .if3 .left) (c .before .before .before .before .before .if4 .left) (E .told) }
+    record { kept = E .kept ∙ each-kept (a .doc .now) (a .state .now) _ _ _ (a .n) (a .m) (a .k) (a .at) (a .c) _ _ (a .s) _ refl el e1 (omega arith) A (c .before .before .before .before .before .before .before .before .before .before .before .before .before .before .before .before .before .before .before .before .before .if1 .left); pends = λ ds p. E .pends ds (each-pends (a .doc .now) (a .state .now) _ _ _ (a .n) (a .m) (a .k) (a .at) (a .c) _ _ (a .s) _ refl el e1 (omega arith) A (c .before .before .before .before .before .before .before .before .before .before .before .before .before .before .before .before .before .before .before .before .before .if1 .left) ds p); told = each-go (a .doc .now) (a .state .now) _ _ _ (a .n) (a .m) (a .k) (a .at) (a .c) _ _ (a .s) _ refl el e1 (omega arith) A (c .before .before .before .before .before .before .before .before .before .before .before .before .before .before .before .before .before .before .before .before .before .if1 .left) (c .before .before .before .before .before .if3 .left) (c .before .before .before .before .if4 .left) (E .told) }
 
 pub each-closed : {M : Type 1} (t : ℕ) → each-lts.Closed (each-calls t) (each-at t) each.Post M
 each-closed t =

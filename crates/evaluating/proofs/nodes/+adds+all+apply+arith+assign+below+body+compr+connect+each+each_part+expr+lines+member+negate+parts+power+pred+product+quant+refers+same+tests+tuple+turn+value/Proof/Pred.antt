@@ -45,25 +45,7 @@ pred-quant-requires t c κs =
     (omega arith, (handed-of (s .pre .1) (c .before .before .before .before .before .before .part .ensures), omega arith, omega arith))
 
 pred-returns : (t : ℕ) → pred-lts.Need-returns (pred-calls t) (pred-at t) pred.Post
-pred-returns t c = c .before .before .same .ensures
-
-pred-returns-2 : (t : ℕ) → pred-lts.Need-returns-2 (pred-calls t) (pred-at t) pred.Post
-pred-returns-2 t c = c .before .before .member .ensures
-
-pred-returns-3 : (t : ℕ) → pred-lts.Need-returns-3 (pred-calls t) (pred-at t) pred.Post
-pred-returns-3 t c = c .before .before .below .ensures
-
-pred-returns-4 : (t : ℕ) → pred-lts.Need-returns-4 (pred-calls t) (pred-at t) pred.Post
-pred-returns-4 t c = c .before .before .negate .ensures
-
-pred-returns-5 : (t : ℕ) → pred-lts.Need-returns-5 (pred-calls t) (pred-at t) pred.Post
-pred-returns-5 t c = c .before .before .connect .ensures
-
-pred-returns-6 : (t : ℕ) → pred-lts.Need-returns-6 (pred-calls t) (pred-at t) pred.Post
-pred-returns-6 t c = c .before .before .quant .ensures
-
-pred-returns-7 : (t : ℕ) → pred-lts.Need-returns-7 (pred-calls t) (pred-at t) pred.Post
-pred-returns-7 t c =
+pred-returns t c =
     let s = c .before .before .before .before .before .before .before .before in
     let q : c .before .before .before .word .result ≡ kindAt (s .args .doc .now) (s .args .k) = c .before .before .before .word .ensures .0 ∙ ap (λ (l : List ℕ). getD l 0 0) (c .before .before .before .before .part .ensures) in
     let g = pred-range _ _ (s .pre .1 .at) in
@@ -71,6 +53,24 @@ pred-returns-7 t c =
     let y = g .1 in
     let k : kindAt (s .args .doc .now) (s .args .k) ≡ 20 = ⊎-elim (λ t. let v = t .taken in omega arith) (λ p. let v = p .2 .left in omega arith) (c .before .if1 .came) in
     record { kept = refl; told = λ scope sc. truth-told _ _ (s .pre .1 .at) k scope (c .judge .ensures .0) (c .judge .ensures .1) }
+
+pred-returns-2 : (t : ℕ) → pred-lts.Need-returns-2 (pred-calls t) (pred-at t) pred.Post
+pred-returns-2 t c = c .before .before .same .ensures
+
+pred-returns-3 : (t : ℕ) → pred-lts.Need-returns-3 (pred-calls t) (pred-at t) pred.Post
+pred-returns-3 t c = c .before .before .member .ensures
+
+pred-returns-4 : (t : ℕ) → pred-lts.Need-returns-4 (pred-calls t) (pred-at t) pred.Post
+pred-returns-4 t c = c .before .before .below .ensures
+
+pred-returns-5 : (t : ℕ) → pred-lts.Need-returns-5 (pred-calls t) (pred-at t) pred.Post
+pred-returns-5 t c = c .before .before .negate .ensures
+
+pred-returns-6 : (t : ℕ) → pred-lts.Need-returns-6 (pred-calls t) (pred-at t) pred.Post
+pred-returns-6 t c = c .before .before .connect .ensures
+
+pred-returns-7 : (t : ℕ) → pred-lts.Need-returns-7 (pred-calls t) (pred-at t) pred.Post
+pred-returns-7 t c = c .before .before .quant .ensures
 
 pub pred-closed : {M : Type 1} (t : ℕ) → pred-lts.Closed (pred-calls t) (pred-at t) pred.Post M
 pred-closed t =
@@ -84,7 +84,6 @@ pred-closed t =
     (pred-connect-requires t)
     (pred-quant-requires t)
     (λ c κs. search needs)
-    (λ c. search needs)
     (pred-returns t)
     (λ c. search needs)
     (pred-returns-2 t)
@@ -96,4 +95,5 @@ pred-closed t =
     (pred-returns-5 t)
     (λ c. search needs)
     (pred-returns-6 t)
+    (λ c. search needs)
     (pred-returns-7 t)
