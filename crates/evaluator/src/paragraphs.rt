@@ -141,11 +141,19 @@ fn put_lines(
 }
 
 // 2 Given.
-fn given(doc: &[u32], state: &[u32], table: &[u32], work: &mut [u32], n: usize, k: usize) -> Worked
-    requires { ⌜ Stated (now doc) (now state) (now table) × At (now doc) paragraphs k × (kindAt (now doc) k ≡ 2) × Roomy (now work) n (globalsOf (paragraphAt (now doc) k)) × Declares (now doc) (paragraphNames (paragraphAt (now doc) k)) ⌝ }
+fn given(
+    doc: &[u32],
+    state: &[u32],
+    table: &[u32],
+    work: &mut [u32],
+    n: usize,
+    k: usize,
+    w: &[u32],
+) -> Worked
+    requires { ⌜ Stated (now doc) (now state) (now table) × At (now doc) paragraphs k × (kindAt (now doc) k ≡ 2) × Roomy (now work) n (globalsOf (paragraphAt (now doc) k)) × Declares (now doc) (paragraphNames (paragraphAt (now doc) k)) × (now w ≡ part (now doc) k) ⌝ }
     ensures { λ r. ⌜ Steps (now (state .entry)) (now (work .entry)) (now (work .exit)) n (n + globalsOf (paragraphAt (now (doc .entry)) k)) r (runParagraph (paragraphAt (now (doc .entry)) k) (said (now (doc .entry)) (now (state .entry)))) ⌝ }
 {
-    put_names(doc, state, table, work, n, part(doc, k), 1);
+    put_names(doc, state, table, work, n, w, 1);
     judge(true)
 }
 
@@ -165,11 +173,19 @@ fn demand(doc: &[u32], state: &[u32], work: &mut [u32], n: usize, k: usize, p: u
 }
 
 // 3 Axiom: the tests of its lines, then its names, then its predicate.
-fn axiom(doc: &[u32], state: &[u32], table: &[u32], work: &mut [u32], n: usize, k: usize) -> Worked
-    requires { ⌜ Stated (now doc) (now state) (now table) × At (now doc) paragraphs k × (kindAt (now doc) k ≡ 3) × Roomy (now work) n (globalsOf (paragraphAt (now doc) k)) × Declares (now doc) (paragraphNames (paragraphAt (now doc) k)) ⌝ }
+fn axiom(
+    doc: &[u32],
+    state: &[u32],
+    table: &[u32],
+    work: &mut [u32],
+    n: usize,
+    k: usize,
+    w: &[u32],
+) -> Worked
+    requires { ⌜ Stated (now doc) (now state) (now table) × At (now doc) paragraphs k × (kindAt (now doc) k ≡ 3) × Roomy (now work) n (globalsOf (paragraphAt (now doc) k)) × Declares (now doc) (paragraphNames (paragraphAt (now doc) k)) × (now w ≡ part (now doc) k) ⌝ }
     ensures { λ r. ⌜ Steps (now (state .entry)) (now (work .entry)) (now (work .exit)) n (n + globalsOf (paragraphAt (now (doc .entry)) k)) r (runParagraph (paragraphAt (now (doc .entry)) k) (said (now (doc .entry)) (now (state .entry)))) ⌝ }
 {
-    let t = word(part(doc, k), 1);
+    let t = word(w, 1);
     let u = part(doc, t);
     let y = test_lines(doc, state, table, work, n, t, u, 2);
     if y.number != 0 {
@@ -183,11 +199,17 @@ fn axiom(doc: &[u32], state: &[u32], table: &[u32], work: &mut [u32], n: usize, 
 }
 
 // 5 Abbreviation: without parameters its value is kept.
-fn abbreviation(doc: &[u32], state: &[u32], work: &mut [u32], n: usize, k: usize) -> Worked
-    requires { ⌜ At (now doc) paragraphs k × (kindAt (now doc) k ≡ 5) × Roomy (now work) n 1 ⌝ }
+fn abbreviation(
+    doc: &[u32],
+    state: &[u32],
+    work: &mut [u32],
+    n: usize,
+    k: usize,
+    w: &[u32],
+) -> Worked
+    requires { ⌜ At (now doc) paragraphs k × (kindAt (now doc) k ≡ 5) × Roomy (now work) n 1 × (now w ≡ part (now doc) k) ⌝ }
     ensures { λ r. ⌜ ((s : State) → Steps (now (state .entry)) (now (work .entry)) (now (work .exit)) n (n + 1) r (runParagraph (paragraphAt (now (doc .entry)) k) s)) ⌝ }
 {
-    let w = part(doc, k);
     if word(w, 2) == 0 {
         let y = expr(doc, state, work, n, word(w, 3));
         if y.number != 0 {
@@ -216,9 +238,9 @@ fn paragraph(
     let w = part(doc, k);
     let q = word(w, 0);
     match q {
-        2 => given(doc, state, table, work, n, k),
-        3 => axiom(doc, state, table, work, n, k),
-        5 => abbreviation(doc, state, work, n, k),
+        2 => given(doc, state, table, work, n, k, w),
+        3 => axiom(doc, state, table, work, n, k, w),
+        5 => abbreviation(doc, state, work, n, k, w),
         6 => demand(doc, state, work, n, k, word(w, 1)),
         _ => judge(true),
     }

@@ -15,14 +15,11 @@ use Rattle.evaluator.proofs.paragraphs.axiom.Tie as tie
 use Rattle.evaluator.proofs.paragraphs.axiom.Reads as reads
 use Rattle.evaluator.proofs.paragraphs.axiom.Lts as lts
 
-part-requires : tie.Need-part-requires
-part-requires c κs = search needs
-
 word-requires : tie.Need-word-requires
 word-requires c κs = search needs
 
-part-requires-2 : tie.Need-part-requires-2
-part-requires-2 c κs = search needs
+part-requires : tie.Need-part-requires
+part-requires c κs = search needs
 
 test-lines-requires : tie.Need-test-lines-requires
 test-lines-requires c κs =
@@ -30,11 +27,11 @@ test-lines-requires c κs =
     let d = s₀ .args .doc .now in
     let st = s₀ .args .state .now in
     let k = s₀ .args .k in
-    let e : c .before .before .word .result ≡ operandAt d k 1 = c .before .before .word .ensures .0 ∙ ap (λ (y : List ℕ). getD y 1 0) (c .before .before .before .part .ensures) in
+    let e : c .before .before .word .result ≡ operandAt d k 1 = c .before .before .word .ensures .0 ∙ ap (λ (y : List ℕ). getD y 1 0) (s₀ .pre .5) in
     let h = s₀ .pre .1 in
     let q = s₀ .pre .2 in
     let a = c .before .before .word .result in
-    let eu = c .before .part2 .ensures in
+    let eu = c .before .part .ensures in
     let r = s₀ .pre .3 in
     let f = r .few in
     (s₀ .pre .0, axiom-text d k h q a e (said d st), eu, omega arith, omega arith, record { few = omega arith; wide = r .wide }, rw eu (rw (axiom-names d k h q a e (said d st)) at (s₀ .pre .4)))
@@ -48,11 +45,11 @@ returns c =
     let d = s₀ .args .doc .now in
     let st = s₀ .args .state .now in
     let k = s₀ .args .k in
-    let e : c .before .before .before .before .before .before .before .word .result ≡ operandAt d k 1 = c .before .before .before .before .before .before .before .word .ensures .0 ∙ ap (λ (y : List ℕ). getD y 1 0) (c .before .before .before .before .before .before .before .before .part .ensures) in
+    let e : c .before .before .before .before .before .before .before .word .result ≡ operandAt d k 1 = c .before .before .before .before .before .before .before .word .ensures .0 ∙ ap (λ (y : List ℕ). getD y 1 0) (s₀ .pre .5) in
     let h = s₀ .pre .1 in
     let q = s₀ .pre .2 in
     let a = c .before .before .before .before .before .before .before .word .result in
-    let eu = c .before .before .before .before .before .before .part2 .ensures in
+    let eu = c .before .before .before .before .before .before .part .ensures in
     λ scope g. axiom-stops d k h q a e (said d st) scope (rw eu at (c .before .before .before .before .test-lines .ensures .told scope g)) (c .if1 .taken)
 
 put-lines-requires : tie.Need-put-lines-requires
@@ -61,11 +58,11 @@ put-lines-requires c κs =
     let d = s₀ .args .doc .now in
     let st = s₀ .args .state .now in
     let k = s₀ .args .k in
-    let e : c .before .before .before .before .before .before .before .before .before .word .result ≡ operandAt d k 1 = c .before .before .before .before .before .before .before .before .before .word .ensures .0 ∙ ap (λ (y : List ℕ). getD y 1 0) (c .before .before .before .before .before .before .before .before .before .before .part .ensures) in
+    let e : c .before .before .before .before .before .before .before .before .before .word .result ≡ operandAt d k 1 = c .before .before .before .before .before .before .before .before .before .word .ensures .0 ∙ ap (λ (y : List ℕ). getD y 1 0) (s₀ .pre .5) in
     let h = s₀ .pre .1 in
     let q = s₀ .pre .2 in
     let a = c .before .before .before .before .before .before .before .before .before .word .result in
-    let eu = c .before .before .before .before .before .before .before .before .part2 .ensures in
+    let eu = c .before .before .before .before .before .before .before .before .part .ensures in
     let r = s₀ .pre .3 in
     let f = r .few in
     let w = r .wide in
@@ -77,11 +74,11 @@ text-count-requires c κs =
     let d = s₀ .args .doc .now in
     let st = s₀ .args .state .now in
     let k = s₀ .args .k in
-    let e : c .before .before .before .before .before .before .before .before .before .before .before .before .before .word .result ≡ operandAt d k 1 = c .before .before .before .before .before .before .before .before .before .before .before .before .before .word .ensures .0 ∙ ap (λ (y : List ℕ). getD y 1 0) (c .before .before .before .before .before .before .before .before .before .before .before .before .before .before .part .ensures) in
+    let e : c .before .before .before .before .before .before .before .before .before .before .before .before .before .word .result ≡ operandAt d k 1 = c .before .before .before .before .before .before .before .before .before .before .before .before .before .word .ensures .0 ∙ ap (λ (y : List ℕ). getD y 1 0) (s₀ .pre .5) in
     let h = s₀ .pre .1 in
     let q = s₀ .pre .2 in
     let a = c .before .before .before .before .before .before .before .before .before .before .before .before .before .word .result in
-    let eu = c .before .before .before .before .before .before .before .before .before .before .before .before .part2 .ensures in
+    let eu = c .before .before .before .before .before .before .before .before .before .before .before .before .part .ensures in
     axiom-text d k h q a e (said d st)
 
 add-demand : tie.Need-add-demand
@@ -99,11 +96,11 @@ demand-requires c κs =
     let d = s₀ .args .doc .now in
     let st = s₀ .args .state .now in
     let k = s₀ .args .k in
-    let e : c .before .before .before .before .before .before .before .before .before .before .before .before .before .before .before .word .result ≡ operandAt d k 1 = c .before .before .before .before .before .before .before .before .before .before .before .before .before .before .before .word .ensures .0 ∙ ap (λ (y : List ℕ). getD y 1 0) (c .before .before .before .before .before .before .before .before .before .before .before .before .before .before .before .before .part .ensures) in
+    let e : c .before .before .before .before .before .before .before .before .before .before .before .before .before .before .before .word .result ≡ operandAt d k 1 = c .before .before .before .before .before .before .before .before .before .before .before .before .before .before .before .word .ensures .0 ∙ ap (λ (y : List ℕ). getD y 1 0) (s₀ .pre .5) in
     let h = s₀ .pre .1 in
     let q = s₀ .pre .2 in
     let a = c .before .before .before .before .before .before .before .before .before .before .before .before .before .before .before .word .result in
-    let eu = c .before .before .before .before .before .before .before .before .before .before .before .before .before .before .part2 .ensures in
+    let eu = c .before .before .before .before .before .before .before .before .before .before .before .before .before .before .part .ensures in
     let r = s₀ .pre .3 in
     let f = r .few in
     let w = r .wide in
@@ -119,11 +116,11 @@ returns-2 c =
     let d = s₀ .args .doc .now in
     let st = s₀ .args .state .now in
     let k = s₀ .args .k in
-    let e : c .before .before .before .before .before .before .before .before .before .before .before .before .before .before .before .before .before .before .word .result ≡ operandAt d k 1 = c .before .before .before .before .before .before .before .before .before .before .before .before .before .before .before .before .before .before .word .ensures .0 ∙ ap (λ (y : List ℕ). getD y 1 0) (c .before .before .before .before .before .before .before .before .before .before .before .before .before .before .before .before .before .before .before .part .ensures) in
+    let e : c .before .before .before .before .before .before .before .before .before .before .before .before .before .before .before .before .before .before .word .result ≡ operandAt d k 1 = c .before .before .before .before .before .before .before .before .before .before .before .before .before .before .before .before .before .before .word .ensures .0 ∙ ap (λ (y : List ℕ). getD y 1 0) (s₀ .pre .5) in
     let h = s₀ .pre .1 in
     let q = s₀ .pre .2 in
     let a = c .before .before .before .before .before .before .before .before .before .before .before .before .before .before .before .before .before .before .word .result in
-    let eu = c .before .before .before .before .before .before .before .before .before .before .before .before .before .before .before .before .before .part2 .ensures in
+    let eu = c .before .before .before .before .before .before .before .before .before .before .before .before .before .before .before .before .before .part .ensures in
     let z = axiom-globals d k h q a e (said d st) in
     let m = c .before .before .before .before .text-count .ensures .0 ∙ names-counted _ in
     λ scope g. rw z (axiom-goes d k h q a e (said d st) scope (rw eu at (c .before .before .before .before .before .before .before .before .before .before .before .before .before .before .before .test-lines .ensures .told scope g)) (c .before .before .before .before .before .before .before .before .before .before .before .if1 .left) (c .before .before .before .before .before .before .before .before .before .before .if2 .taken) (rw (c .before .before .before .word2 .ensures .0, eu, m) at (c .before .before .demand .ensures _ (rw (eu, ← m) at (c .before .before .before .before .before .before .before .before .put-lines .ensures scope (scoped-same st _ _ (s₀ .args .n) (c .before .before .before .before .before .before .before .before .before .before .before .before .before .before .before .test-lines .ensures .kept) g))))))
@@ -137,12 +134,12 @@ returns-3 c =
     let d = s₀ .args .doc .now in
     let st = s₀ .args .state .now in
     let k = s₀ .args .k in
-    let e : c .before .before .before .before .before .before .before .before .word .result ≡ operandAt d k 1 = c .before .before .before .before .before .before .before .before .word .ensures .0 ∙ ap (λ (y : List ℕ). getD y 1 0) (c .before .before .before .before .before .before .before .before .before .part .ensures) in
+    let e : c .before .before .before .before .before .before .before .before .word .result ≡ operandAt d k 1 = c .before .before .before .before .before .before .before .before .word .ensures .0 ∙ ap (λ (y : List ℕ). getD y 1 0) (s₀ .pre .5) in
     let h = s₀ .pre .1 in
     let q = s₀ .pre .2 in
     let a = c .before .before .before .before .before .before .before .before .word .result in
-    let eu = c .before .before .before .before .before .before .before .part2 .ensures in
+    let eu = c .before .before .before .before .before .before .before .part .ensures in
     λ scope g. axiom-fails d k h q a e (said d st) scope (rw eu at (c .before .before .before .before .before .test-lines .ensures .told scope g)) (c .before .if1 .left) (c .if2 .left)
 
 pub axiom-spec : {M : Type 1} → statement M
-axiom-spec = tie.close (tie.spec part-requires word-requires part-requires-2 test-lines-requires same-length returns put-lines-requires text-count-requires add-demand word-requires-2 demand-requires same-length-2 returns-2 same-length-3 returns-3)
+axiom-spec = tie.close (tie.spec word-requires part-requires test-lines-requires same-length returns put-lines-requires text-count-requires add-demand word-requires-2 demand-requires same-length-2 returns-2 same-length-3 returns-3)

@@ -16,16 +16,13 @@ use Rattle.evaluator.proofs.paragraphs.given.Tie as tie
 use Rattle.evaluator.proofs.paragraphs.given.Reads as reads
 use Rattle.evaluator.proofs.paragraphs.given.Lts as lts
 
-part-requires : tie.Need-part-requires
-part-requires c κs = search needs
-
 put-names-requires : tie.Need-put-names-requires
 put-names-requires c κs =
     let s₀ = c .before .before .before .before .before .before in
     let d = s₀ .args .doc .now in
     let st = s₀ .args .state .now in
     let k = s₀ .args .k in
-    let e = c .part .ensures in
+    let e = s₀ .pre .5 in
     let r = s₀ .pre .3 in
     let h = s₀ .pre .1 in
     let q = s₀ .pre .2 in
@@ -45,8 +42,8 @@ returns c =
     let d = s₀ .args .doc .now in
     let st = s₀ .args .state .now in
     let k = s₀ .args .k in
-    let e = c .before .before .before .before .part .ensures in
+    let e = s₀ .pre .5 in
     given-steps d k (s₀ .pre .1) (said d st) st _ _ (s₀ .args .n) (s₀ .pre .2) (c .judge .ensures .0) (c .judge .ensures .1) (rw e at (c .before .before .before .put-names .ensures))
 
 pub given-spec : {M : Type 1} → statement M
-given-spec = tie.close (tie.spec part-requires put-names-requires judge-requires same-length returns)
+given-spec = tie.close (tie.spec put-names-requires judge-requires same-length returns)

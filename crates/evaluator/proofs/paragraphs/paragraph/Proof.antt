@@ -25,12 +25,12 @@ word-requires c κs = search needs
 given-requires : tie.Need-given-requires
 given-requires c κs =
     let s₀ = c .before .before .before .before .before .before .before .before in
-    (s₀ .pre .0, s₀ .pre .1, ((sym (c .before .before .word .ensures .0 ∙ ap (λ (y : List ℕ). getD y 0 0) (c .before .before .before .part .ensures))) ∙ c .before .match .keys1), s₀ .pre .2, s₀ .pre .3)
+    (s₀ .pre .0, s₀ .pre .1, ((sym (c .before .before .word .ensures .0 ∙ ap (λ (y : List ℕ). getD y 0 0) (c .before .before .before .part .ensures))) ∙ c .before .match .keys1), s₀ .pre .2, s₀ .pre .3, c .before .before .before .part .ensures)
 
 axiom-requires : tie.Need-axiom-requires
 axiom-requires c κs =
     let s₀ = c .before .before .before .before .before .before .before .before in
-    (s₀ .pre .0, s₀ .pre .1, ((sym (c .before .before .word .ensures .0 ∙ ap (λ (y : List ℕ). getD y 0 0) (c .before .before .before .part .ensures))) ∙ c .before .match .keys2), s₀ .pre .2, s₀ .pre .3)
+    (s₀ .pre .0, s₀ .pre .1, ((sym (c .before .before .word .ensures .0 ∙ ap (λ (y : List ℕ). getD y 0 0) (c .before .before .before .part .ensures))) ∙ c .before .match .keys2), s₀ .pre .2, s₀ .pre .3, c .before .before .before .part .ensures)
 
 abbreviation-requires : tie.Need-abbreviation-requires
 abbreviation-requires c κs =
@@ -41,7 +41,7 @@ abbreviation-requires c κs =
     let q = ((sym (c .before .before .word .ensures .0 ∙ ap (λ (y : List ℕ). getD y 0 0) (c .before .before .before .part .ensures))) ∙ c .before .match .keys3) in
     let r = s₀ .pre .2 in
     let f = r .few in
-    (s₀ .pre .1, q, record { few = omega (arith, f, abbreviation-globals d k (s₀ .pre .1) (said d st) st st st 0 q); wide = r .wide })
+    (s₀ .pre .1, q, record { few = omega (arith, f, abbreviation-globals d k (s₀ .pre .1) (said d st) st st st 0 q); wide = r .wide }, c .before .before .before .part .ensures)
 
 word-requires-2 : tie.Need-word-requires-2
 word-requires-2 c κs = search needs
