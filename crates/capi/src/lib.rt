@@ -11,13 +11,16 @@ ghost use Rattle.printer.specs.Print.{printOf};
 ghost use Rattle.printer.specs.Buffer.{Printed};
 ghost use Rattle.capi.specs.Code.{codeOf, findingOf, checkCode, Decided, runCode, Ran};
 
+// The places under each number: as many as a word has values.
+const PLACES: u64 = 4294967296;
+
 // A finding as one number: 0 where there is none, else number * 2^32 + place.
 fn code_of(r: Reading) -> u64
     ensures { λ n. ⌜ n ≡ codeOf r ⌝ }
 {
     match r {
         Reading::Readable => 0,
-        Reading::Refused { number, place } => (number as u64) * 4294967296 + (place as u64),
+        Reading::Refused { number, place } => (number as u64) * PLACES + (place as u64),
     }
 }
 
@@ -43,7 +46,7 @@ fn check_code(f: Finding) -> u64
 {
     match f {
         Finding::Accepted => 0,
-        Finding::Refused { number, place } => (number as u64) * 4294967296 + (place as u64),
+        Finding::Refused { number, place } => (number as u64) * PLACES + (place as u64),
     }
 }
 
@@ -71,9 +74,8 @@ fn run_code(f: evaluation::Finding) -> u64
 {
     match f {
         evaluation::Finding::Holds => 0,
-        evaluation::Finding::Fails { node } => 4294967296 + (node as u64),
-        evaluation::Finding::Refused { number, place } => (number as u64) * 4294967296
-            + (place as u64),
+        evaluation::Finding::Fails { node } => PLACES + (node as u64),
+        evaluation::Finding::Refused { number, place } => (number as u64) * PLACES + (place as u64),
     }
 }
 
@@ -93,8 +95,8 @@ fn finding_of(code: u64) -> Finding
         return Finding::Accepted;
     }
     Finding::Refused {
-        number: (code / 4294967296) as u32,
-        place: (code % 4294967296) as u32,
+        number: (code / PLACES) as u32,
+        place: (code % PLACES) as u32,
     }
 }
 

@@ -1,6 +1,13 @@
 // The evaluation rules: functions over nodes that call each other in a cycle, the node number falling. n is the number of blocks in the work area; a
 // function over a kind's node takes its words w.
+use codes::findings;
+use codes::kinds;
+use codes::limits;
+use codes::value_tags;
 use layout::part;
+use operations::blocks;
+use operations::blocks::BLOCK;
+use operations::blocks::IN_WORK;
 use operations::blocks::put_domains;
 use operations::blocks::put_head;
 use operations::blocks::refer;
@@ -29,6 +36,7 @@ use operations::worked::judge;
 use operations::worked::stop;
 use values::held::Held;
 use values::held::empty;
+use values::span::HEAD;
 use values::span::span;
 use words::from;
 use words::word;
@@ -198,14 +206,14 @@ pub fn expr(doc: &[u32], state: &[u32], work: &mut [u32], n: usize, k: usize) ->
     let w = part(doc, k);
     let q = word(w, 0);
     match q {
-        30 => return refers(doc, state, work, n, k, w),
-        31 => number_value(word(w, 1)),
-        33 => adds(doc, state, work, n, k, w, 1, empty_set()),
-        34 => tuple(doc, state, work, n, k, w),
-        37 => apply(doc, state, work, n, k, w),
-        41..=45 => arith(doc, state, work, n, k, w),
-        46 => compr(doc, state, work, n, k, w),
-        _ => stop(54, k),
+        kinds::REF => return refers(doc, state, work, n, k, w),
+        kinds::NUMBER => number_value(word(w, 1)),
+        kinds::SET => adds(doc, state, work, n, k, w, 1, empty_set()),
+        kinds::TUPLE => tuple(doc, state, work, n, k, w),
+        kinds::APPLY => apply(doc, state, work, n, k, w),
+        kinds::PLUS..=kinds::MOD => arith(doc, state, work, n, k, w),
+        kinds::COMPREHENSION => compr(doc, state, work, n, k, w),
+        _ => stop(findings::NOT_RUN, k),
     }
 }
 
@@ -309,12 +317,12 @@ pub fn pred(doc: &[u32], state: &[u32], work: &mut [u32], n: usize, k: usize) ->
     let w = part(doc, k);
     let q = word(w, 0);
     match q {
-        21 => same(doc, state, work, n, k, w),
-        22 => member(doc, state, work, n, k, w),
-        23 => below(doc, state, work, n, k, w),
-        24 => negate(doc, state, work, n, k, w),
-        25..=27 => connect(doc, state, work, n, k, w),
-        28..=29 => quant(doc, state, work, n, k, w),
+        kinds::EQUAL => same(doc, state, work, n, k, w),
+        kinds::MEMBER => member(doc, state, work, n, k, w),
+        kinds::AT_MOST => below(doc, state, work, n, k, w),
+        kinds::NOT => negate(doc, state, work, n, k, w),
+        kinds::AND..=kinds::IMPLIES => connect(doc, state, work, n, k, w),
+        kinds::FORALL..=kinds::EXISTS => quant(doc, state, work, n, k, w),
         _ => return judge(true),
     }
 }
@@ -327,9 +335,9 @@ pub fn tests(doc: &[u32], state: &[u32], work: &mut [u32], n: usize, k: usize, v
     let w = part(doc, k);
     let q = word(w, 0);
     match q {
-        32 => is_integer(k, v),
-        35 => product(doc, state, work, n, k, w, v),
-        36 => power(doc, state, work, n, k, w, v),
+        kinds::INTEGERS => is_integer(k, v),
+        kinds::PRODUCT => product(doc, state, work, n, k, w, v),
+        kinds::POWER => power(doc, state, work, n, k, w, v),
         _ => value(doc, state, work, n, k, v),
     }
 }
@@ -360,10 +368,10 @@ fn power(
     requires { ⌜ Handed (now doc) (now work) (now w) expressions n k × (kindAt (now doc) k ≡ 36) ⌝ }
     ensures { λ r. ⌜ Leaves n (now (work .entry)) (now (work .exit)) ((x : Value) → Holds v x → Tells (now (state .entry)) (now (work .entry)) n Judged r (λ scope. test (exprAt (now (doc .entry)) k) scope x)) ⌝ }
 {
-    if tag_of(v) != 3 {
-        return stop(51, k);
+    if tag_of(v) != value_tags::SET {
+        return stop(findings::MISFIT, k);
     }
-    all(doc, state, work, n, word(w, 1), v, 2, count_of(v))
+    all(doc, state, work, n, word(w, 1), v, HEAD, count_of(v))
 }
 
 // The next c members of v, from a place on, against the expression at node k.
@@ -407,13 +415,13 @@ fn product(
     requires { ⌜ Handed (now doc) (now work) (now w) expressions n k × (kindAt (now doc) k ≡ 35) ⌝ }
     ensures { λ r. ⌜ Leaves n (now (work .entry)) (now (work .exit)) ((x : Value) → Holds v x → Tells (now (state .entry)) (now (work .entry)) n Judged r (λ scope. test (exprAt (now (doc .entry)) k) scope x)) ⌝ }
 {
-    if tag_of(v) != 4 {
-        return stop(51, k);
+    if tag_of(v) != value_tags::TUPLE {
+        return stop(findings::MISFIT, k);
     }
     if count_of(v) + 1 != w.len() {
-        return stop(51, k);
+        return stop(findings::MISFIT, k);
     }
-    each_part(doc, state, work, n, k, w, 1, v, 2)
+    each_part(doc, state, work, n, k, w, 1, v, HEAD)
 }
 
 // The parts of v from a place on, against the operands from i on.
@@ -465,16 +473,16 @@ fn lines(
     }
     let v = word(u, i);
     let x = part(doc, v);
-    if word(x, 0) == 12 {
-        return stop(54, v);
+    if word(x, 0) == kinds::INCLUDE {
+        return stop(findings::NOT_RUN, v);
     }
     let s = expr(doc, state, work, n + m, word(x, 1));
     if s.number != 0 {
         return s;
     }
     let h = s.held;
-    if tag_of(h) != 3 {
-        return stop(51, v);
+    if tag_of(h) != value_tags::SET {
+        return stop(findings::MISFIT, v);
     }
     put_domains(work, n + m, x, 2, h);
     lines(doc, state, work, n, m + (x.len() - 2), k, t, u, i + 1)
@@ -496,8 +504,8 @@ fn assign(
     if m == 0 {
         return turn(doc, state, work, n, k, s);
     }
-    let c = word(work, 68 * n + 5);
-    each(doc, state, work, n, m - 1, k, 2, c, s)
+    let c = word(work, BLOCK * n + blocks::COUNT);
+    each(doc, state, work, n, m - 1, k, HEAD, c, s)
 }
 
 // The next c members of the set of block n, which has 64 words, from a place on, each with the assignments of the m identifiers above it.
@@ -518,12 +526,12 @@ fn each(
     if c == 0 {
         return go(s, false);
     }
-    if 64 < at {
+    if limits::VALUE < at {
         return go(s, false);
     }
-    let here = 68 * n + (4 + at);
+    let here = BLOCK * n + (blocks::HEAD + at);
     let len = span(from(work, here));
-    put_head(work, n, word(work, 68 * n), 2, here, len);
+    put_head(work, n, word(work, BLOCK * n), IN_WORK, here, len);
     let x = assign(doc, state, work, n + 1, m, k, s);
     if x.number != 0 {
         return x;
@@ -564,7 +572,7 @@ fn body(
     ensures { λ r. ⌜ Leaves n (now (work .entry)) (now (work .exit)) (BodyTold (bodyAt (now (doc .entry)) k) (now (state .entry)) (now (work .entry)) n s r) ⌝ }
 {
     let b = word(w, 2);
-    if word(w, 0) == 46 {
+    if word(w, 0) == kinds::COMPREHENSION {
         let x = expr(doc, state, work, n, b);
         if x.number != 0 {
             return x;

@@ -1,4 +1,6 @@
 // The run call: evaluation rules on words. The definitions are in the crate `evaluation`; nothing here looks at the checker.
+use codes::findings;
+use codes::limits;
 use evaluation::Finding;
 use layout::part;
 use operations::worked::Worked;
@@ -45,7 +47,7 @@ fn run_paragraphs(doc: &[u32], state: &[u32], work: &mut [u32]) -> Finding
     requires { ⌜ (readOf (now doc) ≡ Readable) × (stateOf (documentNames (treeOf (now doc))) (now state) ≡ Readable) × (16384 ≤ length (now work)) ⌝ }
     ensures { λ r. ⌜ r ≡ ending (runDocument (treeOf (now (doc .entry))) (said (now (doc .entry)) (now (state .entry)))) .finding ⌝ }
 {
-    let mut table = [0u32; 2050];
+    let mut table = [0u32; states::names::TABLE_WORDS];
     states::names::put_names(doc, state, &mut table);
     finding_of(paragraphs::run_from(doc, state, &table, work, 0, part(doc, word(doc, 0)), 1))
 }
@@ -72,9 +74,9 @@ fn run_read(doc: &[u32], state: &[u32], work: &mut [u32]) -> Finding
     let c = reader::read(doc);
     match c {
         Reading::Readable => {
-            if work.len() < 16384 {
+            if work.len() < limits::WORK {
                 return Finding::Refused {
-                    number: 21,
+                    number: findings::WORK_AREA,
                     place: 0,
                 };
             }

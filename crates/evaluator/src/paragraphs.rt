@@ -1,4 +1,6 @@
 // The paragraphs of a run, in Document order. n is the number of blocks in the work area: the global names so far.
+use codes::findings;
+use codes::kinds;
 use evaluating::nodes::expr;
 use evaluating::nodes::pred;
 use evaluating::nodes::tests;
@@ -101,8 +103,8 @@ fn test_lines(
     }
     let v = word(u, i);
     let x = part(doc, v);
-    if word(x, 0) == 12 {
-        return stop(54, v);
+    if word(x, 0) == kinds::INCLUDE {
+        return stop(findings::NOT_RUN, v);
     }
     let y = test_names(doc, state, table, work, n, v, x, 2);
     if y.number != 0 {
@@ -132,7 +134,7 @@ fn put_lines(
         return;
     }
     let x = part(doc, word(u, i));
-    if word(x, 0) == 12 {
+    if word(x, 0) == kinds::INCLUDE {
         put_lines(doc, state, table, work, b, t, u, i + 1);
         return;
     }
@@ -238,10 +240,10 @@ fn paragraph(
     let w = part(doc, k);
     let q = word(w, 0);
     match q {
-        2 => given(doc, state, table, work, n, k, w),
-        3 => axiom(doc, state, table, work, n, k, w),
-        5 => abbreviation(doc, state, work, n, k, w),
-        6 => demand(doc, state, work, n, k, word(w, 1)),
+        kinds::GIVEN => given(doc, state, table, work, n, k, w),
+        kinds::AXIOM => axiom(doc, state, table, work, n, k, w),
+        kinds::ABBREVIATION => abbreviation(doc, state, work, n, k, w),
+        kinds::CONSTRAINT => demand(doc, state, work, n, k, word(w, 1)),
         _ => judge(true),
     }
 }
@@ -254,9 +256,9 @@ fn global_count(doc: &[u32], k: usize) -> usize
     let w = part(doc, k);
     let q = word(w, 0);
     match q {
-        2 => w.len() - 1,
-        3 => text_count(doc, word(w, 1)),
-        5 => 1,
+        kinds::GIVEN => w.len() - 1,
+        kinds::AXIOM => text_count(doc, word(w, 1)),
+        kinds::ABBREVIATION => 1,
         _ => 0,
     }
 }

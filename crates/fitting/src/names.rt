@@ -1,4 +1,5 @@
 // The name of an entry of the state, found in the document.
+use codes::kinds;
 use layout::part;
 use node_forms::nodes::kind_at;
 use node_forms::nodes::operand;
@@ -50,7 +51,7 @@ fn name_in_paragraph(doc: &[u32], p: usize, j: usize) -> Role
     ensures { λ r. ⌜ r ≡ roleOf (getD (paragraphNames (paragraphAt (now (doc .entry)) p)) j nobody) ⌝ }
 {
     let q = kind_at(doc, p);
-    if q == 3 {
+    if q == kinds::AXIOM {
         let i = name_in_text(doc, operand(doc, p, 1), j);
         return Role::Declared { identifier: i };
     }

@@ -1,6 +1,7 @@
 // Finding 42: the values of a state against the types that the dictionary records.
 use crate::names::Role;
 use crate::names::name_of;
+use codes::findings;
 use dictionary::lookup::entry_of_name;
 use dictionary::lookup::type_place;
 use forms::typed::has_type;
@@ -45,7 +46,7 @@ fn type_number(doc: &[u32], state: &[u32], dict: &[u32], k: usize) -> u32
             if is_typed(dict, identifier, part(state, k)) {
                 return 0;
             }
-            42
+            findings::MISTYPED
         }
     }
 }

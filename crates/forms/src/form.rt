@@ -1,8 +1,14 @@
 // Which words are a value. For any words: a state's words are nobody's promise.
 use super::givens::size_of;
+use codes::limits;
+use codes::value_tags;
+use integers::integer;
 use values::order::compare;
 use values::order::is_less;
 use values::shapes::Shape;
+use values::span::ELEMENT_WORDS;
+use values::span::HEAD;
+use values::span::HEADS;
 use words::from;
 use words::span;
 use words::word;
@@ -13,14 +19,20 @@ ghost use lib.ListN.{length, drop};
 ghost use Rattle.values.specs.Givens.{sizeOf};
 ghost use Rattle.values.specs.Form.{elementShape, groupShape, shapeOf, follows, groupEnd, valueLength, isValue};
 
+// Each level of a value has a head of its own.
+pub const LEVELS: usize = HEADS;
+
+// A count is read signed, as every word is.
+const NEGATIVE: usize = integer::NEGATIVE as usize;
+
 fn element_shape(givens: &[u32], w: &[u32]) -> Shape
     ensures { λ r. ⌜ r ≡ elementShape (sizeOf (now (givens .entry))) (now (w .entry)) ⌝ }
 {
-    if w.len() < 3 {
+    if w.len() < ELEMENT_WORDS {
         return Shape::Broken;
     }
     if word(w, 2) < size_of(givens, word(w, 1)) {
-        return Shape::Leaf(3);
+        return Shape::Leaf(ELEMENT_WORDS);
     }
     Shape::Broken
 }
@@ -28,17 +40,17 @@ fn element_shape(givens: &[u32], w: &[u32]) -> Shape
 fn group_shape(tag: usize, n: usize) -> Shape
     ensures { λ r. ⌜ r ≡ groupShape tag n ⌝ }
 {
-    if tag == 3 {
-        if n < 2147483648 {
+    if tag == value_tags::SET {
+        if n < NEGATIVE {
             return Shape::Set(n);
         }
         return Shape::Broken;
     }
-    if tag == 4 {
-        if n < 2 {
+    if tag == value_tags::TUPLE {
+        if n < limits::FEWEST_PARTS {
             return Shape::Broken;
         }
-        if n <= 6 {
+        if n <= limits::PARTS {
             return Shape::Tuple(n);
         }
         return Shape::Broken;
@@ -49,14 +61,14 @@ fn group_shape(tag: usize, n: usize) -> Shape
 fn shape_of(givens: &[u32], w: &[u32]) -> Shape
     ensures { λ r. ⌜ r ≡ shapeOf (sizeOf (now (givens .entry))) (now (w .entry)) ⌝ }
 {
-    if w.len() < 2 {
+    if w.len() < HEAD {
         return Shape::Broken;
     }
     let tag = word(w, 0);
-    if tag == 1 {
-        return Shape::Leaf(2);
+    if tag == value_tags::INTEGER {
+        return Shape::Leaf(HEAD);
     }
-    if tag == 2 {
+    if tag == value_tags::ELEMENT {
         return element_shape(givens, w);
     }
     group_shape(tag, word(w, 1))
@@ -77,8 +89,8 @@ fn group_end(givens: &[u32], w: &[u32], n: usize, ascending: bool, depth: usize)
     requires { ⌜ 2 ≤ length (now w) ⌝ }
     ensures { λ r. ⌜ (r ≡ groupEnd (valueLength (sizeOf (now (givens .entry))) depth) ascending n [] (drop 2 (now (w .entry))) 2) × (r ≤ length (now (w .entry))) ⌝ }
 {
-    let mut last = 2;
-    let mut at = 2;
+    let mut last = HEAD;
+    let mut at = HEAD;
     let mut i = 0;
     while i < n {
         let k = value_length(givens, from(w, at), depth);
@@ -120,8 +132,8 @@ pub fn is_value(givens: &[u32], w: &[u32]) -> bool
     if len < 1 {
         return false;
     }
-    if 64 < len {
+    if limits::VALUE < len {
         return false;
     }
-    value_length(givens, w, 32) == len
+    value_length(givens, w, LEVELS) == len
 }

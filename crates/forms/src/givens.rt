@@ -1,4 +1,6 @@
 // Given sets: the size of each, as the caller's table says, and the set of its elements.
+use codes::limits;
+use codes::value_tags;
 use values::held::Held;
 use values::held::append;
 use values::held::hold;
@@ -10,18 +12,23 @@ ghost use Rattle.values.specs.Value.{encode};
 ghost use Rattle.values.specs.Held.{keep};
 ghost use Rattle.values.specs.Givens.{elements, smallSize, sizeOf};
 
+// The tags as words.
+const SET: u32 = value_tags::SET as u32;
+
+const ELEMENT: u32 = value_tags::ELEMENT as u32;
+
 // The set of the n elements of g. Twenty elements have 62 words.
 pub fn given_set(g: u32, n: usize) -> Held
     ensures { λ r. ⌜ r ≡ keep (encode (elements g n)) ⌝ }
 {
-    if 20 < n {
+    if limits::ELEMENTS < n {
         return over();
     }
-    let head = [3, n as u32];
+    let head = [SET, n as u32];
     let mut v = hold(&head);
     let mut k = 0;
     while k < n {
-        let e = [2, g, k as u32];
+        let e = [ELEMENT, g, k as u32];
         v = append(v, &e);
         k += 1;
     }
@@ -31,7 +38,7 @@ pub fn given_set(g: u32, n: usize) -> Held
 fn small_size(n: usize) -> usize
     ensures { λ r. ⌜ (r ≡ smallSize n) × (r ≤ 20) ⌝ }
 {
-    if n <= 20 {
+    if n <= limits::ELEMENTS {
         return n;
     }
     0

@@ -1,4 +1,5 @@
 // How far a type's words reach, for any words.
+use codes::type_tags;
 use values::shapes::Former;
 use words::from;
 use words::word;
@@ -30,17 +31,17 @@ fn former_of(w: &[u32]) -> Former
     ensures { λ r. ⌜ r ≡ formerOf (now (w .entry)) ⌝ }
 {
     let tag = word(w, 0);
-    if tag == 2 {
+    if tag == type_tags::GIVEN {
         return Former::Plain(2);
     }
-    if tag == 3 {
+    if tag == type_tags::POWER {
         return Former::Group {
             start: 1,
             skip: 0,
             n: 1,
         };
     }
-    if tag == 4 {
+    if tag == type_tags::PRODUCT {
         let n = count_of(w);
         return Former::Group {
             start: 2,
@@ -48,7 +49,7 @@ fn former_of(w: &[u32]) -> Former
             n: n,
         };
     }
-    if tag == 5 {
+    if tag == type_tags::BINDING {
         let n = count_of(w);
         return Former::Group {
             start: 2,
@@ -56,7 +57,7 @@ fn former_of(w: &[u32]) -> Former
             n: n,
         };
     }
-    if tag == 6 {
+    if tag == type_tags::PARAMETER {
         return Former::Plain(2);
     }
     Former::Plain(1)

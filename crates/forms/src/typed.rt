@@ -1,6 +1,10 @@
 // A value against a type, by their words: finding 42's test.
+use super::form::LEVELS;
 use super::type_words::type_length;
+use codes::limits;
+use codes::type_tags;
 use values::shapes::Test;
+use values::span::HEAD;
 use values::span::span;
 use words::from;
 use words::word;
@@ -9,11 +13,12 @@ ghost use Prim.Native.Nat.{_<_, _≤_, _^_};
 ghost use lib.ListN.{length, drop};
 ghost use Rattle.values.specs.Typed.{typeStep, whether, testOf, each, hasType};
 
+// A recorded type has at most as many levels as its size.
 fn type_step(own: bool, t: &[u32]) -> usize
     ensures { λ r. ⌜ (r ≡ typeStep own (now (t .entry))) × (r ≤ length (now (t .entry))) ⌝ }
 {
     if own {
-        return type_length(t, 32);
+        return type_length(t, limits::SIZE);
     }
     0
 }
@@ -34,21 +39,21 @@ fn test_of(t: &[u32], w: &[u32]) -> Test
     if tag != word(w, 0) {
         return Test::Fails;
     }
-    if tag == 1 {
+    if tag == type_tags::INTEGERS {
         return Test::Passes;
     }
     let n = word(w, 1);
-    if tag == 2 {
+    if tag == type_tags::GIVEN {
         return whether(word(t, 1) == n);
     }
-    if tag == 3 {
+    if tag == type_tags::POWER {
         return Test::Each {
             own: false,
             start: 1,
             n: n,
         };
     }
-    if tag == 4 {
+    if tag == type_tags::PRODUCT {
         if word(t, 1) == n {
             return Test::Each {
                 own: true,
@@ -67,7 +72,7 @@ fn each_has(t: &[u32], w: &[u32], own: bool, n: usize, depth: usize) -> bool
     ensures { λ r. ⌜ r ≡ each (hasType depth) own n (now (t .entry)) (drop 2 (now (w .entry))) ⌝ }
 {
     let mut here = 0;
-    let mut at = 2;
+    let mut at = HEAD;
     let mut i = 0;
     while i < n {
         let u = from(t, here);
@@ -101,5 +106,5 @@ fn type_of(t: &[u32], w: &[u32], depth: usize) -> bool
 pub fn has_type(t: &[u32], w: &[u32]) -> bool
     ensures { λ r. ⌜ r ≡ hasType 32 (now (t .entry)) (now (w .entry)) ⌝ }
 {
-    type_of(t, w, 32)
+    type_of(t, w, LEVELS)
 }

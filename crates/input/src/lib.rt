@@ -1,10 +1,18 @@
 // The words of a program's input: four bytes a word, low byte first.
+use codes::limits::WORD_BYTES;
 use words::store;
 ghost use mathlib.Core.Path.{_≡_};
 ghost use mathlib.Core.List.{_++_};
 ghost use Prim.Native.Nat.{_+_, _*_, _≤_, _<_, _^_};
 ghost use lib.ListN.{length, getD, drop};
 ghost use Rattle.input.specs.Input.{wordAt, firstWords, areWords, wordsAfter};
+
+// What one counts in each byte after the first.
+const SECOND: u32 = 256;
+
+const THIRD: u32 = 256 * SECOND;
+
+const FOURTH: u32 = 256 * THIRD;
 
 // The byte at i, and 0 past the end.
 fn byte(bytes: &[u8], i: usize) -> u32
@@ -18,8 +26,8 @@ fn word_at(bytes: &[u8], i: usize) -> u32
     requires { ⌜ 4 * i + 4 ≤ length (now bytes) ⌝ }
     ensures { λ r. ⌜ r ≡ wordAt (now (bytes .entry)) i ⌝ }
 {
-    let low = byte(bytes, 4 * i) + 256 * byte(bytes, 4 * i + 1);
-    low + 65536 * byte(bytes, 4 * i + 2) + 16777216 * byte(bytes, 4 * i + 3)
+    let low = byte(bytes, WORD_BYTES * i) + SECOND * byte(bytes, WORD_BYTES * i + 1);
+    low + THIRD * byte(bytes, WORD_BYTES * i + 2) + FOURTH * byte(bytes, WORD_BYTES * i + 3)
 }
 
 // The first n words, at the beginning of an area.
@@ -40,10 +48,10 @@ pub fn take_words(bytes: &[u8], words: &mut [u32]) -> bool
     ensures { λ r. ⌜ r ≡ areWords (now (bytes .entry)) (length (now (words .entry))) ⌝ }
     ensures { λ _. ⌜ now (words .exit) ≡ wordsAfter (now (bytes .entry)) (now (words .entry)) ⌝ }
 {
-    if bytes.len() % 4 != 0 {
+    if bytes.len() % WORD_BYTES != 0 {
         return false;
     }
-    let n = bytes.len() / 4;
+    let n = bytes.len() / WORD_BYTES;
     if words.len() < n {
         return false;
     }

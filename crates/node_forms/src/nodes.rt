@@ -1,10 +1,13 @@
 // Findings 12 to 14, node by node.
+use crate::kinds::TOO_MANY;
 use crate::kinds::column;
 use crate::kinds::count_ok;
 use crate::kinds::of_sort;
 use crate::kinds::operand_count;
 use crate::kinds::plain_ok;
 use crate::kinds::sort_at;
+use crate::sorts;
+use codes::findings;
 use layout::part;
 use syntax::Reading;
 use words::word;
@@ -56,7 +59,7 @@ fn lower_at(doc: &[u32], k: usize, w: &[u32], i: usize) -> bool
 {
     let s = sort_at(w, i);
     let v = word(w, i);
-    if s <= 5 {
+    if s <= sorts::LAST_PLAIN {
         return true;
     }
     if v < 1 {
@@ -87,20 +90,20 @@ fn lower_nodes(doc: &[u32], k: usize, w: &[u32]) -> bool
 fn number_of(doc: &[u32], k: usize, w: &[u32]) -> u32
     ensures { λ r. ⌜ r ≡ numberOf (now (doc .entry)) k (now (w .entry)) ⌝ }
 {
-    let limit = column(word(w, 0), 1);
+    let limit = column(word(w, 0), TOO_MANY);
     if 0 < limit {
         if count_ok(w) {
             if plain_words(w) {
                 if lower_nodes(doc, k, w) {
                     return 0;
                 }
-                return 14;
+                return findings::WRONG_NODE;
             }
-            return 13;
+            return findings::WRONG_OPERANDS;
         }
-        return 13;
+        return findings::WRONG_OPERANDS;
     }
-    12
+    findings::UNLISTED_KIND
 }
 
 // The first finding among the nodes.

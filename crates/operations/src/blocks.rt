@@ -1,7 +1,10 @@
 // The names in the work area: blocks of 68 words, the newest last (specs/Blocks.antt).
+use crate::classes;
 use crate::worked::Worked;
 use crate::worked::go;
 use crate::worked::stop;
+use codes::findings;
+use codes::limits;
 use values::held::Held;
 use values::held::hold;
 use values::lookup::value_at;
@@ -21,6 +24,30 @@ ghost use Rattle.operations.specs.Worked.{Holds, Told, Valued};
 ghost use Rattle.evaluation.specs.Assignments.{noMore, domains};
 ghost use Rattle.operations.specs.Blocks.{Leaves, Stored, Scoped, Pending, Pushed, lastBlock, headed, valueOf};
 
+// The words of a block's head: the name, its class, and the place and length of its value.
+pub const HEAD: usize = 4;
+
+const CLASS: usize = 1;
+
+const PLACE: usize = 2;
+
+const LENGTH: usize = 3;
+
+// The words of a block: its head, and room for a value.
+pub const BLOCK: usize = HEAD + limits::VALUE;
+
+// Where a block with a set has its count, after its tag.
+pub const COUNT: usize = HEAD + 1;
+
+// The classes as words.
+const WAITING: u32 = classes::WAITING as u32;
+
+const IN_STATE: u32 = classes::IN_STATE as u32;
+
+pub const IN_WORK: u32 = classes::IN_WORK as u32;
+
+const GENERIC: u32 = classes::GENERIC as u32;
+
 // The last of the first n blocks that is in scope under a name, counted from 1; 0 where there is none.
 fn find(work: &[u32], n: usize, name: usize) -> usize
     requires { ⌜ n ≤ 240 ⌝ }
@@ -28,8 +55,8 @@ fn find(work: &[u32], n: usize, name: usize) -> usize
 {
     let mut b = n;
     while 0 < b {
-        if word(work, 68 * (b - 1)) == name {
-            if word(work, 68 * (b - 1) + 1) == 0 {
+        if word(work, BLOCK * (b - 1)) == name {
+            if word(work, BLOCK * (b - 1) + CLASS) == classes::WAITING {
                 b -= 1;
             } else {
                 return b;
@@ -46,13 +73,13 @@ fn value_of<'a>(state: &'a [u32], work: &'a [u32], b: usize) -> &'a [u32]
     requires { ⌜ b ≤ 240 ⌝ }
     ensures { λ r. ⌜ now r ≡ valueOf (now (state .entry)) (now (work .entry)) b ⌝ }
 {
-    let at = 68 * b;
+    let at = BLOCK * b;
     value_at(
         state,
         work,
-        word(work, at + 1) == 1,
-        word(work, at + 2),
-        word(work, at + 3),
+        word(work, at + CLASS) == classes::IN_STATE,
+        word(work, at + PLACE),
+        word(work, at + LENGTH),
     )
 }
 
@@ -70,13 +97,13 @@ pub fn refer<'a>(
 {
     let b = find(work, n, name);
     if b == 0 {
-        return stop(51, k);
+        return stop(findings::MISFIT, k);
     }
-    if word(work, 68 * (b - 1) + 1) == 3 {
-        return stop(54, k);
+    if word(work, BLOCK * (b - 1) + CLASS) == classes::GENERIC {
+        return stop(findings::NOT_RUN, k);
     }
     if actuals {
-        return stop(51, k);
+        return stop(findings::MISFIT, k);
     }
     go(hold(value_of(state, work, b - 1)), false)
 }
@@ -86,11 +113,11 @@ pub fn put_head(work: &mut [u32], b: usize, name: usize, class: u32, at: usize, 
     requires { ⌜ (b ≤ 240) × (name < 2 ^ 32) × (at < 2 ^ 32) × (len < 2 ^ 32) ⌝ }
     ensures { λ _. ⌜ now (work .exit) ≡ headed (now (work .entry)) b name class at len ⌝ }
 {
-    let base = 68 * b;
+    let base = BLOCK * b;
     store(work, base, name as u32);
-    store(work, base + 1, class);
-    store(work, base + 2, at as u32);
-    store(work, base + 3, len as u32);
+    store(work, base + CLASS, class);
+    store(work, base + PLACE, at as u32);
+    store(work, base + LENGTH, len as u32);
 }
 
 // Copies a value into block b.
@@ -99,7 +126,7 @@ pub fn put_value(work: &mut [u32], b: usize, v: Held)
     ensures { λ _. ⌜ now (work .exit) ≡ sets (now (work .entry)) (68 * b + 4) (v .words) ⌝ }
 {
     let w = v.words;
-    copy(&w, work, 68 * b + 4);
+    copy(&w, work, BLOCK * b + HEAD);
 }
 
 // The identifiers of a Decl with the words x, from j on, in blocks from b on, with the set v that they run through; not in scope yet.
@@ -110,7 +137,7 @@ pub fn put_domains(work: &mut [u32], b: usize, x: &[u32], j: usize, v: Held)
     if x.len() <= j {
         return;
     }
-    put_head(work, b, word(x, j), 0, 0, 0);
+    put_head(work, b, word(x, j), WAITING, 0, 0);
     put_value(work, b, v);
     put_domains(work, b + 1, x, j + 1, v);
 }
@@ -122,7 +149,7 @@ pub fn put_name(work: &mut [u32], n: usize, name: usize, v: Held)
 {
     let len = v.len;
     put_value(work, n, v);
-    put_head(work, n, name, 2, 68 * n + 4, len);
+    put_head(work, n, name, IN_WORK, BLOCK * n + HEAD, len);
 }
 
 // A new name in block n, whose value lies in the state.
@@ -130,7 +157,7 @@ pub fn put_entry(work: &mut [u32], n: usize, name: usize, at: usize, len: usize)
     requires { ⌜ (68 * (n + 1) ≤ length (now work)) × (n ≤ 239) × (name < 2 ^ 32) × (at < 2 ^ 32) × (len < 2 ^ 32) ⌝ }
     ensures { λ _. ⌜ Leaves n (now (work .entry)) (now (work .exit)) ((state : List ℕ) (scope : Scope) (x : Value) → Scoped state (now (work .entry)) n scope → Stored (take len (drop at state)) x → Scoped state (now (work .exit)) (n + 1) (bind name (valued x) scope)) ⌝ }
 {
-    put_head(work, n, name, 1, at, len);
+    put_head(work, n, name, IN_STATE, at, len);
 }
 
 // A new name in block n: an abbreviation with parameters.
@@ -138,5 +165,5 @@ pub fn put_generic(work: &mut [u32], n: usize, name: usize)
     requires { ⌜ (68 * (n + 1) ≤ length (now work)) × (n ≤ 239) × (name < 2 ^ 32) ⌝ }
     ensures { λ _. ⌜ Leaves n (now (work .entry)) (now (work .exit)) ((state : List ℕ) (scope : Scope) → Scoped state (now (work .entry)) n scope → Scoped state (now (work .exit)) (n + 1) (bind name generic scope)) ⌝ }
 {
-    put_head(work, n, name, 3, 0, 0);
+    put_head(work, n, name, GENERIC, 0, 0);
 }

@@ -3,6 +3,9 @@ use crate::worked::Worked;
 use crate::worked::go;
 use crate::worked::judge;
 use crate::worked::stop;
+use codes::findings;
+use codes::limits;
+use codes::value_tags;
 use values::held::Held;
 use values::held::append;
 use values::held::hold;
@@ -28,13 +31,18 @@ ghost use Rattle.operations.specs.Steps.{imageOf};
 ghost use Rattle.evaluation.specs.Rules.{amongMembers};
 ghost use Rattle.operations.specs.Worked.{narrow, Holds, Told, Valued, Judged, Gathered};
 
+// The tags as words.
+const SET: u32 = value_tags::SET as u32;
+
+const TUPLE: u32 = value_tags::TUPLE as u32;
+
 // A value that is complete: over 64 words is 55.
 pub fn kept(k: usize, v: Held) -> Worked
     requires { ⌜ k ≤ 1024 ⌝ }
     ensures { λ r. ⌜ ((x : Value) → v ≡ words (encode x) → narrow x ≡ true → Told Valued r (keep k x)) ⌝ }
 {
-    if 64 < v.len {
-        return stop(55, k);
+    if limits::VALUE < v.len {
+        return stop(findings::TOO_LONG, k);
     }
     go(v, false)
 }
@@ -59,10 +67,10 @@ pub fn among(k: usize, v: Held, s: Held) -> Worked
     let m = v.len;
     let w = s.words;
     let n = s.len;
-    if word(&w, 0) == 3 {
+    if word(&w, 0) == value_tags::SET {
         return judge(sets::is_member(words::span(&w, 0, n), words::span(&u, 0, m)));
     }
-    stop(51, k)
+    stop(findings::MISFIT, k)
 }
 
 // The set s with the member v; over 64 words is 55.
@@ -75,8 +83,8 @@ pub fn added(k: usize, s: Held, v: Held) -> Worked
     let w = v.words;
     let n = v.len;
     let t = sets::insert(words::span(&u, 0, m), words::span(&w, 0, n));
-    if 64 < t.len {
-        return stop(55, k);
+    if limits::VALUE < t.len {
+        return stop(findings::TOO_LONG, k);
     }
     go(t, false)
 }
@@ -93,8 +101,8 @@ pub fn applied(k: usize, f: Held, a: Held) -> Worked
     let p = sets::apply(words::span(&u, 0, m), words::span(&w, 0, n));
     match p {
         Applied::Found { at, len } => go(hold(words::span(words::span(&u, 0, m), at, len)), false),
-        Applied::Misfit => stop(51, k),
-        Applied::Undefined => stop(52, k),
+        Applied::Misfit => stop(findings::MISFIT, k),
+        Applied::Undefined => stop(findings::UNDEFINED, k),
     }
 }
 
@@ -132,7 +140,7 @@ pub fn member_at(v: Held, at: usize, len: usize) -> Held
 pub fn empty_set() -> Held
     ensures { λ r. ⌜ Holds r (Value.set nil) ⌝ }
 {
-    let w = [3, 0];
+    let w = [SET, 0];
     hold(&w)
 }
 
@@ -140,7 +148,7 @@ pub fn tuple_head(n: usize) -> Held
     requires { ⌜ (1 ≤ n) × (n ≤ 256) ⌝ }
     ensures { λ r. ⌜ r ≡ words (4 ∷ (n - 1) ∷ []) ⌝ }
 {
-    let w = [4, (n - 1) as u32];
+    let w = [TUPLE, (n - 1) as u32];
     hold(&w)
 }
 

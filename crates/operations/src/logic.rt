@@ -1,4 +1,5 @@
 // The connectives and the quantifiers: what truth values decide.
+use codes::kinds;
 ghost use mathlib.Core.Path.{_≡_};
 ghost use Rattle.syntax.specs.Decode.{connectiveOf, quantifierOf};
 ghost use Rattle.operations.specs.Steps.{decisionOf, verdictOf};
@@ -12,7 +13,7 @@ pub enum Decision {
 pub fn decides(q: usize, left: bool) -> Decision
     ensures { λ r. ⌜ r ≡ decisionOf (connectiveOf q) left ⌝ }
 {
-    if q == 26 {
+    if q == kinds::OR {
         if left {
             return Decision::Known(true);
         }
@@ -21,7 +22,7 @@ pub fn decides(q: usize, left: bool) -> Decision
     if left {
         return Decision::Right;
     }
-    if q == 27 {
+    if q == kinds::IMPLIES {
         return Decision::Known(true);
     }
     Decision::Known(false)
@@ -31,7 +32,7 @@ pub fn decides(q: usize, left: bool) -> Decision
 pub fn verdict(q: usize, b: bool) -> bool
     ensures { λ r. ⌜ r ≡ verdictOf (quantifierOf q) b ⌝ }
 {
-    if q == 29 {
+    if q == kinds::EXISTS {
         return b;
     }
     if b {

@@ -1,6 +1,7 @@
 // The names of a document with the values that a state gives them, and their blocks in the work area.
 use crate::blocks::put_entry;
 use crate::blocks::put_name;
+use codes::limits;
 use forms::givens::given_set;
 use layout::part;
 use states::places::place_of;
@@ -39,7 +40,7 @@ pub fn bounded(v: Held) -> Held
     ensures { λ r. ⌜ (r .len ≤ 65) × ((x : Value) → Holds v x → r ≡ v) ⌝ }
 {
     let len = v.len;
-    if 64 < len {
+    if limits::VALUE < len {
         return over();
     }
     v

@@ -3,6 +3,8 @@ use crate::worked::Worked;
 use crate::worked::go;
 use crate::worked::judge;
 use crate::worked::stop;
+use codes::findings;
+use codes::kinds;
 use integers::integer;
 use integers::integer::Integer;
 use values::held::Held;
@@ -33,8 +35,8 @@ fn kept_integer(k: usize, z: Integer) -> Worked
 {
     match z {
         Integer::Whole(i) => whole(i),
-        Integer::Undefined => stop(52, k),
-        Integer::Outside => stop(53, k),
+        Integer::Undefined => stop(findings::UNDEFINED, k),
+        Integer::Outside => stop(findings::OUTSIDE, k),
     }
 }
 
@@ -43,10 +45,10 @@ fn calculate(q: usize, a: i32, b: i32) -> Integer
     ensures { λ r. ⌜ r ≡ calculate (operatorOf q) a b ⌝ }
 {
     match q {
-        42 => integer::subtract(a, b),
-        43 => integer::multiply(a, b),
-        44 => integer::divide(a, b),
-        45 => integer::modulo(a, b),
+        kinds::MINUS => integer::subtract(a, b),
+        kinds::TIMES => integer::multiply(a, b),
+        kinds::DIV => integer::divide(a, b),
+        kinds::MOD => integer::modulo(a, b),
         _ => integer::add(a, b),
     }
 }
@@ -67,9 +69,9 @@ pub fn arithmetic(k: usize, q: usize, a: Held, b: Held) -> Worked
     let x = number(a);
     let y = number(b);
     match x {
-        Number::Misfit => stop(51, k),
+        Number::Misfit => stop(findings::MISFIT, k),
         Number::Integer(i) => match y {
-            Number::Misfit => stop(51, k),
+            Number::Misfit => stop(findings::MISFIT, k),
             Number::Integer(j) => kept_integer(k, calculate(q, i, j)),
         },
     }
@@ -82,9 +84,9 @@ pub fn at_most(k: usize, a: Held, b: Held) -> Worked
     let x = number(a);
     let y = number(b);
     match x {
-        Number::Misfit => stop(51, k),
+        Number::Misfit => stop(findings::MISFIT, k),
         Number::Integer(i) => match y {
-            Number::Misfit => stop(51, k),
+            Number::Misfit => stop(findings::MISFIT, k),
             Number::Integer(j) => judge(i <= j),
         },
     }
@@ -97,7 +99,7 @@ pub fn is_integer(k: usize, v: Held) -> Worked
 {
     let x = number(v);
     match x {
-        Number::Misfit => stop(51, k),
+        Number::Misfit => stop(findings::MISFIT, k),
         Number::Integer(i) => judge(true),
     }
 }

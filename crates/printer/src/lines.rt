@@ -13,13 +13,16 @@ ghost use Prim.Native.Nat.{_<_, _^_};
 ghost use Rattle.printer.specs.Lines.{entryLine, dictionarySize, entryLines, acceptedLines, refusedLine};
 ghost use Rattle.printer.specs.Buffer.{Put};
 
+// The words of an entry before its type: class, identifier, parameter count.
+const HEAD: usize = 3;
+
 // An entry's line: class, identifier, parameter count, a colon, type words.
 fn put_entry(out: &mut [u8], at: usize, entry: &[u32]) -> usize
     ensures { λ r. ⌜ Put (entryLine (now (entry .entry))) (now (out .entry)) at (now (out .exit)) r ⌝ }
 {
-    let front = put_numbers(out, at, span(entry, 0, 3));
+    let front = put_numbers(out, at, span(entry, 0, HEAD));
     let colon = put_text(out, front, b" :");
-    let types = put_each_spaced(out, colon, span(entry, 3, entry.len()));
+    let types = put_each_spaced(out, colon, span(entry, HEAD, entry.len()));
     put_byte(out, types, b'\n')
 }
 

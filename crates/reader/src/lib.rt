@@ -1,4 +1,7 @@
 // The reader of coded documents: findings 11 to 17 for any words (document 01, "The coded document", "Finding numbers").
+use codes::findings;
+use codes::limits::NODES;
+use codes::limits::WORDS;
 use layout::Form;
 use node_forms::nodes::check_nodes;
 use repeats::check_repeats;
@@ -18,6 +21,9 @@ ghost use Rattle.syntax.specs.Findings.{andThen};
 ghost use Rattle.syntax.specs.Reading.{lowest, readOf};
 ghost use Rattle.syntax.specs.declared.Reading.the-variants.{Readable};
 ghost use Rattle.repeats.specs.Parents.{Linked};
+
+// The places of a table of nodes, which are numbered from 1.
+const PLACES: usize = NODES + 1;
 
 // Findings 16 and 17, by the table of parents.
 fn check_tree(doc: &[u32], up: &[u32]) -> Reading
@@ -39,8 +45,8 @@ fn check_uses_and_tree(doc: &[u32]) -> Reading
     requires { ⌜ (laidOut documentForm (now doc) ≡ true) × (lowest (now doc) (nodeNumber (now doc)) ≡ Readable) ⌝ }
     ensures { λ r. ⌜ r ≡ andThen (lowest (now (doc .entry)) (useNumber (now (doc .entry)))) (andThen (lowest (now (doc .entry)) (repeatNumber (now (doc .entry)))) (lowest (now (doc .entry)) (limitNumber (now (doc .entry))))) ⌝ }
 {
-    let mut used = [0u32; 1025];
-    let mut up = [0u32; 1025];
+    let mut used = [0u32; PLACES];
+    let mut up = [0u32; PLACES];
     links::link_nodes(doc, &mut used, &mut up);
     let first = links::check_uses(doc, &used);
     match first {
@@ -58,9 +64,9 @@ pub fn read(doc: &[u32]) -> Reading
 {
     let form = Form {
         fewest: 1,
-        most: 1024,
+        most: NODES,
         shortest: 1,
-        longest: 16384,
+        longest: WORDS,
     };
     if layout::laid_out(doc, form) {
         let first = check_nodes(doc);
@@ -77,7 +83,7 @@ pub fn read(doc: &[u32]) -> Reading
         }
     }
     Reading::Refused {
-        number: 11,
+        number: findings::BROKEN_LAYOUT,
         place: 0,
     }
 }

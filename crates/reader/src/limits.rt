@@ -1,4 +1,8 @@
 // Finding 17: the limits.
+use crate::PLACES;
+use codes::findings;
+use codes::kinds;
+use codes::limits;
 use node_forms::kinds::is_between;
 use node_forms::nodes::kind_at;
 use repeats::written::declared_at;
@@ -20,13 +24,13 @@ ghost use Rattle.reader.specs.Counts.{reaches, counted, over, Declared, 
 fn is_closing(q: usize) -> bool
     ensures { λ r. ⌜ r ≡ isClosing q ⌝ }
 {
-    if q == 5 {
+    if q == kinds::ABBREVIATION {
         return true;
     }
-    if is_between(11, q, 12) {
+    if is_between(kinds::DECL, q, kinds::INCLUDE) {
         return true;
     }
-    is_between(21, q, 23)
+    is_between(kinds::EQUAL, q, kinds::AT_MOST)
 }
 
 // There are at least n nodes above k.
@@ -58,7 +62,7 @@ fn texts_above(doc: &[u32], up: &[u32], k: usize, n: usize) -> usize
     }
     let rest = texts_above(doc, up, a, n - 1);
     let q = kind_at(doc, a);
-    if q == 10 {
+    if q == kinds::TEXT {
         return 1 + rest;
     }
     rest
@@ -78,7 +82,7 @@ fn crowd(doc: &[u32], up: &[u32], k: usize, n: usize, below: &mut [u32]) -> bool
     }
     if is_closing(kind_at(doc, a)) {
         let c = word(below, a) + 1;
-        if 24 < c {
+        if limits::BELOW < c {
             return true;
         }
         store(below, a, c as u32);
@@ -93,8 +97,8 @@ fn is_nested(doc: &[u32], up: &[u32], k: usize) -> bool
     ensures { λ r. ⌜ r ≡ tooNested (now (doc .entry)) k ⌝ }
 {
     let q = kind_at(doc, k);
-    if q == 10 {
-        return 4 < 1 + texts_above(doc, up, k, 12);
+    if q == kinds::TEXT {
+        return limits::TEXTS < 1 + texts_above(doc, up, k, limits::DEPTH);
     }
     false
 }
@@ -105,11 +109,11 @@ fn widen(doc: &[u32], up: &[u32], k: usize, declared: &mut [u32]) -> bool
     ensures { λ r. ⌜ (r ≡ tooWide (now (doc .entry)) k) × (r ≡ false → Declared (now (doc .entry)) k (now (declared .exit))) ⌝ }
 {
     let q = kind_at(doc, k);
-    if q == 11 {
+    if q == kinds::DECL {
         let t = word(up, k);
         let ids = declared_at(doc, k);
         let n = word(declared, t) + ids.len();
-        if 6 < n {
+        if limits::DECLARED < n {
             return true;
         }
         store(declared, t, n as u32);
@@ -123,7 +127,7 @@ fn limit_at(doc: &[u32], up: &[u32], k: usize, below: &mut [u32], declared: &mut
     requires { ⌜ Linked (now doc) (now up) × (1 ≤ k) × (k ≤ count (now doc)) × Counted (now doc) (k - 1) (now below) (now declared) ⌝ }
     ensures { λ r. ⌜ (r ≡ pastTree (now (doc .entry)) k) × (r ≡ false → Counted (now (doc .entry)) k (now (below .exit)) (now (declared .exit))) ⌝ }
 {
-    if has_above(doc, up, k, 12) {
+    if has_above(doc, up, k, limits::DEPTH) {
         return true;
     }
     if is_nested(doc, up, k) {
@@ -132,7 +136,7 @@ fn limit_at(doc: &[u32], up: &[u32], k: usize, below: &mut [u32], declared: &mut
     if widen(doc, up, k, declared) {
         return true;
     }
-    crowd(doc, up, k, 12, below)
+    crowd(doc, up, k, limits::DEPTH, below)
 }
 
 // The first node past a limit.
@@ -140,23 +144,23 @@ pub fn check_limits(doc: &[u32], up: &[u32]) -> Reading
     requires { ⌜ Linked (now doc) (now up) ⌝ }
     ensures { λ r. ⌜ r ≡ lowest (now (doc .entry)) (limitNumber (now (doc .entry))) ⌝ }
 {
-    let mut below = [0u32; 1025];
-    let mut declared = [0u32; 1025];
+    let mut below = [0u32; PLACES];
+    let mut declared = [0u32; PLACES];
     let mut globals = 0;
     let n = word(doc, 0);
     let mut k = 1;
     while k < n + 1 {
         if limit_at(doc, up, k, &mut below, &mut declared) {
             return Reading::Refused {
-                number: 17,
+                number: findings::PAST_LIMIT,
                 place: k as u32,
             };
         }
         let ids = globals_at(doc, up, k);
         globals += ids.len();
-        if 64 < globals {
+        if limits::GLOBALS < globals {
             return Reading::Refused {
-                number: 17,
+                number: findings::PAST_LIMIT,
                 place: k as u32,
             };
         }

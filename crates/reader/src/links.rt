@@ -1,8 +1,11 @@
 // Uses and parents of nodes, and finding 15.
+use codes::findings;
+use codes::kinds;
 use layout::part;
 use node_forms::kinds::operand_count;
 use node_forms::kinds::sort_at;
 use node_forms::nodes::kind_at;
+use node_forms::sorts;
 use syntax::Reading;
 use words::store;
 use words::word;
@@ -32,7 +35,7 @@ fn link_at(w: &[u32], k: usize, i: usize, used: &mut [u32], up: &mut [u32])
     requires { ⌜ k < 2 ^ 32 ⌝ }
     ensures { λ _. ⌜ (now (used .exit) ≡ tallyAt (now (w .entry)) i (now (used .entry))) × (now (up .exit) ≡ linkAt (now (w .entry)) k i (now (up .entry))) ⌝ }
 {
-    if sort_at(w, i) <= 5 {
+    if sort_at(w, i) <= sorts::LAST_PLAIN {
         return;
     }
     let v = word(w, i);
@@ -75,17 +78,17 @@ fn use_number(doc: &[u32], used: &[u32], k: usize) -> u32
     let q = kind_at(doc, k);
     if k < n {
         if m == 1 {
-            if q == 1 {
-                return 15;
+            if q == kinds::DOCUMENT {
+                return findings::WRONG_USE;
             }
             return 0;
         }
-        return 15;
+        return findings::WRONG_USE;
     }
-    if q == 1 {
+    if q == kinds::DOCUMENT {
         return 0;
     }
-    15
+    findings::WRONG_USE
 }
 
 // The first node that is used twice or never, or is a Document that is not last, or is last and no Document.

@@ -6,10 +6,14 @@ use crate::written::declared_at;
 use crate::written::globals_at;
 use crate::written::parameters_at;
 use crate::written::schemas_at;
+use codes::findings;
+use codes::identifiers;
+use codes::kinds;
 use layout::part;
 use node_forms::kinds::operand_count;
 use node_forms::kinds::sort_at;
 use node_forms::nodes::kind_at;
+use node_forms::sorts;
 use syntax::Reading;
 use words::word;
 
@@ -27,20 +31,25 @@ ghost use Rattle.syntax.specs.Reading.{lowest};
 ghost use Rattle.repeats.specs.Parents.{Linked};
 ghost use Rattle.repeats.specs.Marks.{Written, sharedAt};
 
+// The places of the tables of marks: one for each name, and one for each identifier.
+const NAMES: usize = identifiers::LARGEST_NAME + 1;
+
+const IDENTIFIERS: usize = identifiers::STROKES * NAMES;
+
 // Operand i of the node with the words w is a Decl before node k that declares one of the identifiers.
 fn shared_at(doc: &[u32], k: usize, ids: &[u32], w: &[u32], i: usize) -> bool
     ensures { λ r. ⌜ r ≡ sharedAt (now (doc .entry)) k (now (ids .entry)) (now (w .entry)) i ⌝ }
 {
     let s = sort_at(w, i);
     let d = word(w, i);
-    if s <= 5 {
+    if s <= sorts::LAST_PLAIN {
         return false;
     }
     if k <= d {
         return false;
     }
     let q = kind_at(doc, d);
-    if q == 11 {
+    if q == kinds::DECL {
         return share(declared_at(doc, d), ids);
     }
     false
@@ -66,7 +75,7 @@ fn repeats_in_text(doc: &[u32], up: &[u32], k: usize) -> bool
     ensures { λ r. ⌜ r ≡ repeatsIn (declaredIn (now (doc .entry)) (parent (now (doc .entry)) k)) k ⌝ }
 {
     let q = kind_at(doc, k);
-    if q == 11 {
+    if q == kinds::DECL {
         let ids = declared_at(doc, k);
         let t = word(up, k);
         if are_distinct(ids) {
@@ -85,17 +94,17 @@ fn repeat_number(doc: &[u32], up: &[u32], k: usize, seen: &mut [u8], names: &mut
 {
     if mark_new(globals_at(doc, up, k), seen) {
         if repeats_in_text(doc, up, k) {
-            return 16;
+            return findings::REPEATED;
         }
         if are_distinct(parameters_at(doc, k)) {
             if mark_new(schemas_at(doc, k), names) {
                 return 0;
             }
-            return 16;
+            return findings::REPEATED;
         }
-        return 16;
+        return findings::REPEATED;
     }
-    16
+    findings::REPEATED
 }
 
 // The first node that repeats what was written before it.
@@ -103,8 +112,8 @@ pub fn check_repeats(doc: &[u32], up: &[u32]) -> Reading
     requires { ⌜ Linked (now doc) (now up) ⌝ }
     ensures { λ r. ⌜ r ≡ lowest (now (doc .entry)) (repeatNumber (now (doc .entry))) ⌝ }
 {
-    let mut seen = [0u8; 65536];
-    let mut names = [0u8; 16384];
+    let mut seen = [0u8; IDENTIFIERS];
+    let mut names = [0u8; NAMES];
     let n = word(doc, 0);
     let mut k = 1;
     while k < n + 1 {

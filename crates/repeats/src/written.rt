@@ -1,4 +1,5 @@
 // What a node writes: identifiers and schema names.
+use codes::kinds;
 use layout::part;
 use node_forms::kinds::is_between;
 use node_forms::nodes::kind_at;
@@ -15,10 +16,10 @@ fn is_axiom_decl(doc: &[u32], up: &[u32], k: usize) -> bool
     ensures { λ r. ⌜ r ≡ isAxiomDecl (now (doc .entry)) k ⌝ }
 {
     let q = kind_at(doc, k);
-    if q == 11 {
+    if q == kinds::DECL {
         let t = word(up, k);
         let p = word(up, t);
-        return kind_at(doc, p) == 3;
+        return kind_at(doc, p) == kinds::AXIOM;
     }
     false
 }
@@ -30,10 +31,10 @@ pub fn globals_at<'a>(doc: &'a [u32], up: &[u32], k: usize) -> &'a [u32]
 {
     let q = kind_at(doc, k);
     let w = part(doc, k);
-    if q == 2 {
+    if q == kinds::GIVEN {
         return span(w, 1, w.len());
     }
-    if q == 5 {
+    if q == kinds::ABBREVIATION {
         return span(w, 1, 1);
     }
     if is_axiom_decl(doc, up, k) {
@@ -48,7 +49,7 @@ pub fn schemas_at(doc: &[u32], k: usize) -> &[u32]
 {
     let q = kind_at(doc, k);
     let w = part(doc, k);
-    if q == 4 {
+    if q == kinds::SCHEMA {
         return span(w, 1, 1);
     }
     span(w, 0, 0)
@@ -60,7 +61,7 @@ pub fn parameters_at(doc: &[u32], k: usize) -> &[u32]
 {
     let q = kind_at(doc, k);
     let w = part(doc, k);
-    if is_between(4, q, 5) {
+    if is_between(kinds::SCHEMA, q, kinds::ABBREVIATION) {
         return span(w, 3, word(w, 2));
     }
     span(w, 0, 0)

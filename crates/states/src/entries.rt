@@ -1,4 +1,6 @@
 // The entries of a state, by the table of the names: all Given entries, then the others.
+use codes::findings;
+use codes::limits;
 use forms::form::is_value;
 use layout::part;
 use syntax::Reading;
@@ -14,7 +16,7 @@ fn is_size(w: &[u32]) -> bool
     ensures { λ r. ⌜ r ≡ isSize (now (w .entry)) ⌝ }
 {
     if w.len() == 1 {
-        return word(w, 0) <= 20;
+        return word(w, 0) <= limits::ELEMENTS;
     }
     false
 }
@@ -31,7 +33,7 @@ fn given_by(table: &[u32], state: &[u32], k: usize) -> u32
     if is_size(part(state, k)) {
         return 0;
     }
-    41
+    findings::ILL_FORMED
 }
 
 // 41 at entry k if it is not a given's, 0 for none.
@@ -44,7 +46,7 @@ fn value_by(table: &[u32], state: &[u32], k: usize) -> u32
         if is_value(table, part(state, k)) {
             return 0;
         }
-        return 41;
+        return findings::ILL_FORMED;
     }
     0
 }

@@ -1,4 +1,6 @@
 // States on words: which names of a document a state gives values to, and finding 41 with its place. The definitions are in specs/.
+use codes::findings;
+use codes::limits;
 use layout::Form;
 use syntax::Reading;
 use words::word;
@@ -19,25 +21,25 @@ pub fn check_names(doc: &[u32], state: &[u32]) -> Reading
     requires { ⌜ readOf (now doc) ≡ Readable ⌝ }
     ensures { λ r. ⌜ r ≡ stateOf (documentNames (treeOf (now (doc .entry)))) (now (state .entry)) ⌝ }
 {
-    let mut table = [0u32; 2050];
+    let mut table = [0u32; names::TABLE_WORDS];
     let n = names::put_names(doc, state, &mut table);
     let form = Form {
         fewest: 0,
-        most: 1024,
+        most: limits::NODES,
         shortest: 1,
-        longest: 16384,
+        longest: limits::WORDS,
     };
     if layout::laid_out(state, form) {
         if word(state, 0) == n {
             return entries::check_entries(&table, state, n);
         }
         return Reading::Refused {
-            number: 41,
+            number: findings::ILL_FORMED,
             place: 0,
         };
     }
     Reading::Refused {
-        number: 41,
+        number: findings::ILL_FORMED,
         place: 0,
     }
 }

@@ -1,4 +1,6 @@
 // The names of a readable document, in Document order: how many, and the givens among them with the sizes that a state gives them.
+use codes::kinds;
+use codes::limits;
 use layout::part;
 use node_forms::nodes::kind_at;
 use node_forms::nodes::operand;
@@ -17,13 +19,16 @@ ghost use Rattle.syntax.specs.declared.Reading.the-variants.{Readable};
 ghost use Rattle.states.specs.Names.{namesAs, lineNames, paragraphNames, documentNames};
 ghost use Rattle.states.specs.Table.{putPair, putNames, lineCount};
 
+// The words of the table of names: for each entry of a state, from 1 on, its given and the size of that; a pair of zeros where the name is no given.
+pub const TABLE_WORDS: usize = 2 * (limits::NODES + 1);
+
 // The number of names that line k writes.
 pub fn line_count(doc: &[u32], k: usize) -> usize
     requires { ⌜ At (now doc) lines k ⌝ }
     ensures { λ r. ⌜ (r ≡ lineCount (now (doc .entry)) k) × (r ≤ 8) ⌝ }
 {
     let q = kind_at(doc, k);
-    if q == 11 {
+    if q == kinds::DECL {
         return part(doc, k).len() - 2;
     }
     0
@@ -50,10 +55,10 @@ pub fn paragraph_count(doc: &[u32], p: usize) -> usize
     ensures { λ r. ⌜ (r ≡ length (paragraphNames (paragraphAt (now (doc .entry)) p))) × (r ≤ 64) ⌝ }
 {
     let q = kind_at(doc, p);
-    if q == 2 {
+    if q == kinds::GIVEN {
         return part(doc, p).len() - 1;
     }
-    if q == 3 {
+    if q == kinds::AXIOM {
         return text_count(doc, operand(doc, p, 1));
     }
     0
@@ -87,12 +92,12 @@ fn put_paragraph(doc: &[u32], k: usize, state: &[u32], n: usize, table: &mut [u3
     ensures { λ r. ⌜ (r ≡ n + length (paragraphNames (paragraphAt (now (doc .entry)) k))) × (now (table .exit) ≡ putNames (paragraphNames (paragraphAt (now (doc .entry)) k)) (now (state .entry)) (n + 1) (now (table .entry))) × (r ≤ n + 64) ⌝ }
 {
     let q = kind_at(doc, k);
-    if q == 2 {
+    if q == kinds::GIVEN {
         let w = part(doc, k);
         put_given(w, state, n, table);
         return n + (w.len() - 1);
     }
-    if q == 3 {
+    if q == kinds::AXIOM {
         return n + text_count(doc, operand(doc, k, 1));
     }
     n

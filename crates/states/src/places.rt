@@ -1,6 +1,7 @@
 // The entry of a name in a state.
 use crate::names::line_count;
 use crate::names::paragraph_count;
+use codes::kinds;
 use layout::part;
 use node_forms::nodes::kind_at;
 use node_forms::nodes::operand;
@@ -44,7 +45,7 @@ fn place_in_line(doc: &[u32], v: usize, k: usize, name: usize) -> usize
     ensures { λ r. ⌜ r ≡ linePlace (now (doc .entry)) v name k ⌝ }
 {
     let q = kind_at(doc, v);
-    if q == 11 {
+    if q == kinds::DECL {
         return place_in(part(doc, v), 2, k, name);
     }
     0
@@ -76,10 +77,10 @@ fn place_in_paragraph(doc: &[u32], p: usize, k: usize, name: usize) -> usize
     ensures { λ r. ⌜ r ≡ entryFrom (paragraphNames (paragraphAt (now (doc .entry)) p)) name k ⌝ }
 {
     let q = kind_at(doc, p);
-    if q == 2 {
+    if q == kinds::GIVEN {
         return place_in(part(doc, p), 1, k, name);
     }
-    if q == 3 {
+    if q == kinds::AXIOM {
         return place_in_text(doc, operand(doc, p, 1), k, name);
     }
     0

@@ -1,12 +1,16 @@
 // A value by value: at most 64 words and their number. A value of over 64 words, finding 55, has the length 65.
+use codes::limits;
 use words::copy;
 ghost use mathlib.Core.Path.{_≡_};
 ghost use mathlib.Core.List.{List, [], _++_};
 ghost use Prim.Native.Nat.{ℕ};
 ghost use Rattle.values.specs.Held.{over, keep};
 
+// The length of a value that is not held.
+const OVER: usize = limits::VALUE + 1;
+
 pub struct Held {
-    pub words: [u32; 64],
+    pub words: [u32; limits::VALUE],
     pub len: usize,
 }
 
@@ -14,8 +18,8 @@ pub fn over() -> Held
     ensures { λ r. ⌜ r ≡ over ⌝ }
 {
     Held {
-        words: [0u32; 64],
-        len: 65,
+        words: [0u32; limits::VALUE],
+        len: OVER,
     }
 }
 
@@ -23,7 +27,7 @@ pub fn empty() -> Held
     ensures { λ r. ⌜ r ≡ keep [] ⌝ }
 {
     Held {
-        words: [0u32; 64],
+        words: [0u32; limits::VALUE],
         len: 0,
     }
 }
@@ -33,10 +37,10 @@ pub fn append(v: Held, w: &[u32]) -> Held
     ensures { λ r. ⌜ ((ws : List ℕ) → v ≡ keep ws → r ≡ keep (ws ++ now (w .entry))) ⌝ }
 {
     let len = v.len;
-    if 64 < len {
+    if limits::VALUE < len {
         return over();
     }
-    if 64 - len < w.len() {
+    if limits::VALUE - len < w.len() {
         return over();
     }
     let mut words = v.words;

@@ -1,6 +1,7 @@
 // Integers as values.
 use super::held::Held;
 use super::held::hold;
+use codes::value_tags;
 use integers::integer::signed;
 use integers::integer::word_of;
 use words::word;
@@ -8,6 +9,9 @@ ghost use mathlib.Core.Path.{_≡_};
 ghost use Rattle.values.specs.Held.{keep};
 ghost use Rattle.values.specs.Numbers.{numberOf};
 ghost use Rattle.values.specs.Value.{int, encode};
+
+// The tag as a word.
+const INTEGER: u32 = value_tags::INTEGER as u32;
 
 // What a value is as an integer. `findingOf` of specs/Numbers.antt has each case's number.
 pub enum Number {
@@ -18,7 +22,7 @@ pub enum Number {
 pub fn number_of(w: &[u32]) -> Number
     ensures { λ r. ⌜ r ≡ numberOf (now (w .entry)) ⌝ }
 {
-    if word(w, 0) == 1 {
+    if word(w, 0) == value_tags::INTEGER {
         return Number::Integer(signed(word(w, 1) as u32));
     }
     Number::Misfit
@@ -27,6 +31,6 @@ pub fn number_of(w: &[u32]) -> Number
 pub fn integer_value(z: i32) -> Held
     ensures { λ r. ⌜ r ≡ keep (encode (int z)) ⌝ }
 {
-    let w = [1, word_of(z)];
+    let w = [INTEGER, word_of(z)];
     hold(&w)
 }

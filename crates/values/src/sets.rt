@@ -6,13 +6,18 @@ use super::held::hold;
 use super::order::Order;
 use super::order::compare;
 use super::order::same;
+use super::span::HEAD;
 use super::span::span;
+use codes::value_tags;
 use words::from;
 use words::word;
 ghost use mathlib.Core.Path.{_≡_};
 ghost use Prim.Native.Nat.{_<_, _^_};
 ghost use Rattle.values.specs.Held.{keep};
 ghost use Rattle.values.specs.Sets.{first, isMember, place, insertAt, insert, isPair, second, apply};
+
+// The tag as a word.
+const SET: u32 = value_tags::SET as u32;
 
 // Where a member goes in a set: before the word at a place, or it is there already.
 pub enum Place {
@@ -38,7 +43,7 @@ pub fn is_member(s: &[u32], m: &[u32]) -> bool
     ensures { λ r. ⌜ r ≡ isMember (now (s .entry)) (now (m .entry)) ⌝ }
 {
     let n = word(s, 1);
-    let mut at = 2;
+    let mut at = HEAD;
     let mut i = 0;
     while i < n {
         let w = from(s, at);
@@ -55,7 +60,7 @@ fn place_of(s: &[u32], m: &[u32]) -> Place
     ensures { λ r. ⌜ r ≡ place (now (s .entry)) (now (m .entry)) ⌝ }
 {
     let n = word(s, 1);
-    let mut at = 2;
+    let mut at = HEAD;
     let mut i = 0;
     while i < n {
         let w = from(s, at);
@@ -75,9 +80,9 @@ fn place_of(s: &[u32], m: &[u32]) -> Place
 fn insert_at(p: usize, s: &[u32], m: &[u32]) -> Held
     ensures { λ r. ⌜ r ≡ keep (insertAt (Place.At p) (now (s .entry)) (now (m .entry))) ⌝ }
 {
-    let head = [3, std::num::wrapping_add_u32(word(s, 1) as u32, 1)];
+    let head = [SET, std::num::wrapping_add_u32(word(s, 1) as u32, 1)];
     let a = append(empty(), &head);
-    let b = append(a, from(words::span(s, 0, p), 2));
+    let b = append(a, from(words::span(s, 0, p), HEAD));
     let c = append(b, m);
     append(c, from(s, p))
 }
@@ -96,7 +101,7 @@ pub fn insert(s: &[u32], m: &[u32]) -> Held
 fn is_pair(w: &[u32]) -> bool
     ensures { λ r. ⌜ r ≡ isPair (now (w .entry)) ⌝ }
 {
-    if word(w, 0) == 4 {
+    if word(w, 0) == value_tags::TUPLE {
         return word(w, 1) == 2;
     }
     false
@@ -110,7 +115,7 @@ fn second(at: usize, w: &[u32]) -> Applied
     let k = span(w);
     let len = span(from(w, k));
     Applied::Found {
-        at: at + 2 + k,
+        at: at + HEAD + k,
         len: len,
     }
 }
@@ -119,16 +124,16 @@ fn second(at: usize, w: &[u32]) -> Applied
 pub fn apply(f: &[u32], a: &[u32]) -> Applied
     ensures { λ r. ⌜ r ≡ apply (now (f .entry)) (now (a .entry)) ⌝ }
 {
-    if word(f, 0) != 3 {
+    if word(f, 0) != value_tags::SET {
         return Applied::Misfit;
     }
     let n = word(f, 1);
-    let mut at = 2;
+    let mut at = HEAD;
     let mut i = 0;
     while i < n {
         let w = from(f, at);
         if is_pair(w) {
-            let parts = from(w, 2);
+            let parts = from(w, HEAD);
             if same(first(parts), a) {
                 return second(at, parts);
             }
