@@ -1,3 +1,6 @@
+// Bytes of a word.
+pub const WORD_BYTES: usize = 4;
+
 // A document: nodes and words.
 pub const NODES: usize = 1024;
 
@@ -20,6 +23,17 @@ pub const GLOBALS: usize = 64;
 
 // Parameters, or actuals.
 pub const PARAMETERS: usize = 4;
+
+// Rename pairs of an Include.
+pub const RENAMES: usize = 6;
+
+// The fewest and the most parts of a tuple or product.
+pub const FEWEST_PARTS: usize = 2;
+
+pub const PARTS: usize = 6;
+
+// The largest Number.
+pub const NUMBER: usize = 2147483647;
 
 // The size of a declared type or of a component's type, and the identifiers of a signature.
 pub const SIZE: usize = 32;
