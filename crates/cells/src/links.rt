@@ -1,5 +1,6 @@
 // Links between cells, and representatives.
 use crate::area::LINKS;
+use crate::area::SETTLED;
 use words::store;
 use words::word;
 ghost use mathlib.Core.Path.{_≡_};
@@ -15,7 +16,7 @@ pub fn link(a: &[u32], k: usize) -> usize
     ensures { λ r. ⌜ (r ≡ linkAt (now (a .entry)) k) × (r < 1025) ⌝ }
 {
     let v = word(a, LINKS + k);
-    if v < 1025 {
+    if v < SETTLED {
         return v;
     }
     0

@@ -1,5 +1,10 @@
 // Cells that are given a settled type, by its words.
+use crate::area::ARGUMENT;
+use crate::area::COUNT;
 use crate::area::LINKS;
+use crate::area::SETTLED;
+use crate::area::TAG;
+use crate::area::UNKNOWN;
 use crate::area::field;
 use crate::area::held;
 use crate::area::part;
@@ -10,6 +15,7 @@ use crate::type_words::parts_of;
 use crate::type_words::same_type;
 use crate::type_words::skip;
 use crate::type_words::type_word;
+use codes::type_tags;
 use words::store;
 use words::word;
 ghost use Rattle.cells.specs.Settled.{Meeting, Naming, SameNames, SameFormer, Pinning, Pin, Settling};
@@ -19,7 +25,7 @@ fn same_names(a: &[u32], d: &[u32], r: usize, p: usize, n: usize) -> bool
     requires { ⌜ Naming (now a) (now d) r p n ⌝ }
     ensures { λ b. ⌜ SameNames (now (a .entry)) (now (d .entry)) r p n b ⌝ }
 {
-    let ids = field(a, r, 1);
+    let ids = field(a, r, ARGUMENT);
     let mut at = p + 2;
     let mut j = 0;
     while j < n {
@@ -37,21 +43,21 @@ fn same_former(a: &[u32], d: &[u32], r: usize, p: usize) -> bool
     requires { ⌜ Meeting (now a) (now d) r p ⌝ }
     ensures { λ b. ⌜ SameFormer (now (a .entry)) (now (d .entry)) r p b ⌝ }
 {
-    let t = field(a, r, 0);
+    let t = field(a, r, TAG);
     if t != type_word(a, d, p) {
         return false;
     }
-    let n = field(a, r, 3);
+    let n = field(a, r, COUNT);
     if n != parts_of(a, d, t, p) {
         return false;
     }
-    if t == 5 {
+    if t == type_tags::BINDING {
         return same_names(a, d, r, p, n);
     }
     if lead_words(t) == 1 {
         return true;
     }
-    if field(a, r, 1) != type_word(a, d, p + 1) {
+    if field(a, r, ARGUMENT) != type_word(a, d, p + 1) {
         return false;
     }
     true
@@ -63,11 +69,11 @@ fn settle(a: &mut [u32], d: &[u32], r: usize, p: usize) -> bool
     ensures { λ b. ⌜ Pin (now (a .entry)) (now (a .exit)) (now (d .entry)) r p b ⌝ }
 {
     let q = word(a, LINKS + r);
-    if q < 1025 {
-        store(a, LINKS + r, (1025 + p) as u32);
+    if q < SETTLED {
+        store(a, LINKS + r, (SETTLED + p) as u32);
         return true;
     }
-    same_type(a, d, p, q - 1025)
+    same_type(a, d, p, q - SETTLED)
 }
 
 // Cell c is given the type at p: an unknown refers to it, a former's parts are given its parts.
@@ -76,12 +82,12 @@ pub fn pin(a: &mut [u32], d: &[u32], c: usize, p: usize) -> bool
     ensures { λ b. ⌜ Pin (now (a .entry)) (now (a .exit)) (now (d .entry)) c p b ⌝ }
 {
     let r = find(a, c);
-    let t = field(a, r, 0);
-    if t == 0 {
+    let t = field(a, r, TAG);
+    if t == UNKNOWN {
         return settle(a, d, r, p);
     }
     if same_former(a, d, r, p) {
-        let n = field(a, r, 3);
+        let n = field(a, r, COUNT);
         let w = name_words(t);
         let mut at = p + lead_words(t);
         let mut j = 0;

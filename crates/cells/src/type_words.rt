@@ -1,5 +1,7 @@
 // Type words that cells refer to.
-use crate::area::LINKS;
+use crate::area::DICTIONARY;
+use crate::area::POOL;
+use codes::type_tags;
 use words::word;
 ghost use mathlib.Core.Path.{_≡_};
 ghost use Prim.Native.Nat.{_+_, _<_, _≤_, _^_};
@@ -11,20 +13,20 @@ pub fn type_word(a: &[u32], d: &[u32], p: usize) -> usize
     requires { ⌜ length (now a) ≡ 52224 ⌝ }
     ensures { λ r. ⌜ (r ≡ getD (heap (now (a .entry)) (now (d .entry))) p 0) × (r < 2 ^ 32) ⌝ }
 {
-    if p < LINKS {
+    if p < POOL {
         return word(a, p);
     }
-    word(d, p - LINKS)
+    word(d, p - DICTIONARY)
 }
 
 // The words of a type before its parts, by its tag.
 pub fn lead_words(t: usize) -> usize
     ensures { λ r. ⌜ (r ≡ leadWords t) × (r ≤ 2) × (0 < r) ⌝ }
 {
-    if t == 1 {
+    if t == type_tags::INTEGERS {
         return 1;
     }
-    if t == 3 {
+    if t == type_tags::POWER {
         return 1;
     }
     2
@@ -34,7 +36,7 @@ pub fn lead_words(t: usize) -> usize
 pub fn name_words(t: usize) -> usize
     ensures { λ r. ⌜ (r ≡ nameWords t) × (r ≤ 1) ⌝ }
 {
-    if t == 5 {
+    if t == type_tags::BINDING {
         return 1;
     }
     0
@@ -45,13 +47,13 @@ pub fn parts_of(a: &[u32], d: &[u32], t: usize, p: usize) -> usize
     requires { ⌜ (length (now a) ≡ 52224) × (p < 2 ^ 40) ⌝ }
     ensures { λ r. ⌜ (r ≡ partsOf t (getD (heap (now (a .entry)) (now (d .entry))) (p + 1) 0)) × (r < 2 ^ 32) ⌝ }
 {
-    if t == 3 {
+    if t == type_tags::POWER {
         return 1;
     }
-    if t == 4 {
+    if t == type_tags::PRODUCT {
         return type_word(a, d, p + 1);
     }
-    if t == 5 {
+    if t == type_tags::BINDING {
         return type_word(a, d, p + 1);
     }
     0

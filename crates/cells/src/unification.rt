@@ -1,13 +1,19 @@
 // The equation of two cells.
+use crate::area::ARGUMENT;
+use crate::area::COUNT;
 use crate::area::LINKS;
 use crate::area::PAIRS;
 use crate::area::SECONDS;
+use crate::area::SETTLED;
+use crate::area::TAG;
+use crate::area::UNKNOWN;
 use crate::area::field;
 use crate::area::held;
 use crate::area::part;
 use crate::links::find;
 use crate::links::set_link;
 use crate::settling::pin;
+use codes::type_tags;
 use words::store;
 use words::word;
 ghost use mathlib.Core.Path.{_≡_};
@@ -42,17 +48,17 @@ fn same_head(a: &[u32], x: usize, y: usize) -> bool
     requires { ⌜ Two (frozen (now a)) x y ⌝ }
     ensures { λ r. ⌜ Tells r (Alike (frozen (now (a .entry))) x y) ⌝ }
 {
-    let t = field(a, x, 0);
-    if t != field(a, y, 0) {
+    let t = field(a, x, TAG);
+    if t != field(a, y, TAG) {
         return false;
     }
-    let k = field(a, x, 3);
-    if k != field(a, y, 3) {
+    let k = field(a, x, COUNT);
+    if k != field(a, y, COUNT) {
         return false;
     }
-    let p = field(a, x, 1);
-    let q = field(a, y, 1);
-    if t == 5 {
+    let p = field(a, x, ARGUMENT);
+    let q = field(a, y, ARGUMENT);
+    if t == type_tags::BINDING {
         return same_run(a, p, q, k);
     }
     p == q
@@ -72,7 +78,7 @@ fn push_parts(a: &mut [u32], k: usize, x: usize, y: usize) -> usize
     requires { ⌜ Pushing (now a) k x y ⌝ }
     ensures { λ r. ⌜ Pushed (now (a .entry)) (now (a .exit)) k x y r ⌝ }
 {
-    let m = field(a, x, 3);
+    let m = field(a, x, COUNT);
     let mut j = 0;
     while j < m {
         let p = part(a, x, j);
@@ -90,10 +96,10 @@ fn tie(a: &mut [u32], d: &[u32], x: usize, y: usize) -> bool
 {
     let q = word(a, LINKS + x);
     set_link(a, x, y);
-    if q < 1025 {
+    if q < SETTLED {
         return true;
     }
-    pin(a, d, y, q - 1025)
+    pin(a, d, y, q - SETTLED)
 }
 
 // The representatives x and y, of the newest pair, are merged.
@@ -101,14 +107,14 @@ fn join(a: &mut [u32], d: &[u32], k: usize, x: usize, y: usize) -> Step
     requires { ⌜ Popped (now a) (now d) k x y ⌝ }
     ensures { λ r. ⌜ Turned (now (a .entry)) (now (a .exit)) (now (d .entry)) (suc k) (r .fine) (r .left) ⌝ }
 {
-    if field(a, x, 0) == 0 {
+    if field(a, x, TAG) == UNKNOWN {
         let fine = tie(a, d, x, y);
         return Step {
             fine: fine,
             left: k,
         };
     }
-    if field(a, y, 0) == 0 {
+    if field(a, y, TAG) == UNKNOWN {
         let fine = tie(a, d, y, x);
         return Step {
             fine: fine,

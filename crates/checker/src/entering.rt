@@ -1,9 +1,9 @@
 // One paragraph of the Document: its finding, or its entries in the dictionary.
+use codes::findings;
 use dictionary::growth::size;
 use dictionary::waiting::append_all;
 use paragraphs::paragraphs::paragraph;
 use typing::Finding;
-use typing::findings::DICTIONARY_AREA;
 use visiting::results::Lined;
 use words::span;
 ghost use mathlib.Core.Path.{_≡_};
@@ -58,7 +58,7 @@ pub fn enter(doc: &[u32], a: &mut [u32], dict: &mut [u32], work: &mut [u32], k: 
         return Finding::Accepted;
     }
     Finding::Refused {
-        number: DICTIONARY_AREA,
+        number: findings::DICTIONARY_AREA,
         place: k as u32,
     }
 }

@@ -1,4 +1,6 @@
 // The check call: a document's finding, and the dictionary of an accepted one. The definitions are in the crate `typing`, specs/Areas and specs/Check.
+use codes::findings;
+use codes::limits;
 use dictionary::growth::begin;
 use layout::part;
 use node_forms::nodes::operand;
@@ -11,8 +13,6 @@ use words::word;
 mod entering;
 
 use crate::entering::enter;
-use typing::findings::DICTIONARY_AREA;
-use typing::findings::WORK_AREA;
 ghost use mathlib.Core.Path.{_≡_};
 ghost use Prim.Native.Nat.{_≤_, _<_};
 ghost use lib.ListN.{length};
@@ -25,12 +25,6 @@ ghost use Rattle.typing.specs.Check.{paragraphsOf};
 ghost use Rattle.typing.specs.Dictionary.{Dictionary, blank};
 ghost use Rattle.names.specs.Scoped.{DictionaryHeld};
 ghost use Rattle.checker.specs.Answering.{ParagraphsAsk, Answered, TreeAnswered, Answering};
-
-// The fewest words of a work area.
-const WORK_WORDS: usize = 16384;
-
-// The words of the solver's area.
-const SOLVER_WORDS: usize = 52224;
 
 // The m paragraphs from operand i of the Document on.
 fn paragraphs_from(
@@ -64,7 +58,7 @@ fn check_paragraphs(doc: &[u32], dict: &mut [u32], work: &mut [u32]) -> Finding
     requires { ⌜ (readOf (now doc) ≡ Readable) × (16384 ≤ length (now work)) × (0 < length (now dict)) ⌝ }
     ensures { λ r. ⌜ Answered (paragraphsOf (treeOf (now (doc .entry)))) blank (length (now (dict .entry))) (now (dict .exit)) r ⌝ }
 {
-    let mut a = [0u32; SOLVER_WORDS];
+    let mut a = [0u32; cells::area::AREA];
     begin(dict);
     let n = word(doc, 0);
     let m = part(doc, n).len() - 1;
@@ -76,15 +70,15 @@ fn check_tree(doc: &[u32], dict: &mut [u32], work: &mut [u32]) -> Finding
     requires { ⌜ readOf (now doc) ≡ Readable ⌝ }
     ensures { λ r. ⌜ TreeAnswered (treeOf (now (doc .entry))) (length (now (dict .entry))) (length (now (work .entry))) (now (dict .exit)) r ⌝ }
 {
-    if work.len() < WORK_WORDS {
+    if work.len() < limits::WORK {
         return Finding::Refused {
-            number: WORK_AREA,
+            number: findings::WORK_AREA,
             place: 0,
         };
     }
     if dict.len() == 0 {
         return Finding::Refused {
-            number: DICTIONARY_AREA,
+            number: findings::DICTIONARY_AREA,
             place: 0,
         };
     }

@@ -1,4 +1,5 @@
 // Entries of a dictionary by their names, the newest first. An entry is known by its number, from 1; 0 stands for none.
+use codes::classes;
 use words::word;
 ghost use mathlib.Core.Path.{_≡_};
 ghost use Prim.Native.Nat.{_<_, _^_};
@@ -7,9 +8,8 @@ ghost use Rattle.typing.specs.Dictionary.{Dictionary};
 ghost use Rattle.dictionary.specs.Holds.{Holds};
 ghost use Rattle.dictionary.specs.Lookup.{parametersAt, typeAt, isEntry, newest, NameFound, SchemaFound};
 
-const NAME: usize = 1;
-
-const SCHEMA: usize = 2;
+// The words of an entry before its type: class, name, parameter count.
+pub const HEAD: usize = 3;
 
 // The offset of entry k.
 fn offset(d: &[u32], k: usize) -> usize
@@ -35,7 +35,7 @@ pub fn parameters_of(d: &[u32], k: usize) -> usize
 pub fn type_place(d: &[u32], k: usize) -> usize
     ensures { λ r. ⌜ (r ≡ typeAt (now (d .entry)) k) × (r < 2 ^ 33) ⌝ }
 {
-    offset(d, k) + 3
+    offset(d, k) + HEAD
 }
 
 // Whether entry k has this class and name.
@@ -67,12 +67,12 @@ fn newest(d: &[u32], class: usize, name: usize) -> usize
 pub fn entry_of_name(d: &[u32], id: usize) -> usize
     ensures { λ r. ⌜ ((D : Dictionary) → Holds D (now (d .entry)) → NameFound D (now (d .entry)) id r) ⌝ }
 {
-    newest(d, NAME, id)
+    newest(d, classes::NAME, id)
 }
 
 // The newest entry of a schema.
 pub fn entry_of_schema(d: &[u32], name: usize) -> usize
     ensures { λ r. ⌜ ((D : Dictionary) → Holds D (now (d .entry)) → SchemaFound D (now (d .entry)) name r) ⌝ }
 {
-    newest(d, SCHEMA, name)
+    newest(d, classes::SCHEMA, name)
 }

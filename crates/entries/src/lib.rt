@@ -1,6 +1,9 @@
 // The entries of a paragraph, written into the work area, where they wait for its end: each after its length. specs/Entries.antt.
 pub mod parameters;
 
+use codes::classes;
+use codes::type_tags;
+use dictionary::lookup;
 use solver::writing::put_type;
 use words::store;
 use words::word;
@@ -18,24 +21,24 @@ ghost use Rattle.signatures.specs.Rows.{rows, identifiersOf};
 ghost use Rattle.dictionary.specs.Waiting.{waiting};
 ghost use Rattle.entries.specs.Entries.{TypesAt, nameEntries, givenEntries, entryWaits, schemaOf, TypeAsk, TableAsk};
 
-// The words before an entry's type: its length, class, name and parameter count.
-const HEAD: usize = 4;
+// The words before the type of an entry that waits: its length, class, name and parameter count.
+pub const HEAD: usize = 1 + lookup::HEAD;
 
-const NAME: usize = 1;
+const GIVEN: u32 = type_tags::GIVEN as u32;
 
-const SCHEMA: usize = 2;
+const POWER: u32 = type_tags::POWER as u32;
 
-// Tags of type words.
-const GIVEN: u32 = 2;
+const BINDING: u32 = type_tags::BINDING as u32;
 
-const POWER: u32 = 3;
+// A given's type is three words: power at HEAD, given, the identifier.
+const SECOND: usize = HEAD + 1;
 
-const BINDING: u32 = 5;
+const THIRD: usize = HEAD + 2;
 
 // The words of a given's entry, and with its length before it.
-const GIVEN_WORDS: usize = 6;
+const GIVEN_WORDS: usize = lookup::HEAD + 3;
 
-const GIVEN_WAITS: usize = 7;
+const GIVEN_WAITS: usize = 1 + GIVEN_WORDS;
 
 // The words before an entry's type.
 pub fn put_head(w: &mut [u32], at: usize, len: usize, class: usize, name: usize, count: usize)
@@ -57,10 +60,10 @@ pub fn given_entries(w: &mut [u32], p: &[u32], j: usize, at: usize) -> usize
         return at;
     }
     let id = word(p, j);
-    put_head(w, at, GIVEN_WORDS, NAME, id, 0);
-    store(w, at + 4, POWER);
-    store(w, at + 5, GIVEN);
-    store(w, at + 6, id as u32);
+    put_head(w, at, GIVEN_WORDS, classes::NAME, id, 0);
+    store(w, at + HEAD, POWER);
+    store(w, at + SECOND, GIVEN);
+    store(w, at + THIRD, id as u32);
     given_entries(w, p, j + 1, at + GIVEN_WAITS)
 }
 
@@ -70,7 +73,7 @@ pub fn name_entry(a: &[u32], d: &[u32], w: &mut [u32], id: usize, p: usize, at: 
     ensures { λ e. ⌜ ((g : Ty) → Reads (heap (now (a .entry)) (now (d .entry))) p g → Wrote (now (w .entry)) (now (w .exit)) at e (entryWaits (nameEntry id 0 g))) ⌝ }
 {
     let e = put_type(a, d, w, at + HEAD, p);
-    put_head(w, at, e - at - 1, NAME, id, 0);
+    put_head(w, at, e - at - 1, classes::NAME, id, 0);
     e
 }
 
@@ -119,6 +122,6 @@ pub fn schema_entry(
     store(w, first, BINDING);
     store(w, first + 1, m as u32);
     let e = put_parts(a, d, w, base, m, first + 2);
-    put_head(w, at, e - at - 1, SCHEMA, name, count);
+    put_head(w, at, e - at - 1, classes::SCHEMA, name, count);
     e
 }

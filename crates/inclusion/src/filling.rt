@@ -5,6 +5,8 @@ use cells::type_words::parts_of;
 use cells::type_words::same_type;
 use cells::type_words::skip;
 use cells::type_words::type_word;
+use codes::limits;
+use codes::type_tags;
 use instances::actual;
 use instances::filled_size;
 use signatures::tables::find;
@@ -15,12 +17,6 @@ ghost use lib.ListN.{length, getD};
 ghost use Rattle.cells.specs.Calls.{Tells};
 ghost use Rattle.cells.specs.Settled.{heap};
 ghost use Rattle.inclusion.specs.Filling.{Comparing, SameFilled, OneAsk, OneTold, RowsAsk, AgreeAsk, AgreeTold, SmallTold};
-
-// The tag of a parameter.
-const PARAMETER: usize = 6;
-
-// The largest size of a component's type (38).
-const MOST: usize = 32;
 
 // The k type words at p and at q are the same.
 fn same_words(a: &[u32], d: &[u32], p: usize, q: usize, k: usize) -> bool
@@ -55,7 +51,7 @@ pub fn same_filled(a: &[u32], d: &[u32], p: usize, row: &[u32], q: usize) -> boo
     ensures { λ r. ⌜ SameFilled (now (a .entry)) (now (d .entry)) p (now (row .entry)) q r ⌝ }
 {
     let t = type_word(a, d, p);
-    if t == PARAMETER {
+    if t == type_tags::PARAMETER {
         return same_actual(a, d, p, row, q);
     }
     let k = lead_words(t);
@@ -135,7 +131,7 @@ pub fn rows_small(a: &[u32], d: &[u32], w: &[u32], source: usize, k: usize, row:
     if k == 0 {
         return true;
     }
-    if MOST < filled_size(a, d, word(w, source + 1), row) {
+    if limits::SIZE < filled_size(a, d, word(w, source + 1), row) {
         return false;
     }
     rows_small(a, d, w, source + 2, k - 1, row)

@@ -1,4 +1,6 @@
 // Types written into the caller's part of the solver's area.
+use codes::limits;
+use codes::type_tags;
 use instances::copy_words;
 use instances::wipe;
 use instances::write_filled;
@@ -17,17 +19,14 @@ ghost use Rattle.inclusion.specs.Large.{large};
 ghost use Rattle.inclusion.specs.Storing.{StoreAsk, TypeStored, OverlapTold, KeepAsk, RowsKept};
 ghost use Rattle.inclusion.specs.Keeping.{ShownAsk, ShownWords, RowAsk, RowKept, AllAsk, AllKept, MoveAsk, Moved};
 
-// 38: the size that a declared type may have.
-const LARGEST: usize = 32;
-
-// The stand-in of a larger type: the power, as often, of ℤ.
-const LARGE_POWERS: usize = 32;
+// The stand-in of a type over the limit: the power, as often as the limit, of ℤ.
+const LARGE_POWERS: usize = limits::SIZE;
 
 const LARGE_WORDS: usize = LARGE_POWERS + 1;
 
-const POWER: u32 = 3;
+const POWER: u32 = type_tags::POWER as u32;
 
-const INTEGERS: u32 = 1;
+const INTEGERS: u32 = type_tags::INTEGERS as u32;
 
 // The words of the stand-in.
 fn put_large(a: &mut [u32], at: usize)
@@ -47,7 +46,7 @@ fn shown_words(a: &[u32], d: &[u32], w: &mut [u32], n: usize, c: usize, free: us
     requires { ⌜ ShownAsk (now a) (now d) (now w) n c free ⌝ }
     ensures { λ e. ⌜ ShownWords (now (a .entry)) (now (d .entry)) (now (w .entry)) (now (w .exit)) n c free e ⌝ }
 {
-    if LARGEST < settled_size(a, d, n, c) {
+    if limits::SIZE < settled_size(a, d, n, c) {
         put_large(w, free);
         return free + LARGE_WORDS;
     }

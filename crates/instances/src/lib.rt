@@ -1,9 +1,15 @@
 // Settled types and stores moved between areas: types with actuals for their parameters written out, words copied, a store saved and restored.
+use cells::area::CELL_WORDS;
+use cells::area::FIRST_RUN;
+use cells::area::LINKS;
+use cells::area::RECORDS;
+use cells::area::RUNS;
 use cells::type_words::lead_words;
 use cells::type_words::name_words;
 use cells::type_words::parts_of;
 use cells::type_words::skip;
 use cells::type_words::type_word;
+use codes::type_tags;
 use solver::sizes::capped;
 use solver::sizes::type_size;
 use solver::writing::put_type;
@@ -19,18 +25,7 @@ ghost use Rattle.solver.specs.Written.{Wrote};
 ghost use Rattle.instances.specs.Filled.{placeOf, Actuals, ActualSize, Filling, FilledSize, FillWriting, FillWrote};
 ghost use Rattle.instances.specs.Moved.{saved, restored};
 
-const LINKS: usize = 39936;
-
-const RECORDS: usize = 46080;
-
-// Places of runs count from RECORDS.
-const FIRST_RUN: usize = 4096;
-
-const RUNS: usize = RECORDS + FIRST_RUN;
-
-// The tag of a parameter, and its words: the tag, the number.
-const PARAMETER: usize = 6;
-
+// The words of a parameter: the tag, the number.
 const PARAMETER_WORDS: usize = 2;
 
 // The place of the i-th actual's type plus 1, and 0 where there is none.
@@ -65,7 +60,7 @@ pub fn filled_size(a: &[u32], d: &[u32], p: usize, row: &[u32]) -> usize
     ensures { λ v. ⌜ FilledSize (now (a .entry)) (now (d .entry)) p (now (row .entry)) v ⌝ }
 {
     let t = type_word(a, d, p);
-    if t == PARAMETER {
+    if t == type_tags::PARAMETER {
         return actual_size(a, d, row, type_word(a, d, p + 1));
     }
     let w = name_words(t);
@@ -120,7 +115,7 @@ pub fn write_filled(
     ensures { λ e. ⌜ FillWrote (now (a .entry)) (now (d .entry)) p (now (row .entry)) (now (out .entry)) (now (out .exit)) at e ⌝ }
 {
     let t = type_word(a, d, p);
-    if t == PARAMETER {
+    if t == type_tags::PARAMETER {
         return write_actual(a, d, p, row, out, at);
     }
     let w = name_words(t);
@@ -168,7 +163,7 @@ pub fn save(a: &[u32], n: usize, top: usize, out: &mut [u32], at: usize) -> usiz
     requires { ⌜ (length (now a) ≡ 52224) × (n ≤ 1024) × (4096 ≤ top) × (top ≤ 6144) × (at < 2 ^ 39) ⌝ }
     ensures { λ e. ⌜ Wrote (now (out .entry)) (now (out .exit)) at e (saved (now (a .entry)) n top) ⌝ }
 {
-    let m = 4 * n;
+    let m = CELL_WORDS * n;
     let k = top - FIRST_RUN;
     copy_words(out, at, a, LINKS, n);
     copy_words(out, at + n, a, RECORDS, m);
@@ -181,7 +176,7 @@ pub fn restore(a: &mut [u32], n: usize, top: usize, from: &[u32], at: usize)
     requires { ⌜ (n ≤ 1024) × (4096 ≤ top) × (top ≤ 6144) × (at < 2 ^ 39) × (at + (5 * n + (top - 4096)) ≤ length (now from)) ⌝ }
     ensures { λ _. ⌜ now (a .exit) ≡ restored (now (a .entry)) n top (now (from .entry)) at ⌝ }
 {
-    let m = 4 * n;
+    let m = CELL_WORDS * n;
     let k = top - FIRST_RUN;
     copy_words(a, LINKS, from, at, n);
     copy_words(a, RECORDS, from, at + n, m);

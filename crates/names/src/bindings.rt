@@ -1,11 +1,12 @@
 // The binding of a signature, whose rows stand in the work area: a settled cell for each place, then a binding over them.
+use codes::type_tags;
 use solver::entering::Grown;
 use words::word;
 ghost use Prim.Native.Nat.{_<_, _^_};
 ghost use Rattle.solver.specs.Growth.{Putting};
 ghost use Rattle.names.specs.Bindings.{Places, PlacesSettled, RowPut, PuttingRows, RowsPut, Binding, Bound, SchemaSetAsked, SchemaSetTyped};
 
-const BINDING: u32 = 5;
+const BINDING: u32 = type_tags::BINDING as u32;
 
 // The places of the m rows at base enter as cells n, n + 1, ..
 fn settle_places(a: &mut [u32], d: &[u32], w: &[u32], base: usize, m: usize, n: usize)

@@ -1,18 +1,14 @@
 // References: a name's type, with an unknown for each parameter.
+use cells::area::DICTIONARY;
+use codes::findings;
 use dictionary::lookup::entry_of_name;
 use dictionary::lookup::parameters_of;
 use dictionary::lookup::type_place;
 use signatures::tables::find;
 use solver::entering::Grown;
-use typing::findings::UNEQUAL;
-use typing::findings::UNKNOWN_NAME;
-use typing::findings::WRONG_COUNT;
 use words::word;
 ghost use Rattle.names.specs.References.{RowAsked, RowMade, InstanceAsked, InstanceOf, TypedAt, RecordedAt, Generic, Consulted, Global, Referring, Refers, EquatingActuals, ActualsEquated, ApplyingAt, AppliedAt, ConsultedWith, GlobalApplied, ReferringWith, RefersWith};
 ghost use Rattle.cells.specs.Settled.{Entering};
-
-// Where the dictionary's words begin among the places.
-const DICTIONARY: usize = 39936;
 
 // A node's rule: number 0, and the cell has the node's type; or a finding at the node. The number of cells, and where their runs end.
 pub struct Ruling {
@@ -88,7 +84,7 @@ fn global(a: &mut [u32], d: &[u32], n: usize, top: usize, id: usize) -> Ruling
     let e = entry_of_name(d, id);
     if e == 0 {
         return Ruling {
-            number: UNKNOWN_NAME,
+            number: findings::UNKNOWN_NAME,
             cell: 0,
             cells: n,
             top: top,
@@ -158,7 +154,7 @@ fn equate_actuals(
         return equate_actuals(a, d, n + 1, top + 1, first + 1, parts, i + 1, m);
     }
     Ruling {
-        number: UNEQUAL,
+        number: findings::UNEQUAL,
         cell: 0,
         cells: n + 1,
         top: top + 1,
@@ -209,7 +205,7 @@ fn global_applied(
     let e = entry_of_name(d, id);
     if e == 0 {
         return Ruling {
-            number: UNKNOWN_NAME,
+            number: findings::UNKNOWN_NAME,
             cell: 0,
             cells: n,
             top: top,
@@ -217,7 +213,7 @@ fn global_applied(
     }
     if parameters_of(d, e) != m {
         return Ruling {
-            number: WRONG_COUNT,
+            number: findings::WRONG_COUNT,
             cell: 0,
             cells: n,
             top: top,
@@ -248,7 +244,7 @@ pub fn ref_rule(
     let r = find(w, 0, rows, id);
     if r < rows {
         return Ruling {
-            number: WRONG_COUNT,
+            number: findings::WRONG_COUNT,
             cell: 0,
             cells: n,
             top: top,

@@ -2,6 +2,8 @@
 use crate::bindings::binding;
 use crate::components::component_rows;
 use crate::references::Ruling;
+use cells::area::DICTIONARY;
+use codes::findings;
 use dictionary::lookup::entry_of_name;
 use dictionary::lookup::entry_of_schema;
 use dictionary::lookup::parameters_of;
@@ -9,19 +11,14 @@ use dictionary::lookup::type_place;
 use signatures::includes::some_stroked;
 use signatures::includes::takes;
 use signatures::tables::find;
-use typing::findings::BAD_RENAME;
-use typing::findings::UNKNOWN_NAME;
-use typing::findings::WRONG_COUNT;
 use words::store;
 use words::word;
 ghost use Prim.Native.Nat.{_+_, _*_, _≤_};
 ghost use lib.ListN.{length};
 ghost use Rattle.names.specs.Thetas.{InScope, RowsAsked, RowPlaced, RowsPlaced, ThetaChecks, ThetaAsked, ThetaRuled};
 
-// Where the dictionary's words begin among the places; and counted from 1.
-const DICTIONARY: usize = 39936;
-
-const AFTER_DICTIONARY: usize = 39937;
+// Where the dictionary's words begin among the places, counted from 1.
+const AFTER_DICTIONARY: usize = DICTIONARY + 1;
 
 // The place of the type of an identifier in scope that is not generic, plus 1; 0 where there is none.
 pub fn place_in_scope(d: &[u32], w: &[u32], rows: usize, id: usize) -> usize
@@ -89,13 +86,13 @@ fn checks(
     ensures { λ r. ⌜ ThetaChecks (now (d .entry)) (now (w .entry)) (now (w .exit)) rows base m p stroke r ⌝ }
 {
     if !place_rows(d, w, rows, base, m, stroke) {
-        return UNKNOWN_NAME;
+        return findings::UNKNOWN_NAME;
     }
     if p != 0 {
-        return WRONG_COUNT;
+        return findings::WRONG_COUNT;
     }
     if some_stroked(w, base, m, stroke) {
-        return BAD_RENAME;
+        return findings::BAD_RENAME;
     }
     0
 }
@@ -118,7 +115,7 @@ pub fn theta_rule(
     let e = entry_of_schema(d, id);
     if e == 0 {
         return Ruling {
-            number: UNKNOWN_NAME,
+            number: findings::UNKNOWN_NAME,
             cell: 0,
             cells: n,
             top: top,

@@ -1,7 +1,15 @@
 // Paragraphs: their findings, and the entries that wait for their end. The pool is empty before and after.
 use crate::schemas::schema;
+use cells::area::FIRST_RUN;
+use codes::classes;
+use codes::findings;
+use codes::kinds;
+use codes::limits;
+use entries::HEAD;
 use entries::given_entries;
 use entries::name_entries;
+use entries::parameters::FIRST_PARAMETER;
+use entries::parameters::POOL_START;
 use entries::parameters::push_parameters;
 use entries::put_head;
 use entries::schema_entry;
@@ -11,10 +19,6 @@ use merging::names_new;
 use pieces::closing::close;
 use pieces::closing::settled_size;
 use pieces::closing::settled_words;
-use typing::findings::CLASH;
-use typing::findings::MOST_SIZE;
-use typing::findings::SEVERAL;
-use typing::findings::TOO_LARGE;
 use visiting::nodes::expr;
 use visiting::nodes::pred;
 use visiting::nodes::text;
@@ -31,28 +35,11 @@ ghost use Rattle.syntax.specs.Decode.{paragraphAt};
 ghost use Rattle.walk.specs.Paragraphs.{ParagraphAsk, ParagraphDone};
 ghost use Rattle.visiting.specs.Nodes.{Node};
 
-// Kinds.
-const GIVEN: usize = 2;
-
-const AXIOM: usize = 3;
-
-const SCHEMA: usize = 4;
-
-const ABBREVIATION: usize = 5;
-
 // The work area: rows of the scope, then tables and frames.
 const FRAMES: usize = 512;
 
 // Where the entries wait in it.
 const ENTRIES: usize = 1024;
-
-// The words before an entry's type, and the class of a name.
-const HEAD: usize = 4;
-
-const NAME: usize = 1;
-
-// Where the runs of an empty store begin.
-const RUNS: usize = 4096;
 
 // 2 Given: 36, and entries as written.
 fn given(doc: &[u32], a: &[u32], d: &[u32], w: &mut [u32], k: usize, p: &[u32]) -> Lined
@@ -60,7 +47,7 @@ fn given(doc: &[u32], a: &[u32], d: &[u32], w: &mut [u32], k: usize, p: &[u32]) 
     ensures { λ r. ⌜ ParagraphDone (now (a .entry)) (now (a .entry)) (now (d .entry)) (now (w .entry)) (now (w .exit)) (paragraphAt (now (doc .entry)) k) (r .number) (r .place) (r .at) (r .count) ⌝ }
 {
     if !names_new(d, p, 1) {
-        return lined_at(CLASH, k, 0, 0);
+        return lined_at(findings::CLASH, k, 0, 0);
     }
     given_entries(w, p, 1, ENTRIES);
     lined_at(0, k, p.len() - 1, ENTRIES)
@@ -71,12 +58,12 @@ fn axiomatic(doc: &[u32], a: &mut [u32], d: &[u32], w: &mut [u32], k: usize, p: 
     requires { ⌜ Node (now doc) (now p) paragraphs k × (kindAt (now doc) k ≡ 3) × ParagraphAsk (now a) (now d) (now w) (paragraphAt (now doc) k) ⌝ }
     ensures { λ r. ⌜ ParagraphDone (now (a .entry)) (now (a .exit)) (now (d .entry)) (now (w .entry)) (now (w .exit)) (paragraphAt (now (doc .entry)) k) (r .number) (r .place) (r .at) (r .count) ⌝ }
 {
-    let t = text(doc, a, d, w, 0, 1, FRAMES, word(p, 1), true);
+    let t = text(doc, a, d, w, 0, POOL_START, FRAMES, word(p, 1), true);
     if t.number != 0 {
         return t;
     }
     name_entries(a, d, w, FRAMES, t.count, ENTRIES);
-    wipe(a, 1, t.at);
+    wipe(a, POOL_START, t.at);
     lined_at(0, k, t.count, ENTRIES)
 }
 
@@ -94,12 +81,12 @@ fn schema_paragraph(
 {
     let n = word(p, 2);
     let at = push_parameters(a, w, p, 0, n);
-    let t = schema(doc, a, d, w, n, at, FRAMES, word(p, n + 3));
+    let t = schema(doc, a, d, w, n, at, FRAMES, word(p, n + FIRST_PARAMETER));
     if t.number != 0 {
         return t;
     }
     schema_entry(a, d, w, FRAMES, t.count, word(p, 1), n, ENTRIES);
-    wipe(a, 1, t.at);
+    wipe(a, POOL_START, t.at);
     lined_at(0, k, 1, ENTRIES)
 }
 
@@ -110,22 +97,33 @@ fn abbreviation(doc: &[u32], a: &mut [u32], d: &[u32], w: &mut [u32], k: usize, 
 {
     let n = word(p, 2);
     let at = push_parameters(a, w, p, 0, n);
-    let x = expr(doc, a, d, w, n, 0, RUNS, at, FRAMES, word(p, n + 3));
+    let x = expr(
+        doc,
+        a,
+        d,
+        w,
+        n,
+        0,
+        FIRST_RUN,
+        at,
+        FRAMES,
+        word(p, n + FIRST_PARAMETER),
+    );
     if x.number != 0 {
         return unlined(x.number, x.place);
     }
     if !close(a, d, x.cells) {
-        return lined_at(SEVERAL, k, 0, 0);
+        return lined_at(findings::SEVERAL, k, 0, 0);
     }
     if !names_new(d, span(p, 1, 1), 0) {
-        return lined_at(CLASH, k, 0, 0);
+        return lined_at(findings::CLASH, k, 0, 0);
     }
-    if MOST_SIZE < settled_size(a, d, x.cells, x.cell) {
-        return lined_at(TOO_LARGE, k, 0, 0);
+    if limits::SIZE < settled_size(a, d, x.cells, x.cell) {
+        return lined_at(findings::TOO_LARGE, k, 0, 0);
     }
     let e = settled_words(a, d, x.cells, x.cell, w, ENTRIES + HEAD);
-    put_head(w, ENTRIES, e - ENTRIES - 1, NAME, word(p, 1), n);
-    wipe(a, 1, x.at);
+    put_head(w, ENTRIES, e - ENTRIES - 1, classes::NAME, word(p, 1), n);
+    wipe(a, POOL_START, x.at);
     lined_at(0, k, 1, ENTRIES)
 }
 
@@ -134,7 +132,7 @@ fn constraint(doc: &[u32], a: &mut [u32], d: &[u32], w: &mut [u32], k: usize, p:
     requires { ⌜ Node (now doc) (now p) paragraphs k × (kindAt (now doc) k ≡ 6) × ParagraphAsk (now a) (now d) (now w) (paragraphAt (now doc) k) ⌝ }
     ensures { λ r. ⌜ ParagraphDone (now (a .entry)) (now (a .exit)) (now (d .entry)) (now (w .entry)) (now (w .exit)) (paragraphAt (now (doc .entry)) k) (r .number) (r .place) (r .at) (r .count) ⌝ }
 {
-    let x = pred(doc, a, d, w, 0, 1, FRAMES, word(p, 1));
+    let x = pred(doc, a, d, w, 0, POOL_START, FRAMES, word(p, 1));
     unlined(x.number, x.place)
 }
 
@@ -145,16 +143,16 @@ pub fn paragraph(doc: &[u32], a: &mut [u32], d: &[u32], w: &mut [u32], k: usize)
 {
     let p = part(doc, k);
     let q = word(p, 0);
-    if q == GIVEN {
+    if q == kinds::GIVEN {
         return given(doc, a, d, w, k, p);
     }
-    if q == AXIOM {
+    if q == kinds::AXIOM {
         return axiomatic(doc, a, d, w, k, p);
     }
-    if q == SCHEMA {
+    if q == kinds::SCHEMA {
         return schema_paragraph(doc, a, d, w, k, p);
     }
-    if q == ABBREVIATION {
+    if q == kinds::ABBREVIATION {
         return abbreviation(doc, a, d, w, k, p);
     }
     constraint(doc, a, d, w, k, p)

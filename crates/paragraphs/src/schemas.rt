@@ -1,11 +1,12 @@
 // Schema expressions: a Text, an Include, a Conjunction. What one declares is a table at `free`.
+use codes::findings;
+use codes::kinds;
+use codes::limits;
 use inclusion::storing::keep_rows;
 use layout::part;
 use merging::rows_agree;
+use signatures::tables::TABLE;
 use signatures::tables::merge;
-use typing::findings::CLASH;
-use typing::findings::MOST_NAMES;
-use typing::findings::TOO_LARGE;
 use visiting::nodes::brings;
 use visiting::nodes::text;
 use visiting::results::Lined;
@@ -18,13 +19,6 @@ ghost use Rattle.syntax.specs.Promise.{At};
 ghost use Rattle.syntax.specs.Decode.{schemaAt};
 ghost use Rattle.walk.specs.Joining.{JoinAsk, Joined};
 ghost use Rattle.walk.specs.Schemas.{SchemaAsk, SchemaDone};
-
-// Words of a table of 32 rows.
-const TABLE: usize = 64;
-
-const TEXT: usize = 10;
-
-const INCLUDE: usize = 12;
 
 // 36 and 38 of the Conjunction at node k, whose sides' tables have m rows at free and n rows after it. The right side's types stand from `at` to `end`.
 fn conjoin(
@@ -43,13 +37,13 @@ fn conjoin(
 {
     let second = free + TABLE;
     if !rows_agree(a, d, w, free, m, second, n) {
-        return lined_at(CLASH, k, 0, 0);
+        return lined_at(findings::CLASH, k, 0, 0);
     }
     let none = span(d, 0, 0);
     let e = keep_rows(a, d, w, free, m, second, n, none, at, end, second + TABLE);
     let r = merge(w, second, n, free, m);
-    if MOST_NAMES < r {
-        return lined_at(TOO_LARGE, k, 0, 0);
+    if limits::SIGNATURE < r {
+        return lined_at(findings::TOO_LARGE, k, 0, 0);
     }
     lined_at(0, k, r, e)
 }
@@ -70,10 +64,10 @@ pub fn schema(
 {
     let p = part(doc, k);
     let q = word(p, 0);
-    if q == TEXT {
+    if q == kinds::TEXT {
         return text(doc, a, d, w, rows, at, free, k, false);
     }
-    if q == INCLUDE {
+    if q == kinds::INCLUDE {
         return brings(doc, a, d, w, rows, at, free, k);
     }
     let x = schema(doc, a, d, w, rows, at, free, word(p, 1));

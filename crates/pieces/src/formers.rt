@@ -1,5 +1,6 @@
 // New cells with formers. The store has n cells, whose runs end at `top`; the new cell is number n.
 
+use codes::type_tags;
 ghost use mathlib.Core.List.{[], _∷_};
 ghost use Prim.Native.Nat.{_+_, _≤_};
 ghost use lib.ListN.{length, take};
@@ -7,21 +8,20 @@ ghost use Rattle.types.specs.Former.{int, power, product};
 ghost use Rattle.cells.specs.Calls.{Making};
 ghost use Rattle.pieces.specs.Building.{Building, Laid, Built, Integer};
 
-const INTEGER: u32 = 1;
+const INTEGERS: u32 = type_tags::INTEGERS as u32;
 
-const POWER: u32 = 3;
+const POWER: u32 = type_tags::POWER as u32;
 
-const PRODUCT: u32 = 4;
+const PRODUCT: u32 = type_tags::PRODUCT as u32;
 
-// The first word of the runs.
-const RUNS: u32 = 4096;
+const FIRST_RUN: u32 = cells::area::FIRST_RUN as u32;
 
 // ℤ.
 pub fn integer(a: &mut [u32], n: usize)
     requires { ⌜ Making (now a) n 1 0 4096 0 ⌝ }
     ensures { λ _. ⌜ Integer (now (a .entry)) (now (a .exit)) n int [] ⌝ }
 {
-    cells::growth::new_cell(a, n, INTEGER, 0, RUNS, 0);
+    cells::growth::new_cell(a, n, INTEGERS, 0, FIRST_RUN, 0);
 }
 
 // The power of cell c; the runs then end at top + 1.

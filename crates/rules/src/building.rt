@@ -1,7 +1,8 @@
 // Rules whose types are built of their operands' types. The store has n cells, whose runs end at `top`.
 
 use crate::ruling::Ruling;
-use typing::findings::UNEQUAL;
+use codes::findings;
+use codes::limits;
 ghost use mathlib.Core.List.{List, [], _∷_};
 ghost use mathlib.Core.Path.{_≡_};
 ghost use Prim.Native.Nat.{ℕ, _+_, _*_, _≤_, _<_, _^_};
@@ -83,7 +84,7 @@ pub fn power_rule(a: &mut [u32], d: &[u32], n: usize, top: usize, c: usize) -> R
         };
     }
     Ruling {
-        number: UNEQUAL,
+        number: findings::UNEQUAL,
         cell: c,
         cells: n,
         top: top,
@@ -106,7 +107,7 @@ pub fn set_rule(a: &mut [u32], d: &[u32], n: usize, top: usize, parts: &[u32], m
         };
     }
     Ruling {
-        number: UNEQUAL,
+        number: findings::UNEQUAL,
         cell: n,
         cells: n,
         top: top,
@@ -138,7 +139,7 @@ pub fn product_rule(
     ensures { λ r. ⌜ Listed (now (a .entry)) (now (a .exit)) (now (d .entry)) n top (take m (now (parts .entry))) (r .number) (r .cell) (r .cells) (r .top) 17 productItems ⌝ }
 {
     if pieces::powers::are_powers(a, d, n, top, parts, 0, m) {
-        let mut row = [0u32; 6];
+        let mut row = [0u32; limits::PARTS];
         every_second(&mut row, n, m);
         let c = n + 2 * m;
         let end = top + m + m;
@@ -152,7 +153,7 @@ pub fn product_rule(
         };
     }
     Ruling {
-        number: UNEQUAL,
+        number: findings::UNEQUAL,
         cell: n,
         cells: n,
         top: top,

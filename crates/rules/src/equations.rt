@@ -2,17 +2,14 @@
 
 use crate::ruling::Relation;
 use crate::ruling::Ruling;
-use typing::findings::NO_COMPONENT;
-use typing::findings::UNEQUAL;
+use cells::area::SETTLED;
+use codes::findings;
 ghost use mathlib.Core.List.{[], _∷_};
 ghost use Prim.Native.Nat.{ℕ};
 ghost use Rattle.pieces.specs.Building.{Working};
 ghost use Rattle.pieces.specs.Stage.{Comparing};
 ghost use Rattle.rules.specs.Equations.{Relating, Related, Both, Combined, equalityItems, membershipItems, comparisonItems, applyItems, arithmeticItems, selectItems};
 ghost use Rattle.rules.specs.Formers.{Derived};
-
-// What solver::components::component adds to the place of type words.
-const SETTLED: usize = 1025;
 
 // x = y.
 pub fn equality(a: &mut [u32], d: &[u32], n: usize, x: usize, y: usize) -> Relation
@@ -26,7 +23,7 @@ pub fn equality(a: &mut [u32], d: &[u32], n: usize, x: usize, y: usize) -> Relat
         };
     }
     Relation {
-        number: UNEQUAL,
+        number: findings::UNEQUAL,
         cells: n,
     }
 }
@@ -44,7 +41,7 @@ pub fn membership(a: &mut [u32], d: &[u32], n: usize, top: usize, x: usize, y: u
         };
     }
     Relation {
-        number: UNEQUAL,
+        number: findings::UNEQUAL,
         cells: n,
     }
 }
@@ -73,7 +70,7 @@ pub fn comparison(a: &mut [u32], d: &[u32], n: usize, x: usize, y: usize) -> Rel
         };
     }
     Relation {
-        number: UNEQUAL,
+        number: findings::UNEQUAL,
         cells: n,
     }
 }
@@ -92,7 +89,7 @@ pub fn arithmetic_rule(a: &mut [u32], d: &[u32], n: usize, top: usize, x: usize,
         };
     }
     Ruling {
-        number: UNEQUAL,
+        number: findings::UNEQUAL,
         cell: n,
         cells: n,
         top: top,
@@ -116,7 +113,7 @@ pub fn apply_rule(a: &mut [u32], d: &[u32], n: usize, top: usize, x: usize, y: u
         };
     }
     Ruling {
-        number: UNEQUAL,
+        number: findings::UNEQUAL,
         cell: n,
         cells: n,
         top: top,
@@ -132,7 +129,7 @@ pub fn select_rule(a: &mut [u32], d: &[u32], n: usize, top: usize, x: usize, id:
     let v = solver::components::component(a, d, x, id);
     if v == 0 {
         return Ruling {
-            number: NO_COMPONENT,
+            number: findings::NO_COMPONENT,
             cell: x,
             cells: n,
             top: top,

@@ -2,6 +2,7 @@
 use crate::tables::find;
 use crate::tables::insert;
 use crate::tables::put_row;
+use codes::identifiers;
 use words::word;
 ghost use mathlib.Core.Path.{_≡_};
 ghost use mathlib.Core.Bool.{false};
@@ -13,8 +14,6 @@ ghost use Rattle.typing.specs.Signatures.{renamed, hasOld};
 ghost use Rattle.signatures.specs.Rows.{rows, flat, renames, strokedRows, strokeRows, renameRows, wrongOldRows};
 ghost use Rattle.signatures.specs.Tables.{Table, Beside, Brings};
 
-const STROKES: usize = 4;
-
 // The identifier can take the stroke k.
 pub fn takes(k: usize, id: usize) -> bool
     ensures { λ r. ⌜ r ≡ takes k id ⌝ }
@@ -22,7 +21,7 @@ pub fn takes(k: usize, id: usize) -> bool
     if k == 0 {
         return true;
     }
-    id % STROKES == 0
+    id % identifiers::STROKES == 0
 }
 
 // One of the m identifiers at base cannot take the stroke k.

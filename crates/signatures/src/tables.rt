@@ -1,4 +1,5 @@
 // Tables of rows: looked up, and with identifiers more.
+use codes::limits;
 use words::store;
 use words::word;
 ghost use mathlib.Core.Path.{_≡_};
@@ -8,6 +9,11 @@ ghost use lib.ListN.{length, drop};
 ghost use lib.Seq.{sets};
 ghost use Rattle.signatures.specs.Rows.{rows, flat, insertRow, mergeRows, declareRows};
 ghost use Rattle.signatures.specs.Tables.{Table, Finds, Beside};
+
+// The words of a table for a signature's rows, of two words each; and of one with room for as many rows again.
+pub const HALF: usize = 2 * limits::SIGNATURE;
+
+pub const TABLE: usize = 2 * HALF;
 
 // The last of the m rows at base whose identifier is id, and m if there is none.
 pub fn find(work: &[u32], base: usize, m: usize, id: usize) -> usize

@@ -1,6 +1,10 @@
 // The test for finite types, which marks sizes.
+use crate::sizes::OVER;
 use crate::sizes::capped;
+use cells::area::COUNT;
 use cells::area::MARKS;
+use cells::area::TAG;
+use cells::area::UNKNOWN;
 use cells::area::field;
 use cells::area::part;
 use cells::links::link;
@@ -13,17 +17,17 @@ ghost use Rattle.solver.specs.Sizes.{arityAt, Read, Visited, Visits, Cle
 ghost use Rattle.cells.specs.Calls.{Known};
 
 // The mark of a cell that is being visited, past every size.
-const VISITING: usize = 34;
+const VISITING: usize = OVER + 1;
 
 // The number of parts of cell r: an unknown has none.
 fn arity(a: &[u32], r: usize) -> usize
     requires { ⌜ r < 1024 ⌝ }
     ensures { λ k. ⌜ (k ≡ arityAt (frozen (now (a .entry))) r) × (k < 2 ^ 32) ⌝ }
 {
-    if field(a, r, 0) == 0 {
+    if field(a, r, TAG) == UNKNOWN {
         return 0;
     }
-    field(a, r, 3)
+    field(a, r, COUNT)
 }
 
 // Visits cell i, once: the cell that it is linked to, or its parts; then it gets its size as mark. False: a cell is met below itself.

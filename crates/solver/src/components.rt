@@ -1,11 +1,17 @@
 // Finding 35: the component of a type.
+use cells::area::ARGUMENT;
+use cells::area::COUNT;
 use cells::area::LINKS;
+use cells::area::SETTLED;
+use cells::area::TAG;
+use cells::area::UNKNOWN;
 use cells::area::field;
 use cells::area::held;
 use cells::area::part;
 use cells::links::find;
 use cells::type_words::skip;
 use cells::type_words::type_word;
+use codes::type_tags;
 use words::word;
 ghost use mathlib.Core.Path.{_≡_};
 ghost use Prim.Native.Nat.{_<_};
@@ -19,7 +25,7 @@ fn settled_component(a: &[u32], d: &[u32], p: usize, id: usize) -> usize
     requires { ⌜ Reading (now a) (now d) p ⌝ }
     ensures { λ r. ⌜ Component (now (a .entry)) (now (d .entry)) p id r ⌝ }
 {
-    if type_word(a, d, p) != 5 {
+    if type_word(a, d, p) != type_tags::BINDING {
         return 0;
     }
     let n = type_word(a, d, p + 1);
@@ -55,9 +61,9 @@ fn former_component(a: &[u32], d: &[u32], r: usize, id: usize) -> usize
     requires { ⌜ (LookingRoot (now a) (now d) r) × (0 < tagAt (frozen (now a)) r) ⌝ }
     ensures { λ v. ⌜ Looked (now (a .entry)) (now (d .entry)) r id v ⌝ }
 {
-    if field(a, r, 0) == 5 {
-        let p = field(a, r, 1);
-        let k = field(a, r, 3);
+    if field(a, r, TAG) == type_tags::BINDING {
+        let p = field(a, r, ARGUMENT);
+        let k = field(a, r, COUNT);
         let j = place(a, p, k, id);
         if j < k {
             return part(a, r, j) + 1;
@@ -67,29 +73,29 @@ fn former_component(a: &[u32], d: &[u32], r: usize, id: usize) -> usize
     0
 }
 
-// The component id of the unknown r, a representative: 1025 plus the place of its type, and 0 where there is none.
+// The component id of the unknown r, a representative: SETTLED plus the place of its type, and 0 where there is none.
 fn unknown_component(a: &[u32], d: &[u32], r: usize, id: usize) -> usize
     requires { ⌜ (LookingRoot (now a) (now d) r) × (tagAt (frozen (now a)) r ≡ 0) ⌝ }
     ensures { λ v. ⌜ Looked (now (a .entry)) (now (d .entry)) r id v ⌝ }
 {
     let q = word(a, LINKS + r);
-    if q < 1025 {
+    if q < SETTLED {
         return 0;
     }
-    let p = settled_component(a, d, q - 1025, id);
+    let p = settled_component(a, d, q - SETTLED, id);
     if p == 0 {
         return 0;
     }
-    1025 + p
+    SETTLED + p
 }
 
-// The component id of cell i: its cell plus 1, or 1025 plus the place of its type; 0: not in every solution.
+// The component id of cell i: its cell plus 1, or SETTLED plus the place of its type; 0: not in every solution.
 pub fn component(a: &[u32], d: &[u32], i: usize, id: usize) -> usize
     requires { ⌜ Looking (now a) (now d) i ⌝ }
     ensures { λ v. ⌜ Looked (now (a .entry)) (now (d .entry)) i id v ⌝ }
 {
     let r = find(a, i);
-    if field(a, r, 0) == 0 {
+    if field(a, r, TAG) == UNKNOWN {
         return unknown_component(a, d, r, id);
     }
     former_component(a, d, r, id)

@@ -6,6 +6,7 @@ use cells::type_words::name_words;
 use cells::type_words::parts_of;
 use cells::type_words::skip;
 use cells::type_words::type_word;
+use codes::type_tags;
 ghost use mathlib.Core.Path.{_≡_};
 ghost use Prim.Native.Nat.{_+_, _<_, _^_};
 ghost use Rattle.solver.specs.Growth.{argOf, InRow, Forming, Formed, Putting, PutPart, Instancing, Instanced, InstancingParts, InstancedParts};
@@ -22,7 +23,7 @@ fn row_cell(t: usize, v: usize, first: usize, k: usize) -> usize
     requires { ⌜ first + k < 2 ^ 40 ⌝ }
     ensures { λ r. ⌜ InRow t v first k r ⌝ }
 {
-    if t != 6 {
+    if t != type_tags::PARAMETER {
         return 0;
     }
     if v == 0 {
@@ -38,7 +39,7 @@ fn row_cell(t: usize, v: usize, first: usize, k: usize) -> usize
 fn argument(t: usize, v: usize, ids: usize) -> usize
     ensures { λ r. ⌜ r ≡ argOf t v ids ⌝ }
 {
-    if t == 5 {
+    if t == type_tags::BINDING {
         return ids;
     }
     if lead_words(t) == 1 {
@@ -55,7 +56,7 @@ fn enter_former(a: &mut [u32], n: usize, top: usize, t: usize, v: usize, m: usiz
     let ids = top + m;
     let arg = argument(t, v, ids);
     new_cell(a, n, t as u32, arg as u32, top as u32, m as u32);
-    if t == 5 {
+    if t == type_tags::BINDING {
         return Grown {
             cell: n,
             cells: n + 1,

@@ -1,5 +1,8 @@
 // Finding 34: cells whose types are left open.
 use cells::area::LINKS;
+use cells::area::SETTLED;
+use cells::area::TAG;
+use cells::area::UNKNOWN;
 use cells::area::field;
 use cells::links::find;
 use words::word;
@@ -16,10 +19,10 @@ fn is_open(a: &[u32], r: usize) -> bool
     requires { ⌜ r < 1024 ⌝ }
     ensures { λ b. ⌜ Tells b ((tagAt (frozen (now (a .entry))) r ≡ 0) × (wordAt (now (a .entry)) r < 1025)) ⌝ }
 {
-    if field(a, r, 0) != 0 {
+    if field(a, r, TAG) != UNKNOWN {
         return false;
     }
-    if word(a, LINKS + r) < 1025 {
+    if word(a, LINKS + r) < SETTLED {
         return true;
     }
     false

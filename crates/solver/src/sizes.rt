@@ -1,6 +1,10 @@
 // Sizes of types, at most 33.
+use cells::area::COUNT;
 use cells::area::LINKS;
 use cells::area::MARKS;
+use cells::area::SETTLED;
+use cells::area::TAG;
+use cells::area::UNKNOWN;
 use cells::area::field;
 use cells::area::part;
 use cells::links::find;
@@ -9,20 +13,24 @@ use cells::type_words::name_words;
 use cells::type_words::parts_of;
 use cells::type_words::skip;
 use cells::type_words::type_word;
+use codes::limits;
 use words::word;
 ghost use mathlib.Core.Path.{_≡_};
 ghost use Rattle.cells.specs.Settled.{Reading};
 ghost use Rattle.solver.specs.Answers.{LookingRoot};
 ghost use Rattle.solver.specs.Sizes.{cap, TypeSize, UnknownSize, Measuring, Measured};
 
-// Sizes stop at 33.
+// Sizes stop here, past the limit.
+pub const OVER: usize = limits::SIZE + 1;
+
+// The size x, or OVER.
 pub fn capped(x: usize) -> usize
     ensures { λ r. ⌜ r ≡ cap x ⌝ }
 {
-    if x < 33 {
+    if x < OVER {
         return x;
     }
-    33
+    OVER
 }
 
 // The size of the type at p, at most 33.
@@ -51,10 +59,10 @@ fn unknown_size(a: &[u32], d: &[u32], r: usize) -> usize
     ensures { λ v. ⌜ UnknownSize (now (a .entry)) (now (d .entry)) r v ⌝ }
 {
     let q = word(a, LINKS + r);
-    if q < 1025 {
+    if q < SETTLED {
         return 1;
     }
-    type_size(a, d, q - 1025)
+    type_size(a, d, q - SETTLED)
 }
 
 // The size of the type of cell i, at most 33. The marks are those of `finite`.
@@ -62,14 +70,14 @@ pub fn cell_size(a: &[u32], d: &[u32], i: usize) -> usize
     requires { ⌜ Measuring (now a) (now d) i ⌝ }
     ensures { λ v. ⌜ Measured (now (a .entry)) (now (d .entry)) i v ⌝ }
 {
-    if 32 < word(a, MARKS + i) {
-        return 33;
+    if limits::SIZE < word(a, MARKS + i) {
+        return OVER;
     }
     let r = find(a, i);
-    if field(a, r, 0) == 0 {
+    if field(a, r, TAG) == UNKNOWN {
         return unknown_size(a, d, r);
     }
-    let k = field(a, r, 3);
+    let k = field(a, r, COUNT);
     let mut sum = 1;
     let mut j = 0;
     while j < k {

@@ -1,11 +1,17 @@
 // Types written as words.
+use cells::area::ARGUMENT;
+use cells::area::COUNT;
 use cells::area::LINKS;
+use cells::area::SETTLED;
+use cells::area::TAG;
+use cells::area::UNKNOWN;
 use cells::area::field;
 use cells::area::held;
 use cells::area::part;
 use cells::links::find;
 use cells::type_words::skip;
 use cells::type_words::type_word;
+use codes::type_tags;
 use words::store;
 use words::word;
 ghost use Prim.Native.Nat.{_<_, _^_};
@@ -18,19 +24,19 @@ fn put_lead(a: &[u32], out: &mut [u32], at: usize, r: usize) -> usize
     requires { ⌜ Leading (now a) r at ⌝ }
     ensures { λ e. ⌜ Wrote (now (out .entry)) (now (out .exit)) at e (leadAt (frozen (now (a .entry))) r) ⌝ }
 {
-    let t = field(a, r, 0);
+    let t = field(a, r, TAG);
     store(out, at, t as u32);
-    if t == 1 {
+    if t == type_tags::INTEGERS {
         return at + 1;
     }
-    if t == 3 {
+    if t == type_tags::POWER {
         return at + 1;
     }
-    if t == 5 {
-        store(out, at + 1, field(a, r, 3) as u32);
+    if t == type_tags::BINDING {
+        store(out, at + 1, field(a, r, COUNT) as u32);
         return at + 2;
     }
-    store(out, at + 1, field(a, r, 1) as u32);
+    store(out, at + 1, field(a, r, ARGUMENT) as u32);
     at + 2
 }
 
@@ -39,8 +45,8 @@ fn put_name(a: &[u32], out: &mut [u32], at: usize, r: usize, j: usize) -> usize
     requires { ⌜ (r < 1024) × (j < 2 ^ 32) × (at < 2 ^ 40) ⌝ }
     ensures { λ e. ⌜ Wrote (now (out .entry)) (now (out .exit)) at e (nameAt (frozen (now (a .entry))) r j) ⌝ }
 {
-    if field(a, r, 0) == 5 {
-        store(out, at, held(a, field(a, r, 1) + j) as u32);
+    if field(a, r, TAG) == type_tags::BINDING {
+        store(out, at, held(a, field(a, r, ARGUMENT) + j) as u32);
         return at + 1;
     }
     at
@@ -66,10 +72,10 @@ pub fn write(a: &[u32], d: &[u32], out: &mut [u32], at: usize, i: usize) -> usiz
     ensures { λ e. ⌜ Typed (now (a .entry)) (now (d .entry)) (now (out .entry)) (now (out .exit)) at i e ⌝ }
 {
     let r = find(a, i);
-    if field(a, r, 0) == 0 {
-        return put_type(a, d, out, at, word(a, LINKS + r) - 1025);
+    if field(a, r, TAG) == UNKNOWN {
+        return put_type(a, d, out, at, word(a, LINKS + r) - SETTLED);
     }
-    let k = field(a, r, 3);
+    let k = field(a, r, COUNT);
     let mut m = put_lead(a, out, at, r);
     let mut j = 0;
     while j < k {

@@ -1,26 +1,42 @@
 // The tower f (f (.. (f 1))) of applications of a generic f : ℙ (X × T), where T has 24 copies of X in a size of 32: nine levels, as deep as a document may be.
 // The tree of its type has more than 24⁹ parts, over 10¹²; the store has 100 cells. stdout holds the outcomes: one level, nine, and nine tied to their own number.
+use cells::area::AREA;
+use cells::area::FIRST_RUN;
+use codes::type_tags;
 use libc::STDOUT_FILENO;
+use solver::sizes::OVER;
 ghost use Prim.Native.Nat.{_<_};
 ghost use Rattle.tower.specs.Ready.{Rowing, Rowed, Room, Built, Forming, Applying, Applied, Towering, Towered, Asked};
 
 const LEVELS: usize = 9;
 
+// The type of f: its cells, and their parts.
+const GENERIC: usize = 8;
+
+const GENERIC_PARTS: usize = 31;
+
+// The type that f must have for an argument: its cells, the first for the type of the application, and their parts.
+const APPLIED: usize = 3;
+
+const APPLIED_PARTS: usize = 3;
+
 // The cells of a level, and their parts.
-const CELLS: usize = 11;
+const CELLS: usize = GENERIC + APPLIED;
 
-const PARTS: usize = 34;
+const PARTS: usize = GENERIC_PARTS + APPLIED_PARTS;
 
-// The first place of the runs.
-const RUNS: usize = 4096;
+// The last cell of either type in a level.
+const LAST_GENERIC: usize = GENERIC - 1;
 
-const UNKNOWN: u32 = 0;
+const LAST_APPLIED: usize = CELLS - 1;
 
-const INTEGER: u32 = 1;
+const UNKNOWN: u32 = cells::area::UNKNOWN as u32;
 
-const POWER: u32 = 3;
+const INTEGERS: u32 = type_tags::INTEGERS as u32;
 
-const PRODUCT: u32 = 4;
+const POWER: u32 = type_tags::POWER as u32;
+
+const PRODUCT: u32 = type_tags::PRODUCT as u32;
 
 enum Outcome {
     Clash,
@@ -91,8 +107,8 @@ fn level(a: &mut [u32], d: &[u32], n: usize, top: usize, x: usize) -> bool
     ensures { λ r. ⌜ Applied (now (a .entry)) (now (a .exit)) (now (d .entry)) n top r ⌝ }
 {
     generic(a, n, top);
-    applied(a, n + 8, top + 31, x);
-    cells::unification::merge(a, d, n + 7, n + 10)
+    applied(a, n + GENERIC, top + GENERIC_PARTS, x);
+    cells::unification::merge(a, d, n + LAST_GENERIC, n + LAST_APPLIED)
 }
 
 // What the solver says of cell x of the n cells.
@@ -111,14 +127,14 @@ fn build(a: &mut [u32], d: &[u32], start: u32, levels: usize) -> bool
     requires { ⌜ Towering (now a) (now d) start levels ⌝ }
     ensures { λ r. ⌜ Towered (now (a .exit)) (now (d .entry)) levels r ⌝ }
 {
-    former(a, 0, RUNS, start, 0, 0, 0, 0);
+    former(a, 0, FIRST_RUN, start, 0, 0, 0, 0);
     let mut n = 1;
-    let mut top = RUNS;
+    let mut top = FIRST_RUN;
     let mut x = 0;
     let mut i = 0;
     while i < levels {
         if level(a, d, n, top, x) {
-            x = n + 8;
+            x = n + GENERIC;
             n += CELLS;
             top += PARTS;
             i += 1;
@@ -135,7 +151,7 @@ fn tower(a: &mut [u32], d: &[u32], start: u32, levels: usize, tie: bool) -> Outc
 {
     if build(a, d, start, levels) {
         let n = 1 + CELLS * levels;
-        let x = n - 3;
+        let x = n - APPLIED;
         if tie {
             if cells::unification::merge(a, d, 0, x) {
                 return ask(a, d, n, x);
@@ -156,7 +172,7 @@ fn show(outcome: Outcome) {
             io::write_all(STDOUT_FILENO, b"cycle\n");
         }
         Outcome::Solved { size } => {
-            if size < 33 {
+            if size < OVER {
                 io::write_all(STDOUT_FILENO, b"solved, size ");
                 io::print_decimal(STDOUT_FILENO, size as u64);
                 io::write_all(STDOUT_FILENO, b"\n");
@@ -168,10 +184,10 @@ fn show(outcome: Outcome) {
 }
 
 fn main() {
-    let mut a = [0u32; 52224];
+    let mut a = [0u32; AREA];
     let d = [0u32; 1];
-    show(tower(&mut a, &d, INTEGER, 1, false));
-    show(tower(&mut a, &d, INTEGER, LEVELS, false));
-    show(tower(&mut a, &d, INTEGER, LEVELS, true));
+    show(tower(&mut a, &d, INTEGERS, 1, false));
+    show(tower(&mut a, &d, INTEGERS, LEVELS, false));
+    show(tower(&mut a, &d, INTEGERS, LEVELS, true));
     show(tower(&mut a, &d, UNKNOWN, LEVELS, true));
 }

@@ -1,4 +1,6 @@
 // Steps of the typing rules that visit no node.
+use codes::kinds;
+use codes::limits;
 use inclusion::storing::none_declared;
 use merging::declared_agree;
 use merging::names_new;
@@ -7,7 +9,6 @@ use rules::equations::comparison;
 use rules::equations::equality;
 use rules::equations::membership;
 use rules::ruling::Relation;
-use typing::findings::MOST_SIZE;
 ghost use mathlib.Core.List.{[], _∷_};
 ghost use Prim.Native.Nat.{_+_, _*_, _≤_};
 ghost use lib.ListN.{length, drop};
@@ -16,10 +17,6 @@ ghost use Rattle.merging.specs.Merging.{DeclaredAsk};
 ghost use Rattle.pieces.specs.Building.{Working};
 ghost use Rattle.rules.specs.Equations.{Related};
 ghost use Rattle.visiting.specs.Leaves.{relationItems, FitsTold, NewIfTold};
-
-const EQUAL: usize = 21;
-
-const MEMBER: usize = 22;
 
 // The rule of a relation of kind q, between the cells x and y of n.
 pub fn related(
@@ -34,10 +31,10 @@ pub fn related(
     requires { ⌜ (21 ≤ q) × (q ≤ 23) × Working (now a) (now d) n top 1 (x ∷ y ∷ []) ⌝ }
     ensures { λ r. ⌜ Related (now (a .entry)) (now (a .exit)) (now (d .entry)) n top x y (r .number) (r .cells) (relationItems q) ⌝ }
 {
-    if q == EQUAL {
+    if q == kinds::EQUAL {
         return equality(a, d, n, x, y);
     }
-    if q == MEMBER {
+    if q == kinds::MEMBER {
         return membership(a, d, n, top, x, y);
     }
     comparison(a, d, n, x, y)
@@ -58,7 +55,7 @@ pub fn declared_fits(
     requires { ⌜ DeclaredAsk (now a) (now d) (now w) base m at ⌝ }
     ensures { λ r. ⌜ FitsTold (now (a .entry)) (now (d .entry)) (now (w .entry)) base m (drop 2 (now (p .entry))) at size r ⌝ }
 {
-    if size <= MOST_SIZE {
+    if size <= limits::SIZE {
         return declared_agree(a, d, w, base, m, p, 2, at);
     }
     none_declared(w, base, m, p, 2)

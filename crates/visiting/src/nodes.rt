@@ -13,6 +13,11 @@ use crate::results::unlined;
 use crate::results::unvisited;
 use crate::results::verdict_at;
 use crate::results::visit_at;
+use cells::area::DICTIONARY;
+use cells::area::FIRST_RUN;
+use codes::findings;
+use codes::kinds;
+use codes::limits;
 use dictionary::lookup::entry_of_schema;
 use dictionary::lookup::parameters_of;
 use dictionary::lookup::type_place;
@@ -43,17 +48,10 @@ use rules::equations::arithmetic_rule;
 use rules::equations::select_rule;
 use signatures::includes::bring;
 use signatures::scopes::push;
+use signatures::tables::HALF;
+use signatures::tables::TABLE;
 use signatures::tables::declare;
 use signatures::tables::merge;
-use typing::findings::BAD_RENAME;
-use typing::findings::CLASH;
-use typing::findings::MOST_NAMES;
-use typing::findings::MOST_SIZE;
-use typing::findings::SEVERAL;
-use typing::findings::TOO_LARGE;
-use typing::findings::UNEQUAL;
-use typing::findings::UNKNOWN_NAME;
-use typing::findings::WRONG_COUNT;
 use words::span;
 use words::store;
 use words::word;
@@ -72,16 +70,8 @@ ghost use Rattle.walk.specs.Texts.{TextAsk, TextDone, LinesAsk, LinesDone};
 ghost use Rattle.walk.specs.Includes.{IncludeAsk, IncludeDone, BringsAsk, BringsDone, ActualsAsk, ActualsDone};
 ghost use Rattle.visiting.specs.Nodes.{Node};
 
-// Where the runs of an empty store begin.
-const RUNS: usize = 4096;
-
-// Where the dictionary's words begin among the places.
-const DICTIONARY: usize = 39936;
-
-// Words of a table of 32 rows, and of one of 16.
-const TABLE: usize = 64;
-
-const HALF: usize = 32;
+// The words of an Include before its actuals.
+const FIRST_ACTUAL: usize = 4;
 
 // The operands from word i of node k's part on, one after another: their cells go to the words of `parts` from j on.
 fn opers(
@@ -146,7 +136,7 @@ fn refer(
     requires { ⌜ Node (now doc) (now p) expressions k × (kindAt (now doc) k ≡ 30) × ExprAsk (now a) (now d) (now w) rows n top at free (exprAt (now doc) k) ⌝ }
     ensures { λ r. ⌜ ExprDone (now (a .entry)) (now (a .exit)) (now (d .entry)) (now (w .entry)) (now (w .exit)) rows n top at free (exprAt (now (doc .entry)) k) (r .number) (r .place) (r .cell) (r .cells) (r .top) (r .at) ⌝ }
 {
-    let mut parts = [0u32; 6];
+    let mut parts = [0u32; limits::PARTS];
     let x = opers(doc, a, d, w, rows, n, top, at, free, k, p, 2, &mut parts, 0);
     if x.number != 0 {
         return x;
@@ -182,18 +172,18 @@ fn group(
     requires { ⌜ Node (now doc) (now p) expressions k × (33 ≤ kindAt (now doc) k) × (kindAt (now doc) k ≤ 35) × ExprAsk (now a) (now d) (now w) rows n top at free (exprAt (now doc) k) ⌝ }
     ensures { λ r. ⌜ ExprDone (now (a .entry)) (now (a .exit)) (now (d .entry)) (now (w .entry)) (now (w .exit)) rows n top at free (exprAt (now (doc .entry)) k) (r .number) (r .place) (r .cell) (r .cells) (r .top) (r .at) ⌝ }
 {
-    let mut parts = [0u32; 6];
+    let mut parts = [0u32; limits::PARTS];
     let x = opers(doc, a, d, w, rows, n, top, at, free, k, p, 1, &mut parts, 0);
     if x.number != 0 {
         return x;
     }
     let q = word(p, 0);
     let m = p.len() - 1;
-    if q == 33 {
+    if q == kinds::SET {
         let r = set_rule(a, d, x.cells, x.top, &parts, m);
         return visit_at(r.number, k, r.cell, r.cells, r.top, x.at);
     }
-    if q == 34 {
+    if q == kinds::TUPLE {
         let r = tuple_rule(a, x.cells, x.top, &parts, m);
         return visit_at(r.number, k, r.cell, r.cells, r.top, x.at);
     }
@@ -386,25 +376,25 @@ pub fn expr(
     let p = part(doc, k);
     let q = word(p, 0);
     match q {
-        30 => refer(doc, a, d, w, rows, n, top, at, free, k, p),
-        31 => {
+        kinds::REF => refer(doc, a, d, w, rows, n, top, at, free, k, p),
+        kinds::NUMBER => {
             let r = number_rule(a, n, top);
             visit_at(r.number, k, r.cell, r.cells, r.top, at)
         }
-        32 => {
+        kinds::INTEGERS => {
             let r = integers_rule(a, n, top);
             visit_at(r.number, k, r.cell, r.cells, r.top, at)
         }
-        33..=35 => group(doc, a, d, w, rows, n, top, at, free, k, p),
-        36 => power(doc, a, d, w, rows, n, top, at, free, k, p),
-        37 => apply(doc, a, d, w, rows, n, top, at, free, k, p),
-        38 => select(doc, a, d, w, rows, n, top, at, free, k, p),
-        39 => {
+        kinds::SET..=kinds::PRODUCT => group(doc, a, d, w, rows, n, top, at, free, k, p),
+        kinds::POWER => power(doc, a, d, w, rows, n, top, at, free, k, p),
+        kinds::APPLY => apply(doc, a, d, w, rows, n, top, at, free, k, p),
+        kinds::SELECT => select(doc, a, d, w, rows, n, top, at, free, k, p),
+        kinds::THETA => {
             let r = theta_rule(a, d, w, n, top, rows, free, word(p, 1), word(p, 2));
             visit_at(r.number, k, r.cell, r.cells, r.top, at)
         }
-        40 => sset(doc, a, d, w, rows, n, top, at, free, k, p),
-        41..=45 => arith(doc, a, d, w, rows, n, top, at, free, k, p),
+        kinds::SCHEMA_SET => sset(doc, a, d, w, rows, n, top, at, free, k, p),
+        kinds::PLUS..=kinds::MOD => arith(doc, a, d, w, rows, n, top, at, free, k, p),
         _ => compr(doc, a, d, w, rows, n, top, at, free, k, p),
     }
 }
@@ -424,7 +414,7 @@ fn rel(
     requires { ⌜ Node (now doc) (now p) predicates k × (21 ≤ kindAt (now doc) k) × (kindAt (now doc) k ≤ 23) × PredAsk (now a) (now d) (now w) rows at free (predAt (now doc) k) ⌝ }
     ensures { λ r. ⌜ PredDone (now (a .entry)) (now (a .exit)) (now (d .entry)) (now (w .entry)) (now (w .exit)) rows at free (predAt (now (doc .entry)) k) (r .number) (r .place) ⌝ }
 {
-    let x = expr(doc, a, d, w, rows, 0, RUNS, at, free, word(p, 1));
+    let x = expr(doc, a, d, w, rows, 0, FIRST_RUN, at, free, word(p, 1));
     if x.number != 0 {
         return found(x.number, x.place);
     }
@@ -440,7 +430,7 @@ fn rel(
         wipe(a, at, y.at);
         return verdict_at(0, k);
     }
-    verdict_at(SEVERAL, k)
+    verdict_at(findings::SEVERAL, k)
 }
 
 // 25 to 27: and, or, implies.
@@ -509,10 +499,10 @@ pub fn pred(
     let p = part(doc, k);
     let q = word(p, 0);
     match q {
-        20 => verdict_at(0, k),
-        21..=23 => rel(doc, a, d, w, rows, at, free, k, p),
-        24 => pred(doc, a, d, w, rows, at, free, word(p, 1)),
-        25..=27 => conn(doc, a, d, w, rows, at, free, k, p),
+        kinds::TRUE => verdict_at(0, k),
+        kinds::EQUAL..=kinds::AT_MOST => rel(doc, a, d, w, rows, at, free, k, p),
+        kinds::NOT => pred(doc, a, d, w, rows, at, free, word(p, 1)),
+        kinds::AND..=kinds::IMPLIES => conn(doc, a, d, w, rows, at, free, k, p),
         _ => quant(doc, a, d, w, rows, at, free, k, p),
     }
 }
@@ -620,7 +610,7 @@ fn line(
     ensures { λ r. ⌜ LinesDone (now (a .entry)) (now (a .exit)) (now (d .entry)) (now (w .entry)) (now (w .exit)) rows base m at free (lineAt (now (doc .entry)) k end) global (r .number) (r .place) (r .count) (r .at) ⌝ }
 {
     let p = part(doc, k);
-    if word(p, 0) == 11 {
+    if word(p, 0) == kinds::DECL {
         return decl(doc, a, d, w, rows, base, m, at, free, k, p, global);
     }
     incl(doc, a, d, w, rows, base, m, at, free, k, p, global)
@@ -644,30 +634,30 @@ fn decl(
     requires { ⌜ Node (now doc) (now p) lines k × (kindAt (now doc) k ≡ 11) × LinesAsk (now a) (now d) (now w) rows base m at free (lineAt (now doc) k end) ⌝ }
     ensures { λ r. ⌜ LinesDone (now (a .entry)) (now (a .exit)) (now (d .entry)) (now (w .entry)) (now (w .exit)) rows base m at free (lineAt (now (doc .entry)) k end) global (r .number) (r .place) (r .count) (r .at) ⌝ }
 {
-    let x = expr(doc, a, d, w, rows, 0, RUNS, at, free, word(p, 1));
+    let x = expr(doc, a, d, w, rows, 0, FIRST_RUN, at, free, word(p, 1));
     if x.number != 0 {
         return unlined(x.number, x.place);
     }
     if !is_power(a, d, x.cells, x.top, x.cell) {
-        return lined_at(UNEQUAL, k, 0, 0);
+        return lined_at(findings::UNEQUAL, k, 0, 0);
     }
     if !close(a, d, x.cells + 2) {
-        return lined_at(SEVERAL, k, 0, 0);
+        return lined_at(findings::SEVERAL, k, 0, 0);
     }
     let size = settled_size(a, d, x.cells + 2, x.cells);
     let e = store_type(a, d, w, x.cells + 2, x.cells, at, x.at, free);
     if !declared_fits(a, d, w, base, m, p, at, size) {
-        return lined_at(CLASH, k, 0, 0);
+        return lined_at(findings::CLASH, k, 0, 0);
     }
     if !new_if(global, d, p) {
-        return lined_at(CLASH, k, 0, 0);
+        return lined_at(findings::CLASH, k, 0, 0);
     }
-    if MOST_SIZE < size {
-        return lined_at(TOO_LARGE, k, 0, 0);
+    if limits::SIZE < size {
+        return lined_at(findings::TOO_LARGE, k, 0, 0);
     }
     let count = declare(w, base, m, p, 2, at);
-    if MOST_NAMES < count {
-        return lined_at(TOO_LARGE, k, 0, 0);
+    if limits::SIGNATURE < count {
+        return lined_at(findings::TOO_LARGE, k, 0, 0);
     }
     if count == m {
         wipe(a, at, e);
@@ -694,25 +684,25 @@ fn incl(
     requires { ⌜ Node (now doc) (now p) lines k × (kindAt (now doc) k ≡ 12) × LinesAsk (now a) (now d) (now w) rows base m at free (lineAt (now doc) k end) ⌝ }
     ensures { λ r. ⌜ LinesDone (now (a .entry)) (now (a .exit)) (now (d .entry)) (now (w .entry)) (now (w .exit)) rows base m at free (lineAt (now (doc .entry)) k end) global (r .number) (r .place) (r .count) (r .at) ⌝ }
 {
-    let mut places = [0u32; 4];
+    let mut places = [0u32; limits::PARAMETERS];
     let i = include(doc, a, d, w, rows, at, free, k, &mut places);
     if i.number != 0 {
         return i;
     }
     let row = span(&places, 0, word(p, 3));
     if !rows_agree(a, d, w, base, m, free, i.count, row) {
-        return lined_at(CLASH, k, 0, 0);
+        return lined_at(findings::CLASH, k, 0, 0);
     }
     if !rows_new_if(global, d, w, free, i.count) {
-        return lined_at(CLASH, k, 0, 0);
+        return lined_at(findings::CLASH, k, 0, 0);
     }
     if !rows_small(a, d, w, free, i.count, row) {
-        return lined_at(TOO_LARGE, k, 0, 0);
+        return lined_at(findings::TOO_LARGE, k, 0, 0);
     }
     let e = keep_rows(a, d, w, base, m, free, i.count, row, at, i.at, free + TABLE);
     let r = merge(w, free, i.count, base, m);
-    if MOST_NAMES < r {
-        return lined_at(TOO_LARGE, k, 0, 0);
+    if limits::SIGNATURE < r {
+        return lined_at(findings::TOO_LARGE, k, 0, 0);
     }
     lined_at(0, k, r, e)
 }
@@ -731,14 +721,14 @@ pub fn brings(
     requires { ⌜ At (now doc) includes k × BringsAsk (now a) (now d) (now w) rows at free (includeAt (now doc) k) ⌝ }
     ensures { λ r. ⌜ BringsDone (now (a .entry)) (now (a .exit)) (now (d .entry)) (now (w .entry)) (now (w .exit)) rows at free (includeAt (now (doc .entry)) k) (r .number) (r .place) (r .count) (r .at) ⌝ }
 {
-    let mut places = [0u32; 4];
+    let mut places = [0u32; limits::PARAMETERS];
     let i = include(doc, a, d, w, rows, at, free, k, &mut places);
     if i.number != 0 {
         return i;
     }
     let row = span(&places, 0, word(part(doc, k), 3));
     if !rows_small(a, d, w, free, i.count, row) {
-        return lined_at(TOO_LARGE, k, 0, 0);
+        return lined_at(findings::TOO_LARGE, k, 0, 0);
     }
     let e = keep_rows(a, d, w, free, 0, free, i.count, row, at, i.at, free + TABLE);
     lined_at(0, k, i.count, e)
@@ -763,19 +753,19 @@ fn include(
     let q = word(p, 3);
     let e = entry_of_schema(d, word(p, 1));
     if e == 0 {
-        return lined_at(UNKNOWN_NAME, k, 0, 0);
+        return lined_at(findings::UNKNOWN_NAME, k, 0, 0);
     }
     if parameters_of(d, e) != q {
-        return lined_at(WRONG_COUNT, k, 0, 0);
+        return lined_at(findings::WRONG_COUNT, k, 0, 0);
     }
     let x = actuals(doc, a, d, w, rows, at, free, k, p, 0, q, places);
     if x.number != 0 {
         return x;
     }
     let m = component_rows(a, d, w, DICTIONARY + type_place(d, e), free + HALF);
-    let b = bring(w, free + HALF, m, free, word(p, 2), p, q + 4);
+    let b = bring(w, free + HALF, m, free, word(p, 2), p, q + FIRST_ACTUAL);
     if b.wrong {
-        return lined_at(BAD_RENAME, k, 0, 0);
+        return lined_at(findings::BAD_RENAME, k, 0, 0);
     }
     lined_at(0, k, b.count, x.at)
 }
@@ -801,15 +791,26 @@ fn actuals(
     if q <= j {
         return lined_at(0, k, 0, at);
     }
-    let x = expr(doc, a, d, w, rows, 0, RUNS, at, free, word(p, j + 4));
+    let x = expr(
+        doc,
+        a,
+        d,
+        w,
+        rows,
+        0,
+        FIRST_RUN,
+        at,
+        free,
+        word(p, j + FIRST_ACTUAL),
+    );
     if x.number != 0 {
         return unlined(x.number, x.place);
     }
     if !is_power(a, d, x.cells, x.top, x.cell) {
-        return lined_at(UNEQUAL, k, 0, 0);
+        return lined_at(findings::UNEQUAL, k, 0, 0);
     }
     if !close(a, d, x.cells + 2) {
-        return lined_at(SEVERAL, k, 0, 0);
+        return lined_at(findings::SEVERAL, k, 0, 0);
     }
     let e = store_type(a, d, w, x.cells + 2, x.cells, at, x.at, free);
     store(places, j, at as u32);

@@ -1,5 +1,7 @@
 // The program of document 01, "The printed finding": a document from standard input, its finding to standard output.
 // No contract can say which bytes C's read and write move; `report` says what is written for the bytes that were read.
+use codes::findings;
+use codes::limits;
 use libc::STDIN_FILENO;
 use libc::STDOUT_FILENO;
 use typing::Finding;
@@ -10,14 +12,14 @@ ghost use Rattle.typing.specs.declared.Finding.the-variants.{Refused};
 ghost use Rattle.printer.specs.Print.{printedOf, printOf};
 ghost use Rattle.zcheck.specs.Report.{reportOf, Prints, Areas};
 
-// Words of each area.
-const AREA: usize = 16384;
+// Words of each area, as many as a document may have.
+const AREA: usize = limits::WORDS;
 
 // One byte more than an area has, so that a longer input shows.
-const INPUT: usize = 65537;
+const INPUT: usize = limits::WORD_BYTES * AREA + 1;
 
-// Bytes that always suffice for the printed finding.
-const OUTPUT: usize = 180258;
+// Bytes that always suffice for the printed finding: `enough` in printer/specs/Bounds.antt.
+const OUTPUT: usize = 11 * AREA + 34;
 
 // The printed finding of a document's words: its length.
 fn print_check(doc: &[u32], dict: &mut [u32], work: &mut [u32], out: &mut [u8]) -> usize
@@ -34,7 +36,7 @@ fn print_broken(dict: &[u32], out: &mut [u8]) -> usize
     ensures { λ r. ⌜ Prints (printOf (Refused 11 0) []) r (now (out .exit)) ⌝ }
 {
     let finding = Finding::Refused {
-        number: 11,
+        number: findings::BROKEN_LAYOUT,
         place: 0,
     };
     printer::print_finding(finding, dict, out)
@@ -48,7 +50,7 @@ fn report(input: &[u8], out: &mut [u8; OUTPUT]) -> usize
     let mut dict = [0u32; AREA];
     let mut work = [0u32; AREA];
     if input::take_words(input, &mut doc) {
-        let n = input.len() / 4;
+        let n = input.len() / limits::WORD_BYTES;
         return print_check(&doc[..n], &mut dict, &mut work, out);
     }
     print_broken(&dict, out)
