@@ -1,4 +1,4 @@
-// Reading.
+// The numbers of findings. Reading:
 pub const BROKEN_LAYOUT: u32 = 11;
 
 pub const UNLISTED_KIND: u32 = 12;
@@ -22,7 +22,7 @@ pub const WORK_AREA: u32 = 21;
 
 pub const DICTIONARY_AREA: u32 = 22;
 
-// The check.
+// The check:
 pub const UNKNOWN_NAME: u32 = 31;
 
 // Actuals that are not as many as the parameters.

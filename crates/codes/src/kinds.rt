@@ -1,3 +1,4 @@
+// The kinds of nodes.
 pub const DOCUMENT: usize = 1;
 
 // Paragraphs.

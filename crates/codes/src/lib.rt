@@ -7,3 +7,6 @@ pub mod kinds;
 pub mod limits;
 pub mod type_tags;
 pub mod value_tags;
+
+// Bytes of a word.
+pub const WORD_BYTES: usize = 4;

@@ -1,7 +1,4 @@
-// Bytes of a word.
-pub const WORD_BYTES: usize = 4;
-
-// A document: nodes and words.
+// The limits of document 01. A document: nodes and words.
 pub const NODES: usize = 1024;
 
 pub const WORDS: usize = 16384;

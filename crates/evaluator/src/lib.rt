@@ -57,7 +57,7 @@ fn run_state(doc: &[u32], state: &[u32], work: &mut [u32]) -> Finding
     requires { ⌜ (readOf (now doc) ≡ Readable) × (16384 ≤ length (now work)) ⌝ }
     ensures { λ r. ⌜ r ≡ runState (stateOf (documentNames (treeOf (now (doc .entry)))) (now (state .entry))) (treeOf (now (doc .entry))) (now (state .entry)) .finding ⌝ }
 {
-    let c = states::check_names(doc, state);
+    let c = states::first_ill_formed(doc, state);
     match c {
         Reading::Readable => run_paragraphs(doc, state, work),
         Reading::Refused { number, place } => Finding::Refused {

@@ -24,9 +24,9 @@ fn fit_state(doc: &[u32], state: &[u32], dict: &[u32]) -> Finding
     requires { ⌜ readOf (now doc) ≡ Readable ⌝ }
     ensures { λ r. ⌜ ((E : Dictionary) → Held (now (doc .entry)) (now (dict .entry)) E → r ≡ findingOf (fitState (stateOf (documentNames (treeOf (now (doc .entry)))) (now (state .entry))) E (documentNames (treeOf (now (doc .entry)))) (now (state .entry)))) ⌝ }
 {
-    let formed = states::check_names(doc, state);
+    let formed = states::first_ill_formed(doc, state);
     match formed {
-        Reading::Readable => recorded::finding_of(recorded::check_types(doc, state, dict)),
+        Reading::Readable => recorded::finding_of(recorded::first_mistyped(doc, state, dict)),
         Reading::Refused { number, place } => Finding::Refused {
             number: number,
             place: place,

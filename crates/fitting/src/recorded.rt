@@ -52,7 +52,7 @@ fn type_number(doc: &[u32], state: &[u32], dict: &[u32], k: usize) -> u32
 }
 
 // The first entry whose value is not of its recorded type.
-pub fn check_types(doc: &[u32], state: &[u32], dict: &[u32]) -> Reading
+pub fn first_mistyped(doc: &[u32], state: &[u32], dict: &[u32]) -> Reading
     requires { ⌜ (readOf (now doc) ≡ Readable) × (stateOf (documentNames (treeOf (now doc))) (now state) ≡ Readable) ⌝ }
     ensures { λ r. ⌜ ((E : Dictionary) → Held (now (doc .entry)) (now (dict .entry)) E → r ≡ scan (typeNumber E (documentNames (treeOf (now (doc .entry)))) (now (state .entry))) 1 (length (documentNames (treeOf (now (doc .entry)))))) ⌝ }
 {

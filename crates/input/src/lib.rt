@@ -1,5 +1,5 @@
 // The words of a program's input: four bytes a word, low byte first.
-use codes::limits::WORD_BYTES;
+use codes::WORD_BYTES;
 use words::store;
 ghost use mathlib.Core.Path.{_≡_};
 ghost use mathlib.Core.List.{_++_};

@@ -4,7 +4,7 @@ use codes::limits::NODES;
 use codes::limits::WORDS;
 use layout::Form;
 use node_forms::nodes::check_nodes;
-use repeats::check_repeats;
+use repeats::first_repeat;
 use syntax::Reading;
 
 mod limits;
@@ -30,9 +30,9 @@ fn check_tree(doc: &[u32], up: &[u32]) -> Reading
     requires { ⌜ Linked (now doc) (now up) ⌝ }
     ensures { λ r. ⌜ r ≡ andThen (lowest (now (doc .entry)) (repeatNumber (now (doc .entry)))) (lowest (now (doc .entry)) (limitNumber (now (doc .entry)))) ⌝ }
 {
-    let first = check_repeats(doc, up);
+    let first = first_repeat(doc, up);
     match first {
-        Reading::Readable => limits::check_limits(doc, up),
+        Reading::Readable => limits::first_past_limit(doc, up),
         Reading::Refused { number, place } => Reading::Refused {
             number: number,
             place: place,
@@ -48,7 +48,7 @@ fn check_uses_and_tree(doc: &[u32]) -> Reading
     let mut used = [0u32; PLACES];
     let mut up = [0u32; PLACES];
     links::link_nodes(doc, &mut used, &mut up);
-    let first = links::check_uses(doc, &used);
+    let first = links::first_misused(doc, &used);
     match first {
         Reading::Readable => check_tree(doc, &up),
         Reading::Refused { number, place } => Reading::Refused {

@@ -140,7 +140,7 @@ fn limit_at(doc: &[u32], up: &[u32], k: usize, below: &mut [u32], declared: &mut
 }
 
 // The first node past a limit.
-pub fn check_limits(doc: &[u32], up: &[u32]) -> Reading
+pub fn first_past_limit(doc: &[u32], up: &[u32]) -> Reading
     requires { ⌜ Linked (now doc) (now up) ⌝ }
     ensures { λ r. ⌜ r ≡ lowest (now (doc .entry)) (limitNumber (now (doc .entry))) ⌝ }
 {

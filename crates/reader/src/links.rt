@@ -92,7 +92,7 @@ fn use_number(doc: &[u32], used: &[u32], k: usize) -> u32
 }
 
 // The first node that is used twice or never, or is a Document that is not last, or is last and no Document.
-pub fn check_uses(doc: &[u32], used: &[u32]) -> Reading
+pub fn first_misused(doc: &[u32], used: &[u32]) -> Reading
     requires { ⌜ Used (now doc) (now used) × (count (now doc) ≤ 1024) ⌝ }
     ensures { λ r. ⌜ r ≡ lowest (now (doc .entry)) (useNumber (now (doc .entry))) ⌝ }
 {

@@ -108,7 +108,7 @@ fn repeat_number(doc: &[u32], up: &[u32], k: usize, seen: &mut [u8], names: &mut
 }
 
 // The first node that repeats what was written before it.
-pub fn check_repeats(doc: &[u32], up: &[u32]) -> Reading
+pub fn first_repeat(doc: &[u32], up: &[u32]) -> Reading
     requires { ⌜ Linked (now doc) (now up) ⌝ }
     ensures { λ r. ⌜ r ≡ lowest (now (doc .entry)) (repeatNumber (now (doc .entry))) ⌝ }
 {

@@ -51,7 +51,7 @@ fn value_by(table: &[u32], state: &[u32], k: usize) -> u32
     0
 }
 
-fn check_givens(table: &[u32], state: &[u32], n: usize) -> Reading
+fn first_ill_given(table: &[u32], state: &[u32], n: usize) -> Reading
     requires { ⌜ n ≤ 1024 ⌝ }
     ensures { λ r. ⌜ r ≡ scan (givenBy (now (table .entry)) (now (state .entry))) 1 n ⌝ }
 {
@@ -69,7 +69,7 @@ fn check_givens(table: &[u32], state: &[u32], n: usize) -> Reading
     Reading::Readable
 }
 
-fn check_values(table: &[u32], state: &[u32], n: usize) -> Reading
+fn first_ill_value(table: &[u32], state: &[u32], n: usize) -> Reading
     requires { ⌜ n ≤ 1024 ⌝ }
     ensures { λ r. ⌜ r ≡ scan (valueBy (now (table .entry)) (now (state .entry))) 1 n ⌝ }
 {
@@ -88,13 +88,13 @@ fn check_values(table: &[u32], state: &[u32], n: usize) -> Reading
 }
 
 // The first entry that is ill formed, Given entries first.
-pub fn check_entries(table: &[u32], state: &[u32], n: usize) -> Reading
+pub fn first_ill_entry(table: &[u32], state: &[u32], n: usize) -> Reading
     requires { ⌜ n ≤ 1024 ⌝ }
     ensures { λ r. ⌜ r ≡ andThen (scan (givenBy (now (table .entry)) (now (state .entry))) 1 n) (scan (valueBy (now (table .entry)) (now (state .entry))) 1 n) ⌝ }
 {
-    let first = check_givens(table, state, n);
+    let first = first_ill_given(table, state, n);
     match first {
-        Reading::Readable => check_values(table, state, n),
+        Reading::Readable => first_ill_value(table, state, n),
         Reading::Refused { number, place } => Reading::Refused {
             number: number,
             place: place,

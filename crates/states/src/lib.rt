@@ -17,7 +17,7 @@ ghost use Rattle.states.specs.Names.{documentNames};
 ghost use Rattle.states.specs.States.{stateOf, stateCheckOf};
 
 // Finding 41 of a state for a readable document. A state has at most 1,024 entries, so where there are more names their pairs are not needed.
-pub fn check_names(doc: &[u32], state: &[u32]) -> Reading
+pub fn first_ill_formed(doc: &[u32], state: &[u32]) -> Reading
     requires { ⌜ readOf (now doc) ≡ Readable ⌝ }
     ensures { λ r. ⌜ r ≡ stateOf (documentNames (treeOf (now (doc .entry)))) (now (state .entry)) ⌝ }
 {
@@ -31,7 +31,7 @@ pub fn check_names(doc: &[u32], state: &[u32]) -> Reading
     };
     if layout::laid_out(state, form) {
         if word(state, 0) == n {
-            return entries::check_entries(&table, state, n);
+            return entries::first_ill_entry(&table, state, n);
         }
         return Reading::Refused {
             number: findings::ILL_FORMED,
@@ -50,7 +50,7 @@ pub fn check_state(doc: &[u32], state: &[u32]) -> Reading
 {
     let first = reader::read(doc);
     match first {
-        Reading::Readable => check_names(doc, state),
+        Reading::Readable => first_ill_formed(doc, state),
         Reading::Refused { number, place } => Reading::Refused {
             number: number,
             place: place,

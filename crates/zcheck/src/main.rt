@@ -1,5 +1,6 @@
 // The program of document 01, "The printed finding": a document from standard input, its finding to standard output.
 // No contract can say which bytes C's read and write move; `report` says what is written for the bytes that were read.
+use codes::WORD_BYTES;
 use codes::findings;
 use codes::limits;
 use libc::STDIN_FILENO;
@@ -16,7 +17,7 @@ ghost use Rattle.zcheck.specs.Report.{reportOf, Prints, Areas};
 const AREA: usize = limits::WORDS;
 
 // One byte more than an area has, so that a longer input shows.
-const INPUT: usize = limits::WORD_BYTES * AREA + 1;
+const INPUT: usize = WORD_BYTES * AREA + 1;
 
 // Bytes that always suffice for the printed finding: `enough` in printer/specs/Bounds.antt.
 const OUTPUT: usize = 11 * AREA + 34;
@@ -50,7 +51,7 @@ fn report(input: &[u8], out: &mut [u8; OUTPUT]) -> usize
     let mut dict = [0u32; AREA];
     let mut work = [0u32; AREA];
     if input::take_words(input, &mut doc) {
-        let n = input.len() / limits::WORD_BYTES;
+        let n = input.len() / WORD_BYTES;
         return print_check(&doc[..n], &mut dict, &mut work, out);
     }
     print_broken(&dict, out)

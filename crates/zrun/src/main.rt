@@ -1,6 +1,7 @@
 // zrun DOCUMENT STATE: checks the document of a file, fits the state of another, and runs it. Prints `holds`, `fails at 12` or `refused 42 at 3`
 // to standard output, or to standard error why a file cannot be read. A file whose bytes are no words, or more than 16,384, counts as one of none:
 // a document of no words is 11 at 0, a state 41 at 0.
+use codes::WORD_BYTES;
 use codes::limits;
 use evaluation::Finding;
 use libc::STDOUT_FILENO;
@@ -15,7 +16,7 @@ ghost use Rattle.zrun.specs.Judge.{judgeOf};
 const AREA: usize = limits::WORDS;
 
 // One byte more than an area has, so that a longer file shows.
-const INPUT: usize = limits::WORD_BYTES * AREA + 1;
+const INPUT: usize = WORD_BYTES * AREA + 1;
 
 // What was read, where it could be: n bytes of a file, or words of an area.
 struct Input {
@@ -53,7 +54,7 @@ fn take_file(fd: i32, path: &[u8], area: &mut [u32]) -> Input
     if input::take_words(&bytes[..n], area) {
         return Input {
             read: true,
-            n: n / limits::WORD_BYTES,
+            n: n / WORD_BYTES,
         };
     }
     Input { read: true, n: 0 }

@@ -6,20 +6,20 @@ use borrow.Author.Needs.{needs}
 use Rattle.fitting.proofs.fit_state.Statement.{statement}
 use Rattle.fitting.proofs.fit_state.Tie as tie
 
-check-types-requires : tie.Need-check-types-requires
-check-types-requires c κs = (c .before .before .before .before .before .before .pre, sym (c .before .before .check-names .ensures) ∙ c .enum-told .given .1)
+first-mistyped-requires : tie.Need-first-mistyped-requires
+first-mistyped-requires c κs = (c .before .before .before .before .before .before .pre, sym (c .before .before .first-ill-formed .ensures) ∙ c .enum-told .given .1)
 
 returns : tie.Need-returns
 returns c =
     let s = c .before .before .before .before .before .before .before .before in
     let ns = documentNames (treeOf (s .args .doc .now)) in
-    λ E H. readable-finding ns (s .args .state .now) E (sym (c .before .before .before .before .check-names .ensures) ∙ c .before .before .enum-told .given .1) (c .before .check-types .result) (c .before .check-types .ensures E H) (c .finding-of .result) (c .finding-of .ensures)
+    λ E H. readable-finding ns (s .args .state .now) E (sym (c .before .before .before .before .first-ill-formed .ensures) ∙ c .before .before .enum-told .given .1) (c .before .first-mistyped .result) (c .before .first-mistyped .ensures E H) (c .finding-of .result) (c .finding-of .ensures)
 
 returns-2 : tie.Need-returns-2
 returns-2 c =
     let s = c .before .before .before .before .before .before .before in
     let ns = documentNames (treeOf (s .args .doc .now)) in
-    λ E H. refused-finding ns (s .args .state .now) E _ _ (sym (c .before .before .before .check-names .ensures) ∙ c .before .formed .given .1)
+    λ E H. refused-finding ns (s .args .state .now) E _ _ (sym (c .before .before .before .first-ill-formed .ensures) ∙ c .before .formed .given .1)
 
 pub fit-state-spec : {M : Type 1} → statement M
 fit-state-spec =
@@ -27,7 +27,7 @@ fit-state-spec =
     (tie.spec
     (λ c κs. search needs)
     (λ c. search needs)
-    check-types-requires
+    first-mistyped-requires
     (λ c κs. search needs)
     (λ c. search needs)
     returns

@@ -3,10 +3,10 @@ use Rattle.reader.proofs.check_tree.Statement.{statement}
 use Rattle.reader.proofs.check_tree.Tie as tie
 
 returns : tie.Need-returns
-returns c = rw (← (c .before .before .before .check-repeats .ensures), c .before .enum-told .given .1) (c .check-limits .ensures)
+returns c = rw (← (c .before .before .before .first-repeat .ensures), c .before .enum-told .given .1) (c .first-past-limit .ensures)
 
 returns-2 : tie.Need-returns-2
-returns-2 c = rw (← (c .before .before .before .check-repeats .ensures), c .before .first .given .1)
+returns-2 c = rw (← (c .before .before .before .first-repeat .ensures), c .before .first .given .1)
 
 pub check-tree-spec : {M : Type 1} → statement M
 check-tree-spec =

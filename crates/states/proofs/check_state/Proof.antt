@@ -6,7 +6,7 @@ use Rattle.states.proofs.check_state.Tie as tie
 use Rattle.states.proofs.check_state.Reads as reads
 use Rattle.states.proofs.check_state.Lts as lts
 use Rattle.reader.proofs.read.Reads as read-reads
-use Rattle.states.proofs.check_names.Reads as check-names-reads
+use Rattle.states.proofs.first_ill_formed.Reads as first-ill-formed-reads
 
 read-requires : tie.Need-read-requires
 read-requires c κs = search needs
@@ -14,15 +14,15 @@ read-requires c κs = search needs
 enum-told : tie.Need-enum-told
 enum-told c = search needs
 
-check-names-requires : tie.Need-check-names-requires
-check-names-requires c κs = sym (c .before .before .read .ensures) ∙ c .enum-told .given .1
+first-ill-formed-requires : tie.Need-first-ill-formed-requires
+first-ill-formed-requires c κs = sym (c .before .before .read .ensures) ∙ c .enum-told .given .1
 
 enum-known-first : tie.Need-enum-known-first
 enum-known-first c = search needs
 
 returns : tie.Need-returns
 unfolding stateCheckOf
-returns c = rw (← (c .before .before .before .read .ensures), c .before .enum-told .given .1) (c .check-names .ensures)
+returns c = rw (← (c .before .before .before .read .ensures), c .before .enum-told .given .1) (c .first-ill-formed .ensures)
 
 returns-2 : tie.Need-returns-2
 unfolding stateCheckOf
@@ -31,4 +31,4 @@ returns-2 c = rw (← (c .before .before .before .read .ensures), c .before .fir
 pub check-state-spec : {M : Type 1} → statement M
 check-state-spec =
     tie.close
-    (tie.spec read-requires enum-told check-names-requires enum-known-first returns returns-2)
+    (tie.spec read-requires enum-told first-ill-formed-requires enum-known-first returns returns-2)

@@ -6,8 +6,8 @@ use native.Mathlib.Nat.{add-sub-cancel}
 use Prim.Native.Nat.{_+_, _-_, _≤_}
 use mathlib.Core.Path.{_≡_, sym, _∙_}
 use borrow.Author.Needs.{needs}
-use Rattle.reader.proofs.links.check_uses.Statement.{statement}
-use Rattle.reader.proofs.links.check_uses.Tie as tie
+use Rattle.reader.proofs.links.first_misused.Statement.{statement}
+use Rattle.reader.proofs.links.first_misused.Tie as tie
 
 abbrev Inv-loop : tie.InvT-loop
 Inv-loop doc used n k₀ k = (1 ≤ k) × (k ≤ n + 1) × (lowest doc (useNumber doc) ≡ scan (useNumber doc) k (n + 1 - k))
@@ -30,8 +30,8 @@ loop-again c = (omega arith, omega arith, c .before .before .before .loop .inv .
 returns-2 : tie.Need-returns-2 Inv-loop μ-loop
 returns-2 c = scan-end _ _ _ (omega arith) ∙ sym (c .before .loop .inv .2)
 
-pub check-uses-spec : {M : Type 1} → statement M
-check-uses-spec =
+pub first-misused-spec : {M : Type 1} → statement M
+first-misused-spec =
     tie.close
     (tie.spec
     Inv-loop

@@ -13,8 +13,8 @@ use Prim.Native.Nat.{ℕ, _+_, _-_, _≤_, _<_}
 use lib.ListN.{length}
 use mathlib.Core.Path.{_≡_, refl, sym, ap, _∙_}
 use borrow.Author.Needs.{needs}
-use Rattle.reader.proofs.limits.check_limits.Statement.{statement}
-use Rattle.reader.proofs.limits.check_limits.Tie as tie
+use Rattle.reader.proofs.limits.first_past_limit.Statement.{statement}
+use Rattle.reader.proofs.limits.first_past_limit.Tie as tie
 
 abbrev Inv-loop : tie.InvT-loop
 Inv-loop doc up below₀ declared₀ globals₀ n k₀ below declared globals k =
@@ -75,8 +75,8 @@ loop-again c =
 returns-3 : tie.Need-returns-3 Inv-loop μ-loop
 returns-3 c = scan-end _ _ _ (omega arith) ∙ sym (c .before .loop .inv .2)
 
-pub check-limits-spec : {M : Type 1} → statement M
-check-limits-spec =
+pub first-past-limit-spec : {M : Type 1} → statement M
+first-past-limit-spec =
     tie.close
     (tie.spec
     Inv-loop

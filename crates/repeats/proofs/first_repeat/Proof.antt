@@ -9,8 +9,8 @@ use native.Mathlib.Nat.{add-sub-cancel}
 use Prim.Native.Nat.{_+_, _-_, _≤_}
 use mathlib.Core.Path.{_≡_, sym, _∙_}
 use borrow.Author.Needs.{needs}
-use Rattle.repeats.proofs.check_repeats.Statement.{statement}
-use Rattle.repeats.proofs.check_repeats.Tie as tie
+use Rattle.repeats.proofs.first_repeat.Statement.{statement}
+use Rattle.repeats.proofs.first_repeat.Tie as tie
 
 abbrev Inv-loop : tie.InvT-loop
 Inv-loop doc up seen₀ names₀ n k₀ seen names k = (1 ≤ k) × (k ≤ n + 1) × (lowest doc (repeatNumber doc) ≡ scan (repeatNumber doc) k (n + 1 - k)) × Written doc k seen names
@@ -44,8 +44,8 @@ loop-again c =
 returns-2 : tie.Need-returns-2 Inv-loop μ-loop
 returns-2 c = scan-end _ _ _ (omega arith) ∙ sym (c .before .loop .inv .2)
 
-pub check-repeats-spec : {M : Type 1} → statement M
-check-repeats-spec =
+pub first-repeat-spec : {M : Type 1} → statement M
+first-repeat-spec =
     tie.close
     (tie.spec
     Inv-loop

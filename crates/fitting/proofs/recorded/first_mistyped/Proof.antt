@@ -12,8 +12,8 @@ use Rattle.fit.specs.Fit.{typeNumber}
 use Rattle.fitting.specs.Held.{Held}
 use Rattle.fitting.proofs.Types.{entry-count}
 use borrow.Author.Needs.{needs}
-use Rattle.fitting.proofs.recorded.check_types.Statement.{statement}
-use Rattle.fitting.proofs.recorded.check_types.Tie as tie
+use Rattle.fitting.proofs.recorded.first_mistyped.Statement.{statement}
+use Rattle.fitting.proofs.recorded.first_mistyped.Tie as tie
 
 abbrev Inv-loop : tie.InvT-loop
 Inv-loop doc state dict n k₀ k = (1 ≤ k) × (k ≤ n + 1) × (n ≡ length (documentNames (treeOf doc)))
@@ -51,8 +51,8 @@ returns-2 c =
     let l = c .before .loop in
     λ E H. rw (← (l .inv .2)) (scan-end _ _ _ (omega arith) ∙ sym (l .inv .3 E H))
 
-pub check-types-spec : {M : Type 1} → statement M
-check-types-spec =
+pub first-mistyped-spec : {M : Type 1} → statement M
+first-mistyped-spec =
     tie.close
     (tie.spec
     Inv-loop

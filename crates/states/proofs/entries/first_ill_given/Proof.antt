@@ -6,10 +6,10 @@ use Rattle.states.specs.Table.{givenBy}
 use Rattle.syntax.specs.Findings.{scan}
 use Rattle.syntax.proofs.Scan.{scan-hit, scan-go, scan-end}
 use borrow.Author.Needs.{needs}
-use Rattle.states.proofs.entries.check_givens.Statement.{statement}
-use Rattle.states.proofs.entries.check_givens.Tie as tie
-use Rattle.states.proofs.entries.check_givens.Reads as reads
-use Rattle.states.proofs.entries.check_givens.Lts as lts
+use Rattle.states.proofs.entries.first_ill_given.Statement.{statement}
+use Rattle.states.proofs.entries.first_ill_given.Tie as tie
+use Rattle.states.proofs.entries.first_ill_given.Reads as reads
+use Rattle.states.proofs.entries.first_ill_given.Lts as lts
 use Rattle.states.proofs.entries.given_by.Reads as given-by-reads
 
 abbrev Inv-loop : tie.InvT-loop
@@ -45,8 +45,8 @@ loop-again c = (omega arith, omega arith, c .before .before .before .loop .inv .
 returns-2 : tie.Need-returns-2 Inv-loop μ-loop
 returns-2 c = scan-end _ _ _ (omega arith) ∙ sym (c .before .loop .inv .2)
 
-pub check-givens-spec : {M : Type 1} → statement M
-check-givens-spec =
+pub first-ill-given-spec : {M : Type 1} → statement M
+first-ill-given-spec =
     tie.close
     (tie.spec
     Inv-loop

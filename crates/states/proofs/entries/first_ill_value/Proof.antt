@@ -6,10 +6,10 @@ use Rattle.states.specs.Table.{valueBy}
 use Rattle.syntax.specs.Findings.{scan}
 use Rattle.syntax.proofs.Scan.{scan-hit, scan-go, scan-end}
 use borrow.Author.Needs.{needs}
-use Rattle.states.proofs.entries.check_values.Statement.{statement}
-use Rattle.states.proofs.entries.check_values.Tie as tie
-use Rattle.states.proofs.entries.check_values.Reads as reads
-use Rattle.states.proofs.entries.check_values.Lts as lts
+use Rattle.states.proofs.entries.first_ill_value.Statement.{statement}
+use Rattle.states.proofs.entries.first_ill_value.Tie as tie
+use Rattle.states.proofs.entries.first_ill_value.Reads as reads
+use Rattle.states.proofs.entries.first_ill_value.Lts as lts
 use Rattle.states.proofs.entries.value_by.Reads as value-by-reads
 
 abbrev Inv-loop : tie.InvT-loop
@@ -45,8 +45,8 @@ loop-again c = (omega arith, omega arith, c .before .before .before .loop .inv .
 returns-2 : tie.Need-returns-2 Inv-loop μ-loop
 returns-2 c = scan-end _ _ _ (omega arith) ∙ sym (c .before .loop .inv .2)
 
-pub check-values-spec : {M : Type 1} → statement M
-check-values-spec =
+pub first-ill-value-spec : {M : Type 1} → statement M
+first-ill-value-spec =
     tie.close
     (tie.spec
     Inv-loop
