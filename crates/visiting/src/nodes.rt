@@ -685,7 +685,7 @@ fn incl(
     ensures { λ r. ⌜ LinesDone (now (a .entry)) (now (a .exit)) (now (d .entry)) (now (w .entry)) (now (w .exit)) rows base m at free (lineAt (now (doc .entry)) k end) global (r .number) (r .place) (r .count) (r .at) ⌝ }
 {
     let mut places = [0u32; limits::PARAMETERS];
-    let i = include(doc, a, d, w, rows, at, free, k, &mut places);
+    let i = include(doc, a, d, w, rows, at, free, k, p, &mut places);
     if i.number != 0 {
         return i;
     }
@@ -721,12 +721,13 @@ pub fn brings(
     requires { ⌜ At (now doc) includes k × BringsAsk (now a) (now d) (now w) rows at free (includeAt (now doc) k) ⌝ }
     ensures { λ r. ⌜ BringsDone (now (a .entry)) (now (a .exit)) (now (d .entry)) (now (w .entry)) (now (w .exit)) rows at free (includeAt (now (doc .entry)) k) (r .number) (r .place) (r .count) (r .at) ⌝ }
 {
+    let p = part(doc, k);
     let mut places = [0u32; limits::PARAMETERS];
-    let i = include(doc, a, d, w, rows, at, free, k, &mut places);
+    let i = include(doc, a, d, w, rows, at, free, k, p, &mut places);
     if i.number != 0 {
         return i;
     }
-    let row = span(&places, 0, word(part(doc, k), 3));
+    let row = span(&places, 0, word(p, 3));
     if !rows_small(a, d, w, free, i.count, row) {
         return lined_at(findings::TOO_LARGE, k, 0, 0);
     }
@@ -744,12 +745,12 @@ fn include(
     at: usize,
     free: usize,
     k: usize,
+    p: &[u32],
     places: &mut [u32],
 ) -> Lined
-    requires { ⌜ At (now doc) includes k × IncludeAsk (now a) (now d) (now w) rows at free (includeAt (now doc) k) (now places) ⌝ }
+    requires { ⌜ Node (now doc) (now p) includes k × IncludeAsk (now a) (now d) (now w) rows at free (includeAt (now doc) k) (now places) ⌝ }
     ensures { λ r. ⌜ IncludeDone (now (a .entry)) (now (a .exit)) (now (d .entry)) (now (w .entry)) (now (w .exit)) rows at free (includeAt (now (doc .entry)) k) (now (places .entry)) (now (places .exit)) (r .number) (r .place) (r .count) (r .at) ⌝ }
 {
-    let p = part(doc, k);
     let q = word(p, 3);
     let e = entry_of_schema(d, word(p, 1));
     if e == 0 {

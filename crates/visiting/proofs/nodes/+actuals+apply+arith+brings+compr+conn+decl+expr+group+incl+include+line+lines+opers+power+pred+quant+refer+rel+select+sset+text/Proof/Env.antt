@@ -145,7 +145,7 @@ abbrev pub μ-group : Measures 5 group-kinds.ps ℕ
 abbrev pub μ-incl : Measures 5 incl-kinds.ps ℕ
 μ-incl κs a = 1024 * a .1 .1 .1 .1 .1 .1 .1 .1 .1 .0 + 900
 
-abbrev pub μ-include : Measures 5 include-kinds.ps ℕ
+abbrev pub μ-include : Measures 6 include-kinds.ps ℕ
 μ-include κs a = 1024 * a .1 .1 .1 .1 .1 .1 .1 .0 + 800
 
 abbrev pub μ-line : Measures 4 line-kinds.ps ℕ
@@ -241,11 +241,11 @@ incl-at t = and 5 incl-kinds.ps (is 5 incl-kinds.ps μ-incl t) incl.Pre
 abbrev pub incl-below : ℕ → In 5 incl-kinds.ps
 incl-below t = and 5 incl-kinds.ps (falls 5 incl-kinds.ps _<_ μ-incl t) incl.Pre
 
-abbrev pub include-at : ℕ → In 5 include-kinds.ps
-include-at t = and 5 include-kinds.ps (is 5 include-kinds.ps μ-include t) include.Pre
+abbrev pub include-at : ℕ → In 6 include-kinds.ps
+include-at t = and 6 include-kinds.ps (is 6 include-kinds.ps μ-include t) include.Pre
 
-abbrev pub include-below : ℕ → In 5 include-kinds.ps
-include-below t = and 5 include-kinds.ps (falls 5 include-kinds.ps _<_ μ-include t) include.Pre
+abbrev pub include-below : ℕ → In 6 include-kinds.ps
+include-below t = and 6 include-kinds.ps (falls 6 include-kinds.ps _<_ μ-include t) include.Pre
 
 abbrev pub line-at : ℕ → In 4 line-kinds.ps
 line-at t = and 4 line-kinds.ps (is 4 line-kinds.ps μ-line t) line.Pre
@@ -323,7 +323,7 @@ abbrev pub arith-calls : ℕ → arith-lts.Claims
 arith-calls t = (word-reads.Asked, word-reads.Learnt, expr-below t, expr.Post, arithmetic-rule-reads.Asked, arithmetic-rule-reads.Learnt, visit-at-reads.Asked, visit-at-reads.Learnt)
 
 abbrev pub brings-calls : ℕ → brings-lts.Claims
-brings-calls t = (include-below t, include.Post, part-reads.Asked, part-reads.Learnt, word-reads.Asked, word-reads.Learnt, span-reads.Asked, span-reads.Learnt, rows-small-reads.Asked, rows-small-reads.Learnt, lined-at-reads.Asked, lined-at-reads.Learnt, keep-rows-reads.Asked, keep-rows-reads.Learnt)
+brings-calls t = (part-reads.Asked, part-reads.Learnt, include-below t, include.Post, word-reads.Asked, word-reads.Learnt, span-reads.Asked, span-reads.Learnt, rows-small-reads.Asked, rows-small-reads.Learnt, lined-at-reads.Asked, lined-at-reads.Learnt, keep-rows-reads.Asked, keep-rows-reads.Learnt)
 
 abbrev pub compr-calls : ℕ → compr-lts.Claims
 compr-calls t = (save-reads.Asked, save-reads.Learnt, word-reads.Asked, word-reads.Learnt, text-below t, text.Post, unvisited-reads.Asked, unvisited-reads.Learnt, restore-reads.Asked, restore-reads.Learnt, expr-below t, expr.Post, comprehension-rule-reads.Asked, comprehension-rule-reads.Learnt, visit-at-reads.Asked, visit-at-reads.Learnt)
@@ -344,7 +344,7 @@ abbrev pub incl-calls : ℕ → incl-lts.Claims
 incl-calls t = (include-below t, include.Post, word-reads.Asked, word-reads.Learnt, span-reads.Asked, span-reads.Learnt, rows-agree-reads.Asked, rows-agree-reads.Learnt, lined-at-reads.Asked, lined-at-reads.Learnt, rows-new-if-reads.Asked, rows-new-if-reads.Learnt, rows-small-reads.Asked, rows-small-reads.Learnt, keep-rows-reads.Asked, keep-rows-reads.Learnt, merge-reads.Asked, merge-reads.Learnt)
 
 abbrev pub include-calls : ℕ → include-lts.Claims
-include-calls t = (part-reads.Asked, part-reads.Learnt, word-reads.Asked, word-reads.Learnt, entry-of-schema-reads.Asked, entry-of-schema-reads.Learnt, lined-at-reads.Asked, lined-at-reads.Learnt, parameters-of-reads.Asked, parameters-of-reads.Learnt, actuals-below t, actuals.Post, type-place-reads.Asked, type-place-reads.Learnt, component-rows-reads.Asked, component-rows-reads.Learnt, bring-reads.Asked, bring-reads.Learnt)
+include-calls t = (word-reads.Asked, word-reads.Learnt, entry-of-schema-reads.Asked, entry-of-schema-reads.Learnt, lined-at-reads.Asked, lined-at-reads.Learnt, parameters-of-reads.Asked, parameters-of-reads.Learnt, actuals-below t, actuals.Post, type-place-reads.Asked, type-place-reads.Learnt, component-rows-reads.Asked, component-rows-reads.Learnt, bring-reads.Asked, bring-reads.Learnt)
 
 abbrev pub line-calls : ℕ → line-lts.Claims
 line-calls t = (part-reads.Asked, part-reads.Learnt, word-reads.Asked, word-reads.Learnt, decl-below t, decl.Post, incl-below t, incl.Post)

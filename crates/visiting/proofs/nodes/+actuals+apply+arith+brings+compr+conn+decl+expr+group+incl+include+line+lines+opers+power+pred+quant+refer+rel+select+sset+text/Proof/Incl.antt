@@ -18,7 +18,7 @@ incl-include-requires : (t : ℕ) → incl-lts.Need-include-requires (incl-calls
 incl-include-requires t c κs =
     let s = c .before .before .before .before .before .before .before .before in
     let m = s .pre .0 in
-    (omega arith, (node-incl-at (s .pre .1 .0) (s .pre .1 .1) (s .pre .1 .2) (s .args .global), node-incl-ask (s .pre .1 .0) (s .pre .1 .1) (s .pre .1 .2) (s .args .global) _ refl))
+    (omega arith, (record { at = node-incl-at (s .pre .1 .0) (s .pre .1 .1) (s .pre .1 .2) (s .args .global); words = s .pre .1 .0 .words }, node-incl-ask (s .pre .1 .0) (s .pre .1 .1) (s .pre .1 .2) (s .args .global) _ refl))
 
 incl-same-length : (t : ℕ) → incl-lts.Need-same-length (incl-calls t) (incl-at t) incl.Post
 incl-same-length t c = search needs
