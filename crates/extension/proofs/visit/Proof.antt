@@ -1,7 +1,7 @@
-use Rattle.checker.proofs.EnteringLaws.{visit-ask, visit-done}
+use Rattle.extension.proofs.EnteringLaws.{visit-ask, visit-done}
 use borrow.Author.Needs.{needs}
-use Rattle.checker.proofs.entering.visit.Statement.{statement}
-use Rattle.checker.proofs.entering.visit.Tie as tie
+use Rattle.extension.proofs.visit.Statement.{statement}
+use Rattle.extension.proofs.visit.Tie as tie
 
 paragraph-requires : tie.Need-paragraph-requires
 paragraph-requires c κs = visit-ask _ _ _ (c .before .before .before .size .ensures .0) (c .before .span .ensures) _ _ _ _ (c .before .before .before .before .before .before .before .before .pre .0) (c .before .before .before .before .before .before .before .before .pre .1)

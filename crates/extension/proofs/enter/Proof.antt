@@ -1,9 +1,9 @@
-use Rattle.checker.proofs.ListedLaws.{listed-at}
-use Rattle.checker.proofs.EnteringLaws.{entered-refused, entries-wait, entered-accepted, entered-full}
+use Rattle.extension.proofs.ListedLaws.{listed-at}
+use Rattle.extension.proofs.EnteringLaws.{entered-refused, entries-wait, entered-accepted, entered-full}
 use native.Mathlib.Omega.{arith}
 use borrow.Author.Needs.{needs}
-use Rattle.checker.proofs.entering.enter.Statement.{statement}
-use Rattle.checker.proofs.entering.enter.Tie as tie
+use Rattle.extension.proofs.enter.Statement.{statement}
+use Rattle.extension.proofs.enter.Tie as tie
 
 visit-requires : tie.Need-visit-requires
 visit-requires c κs = c .before .before .before .before .before .before .before .pre

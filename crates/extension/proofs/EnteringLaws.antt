@@ -24,10 +24,10 @@ use Rattle.dictionary.proofs.WaitingLaws.{entries-grow}
 use Rattle.names.specs.Scoped.{DictionaryHeld}
 use Rattle.names.proofs.FewParameters.{few-parameters}
 use Rattle.walk.specs.Paragraphs.{ParagraphAsk, Extended, ParagraphDone}
-use Rattle.checker.specs.Entering.{Listed, Ready, Entered}
-use Rattle.checker.proofs.HeldParts.{held-part, held-rest, held-whole, recorded-part}
-use Rattle.checker.proofs.ListedLaws.{listed-at, listed-limited, listed-sized, node-is}
-use Rattle.checker.proofs.GrownLaws.{extended-recorded, entries-length, entries-few}
+use Rattle.extension.specs.Entering.{Listed, Ready, Entered}
+use Rattle.extension.proofs.HeldParts.{held-part, held-rest, held-whole, recorded-part}
+use Rattle.extension.proofs.ListedLaws.{listed-at, listed-limited, listed-sized, node-is}
+use Rattle.extension.proofs.GrownLaws.{extended-recorded, entries-length, entries-few}
 
 -- The words in use are what a paragraph asks for.
 module _ (d part : List ℕ) (n : ℕ) (e : n ≡ sizeAt d) (q : part ≡ take n (drop 0 d)) where

@@ -20,7 +20,7 @@ use Rattle.typing.specs.Entries.{paragraphNode}
 use Rattle.syntax.proofs.Sized.{SizedParagraph, SizedParagraphs}
 use Rattle.typing.proofs.SizedTree.{tree-sized}
 use Rattle.cells.proofs.Growing.{lt-or-ge}
-use Rattle.checker.specs.Entering.{Listed}
+use Rattle.extension.specs.Entering.{Listed}
 
 -- What holds of a list of paragraphs holds of the paragraph at each place.
 module _ (P : Paragraph → Type 0) (Q : List Paragraph → Type 0) (first : (p : Paragraph) (ps : List Paragraph) → Q (p ∷ ps) → P p)

@@ -1,10 +1,10 @@
-use Rattle.checker.proofs.EnteringLaws.{part-few, append-part}
+use Rattle.extension.proofs.EnteringLaws.{part-few, append-part}
 use lib.Seq.{length-take-le}
 use native.Mathlib.Omega.{arith}
 use mathlib.Core.Path.{sym}
 use borrow.Author.Needs.{needs}
-use Rattle.checker.proofs.entering.append.Statement.{statement}
-use Rattle.checker.proofs.entering.append.Tie as tie
+use Rattle.extension.proofs.append.Statement.{statement}
+use Rattle.extension.proofs.append.Tie as tie
 
 slice-aggregate-append-all : tie.Need-slice-aggregate-append-all
 slice-aggregate-append-all c = sym (length-take-le 2147483648 (c .before .before .before .before .args .dict .now) (omega (arith, c .before .if1 .taken)))

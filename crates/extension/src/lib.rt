@@ -1,4 +1,4 @@
-// One paragraph of the Document: its finding, or its entries in the dictionary.
+// The dictionary extended by one paragraph of the Document: its finding, then 22, else its entries.
 use codes::findings;
 use dictionary::growth::size;
 use dictionary::waiting::append_all;
@@ -15,7 +15,7 @@ ghost use Rattle.typing.specs.Dictionary.{Entry, Dictionary, dictionaryLength};
 ghost use Rattle.dictionary.specs.Holds.{Holds};
 ghost use Rattle.dictionary.specs.Waiting.{withEntries, Waits, Waiting, AppendedAll};
 ghost use Rattle.walk.specs.Paragraphs.{ParagraphDone};
-ghost use Rattle.checker.specs.Entering.{Listed, Ready, Entered};
+ghost use Rattle.extension.specs.Entering.{Listed, Ready, Entered};
 
 // The words of an area that a dictionary may use: offsets and lengths are 32 bits.
 const MOST_WORDS: usize = 2147483648;
