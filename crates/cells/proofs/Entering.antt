@@ -16,8 +16,7 @@ use Rattle.cells.specs.Calls.{put, Above, Making, Made}
 use Rattle.cells.specs.Settled.{lower, heap, Reads, Readable, wordAt, Pinned, Obeys, Fits, Kept, Pinning, Pin, Settling, Entering, Entered}
 use Rattle.cells.proofs.Growing.{put-other, put-length, put-0, there, t-at, made, made-above, made-load}
 use Rattle.cells.proofs.Words.{link-new}
-use Rattle.cells.proofs.SettlingLaws.{heap-kept, settled, settled-before, settled-type, settled-after, kept-held}
-use Rattle.cells.proofs.Tying.{solved-kept}
+use Rattle.cells.proofs.SettlingLaws.{heap-kept, settled, settled-before, settled-type, settled-after, kept-held, solved-kept}
 
 -- Where cell n is made, whatever its words.
 module _ (s d : List ℕ) (n t a f c : ℕ) (size : length s ≡ 52224) (l : n < 1024) where

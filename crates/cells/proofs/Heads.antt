@@ -1,5 +1,5 @@
 -- The words of formers, and views.
-use mathlib.Core.Path.{_≡_, refl, sym, ap, ap₂, subst, _∙_}
+use mathlib.Core.Path.{_≡_, refl, sym, ap, _∙_}
 use mathlib.Core.Bool.{Bool, true, false}
 use mathlib.Core.List.{List, [], _∷_}
 use Prim.Native.Nat.{ℕ, zero, suc, _+_, _≤_, _<_}
@@ -11,7 +11,6 @@ use Rattle.types.specs.Follows.{View, shape, unk}
 use Rattle.types.specs.Former.{Former, binding, given, int, parameter, power, product}
 use Rattle.types.specs.Former.{formerOf, tag}
 use Rattle.cells.specs.Store.{frozen, fieldAt, tagAt, argAt, countAt, run, partsAt, formerAt, viewOf, view, Cell}
-use Rattle.cells.specs.Calls.{Two, Alike}
 use Rattle.cells.proofs.Words.{run-length}
 
 pub code : Former → ℕ
@@ -51,26 +50,8 @@ arg-yes (suc (suc (suc (suc zero)))) a b l m p q = refl
 arg-yes (suc (suc (suc (suc (suc zero))))) a b l m p q = absurd (p refl)
 arg-yes (suc (suc (suc (suc (suc (suc n)))))) a b l m p q = ap parameter q
 
-arg-no : (t a b : ℕ) (l m : List ℕ) → (t ≡ 5 → ⊥) → (t < 2 → a ≡ b) → (t ≡ 3 → a ≡ b) → (t ≡ 4 → a ≡ b) → formerOf t a l ≡ formerOf t b m → a ≡ b
-unfolding formerOf
-arg-no zero a b l m p u v o q = u (omega arith)
-arg-no (suc zero) a b l m p u v o q = u (omega arith)
-arg-no (suc (suc zero)) a b l m p u v o q = cc
-arg-no (suc (suc (suc zero))) a b l m p u v o q = v refl
-arg-no (suc (suc (suc (suc zero)))) a b l m p u v o q = o refl
-arg-no (suc (suc (suc (suc (suc zero))))) a b l m p u v o q = absurd (p refl)
-arg-no (suc (suc (suc (suc (suc (suc n)))))) a b l m p u v o q = cc
-
-ids-yes : (t a b : ℕ) (l m : List ℕ) → t ≡ 5 → l ≡ m → formerOf t a l ≡ formerOf t b m
-unfolding formerOf
-ids-yes t a b l m p q = rw p (ap binding q)
-
 pub binding-inj : (l m : List ℕ) → binding l ≡ binding m → l ≡ m
 binding-inj l m q = cc
-
-ids-no : (t a b : ℕ) (l m : List ℕ) → t ≡ 5 → formerOf t a l ≡ formerOf t b m → l ≡ m
-unfolding formerOf
-ids-no t a b l m p q = binding-inj l m (subst (λ z. formerOf z a l ≡ formerOf z b m) p q)
 
 pub head-five : (w : List ℕ) (x : ℕ) → tagAt w x ≡ 5 → formerAt w x ≡ binding (run w (argAt w x) (countAt w x))
 unfolding formerAt formerOf
@@ -79,36 +60,6 @@ head-five w x e = ap (λ t. formerOf t (argAt w x) (run w (argAt w x) (countAt w
 pub not-five : (w : List ℕ) (x : ℕ) → Cell w x → 0 < tagAt w x → (tagAt w x ≡ 5 → ⊥) → (l : List ℕ) → formerAt w x ≡ binding l → ⊥
 unfolding formerAt code
 not-five w x C p ne l e = ne (sym (coded (tagAt w x) (argAt w x) _ p (C .tags)) ∙ ap code e)
-
-module _ (w : List ℕ) (x y : ℕ) (T : Two w x y) where
-  pub tag-no : (tagAt w x ≡ tagAt w y → ⊥) → Alike w x y → ⊥
-  unfolding formerAt
-  tag-no ne q =
-      ne (sym (coded (tagAt w x) (argAt w x) _ (T .shaped-x) (T .left .tags)) ∙ ap code (q .0) ∙ coded (tagAt w y) (argAt w y) _ (T .shaped-y) (T .right .tags))
-
-  module _ (t : tagAt w x ≡ tagAt w y) (k : countAt w x ≡ countAt w y) where
-    to : formerOf (tagAt w x) (argAt w y) (run w (argAt w y) (countAt w x)) ≡ formerAt w y
-    unfolding formerAt
-    to = ap₂ (λ u v. formerOf u (argAt w y) (run w (argAt w y) v)) t k
-
-    pub same-arg : (tagAt w x ≡ 5 → ⊥) → argAt w x ≡ argAt w y → Alike w x y
-    unfolding formerAt
-    same-arg ne e = (arg-yes (tagAt w x) (argAt w x) (argAt w y) _ _ ne e ∙ to, k)
-
-    pub other-arg : (tagAt w x ≡ 5 → ⊥) → (argAt w x ≡ argAt w y → ⊥) → Alike w x y → ⊥
-    unfolding formerAt
-    other-arg ne d q =
-        d (arg-no (tagAt w x) (argAt w x) (argAt w y) (run w (argAt w x) (countAt w x)) (run w (argAt w y) (countAt w x)) ne
-        (λ l. T .left .plain l ∙ sym (T .right .plain (omega arith))) (λ e. T .left .powers e ∙ sym (T .right .powers (sym t ∙ e)))
-        (λ e. T .left .products e ∙ k ∙ sym (T .right .products (sym t ∙ e))) (q .0 ∙ sym to))
-
-    pub same-ids : tagAt w x ≡ 5 → run w (argAt w x) (countAt w x) ≡ run w (argAt w y) (countAt w x) → Alike w x y
-    unfolding formerAt
-    same-ids e q = (ids-yes (tagAt w x) (argAt w x) (argAt w y) _ _ e q ∙ to, k)
-
-    pub other-ids : tagAt w x ≡ 5 → (run w (argAt w x) (countAt w x) ≡ run w (argAt w y) (countAt w x) → ⊥) → Alike w x y → ⊥
-    unfolding formerAt
-    other-ids e d q = d (ids-no (tagAt w x) (argAt w x) (argAt w y) _ _ e (q .0 ∙ sym to))
 
 view-c : (n i : ℕ) → i < n → (v : View ℕ) → (elim (ltb i n) as (λ z. View ℕ) [ true ↦ v | false ↦ unk ]) ≡ v
 view-c n i l v = rw (lt-ltb i n l)

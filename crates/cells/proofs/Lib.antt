@@ -1,13 +1,9 @@
 pub mod LinkLaws
 pub mod Words
 pub mod Heads
-pub mod Linking
-pub mod Turns
 pub mod Growing
 pub mod Flat
 pub mod Reading
 pub mod SettlingLaws
-pub mod Walking
-pub mod Tying
 pub mod Entering
 pub mod Solutions

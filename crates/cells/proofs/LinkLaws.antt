@@ -17,7 +17,7 @@ use Rattle.types.specs.Classes.{Wf, next, rep}
 use Rattle.types.specs.Equations.{AllP, In, Pairs, end, pair}
 use Rattle.types.specs.Follows.{unk}
 use Rattle.cells.specs.Calls.{Known, Root}
-use Rattle.cells.specs.Store.{linkAt, linkOf, Both, Held}
+use Rattle.cells.specs.Store.{frozen, linkAt, Cell, load, linkOf, Both, Held}
 
 abbrev pub WfN : Pairs ℕ → Type 0
 WfN L = Wf eqb L
@@ -143,3 +143,18 @@ known-root s i r k q = record { n = k .n; L = k .L; held = k .held; made = subst
 
 pub few-cell : (s : List ℕ) (i : ℕ) → Known s i → i < 1024
 few-cell s i k = let f = k .held .few in let l = k .made in omega arith
+
+-- What is kept where links and the frozen part are.
+pub held-same : (s s′ : List ℕ) → frozen s′ ≡ frozen s → (n : ℕ) (L : Pairs ℕ) → length s′ ≡ length s → ((i : ℕ) → i < 1024 → linkAt s′ i ≡ linkAt s i) → Held s n L → Held s′ n L
+held-same s s′ e n L l h H = record {
+  size = l ∙ H .size;
+  few = H .few;
+  room = subst (λ w. load w n < 2048) (sym e) (H .room);
+  cells = λ i m. subst (λ w. Cell w i) (sym e) (H .cells i m);
+  links = λ i m. H .links i m ∙ ap linkOf (sym (h i (let f = H .few in omega arith)));
+  wf = H .wf;
+  inside = H .inside;
+}
+
+pub add-suc : (y : ℕ) → y + 1 ≡ suc y
+add-suc y = omega arith

@@ -1,15 +1,11 @@
 -- Reading type words, a level at a time.
 use mathlib.Core.Path.{_≡_, refl, sym, ap, ap₂, subst, _∙_}
-use mathlib.Core.Bool.{Bool, true, false}
+use mathlib.Core.Bool.{true, false}
 use mathlib.Core.List.{List, [], _∷_, _++_, append-assoc}
 use Prim.Native.Nat.{ℕ, zero, suc, _+_, _-_, _≤_, _<_}
 use native.Mathlib.Omega.{arith}
 use native.Mathlib.Nat.{eq-or-lt-of-le}
 use mathlib.Core.Logic.{⊎-elim}
-use Rattle.cells.specs.Store.{frozen, tagAt, argAt, countAt, run, formerAt}
-use Rattle.cells.specs.Calls.{Tells}
-use Rattle.cells.proofs.Heads.{code, coded, tag-code, head-five, binding-inj}
-use Rattle.cells.proofs.Words.{run-at, run-length}
 use lib.Dec.{eqb}
 use lib.ListN.{length, getD, take, drop, length-append, length-take, length-drop, List·getD-append}
 use lib.Seq.{getD-drop, getD-take, getD-append-add, drop-at, drop-drop, ext-getD}
@@ -22,7 +18,7 @@ use mathlib.Core.Option.{Option, some, none}
 use Rattle.types.specs.Component.{pickType, componentType}
 use Rattle.types.proofs.Words.{words-one}
 use Rattle.cells.specs.Parts.{Names, Rest}
-use Rattle.cells.specs.Settled.{lower, heap, Reads, Readable, Areas, Meeting, SameNames, leadWords, nameWords, partsOf}
+use Rattle.cells.specs.Settled.{lower, heap, Reads, Readable, Areas, leadWords, nameWords, partsOf}
 
 pub reads-one : (H : List ℕ) (p : ℕ) (g k : Ty) → Reads H p g → Reads H p k → g ≡ k
 reads-one H p g k R S = words-one g k (R .formed) (S .formed) (R .after) (S .after) (sym (R .words-at) ∙ S .words-at) .0
@@ -279,53 +275,6 @@ module _ (H : List ℕ) (p q : ℕ) (g k : Ty) (R : Reads H p g) (S : Reads H q 
   pub same-no : (i : ℕ) → i < length (words g) → (getD H (p + i) 0 ≡ getD H (q + i) 0 → ⊥) → g ≡ k → ⊥
   same-no i l d e = d (word-in H p g R i l ∙ ap (λ z. getD (words z) i 0) e ∙ sym (word-in H q k S i (subst (λ z. i < length (words z)) e l)))
 
--- Names passed: j of n.
-pub record Named (H : List ℕ) (at n j : ℕ) (l : List ℕ) : Type 0 where
-  pub tail : List ℕ
-  pub gs : Tys
-  pub e : ℕ
-  pub rest : Rest H 1 at tail gs e
-  pub left : partCountType gs + j ≡ n
-  pub tail-is : tail ≡ drop j l
-
-pub named-start : (H : List ℕ) (p n : ℕ) (l : List ℕ) (gs : Tys) → Reads H p (node (binding l) gs) → getD H (p + 1) 0 ≡ n → Named H (p + 2) n 0 l
-unfolding second tag identifiers nameWords leadWords
-named-start H p n l gs R en = record {
-  tail = l;
-  gs = gs;
-  e = p + length (words (node (binding l) gs));
-  rest = the-rest H p (binding l) gs R;
-  left = (let z : partCountType gs + 0 ≡ partCountType gs = omega arith in z) ∙ sym (second-at H p (binding l) gs R (partCountType gs) refl) ∙ en;
-  tail-is = refl;
-}
-
-pub record NameStep (H : List ℕ) (at n j : ℕ) (l : List ℕ) : Type 0 where
-  pub here : getD l j 0 ≡ getD H at 0
-  pub part : Ty
-  pub reads : Reads H (at + 1) part
-  pub next : Named H (at + 1 + length (words part)) n (j + 1) l
-  pub low : at + 1 < length H
-
-named-c : (H : List ℕ) (at n j : ℕ) (l tail : List ℕ) (gs : Tys) (e : ℕ) → Rest H 1 at tail gs e → partCountType gs + j ≡ n → tail ≡ drop j l → j < n → NameStep H at n j l
-named-c H at n j l tail tnil e R q t lt = absurd (omega arith)
-named-c H at n j l tail (tcons g gs) e R q t lt =
-    let P = part-next H 1 at tail g gs e R in
-    let hd = P .name (λ z. omega arith) in
-    let z : j ≡ j + 0 = omega arith in
-    record {
-      here = ap (λ k. getD l k 0) z ∙ sym (getD-drop j l 0 0) ∙ ap (λ m. getD m 0 0) (sym t ∙ hd);
-      part = g;
-      reads = P .reads;
-      next = record { tail = P .tail; gs = gs; e = e; rest = P .rest; left = omega arith; tail-is = ap (drop 1) (sym hd ∙ t) ∙ drop-drop 1 j l };
-      low = place-low H (at + 1) g (P .reads);
-    }
-
-pub named-step : (H : List ℕ) (at n j : ℕ) (l : List ℕ) → Named H at n j l → j < n → NameStep H at n j l
-named-step H at n j l N lt = named-c H at n j l (N .tail) (N .gs) (N .e) (N .rest) (N .left) (N .tail-is) lt
-
-pub named-on : (H : List ℕ) (at n j at′ : ℕ) (l : List ℕ) (S : NameStep H at n j l) → at′ ≡ at + 1 + length (words (S .part)) → Named H at′ n (j + 1) l
-named-on H at n j at′ l S q = subst (λ y. Named H y n (j + 1) l) (sym q) (S .next)
-
 pub names-length : (H : List ℕ) (p n : ℕ) (l : List ℕ) (gs : Tys) → Reads H p (node (binding l) gs) → getD H (p + 1) 0 ≡ n → length l ≡ n
 unfolding second FormedType Arity
 names-length H p n l gs R en = R .formed .0 .0 ∙ sym (second-at H p (binding l) gs R (partCountType gs) refl) ∙ en
@@ -379,71 +328,6 @@ place-few s d p g A R = let i = inside (heap s d) p g R in let z = heap-length s
 
 pub below-next : (Q : ℕ → Type 0) (j : ℕ) → ((i : ℕ) → i < j → Q i) → Q j → (i : ℕ) → i < j + 1 → Q i
 below-next Q j h q i l = ⊎-elim (λ e. subst Q (sym e) q) (λ m. h i m) (eq-or-lt-of-le (let z : i ≤ j = omega arith in z))
-
--- The identifiers of a run.
-pub ids-yes : (w : List ℕ) (at n : ℕ) (l : List ℕ) → length l ≡ n → at + n ≤ length w → ((i : ℕ) → i < n → getD w (at + i) 0 ≡ getD l i 0) → run w at n ≡ l
-ids-yes w at n l e r h = ext-getD 0 (run w at n) l (run-length w at n r ∙ sym e) (λ i q. let z = run-length w at n r in let y : i < n = omega arith in run-at w at n i y ∙ h i y)
-
-pub ids-no : (w : List ℕ) (at n j : ℕ) (l : List ℕ) → j < n → (getD w (at + j) 0 ≡ getD l j 0 → ⊥) → run w at n ≡ l → ⊥
-ids-no w at n j l q d e = d (sym (run-at w at n j q) ∙ ap (λ z. getD z j 0) e)
-
-pub binding-of : (H : List ℕ) (p : ℕ) (g : Ty) → Reads H p g → getD H p 0 ≡ 5 → (l : List ℕ) × (gs : Tys) × Reads H p (node (binding l) gs)
-binding-of H p (node h gs) R e = let b = is-binding H p h gs R e in (b .0, gs, subst (λ z. Reads H p (node z gs)) (b .1) R)
-
--- Cell r and the type at p.
-module _ (s d : List ℕ) (r p : ℕ) (M : Meeting s d r p) (h : Former) (gs : Tys) (R : Reads (heap s d) p (node h gs)) where
-  abbrev w : List ℕ
-  w = frozen s
-
-  abbrev Like : Type 0
-  Like = (formerAt w r ≡ h) × (countAt w r ≡ partCountType gs)
-
-  pub like-tag : Like → tagAt w r ≡ getD (heap s d) p 0
-  unfolding formerAt
-  like-tag q = sym (coded (tagAt w r) (argAt w r) _ (M .shaped) (M .cell .tags)) ∙ ap code (q .0) ∙ tag-code h ∙ sym (tag-at (heap s d) p h gs R)
-
-  pub tag-differs : (tagAt w r ≡ getD (heap s d) p 0 → ⊥) → Like → ⊥
-  tag-differs ne q = ne (like-tag q)
-
-  pub count-differs : tagAt w r ≡ getD (heap s d) p 0 → (countAt w r ≡ partsOf (tagAt w r) (getD (heap s d) (p + 1) 0) → ⊥) → Like → ⊥
-  count-differs t ne q = ne (q .1 ∙ sym (count-is t))
-    where
-      count-is : tagAt w r ≡ getD (heap s d) p 0 → partsOf (tagAt w r) (getD (heap s d) (p + 1) 0) ≡ partCountType gs
-      count-is t = ap (λ z. partsOf z (getD (heap s d) (p + 1) 0)) (t ∙ tag-at (heap s d) p h gs R) ∙ parts-are (heap s d) p h gs R
-
-  module _ (t : tagAt w r ≡ getD (heap s d) p 0) (k : countAt w r ≡ partsOf (tagAt w r) (getD (heap s d) (p + 1) 0)) where
-    pub count-same : countAt w r ≡ partCountType gs
-    count-same = k ∙ ap (λ z. partsOf z (getD (heap s d) (p + 1) 0)) (t ∙ tag-at (heap s d) p h gs R) ∙ parts-are (heap s d) p h gs R
-
-    pub plain-like : (tagAt w r ≡ 5 → ⊥) → (leadWords (tagAt w r) ≡ 2 → argAt w r ≡ getD (heap s d) (p + 1) 0) → Like
-    unfolding formerAt
-    plain-like ne e = (like-yes (heap s d) p h gs R (tagAt w r) (argAt w r) _ t ne e, count-same)
-
-    pub plain-unlike : (tagAt w r ≡ 5 → ⊥) → leadWords (tagAt w r) ≡ 2 → (argAt w r ≡ getD (heap s d) (p + 1) 0 → ⊥) → Like → ⊥
-    unfolding formerAt
-    plain-unlike ne l e q =
-        like-no (heap s d) p h gs R (tagAt w r) (argAt w r) (run w (argAt w r) (countAt w r)) t ne l (λ z. M .cell .products z ∙ count-same) e (q .0)
-
-    module _ (b : tagAt w r ≡ 5) (ans : Bool) (N : SameNames s d r p (countAt w r) ans) where
-      B : (l : List ℕ) × (h ≡ binding l)
-      B = is-binding (heap s d) p h gs R (sym t ∙ b)
-
-      T : Tells ans (run w (argAt w r) (countAt w r) ≡ B .0)
-      T = N .tells (B .0) gs (subst (λ z. Reads (heap s d) p (node z gs)) (B .1) R)
-
-      pub names-like : Tells ans Like
-      names-like = record {
-        holds = λ e. (head-five w r b ∙ ap binding (T .holds e) ∙ sym (B .1), count-same);
-        fails = λ e q. T .fails e (binding-inj _ _ (sym (head-five w r b) ∙ q .0 ∙ B .1));
-      }
-
-pub two-words : (x : ℕ) → x ≤ 2 → 0 < x → (x ≡ 1 → ⊥) → x ≡ 2
-two-words x a b d = go x a b d
-  where
-    go : (x : ℕ) → x ≤ 2 → 0 < x → (x ≡ 1 → ⊥) → x ≡ 2
-    go zero a b d = absurd (omega arith)
-    go (suc zero) a b d = absurd (d refl)
-    go (suc (suc x)) a b d = omega arith
 
 -- Looking for the component id: j of n passed, and none of them it.
 pub record Seeking (H : List ℕ) (at n j id : ℕ) (o : Option Ty) : Type 0 where

@@ -11,16 +11,17 @@ use lib.Seq.{getD-set-same, getD-set-other, take-set-le}
 use borrow.Author.Tests.{eqb-true, eqb-false}
 use Rattle.types.proofs.Rational.{rep-sat}
 use Rattle.types.proofs.Terms.{bool-no}
-use Rattle.types.specs.Classes.{rep}
-use Rattle.types.specs.Equations.{Pairs, Solves}
+use Rattle.types.specs.Classes.{Closed, rep}
+use Rattle.types.specs.Equations.{AllP, Pairs, Solves, end}
 use Rattle.types.specs.Finite.{fromList}
+use Rattle.types.specs.Follows.{Follows}
 use Rattle.types.specs.Former.{Former}
 use Rattle.types.specs.Types.{Ty, Tys, node, tnil, tcons}
-use Rattle.cells.specs.Store.{frozen, linkAt, linkPart, tagAt, formerAt, countAt, firstAt, partsAt, run, view, Cell, Held}
+use Rattle.cells.specs.Store.{frozen, linkAt, linkPart, tagAt, formerAt, countAt, firstAt, partsAt, run, view, Cell, Held, Solved}
 use Rattle.cells.specs.Calls.{Root, Tells}
 use Rattle.cells.specs.Settled.{lower, heap, Reads, Readable, wordAt, Pinned, Obeys, Fits, SameType, Kept, Pinning, Adds, Pin, Settling}
 use Rattle.cells.proofs.Words.{frozen-set, link-none, link-part, link-same}
-use Rattle.cells.proofs.Linking.{held-same}
+use Rattle.cells.proofs.LinkLaws.{held-same}
 use Rattle.cells.proofs.Reading.{reads-one}
 
 pub heap-kept : (s s′ d : List ℕ) → lower s′ ≡ lower s → heap s′ d ≡ heap s d
@@ -41,6 +42,14 @@ kept-on s t u a b = record {
 
 pub kept-held : (s t : List ℕ) → Kept s t → (n : ℕ) (L : Pairs ℕ) → Held s n L → Held t n L
 kept-held s t K n L H = held-same s t (K .still) n L (K .size) (λ i l. K .links i) H
+
+pub solved-kept : (s t : List ℕ) → Kept s t → (n : ℕ) (P₀ L : Pairs ℕ) → Solved s n P₀ L → Solved t n P₀ L
+solved-kept s t K n P₀ L S = record {
+  held = kept-held s t K n L (S .held);
+  closed = subst (λ w. Closed eqb (view w n) P₀ L end) (sym (K .still)) (S .closed);
+  follows = subst (λ w. AllP (Follows (view w n) P₀) L) (sym (K .still)) (S .follows);
+  asked = S .asked;
+}
 
 -- An unknown r with no link and no type yet.
 module _ (s d : List ℕ) (r p : ℕ) (S : Settling s d r p) where

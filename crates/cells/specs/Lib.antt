@@ -3,5 +3,4 @@ pub mod Store
 pub mod Calls
 pub mod Flat
 pub mod Settled
-pub mod Merging
 pub mod Parts

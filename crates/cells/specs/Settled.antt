@@ -6,16 +6,16 @@ use mathlib.Core.List.{List, [], _∷_, _++_, map}
 use Prim.Native.Nat.{ℕ, zero, suc, _+_, _-_, _≤_, _<_, _^_}
 use lib.Dec.{eqb}
 use lib.ListN.{length, getD, take, drop}
-use Rattle.types.specs.Former.{Former, binding}
-use Rattle.types.specs.Types.{Ty, Tys, node}
-use Rattle.types.specs.Formed.{WellFormed, partCountType}
+use Rattle.types.specs.Former.{Former}
+use Rattle.types.specs.Types.{Ty, node}
+use Rattle.types.specs.Formed.{WellFormed}
 use mathlib.Core.Option.{Option, some, none}
 use Rattle.types.specs.Component.{componentType}
 use Rattle.types.specs.Words.{words}
 use Rattle.types.specs.Equations.{Pairs, Solves}
 use Rattle.types.specs.Finite.{fromList}
 use Rattle.types.specs.Follows.{View, shape, unk}
-use Rattle.cells.specs.Store.{frozen, linkAt, tagAt, argAt, countAt, run, formerAt, Cell, view, load, Held, Solved}
+use Rattle.cells.specs.Store.{frozen, linkAt, tagAt, view, load, Held, Solved}
 use Rattle.cells.specs.Calls.{Above, Tells, Making}
 
 unfoldable pub lower : List ℕ → List ℕ
@@ -93,30 +93,6 @@ pub record Readings (s d : List ℕ) (p q : ℕ) : Type 0 where
 -- The answer tells whether the types at p and q are one.
 pub record SameType (s d : List ℕ) (p q : ℕ) (b : Bool) : Type 0 where
   pub tells : (g k : Ty) → Reads (heap s d) p g → Reads (heap s d) q k → Tells b (g ≡ k)
-
--- Cell r has a former, and p is the place of a type.
-pub record Meeting (s d : List ℕ) (r p : ℕ) : Type 0 where
-  pub areas : Areas s d
-  pub few : r < 1024
-  pub cell : Cell (frozen s) r
-  pub shaped : 0 < tagAt (frozen s) r
-  pub readable : Readable (heap s d) p
-
--- Cell r is a binding of n parts, as is the type at p.
-pub record Naming (s d : List ℕ) (r p n : ℕ) : Type 0 where
-  pub meeting : Meeting s d r p
-  pub binds : tagAt (frozen s) r ≡ 5
-  pub count : n ≡ countAt (frozen s) r
-  pub tag-at : getD (heap s d) p 0 ≡ 5
-  pub parts-at : getD (heap s d) (p + 1) 0 ≡ n
-
--- The answer tells whether the identifiers are the same.
-pub record SameNames (s d : List ℕ) (r p n : ℕ) (b : Bool) : Type 0 where
-  pub tells : (l : List ℕ) (gs : Tys) → Reads (heap s d) p (node (binding l) gs) → Tells b (run (frozen s) (argAt (frozen s) r) n ≡ l)
-
--- The answer tells whether cell r has the former of the type at p, and as many parts.
-pub record SameFormer (s d : List ℕ) (r p : ℕ) (b : Bool) : Type 0 where
-  pub tells : (h : Former) (gs : Tys) → Reads (heap s d) p (node h gs) → Tells b ((formerAt (frozen s) r ≡ h) × (countAt (frozen s) r ≡ partCountType gs))
 
 -- Only link words of cells changed, and no link.
 pub record Kept (s s′ : List ℕ) : Type 0 where

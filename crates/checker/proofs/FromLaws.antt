@@ -20,7 +20,7 @@ use Rattle.typing.specs.declared.Finding.the-variants.{Accepted, Refused}
 use Rattle.dictionary.specs.Holds.{Holds}
 use Rattle.instances.proofs.CleanLaws.{clean-lower}
 use Rattle.names.specs.Scoped.{DictionaryHeld}
-use Rattle.checker.specs.Entering.{Listed, Grown, Entered}
+use Rattle.extension.specs.Entering.{Listed, Grown, Entered}
 use Rattle.checker.specs.Answering.{ParagraphsAsk, Answered}
 use Rattle.checker.proofs.AnsweringLaws.{told-refused}
 use Rattle.checker.proofs.DocumentWords.{words-few}

@@ -13,7 +13,7 @@ use Rattle.typing.specs.Dictionary.{Dictionary, dictionaryLength}
 use Rattle.typing.specs.Verdicts.{AnswersFrom, AnswersTree}
 use Rattle.typing.specs.declared.Finding.{Finding}
 use Rattle.dictionary.specs.Holds.{Holds}
-use Rattle.checker.specs.Entering.{Ready}
+use Rattle.extension.specs.Entering.{Ready}
 
 -- The m operands of the Document from i on are left. Each paragraph before them has added 16,384 words to the dictionary at most.
 pub record ParagraphsAsk (doc s d w : List ℕ) (i m : ℕ) : Type 0 where

@@ -1,3 +1,2 @@
 -- What the steps of the check call ask and promise.
-pub mod Entering
 pub mod Answering

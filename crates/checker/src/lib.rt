@@ -2,6 +2,7 @@
 use codes::findings;
 use codes::limits;
 use dictionary::growth::begin;
+use extension::enter;
 use layout::part;
 use node_forms::nodes::operand;
 use reader::read;
@@ -9,10 +10,6 @@ use syntax::Reading;
 use typing::Finding;
 use words::clear;
 use words::word;
-
-mod entering;
-
-use crate::entering::enter;
 ghost use mathlib.Core.Path.{_≡_};
 ghost use Prim.Native.Nat.{_≤_, _<_};
 ghost use lib.ListN.{length};

@@ -10,7 +10,7 @@ use Rattle.typing.specs.Unknowns.{Table}
 use Rattle.typing.specs.Items.{Items, _⨾_, equate, Meets, Agree, Passes, Refuses}
 use Rattle.cells.specs.Store.{tagAt}
 use Rattle.cells.specs.Settled.{Fits}
-use Rattle.cells.specs.Merging.{Same, Done}
+use Rattle.unifier.specs.Merging.{Same, Done}
 use Rattle.solver.specs.Equation.{Equation}
 use Rattle.pieces.specs.Piece.{Solution, Matches, SameOn, Goes, Stops, Piece, Denotes, Later}
 use Rattle.pieces.proofs.Walks.{items-earlier}

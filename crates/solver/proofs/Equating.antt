@@ -11,8 +11,8 @@ use Rattle.types.specs.Equations.{Pairs, Solves, pair}
 use Rattle.types.specs.Types.{Ty}
 use Rattle.cells.specs.Store.{frozen, linkAt, Solved}
 use Rattle.cells.specs.Settled.{Pinned, Obeys, Fits}
-use Rattle.cells.specs.Merging.{Asking, Merged, Done}
-use Rattle.cells.specs.Merging as Merging
+use Rattle.unifier.specs.Merging.{Asking, Merged, Done}
+use Rattle.unifier.specs.Merging as Merging
 use Rattle.cells.specs.Flat.{Sound, Kept, Direct, Flattened}
 use Rattle.cells.proofs.Flat.{refers-pinned, refers-to, refers-from}
 use Rattle.cells.proofs.Growing.{lt-or-ge}

@@ -23,11 +23,10 @@ use Rattle.types.specs.Former.{Former, int}
 use Rattle.types.specs.Types.{Ty, node, size, sizes, tnil}
 use Rattle.cells.specs.Store.{frozen, tagAt, partsAt, formerAt, view, free, Held, Solved}
 use Rattle.solver.specs.Sizes.{cap, markAt, bare, typeAt, Sized, Marks, Same, Solution}
-use Rattle.cells.proofs.LinkLaws.{rep-below, upto, upto-in, upto-len}
+use Rattle.cells.proofs.LinkLaws.{rep-below, upto, upto-in, upto-len, held-same}
 use Rattle.cells.proofs.Solutions.{mk-c, sat-all}
 use Rattle.cells.proofs.Words.{frozen-set, link-same}
 use Rattle.cells.proofs.Heads.{view-unk, view-shape}
-use Rattle.cells.proofs.Linking.{held-same}
 use Rattle.cells.proofs.Growing.{view-made, lt-or-ge}
 
 pub cap-low : (x : ℕ) → x < 33 → cap x ≡ x

@@ -7,7 +7,7 @@ use lib.ListN.{length}
 use Rattle.types.specs.Equations.{Pairs, pair}
 use Rattle.cells.specs.Store.{frozen, Solved}
 use Rattle.cells.specs.Settled.{lower, Pinned}
-use Rattle.cells.specs.Merging.{Done, Same, NoSolution}
+use Rattle.unifier.specs.Merging.{Done, Same, NoSolution}
 use Rattle.cells.specs.Flat.{Direct}
 use Rattle.solver.specs.Sizes.{Marked}
 use Rattle.solver.specs.Answers.{SolutionOf}

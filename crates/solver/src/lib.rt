@@ -8,7 +8,7 @@ pub mod writing;
 
 use crate::acyclicity::finite;
 use cells::links::flatten;
-use cells::unification::merge;
+use unifier::unification::merge;
 ghost use Rattle.solver.specs.Equation.{Equating, Equation};
 
 // The equation x = y between cells of the n, beside those that are solved: false where there is no solution. Links are then direct.

@@ -10,7 +10,7 @@ use lib.ListN.{length, getD}
 use Rattle.types.specs.Equations.{end}
 use Rattle.cells.specs.Store.{frozen, load, run}
 use Rattle.cells.specs.Calls.{Above, Adding, Added, Making, Made}
-use Rattle.cells.specs.Merging.{Asking, Merged}
+use Rattle.unifier.specs.Merging.{Asking, Merged}
 use Rattle.solver.specs.Sizes.{markAt, Sized, Tested, Measuring}
 use Rattle.solver.proofs.Accepted.{start, same-pinned}
 use Rattle.cells.proofs.Words.{run-at, run-length, frozen-length, in-getD}

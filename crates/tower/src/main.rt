@@ -108,7 +108,7 @@ fn level(a: &mut [u32], d: &[u32], n: usize, top: usize, x: usize) -> bool
 {
     generic(a, n, top);
     applied(a, n + GENERIC, top + GENERIC_PARTS, x);
-    cells::unification::merge(a, d, n + LAST_GENERIC, n + LAST_APPLIED)
+    unifier::unification::merge(a, d, n + LAST_GENERIC, n + LAST_APPLIED)
 }
 
 // What the solver says of cell x of the n cells.
@@ -153,7 +153,7 @@ fn tower(a: &mut [u32], d: &[u32], start: u32, levels: usize, tie: bool) -> Outc
         let n = 1 + CELLS * levels;
         let x = n - APPLIED;
         if tie {
-            if cells::unification::merge(a, d, 0, x) {
+            if unifier::unification::merge(a, d, 0, x) {
                 return ask(a, d, n, x);
             }
             return Outcome::Clash;

@@ -5,7 +5,7 @@ use Rattle.solver.proofs.equate.Tie as tie
 use Rattle.solver.proofs.equate.Reads as reads
 use Rattle.solver.proofs.equate.Lts as lts
 use Rattle.cells.proofs.links.flatten.Reads as flatten-reads
-use Rattle.cells.proofs.unification.merge.Reads as merge-reads
+use Rattle.unifier.proofs.unification.merge.Reads as merge-reads
 use Rattle.solver.proofs.acyclicity.finite.Reads as finite-reads
 
 merge-requires : tie.Need-merge-requires

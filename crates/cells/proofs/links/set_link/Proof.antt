@@ -2,7 +2,7 @@ use borrow.Author.Needs.{needs}
 use mathlib.Core.Path.{_∙_, ap}
 use lib.ListN.{set}
 use Prim.Native.Nat.{_+_}
-use Rattle.cells.proofs.Linking.{add-suc}
+use Rattle.cells.proofs.LinkLaws.{add-suc}
 use Rattle.cells.proofs.links.set_link.Statement.{statement}
 use Rattle.cells.proofs.links.set_link.Tie as tie
 use Rattle.cells.proofs.links.set_link.Reads as reads

@@ -1,6 +1,6 @@
 use mathlib.Core.Path.{_≡_, sym, _∙_}
 use native.Mathlib.Omega.{arith}
-use Rattle.cells.proofs.Turns.{pos}
+use Rattle.unifier.proofs.Turns.{pos}
 use Rattle.solver.proofs.Visiting.{arity-0, arity-count}
 use borrow.Author.Needs.{needs}
 use Rattle.solver.proofs.acyclicity.arity.Statement.{statement}

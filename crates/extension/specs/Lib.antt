@@ -1,0 +1,2 @@
+-- What one paragraph's entering asks and promises.
+pub mod Entering
