@@ -4,16 +4,16 @@ use Rattle.layout.specs.Layout.{part}
 use Rattle.syntax.specs.Nodes.{kindAt, operandAt}
 use Rattle.operations.specs.Named.{said}
 use Rattle.operations.proofs.BlockLaws.{scoped-same}
-use Rattle.evaluator.proofs.StepLaws.{demand-stops, demand-holds, demand-fails}
+use Rattle.running.proofs.StepLaws.{demand-stops, demand-holds, demand-fails}
 use mathlib.Core.Path.{_≡_, refl, sym, ap, subst, _∙_}
 use mathlib.Core.Bool.{true, false}
 use mathlib.Core.List.{List}
 use native.Mathlib.Omega.{arith}
 use borrow.Author.Needs.{needs}
-use Rattle.evaluator.proofs.paragraphs.demand.Statement.{statement}
-use Rattle.evaluator.proofs.paragraphs.demand.Tie as tie
-use Rattle.evaluator.proofs.paragraphs.demand.Reads as reads
-use Rattle.evaluator.proofs.paragraphs.demand.Lts as lts
+use Rattle.running.proofs.demand.Statement.{statement}
+use Rattle.running.proofs.demand.Tie as tie
+use Rattle.running.proofs.demand.Reads as reads
+use Rattle.running.proofs.demand.Lts as lts
 
 pred-requires : tie.Need-pred-requires
 pred-requires c κs = search needs

@@ -35,7 +35,7 @@ ghost use Rattle.operations.specs.Worked.{Told};
 ghost use Rattle.operations.specs.Blocks.{Scoped, Leaves};
 ghost use Rattle.evaluating.specs.Ready.{Ready};
 ghost use Rattle.operations.specs.Named.{Declares, Stated, Extends, said};
-ghost use Rattle.evaluator.specs.Paragraphs.{demanded, Roomy, bindLines, Stepped, Failed, Tested, Steps};
+ghost use Rattle.running.specs.Paragraphs.{demanded, Roomy, bindLines, Stepped, Failed, Tested, Steps};
 
 // A failure at node k.
 fn fail(k: usize) -> Worked

@@ -7,16 +7,16 @@ use Rattle.operations.proofs.BlockLaws.{scoped-same}
 use lib.IntN.{pos}
 use Rattle.values.specs.Value as Value
 use Rattle.states.proofs.NameLaws.{given-words}
-use Rattle.evaluator.proofs.StepLaws.{given-globals, axiom-text, axiom-globals, abbreviation-globals, other-globals, names-counted}
+use Rattle.running.proofs.StepLaws.{given-globals, axiom-text, axiom-globals, abbreviation-globals, other-globals, names-counted}
 use mathlib.Core.Path.{_≡_, refl, sym, ap, subst, _∙_}
 use mathlib.Core.Bool.{true, false}
 use mathlib.Core.List.{List}
 use native.Mathlib.Omega.{arith}
 use borrow.Author.Needs.{needs}
-use Rattle.evaluator.proofs.paragraphs.global_count.Statement.{statement}
-use Rattle.evaluator.proofs.paragraphs.global_count.Tie as tie
-use Rattle.evaluator.proofs.paragraphs.global_count.Reads as reads
-use Rattle.evaluator.proofs.paragraphs.global_count.Lts as lts
+use Rattle.running.proofs.global_count.Statement.{statement}
+use Rattle.running.proofs.global_count.Tie as tie
+use Rattle.running.proofs.global_count.Reads as reads
+use Rattle.running.proofs.global_count.Lts as lts
 
 part-requires : tie.Need-part-requires
 part-requires c κs = search needs

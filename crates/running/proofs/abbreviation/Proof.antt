@@ -8,16 +8,16 @@ use lib.IntN.{pos}
 use Rattle.values.specs.declared.held.Held.{Held}
 use Rattle.operations.specs.Worked.{Holds}
 use Rattle.values.specs.Value as Value
-use Rattle.evaluator.proofs.StepLaws.{plain-lower, plain-stops, plain-goes, generic-steps}
+use Rattle.running.proofs.StepLaws.{plain-lower, plain-stops, plain-goes, generic-steps}
 use mathlib.Core.Path.{_≡_, refl, sym, ap, subst, _∙_}
 use mathlib.Core.Bool.{true, false}
 use mathlib.Core.List.{List}
 use native.Mathlib.Omega.{arith}
 use borrow.Author.Needs.{needs}
-use Rattle.evaluator.proofs.paragraphs.abbreviation.Statement.{statement}
-use Rattle.evaluator.proofs.paragraphs.abbreviation.Tie as tie
-use Rattle.evaluator.proofs.paragraphs.abbreviation.Reads as reads
-use Rattle.evaluator.proofs.paragraphs.abbreviation.Lts as lts
+use Rattle.running.proofs.abbreviation.Statement.{statement}
+use Rattle.running.proofs.abbreviation.Tie as tie
+use Rattle.running.proofs.abbreviation.Reads as reads
+use Rattle.running.proofs.abbreviation.Lts as lts
 
 word-requires : tie.Need-word-requires
 word-requires c κs = search needs

@@ -6,7 +6,7 @@ use Rattle.evaluation.specs.Rules.{test}
 use Rattle.evaluating.specs.Ready.{Ready}
 use Rattle.operations.specs.Named.{Among, said}
 use Rattle.operations.proofs.BlockLaws.{scoped-same}
-use Rattle.evaluator.proofs.StepLaws.{names-end, names-stop, names-go, names-failed}
+use Rattle.running.proofs.StepLaws.{names-end, names-stop, names-go, names-failed}
 use Rattle.operations.proofs.NamedLaws.{declares-here, declares-later}
 use mathlib.Core.Path.{_≡_, refl, sym, ap, subst, _∙_}
 use mathlib.Core.Bool.{true, false}
@@ -16,16 +16,16 @@ use borrow.Author.Needs.{needs}
 use Prim.Native.Nat.{ℕ, _<_, _-_}
 use borrow.Fn.Kinds.{In}
 use borrow.Fn.PlainCycle.{Measures, is, falls, and}
-use Rattle.evaluator.proofs.paragraphs.test_names.Reads as test-names
-use Rattle.evaluator.proofs.paragraphs.test_names.Kinds as test-names-kinds
-use Rattle.evaluator.proofs.paragraphs.+test_names.Lts-test_names as test-names-lts
+use Rattle.running.proofs.test_names.Reads as test-names
+use Rattle.running.proofs.test_names.Kinds as test-names-kinds
+use Rattle.running.proofs.+test_names.Lts-test_names as test-names-lts
 use Rattle.operations.proofs.worked.judge.Reads as judge-reads
 use Rattle.words.proofs.word.Reads as word-reads
 use Rattle.operations.proofs.named.held_name.Reads as held-name-reads
 use Rattle.evaluating.proofs.nodes.tests.Reads as tests-reads
-use Rattle.evaluator.proofs.paragraphs.fail.Reads as fail-reads
-use Rattle.evaluator.proofs.paragraphs.+test_names.{statement}
-use Rattle.evaluator.proofs.paragraphs.+test_names.Tie.{close}
+use Rattle.running.proofs.fail.Reads as fail-reads
+use Rattle.running.proofs.+test_names.{statement}
+use Rattle.running.proofs.+test_names.Tie.{close}
 
 abbrev μ-test-names : Measures 5 test-names-kinds.ps ℕ
 μ-test-names κs a = length (a .1 .1 .1 .1 .1 .1 .0 .now) - a .1 .1 .1 .1 .1 .1 .1 .0

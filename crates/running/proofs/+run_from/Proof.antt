@@ -3,7 +3,7 @@ use Rattle.layout.specs.Layout.{count, part}
 use Rattle.syntax.specs.Nodes.{operandAt}
 use Rattle.states.proofs.NameLaws.{document-words}
 use Rattle.operations.specs.Named.{said}
-use Rattle.evaluator.proofs.StepLaws.{run-over, this-paragraph, global-sum, declares-this, declares-others, run-stops, run-goes, run-fails}
+use Rattle.running.proofs.StepLaws.{run-over, this-paragraph, global-sum, declares-this, declares-others, run-stops, run-goes, run-fails}
 use mathlib.Core.Path.{_≡_, refl, sym, ap, subst, _∙_}
 use mathlib.Core.Bool.{true, false}
 use mathlib.Core.List.{List}
@@ -12,15 +12,15 @@ use borrow.Author.Needs.{needs}
 use Prim.Native.Nat.{ℕ, _<_, _-_}
 use borrow.Fn.Kinds.{In}
 use borrow.Fn.PlainCycle.{Measures, is, falls, and}
-use Rattle.evaluator.proofs.paragraphs.run_from.Reads as run-from
-use Rattle.evaluator.proofs.paragraphs.run_from.Kinds as run-from-kinds
-use Rattle.evaluator.proofs.paragraphs.+run_from.Lts-run_from as run-from-lts
+use Rattle.running.proofs.run_from.Reads as run-from
+use Rattle.running.proofs.run_from.Kinds as run-from-kinds
+use Rattle.running.proofs.+run_from.Lts-run_from as run-from-lts
 use Rattle.operations.proofs.worked.judge.Reads as judge-reads
 use Rattle.words.proofs.word.Reads as word-reads
-use Rattle.evaluator.proofs.paragraphs.paragraph.Reads as paragraph-reads
-use Rattle.evaluator.proofs.paragraphs.global_count.Reads as global-count-reads
-use Rattle.evaluator.proofs.paragraphs.+run_from.{statement}
-use Rattle.evaluator.proofs.paragraphs.+run_from.Tie.{close}
+use Rattle.running.proofs.paragraph.Reads as paragraph-reads
+use Rattle.running.proofs.global_count.Reads as global-count-reads
+use Rattle.running.proofs.+run_from.{statement}
+use Rattle.running.proofs.+run_from.Tie.{close}
 
 abbrev μ-run-from : Measures 5 run-from-kinds.ps ℕ
 μ-run-from κs a = length (a .1 .1 .1 .1 .1 .0 .now) - a .1 .1 .1 .1 .1 .1 .0

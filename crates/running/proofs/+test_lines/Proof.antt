@@ -6,7 +6,7 @@ use Rattle.syntax.specs.Nodes.{kindAt, operandAt}
 use Rattle.operations.specs.Named.{said}
 use Rattle.operations.proofs.BlockLaws.{scoped-same}
 use Rattle.states.proofs.NameLaws.{text-words}
-use Rattle.evaluator.proofs.StepLaws.{lines-over, this-line, line-kind, line-lower, few-line, include-stop, decl-stop, decl-go, decl-failed, declares-own, declares-rest}
+use Rattle.running.proofs.StepLaws.{lines-over, this-line, line-kind, line-lower, few-line, include-stop, decl-stop, decl-go, decl-failed, declares-own, declares-rest}
 use mathlib.Core.Path.{_≡_, refl, sym, ap, subst, _∙_}
 use mathlib.Core.Bool.{true, false}
 use mathlib.Core.List.{List}
@@ -15,16 +15,16 @@ use borrow.Author.Needs.{needs}
 use Prim.Native.Nat.{ℕ, _<_, _-_}
 use borrow.Fn.Kinds.{In}
 use borrow.Fn.PlainCycle.{Measures, is, falls, and}
-use Rattle.evaluator.proofs.paragraphs.test_lines.Reads as test-lines
-use Rattle.evaluator.proofs.paragraphs.test_lines.Kinds as test-lines-kinds
-use Rattle.evaluator.proofs.paragraphs.+test_lines.Lts-test_lines as test-lines-lts
+use Rattle.running.proofs.test_lines.Reads as test-lines
+use Rattle.running.proofs.test_lines.Kinds as test-lines-kinds
+use Rattle.running.proofs.+test_lines.Lts-test_lines as test-lines-lts
 use Rattle.operations.proofs.worked.judge.Reads as judge-reads
 use Rattle.words.proofs.word.Reads as word-reads
 use Rattle.layout.proofs.part.Reads as part-reads
 use Rattle.operations.proofs.worked.stop.Reads as stop-reads
-use Rattle.evaluator.proofs.paragraphs.test_names.Reads as test-names-reads
-use Rattle.evaluator.proofs.paragraphs.+test_lines.{statement}
-use Rattle.evaluator.proofs.paragraphs.+test_lines.Tie.{close}
+use Rattle.running.proofs.test_names.Reads as test-names-reads
+use Rattle.running.proofs.+test_lines.{statement}
+use Rattle.running.proofs.+test_lines.Tie.{close}
 
 abbrev μ-test-lines : Measures 5 test-lines-kinds.ps ℕ
 μ-test-lines κs a = length (a .1 .1 .1 .1 .1 .1 .0 .now) - a .1 .1 .1 .1 .1 .1 .1 .0

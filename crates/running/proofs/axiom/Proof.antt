@@ -4,16 +4,16 @@ use Rattle.layout.specs.Layout.{part}
 use Rattle.syntax.specs.Nodes.{kindAt, operandAt}
 use Rattle.operations.specs.Named.{said}
 use Rattle.operations.proofs.BlockLaws.{scoped-same}
-use Rattle.evaluator.proofs.StepLaws.{axiom-text, axiom-names, axiom-globals, axiom-pred, axiom-stops, axiom-goes, axiom-fails, names-counted}
+use Rattle.running.proofs.StepLaws.{axiom-text, axiom-names, axiom-globals, axiom-pred, axiom-stops, axiom-goes, axiom-fails, names-counted}
 use mathlib.Core.Path.{_≡_, refl, sym, ap, subst, _∙_}
 use mathlib.Core.Bool.{true, false}
 use mathlib.Core.List.{List}
 use native.Mathlib.Omega.{arith}
 use borrow.Author.Needs.{needs}
-use Rattle.evaluator.proofs.paragraphs.axiom.Statement.{statement}
-use Rattle.evaluator.proofs.paragraphs.axiom.Tie as tie
-use Rattle.evaluator.proofs.paragraphs.axiom.Reads as reads
-use Rattle.evaluator.proofs.paragraphs.axiom.Lts as lts
+use Rattle.running.proofs.axiom.Statement.{statement}
+use Rattle.running.proofs.axiom.Tie as tie
+use Rattle.running.proofs.axiom.Reads as reads
+use Rattle.running.proofs.axiom.Lts as lts
 
 word-requires : tie.Need-word-requires
 word-requires c κs = search needs

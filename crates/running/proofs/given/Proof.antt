@@ -5,16 +5,16 @@ use Rattle.syntax.specs.Nodes.{kindAt, operandAt}
 use Rattle.operations.specs.Named.{said}
 use Rattle.operations.proofs.BlockLaws.{scoped-same}
 use Rattle.states.proofs.NameLaws.{given-names, given-words}
-use Rattle.evaluator.proofs.StepLaws.{given-globals, given-steps}
+use Rattle.running.proofs.StepLaws.{given-globals, given-steps}
 use mathlib.Core.Path.{_≡_, refl, sym, ap, subst, _∙_}
 use mathlib.Core.Bool.{true, false}
 use mathlib.Core.List.{List}
 use native.Mathlib.Omega.{arith}
 use borrow.Author.Needs.{needs}
-use Rattle.evaluator.proofs.paragraphs.given.Statement.{statement}
-use Rattle.evaluator.proofs.paragraphs.given.Tie as tie
-use Rattle.evaluator.proofs.paragraphs.given.Reads as reads
-use Rattle.evaluator.proofs.paragraphs.given.Lts as lts
+use Rattle.running.proofs.given.Statement.{statement}
+use Rattle.running.proofs.given.Tie as tie
+use Rattle.running.proofs.given.Reads as reads
+use Rattle.running.proofs.given.Lts as lts
 
 put-names-requires : tie.Need-put-names-requires
 put-names-requires c κs =

@@ -6,7 +6,7 @@ use Rattle.syntax.specs.Nodes.{kindAt, operandAt}
 use Rattle.operations.specs.Named.{said}
 use Rattle.operations.proofs.BlockLaws.{scoped-same}
 use Rattle.states.proofs.NameLaws.{text-words, decl-words}
-use Rattle.evaluator.proofs.StepLaws.{put-over, this-line, line-kind, few-line, include-count, decl-count, put-include, put-decl, declares-own, declares-rest, declares-skip}
+use Rattle.running.proofs.StepLaws.{put-over, this-line, line-kind, few-line, include-count, decl-count, put-include, put-decl, declares-own, declares-rest, declares-skip}
 use mathlib.Core.Path.{_≡_, refl, sym, ap, subst, _∙_}
 use mathlib.Core.Bool.{true, false}
 use mathlib.Core.List.{List}
@@ -15,14 +15,14 @@ use borrow.Author.Needs.{needs}
 use Prim.Native.Nat.{ℕ, _<_, _-_}
 use borrow.Fn.Kinds.{In}
 use borrow.Fn.PlainCycle.{Measures, is, falls, and}
-use Rattle.evaluator.proofs.paragraphs.put_lines.Reads as put-lines
-use Rattle.evaluator.proofs.paragraphs.put_lines.Kinds as put-lines-kinds
-use Rattle.evaluator.proofs.paragraphs.+put_lines.Lts-put_lines as put-lines-lts
+use Rattle.running.proofs.put_lines.Reads as put-lines
+use Rattle.running.proofs.put_lines.Kinds as put-lines-kinds
+use Rattle.running.proofs.+put_lines.Lts-put_lines as put-lines-lts
 use Rattle.words.proofs.word.Reads as word-reads
 use Rattle.layout.proofs.part.Reads as part-reads
 use Rattle.operations.proofs.named.put_names.Reads as put-names-reads
-use Rattle.evaluator.proofs.paragraphs.+put_lines.{statement}
-use Rattle.evaluator.proofs.paragraphs.+put_lines.Tie.{close}
+use Rattle.running.proofs.+put_lines.{statement}
+use Rattle.running.proofs.+put_lines.Tie.{close}
 
 abbrev μ-put-lines : Measures 5 put-lines-kinds.ps ℕ
 μ-put-lines κs a = length (a .1 .1 .1 .1 .1 .1 .0 .now) - a .1 .1 .1 .1 .1 .1 .1 .0

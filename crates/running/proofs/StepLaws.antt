@@ -33,7 +33,7 @@ use Rattle.operations.specs.declared.worked.Worked.{Worked}
 use Rattle.operations.specs.Worked.{Holds, Told, fine, ceased, Valued, Judged, Stops}
 use Rattle.operations.specs.Blocks.{Scoped}
 use Rattle.operations.specs.Named.{Among, Declares, Extends}
-use Rattle.evaluator.specs.Paragraphs.{bindLines, demanded, Stepped, Failed, Tested, Steps}
+use Rattle.running.specs.Paragraphs.{bindLines, demanded, Stepped, Failed, Tested, Steps}
 use Rattle.operations.proofs.ToldLaws.{after-told, stop-told, go-told, halt-told, choose-told}
 use Rattle.operations.proofs.NamedLaws.{among-left, among-right, among-as}
 

@@ -5,16 +5,16 @@ use Rattle.syntax.specs.Nodes.{kindAt, operandAt}
 use Rattle.operations.specs.Named.{said}
 use Rattle.operations.proofs.BlockLaws.{scoped-same}
 use Rattle.syntax.proofs.TreeParagraph.{paragraph-constraint}
-use Rattle.evaluator.proofs.StepLaws.{abbreviation-globals, constraint-steps, schema-steps, schema-kind}
+use Rattle.running.proofs.StepLaws.{abbreviation-globals, constraint-steps, schema-steps, schema-kind}
 use mathlib.Core.Path.{_≡_, refl, sym, ap, subst, _∙_}
 use mathlib.Core.Bool.{true, false}
 use mathlib.Core.List.{List}
 use native.Mathlib.Omega.{arith}
 use borrow.Author.Needs.{needs}
-use Rattle.evaluator.proofs.paragraphs.paragraph.Statement.{statement}
-use Rattle.evaluator.proofs.paragraphs.paragraph.Tie as tie
-use Rattle.evaluator.proofs.paragraphs.paragraph.Reads as reads
-use Rattle.evaluator.proofs.paragraphs.paragraph.Lts as lts
+use Rattle.running.proofs.paragraph.Statement.{statement}
+use Rattle.running.proofs.paragraph.Tie as tie
+use Rattle.running.proofs.paragraph.Reads as reads
+use Rattle.running.proofs.paragraph.Lts as lts
 
 part-requires : tie.Need-part-requires
 part-requires c κs = search needs
