@@ -21,7 +21,7 @@ use Rattle.evaluation.specs.declared.Finding.{Finding}
 use Rattle.evaluation.specs.declared.Finding.the-variants.{Holds, Fails, Refused}
 use Rattle.operations.specs.Worked.{Told, fine, ceased}
 use Rattle.evaluation.specs.Run.{ending}
-use Rattle.operations.specs.Named.{Declares}
+use Rattle.blocks.specs.Named.{Declares}
 use Rattle.running.specs.Paragraphs.{Stepped}
 
 module _ {y : Worked} where

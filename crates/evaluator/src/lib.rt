@@ -19,7 +19,7 @@ ghost use Rattle.evaluation.specs.Outcomes.{Outcome};
 ghost use Rattle.evaluation.specs.Paragraphs.{Step, runDocument};
 ghost use Rattle.evaluation.specs.Run.{ending, runState, runOf};
 ghost use Rattle.operations.specs.Worked.{Told};
-ghost use Rattle.operations.specs.Named.{said};
+ghost use Rattle.blocks.specs.Named.{said};
 ghost use Rattle.running.specs.Paragraphs.{Stepped};
 ghost use Rattle.evaluator.specs.RunCall.{RunCall};
 

@@ -31,11 +31,11 @@ use Rattle.evaluation.specs.Rules.{evalExpr, evalPred, test, stopInclude}
 use Rattle.evaluation.specs.Paragraphs.{Step, onward, failed, then, unless, bindGivens, testNames, testLines, runParagraph, runParagraphs}
 use Rattle.operations.specs.declared.worked.Worked.{Worked}
 use Rattle.operations.specs.Worked.{Holds, Told, fine, ceased, Valued, Judged, Stops}
-use Rattle.operations.specs.Blocks.{Scoped}
-use Rattle.operations.specs.Named.{Among, Declares, Extends}
+use Rattle.blocks.specs.Blocks.{Scoped}
+use Rattle.blocks.specs.Named.{Among, Declares, Extends}
 use Rattle.running.specs.Paragraphs.{bindLines, demanded, Stepped, Failed, Tested, Steps}
 use Rattle.operations.proofs.ToldLaws.{after-told, stop-told, go-told, halt-told, choose-told}
-use Rattle.operations.proofs.NamedLaws.{among-left, among-right, among-as}
+use Rattle.blocks.proofs.NamedLaws.{among-left, among-right, among-as}
 
 -- ---- steps
 module _ (P : Scope → Type 0) {r : Worked} where

@@ -12,7 +12,7 @@ use Rattle.evaluation.specs.Scope.{Scope}
 use Rattle.evaluation.specs.Paragraphs.{Step, onward, failed, unless, bindGivens}
 use Rattle.operations.specs.declared.worked.Worked.{Worked}
 use Rattle.operations.specs.Worked.{Told}
-use Rattle.operations.specs.Blocks.{Scoped}
+use Rattle.blocks.specs.Blocks.{Scoped}
 
 -- room for all global names, at most 64, and for the identifiers of Texts above them
 pub record Roomy (work : List ℕ) (n m : ℕ) : Type 0 where

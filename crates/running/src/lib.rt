@@ -1,15 +1,15 @@
 // The paragraphs of a run, in Document order. n is the number of blocks in the work area: the global names so far.
+use blocks::named::bounded;
+use blocks::named::held_name;
+use blocks::named::put_names;
+use blocks::put_generic;
+use blocks::put_name;
 use codes::findings;
 use codes::kinds;
 use evaluating::nodes::expr;
 use evaluating::nodes::pred;
 use evaluating::nodes::tests;
 use layout::part;
-use operations::blocks::put_generic;
-use operations::blocks::put_name;
-use operations::named::bounded;
-use operations::named::held_name;
-use operations::named::put_names;
 use operations::worked::Worked;
 use operations::worked::judge;
 use operations::worked::stop;
@@ -32,9 +32,9 @@ ghost use Rattle.evaluation.specs.Scope.{Scope};
 ghost use Rattle.evaluation.specs.Rules.{test};
 ghost use Rattle.evaluation.specs.Paragraphs.{bindGivens, testNames, testLines, runParagraph, runParagraphs};
 ghost use Rattle.operations.specs.Worked.{Told};
-ghost use Rattle.operations.specs.Blocks.{Scoped, Leaves};
+ghost use Rattle.blocks.specs.Blocks.{Scoped, Leaves};
+ghost use Rattle.blocks.specs.Named.{Declares, Stated, Extends, said};
 ghost use Rattle.evaluating.specs.Ready.{Ready};
-ghost use Rattle.operations.specs.Named.{Declares, Stated, Extends, said};
 ghost use Rattle.running.specs.Paragraphs.{demanded, Roomy, bindLines, Stepped, Failed, Tested, Steps};
 
 // A failure at node k.

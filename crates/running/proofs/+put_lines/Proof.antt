@@ -3,8 +3,8 @@ use lib.ListN.{length, getD, drop}
 use Rattle.layout.specs.Layout.{part}
 use Rattle.syntax.specs.Kinds.{expressions}
 use Rattle.syntax.specs.Nodes.{kindAt, operandAt}
-use Rattle.operations.specs.Named.{said}
-use Rattle.operations.proofs.BlockLaws.{scoped-same}
+use Rattle.blocks.specs.Named.{said}
+use Rattle.blocks.proofs.BlockLaws.{scoped-same}
 use Rattle.states.proofs.NameLaws.{text-words, decl-words}
 use Rattle.running.proofs.StepLaws.{put-over, this-line, line-kind, few-line, include-count, decl-count, put-include, put-decl, declares-own, declares-rest, declares-skip}
 use mathlib.Core.Path.{_≡_, refl, sym, ap, subst, _∙_}
@@ -20,7 +20,7 @@ use Rattle.running.proofs.put_lines.Kinds as put-lines-kinds
 use Rattle.running.proofs.+put_lines.Lts-put_lines as put-lines-lts
 use Rattle.words.proofs.word.Reads as word-reads
 use Rattle.layout.proofs.part.Reads as part-reads
-use Rattle.operations.proofs.named.put_names.Reads as put-names-reads
+use Rattle.blocks.proofs.named.put_names.Reads as put-names-reads
 use Rattle.running.proofs.+put_lines.{statement}
 use Rattle.running.proofs.+put_lines.Tie.{close}
 

@@ -2,7 +2,7 @@ use lib.ListN.{length, getD}
 use Rattle.layout.specs.Layout.{count, part}
 use Rattle.syntax.specs.Nodes.{operandAt}
 use Rattle.states.proofs.NameLaws.{document-words}
-use Rattle.operations.specs.Named.{said}
+use Rattle.blocks.specs.Named.{said}
 use Rattle.running.proofs.StepLaws.{run-over, this-paragraph, global-sum, declares-this, declares-others, run-stops, run-goes, run-fails}
 use mathlib.Core.Path.{_≡_, refl, sym, ap, subst, _∙_}
 use mathlib.Core.Bool.{true, false}

@@ -3,8 +3,8 @@ use lib.ListN.{length, getD, drop}
 use Rattle.layout.specs.Layout.{part}
 use Rattle.syntax.specs.Kinds.{expressions}
 use Rattle.syntax.specs.Nodes.{kindAt, operandAt}
-use Rattle.operations.specs.Named.{said}
-use Rattle.operations.proofs.BlockLaws.{scoped-same}
+use Rattle.blocks.specs.Named.{said}
+use Rattle.blocks.proofs.BlockLaws.{scoped-same}
 use Rattle.states.proofs.NameLaws.{text-words}
 use Rattle.running.proofs.StepLaws.{lines-over, this-line, line-kind, line-lower, few-line, include-stop, decl-stop, decl-go, decl-failed, declares-own, declares-rest}
 use mathlib.Core.Path.{_≡_, refl, sym, ap, subst, _∙_}

@@ -4,10 +4,10 @@ use Rattle.syntax.specs.Decode.{treeOf, exprAt}
 use Rattle.states.specs.Names.{documentNames}
 use Rattle.evaluation.specs.Rules.{test}
 use Rattle.evaluating.specs.Ready.{Ready}
-use Rattle.operations.specs.Named.{Among, said}
-use Rattle.operations.proofs.BlockLaws.{scoped-same}
+use Rattle.blocks.specs.Named.{Among, said}
+use Rattle.blocks.proofs.BlockLaws.{scoped-same}
 use Rattle.running.proofs.StepLaws.{names-end, names-stop, names-go, names-failed}
-use Rattle.operations.proofs.NamedLaws.{declares-here, declares-later}
+use Rattle.blocks.proofs.NamedLaws.{declares-here, declares-later}
 use mathlib.Core.Path.{_≡_, refl, sym, ap, subst, _∙_}
 use mathlib.Core.Bool.{true, false}
 use mathlib.Core.List.{List}
@@ -21,7 +21,7 @@ use Rattle.running.proofs.test_names.Kinds as test-names-kinds
 use Rattle.running.proofs.+test_names.Lts-test_names as test-names-lts
 use Rattle.operations.proofs.worked.judge.Reads as judge-reads
 use Rattle.words.proofs.word.Reads as word-reads
-use Rattle.operations.proofs.named.held_name.Reads as held-name-reads
+use Rattle.blocks.proofs.named.held_name.Reads as held-name-reads
 use Rattle.evaluating.proofs.nodes.tests.Reads as tests-reads
 use Rattle.running.proofs.fail.Reads as fail-reads
 use Rattle.running.proofs.+test_names.{statement}

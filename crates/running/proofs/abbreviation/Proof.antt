@@ -2,8 +2,8 @@ use Prim.Native.Nat.{ℕ, _+_, _-_, _≤_}
 use lib.ListN.{length, getD, drop}
 use Rattle.layout.specs.Layout.{part}
 use Rattle.syntax.specs.Nodes.{kindAt, operandAt}
-use Rattle.operations.specs.Named.{said}
-use Rattle.operations.proofs.BlockLaws.{scoped-same}
+use Rattle.blocks.specs.Named.{said}
+use Rattle.blocks.proofs.BlockLaws.{scoped-same}
 use lib.IntN.{pos}
 use Rattle.values.specs.declared.held.Held.{Held}
 use Rattle.operations.specs.Worked.{Holds}
