@@ -7,8 +7,8 @@ ghost use Rattle.syntax.specs.Reading.{readOf};
 ghost use Rattle.states.specs.States.{stateCheckOf};
 ghost use Rattle.typing.specs.Check.{checkOf};
 ghost use Rattle.fit.specs.Fit.{fitOf};
-ghost use Rattle.printer.specs.Print.{printOf};
-ghost use Rattle.printer.specs.Buffer.{Printed};
+ghost use Rattle.printing.specs.Print.{printOf};
+ghost use Rattle.printing.specs.Buffer.{Printed};
 ghost use Rattle.capi.specs.Code.{codeOf, findingOf, checkCode, Decided, runCode, Ran};
 
 // The places under each number: as many as a word has values.

@@ -40,8 +40,8 @@ use Rattle.evaluating.specs.Turns.{bodyIf, bodyAt, turnAt}
 use Rattle.operations.specs.Steps.{verdictOf}
 use Rattle.operations.specs.declared.worked.Worked.{Worked}
 use Rattle.operations.specs.Worked.{narrow, allNarrow, Holds, Told, fine, ceased, Valued, Judged, Flowed, Gathered, Stops}
-use Rattle.operations.specs.Blocks.{field, Lies, Stored, inWork, Scoped, hidden, named, Pending, more, headed, Pushed, Leaves}
-use Rattle.operations.specs.Blocks as Blocks
+use Rattle.blocks.specs.Blocks.{field, Lies, Stored, inWork, Scoped, hidden, named, Pending, more, headed, Pushed, Leaves}
+use Rattle.blocks.specs.Blocks as Blocks
 use Rattle.evaluating.specs.Ready.{Ready, Handed, Scoping, RestIn, joinDomains, linesThen, Assigns, AssignTold, EachTold, BodyTold, LinesTold}
 use Rattle.operations.proofs.ToldLaws.{after-told, stop-told, go-told, halt-told, at-pure, at-stop, choose-told}
 use Rattle.operations.proofs.OperationLaws.{keep-fine, held-tag, tag-set, tag-none, narrow-head, narrow-tail}

@@ -18,11 +18,11 @@ use Rattle.evaluation.specs.Assignments.{Domains, noMore, domain, Flow, go, hal
 use Rattle.evaluating.specs.Turns.{turnAt}
 use Rattle.operations.specs.declared.worked.Worked.{Worked}
 use Rattle.operations.specs.Worked.{Holds, Told, fine, ceased, Flowed}
-use Rattle.operations.specs.Blocks.{field, Lies, Stored, inWork, Scoped, named, Pending, more, headed}
+use Rattle.blocks.specs.Blocks.{field, Lies, Stored, inWork, Scoped, named, Pending, more, headed}
 use Rattle.evaluating.specs.Ready.{RestIn, Assigns, AssignTold, EachTold}
 use Rattle.operations.proofs.ToldLaws.{go-told, halt-told}
 use Rattle.operations.proofs.OperationLaws.{narrow-head, narrow-tail}
-use Rattle.operations.proofs.BlockLaws.{same-word, same-part, same-less, scoped-same, pending-above, head-take, head-drop, head-name, head-class, head-place, head-length}
+use Rattle.blocks.proofs.BlockLaws.{same-word, same-part, same-less, scoped-same, pending-above, head-take, head-drop, head-name, head-class, head-place, head-length}
 use Rattle.evaluating.proofs.TestLaws.{lies-more}
 
 -- no member more

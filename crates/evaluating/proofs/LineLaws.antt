@@ -29,12 +29,12 @@ use Rattle.evaluation.specs.Rules.{evalExpr, evalLines, stopInclude}
 use Rattle.evaluating.specs.Turns.{turnAt}
 use Rattle.operations.specs.declared.worked.Worked.{Worked}
 use Rattle.operations.specs.Worked.{Holds, Told, fine, ceased, Valued, Flowed, Stops}
-use Rattle.operations.specs.Blocks.{field, Scoped, hidden, Pending, more, Pushed, Leaves}
-use Rattle.operations.specs.Blocks as Blocks
+use Rattle.blocks.specs.Blocks.{field, Scoped, hidden, Pending, more, Pushed, Leaves}
+use Rattle.blocks.specs.Blocks as Blocks
 use Rattle.evaluating.specs.Ready.{Ready, Scoping, Assigns, AssignTold, LinesTold, joinDomains, linesThen}
 use Rattle.operations.proofs.ToldLaws.{after-told, stop-told, go-told, halt-told, at-pure, at-stop}
 use Rattle.operations.proofs.OperationLaws.{held-tag, tag-set, tag-none}
-use Rattle.operations.proofs.BlockLaws.{same-less, scoped-same, pending-same}
+use Rattle.blocks.proofs.BlockLaws.{same-less, scoped-same, pending-same}
 
 -- ---- domains one after the other
 join-none : (ds : Domains) → joinDomains ds noMore ≡ ds

@@ -32,7 +32,7 @@ use Rattle.evaluation.specs.Rules.{evalExpr, amongMembers, testExpr, testExprs,
 use Rattle.operations.specs.Steps.{integerTest}
 use Rattle.operations.specs.declared.worked.Worked.{Worked}
 use Rattle.operations.specs.Worked.{narrow, allNarrow, Holds, Told, fine, ceased, Valued, Judged, Stops}
-use Rattle.operations.specs.Blocks.{Lies}
+use Rattle.blocks.specs.Blocks.{Lies}
 use Rattle.evaluating.specs.Ready.{Ready, Handed, Operands, Rest}
 use Rattle.operations.proofs.ToldLaws.{stop-told, go-told, halt-told, at-pure, at-stop, choose-told}
 use Rattle.operations.proofs.OperationLaws.{held-tag, tag-set, tag-none, tag-tuple, tag-single, narrow-head, narrow-tail}

@@ -22,7 +22,7 @@ use Rattle.evaluation.specs.Rules.{evalExpr, evalPred, evalLines}
 use Rattle.evaluating.specs.Turns.{turnAt}
 use Rattle.operations.specs.declared.worked.Worked.{Worked}
 use Rattle.operations.specs.Worked.{allNarrow, Holds, Told, Valued, Judged, Flowed}
-use Rattle.operations.specs.Blocks.{Lies, Scoped, Pending, Leaves}
+use Rattle.blocks.specs.Blocks.{Lies, Scoped, Pending, Leaves}
 use Rattle.values.specs.Value as Value
 
 -- Node k of sort s with n blocks in the work area. A work area has 240 blocks: there is room for 6 identifiers at each node from here down.

@@ -1,16 +1,15 @@
 // The evaluation rules: functions over nodes that call each other in a cycle, the node number falling. n is the number of blocks in the work area; a
 // function over a kind's node takes its words w.
+use blocks::BLOCK;
+use blocks::IN_WORK;
+use blocks::put_domains;
+use blocks::put_head;
+use blocks::refer;
 use codes::findings;
 use codes::kinds;
 use codes::limits;
 use codes::value_tags;
 use layout::part;
-use operations::blocks;
-use operations::blocks::BLOCK;
-use operations::blocks::IN_WORK;
-use operations::blocks::put_domains;
-use operations::blocks::put_head;
-use operations::blocks::refer;
 use operations::collections::added;
 use operations::collections::among;
 use operations::collections::applied;
@@ -59,7 +58,7 @@ ghost use Rattle.evaluation.specs.Operations.{allPass};
 ghost use Rattle.evaluation.specs.Rules.{evalExpr, evalExprs, evalMembers, evalPred, test, testExprs};
 ghost use Rattle.evaluating.specs.Turns.{bodyAt, turnAt};
 ghost use Rattle.operations.specs.Worked.{Holds, Told, Valued, Judged, Gathered, Joined};
-ghost use Rattle.operations.specs.Blocks.{Scoped, Leaves};
+ghost use Rattle.blocks.specs.Blocks.{Scoped, Leaves};
 ghost use Rattle.evaluating.specs.Ready.{Ready, Handed, Operands, Scoping, Assigns, Tells, Rest, Evaluates, Decides, LinesTold, AssignTold, EachTold, BodyTold};
 
 // The operands from i on as expressions, one after the other: their words after those of s.

@@ -21,8 +21,8 @@ use Rattle.evaluation.specs.declared.Finding.{Finding}
 use Rattle.evaluation.specs.declared.Finding.the-variants.{Holds, Fails, Refused}
 use Rattle.operations.specs.Worked.{Told, fine, ceased}
 use Rattle.evaluation.specs.Run.{ending}
-use Rattle.operations.specs.Named.{Declares}
-use Rattle.evaluator.specs.Paragraphs.{Stepped}
+use Rattle.blocks.specs.Named.{Declares}
+use Rattle.running.specs.Paragraphs.{Stepped}
 
 module _ {y : Worked} where
   pub refused-finding : {o : Outcome Step} → Told (Stepped (λ s. Unit {0})) y o → (y .number ≡ 0 → ⊥) → Refused (y .number) (y .place) ≡ ending o .finding

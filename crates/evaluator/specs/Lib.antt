@@ -1,2 +1,1 @@
-pub mod Paragraphs
 pub mod RunCall

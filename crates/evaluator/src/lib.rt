@@ -1,4 +1,4 @@
-// The run call: evaluation rules on words. The definitions are in the crate `evaluation`; nothing here looks at the checker.
+// The run call. The definitions are in the crate `evaluation`, the paragraphs in `running`; nothing here looks at the checker.
 use codes::findings;
 use codes::limits;
 use evaluation::Finding;
@@ -7,9 +7,6 @@ use operations::worked::Worked;
 use syntax::Reading;
 use words::clear;
 use words::word;
-
-mod paragraphs;
-
 ghost use mathlib.Core.Path.{_≡_};
 ghost use Prim.Native.Nat.{_≤_};
 ghost use lib.ListN.{length};
@@ -20,10 +17,10 @@ ghost use Rattle.states.specs.Names.{documentNames};
 ghost use Rattle.states.specs.States.{stateOf};
 ghost use Rattle.evaluation.specs.Outcomes.{Outcome};
 ghost use Rattle.evaluation.specs.Paragraphs.{Step, runDocument};
-ghost use Rattle.operations.specs.Worked.{Told};
 ghost use Rattle.evaluation.specs.Run.{ending, runState, runOf};
-ghost use Rattle.operations.specs.Named.{said};
-ghost use Rattle.evaluator.specs.Paragraphs.{Stepped};
+ghost use Rattle.operations.specs.Worked.{Told};
+ghost use Rattle.blocks.specs.Named.{said};
+ghost use Rattle.running.specs.Paragraphs.{Stepped};
 ghost use Rattle.evaluator.specs.RunCall.{RunCall};
 
 // What a result of the paragraphs says of the run.
@@ -49,7 +46,7 @@ fn run_paragraphs(doc: &[u32], state: &[u32], work: &mut [u32]) -> Finding
 {
     let mut table = [0u32; states::names::TABLE_WORDS];
     states::names::put_names(doc, state, &mut table);
-    finding_of(paragraphs::run_from(doc, state, &table, work, 0, part(doc, word(doc, 0)), 1))
+    finding_of(running::run_from(doc, state, &table, work, 0, part(doc, word(doc, 0)), 1))
 }
 
 // A readable document, with a work area that is large enough: 41, then the paragraphs.

@@ -35,10 +35,10 @@ use Rattle.typing.specs.Entries.{addGivens, addSignature, extend, paragraphNode
 use Rattle.typing.specs.Solving.{andThen, answer, passIf, selected, isSmall, isClosed, solveFrom, addUnknown, termUnknowns, unknowns, solve, tableOf}
 use Rattle.typing.specs.Check.{fitting, settle, checkParagraphs, paragraphsOf, afterReading, checkOf}
 use Rattle.typing.specs.Areas.{findingOf, dictionaryAfter}
-use Rattle.printer.specs.Decimal.{digits, decimal}
-use Rattle.printer.specs.Lines.{acceptedBytes, refusedBytes, atBytes, spaced, numbers, entryLine, dictionarySize, entryLines, acceptedLines}
-use Rattle.printer.specs.Lines.{refusedLine}
-use Rattle.printer.specs.Print.{printOf, printedAnswer, printedOf}
+use Rattle.printing.specs.Decimal.{digits, decimal}
+use Rattle.printing.specs.Lines.{acceptedBytes, refusedBytes, atBytes, spaced, numbers, entryLine, dictionarySize, entryLines, acceptedLines}
+use Rattle.printing.specs.Lines.{refusedLine}
+use Rattle.printing.specs.Print.{printOf, printedAnswer, printedOf}
 use Rattle.integers.specs.Integer.{signed, wordOf, kept, sum, difference, product, floorDiv, floorMod, byDivisor, quotient, remainder}
 use Rattle.values.specs.Value.{count, encode}
 use Rattle.values.specs.Order.{compareWord, orElse as orElse′, compare, isLess, isSame, same}

@@ -3,7 +3,7 @@ use mathlib.Core.Path.{_≡_}
 use mathlib.Core.List.{List, [], _∷_}
 use Prim.Native.Nat.{ℕ}
 use Rattle.typing.specs.Check.{checkOf}
-use Rattle.printer.specs.Print.{printedOf}
+use Rattle.printing.specs.Print.{printedOf}
 use Rattle.evaluation.specs.Run.{runOf}
 use Rattle.evaluation.specs.declared.Finding.{Finding}
 use Rattle.evaluation.specs.declared.Finding.the-variants.{Holds, Refused}

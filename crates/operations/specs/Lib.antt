@@ -1,4 +1,2 @@
 pub mod Steps
 pub mod Worked
-pub mod Blocks
-pub mod Named

@@ -1,4 +1,4 @@
-// The printed finding: lines of bytes for a check's finding and its dictionary. The definitions are in specs/.
+// The printed finding: lines of bytes for a check's finding and its dictionary. The definitions are in the crate `printing`.
 mod buffer;
 mod lines;
 mod numbers;
@@ -8,8 +8,9 @@ use lines::put_accepted;
 use lines::put_refused;
 use typing::Finding;
 ghost use lib.ListN.{length};
-ghost use Rattle.printer.specs.Print.{printOf};
-ghost use Rattle.printer.specs.Buffer.{Put, Printed};
+ghost use Rattle.printing.specs.Print.{printOf};
+ghost use Rattle.printing.specs.Buffer.{Printed};
+ghost use Rattle.printer.specs.Buffer.{Put};
 
 // The lines of a finding, put into the buffer from `at` on.
 fn put_finding(out: &mut [u8], at: usize, finding: Finding, dict: &[u32]) -> usize

@@ -12,12 +12,12 @@ use Rattle.typing.specs.Check.{checkOf}
 use Rattle.typing.specs.Areas.{Checked}
 use Rattle.typing.specs.declared.Finding.{Finding}
 use Rattle.typing.specs.declared.Finding.the-variants.{Refused}
-use Rattle.printer.specs.Print.{printOf, printedAnswer, printedOf}
-use Rattle.printer.specs.Buffer.{Printed, printedBytes, printedLength}
-use Rattle.printer.specs.Bounds.{Words, none, word, OfWords}
-use Rattle.printer.specs.Lines.{refusedLine, refusedBytes, atBytes, spaced}
-use Rattle.printer.specs.Decimal.{decimal, digits}
-use Rattle.printer.proofs.Lengths.{print-length}
+use Rattle.printing.specs.Print.{printOf, printedAnswer, printedOf}
+use Rattle.printing.specs.Buffer.{Printed, printedBytes, printedLength}
+use Rattle.printing.specs.Bounds.{Words, none, word, OfWords}
+use Rattle.printing.specs.Lines.{refusedLine, refusedBytes, atBytes, spaced}
+use Rattle.printing.specs.Decimal.{decimal, digits}
+use Rattle.printing.proofs.Lengths.{print-length}
 use Rattle.input.specs.Input.{areWords, wordsOf, firstWords, wordsAfter}
 use Rattle.input.proofs.Laws.{first-length, words-room, words-taken}
 use Rattle.zcheck.specs.Report.{reportOf, Prints, Areas}

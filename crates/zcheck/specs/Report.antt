@@ -6,7 +6,7 @@ use mathlib.Core.List.{List, []}
 use Prim.Native.Nat.{ℕ}
 use lib.ListN.{length, take}
 use Rattle.typing.specs.declared.Finding.the-variants.{Refused}
-use Rattle.printer.specs.Print.{printOf, printedOf}
+use Rattle.printing.specs.Print.{printOf, printedOf}
 use Rattle.input.specs.Input.{areWords, wordsOf}
 
 unfoldable pub reportOf : List ℕ → List ℕ

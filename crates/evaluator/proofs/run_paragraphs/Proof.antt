@@ -3,8 +3,8 @@ use Rattle.layout.specs.Layout.{part}
 use Rattle.syntax.proofs.NameCounts.{globals-counted}
 use Rattle.states.proofs.NameLaws.{document-words}
 use Rattle.evaluation.specs.Scope as Scope
-use Rattle.operations.specs.Blocks as Blocks
-use Rattle.operations.specs.Named.{said}
+use Rattle.blocks.specs.Blocks as Blocks
+use Rattle.blocks.specs.Named.{said}
 use Rattle.evaluator.proofs.RunLaws.{all-declared, run-ending}
 use mathlib.Core.Path.{_≡_, refl, sym, ap, subst, _∙_}
 use mathlib.Core.Bool.{true, false}

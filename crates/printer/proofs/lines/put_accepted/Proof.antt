@@ -1,9 +1,9 @@
 use mathlib.Core.Path.{ap}
 use mathlib.Core.List.{List, [], _∷_}
 use Prim.Native.Nat.{ℕ}
-use Rattle.printer.specs.Lines.{acceptedBytes, spaced}
+use Rattle.printing.specs.Lines.{acceptedBytes, spaced}
+use Rattle.printing.proofs.LineLaws.{accepted-parts}
 use Rattle.printer.proofs.PutLaws.{put-then, put-text}
-use Rattle.printer.proofs.LineLaws.{accepted-parts}
 use borrow.Author.Needs.{needs}
 use Rattle.printer.proofs.lines.put_accepted.Statement.{statement}
 use Rattle.printer.proofs.lines.put_accepted.Tie as tie

@@ -4,10 +4,10 @@ use Prim.Native.Nat.{_-_, _≤_}
 use native.Mathlib.Omega.{arith}
 use lib.ListN.{length, take}
 use lib.Seq.{take-all}
-use Rattle.printer.specs.Lines.{spaced}
+use Rattle.printing.specs.Lines.{spaced}
+use Rattle.printing.proofs.LineLaws.{spaced-next}
 use Rattle.printer.specs.Buffer.{Put}
 use Rattle.printer.proofs.PutLaws.{put-none, put-length, put-then, put-text}
-use Rattle.printer.proofs.LineLaws.{spaced-next}
 use borrow.Author.Needs.{needs}
 use Rattle.printer.proofs.numbers.put_each_spaced.Statement.{statement}
 use Rattle.printer.proofs.numbers.put_each_spaced.Tie as tie

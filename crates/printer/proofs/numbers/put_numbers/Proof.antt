@@ -3,10 +3,10 @@ use Prim.Native.Nat.{_-_}
 use native.Mathlib.Omega.{arith}
 use lib.ListN.{length, drop, length-drop}
 use lib.Seq.{take-all}
-use Rattle.printer.specs.Decimal.{decimal}
-use Rattle.printer.specs.Lines.{spaced}
+use Rattle.printing.specs.Decimal.{decimal}
+use Rattle.printing.specs.Lines.{spaced}
+use Rattle.printing.proofs.LineLaws.{numbers-none, numbers-some}
 use Rattle.printer.proofs.PutLaws.{put-none, put-then, put-text}
-use Rattle.printer.proofs.LineLaws.{numbers-none, numbers-some}
 use borrow.Author.Needs.{needs}
 use Rattle.printer.proofs.numbers.put_numbers.Statement.{statement}
 use Rattle.printer.proofs.numbers.put_numbers.Tie as tie

@@ -1,5 +1,5 @@
+use Rattle.printing.proofs.LineLaws.{spaced-one}
 use Rattle.printer.proofs.PutLaws.{put-then, put-text}
-use Rattle.printer.proofs.LineLaws.{spaced-one}
 use borrow.Author.Needs.{needs}
 use Rattle.printer.proofs.numbers.put_spaced.Statement.{statement}
 use Rattle.printer.proofs.numbers.put_spaced.Tie as tie

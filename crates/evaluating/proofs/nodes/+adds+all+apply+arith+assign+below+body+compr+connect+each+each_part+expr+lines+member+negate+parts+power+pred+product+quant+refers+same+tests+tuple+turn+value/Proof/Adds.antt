@@ -8,7 +8,7 @@ use Rattle.syntax.specs.Kinds.{expressions}
 use Rattle.syntax.specs.Promise.{Lower}
 use Rattle.operations.specs.Worked.{Holds}
 use Rattle.values.specs.declared.held.Held.{Held}
-use Rattle.operations.proofs.BlockLaws.{scoped-same}
+use Rattle.blocks.proofs.BlockLaws.{scoped-same}
 use Rattle.evaluating.proofs.NodeLaws.{ready-lower, handed-same, in-words, adds-end, adds-stop, adds-over, adds-go}
 -- The answers of `adds`.
 use Prim.Native.Nat.{_+_, _*_, _-_}

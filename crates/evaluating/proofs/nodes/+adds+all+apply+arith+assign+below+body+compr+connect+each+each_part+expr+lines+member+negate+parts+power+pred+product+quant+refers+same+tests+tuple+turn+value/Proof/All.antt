@@ -1,6 +1,6 @@
 use mathlib.Core.Path.{_≡_, refl, sym, ap, subst, _∙_}
 use native.Mathlib.Omega.{arith}
-use Rattle.operations.proofs.BlockLaws.{scoped-same}
+use Rattle.blocks.proofs.BlockLaws.{scoped-same}
 use Rattle.evaluating.proofs.NodeLaws.{ready-same}
 use Rattle.evaluating.proofs.TestLaws.{all-end, all-stop, all-false, all-go}
 -- The answers of `all`.

@@ -8,7 +8,7 @@ use Rattle.syntax.specs.Kinds.{expressions}
 use Rattle.operations.specs.Steps.{arithmeticOf}
 use Rattle.operations.specs.Worked.{Told, Valued}
 use Rattle.evaluating.proofs.NodeLaws.{ready-lower, in-words, arith-operands, arith-told}
-use Rattle.operations.proofs.BlockLaws.{scoped-same}
+use Rattle.blocks.proofs.BlockLaws.{scoped-same}
 use Rattle.operations.proofs.ToldLaws.{halt-told, second-told, both-told}
 -- The answers of `arith`.
 use Prim.Native.Nat.{_+_, _*_, _-_}

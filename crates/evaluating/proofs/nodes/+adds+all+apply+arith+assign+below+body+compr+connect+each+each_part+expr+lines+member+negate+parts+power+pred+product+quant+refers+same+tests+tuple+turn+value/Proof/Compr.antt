@@ -7,8 +7,8 @@ use lib.ListN.{length}
 use Rattle.values.specs.declared.held.Held.{Held}
 use Rattle.values.specs.Value as Value
 use Rattle.operations.specs.Worked.{Holds}
-use Rattle.operations.specs.Blocks.{Scoped}
-use Rattle.operations.specs.Blocks as Blocks
+use Rattle.blocks.specs.Blocks.{Scoped}
+use Rattle.blocks.specs.Blocks as Blocks
 use Rattle.evaluation.specs.Assignments.{noMore}
 use Rattle.evaluating.proofs.NodeLaws.{in-words}
 use Rattle.evaluating.proofs.AssignLaws.{compr-scoping, compr-stop, compr-go, few-declared, lines-start}

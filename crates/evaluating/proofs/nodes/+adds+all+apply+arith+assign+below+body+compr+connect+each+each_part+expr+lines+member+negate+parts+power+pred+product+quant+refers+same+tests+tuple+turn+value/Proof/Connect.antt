@@ -6,7 +6,7 @@ use lib.ListN.{getD}
 use Rattle.syntax.specs.Kinds.{predicates}
 use Rattle.syntax.specs.Decode.{connectiveOf}
 use Rattle.operations.specs.Steps.{decisionOf}
-use Rattle.operations.proofs.BlockLaws.{scoped-same}
+use Rattle.blocks.proofs.BlockLaws.{scoped-same}
 use Rattle.evaluating.proofs.NodeLaws.{ready-lower, in-words, connected-operands, connected-stop, connected-known, connected-right}
 -- The answers of `connect`.
 use Prim.Native.Nat.{_+_, _*_, _-_}

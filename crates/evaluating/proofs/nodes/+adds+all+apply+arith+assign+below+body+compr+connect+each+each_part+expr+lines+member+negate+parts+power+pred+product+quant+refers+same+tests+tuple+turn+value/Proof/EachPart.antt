@@ -3,7 +3,7 @@ use native.Mathlib.Omega.{arith}
 use lib.ListN.{length}
 use Rattle.syntax.specs.Kinds.{expressions}
 use Rattle.syntax.specs.Promise.{Lower}
-use Rattle.operations.proofs.BlockLaws.{scoped-same}
+use Rattle.blocks.proofs.BlockLaws.{scoped-same}
 use Rattle.evaluating.proofs.NodeLaws.{ready-lower, handed-same, in-words}
 use Rattle.evaluating.proofs.TestLaws.{product-end, product-stop, product-false, product-go}
 -- The answers of `each-part`.

@@ -81,9 +81,9 @@ use Rattle.evaluating.proofs.nodes.+adds+all+apply+arith+assign+below+b
 use Rattle.evaluating.proofs.nodes.value.Reads as value
 use Rattle.evaluating.proofs.nodes.value.Kinds as value-kinds
 use Rattle.evaluating.proofs.nodes.+adds+all+apply+arith+assign+below+body+compr+connect+each+each_part+expr+lines+member+negate+parts+power+pred+product+quant+refers+same+tests+tuple+turn+value.Lts-value as value-lts
-use Rattle.operations.proofs.blocks.put_domains.Reads as put-domains-reads
-use Rattle.operations.proofs.blocks.put_head.Reads as put-head-reads
-use Rattle.operations.proofs.blocks.refer.Reads as refer-reads
+use Rattle.blocks.proofs.put_domains.Reads as put-domains-reads
+use Rattle.blocks.proofs.put_head.Reads as put-head-reads
+use Rattle.blocks.proofs.refer.Reads as refer-reads
 use Rattle.operations.proofs.collections.added.Reads as added-reads
 use Rattle.operations.proofs.collections.among.Reads as among-reads
 use Rattle.operations.proofs.collections.applied.Reads as applied-reads

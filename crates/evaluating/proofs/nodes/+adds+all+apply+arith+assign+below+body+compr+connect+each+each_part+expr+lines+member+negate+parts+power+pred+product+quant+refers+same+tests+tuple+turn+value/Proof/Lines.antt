@@ -7,7 +7,7 @@ use Rattle.layout.specs.Layout.{part}
 use Rattle.syntax.specs.Kinds.{lines}
 use Rattle.syntax.specs.Limited.{declaredCount}
 use Rattle.syntax.specs.Decode.{linesFrom}
-use Rattle.operations.proofs.BlockLaws.{same-less}
+use Rattle.blocks.proofs.BlockLaws.{same-less}
 use Rattle.evaluating.proofs.NodeLaws.{few-words}
 use Rattle.evaluating.proofs.AssignLaws.{scoping-same, scoping-shift}
 use Rattle.evaluating.proofs.LineLaws.{lines-done, include-told, decl-operand, decl-count, decl-stop, decl-other, decl-go, decl-words, line-ready, line-at}

@@ -2,7 +2,7 @@ use mathlib.Core.Path.{_≡_, refl, _∙_}
 use native.Mathlib.Omega.{arith}
 use lib.ListN.{getD}
 use Rattle.syntax.specs.Kinds.{expressions}
-use Rattle.operations.proofs.BlockLaws.{scoped-same}
+use Rattle.blocks.proofs.BlockLaws.{scoped-same}
 use Rattle.evaluating.proofs.NodeLaws.{ready-lower, relation-operands, member-stop, member-go}
 -- The answers of `member`.
 use Prim.Native.Nat.{_+_, _*_, _-_}

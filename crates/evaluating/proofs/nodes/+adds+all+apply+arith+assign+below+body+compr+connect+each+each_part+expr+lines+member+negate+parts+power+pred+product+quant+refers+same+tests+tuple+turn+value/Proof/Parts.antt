@@ -6,7 +6,7 @@ use native.Mathlib.Omega.{arith}
 use Rattle.values.specs.Value.{encode}
 use Rattle.syntax.specs.Kinds.{expressions}
 use Rattle.syntax.specs.Promise.{Lower}
-use Rattle.operations.proofs.BlockLaws.{scoped-same}
+use Rattle.blocks.proofs.BlockLaws.{scoped-same}
 use Rattle.evaluating.proofs.NodeLaws.{ready-lower, handed-same, in-words, parts-end, parts-stop, parts-go}
 -- The answers of `parts`.
 use Prim.Native.Nat.{_+_, _*_, _-_}

@@ -4,8 +4,8 @@ use native.Mathlib.Omega.{arith}
 use Rattle.syntax.specs.Decode.{quantifierOf}
 use Rattle.operations.specs.Steps.{verdictOf}
 use Rattle.evaluation.specs.Scope.{empty}
-use Rattle.operations.specs.Blocks.{Scoped}
-use Rattle.operations.specs.Blocks as Blocks
+use Rattle.blocks.specs.Blocks.{Scoped}
+use Rattle.blocks.specs.Blocks as Blocks
 use Rattle.evaluation.specs.Assignments.{noMore}
 use Rattle.evaluating.proofs.NodeLaws.{in-words}
 use Rattle.evaluating.proofs.AssignLaws.{quant-scoping, quant-stop, quant-go, lines-start}

@@ -1,7 +1,7 @@
 use mathlib.Core.Path.{refl}
 use native.Mathlib.Omega.{arith}
 use mathlib.Core.List.{[]}
-use Rattle.operations.proofs.BlockLaws.{scoped-same}
+use Rattle.blocks.proofs.BlockLaws.{scoped-same}
 use Rattle.evaluating.proofs.NodeLaws.{reference-operands, reference-plain, reference-stop, reference-go, no-actuals, has-actuals}
 -- The answers of `refers`.
 use Prim.Native.Nat.{_+_, _*_, _-_}

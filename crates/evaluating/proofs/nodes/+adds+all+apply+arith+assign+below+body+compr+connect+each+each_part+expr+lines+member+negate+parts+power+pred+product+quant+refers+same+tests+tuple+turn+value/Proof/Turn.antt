@@ -9,7 +9,7 @@ use Rattle.values.specs.declared.held.Held.{Held}
 use Rattle.values.specs.Value as Value
 use Rattle.operations.specs.Worked.{Holds}
 use Rattle.evaluating.specs.Ready.{Ready}
-use Rattle.operations.proofs.BlockLaws.{scoped-same}
+use Rattle.blocks.proofs.BlockLaws.{scoped-same}
 use Rattle.evaluating.proofs.AssignLaws.{scoping-same, text-pred, turn-stop, turn-true, turn-false}
 -- The answers of `turn`.
 use Prim.Native.Nat.{_+_, _*_, _-_}
