@@ -15,8 +15,8 @@ use Rattle.values.specs.Value.{encode}
 use Rattle.values.specs.Givens.{elements}
 use Rattle.values.specs.Held.{keep}
 use Rattle.syntax.specs.Decode.{treeOf}
-use Rattle.states.specs.Names.{Name, namesAs, documentNames}
-use Rattle.states.specs.States.{State, stateForm, nameAt, isPaired, entryFrom, valueIn}
+use Rattle.state_words.specs.Names.{Name, namesAs, documentNames}
+use Rattle.state_words.specs.States.{State, stateForm, nameAt, isPaired, entryFrom, valueIn}
 use Rattle.states.proofs.NameLaws.{document-words}
 use Rattle.states.proofs.TableLaws.{mark, positive-at, positive-document, table-mark}
 use Rattle.evaluation.specs.Claims.{WellFormed}

@@ -23,9 +23,9 @@ use Rattle.values.specs.declared.held.Held.{Held}
 use Rattle.values.specs.declared.shapes.Shape.{Shape}
 use Rattle.values.specs.declared.shapes.Shape.the-variants.{Broken, Leaf, Set, Tuple}
 use Rattle.forms.proofs.Elements.{elements-words}
-use Rattle.states.specs.Names.{Name}
-use Rattle.states.specs.Decode.{valuesFrom, valueByShape, valueAt, valueOf}
-use Rattle.states.specs.States.{nameAt, sizesIn, isSize, givenNumber, valueNumber, entryFrom, entryValue, valueIn}
+use Rattle.state_words.specs.Names.{Name}
+use Rattle.state_words.specs.Decode.{valuesFrom, valueByShape, valueAt, valueOf}
+use Rattle.state_words.specs.States.{nameAt, sizesIn, isSize, givenNumber, valueNumber, entryFrom, entryValue, valueIn}
 use Rattle.evaluation.specs.Claims.{WellFormed}
 use Rattle.operations.specs.Worked.{narrow, allNarrow, Holds}
 use Rattle.evaluation.proofs.Decoding.{Words, words-drop}

@@ -6,8 +6,8 @@ use lib.ListN.{replicate}
 use Rattle.syntax.specs.Reading.{readOf}
 use Rattle.syntax.specs.declared.Reading.the-variants.{Readable}
 use Rattle.syntax.specs.Decode.{treeOf}
-use Rattle.states.specs.Names.{Name, documentNames}
-use Rattle.states.specs.States.{State, stateOf, valueIn}
+use Rattle.state_words.specs.Names.{Name, documentNames}
+use Rattle.state_words.specs.States.{State, stateOf, valueIn}
 use Rattle.states.specs.Table.{putNames}
 use Rattle.evaluation.specs.Scope.{Scope}
 use Rattle.blocks.specs.Blocks.{Scoped}

@@ -15,7 +15,7 @@ ghost use Prim.Native.Nat.{_+_, _-_, _≤_, _<_, _^_};
 ghost use lib.ListN.{length, drop};
 ghost use Rattle.values.specs.Value.{Value};
 ghost use Rattle.syntax.specs.Decode.{treeOf};
-ghost use Rattle.states.specs.Names.{documentNames, namesAs};
+ghost use Rattle.state_words.specs.Names.{documentNames, namesAs};
 ghost use Rattle.evaluation.specs.Scope.{valued, bind};
 ghost use Rattle.evaluation.specs.Paragraphs.{bindGivens};
 ghost use Rattle.operations.specs.Worked.{Holds};

@@ -4,7 +4,7 @@ use typing::Finding;
 ghost use mathlib.Core.Path.{_≡_};
 ghost use lib.ListN.{length};
 ghost use Rattle.syntax.specs.Reading.{readOf};
-ghost use Rattle.states.specs.States.{stateCheckOf};
+ghost use Rattle.state_words.specs.States.{stateCheckOf};
 ghost use Rattle.typing.specs.Check.{checkOf};
 ghost use Rattle.fit.specs.Fit.{fitOf};
 ghost use Rattle.printing.specs.Print.{printOf};

@@ -16,7 +16,7 @@ use Rattle.values.specs.Value.{Value, Values, cons, count, encode, encodes}
 use Rattle.values.specs.Form.{elementShape, groupShape, shapeOf, follows, nextFits, groupEnd, byShape, valueLength, isValue}
 use Rattle.values.specs.declared.shapes.Shape.{Shape}
 use Rattle.values.specs.declared.shapes.Shape.the-variants.{Broken, Leaf, Set, Tuple}
-use Rattle.states.specs.Decode.{valuesFrom, valueByShape, valueAt, valueOf}
+use Rattle.state_words.specs.Decode.{valuesFrom, valueByShape, valueAt, valueOf}
 
 -- words of 32 bits
 abbrev pub Words : List ℕ → Type 0

@@ -14,8 +14,8 @@ use Rattle.syntax.specs.declared.Reading.{Reading}
 use Rattle.syntax.specs.declared.Reading.the-variants.{Readable, Refused as Unreadable}
 use Rattle.syntax.proofs.Sized.{SizedExpr, SizedLines, SizedParagraph, SizedParagraphs, SizedDocument}
 use Rattle.syntax.proofs.SizedTree.{document-sized}
-use Rattle.states.specs.Names.{documentNames}
-use Rattle.states.specs.States.{State, sizesIn, stateOf}
+use Rattle.state_words.specs.Names.{documentNames}
+use Rattle.state_words.specs.States.{State, sizesIn, stateOf}
 use Rattle.evaluation.specs.Outcomes.{Event, Outcome}
 use Rattle.evaluation.specs.Scope.{Scope, empty, bind, valued}
 use Rattle.evaluation.specs.Paragraphs.{Step, onward, failed, then, unless, bindGivens, testNames, testLines, runParagraph, runParagraphs, runDocument}

@@ -21,10 +21,10 @@ use Rattle.values.specs.Form.{shapeOf, follows, nextFits, groupEnd, byShape, va
 use Rattle.values.specs.declared.shapes.Shape.{Shape}
 use Rattle.words.proofs.Loops.{and-left, and-right}
 use Rattle.values.proofs.Unique.{both}
-use Rattle.states.specs.Names.{Name}
-use Rattle.states.specs.Decode.{valuesFrom, valueByShape, valueAt, valueOf}
-use Rattle.states.specs.States.{nameAt, sizesIn, isSize, givenNumber, valueNumber, entryFrom, entryValue, valueIn}
-use Rattle.states.proofs.GivenSizes.{EntryOf, entry-found}
+use Rattle.state_words.specs.Names.{Name}
+use Rattle.state_words.specs.Decode.{valuesFrom, valueByShape, valueAt, valueOf}
+use Rattle.state_words.specs.States.{nameAt, sizesIn, isSize, givenNumber, valueNumber, entryFrom, entryValue, valueIn}
+use Rattle.state_words.proofs.GivenSizes.{EntryOf, entry-found}
 use Rattle.evaluation.specs.Claims.{WellFormed}
 use Rattle.evaluation.proofs.Decoding.{Words, words-drop, orNone, Shaped, broken, anInteger, anElement, aSet, aTuple, shaped, values-count, fits-some, value-back}
 use Rattle.evaluation.proofs.StateWords.{words-part}

@@ -12,7 +12,7 @@ use Rattle.values.specs.SetValues.{sameValue, applyValue}
 use Rattle.values.proofs.Equality.{equal-same}
 use Rattle.syntax.specs.Tree.{Expr, exprNode, Paragraph, abbreviation}
 use Rattle.syntax.specs.Tree as Tree
-use Rattle.states.specs.States.{State}
+use Rattle.state_words.specs.States.{State}
 use Rattle.evaluation.specs.Outcomes.{Event, Outcome, done, stopped, after, _>>=_, pure, stop}
 use Rattle.evaluation.specs.Scope.{Scope}
 use Rattle.evaluation.specs.Operations.{image, findPair, calculate}

@@ -14,8 +14,8 @@ use Rattle.syntax.specs.declared.Reading.{Reading}
 use Rattle.syntax.specs.declared.Reading.the-variants.{Readable, Refused as Unreadable}
 use Rattle.evaluation.specs.Outcomes.{Outcome, _>>=_}
 use Rattle.evaluation.specs.Scope.{Scope}
-use Rattle.states.specs.Names.{documentNames}
-use Rattle.states.specs.States.{State, stateOf, valueIn}
+use Rattle.state_words.specs.Names.{documentNames}
+use Rattle.state_words.specs.States.{State, stateOf, valueIn}
 use Rattle.evaluation.specs.Paragraphs.{Step, onward, failed, then, testNames, testLines, runParagraph, runParagraphs, runDocument}
 use Rattle.evaluation.specs.Run.{Ran, ran, ending, runState, runWork, runRead, runOf}
 use Rattle.evaluation.specs.declared.Finding.the-variants.{Refused}

@@ -12,8 +12,8 @@ use Rattle.syntax.specs.Decode.{treeOf}
 use Rattle.syntax.specs.declared.Reading.the-variants.{Readable, Refused as Unreadable}
 use Rattle.evaluation.specs.WordCount.{wordCount}
 use Rattle.evaluation.specs.Outcomes.{Event, worked, Outcome, done, stopped}
-use Rattle.states.specs.Names.{Name, documentNames}
-use Rattle.states.specs.States.{isPaired, givenNumber, valueNumber, stateOf}
+use Rattle.state_words.specs.Names.{Name, documentNames}
+use Rattle.state_words.specs.States.{isPaired, givenNumber, valueNumber, stateOf}
 use Rattle.evaluation.specs.Run.{Ran, ran}
 use Rattle.evaluation.specs.declared.Finding.the-variants.{Holds, Fails, Refused}
 

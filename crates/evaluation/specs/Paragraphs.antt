@@ -7,7 +7,7 @@ use Rattle.syntax.specs.Tree.{Text, text, Lines, end, declaration, inclusion, P
 use Rattle.evaluation.specs.Outcomes.{Outcome, _>>=_, pure}
 use Rattle.evaluation.specs.Scope.{Scope, empty, bind, valued, generic}
 use Rattle.evaluation.specs.Rules.{evalExpr, evalPred, test, stopInclude}
-use Rattle.states.specs.States.{State}
+use Rattle.state_words.specs.States.{State}
 
 -- what a paragraph, or a line of one, leaves: the names so far, or a failure at a node
 pub data Step : Type 0 where

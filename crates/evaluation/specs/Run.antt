@@ -9,8 +9,8 @@ use Rattle.syntax.specs.Decode.{treeOf}
 use Rattle.syntax.specs.declared.Reading.{Reading}
 use Rattle.syntax.specs.declared.Reading.the-variants.{Readable, Refused as Unreadable}
 use Rattle.evaluation.specs.Outcomes.{Event, Outcome, done, stopped}
-use Rattle.states.specs.Names.{documentNames}
-use Rattle.states.specs.States.{stateOf, valueIn}
+use Rattle.state_words.specs.Names.{documentNames}
+use Rattle.state_words.specs.States.{stateOf, valueIn}
 use Rattle.evaluation.specs.Paragraphs.{Step, onward, failed, runDocument}
 use Rattle.evaluation.specs.declared.Finding.{Finding}
 use Rattle.evaluation.specs.declared.Finding.the-variants.{Holds, Fails, Refused}

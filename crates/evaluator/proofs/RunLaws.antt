@@ -10,8 +10,8 @@ use Rattle.syntax.specs.Reading.{readOf}
 use Rattle.syntax.specs.declared.Reading.the-variants.{Readable}
 use Rattle.syntax.specs.Decode.{paragraphsFrom, treeOf}
 use Rattle.syntax.proofs.TreeParagraph.{document-law}
-use Rattle.states.specs.Names.{namesOf}
-use Rattle.states.specs.States.{State}
+use Rattle.state_words.specs.Names.{namesOf}
+use Rattle.state_words.specs.States.{State}
 use Rattle.states.proofs.NameLaws.{document-names}
 use Rattle.evaluation.specs.Outcomes.{Outcome}
 use Rattle.evaluation.specs.Scope.{empty}

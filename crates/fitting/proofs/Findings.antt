@@ -16,8 +16,8 @@ use Rattle.typing.specs.declared.Finding.{Finding}
 use Rattle.typing.specs.declared.Finding.the-variants.{Accepted, Refused as Rejected}
 use Rattle.typing.proofs.Recorded.{accepted-fits}
 use Rattle.typing.proofs.CheckRight.{accepted-says}
-use Rattle.states.specs.Names.{Name, documentNames}
-use Rattle.states.specs.States.{stateOf}
+use Rattle.state_words.specs.Names.{Name, documentNames}
+use Rattle.state_words.specs.States.{stateOf}
 use Rattle.fit.specs.Fit.{typeNumber, fitTypes, fitState, fitChecked, fitOf}
 use Rattle.fit.specs.Areas.{Fitted}
 use Rattle.fitting.specs.Held.{Held, saidBy}

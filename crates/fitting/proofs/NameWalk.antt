@@ -20,7 +20,7 @@ use Rattle.syntax.specs.Tree.{Lines, end, declaration, inclusion}
 use Rattle.syntax.specs.Decode.{lineAt, linesFrom, paragraphAt, paragraphsFrom}
 use Rattle.syntax.proofs.TreeText.{line-range, line-declaration, line-inclusion}
 use Rattle.syntax.proofs.TreeLists.{lines-go, lines-end}
-use Rattle.states.specs.Names.{Name, namesAs, lineNames, paragraphNames, namesOf}
+use Rattle.state_words.specs.Names.{Name, namesAs, lineNames, paragraphNames, namesOf}
 use Rattle.states.specs.Table.{lineCount}
 use Rattle.states.proofs.NameLaws.{as-length, text-line, given-names, axiom-names, other-names, document-go, document-end}
 use Rattle.fitting.specs.Roles.{nobody, identifierAt, roleOf}

@@ -24,9 +24,9 @@ use Rattle.typing.proofs.CheckRight.{accepted-says}
 use Rattle.typing.proofs.FormedCheck.{check-formed}
 use Rattle.dictionary.specs.Holds.{Holds}
 use Rattle.dictionary.specs.Lookup.{typeAt, NameFound}
-use Rattle.states.specs.Names.{Name, documentNames}
-use Rattle.states.specs.Decode.{valueOf}
-use Rattle.states.specs.States.{nameAt, sizesIn, valueNumber, isPaired, stateForm, stateOf}
+use Rattle.state_words.specs.Names.{Name, documentNames}
+use Rattle.state_words.specs.Decode.{valueOf}
+use Rattle.state_words.specs.States.{nameAt, sizesIn, valueNumber, isPaired, stateForm, stateOf}
 use Rattle.evaluation.proofs.Decoding.{Words, value-read}
 use Rattle.evaluation.proofs.StateWords.{words-part}
 use Rattle.evaluation.proofs.StatePlace.{state-well}

@@ -3,7 +3,7 @@ use mathlib.Core.Bool.{false, cond}
 use mathlib.Core.List.{List}
 use Prim.Native.Nat.{ℕ}
 use lib.ListN.{getD}
-use Rattle.states.specs.Names.{Name}
+use Rattle.state_words.specs.Names.{Name}
 use Rattle.fitting.specs.declared.names.Role.{Role}
 use Rattle.fitting.specs.declared.names.Role.the-variants.{Given, Declared}
 

@@ -18,8 +18,8 @@ ghost use Rattle.syntax.specs.Reading.{readOf};
 ghost use Rattle.syntax.specs.Decode.{treeOf};
 ghost use Rattle.syntax.specs.declared.Reading.the-variants.{Readable};
 ghost use Rattle.typing.specs.Dictionary.{Dictionary};
-ghost use Rattle.states.specs.Names.{documentNames};
-ghost use Rattle.states.specs.States.{stateOf};
+ghost use Rattle.state_words.specs.Names.{documentNames};
+ghost use Rattle.state_words.specs.States.{stateOf};
 ghost use Rattle.fit.specs.Fit.{typeNumber};
 ghost use Rattle.fitting.specs.Held.{Held, Tested, saidBy};
 

@@ -45,10 +45,10 @@ use Rattle.values.specs.Order.{compareWord, orElse as orElse′, compare, isLes
 use Rattle.values.specs.Givens.{elementsFrom, elements, smallSize, sizeFrom, sizeOf}
 use Rattle.values.specs.Form.{elementShape, groupShape, shapeOf, follows, nextFits, groupEnd, byShape, valueLength, isValue}
 use Rattle.values.specs.SetValues.{sameValue, isIn, insertBy, insertValue, applyValue}
-use Rattle.states.specs.Names.{namesAs, lineNames, paragraphNames, namesOf as namesOf′, documentNames}
-use Rattle.states.specs.Decode.{valuesFrom, valueByShape, valueAt, valueOf}
-use Rattle.states.specs.States.{sizeTable, sizesIn, isSize, givenNumber, valueNumber, isPaired, entriesOf, stateIf, stateOf, entryFrom, entryValue}
-use Rattle.states.specs.States.{valueIn}
+use Rattle.state_words.specs.Names.{namesAs, lineNames, paragraphNames, namesOf as namesOf′, documentNames}
+use Rattle.state_words.specs.Decode.{valuesFrom, valueByShape, valueAt, valueOf}
+use Rattle.state_words.specs.States.{sizeTable, sizesIn, isSize, givenNumber, valueNumber, isPaired, entriesOf, stateIf, stateOf, entryFrom, entryValue}
+use Rattle.state_words.specs.States.{valueIn}
 use Rattle.evaluation.specs.WordCount.{wordCount}
 use Rattle.evaluation.specs.Operations.{image, asInteger, asSet, asTuple, addIf, add, findPair, keepInteger, calculate, connect, allPass, countIf}
 use Rattle.evaluation.specs.Operations.{sameCount}

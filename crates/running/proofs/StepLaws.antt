@@ -22,8 +22,8 @@ use Rattle.syntax.specs.Limited.{declaredCount, textDeclares, globalsOf, global
 use Rattle.syntax.proofs.TreeText.{include-law, line-range, line-declaration, line-inclusion, text-kind, text-law}
 use Rattle.syntax.proofs.TreeParagraph.{paragraph-range, paragraph-given, paragraph-axiomatic, paragraph-schema, paragraph-abbreviation, paragraph-constraint, document-law}
 use Rattle.syntax.proofs.TreeLists.{lines-go, lines-end, paragraphs-go, paragraphs-end}
-use Rattle.states.specs.Names.{Name, namesAs, lineNames, paragraphNames, namesOf, documentNames}
-use Rattle.states.specs.States.{State}
+use Rattle.state_words.specs.Names.{Name, namesAs, lineNames, paragraphNames, namesOf, documentNames}
+use Rattle.state_words.specs.States.{State}
 use Rattle.states.proofs.NameLaws.{as-length, text-line, decl-words}
 use Rattle.evaluation.specs.Outcomes.{Outcome, _>>=_, pure, stop}
 use Rattle.evaluation.specs.Scope.{Scope, bind, valued, generic}

@@ -5,7 +5,7 @@ use mathlib.Core.List.{List}
 use Prim.Native.Nat.{ℕ, _+_, _≤_}
 use lib.ListN.{length}
 use Rattle.syntax.specs.Tree.{Pred, Lines, end, declaration, inclusion}
-use Rattle.states.specs.States.{State}
+use Rattle.state_words.specs.States.{State}
 use Rattle.evaluation.specs.Outcomes.{Outcome, _>>=_, pure}
 use Rattle.evaluation.specs.Rules.{evalPred}
 use Rattle.evaluation.specs.Scope.{Scope}

@@ -8,8 +8,8 @@ use Rattle.typing.specs.Dictionary.{Dictionary}
 use Rattle.typing.specs.Check.{accepted, paragraphsOf, checkOf}
 use Rattle.typing.specs.Areas.{Checked}
 use Rattle.typing.specs.declared.Finding.the-variants.{Accepted}
-use Rattle.states.specs.Names.{documentNames}
-use Rattle.states.specs.States.{valueIn}
+use Rattle.state_words.specs.Names.{documentNames}
+use Rattle.state_words.specs.States.{valueIn}
 use Rattle.fit.specs.Recorded.{Fits}
 use Rattle.fit.specs.Areas.{Fitted}
 use Rattle.evaluation.specs.Claims.{Listed}

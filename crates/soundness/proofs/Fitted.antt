@@ -40,9 +40,9 @@ use Rattle.fit.specs.HasType.{Has, isElement, isSet, MembersHave, noMember, aMe
 use Rattle.fit.specs.Recorded.{Every, none, also, OfRecorded, Fits}
 use Rattle.fit.specs.Fit.{recordedWords, typeNumber, fitTypes, fitState, fitChecked, fitOf}
 use Rattle.fit.proofs.OfType.{of-type}
-use Rattle.states.specs.Names.{Name, namesAs, lineNames, paragraphNames, namesOf, documentNames}
-use Rattle.states.specs.Decode.{valueOf}
-use Rattle.states.specs.States.{nameAt, sizesIn, stateOf, State, entryFrom, entryValue, valueIn}
+use Rattle.state_words.specs.Names.{Name, namesAs, lineNames, paragraphNames, namesOf, documentNames}
+use Rattle.state_words.specs.Decode.{valueOf}
+use Rattle.state_words.specs.States.{nameAt, sizesIn, stateOf, State, entryFrom, entryValue, valueIn}
 use Rattle.soundness.proofs.Scopes.{overRecorded, name-added, names-stay, lines-stay, merge-fits, merges-next, added}
 use Rattle.soundness.proofs.Kept.{kept, given-recorded}
 

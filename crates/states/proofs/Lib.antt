@@ -1,5 +1,4 @@
 -- Laws of the names of a document and of the table of givens.
 pub mod NameLaws
 pub mod TableLaws
-pub mod GivenSizes
 pub mod PlaceLaws

@@ -24,7 +24,7 @@ use Rattle.syntax.proofs.TreeCounts.{at-least, at-most}
 use Rattle.syntax.proofs.TreeText.{line-range, line-declaration, line-inclusion, text-kind, text-law}
 use Rattle.syntax.proofs.TreeParagraph.{paragraph-range, paragraph-given, paragraph-axiomatic, paragraph-schema, paragraph-abbreviation, paragraph-constraint, document-law}
 use Rattle.syntax.proofs.TreeLists.{lines-go, lines-end, paragraphs-go, paragraphs-end}
-use Rattle.states.specs.Names.{Name, namesAs, lineNames, paragraphNames, namesOf, documentNames}
+use Rattle.state_words.specs.Names.{Name, namesAs, lineNames, paragraphNames, namesOf, documentNames}
 use Rattle.states.specs.Table.{putPair, putNames, lineCount}
 
 pub as-length : (b : Bool) (xs : List ℕ) → length (namesAs b xs) ≡ length xs

@@ -21,8 +21,8 @@ use Rattle.syntax.specs.Tree.{Lines}
 use Rattle.syntax.specs.Decode.{lineAt, linesFrom, paragraphAt, paragraphsFrom}
 use Rattle.syntax.proofs.TreeText.{line-range, line-declaration, line-inclusion}
 use Rattle.syntax.proofs.TreeLists.{lines-go, lines-end}
-use Rattle.states.specs.Names.{Name, namesAs, lineNames, paragraphNames, namesOf}
-use Rattle.states.specs.States.{entryFrom}
+use Rattle.state_words.specs.Names.{Name, namesAs, lineNames, paragraphNames, namesOf}
+use Rattle.state_words.specs.States.{entryFrom}
 use Rattle.states.specs.Table.{lineCount, linePlace}
 use Rattle.states.proofs.NameLaws.{as-length, text-line, document-go, document-end}
 

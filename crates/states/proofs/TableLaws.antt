@@ -29,8 +29,9 @@ use Rattle.syntax.proofs.TreeCounts.{plain-word}
 use Rattle.syntax.proofs.TreeParagraph.{paragraph-range, document-law}
 use Rattle.values.specs.Form.{isValue}
 use Rattle.values.specs.Givens.{smallSize, sizeFrom, sizeOf}
-use Rattle.states.specs.Names.{Name, namesAs, lineNames, paragraphNames, namesOf, documentNames}
-use Rattle.states.specs.States.{stateForm, nameAt, sizeTable, sizesIn, isSize, givenNumber, valueNumber, isPaired, entriesOf, stateIf, stateOf}
+use Rattle.state_words.specs.Names.{Name, namesAs, lineNames, paragraphNames, namesOf, documentNames}
+use Rattle.state_words.specs.States.{stateForm, nameAt, sizeTable, sizesIn, isSize, givenNumber, valueNumber, isPaired, entriesOf, stateIf, stateOf}
+use Rattle.state_words.proofs.GivenSizes.{nobody, size-cons}
 use Rattle.states.specs.Table.{putPair, putNames, givenBy, valueBy}
 use Rattle.states.proofs.NameLaws.{given-names, axiom-names, other-names, document-names}
 
@@ -141,20 +142,6 @@ put-all ns state a h =
     ap (λ (x : ℕ). putNames ns state 1 (0 ∷ 0 ∷ replicate x 0)) z ∙ put-rows ns state 1 (a - 2 * length ns) (0 ∷ 0 ∷ []) refl
 
 -- ---- sizes
-size-shift : (a b : ℕ) (t : List ℕ) (g i n : ℕ) → sizeFrom (a ∷ b ∷ t) g (suc i) n ≡ sizeFrom t g i n
-unfolding sizeFrom
-size-shift a b t g i zero = refl
-size-shift a b t g i (suc n) =
-    let e : 2 * suc i ≡ suc (suc (2 * i)) = omega arith in
-    let f : suc (suc (2 * i)) + 1 ≡ suc (suc (2 * i + 1)) = omega arith in
-    rw (e, f) (ap (cond (eqb (getD t (2 * i) 0) g) (smallSize (getD t (2 * i + 1) 0))) (size-shift a b t g (suc i) n))
-
-pub size-cons : (a b : ℕ) (t : List ℕ) (g : ℕ) → sizeOf (a ∷ b ∷ t) g ≡ cond (eqb a g) (smallSize b) (sizeOf t g)
-unfolding sizeOf sizeFrom
-size-cons a b t g =
-    let e : suc (suc (length t)) / 2 ≡ suc (length t / 2) = omega arith in
-    rw e (ap (cond (eqb a g) (smallSize b)) (size-shift a b t g 0 (length t / 2)))
-
 size-zeros : (m g : ℕ) → sizeOf (replicate m 0) g ≡ 0
 unfolding sizeOf sizeFrom smallSize
 size-zeros zero g = refl
@@ -195,9 +182,6 @@ rows-size (n ∷ ns) state k m g h =
     (size-none ns state (suc k) (h .1)) (rows-size ns state (suc k) m g (h .1))
 
 -- ---- marks
-abbrev pub nobody : Name
-nobody = record { isGiven = false; identifier = 0 }
-
 row-mark : (ns : List Name) (state : List ℕ) (k : ℕ) (z : List ℕ) (j : ℕ) → j < length ns → getD (rows ns state k ++ z) (2 * j) 0 ≡ mark (getD ns j nobody)
 unfolding rows
 row-mark [] state k z j h = absurd (omega arith)

@@ -8,8 +8,8 @@ use Rattle.layout.specs.Layout.{part}
 use Rattle.syntax.specs.Nodes.{kindAt}
 use Rattle.values.specs.Form.{isValue}
 use Rattle.values.specs.Givens.{sizeOf}
-use Rattle.states.specs.Names.{Name, namesAs}
-use Rattle.states.specs.States.{isSize, entryFrom}
+use Rattle.state_words.specs.Names.{Name, namesAs}
+use Rattle.state_words.specs.States.{isSize, entryFrom}
 
 -- a given's pair
 unfoldable pub putPair : ℕ → List ℕ → ℕ → List ℕ → List ℕ

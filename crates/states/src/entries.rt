@@ -8,7 +8,7 @@ use words::word;
 ghost use mathlib.Core.Path.{_≡_};
 ghost use Prim.Native.Nat.{_≤_, _<_, _^_};
 ghost use Rattle.syntax.specs.Findings.{scan, andThen};
-ghost use Rattle.states.specs.States.{isSize};
+ghost use Rattle.state_words.specs.States.{isSize};
 ghost use Rattle.states.specs.Table.{givenBy, valueBy};
 
 // A given's entry: one word, its size 0 to 20.

@@ -13,8 +13,8 @@ ghost use mathlib.Core.Path.{_≡_};
 ghost use Rattle.syntax.specs.Reading.{readOf};
 ghost use Rattle.syntax.specs.Decode.{treeOf};
 ghost use Rattle.syntax.specs.declared.Reading.the-variants.{Readable};
-ghost use Rattle.states.specs.Names.{documentNames};
-ghost use Rattle.states.specs.States.{stateOf, stateCheckOf};
+ghost use Rattle.state_words.specs.Names.{documentNames};
+ghost use Rattle.state_words.specs.States.{stateOf, stateCheckOf};
 
 // Finding 41 of a state for a readable document. A state has at most 1,024 entries, so where there are more names their pairs are not needed.
 pub fn first_ill_formed(doc: &[u32], state: &[u32]) -> Reading

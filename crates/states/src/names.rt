@@ -16,7 +16,7 @@ ghost use Rattle.syntax.specs.Promise.{At};
 ghost use Rattle.syntax.specs.Reading.{readOf};
 ghost use Rattle.syntax.specs.Decode.{linesFrom, paragraphAt, treeOf};
 ghost use Rattle.syntax.specs.declared.Reading.the-variants.{Readable};
-ghost use Rattle.states.specs.Names.{namesAs, lineNames, paragraphNames, documentNames};
+ghost use Rattle.state_words.specs.Names.{namesAs, lineNames, paragraphNames, documentNames};
 ghost use Rattle.states.specs.Table.{putPair, putNames, lineCount};
 
 // The words of the table of names: for each entry of a state, from 1 on, its given and the size of that; a pair of zeros where the name is no given.

@@ -16,8 +16,8 @@ ghost use Rattle.syntax.specs.Promise.{At};
 ghost use Rattle.syntax.specs.Reading.{readOf};
 ghost use Rattle.syntax.specs.Decode.{linesFrom, paragraphAt, treeOf};
 ghost use Rattle.syntax.specs.declared.Reading.the-variants.{Readable};
-ghost use Rattle.states.specs.Names.{namesAs, lineNames, paragraphNames, documentNames};
-ghost use Rattle.states.specs.States.{entryFrom};
+ghost use Rattle.state_words.specs.Names.{namesAs, lineNames, paragraphNames, documentNames};
+ghost use Rattle.state_words.specs.States.{entryFrom};
 ghost use Rattle.states.specs.Table.{linePlace};
 
 // The entry of a name among the words from `from` on, the first of which has entry k; 0 for none. `true` stands for givens and others alike: the place is

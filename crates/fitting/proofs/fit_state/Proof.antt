@@ -1,6 +1,6 @@
 use mathlib.Core.Path.{sym, _∙_}
 use Rattle.syntax.specs.Decode.{treeOf}
-use Rattle.states.specs.Names.{documentNames}
+use Rattle.state_words.specs.Names.{documentNames}
 use Rattle.fitting.proofs.Findings.{readable-finding, refused-finding}
 use borrow.Author.Needs.{needs}
 use Rattle.fitting.proofs.fit_state.Statement.{statement}

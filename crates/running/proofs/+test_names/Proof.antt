@@ -1,7 +1,7 @@
 use lib.ListN.{length, getD}
 use Rattle.syntax.specs.Kinds.{expressions}
 use Rattle.syntax.specs.Decode.{treeOf, exprAt}
-use Rattle.states.specs.Names.{documentNames}
+use Rattle.state_words.specs.Names.{documentNames}
 use Rattle.evaluation.specs.Rules.{test}
 use Rattle.evaluating.specs.Ready.{Ready}
 use Rattle.blocks.specs.Named.{Among, said}

@@ -2,7 +2,7 @@ use mathlib.Core.Path.{_≡_, refl, sym, ap, subst, _∙_}
 use native.Mathlib.Omega.{arith}
 use lib.ListN.{length}
 use Rattle.syntax.specs.Decode.{treeOf}
-use Rattle.states.specs.Names.{documentNames}
+use Rattle.state_words.specs.Names.{documentNames}
 use Rattle.blocks.specs.Named.{Among, said}
 use Rattle.blocks.proofs.NamedLaws.{put-none, put-more, declares-here, declares-later}
 use borrow.Author.Needs.{needs}

@@ -4,7 +4,7 @@ use native.Mathlib.Omega.{arith}
 use lib.ListN.{length}
 use Rattle.layout.specs.Layout.{part}
 use Rattle.syntax.specs.Decode.{linesFrom}
-use Rattle.states.specs.Names.{lineNames}
+use Rattle.state_words.specs.Names.{lineNames}
 use Rattle.states.proofs.NameLaws.{text-words, text-line}
 use Rattle.fitting.specs.Roles.{identifierAt}
 use Rattle.fitting.proofs.NameWalk.{text-here, text-past, text-over}

@@ -6,8 +6,8 @@ use lib.ListN.{length, getD}
 use Rattle.layout.specs.Layout.{count, part}
 use Rattle.syntax.specs.Nodes.{operandAt}
 use Rattle.syntax.specs.Decode.{paragraphsFrom, treeOf}
-use Rattle.states.specs.Names.{Name, namesOf, documentNames}
-use Rattle.states.specs.States.{nameAt}
+use Rattle.state_words.specs.Names.{Name, namesOf, documentNames}
+use Rattle.state_words.specs.States.{nameAt}
 use Rattle.states.proofs.NameLaws.{document-words, document-names, document-paragraph}
 use Rattle.fitting.specs.Roles.{nobody, roleOf}
 use Rattle.fitting.proofs.NameWalk.{document-here, document-past, document-over}

@@ -7,7 +7,7 @@ use Rattle.syntax.specs.Findings.{scan}
 use Rattle.syntax.specs.Decode.{treeOf}
 use Rattle.syntax.proofs.Scan.{scan-hit, scan-go, scan-end}
 use Rattle.typing.specs.Dictionary.{Dictionary}
-use Rattle.states.specs.Names.{documentNames}
+use Rattle.state_words.specs.Names.{documentNames}
 use Rattle.fit.specs.Fit.{typeNumber}
 use Rattle.fitting.specs.Held.{Held}
 use Rattle.fitting.proofs.Types.{entry-count}

@@ -7,7 +7,7 @@ use Rattle.layout.specs.Layout.{count, part}
 use Rattle.syntax.specs.Decode.{paragraphsFrom, treeOf}
 use Rattle.syntax.specs.Nodes.{operandAt}
 use Rattle.states.specs.Table.{putNames}
-use Rattle.states.specs.Names.{Name, namesOf, documentNames}
+use Rattle.state_words.specs.Names.{Name, namesOf, documentNames}
 use Rattle.states.proofs.NameLaws.{document-words, document-names, document-paragraph, document-count, document-put, document-end}
 use borrow.Author.Needs.{needs}
 use Rattle.states.proofs.names.put_names.Statement.{statement}

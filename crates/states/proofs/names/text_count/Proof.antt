@@ -5,7 +5,7 @@ use native.Mathlib.Omega.{arith}
 use lib.ListN.{length}
 use Rattle.layout.specs.Layout.{part}
 use Rattle.syntax.specs.Decode.{linesFrom}
-use Rattle.states.specs.Names.{lineNames}
+use Rattle.state_words.specs.Names.{lineNames}
 use Rattle.states.proofs.NameLaws.{text-words, text-line, text-go, text-end}
 use borrow.Author.Needs.{needs}
 use Rattle.states.proofs.names.text_count.Statement.{statement}

@@ -1,7 +1,7 @@
 use mathlib.Core.Path.{_≡_, refl, sym, ap, _∙_}
 use native.Mathlib.Omega.{arith}
 use lib.ListN.{length}
-use Rattle.states.specs.States.{entryFrom}
+use Rattle.state_words.specs.States.{entryFrom}
 use Rattle.states.proofs.NameLaws.{given-words, given-names, axiom-names, other-names}
 use borrow.Author.Needs.{needs}
 use Rattle.states.proofs.places.place_in_paragraph.Statement.{statement}

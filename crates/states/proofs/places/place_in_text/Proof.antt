@@ -4,8 +4,8 @@ use native.Mathlib.Omega.{arith}
 use lib.ListN.{length}
 use Rattle.layout.specs.Layout.{part}
 use Rattle.syntax.specs.Decode.{linesFrom}
-use Rattle.states.specs.States.{entryFrom}
-use Rattle.states.specs.Names.{lineNames}
+use Rattle.state_words.specs.States.{entryFrom}
+use Rattle.state_words.specs.Names.{lineNames}
 use Rattle.states.proofs.PlaceLaws.{text-hit, text-miss, text-none}
 use Rattle.states.proofs.NameLaws.{text-words, text-line}
 use borrow.Author.Needs.{needs}

@@ -6,8 +6,8 @@ use lib.ListN.{length}
 use Rattle.layout.specs.Layout.{count, part}
 use Rattle.syntax.specs.Decode.{paragraphsFrom, treeOf}
 use Rattle.syntax.specs.Nodes.{operandAt}
-use Rattle.states.specs.States.{entryFrom}
-use Rattle.states.specs.Names.{Name, namesOf, documentNames}
+use Rattle.state_words.specs.States.{entryFrom}
+use Rattle.state_words.specs.Names.{Name, namesOf, documentNames}
 use Rattle.states.proofs.PlaceLaws.{document-hit, document-miss, document-none}
 use Rattle.states.proofs.NameLaws.{document-words, document-names, document-paragraph}
 use borrow.Author.Needs.{needs}

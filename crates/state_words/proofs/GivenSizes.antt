@@ -1,18 +1,34 @@
 -- The size that a state gives a given is that of the given's entry: the entry of an identifier, where there is one, is the first of that identifier.
-use mathlib.Core.Path.{_≡_, refl, _∙_}
+use mathlib.Core.Path.{_≡_, refl, ap, _∙_}
 use mathlib.Core.Bool.{Bool, true, false, cond}
 use mathlib.Core.Logic.{_⊎_, inl, inr, ⊎-elim}
 use mathlib.Core.List.{List, [], _∷_}
-use Prim.Native.Nat.{ℕ, suc, _+_, _-_, _≤_, _<_}
+use Prim.Native.Nat.{ℕ, zero, suc, _+_, _*_, _-_, _/_, _≤_, _<_}
 use native.Mathlib.Omega.{arith}
 use lib.Dec.{eqb}
 use lib.ListN.{length, getD}
 use borrow.Author.Tests.{eqb-true}
 use Rattle.layout.specs.Layout.{part}
-use Rattle.values.specs.Givens.{smallSize, sizeOf}
-use Rattle.states.specs.Names.{Name}
-use Rattle.states.specs.States.{sizeTable, entryFrom}
-use Rattle.states.proofs.TableLaws.{nobody, size-cons}
+use Rattle.values.specs.Givens.{smallSize, sizeFrom, sizeOf}
+use Rattle.state_words.specs.Names.{Name}
+use Rattle.state_words.specs.States.{sizeTable, entryFrom}
+
+abbrev pub nobody : Name
+nobody = record { isGiven = false; identifier = 0 }
+
+size-shift : (a b : ℕ) (t : List ℕ) (g i n : ℕ) → sizeFrom (a ∷ b ∷ t) g (suc i) n ≡ sizeFrom t g i n
+unfolding sizeFrom
+size-shift a b t g i zero = refl
+size-shift a b t g i (suc n) =
+    let e : 2 * suc i ≡ suc (suc (2 * i)) = omega arith in
+    let f : suc (suc (2 * i)) + 1 ≡ suc (suc (2 * i + 1)) = omega arith in
+    rw (e, f) (ap (cond (eqb (getD t (2 * i) 0) g) (smallSize (getD t (2 * i + 1) 0))) (size-shift a b t g (suc i) n))
+
+pub size-cons : (a b : ℕ) (t : List ℕ) (g : ℕ) → sizeOf (a ∷ b ∷ t) g ≡ cond (eqb a g) (smallSize b) (sizeOf t g)
+unfolding sizeOf sizeFrom
+size-cons a b t g =
+    let e : suc (suc (length t)) / 2 ≡ suc (length t / 2) = omega arith in
+    rw e (ap (cond (eqb a g) (smallSize b)) (size-shift a b t g 0 (length t / 2)))
 
 -- e is the entry of identifier i among the names from entry k on
 pub record EntryOf (ns : List Name) (state : List ℕ) (i k e : ℕ) : Type 0 where

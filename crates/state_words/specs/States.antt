@@ -14,8 +14,8 @@ use Rattle.syntax.specs.declared.Reading.the-variants.{Readable, Refused}
 use Rattle.values.specs.Value.{Value}
 use Rattle.values.specs.Form.{isValue}
 use Rattle.values.specs.Givens.{elements, sizeOf}
-use Rattle.states.specs.Names.{Name, documentNames}
-use Rattle.states.specs.Decode.{valueOf}
+use Rattle.state_words.specs.Names.{Name, documentNames}
+use Rattle.state_words.specs.Decode.{valueOf}
 
 -- the document's layout, with a count from 0
 abbrev pub stateForm : Form
