@@ -1,6 +1,8 @@
 // The calls for C and Rust. Each gives its finding as one number.
-use syntax::Reading;
-use typing::Finding;
+use finding_codes::check_code;
+use finding_codes::code_of;
+use finding_codes::finding_of;
+use finding_codes::run_code;
 ghost use mathlib.Core.Path.{_≡_};
 ghost use lib.ListN.{length};
 ghost use Rattle.syntax.specs.Reading.{readOf};
@@ -9,20 +11,8 @@ ghost use Rattle.typing.specs.Check.{checkOf};
 ghost use Rattle.fit.specs.Fit.{fitOf};
 ghost use Rattle.printing.specs.Print.{printOf};
 ghost use Rattle.printing.specs.Buffer.{Printed};
-ghost use Rattle.capi.specs.Code.{codeOf, findingOf, checkCode, Decided, runCode, Ran};
-
-// The places under each number: as many as a word has values.
-const PLACES: u64 = 4294967296;
-
-// A finding as one number: 0 where there is none, else number * 2^32 + place.
-fn code_of(r: Reading) -> u64
-    ensures { λ n. ⌜ n ≡ codeOf r ⌝ }
-{
-    match r {
-        Reading::Readable => 0,
-        Reading::Refused { number, place } => (number as u64) * PLACES + (place as u64),
-    }
-}
+ghost use Rattle.finding_codes.specs.Code.{codeOf, findingOf};
+ghost use Rattle.capi.specs.Areas.{Decided, Ran};
 
 // Reading: 0 where the document is readable, else one of 11 to 17 with its place.
 #[no_mangle]
@@ -38,16 +28,6 @@ pub extern "C" fn z_state(doc: &[u32], state: &[u32]) -> u64
     ensures { λ n. ⌜ n ≡ codeOf (stateCheckOf (now (doc .entry)) (now (state .entry))) ⌝ }
 {
     code_of(states::check_state(doc, state))
-}
-
-// A check's finding as one number.
-fn check_code(f: Finding) -> u64
-    ensures { λ n. ⌜ n ≡ checkCode f ⌝ }
-{
-    match f {
-        Finding::Accepted => 0,
-        Finding::Refused { number, place } => (number as u64) * PLACES + (place as u64),
-    }
 }
 
 // The check of a document: reading's finding first, then 21, then 22 at 0 where the dictionary area has no words; then, paragraph by paragraph, 31 to 38
@@ -68,36 +48,12 @@ pub extern "C" fn z_fit(doc: &[u32], state: &[u32], dict: &mut [u32], work: &mut
     check_code(fitting::fit(doc, state, dict, work))
 }
 
-// A run's finding as one number: 0 where it holds, 1 * 2^32 + node where it fails, else number * 2^32 + place.
-fn run_code(f: evaluation::Finding) -> u64
-    ensures { λ n. ⌜ n ≡ runCode f ⌝ }
-{
-    match f {
-        evaluation::Finding::Holds => 0,
-        evaluation::Finding::Fails { node } => PLACES + (node as u64),
-        evaluation::Finding::Refused { number, place } => (number as u64) * PLACES + (place as u64),
-    }
-}
-
 // A run of a document over a state: reading's finding first, then 21, 41, and those of the paragraphs. The work area is zeros afterwards.
 #[no_mangle]
 pub extern "C" fn z_run(doc: &[u32], state: &[u32], work: &mut [u32]) -> u64
     ensures { λ n. ⌜ Ran (now (doc .entry)) (now (state .entry)) (now (work .entry)) (now (work .exit)) n ⌝ }
 {
     run_code(evaluator::run(doc, state, work))
-}
-
-// The finding of a check that a number codes.
-fn finding_of(code: u64) -> Finding
-    ensures { λ f. ⌜ f ≡ findingOf code ⌝ }
-{
-    if code == 0 {
-        return Finding::Accepted;
-    }
-    Finding::Refused {
-        number: (code / PLACES) as u32,
-        place: (code % PLACES) as u32,
-    }
 }
 
 // The printed finding of a check and its dictionary as a string of C: its length; 0 where it and the zero that ends it have no room, and then the

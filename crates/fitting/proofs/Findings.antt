@@ -20,7 +20,8 @@ use Rattle.state_words.specs.Names.{Name, documentNames}
 use Rattle.state_words.specs.States.{stateOf}
 use Rattle.fit.specs.Fit.{typeNumber, fitTypes, fitState, fitChecked, fitOf}
 use Rattle.fit.specs.Areas.{Fitted}
-use Rattle.fitting.specs.Held.{Held, saidBy}
+use Rattle.recorded.specs.Held.{Held}
+use Rattle.fitting.specs.Findings.{saidBy}
 
 not-rejected : {A : Type 0} (n p : ℕ) → Accepted ≡ Rejected n p → A
 not-rejected n p e = let z : _≡_ {A = ℕ} 0 1 = cc in absurd (omega arith)

@@ -1,3 +1,1 @@
-pub mod NameWalk
-pub mod Types
 pub mod Findings

@@ -1,11 +1,8 @@
 // The fit call: the check, then a state against its dictionary, 41 and 42. The definitions are in the crate `fit`.
+use recorded::first_mistyped;
 use syntax::Reading;
 use typing::Finding;
 use words::clear;
-
-mod names;
-mod recorded;
-
 ghost use mathlib.Core.Path.{_≡_};
 ghost use lib.ListN.{length};
 ghost use Rattle.syntax.specs.Reading.{readOf};
@@ -17,7 +14,21 @@ ghost use Rattle.state_words.specs.Names.{documentNames};
 ghost use Rattle.state_words.specs.States.{stateOf};
 ghost use Rattle.fit.specs.Fit.{fitState};
 ghost use Rattle.fit.specs.Areas.{Fitted};
-ghost use Rattle.fitting.specs.Held.{Held};
+ghost use Rattle.recorded.specs.Held.{Held};
+ghost use Rattle.fitting.specs.Findings.{saidBy};
+
+// The finding of an accepted document where this was found of its state.
+fn finding_of(r: Reading) -> Finding
+    ensures { λ f. ⌜ f ≡ saidBy r ⌝ }
+{
+    match r {
+        Reading::Readable => Finding::Accepted,
+        Reading::Refused { number, place } => Finding::Refused {
+            number: number,
+            place: place,
+        },
+    }
+}
 
 // The finding of a state for a document that the check accepted: 41, then 42.
 fn fit_state(doc: &[u32], state: &[u32], dict: &[u32]) -> Finding
@@ -26,7 +37,7 @@ fn fit_state(doc: &[u32], state: &[u32], dict: &[u32]) -> Finding
 {
     let formed = states::first_ill_formed(doc, state);
     match formed {
-        Reading::Readable => recorded::finding_of(recorded::first_mistyped(doc, state, dict)),
+        Reading::Readable => finding_of(first_mistyped(doc, state, dict)),
         Reading::Refused { number, place } => Finding::Refused {
             number: number,
             place: place,

@@ -1,0 +1,20 @@
+-- What the calls for C and Rust leave: the number of their finding, and what each area holds.
+use mathlib.Core.Path.{_≡_}
+use mathlib.Core.List.{List}
+use Prim.Native.Nat.{ℕ}
+use lib.ListN.{length, replicate}
+use Rattle.evaluation.specs.Run.{runOf}
+use Rattle.typing.specs.Check.{Answer}
+use Rattle.typing.specs.Areas.{findingOf, dictionaryAfter, workAfter}
+use Rattle.finding_codes.specs.Code.{checkCode, runCode}
+
+-- the check call and the fit call, with areas of d and w words: the number of their answer, and what each area then holds
+pub record Decided (a : Answer) (d w code : ℕ) (dictionary work : List ℕ) : Type 0 where
+  pub finding : code ≡ checkCode (findingOf a)
+  pub recorded : dictionary ≡ dictionaryAfter a d
+  pub cleared : work ≡ workAfter w
+
+-- the run call: the number of its finding, and a work area of zeros
+pub record Ran (doc state before after : List ℕ) (code : ℕ) : Type 0 where
+  pub finding : code ≡ runCode (runOf doc state (length before) .finding)
+  pub cleared : after ≡ replicate (length before) 0

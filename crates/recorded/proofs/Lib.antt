@@ -1,0 +1,2 @@
+pub mod NameWalk
+pub mod Types

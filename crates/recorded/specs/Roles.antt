@@ -1,0 +1,18 @@
+-- The names of a state's entries, as the code has them.
+use mathlib.Core.Bool.{false, cond}
+use mathlib.Core.List.{List}
+use Prim.Native.Nat.{ℕ}
+use lib.ListN.{getD}
+use Rattle.state_words.specs.Names.{Name}
+use Rattle.recorded.specs.declared.names.Role.{Role}
+use Rattle.recorded.specs.declared.names.Role.the-variants.{Given, Declared}
+
+-- what `nameAt` of `states` has for an entry that is not there
+abbrev pub nobody : Name
+nobody = record { isGiven = false; identifier = 0 }
+
+abbrev pub identifierAt : List Name → ℕ → ℕ
+identifierAt ns j = getD ns j nobody .identifier
+
+unfoldable pub roleOf : Name → Role
+roleOf n = cond (n .isGiven) Given (Declared (n .identifier))
