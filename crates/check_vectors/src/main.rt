@@ -1,8 +1,9 @@
 // Documents and what checking them must find, a refusal of each number among them: stdout holds the printed findings.
+use codes::limits;
 use libc::STDOUT_FILENO;
 
 // Words of each area.
-const AREA: usize = 16384;
+const AREA: usize = limits::WORDS;
 
 // Bytes of the buffer: enough for each of these findings.
 const OUTPUT: usize = 1024;
