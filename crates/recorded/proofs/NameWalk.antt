@@ -20,10 +20,10 @@ use Rattle.syntax.specs.Tree.{Lines, end, declaration, inclusion}
 use Rattle.syntax.specs.Decode.{lineAt, linesFrom, paragraphAt, paragraphsFrom}
 use Rattle.syntax.proofs.TreeText.{line-range, line-declaration, line-inclusion}
 use Rattle.syntax.proofs.TreeLists.{lines-go, lines-end}
-use Rattle.state_words.specs.Names.{Name, namesAs, lineNames, paragraphNames, namesOf}
+use Rattle.state_words.specs.Names.{nobody, Name, namesAs, lineNames, paragraphNames, namesOf}
 use Rattle.states.specs.Table.{lineCount}
 use Rattle.states.proofs.NameLaws.{as-length, text-line, given-names, axiom-names, other-names, document-go, document-end}
-use Rattle.recorded.specs.Roles.{nobody, identifierAt, roleOf}
+use Rattle.recorded.specs.Roles.{identifierAt, roleOf}
 use Rattle.recorded.specs.declared.names.Role.the-variants.{Given, Declared}
 
 -- ---- in a list after another

@@ -24,7 +24,7 @@ use Rattle.typing.proofs.CheckRight.{accepted-says}
 use Rattle.typing.proofs.FormedCheck.{check-formed}
 use Rattle.dictionary.specs.Holds.{Holds}
 use Rattle.dictionary.specs.Lookup.{typeAt, NameFound}
-use Rattle.state_words.specs.Names.{Name, documentNames}
+use Rattle.state_words.specs.Names.{nobody, Name, documentNames}
 use Rattle.state_words.specs.Decode.{valueOf}
 use Rattle.state_words.specs.States.{nameAt, sizesIn, valueNumber, isPaired, stateForm, stateOf}
 use Rattle.evaluation.proofs.Decoding.{Words, value-read}
@@ -34,7 +34,7 @@ use Rattle.fit.specs.Recorded.{Every, none, also}
 use Rattle.fit.specs.Fit.{recordedWords, typeNumber}
 use Rattle.fit.proofs.OfType.{of-type, of-has, has-of}
 use Rattle.soundness.proofs.Fitted.{RecordedAs, Recording, document-recorded, formed-in}
-use Rattle.recorded.specs.Roles.{nobody, roleOf}
+use Rattle.recorded.specs.Roles.{roleOf}
 use Rattle.recorded.specs.Held.{Held, Tested}
 use Rattle.recorded.specs.declared.names.Role.the-variants.{Given, Declared}
 

@@ -1,15 +1,11 @@
 -- The names of a state's entries, as the code has them.
-use mathlib.Core.Bool.{false, cond}
+use mathlib.Core.Bool.{cond}
 use mathlib.Core.List.{List}
 use Prim.Native.Nat.{ℕ}
 use lib.ListN.{getD}
-use Rattle.state_words.specs.Names.{Name}
+use Rattle.state_words.specs.Names.{Name, nobody}
 use Rattle.recorded.specs.declared.names.Role.{Role}
 use Rattle.recorded.specs.declared.names.Role.the-variants.{Given, Declared}
-
--- what `nameAt` of `states` has for an entry that is not there
-abbrev pub nobody : Name
-nobody = record { isGiven = false; identifier = 0 }
 
 abbrev pub identifierAt : List Name → ℕ → ℕ
 identifierAt ns j = getD ns j nobody .identifier

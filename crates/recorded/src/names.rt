@@ -15,9 +15,9 @@ ghost use Rattle.syntax.specs.Promise.{At};
 ghost use Rattle.syntax.specs.Reading.{readOf};
 ghost use Rattle.syntax.specs.Decode.{linesFrom, paragraphAt, treeOf};
 ghost use Rattle.syntax.specs.declared.Reading.the-variants.{Readable};
-ghost use Rattle.state_words.specs.Names.{lineNames, paragraphNames, documentNames};
+ghost use Rattle.state_words.specs.Names.{nobody, lineNames, paragraphNames, documentNames};
 ghost use Rattle.state_words.specs.States.{nameAt};
-ghost use Rattle.recorded.specs.Roles.{nobody, identifierAt, roleOf};
+ghost use Rattle.recorded.specs.Roles.{identifierAt, roleOf};
 
 // What an entry is: a given's size, or the value of an identifier.
 pub enum Role {

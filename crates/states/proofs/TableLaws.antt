@@ -29,9 +29,9 @@ use Rattle.syntax.proofs.TreeCounts.{plain-word}
 use Rattle.syntax.proofs.TreeParagraph.{paragraph-range, document-law}
 use Rattle.values.specs.Form.{isValue}
 use Rattle.values.specs.Givens.{smallSize, sizeFrom, sizeOf}
-use Rattle.state_words.specs.Names.{Name, namesAs, lineNames, paragraphNames, namesOf, documentNames}
+use Rattle.state_words.specs.Names.{Name, nobody, namesAs, lineNames, paragraphNames, namesOf, documentNames}
 use Rattle.state_words.specs.States.{stateForm, nameAt, sizeTable, sizesIn, isSize, givenNumber, valueNumber, isPaired, entriesOf, stateIf, stateOf}
-use Rattle.state_words.proofs.GivenSizes.{nobody, size-cons}
+use Rattle.state_words.proofs.GivenSizes.{size-cons}
 use Rattle.states.specs.Table.{putPair, putNames, givenBy, valueBy}
 use Rattle.states.proofs.NameLaws.{given-names, axiom-names, other-names, document-names}
 

@@ -6,10 +6,10 @@ use lib.ListN.{length, getD}
 use Rattle.layout.specs.Layout.{count, part}
 use Rattle.syntax.specs.Nodes.{operandAt}
 use Rattle.syntax.specs.Decode.{paragraphsFrom, treeOf}
-use Rattle.state_words.specs.Names.{Name, namesOf, documentNames}
+use Rattle.state_words.specs.Names.{nobody, Name, namesOf, documentNames}
 use Rattle.state_words.specs.States.{nameAt}
 use Rattle.states.proofs.NameLaws.{document-words, document-names, document-paragraph}
-use Rattle.recorded.specs.Roles.{nobody, roleOf}
+use Rattle.recorded.specs.Roles.{roleOf}
 use Rattle.recorded.proofs.NameWalk.{document-here, document-past, document-over}
 use borrow.Author.Needs.{needs}
 use Rattle.recorded.proofs.names.name_of.Statement.{statement}
