@@ -1,4 +1,4 @@
-// States on words: which names of a document a state gives values to, and finding 41 with its place. The definitions are in specs/.
+// States on words: how many names of a document a state gives values to, and finding 41 with its place. The definitions are in the crate `state_words`.
 use codes::findings;
 use codes::limits;
 use layout::Form;
