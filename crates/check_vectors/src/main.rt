@@ -18,6 +18,13 @@ fn show(number: u64, doc: &[u32], dict: &mut [u32], work: &mut [u32]) {
     io::write_all(STDOUT_FILENO, &out[..n]);
 }
 
+// The same with areas of the program's length.
+fn show_in_full(number: u64, doc: &[u32]) {
+    let mut dict = [0u32; AREA];
+    let mut work = [0u32; AREA];
+    show(number, doc, &mut dict, &mut work);
+}
+
 // 1: the empty document
 const D1: [u32; 4] = [1, 3, 1, 1];
 // 2: one Given: the printed example
@@ -420,31 +427,27 @@ const D17: [u32; 84] = [
 
 // Accepted, and the refusals of reading: 11 to 17.
 fn show_reading() {
-    let mut dict = [0u32; AREA];
-    let mut work = [0u32; AREA];
-    show(1, &D1, &mut dict, &mut work);
-    show(2, &D2, &mut dict, &mut work);
-    show(3, &D3, &mut dict, &mut work);
-    show(4, &D4, &mut dict, &mut work);
-    show(5, &D5, &mut dict, &mut work);
-    show(6, &D6, &mut dict, &mut work);
-    show(7, &D7, &mut dict, &mut work);
-    show(8, &D8, &mut dict, &mut work);
-    show(9, &D9, &mut dict, &mut work);
+    show_in_full(1, &D1);
+    show_in_full(2, &D2);
+    show_in_full(3, &D3);
+    show_in_full(4, &D4);
+    show_in_full(5, &D5);
+    show_in_full(6, &D6);
+    show_in_full(7, &D7);
+    show_in_full(8, &D8);
+    show_in_full(9, &D9);
 }
 
 // The refusals of typing: 31 to 38.
 fn show_typing() {
-    let mut dict = [0u32; AREA];
-    let mut work = [0u32; AREA];
-    show(10, &D10, &mut dict, &mut work);
-    show(11, &D11, &mut dict, &mut work);
-    show(12, &D12, &mut dict, &mut work);
-    show(13, &D13, &mut dict, &mut work);
-    show(14, &D14, &mut dict, &mut work);
-    show(15, &D15, &mut dict, &mut work);
-    show(16, &D16, &mut dict, &mut work);
-    show(17, &D17, &mut dict, &mut work);
+    show_in_full(10, &D10);
+    show_in_full(11, &D11);
+    show_in_full(12, &D12);
+    show_in_full(13, &D13);
+    show_in_full(14, &D14);
+    show_in_full(15, &D15);
+    show_in_full(16, &D16);
+    show_in_full(17, &D17);
 }
 
 // Areas that are too short: 21 for a work area that lacks a word; 22 for a dictionary area of no words, and for one that lacks a word.
