@@ -1,6 +1,6 @@
 -- The table that the code of finding 41 works with: for entry k, at 2 k, a given's identifier and the size that the state gives it; 0 and 0 else.
 use mathlib.Core.List.{List, [], _∷_}
-use mathlib.Core.Bool.{true, cond}
+use mathlib.Core.Bool.{Bool, true, false, cond}
 use Prim.Native.Nat.{ℕ, _+_, _*_, _-_}
 use lib.Dec.{eqb}
 use lib.ListN.{length, getD, set, drop}
@@ -30,6 +30,11 @@ givenBy table state k = cond (eqb (getD table (2 * k) 0) 0) 0 (cond (isSize (par
 
 unfoldable pub valueBy : List ℕ → List ℕ → ℕ → ℕ
 valueBy table state k = cond (eqb (getD table (2 * k) 0) 0) (cond (isValue (sizeOf table) (part state k)) 0 41) 0
+
+-- the one or the other
+unfoldable pub numberBy : Bool → List ℕ → List ℕ → ℕ → ℕ
+numberBy true = givenBy
+numberBy false = valueBy
 
 -- the entry of a name among those of line v, the first of which has entry k; 0 for none. `true`, although they are no givens: the place is the same
 -- for both (`as-any`).

@@ -9,7 +9,7 @@ ghost use mathlib.Core.Path.{_≡_};
 ghost use Prim.Native.Nat.{_≤_, _<_, _^_};
 ghost use Rattle.syntax.specs.Findings.{scan, andThen};
 ghost use Rattle.state_words.specs.States.{isSize};
-ghost use Rattle.states.specs.Table.{givenBy, valueBy};
+ghost use Rattle.states.specs.Table.{givenBy, valueBy, numberBy};
 
 // A given's entry: one word, its size 0 to 20.
 fn is_size(w: &[u32]) -> bool
@@ -51,31 +51,25 @@ fn value_by(table: &[u32], state: &[u32], k: usize) -> u32
     0
 }
 
-fn first_ill_given(table: &[u32], state: &[u32], n: usize) -> Reading
-    requires { ⌜ n ≤ 1024 ⌝ }
-    ensures { λ r. ⌜ r ≡ scan (givenBy (now (table .entry)) (now (state .entry))) 1 n ⌝ }
+// The same of a given's entry, or of any other.
+fn number_by(table: &[u32], state: &[u32], k: usize, given: bool) -> u32
+    requires { ⌜ k < 2 ^ 32 ⌝ }
+    ensures { λ r. ⌜ r ≡ numberBy given (now (table .entry)) (now (state .entry)) k ⌝ }
 {
-    let mut k = 1;
-    while k < n + 1 {
-        let number = given_by(table, state, k);
-        if number != 0 {
-            return Reading::Refused {
-                number: number,
-                place: k as u32,
-            };
-        }
-        k += 1;
+    if given {
+        return given_by(table, state, k);
     }
-    Reading::Readable
+    value_by(table, state, k)
 }
 
-fn first_ill_value(table: &[u32], state: &[u32], n: usize) -> Reading
+// The first ill-formed entry among the givens', or among the others.
+fn first_ill(table: &[u32], state: &[u32], n: usize, given: bool) -> Reading
     requires { ⌜ n ≤ 1024 ⌝ }
-    ensures { λ r. ⌜ r ≡ scan (valueBy (now (table .entry)) (now (state .entry))) 1 n ⌝ }
+    ensures { λ r. ⌜ r ≡ scan (numberBy given (now (table .entry)) (now (state .entry))) 1 n ⌝ }
 {
     let mut k = 1;
     while k < n + 1 {
-        let number = value_by(table, state, k);
+        let number = number_by(table, state, k, given);
         if number != 0 {
             return Reading::Refused {
                 number: number,
@@ -92,9 +86,9 @@ pub fn first_ill_entry(table: &[u32], state: &[u32], n: usize) -> Reading
     requires { ⌜ n ≤ 1024 ⌝ }
     ensures { λ r. ⌜ r ≡ andThen (scan (givenBy (now (table .entry)) (now (state .entry))) 1 n) (scan (valueBy (now (table .entry)) (now (state .entry))) 1 n) ⌝ }
 {
-    let first = first_ill_given(table, state, n);
+    let first = first_ill(table, state, n, true);
     match first {
-        Reading::Readable => first_ill_value(table, state, n),
+        Reading::Readable => first_ill(table, state, n, false),
         Reading::Refused { number, place } => Reading::Refused {
             number: number,
             place: place,
