@@ -11,3 +11,9 @@ pub mod FormedState
 pub mod FormedRules
 pub mod FormedRun
 pub mod LowestPair
+pub mod Assignments
+pub mod Said
+pub mod ListingSaid
+pub mod Comes
+pub mod ListingOnly
+pub mod WholeList

@@ -8,3 +8,5 @@ pub mod Rules
 pub mod Paragraphs
 pub mod Run
 pub mod Claims
+pub mod Listing
+pub mod ListingRun

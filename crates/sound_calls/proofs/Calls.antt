@@ -1,5 +1,5 @@
 -- Demand 3 over the calls, from demand 3 on the definitions.
-use mathlib.Core.Path.{_≡_, refl, sym, _∙_}
+use mathlib.Core.Path.{_≡_, refl, sym, subst, _∙_}
 use mathlib.Core.List.{List}
 use Prim.Native.Nat.{ℕ}
 use native.Mathlib.Omega.{arith}
@@ -9,7 +9,9 @@ use Rattle.typing.specs.Check.{Answer, accepted, refused, checkOf}
 use Rattle.typing.specs.Areas.{findingOf}
 use Rattle.typing.specs.declared.Finding.the-variants.{Accepted}
 use Rattle.fit.specs.Fit.{fitOf}
-use Rattle.evaluation.specs.Run.{runOf}
+use Rattle.evaluation.specs.Run.{ran, runOf}
+use Rattle.evaluation.specs.ListingRun.{Lists}
+use Rattle.evaluation.proofs.WholeList.{run-lists}
 use Rattle.evaluation.specs.declared.Finding.{Finding}
 use Rattle.evaluator.specs.RunCall.{RunCall}
 use Rattle.soundness.specs.Demand.{Sound}
@@ -27,7 +29,12 @@ accepting (accepted E) e = record { dictionary = E; answer = refl }
 accepting (refused n p) e = let z : _≡_ {A = ℕ} 0 1 = cc in absurd (omega arith)
 
 call-sound : {doc state before after : List ℕ} {r : Finding} → RunCall doc state before after r → Sound doc (runOf doc state (length before)) → SoundCall doc state before r
-call-sound c s = record { noMisfit = λ node e. s .noMisfit node (sym (c .finding) ∙ e); listed = s .listed }
+call-sound {doc} {state} {before} c s = record {
+  noMisfit = λ node e. s .noMisfit node (sym (c .finding) ∙ e);
+  list = runOf doc state (length before) .list;
+  given = subst (λ (f : Finding). Lists doc state (length before) (ran f (runOf doc state (length before) .list))) (sym (c .finding)) (run-lists doc state (length before));
+  listed = s .listed;
+}
 
 pub fitted-runs : FittedRuns
 fitted-runs = record {

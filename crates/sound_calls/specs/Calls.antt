@@ -13,16 +13,21 @@ use Rattle.state_words.specs.States.{valueIn}
 use Rattle.fit.specs.Recorded.{Fits}
 use Rattle.fit.specs.Areas.{Fitted}
 use Rattle.evaluation.specs.Claims.{Listed}
-use Rattle.evaluation.specs.Run.{runOf}
+use Rattle.evaluation.specs.Outcomes.{Event}
+use Rattle.evaluation.specs.Run.{ran}
+use Rattle.evaluation.specs.ListingRun.{Lists}
 use Rattle.evaluation.specs.declared.Finding.{Finding}
 use Rattle.evaluation.specs.declared.Finding.the-variants.{Refused}
 use Rattle.evaluator.specs.RunCall.{RunCall}
 use Rattle.soundness.specs.Demand.{OfItsType}
 
--- A run call with the finding r, in a work area that held `before`: r is not 51 at any node, and every entry of the list has its node's accepted type.
+-- A run call with the finding r, in a work area that held `before`: r is not 51 at any node; the evaluation rules give r with a list (`Lists`, which gives
+-- one finding and one list only), and every entry of this list has its node's accepted type.
 pub record SoundCall (doc state before : List ℕ) (r : Finding) : Type 0 where
   pub noMisfit : (node : ℕ) → r ≡ Refused 51 node → ⊥
-  pub listed : Listed (OfItsType (paragraphsOf (treeOf doc))) (runOf doc state (length before) .list)
+  pub list : List Event
+  pub given : Lists doc state (length before) (ran r list)
+  pub listed : Listed (OfItsType (paragraphsOf (treeOf doc))) list
 
 -- each value of the state is of the type that the accepted dictionary records for its name
 pub record OfRecordedTypes (doc state : List ℕ) (d w : ℕ) : Type 0 where

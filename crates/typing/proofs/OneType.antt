@@ -70,7 +70,7 @@ module _ (σ τ : Table) where
   mutual
     unfolding InExpr exprItems Agree Agrees
 
-    oneE : (e : Expr) (Γ : Scope) → Agree (exprItems e Γ) σ τ → Agrees (exprItems e Γ) σ τ → (m : ℕ) → InExpr m e → Same m
+    pub oneE : (e : Expr) (Γ : Scope) → Agree (exprItems e Γ) σ τ → Agrees (exprItems e Γ) σ τ → (m : ℕ) → InExpr m e → Same m
     oneE (reference n i xs) Γ a b m (inl q) = here q (ref-same n xs (nameAt i Γ) (a .1) (b .1))
     oneE (reference n i xs) Γ a b m (inr q) = oneEs xs Γ (a .0) (b .0) m q
     oneE (number n k) Γ a b m q = here q (a .0)
@@ -143,7 +143,7 @@ module _ (σ τ : Table) where
   oneS (both n x y) Γ b m (inl q) = oneS x Γ (b .0) m q
   oneS (both n x y) Γ b m (inr q) = oneS y Γ (b .1 .0) m q
 
-  onePara : (p : Paragraph) (D : Dictionary) → Agrees (paragraphItems p D) σ τ → (m : ℕ) → InParagraph m p → Same m
+  pub onePara : (p : Paragraph) (D : Dictionary) → Agrees (paragraphItems p D) σ τ → (m : ℕ) → InParagraph m p → Same m
   unfolding InParagraph paragraphItems Agrees
   onePara (given n xs) D b m q = absurd q
   onePara (axiomatic n t) D b m q = oneT t (globals D) D b m q
@@ -152,7 +152,7 @@ module _ (σ τ : Table) where
   onePara (constraint n p) D b m q = oneP p (globals D) b m q
 
   -- Signatures whose terms have one type.
-  abbrev SameNames : Signature → Type 0
+  abbrev pub SameNames : Signature → Type 0
   SameNames noNames = Unit {0}
   SameNames (naming i t s) = (under σ t ≡ under τ t) × SameNames s
 
@@ -167,12 +167,12 @@ module _ (σ τ : Table) where
       go false true k = (e, h)
       go false false k = (h .0, k)
 
-  join-same : (s r : Signature) → SameNames s → SameNames r → SameNames (merge s r)
+  pub join-same : (s r : Signature) → SameNames s → SameNames r → SameNames (merge s r)
   unfolding merge
   join-same noNames r h k = k
   join-same (naming i t s) r h k = join-same s (insertName i t r) (h .1) (insert-same i t r (h .0) k)
 
-  names-same : (xs : List ℕ) (t : Term) (r : Signature) → under σ t ≡ under τ t → SameNames r → SameNames (declare xs t r)
+  pub names-same : (xs : List ℕ) (t : Term) (r : Signature) → under σ t ≡ under τ t → SameNames r → SameNames (declare xs t r)
   unfolding declare
   names-same [] t r e k = k
   names-same (i ∷ xs) t r e k = names-same xs t (insertName i t r) e (insert-same i t r e k)
@@ -208,7 +208,7 @@ module _ (σ τ : Table) where
   row-same none n k Γ b = refl
   row-same (more e es) n k Γ b = ap₂ tcons (b .0 .0 .1 .0) (row-same es n (suc k) Γ (b .1))
 
-  incl-same : (i : Include) (Γ : Scope) → Agrees (includeItems i Γ) σ τ → SameNames (includeSignature i Γ)
+  pub incl-same : (i : Include) (Γ : Scope) → Agrees (includeItems i Γ) σ τ → SameNames (includeSignature i Γ)
   unfolding includeSignature includeItems
   incl-same (include n s k xs rs) Γ b =
       bring-same (schemaNamed s Γ) (row n 1 (exprsLength xs)) k rs (row-same xs n 1 Γ (incl-agrees (schemaNamed s Γ) (include n s k xs rs) (actualItems xs n 1 Γ) b))
@@ -223,7 +223,7 @@ module _ (σ τ : Table) where
   unfolding textSignature textItems Agrees
   text-same (text n p ls) Γ D b = lines-same ls Γ D noNames (b .0) tt
 
-  sig-same : (x : Schema) (Γ : Scope) → Agrees (schemaItems x Γ) σ τ → SameNames (schemaSignature x Γ)
+  pub sig-same : (x : Schema) (Γ : Scope) → Agrees (schemaItems x Γ) σ τ → SameNames (schemaSignature x Γ)
   unfolding schemaSignature schemaItems Agrees
   sig-same (plain t) Γ b = text-same t Γ blank b
   sig-same (from i) Γ b = incl-same i Γ (b .0)

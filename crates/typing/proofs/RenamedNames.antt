@@ -13,6 +13,7 @@ use Rattle.types.specs.Types.{Term}
 use Rattle.types.specs.Formed.{Ascending}
 use Rattle.typing.specs.Strokes.{decorate}
 use Rattle.typing.specs.Signatures.{Signature, noNames, naming, countNames, namesOf, insertName, strokeAll, renamed, renameAll, someStroked, wrongOld, wrongNames}
+use Rattle.typing.specs.Typing.{Collision}
 use Rattle.typing.proofs.FormedSignatures.{Rising, rename-rising}
 use Rattle.typing.proofs.GlobalNames.{eqb-swap, has-insert}
 
@@ -73,12 +74,6 @@ insert-count i t s r = go (has i (namesOf s)) refl
     go false e = count-new i t s e
 
 -- ---- two components of the schema get one identifier: the stroke put on each, then all pairs renamed at once
-pub record Collision (k : ℕ) (rs : List (ℕ × ℕ)) (s : Signature) : Type 0 where
-  pub first : ℕ
-  pub second : ℕ
-  pub before : first < second
-  pub within : second < countNames s
-  pub alike : renamed rs (decorate k (getD (namesOf s) first 0)) ≡ renamed rs (decorate k (getD (namesOf s) second 0))
 
 module _ (k : ℕ) (rs : List (ℕ × ℕ)) where
   abbrev new : ℕ → ℕ

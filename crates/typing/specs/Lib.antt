@@ -2,6 +2,7 @@ pub mod Strokes
 pub mod Unknowns
 pub mod Items
 pub mod Dictionary
+pub mod EntryOrder
 pub mod Signatures
 pub mod Scopes
 pub mod Conditions
@@ -15,3 +16,9 @@ pub mod Check
 pub mod Areas
 pub mod Verdicts
 pub mod WellFormed
+pub mod Typing
+pub mod Findings
+pub mod Pieces
+pub mod FormedVerdicts
+pub mod Places
+pub mod AcceptedTypings
