@@ -29,7 +29,7 @@ use Rattle.typing.proofs.AcceptedTypes.{no-other}
 use Rattle.typing.proofs.WrittenOnce.{paragraphs-once}
 
 -- ---- every solution of a piece agrees on the piece's own unknowns with the typing τ of the whole
-owned : (t : Items) (σ τ : Table) → Agree t σ τ → (x : ℕ) → Owns t x → σ x ≡ τ x
+pub owned : (t : Items) (σ τ : Table) → Agree t σ τ → (x : ℕ) → Owns t x → σ x ≡ τ x
 unfolding Agree Owns
 owned skip σ τ h x q = absurd q
 owned (a ⨾ b) σ τ h x (inl q) = owned a σ τ (h .0) x q

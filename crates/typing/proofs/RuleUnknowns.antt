@@ -74,7 +74,7 @@ module _ (N : ℕ → Type 0) where
   nameIn-over i (D ▸ nameEntry j p g) h = either-named (eqb i j) (ofGlobal p g) (nameIn i D) (h .1) (nameIn-over i D (h .0))
   nameIn-over i (D ▸ schemaEntry s p g) h = nameIn-over i D h
 
-  name-over : (i : ℕ) (Γ : Scope) → ScopeOver Γ → NamedOver (nameAt i Γ)
+  pub name-over : (i : ℕ) (Γ : Scope) → ScopeOver Γ → NamedOver (nameAt i Γ)
   unfolding nameAt ScopeOver NamedOver
   name-over i (globals D) h = nameIn-over i D h
   name-over i (local j t Γ) h = either-named (eqb i j) (ofLocal t) (nameAt i Γ) (h .0) (name-over i Γ (h .1))
@@ -236,7 +236,7 @@ module _ (N : ℕ → Type 0) where
   unfolding textSignature textNumbers FewText SigOver
   text-sig-over (text n p ls) Γ h f = lines-sig-over ls Γ noNames (all-right Own (predNumbers p) (linesNumbers ls) (all-left Own (predNumbers p ++ linesNumbers ls) (n ∷ []) h)) (f .1) tt
 
-  schema-sig-over : (x : Schema) (Γ : Scope) → AllIn Own (schemaNumbers x) → FewSchema x → SigOver (schemaSignature x Γ)
+  pub schema-sig-over : (x : Schema) (Γ : Scope) → AllIn Own (schemaNumbers x) → FewSchema x → SigOver (schemaSignature x Γ)
   unfolding schemaSignature schemaNumbers FewSchema
   schema-sig-over (plain t) Γ h f = text-sig-over t Γ h f
   schema-sig-over (from i) Γ h f = included-over i Γ h f
@@ -264,7 +264,7 @@ module _ (N : ℕ → Type 0) where
   declared-over n [] t r h k = tt
   declared-over n (i ∷ is) t r h k = (sameType-over n t (termIn i r) h (termIn-over i r k), declared-over n is t r h k)
 
-  names-over : (n : ℕ) (s r : Signature) → SigOver s → SigOver r → Over N (mergeNames n s r)
+  pub names-over : (n : ℕ) (s r : Signature) → SigOver s → SigOver r → Over N (mergeNames n s r)
   unfolding mergeNames Over SigOver
   names-over n noNames r h k = tt
   names-over n (naming i t s) r h k = (sameType-over n t (termIn i r) (h .0) (termIn-over i r k), names-over n s r (h .1) k)
@@ -280,12 +280,12 @@ module _ (N : ℕ → Type 0) where
   newNames-over n [] G = tt
   newNames-over n (i ∷ is) G = (newName-over n (nameIn i G), newNames-over n is G)
 
-  smalls-over : (n : ℕ) (s : Signature) → SigOver s → Over N (smallTypes n s)
+  pub smalls-over : (n : ℕ) (s : Signature) → SigOver s → Over N (smallTypes n s)
   unfolding smallTypes Over SigOver
   smalls-over n noNames h = tt
   smalls-over n (naming i t s) h = (h .0, smalls-over n s (h .1))
 
-  few-over : (n : ℕ) (s : Signature) → Over N (fewNames n s)
+  pub few-over : (n : ℕ) (s : Signature) → Over N (fewNames n s)
   unfolding fewNames
   few-over n s = refuseIf-over (ltb 16 (countNames s)) 38 n
 

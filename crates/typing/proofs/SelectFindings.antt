@@ -203,32 +203,32 @@ rule-selects (aSchema p g) (include n s k xs rs) actuals P h = go (eqb (exprsLen
     go false = tt
 
 -- ---- numbers that stand once
-abbrev EachOnce : List ℕ → Type 0
+abbrev pub EachOnce : List ℕ → Type 0
 EachOnce l = (m : ℕ) → occurrences m l ≤ 1
 
-once-left : (a b : List ℕ) → EachOnce (a ++ b) → EachOnce a
+pub once-left : (a b : List ℕ) → EachOnce (a ++ b) → EachOnce a
 once-left a b o m = omega (arith, o m, occurrences-append m a b)
 
-once-right : (a b : List ℕ) → EachOnce (a ++ b) → EachOnce b
+pub once-right : (a b : List ℕ) → EachOnce (a ++ b) → EachOnce b
 once-right a b o m = omega (arith, o m, occurrences-append m a b)
 
-has-left : (m : ℕ) (a b : List ℕ) → has m a ≡ true → has m (a ++ b) ≡ true
+pub has-left : (m : ℕ) (a b : List ℕ) → has m a ≡ true → has m (a ++ b) ≡ true
 has-left m a b h = has-append m a b ∙ ap (λ (x : Bool). x || has m b) h
 
-has-right : (m : ℕ) (a b : List ℕ) → has m b ≡ true → has m (a ++ b) ≡ true
+pub has-right : (m : ℕ) (a b : List ℕ) → has m b ≡ true → has m (a ++ b) ≡ true
 has-right m a b h = has-append m a b ∙ ap (λ (x : Bool). has m a || x) h ∙ go (has m a)
   where
     go : (x : Bool) → (x || true) ≡ true
     go true = refl
     go false = refl
 
-abbrev Apart : List ℕ → List ℕ → Type 0
+abbrev pub Apart : List ℕ → List ℕ → Type 0
 Apart a b = (m : ℕ) → has m a ≡ true → has m b ≡ true → ⊥
 
-apart : (a b : List ℕ) → EachOnce (a ++ b) → Apart a b
+pub apart : (a b : List ℕ) → EachOnce (a ++ b) → Apart a b
 apart a b o m p q = omega (arith, o m, occurrences-append m a b, has-once m a p, has-once m b q)
 
-turned : (a b : List ℕ) → Apart a b → Apart b a
+pub turned : (a b : List ℕ) → Apart a b → Apart b a
 turned a b h m p q = h m q p
 
 -- the unknowns of nodes without m are not that of m's type
@@ -281,15 +281,15 @@ NewSig l r = (m : ℕ) → has m l ≡ true → SigOver (Not (slot m 0)) r
 new-with : (b : List ℕ) (t : Items) (P : Table → Type 0) (Γ : Scope) → ((m : ℕ) → has m b ≡ true → Over (Not (slot m 0)) t) → New b P Γ → New b (And P t) Γ
 new-with b t P Γ o w m q = (λ τ g h. (w m q .0 τ g (h .0), met-still (slot m 0) τ g t (o m q) (h .1)), w m q .1)
 
-all-nil : (M : ℕ → Type 0) (a : List ℕ) → AllIn M a → AllIn M (a ++ [])
+pub all-nil : (M : ℕ → Type 0) (a : List ℕ) → AllIn M a → AllIn M (a ++ [])
 all-nil M [] h = tt
 all-nil M (x ∷ a) h = (h .0, all-nil M a (h .1))
 
-declaration-over : (N : ℕ → Type 0) (n : ℕ) (a : Expr) (is : List ℕ) (Γ : Scope) (G : Dictionary) (r : Signature) → AllIn (Own N) (exprNumbers a ++ (n ∷ [])) → FewExpr a → ScopeOver N Γ → SigOver N r
+pub declaration-over : (N : ℕ → Type 0) (n : ℕ) (a : Expr) (is : List ℕ) (Γ : Scope) (G : Dictionary) (r : Signature) → AllIn (Own N) (exprNumbers a ++ (n ∷ [])) → FewExpr a → ScopeOver N Γ → SigOver N r
     → Over N (linesItems (declaration n a is end) Γ G r)
 declaration-over N n a is Γ G r h f s k = lines-over N (declaration n a is end) Γ G r (unfold linesNumbers in all-nil (Own N) (exprNumbers a ++ (n ∷ [])) h) (unfold FewLines in (f, tt)) s k
 
-inclusion-over : (N : ℕ → Type 0) (i : Include) (Γ : Scope) (G : Dictionary) (r : Signature) → AllIn (Own N) (includeNumbers i) → FewInclude i → ScopeOver N Γ → SigOver N r
+pub inclusion-over : (N : ℕ → Type 0) (i : Include) (Γ : Scope) (G : Dictionary) (r : Signature) → AllIn (Own N) (includeNumbers i) → FewInclude i → ScopeOver N Γ → SigOver N r
     → Over N (linesItems (inclusion i end) Γ G r)
 inclusion-over N i Γ G r h f s k = lines-over N (inclusion i end) Γ G r (unfold linesNumbers in all-nil (Own N) (includeNumbers i) h) (unfold FewLines in (f, tt)) s k
 
@@ -333,7 +333,7 @@ actual-over : (N : ℕ → Type 0) (a : Expr) (n k : ℕ) (Γ : Scope) → Own N
 unfolding Over Each
 actual-over N a n k Γ o u h f s = (expr-over N a Γ h f s, (o k u, (type-over N a h, (o k u, tt))))
 
-longer : (k : ℕ) (a : Expr) (xs : Exprs) → k + exprsLength (more a xs) ≤ 7 → (k ≤ 6) × (suc k + exprsLength xs ≤ 7)
+pub longer : (k : ℕ) (a : Expr) (xs : Exprs) → k + exprsLength (more a xs) ≤ 7 → (k ≤ 6) × (suc k + exprsLength xs ≤ 7)
 unfolding exprsLength
 longer k a xs l = (omega (arith, l), omega (arith, l))
 
@@ -608,7 +608,7 @@ unfolding addSignature FewParameters
 signature-few noNames τ D h = h
 signature-few (naming i t s) τ D h = signature-few s τ (D ▸ nameEntry i 0 (under τ t)) (h, omega arith)
 
-extend-few : (p : Paragraph) (D : Dictionary) (τ : Table) → FewParagraph p → FewParameters D → FewParameters (extend p D τ)
+pub extend-few : (p : Paragraph) (D : Dictionary) (τ : Table) → FewParagraph p → FewParameters D → FewParameters (extend p D τ)
 unfolding extend FewParagraph FewParameters
 extend-few (given n is) D τ f h = givens-few is D h
 extend-few (axiomatic n t) D τ f h = signature-few (textSignature t (globals D)) τ D h
@@ -624,7 +624,7 @@ paragraphs-select (p ∷ ps) D o f d = (
   λ τ h. paragraphs-select ps (extend p D τ) (once-right (paragraphNumbers p) (paragraphsNumbers ps) o) (f .1) (extend-few p D τ (f .0) d),
 )
 
-few-paragraphs : (t : Document) → FewDocument t → FewParagraphs (paragraphsOf t)
+pub few-paragraphs : (t : Document) → FewDocument t → FewParagraphs (paragraphsOf t)
 unfolding FewDocument paragraphsOf
 few-paragraphs (document n ps) h = h
 

@@ -22,3 +22,4 @@ pub mod Pieces
 pub mod FormedVerdicts
 pub mod Places
 pub mod AcceptedTypings
+pub mod PieceEquations

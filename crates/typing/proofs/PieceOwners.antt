@@ -1,0 +1,271 @@
+-- The nodes of an expression whose unknowns its own piece has, and those of the Texts and Includes inside it, whose unknowns other pieces have: each node is
+-- of one of the two.
+use mathlib.Core.Path.{_≡_, refl, sym}
+use mathlib.Core.Bool.{Bool, true, false, cond}
+use mathlib.Core.List.{List, [], _∷_, _++_}
+use mathlib.Core.Logic.{_⊎_, inl, inr}
+use Prim.Native.Nat.{ℕ, zero, suc, _+_, _≤_}
+use native.Mathlib.Omega.{arith}
+use lib.Dec.{ltb, eqb}
+use Rattle.words.specs.Loops.{has, occurrences}
+use Rattle.words.proofs.Lists.{occurrences-append}
+use Rattle.syntax.specs.Tree.{Expr, reference, number, integers, set, tuple, product, power, application, selection, theta, schemaSet, arithmetic}
+use Rattle.syntax.specs.Tree.{comprehension, Exprs, none, more, exprsLength}
+use Rattle.syntax.specs.TreeNumbers.{exprNumbers, exprsNumbers, textNumbers, includeNumbers}
+use Rattle.types.specs.Types.{Term, nil, ℤ, ℙℤ}
+use Rattle.types.specs.Instance.{instance}
+use Rattle.typing.specs.Strokes.{decorate, takes}
+use Rattle.typing.specs.Unknowns.{Table, slot, unknownAt, row, integer, powerOf, productOf}
+use Rattle.typing.specs.Items.{Items, _⨾_, refusal, Agree}
+use Rattle.typing.specs.Dictionary.{blank, Named, unnamed, ofLocal, ofGlobal, Found, noSchema, aSchema}
+use Rattle.typing.specs.Signatures.{Signature, noNames, naming, bindingOf, componentsOf, someStroked}
+use Rattle.typing.specs.Scopes.{Scope, nameAt, schemaNamed, includeSignature, includeNode, inside}
+use Rattle.typing.specs.Conditions.{refuseIf, smallTypes, typeOf, typesOf, typed, isPower, arePowers, areMembers, freshRow}
+use Rattle.typing.specs.Rules.{referenceItems, thetaName, thetaNames, thetaSignature, thetaItems, exprItems, exprsItems, textItems, includeItems}
+use Rattle.typing.specs.Pieces.{Owns}
+use Rattle.typing.proofs.OwnUnknowns.{include-agrees, text-agrees}
+use Rattle.typing.proofs.PieceTypes.{owned}
+use Rattle.typing.proofs.FewActuals.{AtMostSix, FewExpr, FewExprs}
+use Rattle.typing.proofs.RuleUnknowns.{AllIn, Own, ScopeOver, NamedOver, name-over, inside-over}
+use Rattle.typing.proofs.SelectFindings.{has-left, has-right}
+use Rattle.typing.proofs.TypingLaws.{first-has}
+
+unfoldable mutual
+  pub ownNumbers : Expr → List ℕ
+  ownNumbers (reference n i xs) = ownsNumbers xs ++ (n ∷ [])
+  ownNumbers (number n v) = n ∷ []
+  ownNumbers (integers n) = n ∷ []
+  ownNumbers (set n xs) = ownsNumbers xs ++ (n ∷ [])
+  ownNumbers (tuple n xs) = ownsNumbers xs ++ (n ∷ [])
+  ownNumbers (product n xs) = ownsNumbers xs ++ (n ∷ [])
+  ownNumbers (power n a) = ownNumbers a ++ (n ∷ [])
+  ownNumbers (application n a b) = (ownNumbers a ++ ownNumbers b) ++ (n ∷ [])
+  ownNumbers (selection n a i) = ownNumbers a ++ (n ∷ [])
+  ownNumbers (theta n s k) = n ∷ []
+  ownNumbers (schemaSet n i) = n ∷ []
+  ownNumbers (arithmetic n o a b) = (ownNumbers a ++ ownNumbers b) ++ (n ∷ [])
+  ownNumbers (comprehension n t a) = ownNumbers a ++ (n ∷ [])
+
+  pub ownsNumbers : Exprs → List ℕ
+  ownsNumbers none = []
+  ownsNumbers (more a xs) = ownNumbers a ++ ownsNumbers xs
+
+unfoldable mutual
+  pub innerNumbers : Expr → List ℕ
+  innerNumbers (reference n i xs) = innersNumbers xs
+  innerNumbers (number n v) = []
+  innerNumbers (integers n) = []
+  innerNumbers (set n xs) = innersNumbers xs
+  innerNumbers (tuple n xs) = innersNumbers xs
+  innerNumbers (product n xs) = innersNumbers xs
+  innerNumbers (power n a) = innerNumbers a
+  innerNumbers (application n a b) = innerNumbers a ++ innerNumbers b
+  innerNumbers (selection n a i) = innerNumbers a
+  innerNumbers (theta n s k) = []
+  innerNumbers (schemaSet n i) = includeNumbers i
+  innerNumbers (arithmetic n o a b) = innerNumbers a ++ innerNumbers b
+  innerNumbers (comprehension n t a) = textNumbers t ++ innerNumbers a
+
+  pub innersNumbers : Exprs → List ℕ
+  innersNumbers none = []
+  innersNumbers (more a xs) = innerNumbers a ++ innersNumbers xs
+
+-- each node of an expression is of one of the two
+module _ (m : ℕ) where
+  one-more : (a b l : List ℕ) (n : ℕ) → occurrences m a + occurrences m b ≡ occurrences m l → occurrences m (a ++ (n ∷ [])) + occurrences m b ≡ occurrences m (l ++ (n ∷ []))
+  one-more a b l n e = let p = occurrences-append m a (n ∷ []) in let q = occurrences-append m l (n ∷ []) in omega (arith, p, q, e)
+
+  joined : (a b l a′ b′ l′ : List ℕ) → occurrences m a + occurrences m b ≡ occurrences m l → occurrences m a′ + occurrences m b′ ≡ occurrences m l′ → occurrences m (a ++ a′) + occurrences m (b ++ b′) ≡ occurrences m (l ++ l′)
+  joined a b l a′ b′ l′ e f = let p = occurrences-append m a a′ in let q = occurrences-append m b b′ in let r = occurrences-append m l l′ in omega (arith, p, q, r, e, f)
+
+  none-left : (l : List ℕ) → occurrences m l + occurrences m [] ≡ occurrences m l
+  unfolding occurrences
+  none-left l = omega arith
+
+  no-own : (l : List ℕ) → occurrences m [] + occurrences m l ≡ occurrences m l
+  unfolding occurrences
+  no-own l = omega arith
+
+  mutual
+    unfolding ownNumbers innerNumbers exprNumbers
+
+    pub parted : (a : Expr) → occurrences m (ownNumbers a) + occurrences m (innerNumbers a) ≡ occurrences m (exprNumbers a)
+    parted (reference n i xs) = one-more (ownsNumbers xs) (innersNumbers xs) (exprsNumbers xs) n (parteds xs)
+    parted (number n v) = none-left (n ∷ [])
+    parted (integers n) = none-left (n ∷ [])
+    parted (set n xs) = one-more (ownsNumbers xs) (innersNumbers xs) (exprsNumbers xs) n (parteds xs)
+    parted (tuple n xs) = one-more (ownsNumbers xs) (innersNumbers xs) (exprsNumbers xs) n (parteds xs)
+    parted (product n xs) = one-more (ownsNumbers xs) (innersNumbers xs) (exprsNumbers xs) n (parteds xs)
+    parted (power n a) = one-more (ownNumbers a) (innerNumbers a) (exprNumbers a) n (parted a)
+    parted (application n a b) =
+        one-more (ownNumbers a ++ ownNumbers b) (innerNumbers a ++ innerNumbers b) (exprNumbers a ++ exprNumbers b) n (joined (ownNumbers a) (innerNumbers a) (exprNumbers a) (ownNumbers b) (innerNumbers b) (exprNumbers b) (parted a) (parted b))
+    parted (selection n a i) = one-more (ownNumbers a) (innerNumbers a) (exprNumbers a) n (parted a)
+    parted (theta n s k) = none-left (n ∷ [])
+    parted (schemaSet n i) = one-more [] (includeNumbers i) (includeNumbers i) n (no-own (includeNumbers i))
+    parted (arithmetic n o a b) =
+        one-more (ownNumbers a ++ ownNumbers b) (innerNumbers a ++ innerNumbers b) (exprNumbers a ++ exprNumbers b) n (joined (ownNumbers a) (innerNumbers a) (exprNumbers a) (ownNumbers b) (innerNumbers b) (exprNumbers b) (parted a) (parted b))
+    parted (comprehension n t a) =
+        one-more (ownNumbers a) (textNumbers t ++ innerNumbers a) (textNumbers t ++ exprNumbers a) n (joined [] (textNumbers t) (textNumbers t) (ownNumbers a) (innerNumbers a) (exprNumbers a) (no-own (textNumbers t)) (parted a))
+
+    parteds : (xs : Exprs) → occurrences m (ownsNumbers xs) + occurrences m (innersNumbers xs) ≡ occurrences m (exprsNumbers xs)
+    parteds none = none-left []
+    parteds (more a xs) = joined (ownNumbers a) (innerNumbers a) (exprNumbers a) (ownsNumbers xs) (innersNumbers xs) (exprsNumbers xs) (parted a) (parteds xs)
+
+-- ---- what the own unknowns of items are: x is unknown k of node m, at most the sixth; and m is one of the list
+abbrev pub OwnSlot : ℕ → ℕ → Type 0
+OwnSlot m x = (k : ℕ) × (k ≤ 6) × (x ≡ slot m k)
+
+abbrev pub SlotIn : List ℕ → ℕ → Type 0
+SlotIn l x = (m : ℕ) × (has m l ≡ true) × OwnSlot m x
+
+pub in-left : (a b : List ℕ) (x : ℕ) → SlotIn a x → SlotIn (a ++ b) x
+in-left a b x s = (s .0, has-left (s .0) a b (s .1), s .2)
+
+pub in-right : (a b : List ℕ) (x : ℕ) → SlotIn b x → SlotIn (a ++ b) x
+in-right a b x s = (s .0, has-right (s .0) a b (s .1), s .2)
+
+pub in-one : (n x : ℕ) → OwnSlot n x → SlotIn (n ∷ []) x
+in-one n x o = (n, first-has n [], o)
+
+in-last : (a : List ℕ) (n x : ℕ) → OwnSlot n x → SlotIn (a ++ (n ∷ [])) x
+in-last a n x o = in-right a (n ∷ []) x (in-one n x o)
+
+-- items on whose own unknowns any two tables agree have none
+pub owns-none : (t : Items) → ((σ τ : Table) → Agree t σ τ) → (x : ℕ) → Owns t x → ⊥
+owns-none t h x q = let e = owned t (λ y. ℤ) (λ y. ℙℤ) (h (λ y. ℤ) (λ y. ℙℤ)) x q in let z : _≡_ {A = ℕ} 0 1 = cc in omega arith
+
+-- every unknown
+abbrev pub Every : ℕ → Type 0
+Every y = Unit {0}
+
+pub every-in : (l : List ℕ) → AllIn (Own Every) l
+every-in [] = tt
+every-in (m ∷ l) = (λ k u. tt, every-in l)
+
+module _ (x : ℕ) where
+  typed-owns : (n : ℕ) (t : Term) → Owns (typed n t) x → OwnSlot n x
+  unfolding Owns
+  typed-owns n t (inl e) = (0, omega arith, sym e)
+  typed-owns n t (inr q) = absurd q
+
+  row-owns : (n k p : ℕ) → k + p ≤ 7 → Owns (freshRow n k p) x → OwnSlot n x
+  unfolding freshRow Owns
+  row-owns n k zero l q = absurd q
+  row-owns n k (suc p) l (inl e) = (k, omega (arith, l), sym e)
+  row-owns n k (suc p) l (inr q) = row-owns n (suc k) p (omega (arith, l)) q
+
+  pub power-owns : (n k : ℕ) (a : Expr) → Owns (isPower n k a) x → x ≡ slot n k
+  unfolding Owns
+  power-owns n k a (inl e) = sym e
+  power-owns n k a (inr q) = absurd q
+
+  powers-own : (n : ℕ) (xs : Exprs) (k : ℕ) → k + exprsLength xs ≤ 7 → Owns (arePowers n xs k) x → OwnSlot n x
+  unfolding arePowers Owns exprsLength
+  powers-own n none k l q = absurd q
+  powers-own n (more a xs) k l (inl q) = (k, omega (arith, l), power-owns n k a q)
+  powers-own n (more a xs) k l (inr q) = powers-own n xs (suc k) (omega (arith, l)) q
+
+  members-own : (n : ℕ) (xs : Exprs) → Owns (areMembers n xs) x → ⊥
+  unfolding areMembers Owns
+  members-own n none q = q
+  members-own n (more a xs) (inl q) = q
+  members-own n (more a xs) (inr q) = members-own n xs q
+
+  cond-owns : (C : Type 0) (b : Bool) (t u : Items) → (Owns t x → C) → (Owns u x → C) → Owns (cond b t u) x → C
+  cond-owns C true t u f g q = f q
+  cond-owns C false t u f g q = g q
+
+  reference-owns : (n : ℕ) (xs : Exprs) (m : Named) → AtMostSix xs → NamedOver Every m → Owns (referenceItems n xs m) x → OwnSlot n x
+  unfolding referenceItems Owns NamedOver
+  reference-owns n none unnamed f h q = absurd q
+  reference-owns n (more a xs) unnamed f h q = absurd q
+  reference-owns n none (ofLocal t) f h q = typed-owns n t q
+  reference-owns n (more a xs) (ofLocal t) f h q = absurd q
+  reference-owns n none (ofGlobal p g) f h (inl q) = row-owns n 1 p (omega (arith, h)) q
+  reference-owns n none (ofGlobal p g) f h (inr q) = typed-owns n (instance (row n 1 p) g) q
+  reference-owns n (more a xs) (ofGlobal p g) f h q =
+      cond-owns (OwnSlot n x) (eqb (exprsLength (more a xs)) p) (arePowers n (more a xs) 1 ⨾ typed n (instance (row n 1 p) g)) (refusal 32 n) both (λ z. absurd z) q
+    where
+      both : Owns (arePowers n (more a xs) 1) x ⊎ Owns (typed n (instance (row n 1 p) g)) x → OwnSlot n x
+      both (inl z) = powers-own n (more a xs) 1 (omega (arith, f)) z
+      both (inr z) = typed-owns n (instance (row n 1 p) g) z
+
+  refuseIf-owns : (b : Bool) (f n : ℕ) → Owns (refuseIf b f n) x → ⊥
+  unfolding refuseIf Owns
+  refuseIf-owns true f n q = q
+  refuseIf-owns false f n q = q
+
+  thetaName-owns : (b : Bool) (n : ℕ) (m : Named) → Owns (thetaName b n m) x → ⊥
+  unfolding thetaName Owns
+  thetaName-owns false n m q = q
+  thetaName-owns true n unnamed q = q
+  thetaName-owns true n (ofLocal t) q = q
+  thetaName-owns true n (ofGlobal zero g) q = q
+  thetaName-owns true n (ofGlobal (suc p) g) q = q
+
+  thetaNames-own : (n k : ℕ) (s : Signature) (Γ : Scope) → Owns (thetaNames n k s Γ) x → ⊥
+  unfolding thetaNames Owns
+  thetaNames-own n k noNames Γ q = q
+  thetaNames-own n k (naming i t s) Γ (inl q) = thetaName-owns (takes k i) n (nameAt (decorate k i) Γ) q
+  thetaNames-own n k (naming i t s) Γ (inr q) = thetaNames-own n k s Γ q
+
+  theta-owns : (n k : ℕ) (f : Found) (Γ : Scope) → Owns (thetaItems n k f Γ) x → OwnSlot n x
+  unfolding thetaItems Owns
+  theta-owns n k noSchema Γ q = absurd q
+  theta-owns n k (aSchema p g) Γ (inl q) = absurd (thetaNames-own n k (componentsOf (instance nil g)) Γ q)
+  theta-owns n k (aSchema p g) Γ (inr (inl q)) = absurd (refuseIf-owns (ltb 0 p) 32 n q)
+  theta-owns n k (aSchema p g) Γ (inr (inr (inl q))) = absurd (refuseIf-owns (someStroked k (componentsOf (instance nil g))) 37 n q)
+  theta-owns n k (aSchema p g) Γ (inr (inr (inr q))) = typed-owns n (bindingOf (thetaSignature k (componentsOf (instance nil g)) Γ)) q
+
+  smalls-own : (n : ℕ) (s : Signature) → Owns (smallTypes n s) x → ⊥
+  unfolding smallTypes Owns
+  smalls-own n noNames q = q
+  smalls-own n (naming i t s) (inl q) = q
+  smalls-own n (naming i t s) (inr q) = smalls-own n s q
+
+  -- an expression's own unknowns are of its own nodes
+  mutual
+    unfolding exprItems ownNumbers FewExpr Owns
+
+    pub expr-owns : (a : Expr) (Γ : Scope) → FewExpr a → ScopeOver Every Γ → Owns (exprItems a Γ) x → SlotIn (ownNumbers a) x
+    expr-owns (reference n i xs) Γ f s (inl q) = in-left (ownsNumbers xs) (n ∷ []) x (exprs-own xs Γ (f .1) s q)
+    expr-owns (reference n i xs) Γ f s (inr q) = in-last (ownsNumbers xs) n x (reference-owns n xs (nameAt i Γ) (f .0) (name-over Every i Γ s) q)
+    expr-owns (number n v) Γ f s q = in-one n x (typed-owns n integer q)
+    expr-owns (integers n) Γ f s q = in-one n x (typed-owns n (powerOf integer) q)
+    expr-owns (set n xs) Γ f s (inl q) = in-left (ownsNumbers xs) (n ∷ []) x (exprs-own xs Γ f s q)
+    expr-owns (set n xs) Γ f s (inr (inl e)) = in-last (ownsNumbers xs) n x (1, omega arith, sym e)
+    expr-owns (set n xs) Γ f s (inr (inr (inl q))) = absurd (members-own n xs q)
+    expr-owns (set n xs) Γ f s (inr (inr (inr q))) = in-last (ownsNumbers xs) n x (typed-owns n (powerOf (unknownAt n 1)) q)
+    expr-owns (tuple n xs) Γ f s (inl q) = in-left (ownsNumbers xs) (n ∷ []) x (exprs-own xs Γ f s q)
+    expr-owns (tuple n xs) Γ f s (inr q) = in-last (ownsNumbers xs) n x (typed-owns n (productOf (typesOf xs)) q)
+    expr-owns (product n xs) Γ f s (inl q) = in-left (ownsNumbers xs) (n ∷ []) x (exprs-own xs Γ (f .1) s q)
+    expr-owns (product n xs) Γ f s (inr (inl q)) = in-last (ownsNumbers xs) n x (powers-own n xs 1 (omega (arith, f .0)) q)
+    expr-owns (product n xs) Γ f s (inr (inr q)) = in-last (ownsNumbers xs) n x (typed-owns n (powerOf (productOf (row n 1 (exprsLength xs)))) q)
+    expr-owns (power n a) Γ f s (inl q) = in-left (ownNumbers a) (n ∷ []) x (expr-owns a Γ f s q)
+    expr-owns (power n a) Γ f s (inr (inl q)) = in-last (ownNumbers a) n x (1, omega arith, power-owns n 1 a q)
+    expr-owns (power n a) Γ f s (inr (inr q)) = in-last (ownNumbers a) n x (typed-owns n (powerOf (powerOf (unknownAt n 1))) q)
+    expr-owns (application n a b) Γ f s (inl q) = in-left (ownNumbers a ++ ownNumbers b) (n ∷ []) x (in-left (ownNumbers a) (ownNumbers b) x (expr-owns a Γ (f .0) s q))
+    expr-owns (application n a b) Γ f s (inr (inl q)) = in-left (ownNumbers a ++ ownNumbers b) (n ∷ []) x (in-right (ownNumbers a) (ownNumbers b) x (expr-owns b Γ (f .1) s q))
+    expr-owns (application n a b) Γ f s (inr (inr (inl e))) = in-last (ownNumbers a ++ ownNumbers b) n x (0, omega arith, sym e)
+    expr-owns (application n a b) Γ f s (inr (inr (inr q))) = absurd q
+    expr-owns (selection n a i) Γ f s (inl q) = in-left (ownNumbers a) (n ∷ []) x (expr-owns a Γ f s q)
+    expr-owns (selection n a i) Γ f s (inr (inl e)) = in-last (ownNumbers a) n x (0, omega arith, sym e)
+    expr-owns (selection n a i) Γ f s (inr (inr q)) = absurd q
+    expr-owns (theta n c k) Γ f s q = in-one n x (theta-owns n k (schemaNamed c Γ) Γ q)
+    expr-owns (schemaSet n i) Γ f s (inl q) = absurd (owns-none (includeItems i Γ) (λ σ τ. include-agrees i Γ σ τ) x q)
+    expr-owns (schemaSet n i) Γ f s (inr (inl q)) = absurd (smalls-own (includeNode i) (includeSignature i Γ) q)
+    expr-owns (schemaSet n i) Γ f s (inr (inr q)) = in-one n x (typed-owns n (powerOf (bindingOf (includeSignature i Γ))) q)
+    expr-owns (arithmetic n c a b) Γ f s (inl q) = in-left (ownNumbers a ++ ownNumbers b) (n ∷ []) x (in-left (ownNumbers a) (ownNumbers b) x (expr-owns a Γ (f .0) s q))
+    expr-owns (arithmetic n c a b) Γ f s (inr (inl q)) = in-left (ownNumbers a ++ ownNumbers b) (n ∷ []) x (in-right (ownNumbers a) (ownNumbers b) x (expr-owns b Γ (f .1) s q))
+    expr-owns (arithmetic n c a b) Γ f s (inr (inr (inl q))) = absurd q
+    expr-owns (arithmetic n c a b) Γ f s (inr (inr (inr (inl q)))) = absurd q
+    expr-owns (arithmetic n c a b) Γ f s (inr (inr (inr (inr q)))) = in-last (ownNumbers a ++ ownNumbers b) n x (typed-owns n integer q)
+    expr-owns (comprehension n t a) Γ f s (inl q) = absurd (owns-none (textItems t Γ blank) (λ σ τ. text-agrees t Γ blank σ τ) x q)
+    expr-owns (comprehension n t a) Γ f s (inr (inl q)) =
+        in-left (ownNumbers a) (n ∷ []) x (expr-owns a (inside t Γ) (f .1) (inside-over Every t Γ (every-in (textNumbers t)) (f .0) s) q)
+    expr-owns (comprehension n t a) Γ f s (inr (inr q)) = in-last (ownNumbers a) n x (typed-owns n (powerOf (typeOf a)) q)
+
+    exprs-own : (xs : Exprs) (Γ : Scope) → FewExprs xs → ScopeOver Every Γ → Owns (exprsItems xs Γ) x → SlotIn (ownsNumbers xs) x
+    exprs-own none Γ f s q = absurd q
+    exprs-own (more a xs) Γ f s (inl q) = in-left (ownNumbers a) (ownsNumbers xs) x (expr-owns a Γ (f .0) s q)
+    exprs-own (more a xs) Γ f s (inr q) = in-right (ownNumbers a) (ownsNumbers xs) x (exprs-own xs Γ (f .1) s q)

@@ -1,0 +1,56 @@
+-- "The equations through this node" (33), "some solution of the equations so far" (35) and "a piece has several solutions" (34) speak of the node's own
+-- piece: what the pieces before and inside it, merging (36) and sizes (38) ask of the types makes no difference (R15; proofs/PieceEquations).
+use mathlib.Core.Path.{_≡_}
+use mathlib.Core.List.{List, [], _∷_}
+use mathlib.Core.Option.{some}
+use mathlib.Core.Logic.{_↔_}
+use Prim.Native.Nat.{ℕ}
+use Rattle.syntax.specs.Tree.{Paragraph}
+use Rattle.types.specs.Types.{under}
+use Rattle.types.specs.Component.{componentType}
+use Rattle.typing.specs.Unknowns.{Table}
+use Rattle.typing.specs.Items.{Items, skip, _⨾_, fresh, equate, select, small, refusal, piece, Known, Meets, Agree, Any, And, Refuses}
+use Rattle.typing.specs.Dictionary.{Dictionary}
+use Rattle.typing.specs.Rules.{paragraphItems}
+use Rattle.typing.specs.Entries.{extend}
+use Rattle.typing.specs.Pieces.{Owns}
+
+-- The table solves the own equations of a piece, those of 33 and of its Selects; not those of a piece inside it, of 36, or of sizes.
+unfoldable pub Solves : Items → Table → Type 0
+Solves skip τ = Unit {0}
+Solves (a ⨾ b) τ = Solves a τ × Solves b τ
+Solves (fresh x) τ = Unit {0}
+Solves (equate f n a b) τ = f ≡ 33 → under τ a ≡ under τ b
+Solves (select n i a x) τ = componentType i (under τ a) ≡ some (τ x)
+Solves (small n a) τ = Unit {0}
+Solves (refusal f n) τ = Unit {0}
+Solves (piece n t) τ = Unit {0}
+
+-- σ is τ, but for the own unknowns of the piece w.
+abbrev pub Beside : Items → Table → Table → Type 0
+Beside w σ τ = (x : ℕ) → (Owns w x → ⊥) → σ x ≡ τ x
+
+-- P are the tables that meet all that comes before in the paragraph, E those that solve the own equations of the piece w so far. A solution of these
+-- equations alone: any types for the piece's own unknowns that solve E, beside a typing of what comes before.
+abbrev pub OwnSolution : Items → (Table → Type 0) → (Table → Type 0) → Table → Type 0
+OwnSolution w P E σ = ((τ : Table) × P τ × Beside w σ τ) × E σ
+
+-- 33, 35 and 34 by the solutions of the own equations of their piece, at each item; w: the whole piece that the items are of.
+unfoldable pub ByOwnEquations : Items → Items → (Table → Type 0) → (Table → Type 0) → Type 0
+ByOwnEquations skip w P E = Unit {0}
+ByOwnEquations (a ⨾ b) w P E = ByOwnEquations a w P E × ByOwnEquations b w (And P a) (λ τ. E τ × Solves a τ)
+ByOwnEquations (fresh x) w P E = Unit {0}
+ByOwnEquations (equate f n a b) w P E = f ≡ 33 → (Refuses (equate f n a b) P 33 n ↔ ((σ : Table) → OwnSolution w P E σ → under σ a ≡ under σ b → ⊥))
+ByOwnEquations (select n i a x) w P E =
+    Refuses (select n i a x) P 35 n ↔ ((σ : Table) × OwnSolution w P E σ × (Known (componentType i (under σ a)) → ⊥))
+ByOwnEquations (small n a) w P E = Unit {0}
+ByOwnEquations (refusal f n) w P E = Unit {0}
+ByOwnEquations (piece n t) w P E =
+    ByOwnEquations t t P Any
+    × (((σ τ : Table) × And P t σ × And P t τ × (Agree t σ τ → ⊥))
+    ↔ ((σ τ : Table) × OwnSolution t (And P t) (Solves t) σ × OwnSolution t (And P t) (Solves t) τ × (Agree t σ τ → ⊥)))
+
+-- through paragraphs, over the dictionary so far, with any typing of each; no piece is around a paragraph
+unfoldable pub PiecesAlone : List Paragraph → Dictionary → Type 0
+PiecesAlone [] D = Unit {0}
+PiecesAlone (p ∷ ps) D = ByOwnEquations (paragraphItems p D) skip Any Any × ((τ : Table) → Meets (paragraphItems p D) τ → PiecesAlone ps (extend p D τ))
