@@ -1,11 +1,11 @@
 -- 42's test on a dictionary area, and at an entry of a state.
 use mathlib.Core.Path.{_≡_, refl, sym, ap, subst, _∙_}
 use mathlib.Core.Bool.{Bool, true, false, cond}
-use mathlib.Core.List.{List, [], _∷_, _++_}
-use Prim.Native.Nat.{ℕ, zero, suc, _+_, _-_, _≤_, _<_}
+use mathlib.Core.List.{List, [], _++_}
+use Prim.Native.Nat.{ℕ, _-_, _≤_}
 use native.Mathlib.Omega.{arith}
 use lib.Dec.{leb}
-use lib.ListN.{length, getD, drop}
+use lib.ListN.{length, drop}
 use borrow.Author.Tests.{eqb-true, leb-true}
 use Rattle.words.proofs.Loops.{and-left, and-right}
 use Rattle.layout.specs.Layout.{count, laidOut, part}
@@ -24,16 +24,16 @@ use Rattle.typing.proofs.CheckRight.{accepted-says}
 use Rattle.typing.proofs.FormedCheck.{check-formed}
 use Rattle.dictionary.specs.Holds.{Holds}
 use Rattle.dictionary.specs.Lookup.{typeAt, NameFound}
-use Rattle.state_words.specs.Names.{nobody, Name, documentNames}
+use Rattle.state_words.specs.Names.{Name, documentNames}
 use Rattle.state_words.specs.Decode.{valueOf}
 use Rattle.state_words.specs.States.{nameAt, sizesIn, valueNumber, isPaired, stateForm, stateOf}
 use Rattle.evaluation.proofs.Decoding.{Words, value-read}
 use Rattle.evaluation.proofs.StateWords.{words-part}
 use Rattle.evaluation.proofs.StatePlace.{state-well}
-use Rattle.fit.specs.Recorded.{Every, none, also}
 use Rattle.fit.specs.Fit.{recordedWords, typeNumber}
 use Rattle.fit.proofs.OfType.{of-type, of-has, has-of}
-use Rattle.soundness.proofs.Fitted.{RecordedAs, Recording, document-recorded, formed-in}
+use Rattle.soundness.proofs.EachName.{every-at}
+use Rattle.soundness.proofs.RecordedNames.{RecordedAs, Recording, document-recorded, formed-in}
 use Rattle.recorded.specs.Roles.{roleOf}
 use Rattle.recorded.specs.Held.{Held, Tested}
 use Rattle.recorded.specs.declared.names.Role.the-variants.{Given, Declared}
@@ -70,11 +70,6 @@ module _ (dict : List ℕ) (id k : ℕ) (w : List ℕ) (found : (E : Dictionary)
           c ∙ typed-value v (words g ++ R .after) (omega (arith, l, ap length x)) ∙ test-front v g f s (R .after)
 
 -- ---- an entry of the state
-every-at : {P : Name → Type 0} (ns : List Name) → Every P ns → (j : ℕ) → j < length ns → P (getD ns j nobody)
-every-at [] none j l = absurd (omega arith)
-every-at (n ∷ ns) (also p h) zero l = p
-every-at (n ∷ ns) (also p h) (suc j) l = every-at ns h j (omega arith)
-
 test-fine : (b : Bool) → _≡_ {A = ℕ} (cond b 0 41) 0 → b ≡ true
 test-fine true e = refl
 test-fine false e = absurd (omega arith)

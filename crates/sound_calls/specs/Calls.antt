@@ -9,8 +9,7 @@ use Rattle.typing.specs.Check.{accepted, paragraphsOf, checkOf}
 use Rattle.typing.specs.Areas.{Checked}
 use Rattle.typing.specs.declared.Finding.the-variants.{Accepted}
 use Rattle.state_words.specs.Names.{documentNames}
-use Rattle.state_words.specs.States.{valueIn}
-use Rattle.fit.specs.Recorded.{Fits}
+use Rattle.fit.specs.Recorded.{StateFits}
 use Rattle.fit.specs.Areas.{Fitted}
 use Rattle.evaluation.specs.Claims.{Listed}
 use Rattle.evaluation.specs.Outcomes.{Event}
@@ -31,7 +30,7 @@ pub record SoundCall (doc state before : List ℕ) (r : Finding) : Type 0 where
 
 -- each value of the state is of the type that the accepted dictionary records for its name
 pub record OfRecordedTypes (doc state : List ℕ) (d w : ℕ) : Type 0 where
-  pub fits : (E : Dictionary) → checkOf doc d w ≡ accepted E → Fits E (documentNames (treeOf doc)) (valueIn (documentNames (treeOf doc)) state)
+  pub fits : (E : Dictionary) → checkOf doc d w ≡ accepted E → StateFits E (documentNames (treeOf doc)) state
 
 -- what the fit call accepts, every run call of that document and state is sound on
 pub record FittedRuns : Type 0 where

@@ -3,10 +3,10 @@ use mathlib.Core.Path.{_≡_, refl, ap, sym, subst, _∙_}
 use mathlib.Core.Logic.{_↔_}
 use mathlib.Core.List.{List}
 use mathlib.Core.Bool.{Bool, true, false, cond}
-use Prim.Native.Nat.{ℕ, zero, suc, _-_, _≤_, _<_}
+use Prim.Native.Nat.{ℕ, _-_, _≤_, _<_}
 use native.Mathlib.Omega.{arith}
 use native.Mathlib.Decide.{decLt}
-use lib.ListN.{length, getD}
+use lib.ListN.{length}
 use Rattle.layout.specs.Layout.{part}
 use Rattle.syntax.specs.Decode.{treeOf}
 use Rattle.syntax.specs.declared.Reading.the-variants.{Readable, Refused}
@@ -18,23 +18,19 @@ use Rattle.typing.specs.WellFormed.{FormedDictionary, FormedAnswer}
 use Rattle.typing.proofs.CheckRight.{accepted-says}
 use Rattle.typing.proofs.FormedCheck.{check-formed}
 use Rattle.typing.proofs.CheckNumbers.{check-numbers}
-use Rattle.state_words.specs.Names.{Name, nobody, documentNames}
+use Rattle.state_words.specs.Names.{Name, documentNames}
 use Rattle.state_words.specs.Decode.{valueOf}
 use Rattle.state_words.specs.States.{nameAt, sizesIn}
 use Rattle.evaluation.specs.Claims.{WellFormed}
 use Rattle.evaluation.proofs.StatePlace.{state-ill, state-well}
 use Rattle.fit.specs.HasType.{Has}
 use Rattle.fit.specs.Fit.{recordedWords, typeNumber}
-use Rattle.fit.specs.Recorded.{Every, none, also}
+use Rattle.fit.specs.Recorded.{EntryFits, StateFits}
 use Rattle.fit.specs.Claims.{Finds, unchecked, illFormed, mistyped, fits}
 use Rattle.fit.proofs.FitFindings.{fit-finds, number-right}
-use Rattle.soundness.specs.FitTypes.{Right, aSize, aValue, FirstWrong, AllRight, FitByTypes}
-use Rattle.soundness.proofs.Fitted.{RecordedAs, formed-in, document-recorded}
-
-every-at : {P : Name → Type 0} {ns : List Name} → Every P ns → (k : ℕ) → suc k ≤ length ns → P (getD ns k nobody)
-every-at none k l = absurd (omega arith)
-every-at (also p h) zero l = p
-every-at (also p h) (suc k) l = every-at h k (omega arith)
+use Rattle.soundness.specs.FitTypes.{FirstUnfit, FitByTypes}
+use Rattle.soundness.proofs.EachName.{every-at}
+use Rattle.soundness.proofs.RecordedNames.{RecordedAs, formed-in, document-recorded}
 
 no-answer : {A : Type 0} (E : Dictionary) (n p : ℕ) → accepted E ≡ refused n p → A
 no-answer E n p e = let z : _≡_ {A = ℕ} 0 1 = cc in absurd (omega arith)
@@ -75,8 +71,8 @@ module _ (doc state : List ℕ) (d w : ℕ) (E : Dictionary) (check : checkOf do
 
   recording : (k : ℕ) → 1 ≤ k → k ≤ length ns → RecordedAs (nameAt ns k .isGiven) E (nameAt ns k .identifier)
   recording k l h =
-      let e : suc (k - 1) ≤ length ns = omega arith in
-      every-at (document-recorded (treeOf doc) d E (accepted-says doc d w E check .passes)) (k - 1) e
+      let e : k - 1 < length ns = omega arith in
+      every-at ns (document-recorded (treeOf doc) d E (accepted-says doc d w E check .passes)) (k - 1) e
 
   -- what 42's test says of entry k
   abbrev passes : ℕ → Bool
@@ -109,18 +105,18 @@ module _ (doc state : List ℕ) (d w : ℕ) (E : Dictionary) (check : checkOf do
   one-type : (i : ℕ) (g h : Ty) → nameIn i E ≡ ofGlobal 0 g → nameIn i E ≡ ofGlobal 0 h → g ≡ h
   one-type i g h e f = cc
 
-  zero-right : (k : ℕ) → 1 ≤ k → k ≤ length ns → typeNumber E ns state k ≡ 0 → Right E ns state k
-  zero-right k l h z = either (nameAt ns k .isGiven) refl
-    where
-      either : (b : Bool) → nameAt ns k .isGiven ≡ b → Right E ns state k
-      either true e = aSize e
-      either false e = let t = typed k l h e in aValue (t .type) e (t .recorded) (t .tested .0 z)
+  zero-fits : (k : ℕ) → 1 ≤ k → k ≤ length ns → typeNumber E ns state k ≡ 0 → EntryFits E ns state k
+  zero-fits k l h z e = let t = typed k l h e in (t .type, t .recorded, t .tested .0 z)
 
-  right-zero : (k : ℕ) → 1 ≤ k → k ≤ length ns → Right E ns state k → typeNumber E ns state k ≡ 0
-  right-zero k l h (aSize e) = size-zero k e
-  right-zero k l h (aValue g e r v) =
-      let t = typed k l h e in
-      t .tested .1 (subst (λ (x : Ty). Has (valueOf (sizesIn ns state) (part state k)) x) (one-type (nameAt ns k .identifier) g (t .type) r (t .recorded)) v)
+  fits-zero : (k : ℕ) → 1 ≤ k → k ≤ length ns → EntryFits E ns state k → typeNumber E ns state k ≡ 0
+  fits-zero k l h f = either (nameAt ns k .isGiven) refl
+    where
+      either : (b : Bool) → nameAt ns k .isGiven ≡ b → typeNumber E ns state k ≡ 0
+      either true e = size-zero k e
+      either false e =
+          let t = typed k l h e in
+          let v = f e in
+          t .tested .1 (subst (λ (x : Ty). Has (valueOf (sizesIn ns state) (part state k)) x) (one-type (nameAt ns k .identifier) (v .0) (t .type) (v .1) (t .recorded)) (v .2))
 
   not-zero : (k : ℕ) → (typeNumber E ns state k ≡ 0 → ⊥) → typeNumber E ns state k ≡ 42
   not-zero k z = either (typeNumber E ns state k) (number k) refl
@@ -155,7 +151,7 @@ module _ (doc state : List ℕ) (d w : ℕ) (E : Dictionary) (check : checkOf do
 -- what an answer of the fit call says, the check having accepted with E
 module _ (doc state : List ℕ) (d w : ℕ) (E : Dictionary) where
   accepted-fits : (a : Answer) → Finds doc state d w (documentNames (treeOf doc)) a → a ≡ accepted E
-      → (checkOf doc d w ≡ accepted E) × WellFormed (documentNames (treeOf doc)) state × AllRight E (documentNames (treeOf doc)) state
+      → (checkOf doc d w ≡ accepted E) × WellFormed (documentNames (treeOf doc)) state × StateFits E (documentNames (treeOf doc)) state
   accepted-fits _ (unchecked {n = n} {p = p} c) e = no-answer E n p (sym e)
   accepted-fits _ (illFormed {p = p} c i) e = no-answer E 41 p (sym e)
   accepted-fits _ (mistyped {k = k} c f l h n b) e = no-answer E 42 k (sym e)
@@ -163,10 +159,10 @@ module _ (doc state : List ℕ) (d w : ℕ) (E : Dictionary) where
       let s = same-dictionary D E e in
       let check : checkOf doc d w ≡ accepted E = c ∙ e in
       let zeros : (k : ℕ) → 1 ≤ k → k ≤ length (documentNames (treeOf doc)) → typeNumber E (documentNames (treeOf doc)) state k ≡ 0 = subst (λ (X : Dictionary). (k : ℕ) → 1 ≤ k → k ≤ length (documentNames (treeOf doc)) → typeNumber X (documentNames (treeOf doc)) state k ≡ 0) s n in
-      (check, f, record { right = λ k l h. zero-right doc state d w E check k l h (zeros k l h) })
+      (check, f, record { entry = λ k l h. zero-fits doc state d w E check k l h (zeros k l h) })
 
   refused-fits : checkOf doc d w ≡ accepted E → (k : ℕ) (a : Answer) → Finds doc state d w (documentNames (treeOf doc)) a → a ≡ refused 42 k
-      → WellFormed (documentNames (treeOf doc)) state × FirstWrong E (documentNames (treeOf doc)) state k
+      → WellFormed (documentNames (treeOf doc)) state × FirstUnfit E (documentNames (treeOf doc)) state k
   refused-fits check k _ (unchecked {n = n} {p = p} c) e = no-answer E n p (sym check ∙ c)
   refused-fits check k _ (illFormed {p = p} c i) e = absurd (let n = same-number 41 p 42 k e in omega arith)
   refused-fits check k _ (mistyped {E = D} {k = i} c f l h n b) e =
@@ -186,22 +182,22 @@ module _ (doc state : List ℕ) (d w : ℕ) (E : Dictionary) where
           value = v;
           type = t .type;
           recorded = t .recorded;
-          wrong = λ x. (let z = t .tested .1 x in omega arith);
-          before = λ j q r. zero-right doc state d w E check j q (omega arith) (low j q r);
+          unfit = λ x. (let z = t .tested .1 x in omega arith);
+          before = λ j q r. zero-fits doc state d w E check j q (omega arith) (low j q r);
         },
       )
   refused-fits check k _ (fits {E = D} c f n) e = no-answer D 42 k e
 
-  first-wrong : checkOf doc d w ≡ accepted E → (k : ℕ) → FirstWrong E (documentNames (treeOf doc)) state k → typeNumber E (documentNames (treeOf doc)) state k ≡ 42
-  first-wrong check k f =
+  first-unfit : checkOf doc d w ≡ accepted E → (k : ℕ) → FirstUnfit E (documentNames (treeOf doc)) state k → typeNumber E (documentNames (treeOf doc)) state k ≡ 42
+  first-unfit check k f =
       let t = typed doc state d w E check k (f .from) (f .to) (f .value) in
       let ns = documentNames (treeOf doc) in
       not-zero doc state d w E check k
-      (λ z. f .wrong (subst (λ (x : Ty). Has (valueOf (sizesIn ns state) (part state k)) x) (one-type doc state d w E check (nameAt ns k .identifier) (t .type) (f .type) (t .recorded) (f .recorded)) (t .tested .0 z)))
+      (λ z. f .unfit (subst (λ (x : Ty). Has (valueOf (sizesIn ns state) (part state k)) x) (one-type doc state d w E check (nameAt ns k .identifier) (t .type) (f .type) (t .recorded) (f .recorded)) (t .tested .0 z)))
 
 -- 42 comes after the check's acceptance: no number of the check is over 38
 mistyped-fits : (doc state : List ℕ) (d w k : ℕ) (a : Answer) → Finds doc state d w (documentNames (treeOf doc)) a → a ≡ refused 42 k
-    → (E : Dictionary) × (checkOf doc d w ≡ accepted E) × WellFormed (documentNames (treeOf doc)) state × FirstWrong E (documentNames (treeOf doc)) state k
+    → (E : Dictionary) × (checkOf doc d w ≡ accepted E) × WellFormed (documentNames (treeOf doc)) state × FirstUnfit E (documentNames (treeOf doc)) state k
 mistyped-fits doc state d w k _ (unchecked {n = n} {p = p} c) e = absurd (let z = same-number n p 42 k e in let l = check-numbers doc d w n p c in omega arith)
 mistyped-fits doc state d w k _ (illFormed {p = p} c i) e = absurd (let n = same-number 41 p 42 k e in omega arith)
 mistyped-fits doc state d w k _ (mistyped {E = E} {k = j} c f l h n b) e = let r = refused-fits doc state d w E c k (refused 42 j) (mistyped {k = j} c f l h n b) e in (E, c, r .0, r .1)
@@ -211,11 +207,11 @@ pub fit-by-types : FitByTypes
 fit-by-types = record {
   accepts = λ doc state d w E. (
     λ e. accepted-fits doc state d w E _ (fit-finds doc state d w) e,
-    λ h. fits-one doc state d w E (h .0) _ (fit-finds doc state d w) (h .1) (λ k l t. right-zero doc state d w E (h .0) k l t (h .2 .right k l t)),
+    λ h. fits-one doc state d w E (h .0) _ (fit-finds doc state d w) (h .1) (λ k l t. fits-zero doc state d w E (h .0) k l t (h .2 .entry k l t)),
   );
   mistyped = λ doc state d w k. (
     λ e. mistyped-fits doc state d w k _ (fit-finds doc state d w) e,
-    λ h. mistyped-one doc state d w (h .0) (h .1) k _ (fit-finds doc state d w) (h .2) (h .3 .from) (h .3 .to) (first-wrong doc state d w (h .0) (h .1) k (h .3))
-        (λ j q r. right-zero doc state d w (h .0) (h .1) j q (let t = h .3 .to in omega arith) (h .3 .before j q r)),
+    λ h. mistyped-one doc state d w (h .0) (h .1) k _ (fit-finds doc state d w) (h .2) (h .3 .from) (h .3 .to) (first-unfit doc state d w (h .0) (h .1) k (h .3))
+        (λ j q r. fits-zero doc state d w (h .0) (h .1) j q (let t = h .3 .to in omega arith) (h .3 .before j q r)),
   );
 }

@@ -6,10 +6,9 @@ use Rattle.syntax.specs.Decode.{treeOf}
 use Rattle.typing.specs.Dictionary.{Dictionary}
 use Rattle.typing.specs.Check.{accepted, checkOf}
 use Rattle.state_words.specs.Names.{documentNames}
-use Rattle.state_words.specs.States.{valueIn}
 use Rattle.evaluation.specs.Run.{Ran}
 use Rattle.evaluation.specs.ListingRun.{Lists}
-use Rattle.fit.specs.Recorded.{Fits}
+use Rattle.fit.specs.Recorded.{StateFits}
 use Rattle.fit.specs.Fit.{fitOf}
 use Rattle.soundness.specs.Demand.{Sound}
 
@@ -22,5 +21,5 @@ pub record SoundRun (doc state : List ℕ) (work : ℕ) : Type 0 where
 
 -- after the check, for a state whose values are of their recorded types; and after the fit
 pub record SoundRuns : Type 0 where
-  pub checked : (doc state : List ℕ) (d w work : ℕ) (E : Dictionary) → checkOf doc d w ≡ accepted E → Fits E (documentNames (treeOf doc)) (valueIn (documentNames (treeOf doc)) state) → SoundRun doc state work
+  pub checked : (doc state : List ℕ) (d w work : ℕ) (E : Dictionary) → checkOf doc d w ≡ accepted E → StateFits E (documentNames (treeOf doc)) state → SoundRun doc state work
   pub fitted : (doc state : List ℕ) (d w work : ℕ) (E : Dictionary) → fitOf doc state d w ≡ accepted E → SoundRun doc state work

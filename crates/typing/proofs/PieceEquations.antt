@@ -1,17 +1,15 @@
 -- 33, 34 AND 35 REST ON THE OWN EQUATIONS OF THEIR PIECE (R15), in every readable document: what else is asked before a node of a piece mentions none of the
 -- piece's own unknowns. First for items of any kind, then for those of the rules.
 use mathlib.Core.Path.{_≡_, refl, sym, ap, _∙_}
-use mathlib.Core.Bool.{Bool, true, false, cond}
-use mathlib.Core.List.{List, [], _∷_, _++_}
-use mathlib.Core.Option.{Option, some, none as nothing}
-use mathlib.Core.Logic.{_⊎_, inl, inr, _↔_}
-use Prim.Native.Nat.{ℕ, zero, suc, _+_, _≤_}
+use mathlib.Core.Option.{some}
+use mathlib.Core.Logic.{_⊎_, inl, inr}
+use Prim.Native.Nat.{ℕ}
 use native.Mathlib.Omega.{arith}
-use Rattle.types.specs.Types.{Ty, Term, under, size, Each}
+use Rattle.types.specs.Types.{Term, under, Each}
 use Rattle.types.specs.Component.{componentType}
 use Rattle.types.proofs.Terms.{each-map, under-ext}
 use Rattle.typing.specs.Unknowns.{Table}
-use Rattle.typing.specs.Items.{Items, skip, _⨾_, fresh, equate, select, small, refusal, piece, Known, Meets, Agree, Any, And, Refuses}
+use Rattle.typing.specs.Items.{Items, skip, _⨾_, fresh, equate, select, small, refusal, piece, Known, Meets, Any, And, Refuses}
 use Rattle.typing.specs.Pieces.{Owns}
 use Rattle.typing.specs.PieceEquations.{Solves, Beside, OwnSolution, ByOwnEquations}
 use Rattle.typing.proofs.SolvingRight.{Over}

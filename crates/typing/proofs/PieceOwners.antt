@@ -1,6 +1,6 @@
 -- The nodes of an expression whose unknowns its own piece has, and those of the Texts and Includes inside it, whose unknowns other pieces have: each node is
 -- of one of the two.
-use mathlib.Core.Path.{_≡_, refl, sym}
+use mathlib.Core.Path.{_≡_, sym}
 use mathlib.Core.Bool.{Bool, true, false, cond}
 use mathlib.Core.List.{List, [], _∷_, _++_}
 use mathlib.Core.Logic.{_⊎_, inl, inr}

@@ -5,7 +5,7 @@ use mathlib.Core.Bool.{Bool, true, false, cond}
 use mathlib.Core.List.{List, [], _∷_, _++_}
 use mathlib.Core.Option.{Option, some, none as nothing}
 use mathlib.Core.Logic.{_⊎_, inl, inr}
-use Prim.Native.Nat.{ℕ, zero, suc, _+_, _≤_, _<_}
+use Prim.Native.Nat.{ℕ, zero, suc, _+_, _≤_}
 use native.Mathlib.Omega.{arith}
 use lib.Dec.{ltb, eqb}
 use Rattle.words.specs.Loops.{has, occurrences}
@@ -23,7 +23,7 @@ use Rattle.types.specs.Instance.{instance}
 use Rattle.types.proofs.Terms.{each-map}
 use Rattle.typing.specs.Strokes.{decorate, takes}
 use Rattle.typing.specs.Unknowns.{Table, slot, unknownAt, row, integer, powerOf}
-use Rattle.typing.specs.Items.{Items, skip, _⨾_, fresh, equate, select, small, refusal, piece, Meets, Any, And}
+use Rattle.typing.specs.Items.{Items, skip, _⨾_, fresh, equate, select, small, refusal, piece, Any, And}
 use Rattle.typing.specs.Dictionary.{Dictionary, blank, Named, unnamed, ofLocal, ofGlobal, nameIn, Found, noSchema, aSchema}
 use Rattle.typing.specs.Signatures.{Signature, noNames, naming, namesOf, componentsOf, termIn, countNames, merge, declare, someStroked, wrongNames}
 use Rattle.typing.specs.Scopes.{Scope, globals, local, nameAt, schemaNamed, withParameters, includeSignature, includeNode, inside, schemaSignature}
@@ -34,7 +34,7 @@ use Rattle.typing.specs.Rules.{linesItems, includeItems, actualItems, sc
 use Rattle.typing.specs.Entries.{extend}
 use Rattle.typing.specs.Check.{paragraphsOf}
 use Rattle.typing.specs.Pieces.{Owns}
-use Rattle.typing.specs.PieceEquations.{Beside, ByOwnEquations, PiecesAlone}
+use Rattle.typing.specs.PieceEquations.{PiecesAlone}
 use Rattle.typing.proofs.Slots.{slots-apart}
 use Rattle.typing.proofs.SolvingRight.{Over}
 use Rattle.typing.proofs.WrittenOnce.{paragraphs-once}
