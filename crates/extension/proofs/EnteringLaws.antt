@@ -22,7 +22,7 @@ use Rattle.dictionary.specs.Waiting.{withEntries, waiting, Waits, Waiting, Appe
 use Rattle.dictionary.proofs.Places.{size-held}
 use Rattle.dictionary.proofs.WaitingLaws.{entries-grow}
 use Rattle.names.specs.Scoped.{DictionaryHeld}
-use Rattle.names.proofs.FewParameters.{few-parameters}
+use Rattle.syntax.proofs.FewParameters.{few-parameters}
 use Rattle.walk.specs.Paragraphs.{ParagraphAsk, Extended, ParagraphDone}
 use Rattle.extension.specs.Entering.{Listed, Ready, Entered}
 use Rattle.extension.proofs.HeldParts.{held-part, held-rest, held-whole, recorded-part}

@@ -25,7 +25,7 @@ use Rattle.typing.proofs.SolvingRight.{Verdict, solve-right}
 use Rattle.dictionary.specs.Holds.{Holds}
 use Rattle.dictionary.specs.Waiting.{withEntries, waiting}
 use Rattle.dictionary.proofs.Monotone.{length-more}
-use Rattle.names.specs.Extended.{FewParameters}
+use Rattle.syntax.specs.Limited.{FewParameters}
 use Rattle.names.specs.Scoped.{DictionaryHeld}
 use Rattle.names.proofs.LimitedKept.{limited-extend}
 
