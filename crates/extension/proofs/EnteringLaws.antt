@@ -137,5 +137,5 @@ module _ (doc : List ℕ) (k : ℕ) (L : Listed doc k) (s s′ d w w′ : List �
             let a : 22 ≡ g = cc in
             let b : k ≡ j = cc in
             let l = subst (λ (G : Dictionary). length d < dictionaryLength G) (sym (E .extends)) (appended D S E .full t) in
-            inr (E .passes, (E .table, E .meets, inl (l, sym a, sym b ∙ sym (node-is doc k (listed-at doc k L)))));
+            inr (E .passes, (E .table, (tt, E .meets), inl (l, sym a, sym b ∙ sym (node-is doc k (listed-at doc k L)))));
       }

@@ -26,7 +26,7 @@ use Rattle.typing.specs.Conditions.{refuseIf, sameType, mergeDeclared, m
 use Rattle.typing.specs.Conditions.{arePowers, areMembers, freshRow}
 use Rattle.typing.specs.Rules.{referenceItems, thetaName, thetaNames, typeInScope, thetaSignature, thetaItems, includeRule, exprItems}
 use Rattle.typing.specs.Rules.{exprsItems, predItems, textItems, linesItems, includeItems, actualItems, schemaItems}
-use Rattle.typing.proofs.SolvingRight.{Over}
+use Rattle.typing.proofs.ItemUnknowns.{Over}
 use Rattle.syntax.proofs.Sized.{SizedExpr, SizedExprs, SizedPred, SizedText, SizedLines, SizedInclude, SizedSchema}
 
 -- M of each number of the list
@@ -47,6 +47,11 @@ unfoldable pub FewRecorded : Dictionary → Type 0
 FewRecorded blank = Unit {0}
 FewRecorded (D ▸ nameEntry i p g) = FewRecorded D × (p ≤ 4)
 FewRecorded (D ▸ schemaEntry s p g) = FewRecorded D
+
+-- unknown k of a node for one actual, k + 1 and so on for those after it
+pub longer : (k : ℕ) (a : Expr) (xs : Exprs) → k + exprsLength (more a xs) ≤ 7 → (k ≤ 6) × (suc k + exprsLength xs ≤ 7)
+unfolding exprsLength
+longer k a xs l = (omega (arith, l), omega (arith, l))
 
 module _ (N : ℕ → Type 0) where
   -- N of the unknowns of node m
@@ -396,10 +401,6 @@ module _ (N : ℕ → Type 0) where
   unfolding SigOver
   none-over = tt
 
-  longer : (k : ℕ) (a : Expr) (xs : Exprs) → k + exprsLength (more a xs) ≤ 7 → suc k + exprsLength xs ≤ 7
-  unfolding exprsLength
-  longer k a xs l = omega (arith, l)
-
   -- ---- the rules
   mutual
     unfolding exprItems exprNumbers SizedExpr Over Each
@@ -526,9 +527,8 @@ module _ (N : ℕ → Type 0) where
     actuals-over none n k Γ o h l f s = tt
     actuals-over (more a xs) n k Γ o h l f s =
         let m = longer k a xs l in
-        let u : k ≤ 6 = omega (arith, m) in
         let e = all-left Own (exprNumbers a) (exprsNumbers xs) h in
-        ((expr-over a Γ e (f .0) s, (o k u, (root-own a e 0 (omega arith), (o k u, tt)))), actuals-over xs n (suc k) Γ o (all-right Own (exprNumbers a) (exprsNumbers xs) h) m (f .1) s)
+        ((expr-over a Γ e (f .0) s, (o k (m .0), (root-own a e 0 (omega arith), (o k (m .0), tt)))), actuals-over xs n (suc k) Γ o (all-right Own (exprNumbers a) (exprsNumbers xs) h) (m .1) (f .1) s)
 
   pub schema-over : (x : Schema) (Γ : Scope) → AllIn Own (schemaNumbers x) → SizedSchema x → ScopeOver Γ → Over N (schemaItems x Γ)
   unfolding schemaItems schemaNumbers SizedSchema Over

@@ -39,11 +39,11 @@ use Rattle.typing.specs.Check.{paragraphsOf}
 use Rattle.typing.specs.Findings.{NoSelect33, NeverAtSelect}
 use Rattle.typing.proofs.ItemLaws.{table}
 use Rattle.typing.proofs.Slots.{slots-apart}
-use Rattle.typing.proofs.SolvingRight.{Over}
+use Rattle.typing.proofs.ItemUnknowns.{Over}
 use Rattle.typing.proofs.WrittenOnce.{paragraphs-once}
 use Rattle.syntax.proofs.Sized.{SizedExpr, SizedExprs, SizedPred, SizedText, SizedLines, SizedInclude, SizedSchema, SizedParagraph, SizedParagraphs}
 use Rattle.typing.proofs.SizedTree.{tree-sized}
-use Rattle.typing.proofs.RuleUnknowns.{AllIn, FewRecorded, Own, ScopeOver, SigOver, parameters-over, merge-over, declare-over, included-over}
+use Rattle.typing.proofs.RuleUnknowns.{AllIn, FewRecorded, longer, Own, ScopeOver, SigOver, parameters-over, merge-over, declare-over, included-over}
 use Rattle.typing.proofs.RuleUnknowns.{none-over, lines-inside, inside-over, type-over, expr-over, pred-over, text-over, lines-over}
 use Rattle.typing.proofs.RuleUnknowns.{schema-over, all-right}
 use Rattle.typing.proofs.TypingLaws.{first-has, rest-has}
@@ -333,10 +333,6 @@ other-own n m l h q k u e = h (ap (λ (z : ℕ). has z l) (slots-apart n k m 0 (
 actual-over : (N : ℕ → Type 0) (a : Expr) (n k : ℕ) (Γ : Scope) → Own N n → k ≤ 6 → AllIn (Own N) (exprNumbers a) → SizedExpr a → ScopeOver N Γ → Over N (piece n (exprItems a Γ ⨾ isPower n k a))
 unfolding Over Each
 actual-over N a n k Γ o u h f s = (expr-over N a Γ h f s, (o k u, (type-over N a h, (o k u, tt))))
-
-longer : (k : ℕ) (a : Expr) (xs : Exprs) → k + exprsLength (more a xs) ≤ 7 → (k ≤ 6) × (suc k + exprsLength xs ≤ 7)
-unfolding exprsLength
-longer k a xs l = (omega (arith, l), omega (arith, l))
 
 declared-new : (n : ℕ) (is : List ℕ) (t : Term) (r : Signature) (G : Dictionary) → Plain (mergeDeclared n is t r ⨾ newNames n is G)
 unfolding Plain

@@ -19,6 +19,5 @@ pub mod WellFormed
 pub mod Typing
 pub mod Findings
 pub mod Pieces
-pub mod FormedVerdicts
 pub mod Places
 pub mod AcceptedTypings
