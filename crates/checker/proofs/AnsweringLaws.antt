@@ -12,6 +12,7 @@ use Rattle.syntax.specs.declared.Reading.the-variants.{Readable, Refused as Unr
 use Rattle.typing.specs.Areas.{findingOf, dictionaryAfter, Checked}
 use Rattle.typing.specs.Check.{Answer, accepted, refused, paragraphsOf, checkOf}
 use Rattle.typing.specs.Dictionary.{blank, dictionaryWords, dictionaryLength}
+use Rattle.typing.specs.Items.{Any}
 use Rattle.typing.specs.Verdicts.{AnswersTree, Answers}
 use Rattle.typing.specs.declared.Finding.{Finding}
 use Rattle.typing.specs.declared.Finding.the-variants.{Accepted, Refused}
@@ -39,7 +40,7 @@ module _ (t : Document) (d w : ℕ) (d′ : List ℕ) where
 
 -- Any words.
 module _ (doc : List ℕ) (d w : ℕ) (d′ : List ℕ) where
-  told-by : (a : Answer) (r : Finding) → Answers doc d w a → Told a d′ r → Told (checkOf doc d w) d′ r
+  told-by : (a : Answer) (r : Finding) → Answers Any doc d w a → Told a d′ r → Told (checkOf doc d w) d′ r
   told-by a r h X = subst (λ (b : Answer). Told b d′ r) (sym (check-right doc d w a .1 h)) X
 
   pub words-tree : (r : Finding) → readOf doc ≡ Readable → TreeAnswered (treeOf doc) d w d′ r → Told (checkOf doc d w) d′ r

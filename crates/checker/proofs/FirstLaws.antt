@@ -12,6 +12,7 @@ use Rattle.syntax.proofs.TreeParagraph.{document-law}
 use Rattle.syntax.specs.declared.Reading.the-variants.{Readable}
 use Rattle.typing.specs.Check.{paragraphsOf}
 use Rattle.typing.specs.Dictionary.{blank, entries, entryPairs, allWords, laidOutWords, dictionaryWords, dictionaryLength}
+use Rattle.typing.specs.Items.{Any}
 use Rattle.typing.specs.Verdicts.{AnswersFrom}
 use Rattle.typing.specs.WellFormed.{FormedDictionary}
 use Rattle.typing.specs.declared.Finding.{Finding}
@@ -77,7 +78,7 @@ module _ (doc : List ℕ) (r : readOf doc ≡ Readable) (c : ℕ) (e : c ≡ cou
       record {
         answer = X .answer;
         answers =
-            subst (λ (n : ℕ). AnswersFrom (paragraphsOf (treeOf doc)) blank n (X .answer)) z
-            (subst (λ (ps : List Paragraph). AnswersFrom ps blank (length d₁) (X .answer)) b (X .answers));
+            subst (λ (n : ℕ). AnswersFrom Any (paragraphsOf (treeOf doc)) blank n (X .answer)) z
+            (subst (λ (ps : List Paragraph). AnswersFrom Any ps blank (length d₁) (X .answer)) b (X .answers));
         told = X .told;
       }

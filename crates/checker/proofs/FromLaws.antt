@@ -14,6 +14,7 @@ use Rattle.typing.specs.Areas.{findingOf}
 use Rattle.typing.specs.Check.{Answer, accepted, refused}
 use Rattle.typing.specs.Dictionary.{Dictionary}
 use Rattle.typing.specs.Entries.{extend}
+use Rattle.typing.specs.Items.{Any}
 use Rattle.typing.specs.Verdicts.{Accepts, RefusesAt, AnswersFrom}
 use Rattle.typing.specs.declared.Finding.{Finding}
 use Rattle.typing.specs.declared.Finding.the-variants.{Accepted, Refused}
@@ -33,10 +34,10 @@ from-next doc n i (suc m) h = let e : suc m - 1 ≡ m = omega arith in rw (add-o
 
 -- The first of the paragraphs, then the others.
 answers-next : (p : Paragraph) (ps : List Paragraph) (D : Dictionary) (d′ : List ℕ) (G : Grown p D d′) (a : Answer)
-    → AnswersFrom ps (extend p D (G .table)) (length d′) a → AnswersFrom (p ∷ ps) D (length d′) a
+    → AnswersFrom Any ps (extend p D (G .table)) (length d′) a → AnswersFrom Any (p ∷ ps) D (length d′) a
 unfolding AnswersFrom Accepts RefusesAt
-answers-next p ps D d′ G (accepted E) h = (G .passes, (G .table, G .meets, G .recorded .holds .fits, h))
-answers-next p ps D d′ G (refused f m) h = inr (G .passes, (G .table, G .meets, inr (G .recorded .holds .fits, h)))
+answers-next p ps D d′ G (accepted E) h = (G .passes, (G .table, (tt, G .meets), G .recorded .holds .fits, h))
+answers-next p ps D d′ G (refused f m) h = inr (G .passes, (G .table, (tt, G .meets), inr (G .recorded .holds .fits, h)))
 
 module _ (doc : List ℕ) (i m : ℕ) where
   pub from-none : m ≡ 0 → (d : List ℕ) (D : Dictionary) → DictionaryHeld D d → Answered (paragraphsFrom doc (count doc) i m) D (length d) d Accepted
@@ -55,7 +56,7 @@ module _ (doc : List ℕ) (i m : ℕ) where
     unfolding AnswersFrom
     from-stops s s′ d d′ r E f j q D R = record {
       answer = refused f j;
-      answers = subst (λ (ps : List Paragraph). RefusesAt ps D (length d) f j) from-first (E .stops f j q D R rest);
+      answers = subst (λ (ps : List Paragraph). RefusesAt Any ps D (length d) f j) from-first (E .stops f j q D R rest);
       told = told-refused f j d′;
     }
 
@@ -68,8 +69,8 @@ module _ (doc : List ℕ) (i m : ℕ) where
         record {
           answer = X .answer;
           answers =
-              subst (λ (ps : List Paragraph). AnswersFrom ps D (length d) (X .answer)) from-first
-              (subst (λ (n : ℕ). AnswersFrom (paragraphAt doc k ∷ rest) D n (X .answer)) e (answers-next (paragraphAt doc k) rest D d₁ G (X .answer) (X .answers)));
+              subst (λ (ps : List Paragraph). AnswersFrom Any ps D (length d) (X .answer)) from-first
+              (subst (λ (n : ℕ). AnswersFrom Any (paragraphAt doc k ∷ rest) D n (X .answer)) e (answers-next (paragraphAt doc k) rest D d₁ G (X .answer) (X .answers)));
           told = X .told;
         }
 

@@ -10,6 +10,7 @@ use Rattle.syntax.specs.declared.Reading.the-variants.{Readable}
 use Rattle.typing.specs.Areas.{findingOf}
 use Rattle.typing.specs.Check.{Answer, accepted, checkOf}
 use Rattle.typing.specs.Dictionary.{Dictionary, dictionaryLength}
+use Rattle.typing.specs.Items.{Any}
 use Rattle.typing.specs.Verdicts.{AnswersFrom, AnswersTree}
 use Rattle.typing.specs.declared.Finding.{Finding}
 use Rattle.dictionary.specs.Holds.{Holds}
@@ -31,13 +32,13 @@ pub record Told (answer : Answer) (d′ : List ℕ) (r : Finding) : Type 0 where
 -- The paragraphs ps, over the dictionary D in an area of d words.
 pub record Answered (ps : List Paragraph) (D : Dictionary) (d : ℕ) (d′ : List ℕ) (r : Finding) : Type 0 where
   pub answer : Answer
-  pub answers : AnswersFrom ps D d answer
+  pub answers : AnswersFrom Any ps D d answer
   pub told : Told answer d′ r
 
 -- The tree t, with areas of d and w words.
 pub record TreeAnswered (t : Document) (d w : ℕ) (d′ : List ℕ) (r : Finding) : Type 0 where
   pub answer : Answer
-  pub answers : AnswersTree t d w answer
+  pub answers : AnswersTree Any t d w answer
   pub told : Told answer d′ r
 
 -- Any words, with areas of d and w words.

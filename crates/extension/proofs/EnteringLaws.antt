@@ -22,7 +22,7 @@ use Rattle.dictionary.specs.Waiting.{withEntries, waiting, Waits, Waiting, Appe
 use Rattle.dictionary.proofs.Places.{size-held}
 use Rattle.dictionary.proofs.WaitingLaws.{entries-grow}
 use Rattle.names.specs.Scoped.{DictionaryHeld}
-use Rattle.names.proofs.FewParameters.{few-parameters}
+use Rattle.syntax.proofs.FewParameters.{few-parameters}
 use Rattle.walk.specs.Paragraphs.{ParagraphAsk, Extended, ParagraphDone}
 use Rattle.extension.specs.Entering.{Listed, Ready, Entered}
 use Rattle.extension.proofs.HeldParts.{held-part, held-rest, held-whole, recorded-part}
@@ -137,5 +137,5 @@ module _ (doc : List ℕ) (k : ℕ) (L : Listed doc k) (s s′ d w w′ : List �
             let a : 22 ≡ g = cc in
             let b : k ≡ j = cc in
             let l = subst (λ (G : Dictionary). length d < dictionaryLength G) (sym (E .extends)) (appended D S E .full t) in
-            inr (E .passes, (E .table, E .meets, inl (l, sym a, sym b ∙ sym (node-is doc k (listed-at doc k L)))));
+            inr (E .passes, (E .table, (tt, E .meets), inl (l, sym a, sym b ∙ sym (node-is doc k (listed-at doc k L)))));
       }

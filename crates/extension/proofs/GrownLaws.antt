@@ -25,7 +25,7 @@ use Rattle.typing.proofs.SolvingRight.{Verdict, solve-right}
 use Rattle.dictionary.specs.Holds.{Holds}
 use Rattle.dictionary.specs.Waiting.{withEntries, waiting}
 use Rattle.dictionary.proofs.Monotone.{length-more}
-use Rattle.names.specs.Extended.{FewParameters}
+use Rattle.syntax.specs.Limited.{FewParameters}
 use Rattle.names.specs.Scoped.{DictionaryHeld}
 use Rattle.names.proofs.LimitedKept.{limited-extend}
 
@@ -38,7 +38,7 @@ module _ (p : Paragraph) (D : Dictionary) (τ : Table) (P : Passes (paragraphIte
       t : Items
       t = paragraphItems p D
 
-      go : (r : Solved) → Verdict t r → FormedSolved r → FormedDictionary (extend p D τ)
+      go : (r : Solved) → Verdict Any t r → FormedSolved r → FormedDictionary (extend p D τ)
       go (pass vs s) v k =
           subst FormedDictionary (extend-same p D P (tableOf s) τ (v .1) M)
           (extend-formed (tableOf s) (λ x. sol-fit Arity s k (λ y. ℤ) (λ y. integer-formed) x) p D f)

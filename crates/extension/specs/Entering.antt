@@ -49,4 +49,4 @@ pub record Grown (p : Paragraph) (D : Dictionary) (d : List ℕ) : Type 0 where
 pub record Entered (s s′ d d′ : List ℕ) (p : Paragraph) (r : Finding) : Type 0 where
   pub low : r ≡ Accepted → lower s′ ≡ lower s
   pub goes : r ≡ Accepted → (D : Dictionary) → DictionaryHeld D d → Grown p D d′
-  pub stops : (f m : ℕ) → r ≡ Refused f m → (D : Dictionary) → DictionaryHeld D d → (ps : List Paragraph) → RefusesAt (p ∷ ps) D (length d) f m
+  pub stops : (f m : ℕ) → r ≡ Refused f m → (D : Dictionary) → DictionaryHeld D d → (ps : List Paragraph) → RefusesAt Any (p ∷ ps) D (length d) f m

@@ -14,7 +14,6 @@ pub mod LookingUpApplied
 pub mod Carrying
 pub mod ComponentLaws
 pub mod ThetaLaws
-pub mod FewParameters
 pub mod FewNames
 pub mod LimitedKept
 pub mod IdleLaws

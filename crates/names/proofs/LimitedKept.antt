@@ -19,7 +19,7 @@ use Rattle.typing.specs.Scopes.{Scope, globals, withParameters, includeSignatur
 use Rattle.typing.specs.Rules.{textItems, linesItems, schemaItems, paragraphItems}
 use Rattle.typing.specs.Entries.{addGivens, addSignature, extend}
 use Rattle.names.specs.Scoped.{SchemaType, Limited}
-use Rattle.names.specs.Extended.{FewParameters}
+use Rattle.syntax.specs.Limited.{FewParameters}
 use Rattle.names.proofs.FewNames.{FewSchemas, include-few, globals-few, parameters-few}
 
 -- What a table that meets the items shows.

@@ -4,4 +4,3 @@ pub mod Bindings
 pub mod References
 pub mod Components
 pub mod Thetas
-pub mod Extended

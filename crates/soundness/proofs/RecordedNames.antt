@@ -11,7 +11,7 @@ use Rattle.types.specs.Former as Former
 use Rattle.types.specs.Types.{Ty, Term, under, size}
 use Rattle.types.specs.Formed.{WellFormed}
 use Rattle.typing.specs.Unknowns.{Table, unknownAt, givenSet}
-use Rattle.typing.specs.Items.{Meets}
+use Rattle.typing.specs.Items.{Any, Meets}
 use Rattle.typing.specs.Dictionary.{Dictionary, blank, _▸_, nameEntry, schemaEntry, Named, ofGlobal, nameIn}
 use Rattle.typing.specs.Conditions.{mergeDeclared}
 use Rattle.typing.specs.Entries.{addGivens, extend}
@@ -59,7 +59,7 @@ module _ (E : Dictionary) where
       (line-names τ ls Γ D (declare xs (unknownAt n 0) r) (h .1 .1 .1) k)
   line-names τ (inclusion i ls) Γ D r h k = line-names τ ls Γ D _ (h .1 .1 .1) k
 
-  names-recorded : (ps : List Paragraph) (D : Dictionary) (d : ℕ) → Accepts ps D d E → Every (Recording E) (namesOf ps)
+  names-recorded : (ps : List Paragraph) (D : Dictionary) (d : ℕ) → Accepts Any ps D d E → Every (Recording E) (namesOf ps)
   unfolding namesOf paragraphNames Accepts extend paragraphItems textItems Meets textSignature overRecorded
   names-recorded [] D d acc = none
   names-recorded (given n xs ∷ ps) D d acc = every-append (given-names xs D (λ i g e. kept ps _ d E (acc .1 .3) i 0 g e)) (names-recorded ps _ d (acc .1 .3))
@@ -67,7 +67,7 @@ module _ (E : Dictionary) where
       let τ = acc .1 .0 in
       let S = linesSignature ls (globals D) noNames in
       every-append
-      (line-names τ ls (globals D) D noNames (acc .1 .1 .0)
+      (line-names τ ls (globals D) D noNames (acc .1 .1 .1 .0)
       (λ i x e. kept ps _ d E (acc .1 .3) i 0 (under τ x) (name-added S τ D i ∙ ap (λ (z : Option Term). overRecorded τ z (nameIn i D)) e)))
       (names-recorded ps _ d (acc .1 .3))
   names-recorded (schema n s xs x ∷ ps) D d acc = names-recorded ps _ d (acc .1 .3)
@@ -87,6 +87,6 @@ formed-in blank i q g f e = let z : _≡_ {A = ℕ} 0 1 = cc in absurd (omega ar
 formed-in (E ▸ nameEntry j p h) i q g f e = formed-either (eqb i j) p q h g (nameIn i E) (f .1) (λ x. formed-in E i q g (f .0) x) e
 formed-in (E ▸ schemaEntry s p h) i q g f e = formed-in E i q g (f .0) e
 
-pub document-recorded : (tree : Document) (d : ℕ) (E : Dictionary) → Accepts (paragraphsOf tree) blank d E → Every (Recording E) (documentNames tree)
+pub document-recorded : (tree : Document) (d : ℕ) (E : Dictionary) → Accepts Any (paragraphsOf tree) blank d E → Every (Recording E) (documentNames tree)
 unfolding paragraphsOf documentNames
 document-recorded (document n ps) d E h = names-recorded E ps blank d h

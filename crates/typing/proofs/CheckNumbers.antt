@@ -1,18 +1,20 @@
 -- The numbers of a check's refusals are 38 at most: 41 and 42 are the fit's, 51 to 55 the run's.
-use mathlib.Core.Path.{_≡_}
-use mathlib.Core.Bool.{Bool, true, false, _||_, cond}
+use mathlib.Core.Path.{_≡_, refl}
+use mathlib.Core.Bool.{Bool, true, false, _||_, _&&_, cond, false≢true}
 use mathlib.Core.List.{List, [], _∷_}
-use mathlib.Core.Logic.{inl, inr}
-use mathlib.Core.Option.{Option, some, none as nothing}
+use mathlib.Core.Logic.{inl, inr, ⊎-elim}
 use Prim.Native.Nat.{ℕ, zero, suc, _≤_}
 use native.Mathlib.Omega.{arith}
-use lib.Dec.{ltb, eqb}
+use lib.Dec.{leb, ltb, eqb}
+use borrow.Author.Tests.{eqb-true, leb-true}
 use lib.ListN.{getD}
+use Rattle.words.specs.Loops.{has}
+use Rattle.words.proofs.Loops.{and-left, and-right}
 use Rattle.layout.specs.Layout.{count, laidOut, part}
 use Rattle.syntax.specs.Tree.{Expr, reference, number, integers, set, tuple, product, power, application, selection, theta, schemaSet, arithmetic}
 use Rattle.syntax.specs.Tree.{comprehension, Exprs, none, more, Pred, truth, equal, member, atMost, not, connected, quantified, Text, text, Lines}
 use Rattle.syntax.specs.Tree.{end, declaration, inclusion, Include, include, Schema, plain, from, both, Paragraph, given, axiomatic, schema}
-use Rattle.syntax.specs.Tree.{abbreviation, constraint, exprsLength}
+use Rattle.syntax.specs.Tree.{abbreviation, constraint}
 use Rattle.syntax.specs.Kinds.{listed, countOk}
 use Rattle.syntax.specs.Nodes.{documentForm, kindAt, uses}
 use Rattle.syntax.specs.Findings.{found, scan, andThen, plainWords, lowerNodes, nodeNumber, useNumber}
@@ -21,19 +23,17 @@ use Rattle.syntax.specs.Limits.{tooDeep, tooNested, tooWide, tooCrowded, tooMan
 use Rattle.syntax.specs.Reading.{readOf}
 use Rattle.syntax.specs.declared.Reading.{Reading}
 use Rattle.syntax.specs.declared.Reading.the-variants.{Readable, Refused}
-use Rattle.types.specs.Types.{Term, nil}
-use Rattle.types.specs.Instance.{instance}
-use Rattle.typing.specs.Unknowns.{Table, row}
-use Rattle.typing.specs.Items.{Items, skip, _⨾_, fresh, equate, select, small, refusal, piece, And, Any, Refuses}
-use Rattle.typing.specs.Dictionary.{Dictionary, blank, Named, unnamed, ofLocal, ofGlobal, nameIn, Found, noSchema, aSchema}
-use Rattle.typing.specs.Signatures.{Signature, noNames, naming, termIn, componentsOf, wrongNames}
-use Rattle.typing.specs.Scopes.{Scope}
-use Rattle.typing.specs.Conditions.{refuseIf, sameType, mergeDeclared, mergeNames, newName, newNames, smallTypes, fewNames, typed, arePowers, areMembers, freshRow}
-use Rattle.typing.specs.Rules.{referenceItems, thetaName, thetaNames, thetaItems, includeRule, exprItems, exprsItems, predItems, textItems, linesItems}
-use Rattle.typing.specs.Rules.{includeItems, actualItems, schemaItems, paragraphItems}
+use Rattle.typing.specs.Dictionary.{blank}
+use Rattle.typing.specs.Scopes.{includeNode}
+use Rattle.typing.specs.Entries.{paragraphNode}
 use Rattle.typing.specs.Check.{refused, checkOf, paragraphsOf}
-use Rattle.typing.specs.Verdicts.{RefusesAt, AnswersFrom, AnswersTree, Answers}
+use Rattle.typing.specs.Items.{Any}
+use Rattle.typing.specs.Verdicts.{AnswersFrom, AnswersTree, Answers}
+use Rattle.typing.specs.Places.{At, PlacedExpr, PlacedExprs, PlacedPred, PlacedText, PlacedLines, PlacedInclude, PlacedSchema, PlacedParagraph}
+use Rattle.typing.specs.Places.{PlacedParagraphs}
 use Rattle.typing.proofs.CheckRight.{check-right}
+use Rattle.typing.proofs.GlobalNames.{or-side}
+use Rattle.typing.proofs.PlaceLaws.{refusal-placed}
 
 -- ---- reading: 11 to 17
 abbrev Low : Reading → Type 0
@@ -96,198 +96,90 @@ refused-low : (r : Reading) → Low r → (n p : ℕ) → r ≡ Refused n p → 
 refused-low Readable h n p e = let z : _≡_ {A = ℕ} 0 1 = cc in absurd (omega arith)
 refused-low (Refused m q) h n p e = let z : m ≡ n = cc in omega arith
 
--- ---- the rules: 31 to 38
-unfoldable Few : Items → Type 0
-Few skip = Unit {0}
-Few (a ⨾ b) = Few a × Few b
-Few (fresh x) = Unit {0}
-Few (equate f n a b) = f ≤ 38
-Few (select n i a x) = Unit {0}
-Few (small n a) = Unit {0}
-Few (refusal f n) = f ≤ 38
-Few (piece n t) = Few t
+-- ---- the rules: a refusal has a place (proofs/PlaceLaws), and no place takes a number over 38
+small : List ℕ → Bool
+small [] = true
+small (x ∷ l) = leb x 38 && small l
 
-refuses-few : (t : Items) (P : Table → Type 0) (f m : ℕ) → Few t → Refuses t P f m → f ≤ 38
-unfolding Few Refuses
-refuses-few skip P f m w h = absurd h
-refuses-few (a ⨾ b) P f m w (inl h) = refuses-few a P f m (w .0) h
-refuses-few (a ⨾ b) P f m w (inr h) = refuses-few b (And P a) f m (w .1) (h .1)
-refuses-few (fresh x) P f m w h = absurd h
-refuses-few (equate g n a b) P f m w h = omega (arith, h .0)
-refuses-few (select n i a x) P f m w (inl h) = omega (arith, h .0)
-refuses-few (select n i a x) P f m w (inr h) = omega (arith, h .0)
-refuses-few (small n a) P f m w h = omega (arith, h .0)
-refuses-few (refusal g n) P f m w h = omega (arith, h .0)
-refuses-few (piece n t) P f m w (inl h) = refuses-few t P f m w h
-refuses-few (piece n t) P f m w (inr h) = omega (arith, h .1)
+module _ (f j : ℕ) where
+  listed-few : (l : List ℕ) → small l ≡ true → has f l ≡ true → f ≤ 38
+  unfolding small has
+  listed-few [] h e = absurd (false≢true e)
+  listed-few (x ∷ l) h e = ⊎-elim (λ q. let z = eqb-true x f q in omega (arith, leb-true x 38 (and-left (leb x 38) (small l) h))) (λ q. listed-few l (and-right (leb x 38) (small l) h) q) (or-side (eqb x f) (has f l) e)
 
-few-if : (b : Bool) (x y : Items) → Few x → Few y → Few (cond b x y)
-few-if true x y h k = h
-few-if false x y h k = k
+  at-few : (n : ℕ) (l : List ℕ) → small l ≡ true → At f j n l → f ≤ 38
+  at-few n l h w = listed-few l h (w .1)
 
-refuse-few : (b : Bool) (f n : ℕ) → f ≤ 38 → Few (refuseIf b f n)
-unfolding refuseIf Few
-refuse-few true f n h = h
-refuse-few false f n h = tt
+  mutual
+    unfolding PlacedExpr small
 
-same-few : (n : ℕ) (t : Term) (o : Option Term) → Few (sameType n t o)
-unfolding sameType Few
-same-few n t (some u) = omega arith
-same-few n t nothing = tt
+    expr-few : (a : Expr) → PlacedExpr f j a → f ≤ 38
+    expr-few (reference n i xs) h = ⊎-elim (at-few n _ refl) (λ x. exprs-few xs x) h
+    expr-few (number n v) h = at-few n _ refl h
+    expr-few (integers n) h = at-few n _ refl h
+    expr-few (set n xs) h = ⊎-elim (at-few n _ refl) (λ x. exprs-few xs x) h
+    expr-few (tuple n xs) h = ⊎-elim (at-few n _ refl) (λ x. exprs-few xs x) h
+    expr-few (product n xs) h = ⊎-elim (at-few n _ refl) (λ x. exprs-few xs x) h
+    expr-few (power n a) h = ⊎-elim (at-few n _ refl) (λ x. expr-few a x) h
+    expr-few (application n a b) h = ⊎-elim (at-few n _ refl) (⊎-elim (λ x. expr-few a x) (λ x. expr-few b x)) h
+    expr-few (selection n a i) h = ⊎-elim (at-few n _ refl) (λ x. expr-few a x) h
+    expr-few (theta n s k) h = at-few n _ refl h
+    expr-few (schemaSet n i) h = ⊎-elim (at-few n _ refl) (⊎-elim (at-few (includeNode i) _ refl) (λ x. include-few i x)) h
+    expr-few (arithmetic n o a b) h = ⊎-elim (at-few n _ refl) (⊎-elim (λ x. expr-few a x) (λ x. expr-few b x)) h
+    expr-few (comprehension n t a) h = ⊎-elim (at-few n _ refl) (⊎-elim (λ x. text-few t x) (λ x. expr-few a x)) h
 
-declared-few : (n : ℕ) (is : List ℕ) (t : Term) (r : Signature) → Few (mergeDeclared n is t r)
-unfolding mergeDeclared Few
-declared-few n [] t r = tt
-declared-few n (i ∷ is) t r = (same-few n t (termIn i r), declared-few n is t r)
+    exprs-few : (xs : Exprs) → PlacedExprs f j xs → f ≤ 38
+    exprs-few none h = absurd h
+    exprs-few (more a xs) h = ⊎-elim (λ x. expr-few a x) (λ x. exprs-few xs x) h
 
-names-few : (n : ℕ) (s r : Signature) → Few (mergeNames n s r)
-unfolding mergeNames Few
-names-few n noNames r = tt
-names-few n (naming i t s) r = (same-few n t (termIn i r), names-few n s r)
+    pred-few : (p : Pred) → PlacedPred f j p → f ≤ 38
+    pred-few (truth n) h = absurd h
+    pred-few (equal n a b) h = ⊎-elim (at-few n _ refl) (⊎-elim (λ x. expr-few a x) (λ x. expr-few b x)) h
+    pred-few (member n a b) h = ⊎-elim (at-few n _ refl) (⊎-elim (λ x. expr-few a x) (λ x. expr-few b x)) h
+    pred-few (atMost n a b) h = ⊎-elim (at-few n _ refl) (⊎-elim (λ x. expr-few a x) (λ x. expr-few b x)) h
+    pred-few (not n p) h = pred-few p h
+    pred-few (connected n o p q) h = ⊎-elim (λ x. pred-few p x) (λ x. pred-few q x) h
+    pred-few (quantified n o t p) h = ⊎-elim (λ x. text-few t x) (λ x. pred-few p x) h
 
-new-few : (n : ℕ) (m : Named) → Few (newName n m)
-unfolding newName Few
-new-few n unnamed = tt
-new-few n (ofLocal t) = omega arith
-new-few n (ofGlobal p g) = omega arith
+    text-few : (t : Text) → PlacedText f j t → f ≤ 38
+    text-few (text n p ls) h = ⊎-elim (λ x. lines-few ls x) (λ x. pred-few p x) h
 
-news-few : (n : ℕ) (is : List ℕ) (G : Dictionary) → Few (newNames n is G)
-unfolding newNames Few
-news-few n [] G = tt
-news-few n (i ∷ is) G = (new-few n (nameIn i G), news-few n is G)
+    lines-few : (ls : Lines) → PlacedLines f j ls → f ≤ 38
+    lines-few end h = absurd h
+    lines-few (declaration n a is ls) h = ⊎-elim (at-few n _ refl) (⊎-elim (λ x. expr-few a x) (λ x. lines-few ls x)) h
+    lines-few (inclusion i ls) h = ⊎-elim (at-few (includeNode i) _ refl) (⊎-elim (λ x. include-few i x) (λ x. lines-few ls x)) h
 
-smalls-few : (n : ℕ) (s : Signature) → Few (smallTypes n s)
-unfolding smallTypes Few
-smalls-few n noNames = tt
-smalls-few n (naming i t s) = (tt, smalls-few n s)
+    include-few : (i : Include) → PlacedInclude f j i → f ≤ 38
+    include-few (include n s k xs rs) h = ⊎-elim (at-few n _ refl) (λ x. exprs-few xs x) h
 
-count-few : (n : ℕ) (s : Signature) → Few (fewNames n s)
-unfolding fewNames
-count-few n s = refuse-few _ 38 n (omega arith)
+  schema-few : (x : Schema) → PlacedSchema f j x → f ≤ 38
+  unfolding PlacedSchema small
+  schema-few (plain t) h = text-few t h
+  schema-few (from i) h = ⊎-elim (at-few (includeNode i) _ refl) (include-few i) h
+  schema-few (both n a b) h = ⊎-elim (at-few n _ refl) (⊎-elim (λ x. schema-few a x) (λ x. schema-few b x)) h
 
-powers-few : (n : ℕ) (xs : Exprs) (k : ℕ) → Few (arePowers n xs k)
-unfolding arePowers Few
-powers-few n none k = tt
-powers-few n (more a xs) k = ((tt, omega arith), powers-few n xs (suc k))
+  paragraph-few : (p : Paragraph) → PlacedParagraph f j p → f ≤ 38
+  unfolding PlacedParagraph small
+  paragraph-few (given n is) h = at-few n _ refl h
+  paragraph-few (axiomatic n t) h = text-few t h
+  paragraph-few (schema n s ps x) h = schema-few x h
+  paragraph-few (abbreviation n i ps a) h = ⊎-elim (at-few n _ refl) (expr-few a) h
+  paragraph-few (constraint n p) h = pred-few p h
 
-members-few : (n : ℕ) (xs : Exprs) → Few (areMembers n xs)
-unfolding areMembers Few
-members-few n none = tt
-members-few n (more a xs) = (omega arith, members-few n xs)
-
-fresh-few : (n k p : ℕ) → Few (freshRow n k p)
-unfolding freshRow Few
-fresh-few n k zero = tt
-fresh-few n k (suc p) = (tt, fresh-few n (suc k) p)
-
-reference-few : (n : ℕ) (xs : Exprs) (m : Named) → Few (referenceItems n xs m)
-unfolding referenceItems Few
-reference-few n none unnamed = omega arith
-reference-few n (more a xs) unnamed = omega arith
-reference-few n none (ofLocal t) = (tt, omega arith)
-reference-few n (more a xs) (ofLocal t) = omega arith
-reference-few n none (ofGlobal p g) = (fresh-few n 1 p, (tt, omega arith))
-reference-few n (more a xs) (ofGlobal p g) = few-if (eqb (exprsLength (more a xs)) p) (arePowers n (more a xs) 1 ⨾ typed n (instance (row n 1 p) g)) (refusal 32 n) (powers-few n (more a xs) 1, (tt, omega arith)) (omega arith)
-
-theta-name-few : (b : Bool) (n : ℕ) (m : Named) → Few (thetaName b n m)
-unfolding thetaName Few
-theta-name-few false n m = tt
-theta-name-few true n unnamed = omega arith
-theta-name-few true n (ofLocal t) = tt
-theta-name-few true n (ofGlobal zero g) = tt
-theta-name-few true n (ofGlobal (suc p) g) = omega arith
-
-theta-names-few : (n k : ℕ) (s : Signature) (Γ : Scope) → Few (thetaNames n k s Γ)
-unfolding thetaNames Few
-theta-names-few n k noNames Γ = tt
-theta-names-few n k (naming i t s) Γ = (theta-name-few _ n _, theta-names-few n k s Γ)
-
-theta-few : (n k : ℕ) (m : Found) (Γ : Scope) → Few (thetaItems n k m Γ)
-unfolding thetaItems Few
-theta-few n k noSchema Γ = omega arith
-theta-few n k (aSchema p g) Γ = (theta-names-few n k _ Γ, (refuse-few _ 32 n (omega arith), (refuse-few _ 37 n (omega arith), (tt, omega arith))))
-
-include-few : (m : Found) (i : Include) (actuals : Items) → Few actuals → Few (includeRule m i actuals)
-unfolding includeRule Few
-include-few noSchema (include n s k xs rs) actuals h = omega arith
-include-few (aSchema p g) (include n s k xs rs) actuals h = few-if (eqb (exprsLength xs) p) (actuals ⨾ refuseIf (wrongNames k rs (componentsOf (instance nil g))) 37 n) (refusal 32 n) (h, refuse-few _ 37 n (omega arith)) (omega arith)
-
-mutual
-  unfolding exprItems Few
-
-  expr-few : (a : Expr) (Γ : Scope) → Few (exprItems a Γ)
-  expr-few (reference n i xs) Γ = (exprs-few xs Γ, reference-few n xs _)
-  expr-few (number n v) Γ = (tt, omega arith)
-  expr-few (integers n) Γ = (tt, omega arith)
-  expr-few (set n xs) Γ = (exprs-few xs Γ, (tt, (members-few n xs, (tt, omega arith))))
-  expr-few (tuple n xs) Γ = (exprs-few xs Γ, (tt, omega arith))
-  expr-few (product n xs) Γ = (exprs-few xs Γ, (powers-few n xs 1, (tt, omega arith)))
-  expr-few (power n a) Γ = (expr-few a Γ, ((tt, omega arith), (tt, omega arith)))
-  expr-few (application n a b) Γ = (expr-few a Γ, (expr-few b Γ, (tt, omega arith)))
-  expr-few (selection n a i) Γ = (expr-few a Γ, (tt, tt))
-  expr-few (theta n s k) Γ = theta-few n k _ Γ
-  expr-few (schemaSet n i) Γ = (include-items-few i Γ, (smalls-few _ _, (tt, omega arith)))
-  expr-few (arithmetic n o a b) Γ = (expr-few a Γ, (expr-few b Γ, (omega arith, (omega arith, (tt, omega arith)))))
-  expr-few (comprehension n t a) Γ = (text-few t Γ blank, (expr-few a _, (tt, omega arith)))
-
-  exprs-few : (xs : Exprs) (Γ : Scope) → Few (exprsItems xs Γ)
-  exprs-few none Γ = tt
-  exprs-few (more a xs) Γ = (expr-few a Γ, exprs-few xs Γ)
-
-  pred-few : (p : Pred) (Γ : Scope) → Few (predItems p Γ)
-  pred-few (truth n) Γ = tt
-  pred-few (equal n a b) Γ = (expr-few a Γ, (expr-few b Γ, omega arith))
-  pred-few (member n a b) Γ = (expr-few a Γ, (expr-few b Γ, omega arith))
-  pred-few (atMost n a b) Γ = (expr-few a Γ, (expr-few b Γ, (omega arith, omega arith)))
-  pred-few (not n p) Γ = pred-few p Γ
-  pred-few (connected n o p q) Γ = (pred-few p Γ, pred-few q Γ)
-  pred-few (quantified n o t p) Γ = (text-few t Γ blank, pred-few p _)
-
-  text-few : (t : Text) (Γ : Scope) (G : Dictionary) → Few (textItems t Γ G)
-  text-few (text n p ls) Γ G = (lines-few ls Γ G noNames, pred-few p _)
-
-  lines-few : (ls : Lines) (Γ : Scope) (G : Dictionary) (r : Signature) → Few (linesItems ls Γ G r)
-  lines-few end Γ G r = tt
-  lines-few (declaration n a is ls) Γ G r = ((expr-few a Γ, (tt, omega arith)), ((declared-few n is _ r, news-few n is G), ((tt, count-few n _), lines-few ls Γ G _)))
-  lines-few (inclusion i ls) Γ G r = (include-items-few i Γ, ((names-few _ _ r, news-few _ _ G), ((smalls-few _ _, count-few _ _), lines-few ls Γ G _)))
-
-  include-items-few : (i : Include) (Γ : Scope) → Few (includeItems i Γ)
-  include-items-few (include n s k xs rs) Γ = include-few _ (include n s k xs rs) _ (actuals-few xs n 1 Γ)
-
-  actuals-few : (xs : Exprs) (n k : ℕ) (Γ : Scope) → Few (actualItems xs n k Γ)
-  actuals-few none n k Γ = tt
-  actuals-few (more a xs) n k Γ = ((expr-few a Γ, (tt, omega arith)), actuals-few xs n (suc k) Γ)
-
-schema-few : (x : Schema) (Γ : Scope) → Few (schemaItems x Γ)
-unfolding schemaItems Few
-schema-few (plain t) Γ = text-few t Γ blank
-schema-few (from i) Γ = (include-items-few i Γ, smalls-few _ _)
-schema-few (both n a b) Γ = (schema-few a Γ, (schema-few b Γ, (names-few n _ _, count-few n _)))
-
-paragraph-few : (p : Paragraph) (D : Dictionary) → Few (paragraphItems p D)
-unfolding paragraphItems Few
-paragraph-few (given n is) D = news-few n is D
-paragraph-few (axiomatic n t) D = text-few t _ D
-paragraph-few (schema n s ps x) D = schema-few x _
-paragraph-few (abbreviation n i ps a) D = (expr-few a _, (news-few n (i ∷ []) D, tt))
-paragraph-few (constraint n p) D = pred-few p _
-
-paragraphs-few : (ps : List Paragraph) (D : Dictionary) (d f m : ℕ) → RefusesAt ps D d f m → f ≤ 38
-unfolding RefusesAt
-paragraphs-few [] D d f m h = absurd h
-paragraphs-few (p ∷ ps) D d f m (inl h) = refuses-few (paragraphItems p D) Any f m (paragraph-few p D) h
-paragraphs-few (p ∷ ps) D d f m (inr (h, (τ, t, inl y))) = omega (arith, y .1)
-paragraphs-few (p ∷ ps) D d f m (inr (h, (τ, t, inr y))) = paragraphs-few ps _ d f m (y .1)
+  paragraphs-few : (ps : List Paragraph) → PlacedParagraphs f j ps → f ≤ 38
+  unfolding PlacedParagraphs small
+  paragraphs-few [] h = absurd h
+  paragraphs-few (p ∷ ps) h = ⊎-elim (paragraph-few p) (⊎-elim (at-few (paragraphNode p) _ refl) (λ x. paragraphs-few ps x)) h
 
 same-number : (n p m q : ℕ) → refused n p ≡ refused m q → n ≡ m
 same-number n p m q e = cc
 
-answers-few : (doc : List ℕ) (d w n p : ℕ) → Answers doc d w (refused n p) → n ≤ 38
+answers-few : (doc : List ℕ) (d w n p : ℕ) → Answers Any doc d w (refused n p) → n ≤ 38
 unfolding Answers AnswersTree AnswersFrom
 answers-few doc d w n p (inl (f, m, e, s)) = let z = same-number n p f m s in let l = refused-low (readOf doc) (read-low doc) f m e in omega arith
 answers-few doc d w n p (inr (r, inl h)) = let z = same-number n p 21 0 (h .1) in omega arith
 answers-few doc d w n p (inr (r, inr (l, inl h))) = let z = same-number n p 22 0 (h .1) in omega arith
-answers-few doc d w n p (inr (r, inr (l, inr h))) = paragraphs-few (paragraphsOf _) blank d n p (h .1)
+answers-few doc d w n p (inr (r, inr (l, inr h))) = paragraphs-few n p (paragraphsOf _) (refusal-placed n p _ blank d (h .1))
 
 pub check-numbers : (doc : List ℕ) (d w n p : ℕ) → checkOf doc d w ≡ refused n p → n ≤ 38
 check-numbers doc d w n p e = answers-few doc d w n p (check-right doc d w (refused n p) .0 e)

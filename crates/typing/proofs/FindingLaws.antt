@@ -51,7 +51,7 @@ refuses-where t P f n A x h j = (λ r. go r (x .says), λ w. subst (λ (z : ℕ)
     go r (inl a) = let e = one t P h j f n r (x .stops a) in (e .0, e .1, a)
     go r (inr a) = absurd (not-both t P h j (x .goes a) r)
 
-either : (A B : Type 0) → A ⊎ (A → ⊥) → B ⊎ (B → ⊥) → (A ⊎ B) ⊎ ((A ⊎ B) → ⊥)
+pub either : (A B : Type 0) → A ⊎ (A → ⊥) → B ⊎ (B → ⊥) → (A ⊎ B) ⊎ ((A ⊎ B) → ⊥)
 either A B (inl a) b = inl (inl a)
 either A B (inr a) (inl b) = inl (inr b)
 either A B (inr a) (inr b) = inr neither

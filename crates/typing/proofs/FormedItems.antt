@@ -251,7 +251,7 @@ mutual
   )
 
   pub formedInclude : (i : Include) (Γ : Scope) → SizedInclude i → FormedScope Γ → FormedItems (includeItems i Γ)
-  formedInclude (include n s k xs rs) Γ z h = includeRule-formed (schemaNamed s Γ) (include n s k xs rs) (actualItems xs n 1 Γ) (formedActuals xs n 1 Γ z h)
+  formedInclude (include n s k xs rs) Γ z h = includeRule-formed (schemaNamed s Γ) (include n s k xs rs) (actualItems xs n 1 Γ) (formedActuals xs n 1 Γ (z .1) h)
 
   pub formedActuals : (xs : Exprs) (n k : ℕ) (Γ : Scope) → SizedExprs xs → FormedScope Γ → FormedItems (actualItems xs n k Γ)
   formedActuals none n k Γ z h = tt

@@ -12,7 +12,7 @@ use Rattle.typing.specs.Unknowns.{Table}
 use Rattle.typing.specs.Items.{Items, skip, _⨾_, fresh, equate, select, small, refusal, piece, Known, Meets, Any, And, Refuses}
 use Rattle.typing.specs.Pieces.{Owns}
 use Rattle.typing.specs.PieceEquations.{Solves, Beside, OwnSolution, ByOwnEquations}
-use Rattle.typing.proofs.SolvingRight.{Over}
+use Rattle.typing.proofs.ItemUnknowns.{Over}
 
 -- x is none of the own unknowns of the piece
 abbrev pub Off : Items → ℕ → Type 0

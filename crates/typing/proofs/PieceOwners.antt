@@ -1,12 +1,13 @@
 -- The nodes of an expression whose unknowns its own piece has, and those of the Texts and Includes inside it, whose unknowns other pieces have: each node is
 -- of one of the two.
-use mathlib.Core.Path.{_≡_, sym}
+use mathlib.Core.Path.{_≡_, refl, sym}
 use mathlib.Core.Bool.{Bool, true, false, cond}
 use mathlib.Core.List.{List, [], _∷_, _++_}
 use mathlib.Core.Logic.{_⊎_, inl, inr}
 use Prim.Native.Nat.{ℕ, zero, suc, _+_, _≤_}
 use native.Mathlib.Omega.{arith}
 use lib.Dec.{ltb, eqb}
+use borrow.Author.Tests.{eqb-true}
 use Rattle.words.specs.Loops.{has, occurrences}
 use Rattle.words.proofs.Lists.{occurrences-append}
 use Rattle.syntax.specs.Tree.{Expr, reference, number, integers, set, tuple, product, power, application, selection, theta, schemaSet, arithmetic}
@@ -25,7 +26,7 @@ use Rattle.typing.specs.Rules.{referenceItems, thetaName, thetaNames, th
 use Rattle.typing.specs.Pieces.{Owns}
 use Rattle.typing.proofs.OwnUnknowns.{include-agrees, text-agrees}
 use Rattle.typing.proofs.PieceTypes.{owned}
-use Rattle.typing.proofs.FewActuals.{AtMostSix, FewExpr, FewExprs}
+use Rattle.syntax.proofs.Sized.{SizedExpr, SizedExprs}
 use Rattle.typing.proofs.RuleUnknowns.{AllIn, Own, ScopeOver, NamedOver, name-over, inside-over}
 use Rattle.typing.proofs.SelectFindings.{has-left, has-right}
 use Rattle.typing.proofs.TypingLaws.{first-has}
@@ -171,24 +172,20 @@ module _ (x : ℕ) where
   members-own n (more a xs) (inl q) = q
   members-own n (more a xs) (inr q) = members-own n xs q
 
-  cond-owns : (C : Type 0) (b : Bool) (t u : Items) → (Owns t x → C) → (Owns u x → C) → Owns (cond b t u) x → C
-  cond-owns C true t u f g q = f q
-  cond-owns C false t u f g q = g q
-
-  reference-owns : (n : ℕ) (xs : Exprs) (m : Named) → AtMostSix xs → NamedOver Every m → Owns (referenceItems n xs m) x → OwnSlot n x
+  reference-owns : (n : ℕ) (xs : Exprs) (m : Named) → NamedOver Every m → Owns (referenceItems n xs m) x → OwnSlot n x
   unfolding referenceItems Owns NamedOver
-  reference-owns n none unnamed f h q = absurd q
-  reference-owns n (more a xs) unnamed f h q = absurd q
-  reference-owns n none (ofLocal t) f h q = typed-owns n t q
-  reference-owns n (more a xs) (ofLocal t) f h q = absurd q
-  reference-owns n none (ofGlobal p g) f h (inl q) = row-owns n 1 p (omega (arith, h)) q
-  reference-owns n none (ofGlobal p g) f h (inr q) = typed-owns n (instance (row n 1 p) g) q
-  reference-owns n (more a xs) (ofGlobal p g) f h q =
-      cond-owns (OwnSlot n x) (eqb (exprsLength (more a xs)) p) (arePowers n (more a xs) 1 ⨾ typed n (instance (row n 1 p) g)) (refusal 32 n) both (λ z. absurd z) q
+  reference-owns n none unnamed h q = absurd q
+  reference-owns n (more a xs) unnamed h q = absurd q
+  reference-owns n none (ofLocal t) h q = typed-owns n t q
+  reference-owns n (more a xs) (ofLocal t) h q = absurd q
+  reference-owns n none (ofGlobal p g) h (inl q) = row-owns n 1 p (omega (arith, h)) q
+  reference-owns n none (ofGlobal p g) h (inr q) = typed-owns n (instance (row n 1 p) g) q
+  reference-owns n (more a xs) (ofGlobal p g) h q = go (eqb (exprsLength (more a xs)) p) refl q
     where
-      both : Owns (arePowers n (more a xs) 1) x ⊎ Owns (typed n (instance (row n 1 p) g)) x → OwnSlot n x
-      both (inl z) = powers-own n (more a xs) 1 (omega (arith, f)) z
-      both (inr z) = typed-owns n (instance (row n 1 p) g) z
+      go : (b : Bool) → eqb (exprsLength (more a xs)) p ≡ b → Owns (cond b (arePowers n (more a xs) 1 ⨾ typed n (instance (row n 1 p) g)) (refusal 32 n)) x → OwnSlot n x
+      go true e (inl z) = powers-own n (more a xs) 1 (omega (arith, h, eqb-true (exprsLength (more a xs)) p e)) z
+      go true e (inr z) = typed-owns n (instance (row n 1 p) g) z
+      go false e z = absurd z
 
   refuseIf-owns : (b : Bool) (f n : ℕ) → Owns (refuseIf b f n) x → ⊥
   unfolding refuseIf Owns
@@ -225,21 +222,21 @@ module _ (x : ℕ) where
 
   -- an expression's own unknowns are of its own nodes
   mutual
-    unfolding exprItems ownNumbers FewExpr Owns
+    unfolding exprItems ownNumbers SizedExpr Owns
 
-    pub expr-owns : (a : Expr) (Γ : Scope) → FewExpr a → ScopeOver Every Γ → Owns (exprItems a Γ) x → SlotIn (ownNumbers a) x
-    expr-owns (reference n i xs) Γ f s (inl q) = in-left (ownsNumbers xs) (n ∷ []) x (exprs-own xs Γ (f .1) s q)
-    expr-owns (reference n i xs) Γ f s (inr q) = in-last (ownsNumbers xs) n x (reference-owns n xs (nameAt i Γ) (f .0) (name-over Every i Γ s) q)
+    pub expr-owns : (a : Expr) (Γ : Scope) → SizedExpr a → ScopeOver Every Γ → Owns (exprItems a Γ) x → SlotIn (ownNumbers a) x
+    expr-owns (reference n i xs) Γ f s (inl q) = in-left (ownsNumbers xs) (n ∷ []) x (exprs-own xs Γ f s q)
+    expr-owns (reference n i xs) Γ f s (inr q) = in-last (ownsNumbers xs) n x (reference-owns n xs (nameAt i Γ) (name-over Every i Γ s) q)
     expr-owns (number n v) Γ f s q = in-one n x (typed-owns n integer q)
     expr-owns (integers n) Γ f s q = in-one n x (typed-owns n (powerOf integer) q)
     expr-owns (set n xs) Γ f s (inl q) = in-left (ownsNumbers xs) (n ∷ []) x (exprs-own xs Γ f s q)
     expr-owns (set n xs) Γ f s (inr (inl e)) = in-last (ownsNumbers xs) n x (1, omega arith, sym e)
     expr-owns (set n xs) Γ f s (inr (inr (inl q))) = absurd (members-own n xs q)
     expr-owns (set n xs) Γ f s (inr (inr (inr q))) = in-last (ownsNumbers xs) n x (typed-owns n (powerOf (unknownAt n 1)) q)
-    expr-owns (tuple n xs) Γ f s (inl q) = in-left (ownsNumbers xs) (n ∷ []) x (exprs-own xs Γ f s q)
+    expr-owns (tuple n xs) Γ f s (inl q) = in-left (ownsNumbers xs) (n ∷ []) x (exprs-own xs Γ (f .1) s q)
     expr-owns (tuple n xs) Γ f s (inr q) = in-last (ownsNumbers xs) n x (typed-owns n (productOf (typesOf xs)) q)
     expr-owns (product n xs) Γ f s (inl q) = in-left (ownsNumbers xs) (n ∷ []) x (exprs-own xs Γ (f .1) s q)
-    expr-owns (product n xs) Γ f s (inr (inl q)) = in-last (ownsNumbers xs) n x (powers-own n xs 1 (omega (arith, f .0)) q)
+    expr-owns (product n xs) Γ f s (inr (inl q)) = in-last (ownsNumbers xs) n x (powers-own n xs 1 (omega (arith, f .0 .1)) q)
     expr-owns (product n xs) Γ f s (inr (inr q)) = in-last (ownsNumbers xs) n x (typed-owns n (powerOf (productOf (row n 1 (exprsLength xs)))) q)
     expr-owns (power n a) Γ f s (inl q) = in-left (ownNumbers a) (n ∷ []) x (expr-owns a Γ f s q)
     expr-owns (power n a) Γ f s (inr (inl q)) = in-last (ownNumbers a) n x (1, omega arith, power-owns n 1 a q)
@@ -265,7 +262,7 @@ module _ (x : ℕ) where
         in-left (ownNumbers a) (n ∷ []) x (expr-owns a (inside t Γ) (f .1) (inside-over Every t Γ (every-in (textNumbers t)) (f .0) s) q)
     expr-owns (comprehension n t a) Γ f s (inr (inr q)) = in-last (ownNumbers a) n x (typed-owns n (powerOf (typeOf a)) q)
 
-    exprs-own : (xs : Exprs) (Γ : Scope) → FewExprs xs → ScopeOver Every Γ → Owns (exprsItems xs Γ) x → SlotIn (ownsNumbers xs) x
+    exprs-own : (xs : Exprs) (Γ : Scope) → SizedExprs xs → ScopeOver Every Γ → Owns (exprsItems xs Γ) x → SlotIn (ownsNumbers xs) x
     exprs-own none Γ f s q = absurd q
     exprs-own (more a xs) Γ f s (inl q) = in-left (ownNumbers a) (ownsNumbers xs) x (expr-owns a Γ (f .0) s q)
     exprs-own (more a xs) Γ f s (inr q) = in-right (ownNumbers a) (ownsNumbers xs) x (exprs-own xs Γ (f .1) s q)

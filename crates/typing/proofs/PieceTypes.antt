@@ -23,6 +23,7 @@ use Rattle.typing.specs.Pieces.{Owns, InPiece, EachPiece, PieceTypes}
 use Rattle.typing.specs.Check.{accepted, checkOf, paragraphsOf}
 use Rattle.typing.specs.Verdicts.{Accepts}
 use Rattle.typing.proofs.ItemLaws.{Agrees}
+use Rattle.typing.proofs.FindingLaws.{either}
 use Rattle.typing.proofs.OneType.{onePara, one-type, extend-same}
 use Rattle.typing.proofs.CheckRight.{accepted-says}
 use Rattle.typing.proofs.AcceptedTypes.{no-other}
@@ -54,15 +55,6 @@ each-piece (piece n t) P T τ p h f =
     (λ σ w m q. subst (T m) (sym (owned t σ τ (p .1 σ τ w h) (slot m 0) q)) (f m), each-piece t P T τ (p .0) h f)
 
 -- ---- every expression node is in a piece: tables that differ at its type alone would agree otherwise
-either : (A B : Type 0) → A ⊎ (A → ⊥) → B ⊎ (B → ⊥) → (A ⊎ B) ⊎ ((A ⊎ B) → ⊥)
-either A B (inl a) b = inl (inl a)
-either A B (inr a) (inl b) = inl (inr b)
-either A B (inr a) (inr b) = inr neither
-  where
-    neither : A ⊎ B → ⊥
-    neither (inl x) = a x
-    neither (inr x) = b x
-
 never : ⊥ ⊎ (⊥ → ⊥)
 never = inr (λ z. z)
 
@@ -133,15 +125,15 @@ in-piece p D h m q = go (in-decide (paragraphItems p D) (slot m 0))
         absurd (differ (onePara σ τ p D (outside (slot m 0) σ τ (λ y n. sym (update-other (λ y. ℤ) (slot m 0) ℙℤ y (ne-eqb y (slot m 0) n))) (paragraphItems p D) Any h w) m q))
 
 -- ---- through the document
-piece-types : (ps : List Paragraph) (D : Dictionary) (d : ℕ) (E : Dictionary) (T : ℕ → Ty → Type 0) → Accepts ps D d E → ((m : ℕ) (g : Ty) → HasType ps D m g → T m g) → PieceTypes ps D T
+piece-types : (ps : List Paragraph) (D : Dictionary) (d : ℕ) (E : Dictionary) (T : ℕ → Ty → Type 0) → Accepts Any ps D d E → ((m : ℕ) (g : Ty) → HasType ps D m g → T m g) → PieceTypes ps D T
 unfolding Accepts HasType PieceTypes
 piece-types [] D d E T h f = tt
 piece-types (p ∷ ps) D d E T h f = (
   λ m q. in-piece p D (h .0) m q,
-  each-piece (paragraphItems p D) Any (λ m g. InParagraph m p → T m g) (h .1 .0) (h .0) (tt, h .1 .1)
-      (λ m q. f m (h .1 .0 (slot m 0)) ((h .1 .0, h .1 .1), inl (q, λ τ s. one-type p D (h .0) τ (h .1 .0) s (h .1 .1) m q))),
-  λ τ s. subst (λ X. PieceTypes ps X T) (extend-same p D (h .0) (h .1 .0) τ (h .1 .1) s)
-      (piece-types ps (extend p D (h .1 .0)) d E T (h .1 .3) (λ m g t. f m g ((h .1 .0, h .1 .1), inr (λ υ s. subst (λ X. HasType ps X m g) (extend-same p D (h .0) (h .1 .0) υ (h .1 .1) s) t)))),
+  each-piece (paragraphItems p D) Any (λ m g. InParagraph m p → T m g) (h .1 .0) (h .0) (h .1 .1)
+      (λ m q. f m (h .1 .0 (slot m 0)) ((h .1 .0, h .1 .1 .1), inl (q, λ τ s. one-type p D (h .0) τ (h .1 .0) s (h .1 .1 .1) m q))),
+  λ τ s. subst (λ X. PieceTypes ps X T) (extend-same p D (h .0) (h .1 .0) τ (h .1 .1 .1) s)
+      (piece-types ps (extend p D (h .1 .0)) d E T (h .1 .3) (λ m g t. f m g ((h .1 .0, h .1 .1 .1), inr (λ υ s. subst (λ X. HasType ps X m g) (extend-same p D (h .0) (h .1 .0) υ (h .1 .1 .1) s) t)))),
 )
 
 -- In every solution of its piece a node has the accepted type, and no other.

@@ -36,13 +36,14 @@ use Rattle.typing.specs.Check.{paragraphsOf}
 use Rattle.typing.specs.Pieces.{Owns}
 use Rattle.typing.specs.PieceEquations.{PiecesAlone}
 use Rattle.typing.proofs.Slots.{slots-apart}
-use Rattle.typing.proofs.SolvingRight.{Over}
+use Rattle.typing.proofs.ItemUnknowns.{Over}
 use Rattle.typing.proofs.WrittenOnce.{paragraphs-once}
-use Rattle.typing.proofs.FewActuals.{FewExpr, FewExprs, FewPred, FewText, FewLines, FewInclude, FewSchema, FewParagraph, FewParagraphs, document-few}
-use Rattle.typing.proofs.RuleUnknowns.{AllIn, all-left, all-right, FewParameters, Own, ScopeOver, SigOver, parameters-over, merge-over, declare-over}
+use Rattle.syntax.proofs.Sized.{SizedExpr, SizedExprs, SizedPred, SizedText, SizedLines, SizedInclude, SizedSchema, SizedParagraph, SizedParagraphs}
+use Rattle.typing.proofs.SizedTree.{tree-sized}
+use Rattle.typing.proofs.RuleUnknowns.{AllIn, all-left, all-right, FewRecorded, longer, Own, ScopeOver, SigOver, parameters-over, merge-over, declare-over}
 use Rattle.typing.proofs.RuleUnknowns.{included-over, smalls-over, type-over, none-over, lines-inside, inside-over, newNames-over, expr-over, pred-over, text-over, lines-over, schema-over}
-use Rattle.typing.proofs.SelectFindings.{EachOnce, once-left, once-right, has-left, has-right, Apart, apart, turned, longer, declaration-over}
-use Rattle.typing.proofs.SelectFindings.{inclusion-over, extend-few, few-paragraphs}
+use Rattle.typing.proofs.SelectFindings.{EachOnce, once-left, once-right, has-left, has-right, Apart, apart, turned, declaration-over}
+use Rattle.typing.proofs.SelectFindings.{inclusion-over, extend-few}
 use Rattle.typing.proofs.TypingLaws.{first-has, rest-has}
 use Rattle.typing.proofs.PieceOwners.{ownNumbers, innerNumbers, innersNumbers, parted, SlotIn, in-left, in-right, Every, expr-owns, power-owns}
 use Rattle.typing.proofs.PieceEquations.{Off, met-too, Separate, Alone, by-own}
@@ -258,13 +259,13 @@ module _ (n : ℕ) (t w : Items) (P : Table → Type 0) (C : ℕ → Type 0) (Γ
 
 -- what is claimed of an expression in its scope
 abbrev Parts : Expr → Scope → Type 1
-Parts a Γ = (w : Items) (P : Table → Type 0) (C : ℕ → Type 0) → Ready (exprNumbers a) w P C Γ → AllIn (Own (Off w)) (innerNumbers a) → EachOnce (exprNumbers a) → FewExpr a → Separate (exprItems a Γ) w P
+Parts a Γ = (w : Items) (P : Table → Type 0) (C : ℕ → Type 0) → Ready (exprNumbers a) w P C Γ → AllIn (Own (Off w)) (innerNumbers a) → EachOnce (exprNumbers a) → SizedExpr a → Separate (exprItems a Γ) w P
 
 few-scope : (C : ℕ → Type 0) (Γ : Scope) → ScopeOver C Γ → ScopeOver Every Γ
 few-scope C Γ h = scope-map C Every (λ x c. tt) Γ h
 
 pair-separate : (a b : Expr) (Γ : Scope) → Parts a Γ → Parts b Γ → (w : Items) (P : Table → Type 0) (C : ℕ → Type 0) → Ready (exprNumbers a ++ exprNumbers b) w P C Γ
-    → AllIn (Own (Off w)) (innerNumbers a ++ innerNumbers b) → EachOnce (exprNumbers a ++ exprNumbers b) → FewExpr a → FewExpr b → Separate (exprItems a Γ) w P × Separate (exprItems b Γ) w (And P (exprItems a Γ))
+    → AllIn (Own (Off w)) (innerNumbers a ++ innerNumbers b) → EachOnce (exprNumbers a ++ exprNumbers b) → SizedExpr a → SizedExpr b → Separate (exprItems a Γ) w P × Separate (exprItems b Γ) w (And P (exprItems a Γ))
 pair-separate a b Γ x y w P C r h o f g =
     let A = exprNumbers a in
     let B = exprNumbers b in (
@@ -275,7 +276,7 @@ pair-separate a b Γ x y w P C r h o f g =
 
 -- a piece of one expression whose type is the power of unknown k of node n: a Decl's, an Include's actual
 module _ (n k : ℕ) (a : Expr) (w : Items) (P : Table → Type 0) (C : ℕ → Type 0) (Γ : Scope) where
-  power-piece : k ≤ 6 → (has n (exprNumbers a) ≡ true → ⊥) → (C (slot n k) → ⊥) → Over (Off w) (exprItems a Γ ⨾ isPower n k a) → Ready (exprNumbers a) w P C Γ → EachOnce (exprNumbers a) → FewExpr a → Parts a Γ
+  power-piece : k ≤ 6 → (has n (exprNumbers a) ≡ true → ⊥) → (C (slot n k) → ⊥) → Over (Off w) (exprItems a Γ ⨾ isPower n k a) → Ready (exprNumbers a) w P C Γ → EachOnce (exprNumbers a) → SizedExpr a → Parts a Γ
       → Separate (piece n (exprItems a Γ ⨾ isPower n k a)) w P
   unfolding Separate Owns
   power-piece u z c v r o f s =
@@ -302,7 +303,7 @@ module _ (n k : ℕ) (a : Expr) (w : Items) (P : Table → Type 0) (C : ℕ → 
 
 -- the piece of an Abbreviation
 module _ (n : ℕ) (a : Expr) (w : Items) (P : Table → Type 0) (C : ℕ → Type 0) (Γ : Scope) where
-  expr-piece : Over (Off w) (exprItems a Γ) → Ready (exprNumbers a) w P C Γ → EachOnce (exprNumbers a) → FewExpr a → Parts a Γ → Separate (piece n (exprItems a Γ)) w P
+  expr-piece : Over (Off w) (exprItems a Γ) → Ready (exprNumbers a) w P C Γ → EachOnce (exprNumbers a) → SizedExpr a → Parts a Γ → Separate (piece n (exprItems a Γ)) w P
   expr-piece v r o f s =
       pieced n (exprItems a Γ) w P C Γ (exprNumbers a) before v r
       (λ q. s (exprItems a Γ) P C q (all-off (exprItems a Γ) (innerNumbers a) (λ m j h l z. slot-apart (ownNumbers a) (innerNumbers a) (own-apart a o) m j h l (owns (slot m j) z))) o f)
@@ -316,7 +317,7 @@ module _ (n : ℕ) (a : Expr) (w : Items) (P : Table → Type 0) (C : ℕ → Ty
 -- the piece of a relation; e: its equations
 module _ (n : ℕ) (a b : Expr) (e w : Items) (P : Table → Type 0) (C : ℕ → Type 0) (Γ : Scope) where
   relation-piece : ((x : ℕ) → Owns e x → ⊥) → Separate e (exprItems a Γ ⨾ exprItems b Γ ⨾ e) (And (And P (exprItems a Γ)) (exprItems b Γ)) → Over (Off w) (exprItems a Γ ⨾ exprItems b Γ ⨾ e)
-      → Ready (exprNumbers a ++ exprNumbers b) w P C Γ → EachOnce (exprNumbers a ++ exprNumbers b) → FewExpr a → FewExpr b → Parts a Γ → Parts b Γ → Separate (piece n (exprItems a Γ ⨾ exprItems b Γ ⨾ e)) w P
+      → Ready (exprNumbers a ++ exprNumbers b) w P C Γ → EachOnce (exprNumbers a ++ exprNumbers b) → SizedExpr a → SizedExpr b → Parts a Γ → Parts b Γ → Separate (piece n (exprItems a Γ ⨾ exprItems b Γ ⨾ e)) w P
   unfolding Separate Owns
   relation-piece z c v r o f g s u =
       pieced n t w P C Γ L before v r (λ q. let h = pair-separate a b Γ s u t P C q (all-off t J inner) o f g in (h .0, (h .1, c)))
@@ -358,7 +359,7 @@ NewRow n k C = (j : ℕ) → k ≤ j → j ≤ 6 → C (slot n j) → ⊥
 abbrev WithOne : ℕ → (ℕ → Type 0) → ℕ → Type 0
 WithOne y C x = (x ≡ y) ⊎ C x
 
-mentions : (N : ℕ → Type 0) (a : Expr) (n k : ℕ) (Γ : Scope) → N (slot n k) → AllIn (Own N) (exprNumbers a) → FewExpr a → ScopeOver N Γ → Over N (piece n (exprItems a Γ ⨾ isPower n k a))
+mentions : (N : ℕ → Type 0) (a : Expr) (n k : ℕ) (Γ : Scope) → N (slot n k) → AllIn (Own N) (exprNumbers a) → SizedExpr a → ScopeOver N Γ → Over N (piece n (exprItems a Γ ⨾ isPower n k a))
 unfolding Over Each
 mentions N a n k Γ u h f s = (expr-over N a Γ h f s, (u, (type-over N a h, (u, tt))))
 
@@ -394,12 +395,12 @@ rule-separate (aSchema p g) (include n s k xs rs) actuals w P h =
 
 -- ---- the rules
 mutual
-  unfolding exprItems exprNumbers innerNumbers FewExpr Separate Over Owns Flat Each
+  unfolding exprItems exprNumbers innerNumbers SizedExpr Separate Over Owns Flat Each
 
-  expr-separate : (a : Expr) (Γ : Scope) (w : Items) (P : Table → Type 0) (C : ℕ → Type 0) → Ready (exprNumbers a) w P C Γ → AllIn (Own (Off w)) (innerNumbers a) → EachOnce (exprNumbers a) → FewExpr a
+  expr-separate : (a : Expr) (Γ : Scope) (w : Items) (P : Table → Type 0) (C : ℕ → Type 0) → Ready (exprNumbers a) w P C Γ → AllIn (Own (Off w)) (innerNumbers a) → EachOnce (exprNumbers a) → SizedExpr a
       → Separate (exprItems a Γ) w P
   expr-separate (reference n i xs) Γ w P C r h o f = (
-    exprs-separate xs Γ w P C (ready-left w P C Γ (exprsNumbers xs) (n ∷ []) r) h (once-left (exprsNumbers xs) (n ∷ []) o) (f .1),
+    exprs-separate xs Γ w P C (ready-left w P C Γ (exprsNumbers xs) (n ∷ []) r) h (once-left (exprsNumbers xs) (n ∷ []) o) f,
     reference-separate w n xs (nameAt i Γ) (And P (exprsItems xs Γ)),
   )
   expr-separate (number n v) Γ w P C r h o f = (tt, inl refl)
@@ -409,7 +410,7 @@ mutual
     (tt, (members-separate w n xs (And (And P (exprsItems xs Γ)) (fresh (slot n 1))), (tt, inl refl))),
   )
   expr-separate (tuple n xs) Γ w P C r h o f =
-      (exprs-separate xs Γ w P C (ready-left w P C Γ (exprsNumbers xs) (n ∷ []) r) h (once-left (exprsNumbers xs) (n ∷ []) o) f, (tt, inl refl))
+      (exprs-separate xs Γ w P C (ready-left w P C Γ (exprsNumbers xs) (n ∷ []) r) h (once-left (exprsNumbers xs) (n ∷ []) o) (f .1), (tt, inl refl))
   expr-separate (product n xs) Γ w P C r h o f = (
     exprs-separate xs Γ w P C (ready-left w P C Γ (exprsNumbers xs) (n ∷ []) r) h (once-left (exprsNumbers xs) (n ∷ []) o) (f .1),
     (powers-separate w n xs 1 (And P (exprsItems xs Γ)), (tt, inl refl)),
@@ -446,7 +447,7 @@ mutual
         ),
       )
 
-  exprs-separate : (xs : Exprs) (Γ : Scope) (w : Items) (P : Table → Type 0) (C : ℕ → Type 0) → Ready (exprsNumbers xs) w P C Γ → AllIn (Own (Off w)) (innersNumbers xs) → EachOnce (exprsNumbers xs) → FewExprs xs
+  exprs-separate : (xs : Exprs) (Γ : Scope) (w : Items) (P : Table → Type 0) (C : ℕ → Type 0) → Ready (exprsNumbers xs) w P C Γ → AllIn (Own (Off w)) (innersNumbers xs) → EachOnce (exprsNumbers xs) → SizedExprs xs
       → Separate (exprsItems xs Γ) w P
   exprs-separate none Γ w P C r h o f = tt
   exprs-separate (more a xs) Γ w P C r h o f =
@@ -457,7 +458,7 @@ mutual
             (all-right (Own (Off w)) (innerNumbers a) (innersNumbers xs) h) (once-right A B o) (f .1),
       )
 
-  pred-separate : (p : Pred) (Γ : Scope) (w : Items) (P : Table → Type 0) (C : ℕ → Type 0) → Ready (predNumbers p) w P C Γ → AllIn (Own (Off w)) (predNumbers p) → EachOnce (predNumbers p) → FewPred p
+  pred-separate : (p : Pred) (Γ : Scope) (w : Items) (P : Table → Type 0) (C : ℕ → Type 0) → Ready (predNumbers p) w P C Γ → AllIn (Own (Off w)) (predNumbers p) → EachOnce (predNumbers p) → SizedPred p
       → Separate (predItems p Γ) w P
   pred-separate (truth n) Γ w P C r h o f = tt
   pred-separate (equal n a b) Γ w P C r h o f =
@@ -499,7 +500,7 @@ mutual
             (all-right (Own (Off w)) T A l) (once-right T A u) (f .1),
       )
 
-  text-separate : (t : Text) (Γ : Scope) (G : Dictionary) (w : Items) (P : Table → Type 0) (C : ℕ → Type 0) → Ready (textNumbers t) w P C Γ → AllIn (Own (Off w)) (textNumbers t) → EachOnce (textNumbers t) → FewText t
+  text-separate : (t : Text) (Γ : Scope) (G : Dictionary) (w : Items) (P : Table → Type 0) (C : ℕ → Type 0) → Ready (textNumbers t) w P C Γ → AllIn (Own (Off w)) (textNumbers t) → EachOnce (textNumbers t) → SizedText t
       → Separate (textItems t Γ G) w P
   text-separate (text n p ls) Γ G w P C r h o f =
       let A = predNumbers p in
@@ -518,7 +519,7 @@ mutual
       )
 
   lines-separate : (ls : Lines) (Γ : Scope) (G : Dictionary) (s : Signature) (w : Items) (P : Table → Type 0) (C : ℕ → Type 0) → Ready (linesNumbers ls) w P C Γ → AllIn (Own (Off w)) (linesNumbers ls) → SigOver C s → SigOver (Off w) s
-      → EachOnce (linesNumbers ls) → FewLines ls → Separate (linesItems ls Γ G s) w P
+      → EachOnce (linesNumbers ls) → SizedLines ls → Separate (linesItems ls Γ G s) w P
   lines-separate end Γ G s w P C r h k j o f = tt
   lines-separate (declaration n a is ls) Γ G s w P C r h k j o f =
       let A = exprNumbers a in
@@ -573,7 +574,7 @@ mutual
         ),
       )
 
-  include-separate : (i : Include) (Γ : Scope) (w : Items) (P : Table → Type 0) (C : ℕ → Type 0) → Ready (includeNumbers i) w P C Γ → AllIn (Own (Off w)) (includeNumbers i) → EachOnce (includeNumbers i) → FewInclude i
+  include-separate : (i : Include) (Γ : Scope) (w : Items) (P : Table → Type 0) (C : ℕ → Type 0) → Ready (includeNumbers i) w P C Γ → AllIn (Own (Off w)) (includeNumbers i) → EachOnce (includeNumbers i) → SizedInclude i
       → Separate (includeItems i Γ) w P
   include-separate (include n c k xs rs) Γ w P C r h o f =
       let X = exprsNumbers xs in
@@ -582,7 +583,7 @@ mutual
       (ready-left w P C Γ X (n ∷ []) r) (all-left (Own (Off w)) X (n ∷ []) h) (once-left X (n ∷ []) o) (f .1))
 
   actuals-separate : (xs : Exprs) (n k : ℕ) (Γ : Scope) (w : Items) (P : Table → Type 0) (C : ℕ → Type 0) → (has n (exprsNumbers xs) ≡ true → ⊥) → k + exprsLength xs ≤ 7 → NewRow n k C → Own (Off w) n
-      → Ready (exprsNumbers xs) w P C Γ → AllIn (Own (Off w)) (exprsNumbers xs) → EachOnce (exprsNumbers xs) → FewExprs xs → Separate (actualItems xs n k Γ) w P
+      → Ready (exprsNumbers xs) w P C Γ → AllIn (Own (Off w)) (exprsNumbers xs) → EachOnce (exprsNumbers xs) → SizedExprs xs → Separate (actualItems xs n k Γ) w P
   actuals-separate none n k Γ w P C z l q own r h o f = tt
   actuals-separate (more a xs) n k Γ w P C z l q own r h o f =
       let A = exprNumbers a in
@@ -599,9 +600,9 @@ mutual
             (ready-and w P N Γ B x (mentions N a n k Γ (inl refl) (all-map (With A C) N (λ y c. inr c) A (own-all A C)) (f .0) (v .scope)) v) (all-right (Own (Off w)) A B h) (once-right A B o) (f .1),
       )
 
-schema-separate : (x : Schema) (Γ : Scope) (w : Items) (P : Table → Type 0) (C : ℕ → Type 0) → Ready (schemaNumbers x) w P C Γ → AllIn (Own (Off w)) (schemaNumbers x) → EachOnce (schemaNumbers x) → FewSchema x
+schema-separate : (x : Schema) (Γ : Scope) (w : Items) (P : Table → Type 0) (C : ℕ → Type 0) → Ready (schemaNumbers x) w P C Γ → AllIn (Own (Off w)) (schemaNumbers x) → EachOnce (schemaNumbers x) → SizedSchema x
     → Separate (schemaItems x Γ) w P
-unfolding schemaItems schemaNumbers FewSchema Separate Over Flat
+unfolding schemaItems schemaNumbers SizedSchema Separate Over Flat
 schema-separate (plain t) Γ w P C r h o f = text-separate t Γ blank w P C r h o f
 schema-separate (from i) Γ w P C r h o f = (
   include-separate i Γ w P C r h o f,
@@ -632,7 +633,7 @@ unfolding Owns
 off-skip [] = tt
 off-skip (m ∷ l) = (λ k u q. q, off-skip l)
 
-module _ (D : Dictionary) (d : FewParameters D) where
+module _ (D : Dictionary) (d : FewRecorded D) where
   start : (l ps : List ℕ) → Ready l skip Any Nothing (withParameters ps 1 (globals D))
   unfolding ScopeOver
   start l ps = record {
@@ -645,16 +646,16 @@ module _ (D : Dictionary) (d : FewParameters D) where
   names-separate : (n : ℕ) (is : List ℕ) (P : Table → Type 0) → Separate (newNames n is D) skip P
   names-separate n is P = flat-separate (newNames n is D) skip P (newNames-flat n is D) (newNames-over (Off skip) n is D)
 
-  paragraph-separate : (p : Paragraph) → EachOnce (paragraphNumbers p) → FewParagraph p → Separate (paragraphItems p D) skip Any
-  unfolding paragraphItems paragraphNumbers FewParagraph Separate withParameters Owns Each
+  paragraph-separate : (p : Paragraph) → EachOnce (paragraphNumbers p) → SizedParagraph p → Separate (paragraphItems p D) skip Any
+  unfolding paragraphItems paragraphNumbers SizedParagraph Separate withParameters Owns Each
   paragraph-separate (given n is) o f = names-separate n is Any
   paragraph-separate (axiomatic n t) o f = text-separate t (globals D) D skip Any Nothing (start (textNumbers t) []) (off-skip (textNumbers t)) (once-left (textNumbers t) (n ∷ []) o) f
   paragraph-separate (schema n c ps x) o f =
-      schema-separate x (withParameters ps 1 (globals D)) skip Any Nothing (start (schemaNumbers x) ps) (off-skip (schemaNumbers x)) (once-left (schemaNumbers x) (n ∷ []) o) (f .1)
+      schema-separate x (withParameters ps 1 (globals D)) skip Any Nothing (start (schemaNumbers x) ps) (off-skip (schemaNumbers x)) (once-left (schemaNumbers x) (n ∷ []) o) f
   paragraph-separate (abbreviation n i ps a) o f =
       let Γ = withParameters ps 1 (globals D) in
       let r = start (exprNumbers a) ps in (
-        expr-piece n a skip Any Nothing Γ (expr-over (Off skip) a Γ (off-skip (exprNumbers a)) (f .1) (r .off)) r (once-left (exprNumbers a) (n ∷ []) o) (f .1) (λ w P C r h o f. expr-separate a Γ w P C r h o f),
+        expr-piece n a skip Any Nothing Γ (expr-over (Off skip) a Γ (off-skip (exprNumbers a)) f (r .off)) r (once-left (exprNumbers a) (n ∷ []) o) f (λ w P C r h o f. expr-separate a Γ w P C r h o f),
         (names-separate n (i ∷ []) _, λ q. q),
       )
   paragraph-separate (constraint n p) o f = pred-separate p (globals D) skip Any Nothing (start (predNumbers p) []) (off-skip (predNumbers p)) (once-left (predNumbers p) (n ∷ []) o) f
@@ -662,14 +663,14 @@ module _ (D : Dictionary) (d : FewParameters D) where
 alone-any : Alone skip Any Any
 alone-any = record { own = λ σ h. tt; all = λ σ h. tt }
 
-paragraphs-alone : (ps : List Paragraph) (D : Dictionary) → EachOnce (paragraphsNumbers ps) → FewParagraphs ps → FewParameters D → PiecesAlone ps D
-unfolding PiecesAlone paragraphsNumbers FewParagraphs
+paragraphs-alone : (ps : List Paragraph) (D : Dictionary) → EachOnce (paragraphsNumbers ps) → SizedParagraphs ps → FewRecorded D → PiecesAlone ps D
+unfolding PiecesAlone paragraphsNumbers SizedParagraphs
 paragraphs-alone [] D o f d = tt
 paragraphs-alone (p ∷ ps) D o f d = (
   by-own (paragraphItems p D) skip Any Any (paragraph-separate D d p (once-left (paragraphNumbers p) (paragraphsNumbers ps) o) (f .0)) alone-any,
-  λ τ h. paragraphs-alone ps (extend p D τ) (once-right (paragraphNumbers p) (paragraphsNumbers ps) o) (f .1) (extend-few p D τ (f .0) d),
+  λ τ h. paragraphs-alone ps (extend p D τ) (once-right (paragraphNumbers p) (paragraphsNumbers ps) o) (f .1) (extend-few p D τ (f .2) d),
 )
 
 -- 33, 34 AND 35 REST ON THEIR PIECE'S OWN EQUATIONS, in every readable document.
 pub pieces-alone : (doc : List ℕ) → readOf doc ≡ Readable → PiecesAlone (paragraphsOf (treeOf doc)) blank
-pieces-alone doc r = paragraphs-alone (paragraphsOf (treeOf doc)) blank (paragraphs-once doc r) (few-paragraphs (treeOf doc) (document-few doc r)) (unfold FewParameters in tt)
+pieces-alone doc r = paragraphs-alone (paragraphsOf (treeOf doc)) blank (paragraphs-once doc r) (tree-sized doc r) (unfold FewRecorded in tt)

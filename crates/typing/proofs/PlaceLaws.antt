@@ -325,7 +325,7 @@ module _ (f j : ℕ) where
   paragraph-placed (constraint n p) D P r = pred-placed p (globals D) P r
 
   -- Through the paragraphs, with 22.
-  pub refusal-placed : (ps : List Paragraph) (D : Dictionary) (d : ℕ) → RefusesAt ps D d f j → PlacedParagraphs f j ps
+  pub refusal-placed : (ps : List Paragraph) (D : Dictionary) (d : ℕ) → RefusesAt Any ps D d f j → PlacedParagraphs f j ps
   unfolding RefusesAt PlacedParagraphs has
   refusal-placed [] D d r = absurd r
   refusal-placed (p ∷ ps) D d (inl r) = inl (paragraph-placed p D Any r)

@@ -1,10 +1,12 @@
 -- The unknowns of the rules' items are those of the nodes that the items are of, and those in scope: what N has of these, it has of all (`Over`).
+use mathlib.Core.Path.{_≡_, refl}
 use mathlib.Core.Bool.{Bool, true, false, cond}
 use mathlib.Core.List.{List, [], _∷_, _++_}
 use mathlib.Core.Option.{Option, some, none as nothing}
 use Prim.Native.Nat.{ℕ, zero, suc, _+_, _≤_}
 use native.Mathlib.Omega.{arith}
 use lib.Dec.{ltb, eqb}
+use borrow.Author.Tests.{eqb-true}
 use Rattle.syntax.specs.Tree.{Expr, reference, number, integers, set, tuple, product, power, application, selection, theta, schemaSet, arithmetic}
 use Rattle.syntax.specs.Tree.{comprehension, Exprs, none, more, Pred, truth, equal, member, atMost, not, connected, quantified, Text, text, Lines}
 use Rattle.syntax.specs.Tree.{end, declaration, inclusion, Include, include, Schema, plain, from, both, exprNode, exprsLength}
@@ -24,8 +26,8 @@ use Rattle.typing.specs.Conditions.{refuseIf, sameType, mergeDeclared, m
 use Rattle.typing.specs.Conditions.{arePowers, areMembers, freshRow}
 use Rattle.typing.specs.Rules.{referenceItems, thetaName, thetaNames, typeInScope, thetaSignature, thetaItems, includeRule, exprItems}
 use Rattle.typing.specs.Rules.{exprsItems, predItems, textItems, linesItems, includeItems, actualItems, schemaItems}
-use Rattle.typing.proofs.SolvingRight.{Over}
-use Rattle.typing.proofs.FewActuals.{AtMostSix, FewExpr, FewExprs, FewPred, FewText, FewLines, FewInclude, FewSchema}
+use Rattle.typing.proofs.ItemUnknowns.{Over}
+use Rattle.syntax.proofs.Sized.{SizedExpr, SizedExprs, SizedPred, SizedText, SizedLines, SizedInclude, SizedSchema}
 
 -- M of each number of the list
 abbrev pub AllIn : (ℕ → Type 0) → List ℕ → Type 0
@@ -40,11 +42,16 @@ pub all-right : (M : ℕ → Type 0) (a b : List ℕ) → AllIn M (a ++ b) → A
 all-right M [] b h = h
 all-right M (x ∷ a) b h = all-right M a b (h .1)
 
--- recorded names have at most 6 parameters
-unfoldable pub FewParameters : Dictionary → Type 0
-FewParameters blank = Unit {0}
-FewParameters (D ▸ nameEntry i p g) = FewParameters D × (p ≤ 6)
-FewParameters (D ▸ schemaEntry s p g) = FewParameters D
+-- recorded names have at most 4 parameters
+unfoldable pub FewRecorded : Dictionary → Type 0
+FewRecorded blank = Unit {0}
+FewRecorded (D ▸ nameEntry i p g) = FewRecorded D × (p ≤ 4)
+FewRecorded (D ▸ schemaEntry s p g) = FewRecorded D
+
+-- unknown k of a node for one actual, k + 1 and so on for those after it
+pub longer : (k : ℕ) (a : Expr) (xs : Exprs) → k + exprsLength (more a xs) ≤ 7 → (k ≤ 6) × (suc k + exprsLength xs ≤ 7)
+unfolding exprsLength
+longer k a xs l = (omega (arith, l), omega (arith, l))
 
 module _ (N : ℕ → Type 0) where
   -- N of the unknowns of node m
@@ -52,13 +59,13 @@ module _ (N : ℕ → Type 0) where
   Own m = (k : ℕ) → k ≤ 6 → N (slot m k)
 
   unfoldable pub ScopeOver : Scope → Type 0
-  ScopeOver (globals D) = FewParameters D
+  ScopeOver (globals D) = FewRecorded D
   ScopeOver (local i t Γ) = Each N t × ScopeOver Γ
 
   unfoldable pub NamedOver : Named → Type 0
   NamedOver unnamed = Unit {0}
   NamedOver (ofLocal t) = Each N t
-  NamedOver (ofGlobal p g) = p ≤ 6
+  NamedOver (ofGlobal p g) = p ≤ 4
 
   unfoldable pub SigOver : Signature → Type 0
   SigOver noNames = Unit {0}
@@ -68,8 +75,8 @@ module _ (N : ℕ → Type 0) where
   either-named true m n h k = h
   either-named false m n h k = k
 
-  nameIn-over : (i : ℕ) (D : Dictionary) → FewParameters D → NamedOver (nameIn i D)
-  unfolding nameIn FewParameters NamedOver
+  nameIn-over : (i : ℕ) (D : Dictionary) → FewRecorded D → NamedOver (nameIn i D)
+  unfolding nameIn FewRecorded NamedOver
   nameIn-over i blank h = tt
   nameIn-over i (D ▸ nameEntry j p g) h = either-named (eqb i j) (ofGlobal p g) (nameIn i D) (h .1) (nameIn-over i D (h .0))
   nameIn-over i (D ▸ schemaEntry s p g) h = nameIn-over i D h
@@ -209,12 +216,12 @@ module _ (N : ℕ → Type 0) where
   unfolding includeNumbers includeNode
   include-own (include n s k xs rs) h = all-right Own (exprsNumbers xs) (n ∷ []) h .0
 
-  pub included-over : (i : Include) (Γ : Scope) → AllIn Own (includeNumbers i) → FewInclude i → SigOver (includeSignature i Γ)
-  unfolding includeSignature includeNumbers FewInclude
+  pub included-over : (i : Include) (Γ : Scope) → AllIn Own (includeNumbers i) → SizedInclude i → SigOver (includeSignature i Γ)
+  unfolding includeSignature includeNumbers SizedInclude
   included-over (include n s k xs rs) Γ h f = brought-over (schemaNamed s Γ) (row n 1 (exprsLength xs)) k rs (row-over n 1 (exprsLength xs) (all-right Own (exprsNumbers xs) (n ∷ []) h .0) (omega (arith, f .0)))
 
-  lines-sig-over : (ls : Lines) (Γ : Scope) (r : Signature) → AllIn Own (linesNumbers ls) → FewLines ls → SigOver r → SigOver (linesSignature ls Γ r)
-  unfolding linesSignature linesNumbers FewLines Each
+  lines-sig-over : (ls : Lines) (Γ : Scope) (r : Signature) → AllIn Own (linesNumbers ls) → SizedLines ls → SigOver r → SigOver (linesSignature ls Γ r)
+  unfolding linesSignature linesNumbers SizedLines Each
   lines-sig-over end Γ r h f k = k
   lines-sig-over (declaration n a is ls) Γ r h f k =
       let own = all-right Own (exprNumbers a) (n ∷ []) (all-left Own (exprNumbers a ++ (n ∷ [])) (linesNumbers ls) h) .0 in
@@ -223,21 +230,21 @@ module _ (N : ℕ → Type 0) where
       lines-sig-over ls Γ (merge (includeSignature i Γ) r) (all-right Own (includeNumbers i) (linesNumbers ls) h) (f .1)
       (merge-over (includeSignature i Γ) r (included-over i Γ (all-left Own (includeNumbers i) (linesNumbers ls) h) (f .0)) k)
 
-  pub lines-inside : (n : ℕ) (p : Pred) (ls : Lines) (Γ : Scope) → AllIn Own (linesNumbers ls) → FewLines ls → ScopeOver Γ → ScopeOver (inside (text n p ls) Γ)
+  pub lines-inside : (n : ℕ) (p : Pred) (ls : Lines) (Γ : Scope) → AllIn Own (linesNumbers ls) → SizedLines ls → ScopeOver Γ → ScopeOver (inside (text n p ls) Γ)
   unfolding inside textSignature SigOver
   lines-inside n p ls Γ h f k = enter-over (linesSignature ls Γ noNames) Γ (lines-sig-over ls Γ noNames h f tt) k
 
-  pub inside-over : (t : Text) (Γ : Scope) → AllIn Own (textNumbers t) → FewText t → ScopeOver Γ → ScopeOver (inside t Γ)
-  unfolding textNumbers FewText
+  pub inside-over : (t : Text) (Γ : Scope) → AllIn Own (textNumbers t) → SizedText t → ScopeOver Γ → ScopeOver (inside t Γ)
+  unfolding textNumbers SizedText
   inside-over (text n p ls) Γ h f k =
       lines-inside n p ls Γ (all-right Own (predNumbers p) (linesNumbers ls) (all-left Own (predNumbers p ++ linesNumbers ls) (n ∷ []) h)) (f .1) k
 
-  text-sig-over : (t : Text) (Γ : Scope) → AllIn Own (textNumbers t) → FewText t → SigOver (textSignature t Γ)
-  unfolding textSignature textNumbers FewText SigOver
+  text-sig-over : (t : Text) (Γ : Scope) → AllIn Own (textNumbers t) → SizedText t → SigOver (textSignature t Γ)
+  unfolding textSignature textNumbers SizedText SigOver
   text-sig-over (text n p ls) Γ h f = lines-sig-over ls Γ noNames (all-right Own (predNumbers p) (linesNumbers ls) (all-left Own (predNumbers p ++ linesNumbers ls) (n ∷ []) h)) (f .1) tt
 
-  pub schema-sig-over : (x : Schema) (Γ : Scope) → AllIn Own (schemaNumbers x) → FewSchema x → SigOver (schemaSignature x Γ)
-  unfolding schemaSignature schemaNumbers FewSchema
+  schema-sig-over : (x : Schema) (Γ : Scope) → AllIn Own (schemaNumbers x) → SizedSchema x → SigOver (schemaSignature x Γ)
+  unfolding schemaSignature schemaNumbers SizedSchema
   schema-sig-over (plain t) Γ h f = text-sig-over t Γ h f
   schema-sig-over (from i) Γ h f = included-over i Γ h f
   schema-sig-over (both n a b) Γ h f =
@@ -264,7 +271,7 @@ module _ (N : ℕ → Type 0) where
   declared-over n [] t r h k = tt
   declared-over n (i ∷ is) t r h k = (sameType-over n t (termIn i r) h (termIn-over i r k), declared-over n is t r h k)
 
-  pub names-over : (n : ℕ) (s r : Signature) → SigOver s → SigOver r → Over N (mergeNames n s r)
+  names-over : (n : ℕ) (s r : Signature) → SigOver s → SigOver r → Over N (mergeNames n s r)
   unfolding mergeNames Over SigOver
   names-over n noNames r h k = tt
   names-over n (naming i t s) r h k = (sameType-over n t (termIn i r) (h .0) (termIn-over i r k), names-over n s r (h .1) k)
@@ -285,7 +292,7 @@ module _ (N : ℕ → Type 0) where
   smalls-over n noNames h = tt
   smalls-over n (naming i t s) h = (h .0, smalls-over n s (h .1))
 
-  pub few-over : (n : ℕ) (s : Signature) → Over N (fewNames n s)
+  few-over : (n : ℕ) (s : Signature) → Over N (fewNames n s)
   unfolding fewNames
   few-over n s = refuseIf-over (ltb 16 (countNames s)) 38 n
 
@@ -332,17 +339,22 @@ module _ (N : ℕ → Type 0) where
   typed-over n t o h = (o 0 (omega arith), (o 0 (omega arith), h))
 
   -- ---- Ref, Theta, Include
-  reference-over : (n : ℕ) (xs : Exprs) (m : Named) → Own n → AllIn Own (exprsNumbers xs) → AtMostSix xs → NamedOver m → Over N (referenceItems n xs m)
+  reference-over : (n : ℕ) (xs : Exprs) (m : Named) → Own n → AllIn Own (exprsNumbers xs) → NamedOver m → Over N (referenceItems n xs m)
   unfolding referenceItems Over NamedOver
-  reference-over n none unnamed o h f k = tt
-  reference-over n (more a xs) unnamed o h f k = tt
-  reference-over n none (ofLocal t) o h f k = typed-over n t o k
-  reference-over n (more a xs) (ofLocal t) o h f k = tt
-  reference-over n none (ofGlobal p g) o h f k =
+  reference-over n none unnamed o h k = tt
+  reference-over n (more a xs) unnamed o h k = tt
+  reference-over n none (ofLocal t) o h k = typed-over n t o k
+  reference-over n (more a xs) (ofLocal t) o h k = tt
+  reference-over n none (ofGlobal p g) o h k =
       (fresh-over n 1 p o (omega (arith, k)), typed-over n (instance (row n 1 p) g) o (instance-over (row n 1 p) g (row-over n 1 p o (omega (arith, k)))))
-  reference-over n (more a xs) (ofGlobal p g) o h f k =
-      cond-over (eqb (exprsLength (more a xs)) p) (arePowers n (more a xs) 1 ⨾ typed n (instance (row n 1 p) g)) (refusal 32 n)
-      (powers-over n (more a xs) 1 o h (omega (arith, f)), typed-over n (instance (row n 1 p) g) o (instance-over (row n 1 p) g (row-over n 1 p o (omega (arith, k))))) tt
+  reference-over n (more a xs) (ofGlobal p g) o h k = go (eqb (exprsLength (more a xs)) p) refl
+    where
+      go : (b : Bool) → eqb (exprsLength (more a xs)) p ≡ b → Over N (cond b (arePowers n (more a xs) 1 ⨾ typed n (instance (row n 1 p) g)) (refusal 32 n))
+      go true e = (
+        powers-over n (more a xs) 1 o h (omega (arith, k, eqb-true (exprsLength (more a xs)) p e)),
+        typed-over n (instance (row n 1 p) g) o (instance-over (row n 1 p) g (row-over n 1 p o (omega (arith, k)))),
+      )
+      go false e = tt
 
   thetaName-over : (b : Bool) (n : ℕ) (m : Named) → Over N (thetaName b n m)
   unfolding thetaName Over
@@ -389,18 +401,14 @@ module _ (N : ℕ → Type 0) where
   unfolding SigOver
   none-over = tt
 
-  longer : (k : ℕ) (a : Expr) (xs : Exprs) → k + exprsLength (more a xs) ≤ 7 → suc k + exprsLength xs ≤ 7
-  unfolding exprsLength
-  longer k a xs l = omega (arith, l)
-
   -- ---- the rules
   mutual
-    unfolding exprItems exprNumbers FewExpr Over Each
+    unfolding exprItems exprNumbers SizedExpr Over Each
 
-    pub expr-over : (a : Expr) (Γ : Scope) → AllIn Own (exprNumbers a) → FewExpr a → ScopeOver Γ → Over N (exprItems a Γ)
+    pub expr-over : (a : Expr) (Γ : Scope) → AllIn Own (exprNumbers a) → SizedExpr a → ScopeOver Γ → Over N (exprItems a Γ)
     expr-over (reference n i xs) Γ h f s =
         let l = all-left Own (exprsNumbers xs) (n ∷ []) h in
-        (exprs-over xs Γ l (f .1) s, reference-over n xs (nameAt i Γ) (all-right Own (exprsNumbers xs) (n ∷ []) h .0) l (f .0) (name-over i Γ s))
+        (exprs-over xs Γ l f s, reference-over n xs (nameAt i Γ) (all-right Own (exprsNumbers xs) (n ∷ []) h .0) l (name-over i Γ s))
     expr-over (number n v) Γ h f s = typed-over n integer (h .0) tt
     expr-over (integers n) Γ h f s = typed-over n (powerOf integer) (h .0) (tt, tt)
     expr-over (set n xs) Γ h f s =
@@ -409,11 +417,11 @@ module _ (N : ℕ → Type 0) where
         (exprs-over xs Γ l f s, (o 1 (omega arith), (members-over n xs o l, typed-over n (powerOf (unknownAt n 1)) o (o 1 (omega arith), tt))))
     expr-over (tuple n xs) Γ h f s =
         let l = all-left Own (exprsNumbers xs) (n ∷ []) h in
-        (exprs-over xs Γ l f s, typed-over n (productOf (typesOf xs)) (all-right Own (exprsNumbers xs) (n ∷ []) h .0) (types-over xs l))
+        (exprs-over xs Γ l (f .1) s, typed-over n (productOf (typesOf xs)) (all-right Own (exprsNumbers xs) (n ∷ []) h .0) (types-over xs l))
     expr-over (product n xs) Γ h f s =
         let l = all-left Own (exprsNumbers xs) (n ∷ []) h in
         let o = all-right Own (exprsNumbers xs) (n ∷ []) h .0 in
-        (exprs-over xs Γ l (f .1) s, (powers-over n xs 1 o l (omega (arith, f .0)), typed-over n (powerOf (productOf (row n 1 (exprsLength xs)))) o (row-over n 1 (exprsLength xs) o (omega (arith, f .0)), tt)))
+        (exprs-over xs Γ l (f .1) s, (powers-over n xs 1 o l (omega (arith, f .0 .1)), typed-over n (powerOf (productOf (row n 1 (exprsLength xs)))) o (row-over n 1 (exprsLength xs) o (omega (arith, f .0 .1)), tt)))
     expr-over (power n a) Γ h f s =
         let l = all-left Own (exprNumbers a) (n ∷ []) h in
         let o = all-right Own (exprNumbers a) (n ∷ []) h .0 in
@@ -447,12 +455,12 @@ module _ (N : ℕ → Type 0) where
         let o = all-right Own (textNumbers t ++ exprNumbers a) (n ∷ []) h .0 in
         (text-over t Γ blank l (f .0) s, (expr-over a (inside t Γ) r (f .1) (inside-over t Γ l (f .0) s), typed-over n (powerOf (typeOf a)) o (root-own a r 0 (omega arith), tt)))
 
-    pub exprs-over : (xs : Exprs) (Γ : Scope) → AllIn Own (exprsNumbers xs) → FewExprs xs → ScopeOver Γ → Over N (exprsItems xs Γ)
+    pub exprs-over : (xs : Exprs) (Γ : Scope) → AllIn Own (exprsNumbers xs) → SizedExprs xs → ScopeOver Γ → Over N (exprsItems xs Γ)
     exprs-over none Γ h f s = tt
     exprs-over (more a xs) Γ h f s =
         (expr-over a Γ (all-left Own (exprNumbers a) (exprsNumbers xs) h) (f .0) s, exprs-over xs Γ (all-right Own (exprNumbers a) (exprsNumbers xs) h) (f .1) s)
 
-    pub pred-over : (p : Pred) (Γ : Scope) → AllIn Own (predNumbers p) → FewPred p → ScopeOver Γ → Over N (predItems p Γ)
+    pub pred-over : (p : Pred) (Γ : Scope) → AllIn Own (predNumbers p) → SizedPred p → ScopeOver Γ → Over N (predItems p Γ)
     pred-over (truth n) Γ h f s = tt
     pred-over (equal n a b) Γ h f s =
         let z = all-left Own (exprNumbers a ++ exprNumbers b) (n ∷ []) h in
@@ -478,13 +486,13 @@ module _ (N : ℕ → Type 0) where
         let l = all-left Own (textNumbers t) (predNumbers p) z in
         (text-over t Γ blank l (f .0) s, pred-over p (inside t Γ) (all-right Own (textNumbers t) (predNumbers p) z) (f .1) (inside-over t Γ l (f .0) s))
 
-    pub text-over : (t : Text) (Γ : Scope) (G : Dictionary) → AllIn Own (textNumbers t) → FewText t → ScopeOver Γ → Over N (textItems t Γ G)
+    pub text-over : (t : Text) (Γ : Scope) (G : Dictionary) → AllIn Own (textNumbers t) → SizedText t → ScopeOver Γ → Over N (textItems t Γ G)
     text-over (text n p ls) Γ G h f s =
         let z = all-left Own (predNumbers p ++ linesNumbers ls) (n ∷ []) h in
         let l = all-right Own (predNumbers p) (linesNumbers ls) z in
         (lines-over ls Γ G noNames l (f .1) s none-over, pred-over p (inside (text n p ls) Γ) (all-left Own (predNumbers p) (linesNumbers ls) z) (f .0) (lines-inside n p ls Γ l (f .1) s))
 
-    pub lines-over : (ls : Lines) (Γ : Scope) (G : Dictionary) (r : Signature) → AllIn Own (linesNumbers ls) → FewLines ls → ScopeOver Γ → SigOver r → Over N (linesItems ls Γ G r)
+    pub lines-over : (ls : Lines) (Γ : Scope) (G : Dictionary) (r : Signature) → AllIn Own (linesNumbers ls) → SizedLines ls → ScopeOver Γ → SigOver r → Over N (linesItems ls Γ G r)
     lines-over end Γ G r h f s k = tt
     lines-over (declaration n a is ls) Γ G r h f s k =
         let z = all-left Own (exprNumbers a ++ (n ∷ [])) (linesNumbers ls) h in
@@ -510,21 +518,20 @@ module _ (N : ℕ → Type 0) where
           ),
         )
 
-    pub include-over : (i : Include) (Γ : Scope) → AllIn Own (includeNumbers i) → FewInclude i → ScopeOver Γ → Over N (includeItems i Γ)
+    pub include-over : (i : Include) (Γ : Scope) → AllIn Own (includeNumbers i) → SizedInclude i → ScopeOver Γ → Over N (includeItems i Γ)
     include-over (include n s k xs rs) Γ h f q =
         rule-over (schemaNamed s Γ) (include n s k xs rs) (actualItems xs n 1 Γ)
         (actuals-over xs n 1 Γ (all-right Own (exprsNumbers xs) (n ∷ []) h .0) (all-left Own (exprsNumbers xs) (n ∷ []) h) (omega (arith, f .0)) (f .1) q)
 
-    pub actuals-over : (xs : Exprs) (n k : ℕ) (Γ : Scope) → Own n → AllIn Own (exprsNumbers xs) → k + exprsLength xs ≤ 7 → FewExprs xs → ScopeOver Γ → Over N (actualItems xs n k Γ)
+    pub actuals-over : (xs : Exprs) (n k : ℕ) (Γ : Scope) → Own n → AllIn Own (exprsNumbers xs) → k + exprsLength xs ≤ 7 → SizedExprs xs → ScopeOver Γ → Over N (actualItems xs n k Γ)
     actuals-over none n k Γ o h l f s = tt
     actuals-over (more a xs) n k Γ o h l f s =
         let m = longer k a xs l in
-        let u : k ≤ 6 = omega (arith, m) in
         let e = all-left Own (exprNumbers a) (exprsNumbers xs) h in
-        ((expr-over a Γ e (f .0) s, (o k u, (root-own a e 0 (omega arith), (o k u, tt)))), actuals-over xs n (suc k) Γ o (all-right Own (exprNumbers a) (exprsNumbers xs) h) m (f .1) s)
+        ((expr-over a Γ e (f .0) s, (o k (m .0), (root-own a e 0 (omega arith), (o k (m .0), tt)))), actuals-over xs n (suc k) Γ o (all-right Own (exprNumbers a) (exprsNumbers xs) h) (m .1) (f .1) s)
 
-  pub schema-over : (x : Schema) (Γ : Scope) → AllIn Own (schemaNumbers x) → FewSchema x → ScopeOver Γ → Over N (schemaItems x Γ)
-  unfolding schemaItems schemaNumbers FewSchema Over
+  pub schema-over : (x : Schema) (Γ : Scope) → AllIn Own (schemaNumbers x) → SizedSchema x → ScopeOver Γ → Over N (schemaItems x Γ)
+  unfolding schemaItems schemaNumbers SizedSchema Over
   schema-over (plain t) Γ h f s = text-over t Γ blank h f s
   schema-over (from i) Γ h f s = (include-over i Γ h f s, smalls-over (includeNode i) (includeSignature i Γ) (included-over i Γ h f))
   schema-over (both n a b) Γ h f s =

@@ -15,9 +15,10 @@ use Rattle.syntax.specs.Decode.{treeOf}
 use Rattle.syntax.specs.Tree.{Expr, reference, number, integers, set, tuple, product, power, application, selection, theta, schemaSet, arithmetic}
 use Rattle.syntax.specs.Tree.{comprehension, Exprs, none, more, Pred, truth, equal, member, atMost, not, connected, quantified, Text, text, Lines}
 use Rattle.syntax.specs.Tree.{end, declaration, inclusion, Include, include, Schema, plain, from, both, Paragraph, given, axiomatic, schema}
-use Rattle.syntax.specs.Tree.{abbreviation, constraint, Document, document, exprsLength}
+use Rattle.syntax.specs.Tree.{abbreviation, constraint, exprsLength}
 use Rattle.syntax.specs.TreeNumbers.{exprNumbers, exprsNumbers, predNumbers, textNumbers, linesNumbers, includeNumbers, schemaNumbers, paragraphNumbers}
 use Rattle.syntax.specs.TreeNumbers.{paragraphsNumbers}
+use Rattle.syntax.specs.Limited.{FewParameters}
 use Rattle.types.specs.Types.{Ty, Term, nil, under, Each, ℤ}
 use Rattle.types.specs.Substitution.{update}
 use Rattle.types.specs.Component.{componentType}
@@ -38,11 +39,11 @@ use Rattle.typing.specs.Check.{paragraphsOf}
 use Rattle.typing.specs.Findings.{NoSelect33, NeverAtSelect}
 use Rattle.typing.proofs.ItemLaws.{table}
 use Rattle.typing.proofs.Slots.{slots-apart}
-use Rattle.typing.proofs.SolvingRight.{Over}
+use Rattle.typing.proofs.ItemUnknowns.{Over}
 use Rattle.typing.proofs.WrittenOnce.{paragraphs-once}
-use Rattle.typing.proofs.FewActuals.{FewExpr, FewExprs, FewPred, FewText, FewLines, FewInclude, FewSchema, FewParagraph, FewParagraphs, FewDocument}
-use Rattle.typing.proofs.FewActuals.{document-few}
-use Rattle.typing.proofs.RuleUnknowns.{AllIn, FewParameters, Own, ScopeOver, SigOver, parameters-over, merge-over, declare-over, included-over}
+use Rattle.syntax.proofs.Sized.{SizedExpr, SizedExprs, SizedPred, SizedText, SizedLines, SizedInclude, SizedSchema, SizedParagraph, SizedParagraphs}
+use Rattle.typing.proofs.SizedTree.{tree-sized}
+use Rattle.typing.proofs.RuleUnknowns.{AllIn, FewRecorded, longer, Own, ScopeOver, SigOver, parameters-over, merge-over, declare-over, included-over}
 use Rattle.typing.proofs.RuleUnknowns.{none-over, lines-inside, inside-over, type-over, expr-over, pred-over, text-over, lines-over}
 use Rattle.typing.proofs.RuleUnknowns.{schema-over, all-right}
 use Rattle.typing.proofs.TypingLaws.{first-has, rest-has}
@@ -281,20 +282,20 @@ NewSig l r = (m : ℕ) → has m l ≡ true → SigOver (Not (slot m 0)) r
 new-with : (b : List ℕ) (t : Items) (P : Table → Type 0) (Γ : Scope) → ((m : ℕ) → has m b ≡ true → Over (Not (slot m 0)) t) → New b P Γ → New b (And P t) Γ
 new-with b t P Γ o w m q = (λ τ g h. (w m q .0 τ g (h .0), met-still (slot m 0) τ g t (o m q) (h .1)), w m q .1)
 
-pub all-nil : (M : ℕ → Type 0) (a : List ℕ) → AllIn M a → AllIn M (a ++ [])
+all-nil : (M : ℕ → Type 0) (a : List ℕ) → AllIn M a → AllIn M (a ++ [])
 all-nil M [] h = tt
 all-nil M (x ∷ a) h = (h .0, all-nil M a (h .1))
 
-pub declaration-over : (N : ℕ → Type 0) (n : ℕ) (a : Expr) (is : List ℕ) (Γ : Scope) (G : Dictionary) (r : Signature) → AllIn (Own N) (exprNumbers a ++ (n ∷ [])) → FewExpr a → ScopeOver N Γ → SigOver N r
+pub declaration-over : (N : ℕ → Type 0) (n : ℕ) (a : Expr) (is : List ℕ) (Γ : Scope) (G : Dictionary) (r : Signature) → AllIn (Own N) (exprNumbers a ++ (n ∷ [])) → SizedExpr a → ScopeOver N Γ → SigOver N r
     → Over N (linesItems (declaration n a is end) Γ G r)
-declaration-over N n a is Γ G r h f s k = lines-over N (declaration n a is end) Γ G r (unfold linesNumbers in all-nil (Own N) (exprNumbers a ++ (n ∷ [])) h) (unfold FewLines in (f, tt)) s k
+declaration-over N n a is Γ G r h f s k = lines-over N (declaration n a is end) Γ G r (unfold linesNumbers in all-nil (Own N) (exprNumbers a ++ (n ∷ [])) h) (unfold SizedLines in (f, tt)) s k
 
-pub inclusion-over : (N : ℕ → Type 0) (i : Include) (Γ : Scope) (G : Dictionary) (r : Signature) → AllIn (Own N) (includeNumbers i) → FewInclude i → ScopeOver N Γ → SigOver N r
+pub inclusion-over : (N : ℕ → Type 0) (i : Include) (Γ : Scope) (G : Dictionary) (r : Signature) → AllIn (Own N) (includeNumbers i) → SizedInclude i → ScopeOver N Γ → SigOver N r
     → Over N (linesItems (inclusion i end) Γ G r)
-inclusion-over N i Γ G r h f s k = lines-over N (inclusion i end) Γ G r (unfold linesNumbers in all-nil (Own N) (includeNumbers i) h) (unfold FewLines in (f, tt)) s k
+inclusion-over N i Γ G r h f s k = lines-over N (inclusion i end) Γ G r (unfold linesNumbers in all-nil (Own N) (includeNumbers i) h) (unfold SizedLines in (f, tt)) s k
 
 module _ (n : ℕ) (a : Expr) (is : List ℕ) (l : List ℕ) (Γ : Scope) (G : Dictionary) (r : Signature) (P : Table → Type 0)
-    (d : Apart (exprNumbers a ++ (n ∷ [])) l) (f : FewExpr a) (w : New l P Γ) (k : NewSig l r) where
+    (d : Apart (exprNumbers a ++ (n ∷ [])) l) (f : SizedExpr a) (w : New l P Γ) (k : NewSig l r) where
   own-decl : (m : ℕ) → has m l ≡ true → AllIn (Own (Not (slot m 0))) (exprNumbers a ++ (n ∷ []))
   own-decl m q = own-not m (exprNumbers a ++ (n ∷ [])) (λ p. d m p q)
 
@@ -310,7 +311,7 @@ module _ (n : ℕ) (a : Expr) (is : List ℕ) (l : List ℕ) (Γ : Scope) (G : D
   sig-declaration m q = declare-over (Not (slot m 0)) is (unknownAt n 0) r (all-right (Own (Not (slot m 0))) (exprNumbers a) (n ∷ []) (own-decl m q) .0 0 (omega arith)) (k m q)
 
 module _ (i : Include) (l : List ℕ) (Γ : Scope) (G : Dictionary) (r : Signature) (P : Table → Type 0)
-    (d : Apart (includeNumbers i) l) (f : FewInclude i) (w : New l P Γ) (k : NewSig l r) where
+    (d : Apart (includeNumbers i) l) (f : SizedInclude i) (w : New l P Γ) (k : NewSig l r) where
   own-incl : (m : ℕ) → has m l ≡ true → AllIn (Own (Not (slot m 0))) (includeNumbers i)
   own-incl m q = own-not m (includeNumbers i) (λ p. d m p q)
 
@@ -329,13 +330,9 @@ module _ (i : Include) (l : List ℕ) (Γ : Scope) (G : Dictionary) (r : Signatu
 other-own : (n m : ℕ) (l : List ℕ) → (has n l ≡ true → ⊥) → has m l ≡ true → Own (Not (slot m 0)) n
 other-own n m l h q k u e = h (ap (λ (z : ℕ). has z l) (slots-apart n k m 0 (omega arith) (omega arith) e .0) ∙ q)
 
-actual-over : (N : ℕ → Type 0) (a : Expr) (n k : ℕ) (Γ : Scope) → Own N n → k ≤ 6 → AllIn (Own N) (exprNumbers a) → FewExpr a → ScopeOver N Γ → Over N (piece n (exprItems a Γ ⨾ isPower n k a))
+actual-over : (N : ℕ → Type 0) (a : Expr) (n k : ℕ) (Γ : Scope) → Own N n → k ≤ 6 → AllIn (Own N) (exprNumbers a) → SizedExpr a → ScopeOver N Γ → Over N (piece n (exprItems a Γ ⨾ isPower n k a))
 unfolding Over Each
 actual-over N a n k Γ o u h f s = (expr-over N a Γ h f s, (o k u, (type-over N a h, (o k u, tt))))
-
-pub longer : (k : ℕ) (a : Expr) (xs : Exprs) → k + exprsLength (more a xs) ≤ 7 → (k ≤ 6) × (suc k + exprsLength xs ≤ 7)
-unfolding exprsLength
-longer k a xs l = (omega (arith, l), omega (arith, l))
 
 declared-new : (n : ℕ) (is : List ℕ) (t : Term) (r : Signature) (G : Dictionary) → Plain (mergeDeclared n is t r ⨾ newNames n is G)
 unfolding Plain
@@ -359,10 +356,10 @@ names-few n s r u = (names-plain n s r, few-plain n u)
 
 -- what is claimed of an expression in its scope
 abbrev Selects : Expr → Scope → Type 1
-Selects a Γ = (P : Table → Type 0) → New (exprNumbers a) P Γ → EachOnce (exprNumbers a) → FewExpr a → Some P → NoSelect33 (exprItems a Γ) P
+Selects a Γ = (P : Table → Type 0) → New (exprNumbers a) P Γ → EachOnce (exprNumbers a) → SizedExpr a → Some P → NoSelect33 (exprItems a Γ) P
 
 -- two expressions in turn
-pair-selects : (a b : Expr) (Γ : Scope) → Selects a Γ → Selects b Γ → (P : Table → Type 0) → New (exprNumbers a ++ exprNumbers b) P Γ → EachOnce (exprNumbers a ++ exprNumbers b) → FewExpr a → FewExpr b → Some P
+pair-selects : (a b : Expr) (Γ : Scope) → Selects a Γ → Selects b Γ → (P : Table → Type 0) → New (exprNumbers a ++ exprNumbers b) P Γ → EachOnce (exprNumbers a ++ exprNumbers b) → SizedExpr a → SizedExpr b → Some P
     → NoSelect33 (exprItems a Γ) P × (Passes (exprItems a Γ) P → NoSelect33 (exprItems b Γ) (And P (exprItems a Γ)))
 pair-selects a b Γ x y P w o f g s =
     let A = exprNumbers a in
@@ -373,11 +370,11 @@ pair-selects a b Γ x y P w o f g s =
 
 -- ---- the rules
 mutual
-  unfolding exprItems exprNumbers FewExpr NoSelect33
+  unfolding exprItems exprNumbers SizedExpr NoSelect33
 
-  expr-selects : (a : Expr) (Γ : Scope) (P : Table → Type 0) → New (exprNumbers a) P Γ → EachOnce (exprNumbers a) → FewExpr a → Some P → NoSelect33 (exprItems a Γ) P
+  expr-selects : (a : Expr) (Γ : Scope) (P : Table → Type 0) → New (exprNumbers a) P Γ → EachOnce (exprNumbers a) → SizedExpr a → Some P → NoSelect33 (exprItems a Γ) P
   expr-selects (reference n i xs) Γ P w o f s = (
-    exprs-selects xs Γ P (new-left (exprsNumbers xs) (n ∷ []) P Γ w) (once-left (exprsNumbers xs) (n ∷ []) o) (f .1) s,
+    exprs-selects xs Γ P (new-left (exprsNumbers xs) (n ∷ []) P Γ w) (once-left (exprsNumbers xs) (n ∷ []) o) f s,
     λ p. no-select (referenceItems n xs (nameAt i Γ)) (And P (exprsItems xs Γ)) (reference-plain n xs (nameAt i Γ)),
   )
   expr-selects (number n v) Γ P w o f s = (tt, λ p. tt)
@@ -387,7 +384,7 @@ mutual
     λ p. (tt, λ q. (no-select (areMembers n xs) (And (And P (exprsItems xs Γ)) (fresh (slot n 1))) (members-plain n xs), λ q. (tt, λ q. tt))),
   )
   expr-selects (tuple n xs) Γ P w o f s =
-      (exprs-selects xs Γ P (new-left (exprsNumbers xs) (n ∷ []) P Γ w) (once-left (exprsNumbers xs) (n ∷ []) o) f s, λ p. (tt, λ q. tt))
+      (exprs-selects xs Γ P (new-left (exprsNumbers xs) (n ∷ []) P Γ w) (once-left (exprsNumbers xs) (n ∷ []) o) (f .1) s, λ p. (tt, λ q. tt))
   expr-selects (product n xs) Γ P w o f s = (
     exprs-selects xs Γ P (new-left (exprsNumbers xs) (n ∷ []) P Γ w) (once-left (exprsNumbers xs) (n ∷ []) o) (f .1) s,
     λ p. (no-select (arePowers n xs 1) (And P (exprsItems xs Γ)) (powers-plain n xs 1), λ q. (tt, λ q. tt)),
@@ -434,7 +431,7 @@ mutual
         ),
       )
 
-  exprs-selects : (xs : Exprs) (Γ : Scope) (P : Table → Type 0) → New (exprsNumbers xs) P Γ → EachOnce (exprsNumbers xs) → FewExprs xs → Some P → NoSelect33 (exprsItems xs Γ) P
+  exprs-selects : (xs : Exprs) (Γ : Scope) (P : Table → Type 0) → New (exprsNumbers xs) P Γ → EachOnce (exprsNumbers xs) → SizedExprs xs → Some P → NoSelect33 (exprsItems xs Γ) P
   exprs-selects none Γ P w o f s = tt
   exprs-selects (more a xs) Γ P w o f s =
       let A = exprNumbers a in
@@ -443,7 +440,7 @@ mutual
         λ p. exprs-selects xs Γ (And P (exprItems a Γ)) (new-after A B (exprItems a Γ) P Γ (apart A B o) (λ N h k. expr-over N a Γ h (f .0) k) (new-right A B P Γ w)) (once-right A B o) (f .1) (some-after (exprItems a Γ) P s p),
       )
 
-  pred-selects : (p : Pred) (Γ : Scope) (P : Table → Type 0) → New (predNumbers p) P Γ → EachOnce (predNumbers p) → FewPred p → Some P → NoSelect33 (predItems p Γ) P
+  pred-selects : (p : Pred) (Γ : Scope) (P : Table → Type 0) → New (predNumbers p) P Γ → EachOnce (predNumbers p) → SizedPred p → Some P → NoSelect33 (predItems p Γ) P
   pred-selects (truth n) Γ P w o f s = tt
   pred-selects (equal n a b) Γ P w o f s =
       let t = pair-selects a b Γ (λ Q w o f s. expr-selects a Γ Q w o f s) (λ Q w o f s. expr-selects b Γ Q w o f s) P (new-left (exprNumbers a ++ exprNumbers b) (n ∷ []) P Γ w) (once-left (exprNumbers a ++ exprNumbers b) (n ∷ []) o) (f .0) (f .1) s in
@@ -476,7 +473,7 @@ mutual
             (once-right T A u) (f .1) (some-after (textItems t Γ blank) P s h),
       )
 
-  text-selects : (t : Text) (Γ : Scope) (G : Dictionary) (P : Table → Type 0) → New (textNumbers t) P Γ → EachOnce (textNumbers t) → FewText t → Some P → NoSelect33 (textItems t Γ G) P
+  text-selects : (t : Text) (Γ : Scope) (G : Dictionary) (P : Table → Type 0) → New (textNumbers t) P Γ → EachOnce (textNumbers t) → SizedText t → Some P → NoSelect33 (textItems t Γ G) P
   text-selects (text n p ls) Γ G P w o f s =
       let A = predNumbers p in
       let L = linesNumbers ls in
@@ -491,7 +488,7 @@ mutual
             (once-left A L u) (f .0) (some-after t P s h),
       )
 
-  lines-selects : (ls : Lines) (Γ : Scope) (G : Dictionary) (r : Signature) (P : Table → Type 0) → New (linesNumbers ls) P Γ → NewSig (linesNumbers ls) r → EachOnce (linesNumbers ls) → FewLines ls → Some P
+  lines-selects : (ls : Lines) (Γ : Scope) (G : Dictionary) (r : Signature) (P : Table → Type 0) → New (linesNumbers ls) P Γ → NewSig (linesNumbers ls) r → EachOnce (linesNumbers ls) → SizedLines ls → Some P
       → NoSelect33 (linesItems ls Γ G r) P
   lines-selects end Γ G r P w k o f s = tt
   lines-selects (declaration n a is ls) Γ G r P w k o f s =
@@ -536,13 +533,13 @@ mutual
         ),
       )
 
-  include-selects : (i : Include) (Γ : Scope) (P : Table → Type 0) → New (includeNumbers i) P Γ → EachOnce (includeNumbers i) → FewInclude i → Some P → NoSelect33 (includeItems i Γ) P
+  include-selects : (i : Include) (Γ : Scope) (P : Table → Type 0) → New (includeNumbers i) P Γ → EachOnce (includeNumbers i) → SizedInclude i → Some P → NoSelect33 (includeItems i Γ) P
   include-selects (include n c k xs rs) Γ P w o f s =
       let X = exprsNumbers xs in
       rule-selects (schemaNamed c Γ) (include n c k xs rs) (actualItems xs n 1 Γ) P
       (actuals-selects xs n 1 Γ P (λ q. apart X (n ∷ []) o n q (first-has n [])) (omega (arith, f .0)) (new-left X (n ∷ []) P Γ w) (once-left X (n ∷ []) o) (f .1) s)
 
-  actuals-selects : (xs : Exprs) (n k : ℕ) (Γ : Scope) (P : Table → Type 0) → (has n (exprsNumbers xs) ≡ true → ⊥) → k + exprsLength xs ≤ 7 → New (exprsNumbers xs) P Γ → EachOnce (exprsNumbers xs) → FewExprs xs → Some P
+  actuals-selects : (xs : Exprs) (n k : ℕ) (Γ : Scope) (P : Table → Type 0) → (has n (exprsNumbers xs) ≡ true → ⊥) → k + exprsLength xs ≤ 7 → New (exprsNumbers xs) P Γ → EachOnce (exprsNumbers xs) → SizedExprs xs → Some P
       → NoSelect33 (actualItems xs n k Γ) P
   actuals-selects none n k Γ P h l w o f s = tt
   actuals-selects (more a xs) n k Γ P h l w o f s =
@@ -558,8 +555,8 @@ mutual
             (once-right A B o) (f .1) (some-after x P s p),
       )
 
-schema-selects : (x : Schema) (Γ : Scope) (P : Table → Type 0) → New (schemaNumbers x) P Γ → EachOnce (schemaNumbers x) → FewSchema x → Some P → NoSelect33 (schemaItems x Γ) P
-unfolding schemaItems schemaNumbers FewSchema NoSelect33
+schema-selects : (x : Schema) (Γ : Scope) (P : Table → Type 0) → New (schemaNumbers x) P Γ → EachOnce (schemaNumbers x) → SizedSchema x → Some P → NoSelect33 (schemaItems x Γ) P
+unfolding schemaItems schemaNumbers SizedSchema NoSelect33
 schema-selects (plain t) Γ P w o f s = text-selects t Γ blank P w o f s
 schema-selects (from i) Γ P w o f s =
     (include-selects i Γ P w o f s, λ p. no-select (smallTypes (includeNode i) (includeSignature i Γ)) (And P (includeItems i Γ)) (smalls-plain (includeNode i) (includeSignature i Γ)))
@@ -577,7 +574,7 @@ schema-selects (both n a b) Γ P w o f s =
     )
 
 -- ---- a paragraph, from the start
-module _ (D : Dictionary) (d : FewParameters D) where
+module _ (D : Dictionary) (d : FewRecorded D) where
   new-start : (l : List ℕ) (ps : List ℕ) → New l Any (withParameters ps 1 (globals D))
   unfolding ScopeOver
   new-start l ps m q = (λ τ g h. tt, parameters-over (Not (slot m 0)) ps 1 (globals D) d)
@@ -585,49 +582,45 @@ module _ (D : Dictionary) (d : FewParameters D) where
   some-start : Some Any
   some-start = ((λ x. ℤ), tt)
 
-  paragraph-selects : (p : Paragraph) → EachOnce (paragraphNumbers p) → FewParagraph p → NoSelect33 (paragraphItems p D) Any
-  unfolding paragraphItems paragraphNumbers FewParagraph NoSelect33 withParameters
+  paragraph-selects : (p : Paragraph) → EachOnce (paragraphNumbers p) → SizedParagraph p → NoSelect33 (paragraphItems p D) Any
+  unfolding paragraphItems paragraphNumbers SizedParagraph NoSelect33 withParameters
   paragraph-selects (given n is) o f = no-select (newNames n is D) Any (newNames-plain n is D)
   paragraph-selects (axiomatic n t) o f = text-selects t (globals D) D Any (new-start (textNumbers t) []) (once-left (textNumbers t) (n ∷ []) o) f some-start
   paragraph-selects (schema n c ps x) o f =
-      schema-selects x (withParameters ps 1 (globals D)) Any (new-start (schemaNumbers x) ps) (once-left (schemaNumbers x) (n ∷ []) o) (f .1) some-start
+      schema-selects x (withParameters ps 1 (globals D)) Any (new-start (schemaNumbers x) ps) (once-left (schemaNumbers x) (n ∷ []) o) f some-start
   paragraph-selects (abbreviation n i ps a) o f = (
-    expr-selects a (withParameters ps 1 (globals D)) Any (new-start (exprNumbers a) ps) (once-left (exprNumbers a) (n ∷ []) o) (f .1) some-start,
+    expr-selects a (withParameters ps 1 (globals D)) Any (new-start (exprNumbers a) ps) (once-left (exprNumbers a) (n ∷ []) o) f some-start,
     λ p. (no-select (newNames n (i ∷ []) D) (And Any (piece n (exprItems a (withParameters ps 1 (globals D))))) (newNames-plain n (i ∷ []) D), λ q. tt),
   )
   paragraph-selects (constraint n p) o f = pred-selects p (globals D) Any (new-start (predNumbers p) []) (once-left (predNumbers p) (n ∷ []) o) f some-start
 
 -- ---- dictionaries keep few parameters
-givens-few : (is : List ℕ) (D : Dictionary) → FewParameters D → FewParameters (addGivens is D)
-unfolding addGivens FewParameters
+givens-few : (is : List ℕ) (D : Dictionary) → FewRecorded D → FewRecorded (addGivens is D)
+unfolding addGivens FewRecorded
 givens-few [] D h = h
 givens-few (i ∷ is) D h = givens-few is (D ▸ nameEntry i 0 (givenSet i)) (h, omega arith)
 
-signature-few : (s : Signature) (τ : Table) (D : Dictionary) → FewParameters D → FewParameters (addSignature s τ D)
-unfolding addSignature FewParameters
+signature-few : (s : Signature) (τ : Table) (D : Dictionary) → FewRecorded D → FewRecorded (addSignature s τ D)
+unfolding addSignature FewRecorded
 signature-few noNames τ D h = h
 signature-few (naming i t s) τ D h = signature-few s τ (D ▸ nameEntry i 0 (under τ t)) (h, omega arith)
 
-pub extend-few : (p : Paragraph) (D : Dictionary) (τ : Table) → FewParagraph p → FewParameters D → FewParameters (extend p D τ)
-unfolding extend FewParagraph FewParameters
+pub extend-few : (p : Paragraph) (D : Dictionary) (τ : Table) → FewParameters p → FewRecorded D → FewRecorded (extend p D τ)
+unfolding extend FewRecorded
 extend-few (given n is) D τ f h = givens-few is D h
 extend-few (axiomatic n t) D τ f h = signature-few (textSignature t (globals D)) τ D h
 extend-few (schema n c ps x) D τ f h = h
-extend-few (abbreviation n i ps a) D τ f h = (h, f .0)
+extend-few (abbreviation n i ps a) D τ f h = (h, f)
 extend-few (constraint n p) D τ f h = h
 
-paragraphs-select : (ps : List Paragraph) (D : Dictionary) → EachOnce (paragraphsNumbers ps) → FewParagraphs ps → FewParameters D → NeverAtSelect ps D
-unfolding NeverAtSelect paragraphsNumbers FewParagraphs
+paragraphs-select : (ps : List Paragraph) (D : Dictionary) → EachOnce (paragraphsNumbers ps) → SizedParagraphs ps → FewRecorded D → NeverAtSelect ps D
+unfolding NeverAtSelect paragraphsNumbers SizedParagraphs
 paragraphs-select [] D o f d = tt
 paragraphs-select (p ∷ ps) D o f d = (
   paragraph-selects D d p (once-left (paragraphNumbers p) (paragraphsNumbers ps) o) (f .0),
-  λ τ h. paragraphs-select ps (extend p D τ) (once-right (paragraphNumbers p) (paragraphsNumbers ps) o) (f .1) (extend-few p D τ (f .0) d),
+  λ τ h. paragraphs-select ps (extend p D τ) (once-right (paragraphNumbers p) (paragraphsNumbers ps) o) (f .1) (extend-few p D τ (f .2) d),
 )
-
-pub few-paragraphs : (t : Document) → FewDocument t → FewParagraphs (paragraphsOf t)
-unfolding FewDocument paragraphsOf
-few-paragraphs (document n ps) h = h
 
 -- 33 NEVER COMES AT A SELECT of a readable document.
 pub never-at-select : (doc : List ℕ) → readOf doc ≡ Readable → NeverAtSelect (paragraphsOf (treeOf doc)) blank
-never-at-select doc r = paragraphs-select (paragraphsOf (treeOf doc)) blank (paragraphs-once doc r) (few-paragraphs (treeOf doc) (document-few doc r)) (unfold FewParameters in tt)
+never-at-select doc r = paragraphs-select (paragraphsOf (treeOf doc)) blank (paragraphs-once doc r) (tree-sized doc r) (unfold FewRecorded in tt)

@@ -19,7 +19,6 @@ pub mod WellFormed
 pub mod Typing
 pub mod Findings
 pub mod Pieces
-pub mod FormedVerdicts
 pub mod Places
 pub mod AcceptedTypings
 pub mod PieceEquations

@@ -3,7 +3,7 @@ use mathlib.Core.Path.{_≡_}
 use mathlib.Core.List.{List}
 use Prim.Native.Nat.{ℕ, _≤_, _<_, _^_}
 use lib.ListN.{length}
-use Rattle.syntax.specs.Limited.{LimitedParagraph}
+use Rattle.syntax.specs.Limited.{FewParameters, LimitedParagraph}
 use Rattle.syntax.specs.Tree.{Paragraph}
 use Rattle.syntax.specs.TreeNumbers.{paragraphNumbers}
 use Rattle.typing.specs.Dictionary.{Entry, Dictionary}
@@ -15,7 +15,6 @@ use Rattle.cells.specs.Settled.{lower}
 use Rattle.dictionary.specs.Waiting.{withEntries, waiting, Waits}
 use Rattle.instances.specs.Clean.{Clean}
 use Rattle.names.specs.Scoped.{DictionaryHeld}
-use Rattle.names.specs.Extended.{FewParameters}
 use Rattle.walk.specs.Visits.{EachOnce}
 
 -- The pool is empty.

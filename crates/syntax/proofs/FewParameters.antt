@@ -5,13 +5,13 @@ use Prim.Native.Nat.{ℕ, _≤_}
 use native.Mathlib.Omega.{arith}
 use lib.ListN.{length, take, drop, length-take}
 use Rattle.layout.specs.Layout.{part}
 use Rattle.syntax.specs.Kinds.{paragraphs}
 use Rattle.syntax.specs.Nodes.{kindAt, operandAt}
 use Rattle.syntax.specs.Promise.{At}
 use Rattle.syntax.specs.Decode.{paragraphAt}
 use Rattle.syntax.proofs.TreeShape.{all-at, _▹_}
 use Rattle.syntax.proofs.TreeParagraph.{paragraph-range, paragraph-given, paragraph-axiomatic, paragraph-schema, paragraph-abbreviation, paragraph-constraint}
-use Rattle.names.specs.Extended.{FewParameters}
+use Rattle.syntax.specs.Limited.{FewParameters}
 
 taken-few : (p : ℕ) (l : List ℕ) → p ≤ 4 → length (take p l) ≤ 4
 taken-few p l h = simp length-take (omega arith)
