@@ -13,7 +13,7 @@ use Rattle.typing.specs.AcceptedTypes.{HasType}
 use Rattle.typing.specs.AcceptedTypings.{HasTyping, TypedAs}
 use Rattle.typing.specs.Check.{accepted, checkOf, paragraphsOf}
 use Rattle.typing.proofs.TypingLaws.{paragraph-law}
-use Rattle.typing.proofs.FormedVerdicts.{accepted-formed}
+use Rattle.typing.proofs.AcceptedTypes.{accepted-type}
 
 to-typing : (ps : List Paragraph) (D : Dictionary) (m : ℕ) (g : Ty) → HasType ps D m g → HasTyping ps D m g
 unfolding HasType HasTyping
@@ -34,6 +34,6 @@ has-typing ps D m g = (to-typing ps D m g, from-typing ps D m g)
 pub accepted-typing : (doc : List ℕ) (d w : ℕ) (E : Dictionary) → checkOf doc d w ≡ accepted E → (m : ℕ) → InParagraphs m (paragraphsOf (treeOf doc))
     → (g : Ty) × TypedAs doc m g
 accepted-typing doc d w E e m q =
-    let t = accepted-formed doc d w E e m q in
+    let t = accepted-type doc d w E e m q in
     let ps = paragraphsOf (treeOf doc) in
-    (t .0, record { has = to-typing ps blank m (t .0) (t .1 .has); only = λ k s. t .1 .only k (from-typing ps blank m k s); formed = t .2 })
+    (t .0, record { has = to-typing ps blank m (t .0) (t .1 .has); only = λ k s. t .1 .only k (from-typing ps blank m k s); formed = t .1 .formed })

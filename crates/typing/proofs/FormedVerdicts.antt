@@ -1,4 +1,4 @@
--- ONLY WELL-FORMED TYPES COUNT AS SOLUTIONS, AND THE VERDICTS ARE THE SAME; each accepted type is well formed.
+-- ONLY WELL-FORMED TYPES COUNT AS SOLUTIONS, AND THE VERDICTS ARE THE SAME; a type that an accepted document's node has is well formed.
 use mathlib.Core.Path.{_≡_, subst}
 use mathlib.Core.List.{List, [], _∷_}
 use mathlib.Core.Logic.{_↔_, inl, inr}
@@ -15,18 +15,16 @@ use Rattle.typing.specs.Dictionary.{Dictionary, blank}
 use Rattle.typing.specs.Rules.{paragraphItems}
 use Rattle.typing.specs.Entries.{extend}
 use Rattle.typing.specs.Solving.{solve}
-use Rattle.typing.specs.ExpressionNodes.{InParagraphs}
-use Rattle.typing.specs.AcceptedTypes.{HasType, TheType}
+use Rattle.typing.specs.AcceptedTypes.{HasType}
 use Rattle.typing.specs.Check.{Answer, accepted, refused, checkOf, paragraphsOf}
 use Rattle.typing.specs.Verdicts.{Accepts, RefusesAt, AnswersFrom, Answers}
 use Rattle.typing.specs.WellFormed.{FormedDictionary, FormedTable}
 use Rattle.typing.proofs.SolvingRight.{Verdict}
-use Rattle.typing.proofs.CheckRight.{answers-from, check-right-in, paragraphs-law, accepted-says}
+use Rattle.typing.proofs.CheckRight.{answers-from, check-right-in, paragraphs-law}
 use Rattle.typing.proofs.SizedTree.{tree-sized}
 use Rattle.typing.proofs.FormedItems.{formedParagraph}
 use Rattle.typing.proofs.FormedCheck.{extend-formed}
 use Rattle.typing.proofs.FormedSolutions.{right-formed}
-use Rattle.typing.proofs.AcceptedTypes.{accepted-type}
 use Rattle.syntax.specs.declared.Reading.the-variants.{Readable}
 
 -- What makes the solver right about well-formed tables.
@@ -66,17 +64,9 @@ pub refuses-same : (doc : List ℕ) → readOf doc ≡ Readable → (d f m : ℕ
 unfolding AnswersFrom
 refuses-same doc r d f m = answers-same doc r d (refused f m)
 
--- ---- accepted types
-type-formed : (ps : List Paragraph) (D : Dictionary) (d : ℕ) (E : Dictionary) → Accepts FormedTable ps D d E → (m : ℕ) (g : Ty) → HasType ps D m g → WellFormed g
+-- Accepted types are well formed.
+pub type-formed : (ps : List Paragraph) (D : Dictionary) (d : ℕ) (E : Dictionary) → Accepts FormedTable ps D d E → (m : ℕ) (g : Ty) → HasType ps D m g → WellFormed g
 unfolding Accepts HasType
 type-formed [] D d E a m g t = absurd t
 type-formed (p ∷ ps) D d E (a, (τ, w, l, r)) m g (y, inl t) = subst WellFormed (t .1 τ (w .1)) (w .0 (slot m 0))
 type-formed (p ∷ ps) D d E (a, (τ, w, l, r)) m g (y, inr t) = type-formed ps (extend p D τ) d E r m g (t τ (w .1))
-
--- Each expression of an accepted document has one type and no other, and it is well formed.
-pub accepted-formed : (doc : List ℕ) (d w : ℕ) (E : Dictionary) → checkOf doc d w ≡ accepted E → (m : ℕ) → InParagraphs m (paragraphsOf (treeOf doc))
-    → (g : Ty) × TheType doc m g × WellFormed g
-accepted-formed doc d w E e m q =
-    let a = accepted-says doc d w E e in
-    let t = accepted-type doc d w E e m q in
-    (t .0, t .1, type-formed (paragraphsOf (treeOf doc)) blank d E (accepts-same doc (a .read) d E .0 (a .passes)) m (t .0) (t .1 .has))

@@ -26,8 +26,7 @@ use Rattle.typing.proofs.ItemLaws.{Agrees}
 use Rattle.typing.proofs.FindingLaws.{either}
 use Rattle.typing.proofs.OneType.{onePara, one-type, extend-same}
 use Rattle.typing.proofs.CheckRight.{accepted-says}
-use Rattle.typing.proofs.AcceptedTypes.{no-other}
-use Rattle.typing.proofs.WrittenOnce.{paragraphs-once}
+use Rattle.typing.proofs.AcceptedTypes.{the-type}
 
 -- ---- every solution of a piece agrees on the piece's own unknowns with the typing τ of the whole
 pub owned : (t : Items) (σ τ : Table) → Agree t σ τ → (x : ℕ) → Owns t x → σ x ≡ τ x
@@ -139,6 +138,4 @@ piece-types (p ∷ ps) D d E T h f = (
 -- In every solution of its piece a node has the accepted type, and no other.
 pub accepted-pieces : (doc : List ℕ) (d w : ℕ) (E : Dictionary) → checkOf doc d w ≡ accepted E → PieceTypes (paragraphsOf (treeOf doc)) blank (TheType doc)
 accepted-pieces doc d w E e =
-    let a = accepted-says doc d w E e in
-    piece-types (paragraphsOf (treeOf doc)) blank d E (TheType doc) (a .passes)
-    (λ m g t. record { has = t; only = λ k s. no-other (paragraphsOf (treeOf doc)) blank m (paragraphs-once doc (a .read) m) g k t s })
+    piece-types (paragraphsOf (treeOf doc)) blank d E (TheType doc) (accepted-says doc d w E e .passes) (λ m g t. the-type doc d w E e m g t)
