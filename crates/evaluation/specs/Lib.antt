@@ -10,3 +10,5 @@ pub mod Run
 pub mod Claims
 pub mod Listing
 pub mod ListingRun
+pub mod Turns
+pub mod Troubles
