@@ -24,3 +24,4 @@ pub mod TroublesCome
 pub mod TroublesWithin
 pub mod TroubleRuns
 pub mod TroubleLaws
+pub mod TroublePlaces

@@ -12,3 +12,4 @@ pub mod Listing
 pub mod ListingRun
 pub mod Turns
 pub mod Troubles
+pub mod TroublePlaces
