@@ -1,22 +1,30 @@
 -- What the rows say of Apply's and arithmetic's operand values (specs/Troubles) is what the operations find.
 use mathlib.Core.Path.{_≡_, refl}
 use mathlib.Core.Bool.{Bool, true, false, cond}
-use Prim.Native.Nat.{ℕ, zero, suc}
+use mathlib.Core.List.{[], _++_}
+use Prim.Native.Nat.{ℕ, zero, suc, _≤_}
 use native.Mathlib.Omega.{arith}
+use lib.ListN.{length, length-append}
 use lib.IntN.{ℤ, pos, negsuc, _+ℤ_, _-ℤ_, _*ℤ_}
 use lib.Signed.{ltZ}
 use borrow.Author.Tests.{ltb-true}
-use Rattle.values.specs.Value.{Value, int, element, set, tuple, Values, nil, cons}
+use Rattle.values.specs.Value.{Value, int, element, set, tuple, Values, nil, cons, encode, encodes}
 use Rattle.values.specs.SetValues.{sameValue, Image, found, misfit, undefined, applyValue}
 use Rattle.integers.specs.Integer.{in32, kept, sum, difference, product, quotient, remainder, byDivisor}
 use Rattle.integers.specs.declared.integer.Integer.the-variants.{Whole, Undefined, Outside}
 use Rattle.syntax.specs.Tree.{Operator, plus, minus, times}
 use Rattle.syntax.specs.Tree as Tree
+use Rattle.evaluation.specs.WordCount.{wordCount}
 use Rattle.evaluation.specs.Operations.{calculate}
-use Rattle.evaluation.specs.Troubles.{pair, NoPair, NoneFound, noMember, otherPair, NoPairMet, metHere, metLater, PairFound, foundHere, foundLater}
+use Rattle.evaluation.specs.Troubles.{pair, NoPair, NoneFound, noMember, otherPair, NoPairMet, metHere, metLater}
 use Rattle.evaluation.specs.Troubles.{Divides, byDiv, byMod, Exceeds, sumOutside, differenceOutside, productOutside}
 
 -- ---- Apply
+-- a pair of first part y and second part v; before it only pairs, none with the first part y
+data PairFound (y v : Value) : Values → Type 0 where
+  foundHere : {x : Value} {vs : Values} → sameValue x y ≡ true → PairFound y v (cons (pair x v) vs)
+  foundLater : {x z : Value} {vs : Values} → sameValue x y ≡ false → PairFound y v vs → PairFound y v (cons (pair x z) vs)
+
 data Finds (y : Value) (vs : Values) : Image → Type 0 where
   misfits : NoPairMet y vs → Finds y vs misfit
   finds-none : NoneFound y vs → Finds y vs undefined
@@ -66,9 +74,6 @@ no-pair-met y vs e = of-misfit (finds y vs) e
 pub none-found : (y : Value) (vs : Values) → applyValue y vs ≡ undefined → NoneFound y vs
 none-found y vs e = of-none (finds y vs) e
 
-pub pair-found : (y v : Value) (vs : Values) → applyValue y vs ≡ found v → PairFound y v vs
-pair-found y v vs e = of-pair (finds y vs) e
-
 here-misfit : (y v : Value) (vs : Values) → NoPair v → applyValue y (cons v vs) ≡ misfit
 unfolding applyValue
 here-misfit y (int k) vs h = refl
@@ -89,10 +94,16 @@ unfolding applyValue
 none-undefined noMember = refl
 none-undefined (otherPair e h) = rw e (none-undefined h)
 
-pub pair-applied : {y v : Value} {vs : Values} → PairFound y v vs → applyValue y vs ≡ found v
-unfolding applyValue
-pair-applied (foundHere e) = rw e refl
-pair-applied (foundLater e h) = rw e (pair-applied h)
+-- what Apply takes has no more words than the set
+pair-words : {y v : Value} {vs : Values} → PairFound y v vs → length (encode v) ≤ length (encodes vs)
+unfolding encode
+pair-words {v = v} (foundHere {x = x} {vs = vs} e) =
+    let a = length-append (encode (pair x v)) (encodes vs) in let b = length-append (encode x) (encode v ++ []) in let c = length-append (encode v) [] in omega arith
+pair-words {v = v} (foundLater {x = x} {z = z} {vs = vs} e h) = let a = length-append (encode (pair x z)) (encodes vs) in let k = pair-words h in omega arith
+
+pub applied-words : (y v : Value) (vs : Values) → applyValue y vs ≡ found v → wordCount v ≤ wordCount (set vs)
+unfolding wordCount encode
+applied-words y v vs e = let h = pair-words (of-pair (finds y vs) e) in omega arith
 
 -- ---- arithmetic
 within-defined : (b : Bool) (z : ℤ) → cond b (Whole z) Outside ≡ Undefined → ⊥

@@ -19,7 +19,7 @@ use Rattle.evaluation.specs.Claims.{Trouble, NotRun, noIntegers, noPower
 use Rattle.evaluation.specs.Listing
 use Rattle.evaluation.specs.Listing.{gives, NoSet, Another, Works}
 use Rattle.evaluation.specs.Turns
-use Rattle.evaluation.specs.Turns.{Gives, gave, Turn, StopsAt, Operand, Adding, EachPart, Reaches, Within, itself, further, Tested, Begins, Comes}
+use Rattle.evaluation.specs.Turns.{Gives, gave, Turn, StopsAt, Operand, Adding, EachPart, Reaches, Within, itself, further, Tested, Begins, BeginsIn}
 use Rattle.evaluation.specs.Troubles
 use Rattle.evaluation.specs.Troubles.{Divides, Exceeds, Misfit, NoResult, PastBits, Unrun, TooLong, Row, row51, row52, row53, row54, row55, InRun, inRun}
 use Rattle.evaluation.specs.TroublePlaces.{At, numbersOf, PlacedExpr, PlacedExprs, PlacedTest, PlacedTests, PlacedInclude, PlacedAxiom, PlacedParagraph, PlacedParagraphs}
@@ -125,7 +125,6 @@ long-placed : {t : Turn} {m : ℕ} → TooLong t m → PlacedTurn 55 m t
 unfolding PlacedTurn PlacedExpr has
 long-placed (Troubles.nameTooLong e l) = inl (refl, refl)
 long-placed (Troubles.tupleTooLong g l) = inl (refl, refl)
-long-placed (Troubles.resultTooLong g h d l) = inl (refl, refl)
 long-placed (Troubles.memberTooMuch k g l) = inl (refl, refl)
 long-placed (Troubles.bodyTooMuch g k c b l) = inl (refl, refl)
 
@@ -230,7 +229,7 @@ module _ (w m : ℕ) where
   begun-placed Turns.workedOut h = h
   begun-placed Turns.constrained h = h
 
-  coming-placed : {state : State} {ps : List Paragraph} {scope : Scope} {u : Turn} → Comes state ps scope u → PlacedTurn w m u → PlacedParagraphs w m ps
+  coming-placed : {state : State} {ps : List Paragraph} {scope : Scope} {u : Turn} → BeginsIn state ps scope u → PlacedTurn w m u → PlacedParagraphs w m ps
   unfolding PlacedParagraphs
   coming-placed (Turns.thisParagraph k) h = inl (begun-placed k h)
   coming-placed (Turns.nextParagraph g k) h = inr (coming-placed k h)

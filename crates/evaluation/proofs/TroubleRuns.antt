@@ -18,16 +18,17 @@ use Rattle.evaluation.specs.Run.{Ran, ending, runState, runOf}
 use Rattle.evaluation.specs.Claims.{WellFormed}
 use Rattle.evaluation.specs.Listing.{stops}
 use Rattle.evaluation.specs.ListingRun
-use Rattle.evaluation.specs.ListingRun.{TestsNames, TestsLines, Runs, RunsAll}
+use Rattle.evaluation.specs.ListingRun.{TestsNames, TestsLines, Runs, RunsAll, Lists}
 use Rattle.evaluation.specs.Turns
-use Rattle.evaluation.specs.Turns.{Stops, broke, Turn, working, telling, testing, including, StopsAt, EachName, Tested, Begins, Comes}
-use Rattle.evaluation.specs.Troubles.{Row, InRun, inRun}
+use Rattle.evaluation.specs.Turns.{Stops, broke, Turn, working, telling, testing, including, StopsAt, EachName, Tested, Begins, BeginsIn}
+use Rattle.evaluation.specs.Troubles
+use Rattle.evaluation.specs.Troubles.{Row, InRun, inRun, RunRefused}
 use Rattle.evaluation.specs.declared.Finding.the-variants.{Refused}
 use Rattle.evaluation.proofs.StatePlace.{state-well}
 use Rattle.evaluation.proofs.TurnLists.{Some, said, stop-said, come, stop-come, value-stop, value-stops, truth-stop, truth-stops, test-said, test-stop, test-comes, test-stops}
 use Rattle.evaluation.proofs.TroublesWithin.{within-found, within-row}
 use Rattle.evaluation.proofs.ListingSaid.{expr-says, test-says}
-use Rattle.evaluation.proofs.WholeList.{names-say, lines-say, paragraph-says, paragraphs-say, names-come, lines-come, runs-come, all-come, by-state}
+use Rattle.evaluation.proofs.WholeList.{names-say, lines-say, paragraph-says, paragraphs-say, names-come, lines-come, runs-come, all-come, by-state, run-lists, lists-run}
 
 module _ (state : State) where
   -- ---- only there
@@ -48,7 +49,7 @@ module _ (state : State) where
   paragraph-found (ListingRun.abbreviationStops {a = a} {scope = scope} h) = (working a scope, Turns.workedOut, value-stops a scope h)
   paragraph-found (ListingRun.constraintStops {p = p} {scope = scope} h) = (telling p scope, Turns.constrained, truth-stops p scope h)
 
-  paragraphs-found : {ps : List Paragraph} {scope : Scope} {t : List Event} {w m : ℕ} → RunsAll state ps scope t (stops w m) → (u : Turn) × Comes state ps scope u × StopsAt u w m
+  paragraphs-found : {ps : List Paragraph} {scope : Scope} {t : List Event} {w m : ℕ} → RunsAll state ps scope t (stops w m) → (u : Turn) × BeginsIn state ps scope u × StopsAt u w m
   paragraphs-found (ListingRun.paragraphEnds h e) = let r = paragraph-found h in (r .0, Turns.thisParagraph (r .1), r .2)
   paragraphs-found (ListingRun.paragraphGoesOn h k) = let r = paragraphs-found k in (r .0, Turns.nextParagraph (come (runs-come state h)) (r .1), r .2)
 
@@ -71,7 +72,7 @@ module _ (state : State) where
   paragraph-stops (Turns.workedOut {a = a} {scope = scope}) h = (_, ListingRun.abbreviationStops (value-stop a scope h .1))
   paragraph-stops (Turns.constrained {p = p} {scope = scope}) h = (_, ListingRun.constraintStops (truth-stop p scope h .1))
 
-  paragraphs-stop : {ps : List Paragraph} {scope : Scope} {u : Turn} {w m : ℕ} → Comes state ps scope u → StopsAt u w m → Some (RunsAll state ps scope) (stops w m)
+  paragraphs-stop : {ps : List Paragraph} {scope : Scope} {u : Turn} {w m : ℕ} → BeginsIn state ps scope u → StopsAt u w m → Some (RunsAll state ps scope) (stops w m)
   paragraphs-stop (Turns.thisParagraph k) h = (_, ListingRun.paragraphEnds (paragraph-stops k h .1) ListingRun.stopping)
   paragraphs-stop (Turns.nextParagraph {p = p} {scope = scope} g k) h = (_, ListingRun.paragraphGoesOn (said (paragraph-says state p scope) g .1) (paragraphs-stop k h .1))
 
@@ -106,3 +107,30 @@ module _ (doc state : List ℕ) (work : ℕ) (read : readOf doc ≡ Readable) (r
     λ e. document-found _ w m (treeOf doc) (ending-refused _ w m (sym by-document ∙ e)),
     λ h. by-document ∙ refused-ending (document-stops _ w m (h .1) (h .2)),
   )
+
+  run-troubled : (w m : ℕ) → runOf doc state work .finding ≡ Refused w m → RunRefused doc state work w m
+  run-troubled w m e = let r = run-trouble w m .0 e in Troubles.troubled read room well (r .1) (r .2)
+
+  run-stops : {w m : ℕ} {u : Turn} → InRun (valueIn (documentNames (treeOf doc)) state) (treeOf doc) u → Row w m u → runOf doc state work .finding ≡ Refused w m
+  run-stops {w = w} {m = m} {u = u} k h = run-trouble w m .1 (u, k, h)
+
+module _ (doc state : List ℕ) (work : ℕ) where
+  renamed : {n p : ℕ} (w m : ℕ) → RunRefused doc state work n p → Refused n p ≡ Refused w m → RunRefused doc state work w m
+  renamed {n = n} {p = p} w m h e = let f : n ≡ w = cc in let g : p ≡ m = cc in subst (λ (z : ℕ). RunRefused doc state work z m) f (subst (λ (z : ℕ). RunRefused doc state work n z) g h)
+
+  refused : {r : Ran} (w m : ℕ) → Lists doc state work r → runOf doc state work ≡ r → r .finding ≡ Refused w m → RunRefused doc state work w m
+  refused w m (ListingRun.unreadable h) e f = renamed w m (Troubles.unreadable h) f
+  refused w m (ListingRun.noRoom h l) e f = renamed w m (Troubles.noRoom h l) f
+  refused w m (ListingRun.illFormed h l i) e f = renamed w m (Troubles.illFormed h l i) f
+  refused w m (ListingRun.holds h l i k) e f = let z : _≡_ {A = ℕ} 0 1 = cc in absurd (omega arith)
+  refused w m (ListingRun.fails h l i k) e f = let z : _≡_ {A = ℕ} 0 1 = cc in absurd (omega arith)
+  refused w m (ListingRun.troubled h l i k) e f = run-troubled doc state work h l i w m (ap (λ (r : Ran). r .finding) e ∙ f)
+
+  refuses : {w m : ℕ} → RunRefused doc state work w m → runOf doc state work .finding ≡ Refused w m
+  refuses (Troubles.unreadable h) = ap (λ (r : Ran). r .finding) (lists-run doc state work _ (ListingRun.unreadable h))
+  refuses (Troubles.noRoom h l) = ap (λ (r : Ran). r .finding) (lists-run doc state work _ (ListingRun.noRoom h l))
+  refuses (Troubles.illFormed h l i) = ap (λ (r : Ran). r .finding) (lists-run doc state work _ (ListingRun.illFormed h l i))
+  refuses (Troubles.troubled h l i k r) = run-stops doc state work h l i k r
+
+  pub run-refused : (w m : ℕ) → (runOf doc state work .finding ≡ Refused w m) ↔ RunRefused doc state work w m
+  run-refused w m = (λ e. refused w m (run-lists doc state work) refl e, λ h. refuses h)

@@ -15,7 +15,7 @@ use Rattle.evaluation.specs.Turns
 use Rattle.evaluation.specs.Turns.{Stops, broke, Turn, StopsAt, Operand, Adding, Gathering, Trying, EachMember, EachPart, Reaches}
 use Rattle.evaluation.specs.Troubles
 use Rattle.evaluation.specs.Troubles.{Row, row51, row52, row53, row54, row55}
-use Rattle.evaluation.proofs.OperandValues.{met-misfit, none-undefined, pair-applied, undefined-by, outside-by}
+use Rattle.evaluation.proofs.OperandValues.{met-misfit, none-undefined, undefined-by, outside-by}
 use Rattle.evaluation.proofs.TurnLists.{Some, value-said, value-stop, value-stops, values-said, truth-said, truth-stop, truth-stops, sets-said, sets-stop, sets-stops, test-said, test-stop, test-stops}
 
 -- ---- lists of expressions, assignments, members and parts: what comes at the one whose turn it is comes of the whole list
@@ -121,8 +121,6 @@ long-stops : {t : Turn} {m : ℕ} → Troubles.TooLong t m → StopsAt t 55 m
 unfolding StopsAt
 long-stops (Troubles.nameTooLong {n = n} {i = i} {scope = scope} e l) = value-stops (reference n i none) scope (Listing.nameValued e (Listing.tooLong l))
 long-stops (Troubles.tupleTooLong {n = n} {xs = xs} {scope = scope} g l) = value-stops (tuple n xs) scope (Listing.aTuple (values-said xs scope g .1) (Listing.tooLong l))
-long-stops (Troubles.resultTooLong {n = n} {f = f} {a = a} {scope = scope} g h d l) =
-    value-stops (application n f a) scope (Listing.applied (value-said f scope g .1) (value-said a scope h .1) (pair-applied d) (Listing.tooLong l))
 long-stops (Troubles.memberTooMuch {n = n} {xs = xs} {a = a} {scope = scope} k g l) =
     value-stops (set n xs) scope (Listing.membersStop (fills-from k (λ ys. (_, Listing.memberTooMuch (value-said a scope g .1) l)) .1))
 long-stops (Troubles.bodyTooMuch {n = n} {k = k} {p = p} {ls = ls} {a = a} {scope = scope} {x = x} g j c b l) =

@@ -2,7 +2,7 @@
 use mathlib.Core.Logic.{_⊎_, inl, inr}
 use mathlib.Core.List.{List, _∷_}
 use mathlib.Core.Bool.{true, false, not}
-use Prim.Native.Nat.{ℕ, _<_}
+use Prim.Native.Nat.{ℕ, _≤_, _<_}
 use native.Mathlib.Omega.{arith}
 use lib.IntN.{ℤ, pos}
 use Rattle.values.specs.Value.{Value, int, Values, nil, encode}
@@ -20,7 +20,7 @@ use Rattle.evaluation.specs.Turns
 use Rattle.evaluation.specs.Turns.{Gives, Stops, broke, Turn, working, telling, testing, declaring, including, StopsAt, Fits, Operand, Adding, Gathering, Trying, EachMember, EachPart, Reaches}
 use Rattle.evaluation.specs.Troubles
 use Rattle.evaluation.specs.Troubles.{Row, row51, row52, row53, row54, row55, Below}
-use Rattle.evaluation.proofs.OperandValues.{no-pair-met, none-found, pair-found, no-divisor, exceeds}
+use Rattle.evaluation.proofs.OperandValues.{no-pair-met, none-found, applied-words, no-divisor, exceeds}
 use Rattle.evaluation.proofs.TurnLists.{value-stop, value-comes, value-stops, values-come, truth-stop, truth-comes, truth-stops, sets-stop, sets-come, sets-stops, test-stop, test-comes, test-stops}
 
 -- ---- lists of expressions, assignments, members and parts
@@ -111,6 +111,16 @@ gathers-fit (Listing.bodyAdded h k e j) f = gathers-fit j e
 never : {A : Type 0} (vs : Values) → Fits vs → 64 < wordCount (Value.set vs) → A
 never vs f l = absurd (omega arith)
 
+-- every value that is worked out has at most 64 words
+value-short : {a : Expr} {scope : Scope} {t : List Event} {v : Value} → Works a scope t (gives v) → wordCount v ≤ 64
+value-short (Listing.nameValued e (Listing.entered l)) = l
+value-short (Listing.aLiteral (Listing.entered l)) = l
+value-short (Listing.aSet h (Listing.entered l)) = l
+value-short (Listing.aTuple h (Listing.entered l)) = l
+value-short (Listing.applied h k e (Listing.entered l)) = l
+value-short (Listing.calculated h k e (Listing.entered l)) = l
+value-short (Listing.allGathered h k (Listing.entered l)) = l
+
 -- ---- each sort of turn
 below : {t u : Turn} {w m : ℕ} → Reaches t u → StopsAt u w m → Below t w m ⊎ Row w m t
 below {u = u} r h = inl (u, r, h)
@@ -151,7 +161,7 @@ works-found (Listing.argumentStops {f = f} {a = a} h k) = below (Turns.argument 
 works-found (Listing.noFunction {f = f} {a = a} h k d) = inr (row51 (Troubles.noFunction (value-comes f _ h) (value-comes a _ k) d))
 works-found (Listing.noPair {f = f} {a = a} {vs = vs} {y = y} h k e) = inr (row51 (Troubles.noPair (value-comes f _ h) (value-comes a _ k) (no-pair-met y vs e)))
 works-found (Listing.noneFound {f = f} {a = a} {vs = vs} {y = y} h k e) = inr (row52 (Troubles.noneFound (value-comes f _ h) (value-comes a _ k) (none-found y vs e)))
-works-found (Listing.applied {f = f} {a = a} {vs = vs} {y = y} {v = v} h k e (Listing.tooLong l)) = inr (row55 (Troubles.resultTooLong (value-comes f _ h) (value-comes a _ k) (pair-found y v vs e) l))
+works-found (Listing.applied {vs = vs} {y = y} {v = v} h k e (Listing.tooLong l)) = let n = value-short h in let q = applied-words y v vs e in absurd (omega arith)
 works-found (Listing.leftStops {a = a} h) = below Turns.leftNumber (value-stops a _ h)
 works-found (Listing.rightStops {a = a} {b = b} h k) = below (Turns.rightNumber (value-comes a _ h)) (value-stops b _ k)
 works-found (Listing.noNumber {a = a} {b = b} h k d) = inr (row51 (Troubles.noNumber (value-comes a _ h) (value-comes b _ k) d))

@@ -44,7 +44,7 @@ unfoldable mutual
   PlacedExpr w m (tuple n xs) = At w m n (55 ∷ []) ⊎ PlacedExprs w m xs
   PlacedExpr w m (product n xs) = At w m n (54 ∷ [])
   PlacedExpr w m (power n a) = At w m n (54 ∷ [])
-  PlacedExpr w m (application n f a) = At w m n (51 ∷ 52 ∷ 55 ∷ []) ⊎ (PlacedExpr w m f ⊎ PlacedExpr w m a)
+  PlacedExpr w m (application n f a) = At w m n (51 ∷ 52 ∷ []) ⊎ (PlacedExpr w m f ⊎ PlacedExpr w m a)
   PlacedExpr w m (selection n a i) = At w m n (54 ∷ [])
   PlacedExpr w m (theta n s k) = At w m n (54 ∷ [])
   PlacedExpr w m (schemaSet n i) = At w m n (54 ∷ [])
@@ -64,7 +64,7 @@ unfoldable mutual
   PlacedTest w m (tuple n xs) = At w m n (51 ∷ 55 ∷ []) ⊎ PlacedExprs w m xs
   PlacedTest w m (product n xs) = At w m n (51 ∷ []) ⊎ PlacedTests w m xs
   PlacedTest w m (power n a) = At w m n (51 ∷ []) ⊎ PlacedTest w m a
-  PlacedTest w m (application n f a) = At w m n (51 ∷ 52 ∷ 55 ∷ []) ⊎ (PlacedExpr w m f ⊎ PlacedExpr w m a)
+  PlacedTest w m (application n f a) = At w m n (51 ∷ 52 ∷ []) ⊎ (PlacedExpr w m f ⊎ PlacedExpr w m a)
   PlacedTest w m (selection n a i) = At w m n (54 ∷ [])
   PlacedTest w m (theta n s k) = At w m n (54 ∷ [])
   PlacedTest w m (schemaSet n i) = At w m n (54 ∷ [])

@@ -16,7 +16,7 @@ use Rattle.syntax.specs.Tree.{arithmetic, comprehension, Exprs, none, more, Pre
 use Rattle.syntax.specs.Tree.{Paragraph, Document, document, exprNode, exprsLength}
 use Rattle.syntax.specs.Reading.{readOf}
 use Rattle.syntax.specs.Decode.{treeOf}
-use Rattle.syntax.specs.declared.Reading.the-variants.{Readable}
+use Rattle.syntax.specs.declared.Reading.the-variants.{Readable, Refused as Unreadable}
 use Rattle.state_words.specs.Names.{documentNames}
 use Rattle.state_words.specs.States.{State, valueIn}
 use Rattle.evaluation.specs.WordCount.{wordCount}
@@ -24,9 +24,9 @@ use Rattle.evaluation.specs.Scope.{Scope, empty, valued, generic, unknow
 use Rattle.evaluation.specs.Assignments.{Domains}
 use Rattle.evaluation.specs.Rules.{evalExpr, evalExprs, evalPred, evalLines}
 use Rattle.evaluation.specs.Run.{runOf}
-use Rattle.evaluation.specs.Claims.{NotRun, WellFormed}
+use Rattle.evaluation.specs.Claims.{NotRun, IllFormed, WellFormed}
 use Rattle.evaluation.specs.Listing.{NoInteger, NoSet, NoTuple, Another, assignments}
-use Rattle.evaluation.specs.Turns.{Gives, Turn, working, telling, testing, declaring, including, StopsAt, Adding, Gathering, Reaches, Within, Comes}
+use Rattle.evaluation.specs.Turns.{Gives, Turn, working, telling, testing, declaring, including, StopsAt, Adding, Gathering, Reaches, Within, BeginsIn}
 use Rattle.evaluation.specs.declared.Finding.the-variants.{Refused}
 
 -- ---- Apply: "the lowest pair whose first part equals the argument; members that are not pairs, met before it, are 51; none found is 52"
@@ -45,11 +45,6 @@ pub data NoneFound (y : Value) : Values → Type 0 where
 pub data NoPairMet (y : Value) : Values → Type 0 where
   metHere : {v : Value} {vs : Values} → NoPair v → NoPairMet y (cons v vs)
   metLater : {x z : Value} {vs : Values} → sameValue x y ≡ false → NoPairMet y vs → NoPairMet y (cons (pair x z) vs)
-
--- a pair of first part y and second part v; before it only pairs, none with the first part y
-pub data PairFound (y v : Value) : Values → Type 0 where
-  foundHere : {x : Value} {vs : Values} → sameValue x y ≡ true → PairFound y v (cons (pair x v) vs)
-  foundLater : {x z : Value} {vs : Values} → sameValue x y ≡ false → PairFound y v vs → PairFound y v (cons (pair x z) vs)
 
 -- ---- arithmetic
 pub data Divides : Operator → Type 0 where
@@ -106,13 +101,11 @@ pub data Unrun : Turn → ℕ → Type 0 where
   asValue : {a : Expr} {scope : Scope} → NotRun a → Unrun (working a scope) (exprNode a)
   includeLine : {n s k : ℕ} {xs : Exprs} {rs : List (ℕ × ℕ)} → Unrun (including (include n s k xs rs)) n
 
--- 55, "value over 64 words". A Number and arithmetic have two words; a Set and a Comprehension have it where the member being added makes the set pass 64
--- words, and then their whole value is never too long.
+-- 55, "value over 64 words": at a Ref and a Tuple of their value, at a Set and a Comprehension where the member being added makes the set pass 64 words (R24).
+-- Their whole value is then not too long, nor is that of an Apply, a part of a set of at most 64 words, or of a Number and arithmetic, of two words.
 pub data TooLong : Turn → ℕ → Type 0 where
   nameTooLong : {n i : ℕ} {v : Value} {scope : Scope} → lookup i scope ≡ valued v → 64 < wordCount v → TooLong (working (reference n i none) scope) n
   tupleTooLong : {n : ℕ} {xs : Exprs} {vs : Values} {scope : Scope} → Gives (evalExprs xs scope) vs → 64 < wordCount (Value.tuple vs) → TooLong (working (tuple n xs) scope) n
-  resultTooLong : {n : ℕ} {f a : Expr} {vs : Values} {y v : Value} {scope : Scope} → Gives (evalExpr f scope) (Value.set vs) → Gives (evalExpr a scope) y → PairFound y v vs → 64 < wordCount v
-      → TooLong (working (application n f a) scope) n
   memberTooMuch : {n : ℕ} {xs : Exprs} {a : Expr} {s : Values} {v : Value} {scope : Scope} → Adding scope xs nil a s → Gives (evalExpr a scope) v → 64 < wordCount (Value.set (insertValue v s))
       → TooLong (working (set n xs) scope) n
   bodyTooMuch : {n k : ℕ} {p : Pred} {ls : Lines} {a : Expr} {ds : Domains} {s : Values} {v : Value} {scope x : Scope} → Gives (evalLines ls scope) ds → Gathering p a (assignments ds scope) nil x s
@@ -128,7 +121,15 @@ pub data Row : ℕ → ℕ → Turn → Type 0 where
 
 -- u is a turn of the document's run
 pub data InRun (state : State) : Document → Turn → Type 0 where
-  inRun : {n : ℕ} {ps : List Paragraph} {t u : Turn} → Comes state ps empty t → Within t u → InRun state (document n ps) u
+  inRun : {n : ℕ} {ps : List Paragraph} {t u : Turn} → BeginsIn state ps empty t → Within t u → InRun state (document n ps) u
+
+-- the refusals of a run, with number and place
+pub data RunRefused (doc state : List ℕ) (work : ℕ) : ℕ → ℕ → Type 0 where
+  unreadable : {w m : ℕ} → readOf doc ≡ Unreadable w m → RunRefused doc state work w m
+  noRoom : readOf doc ≡ Readable → work < 16384 → RunRefused doc state work 21 0
+  illFormed : {m : ℕ} → readOf doc ≡ Readable → 16384 ≤ work → IllFormed (documentNames (treeOf doc)) state m → RunRefused doc state work 41 m
+  troubled : {w m : ℕ} {u : Turn} → readOf doc ≡ Readable → 16384 ≤ work → WellFormed (documentNames (treeOf doc)) state → InRun (valueIn (documentNames (treeOf doc)) state) (treeOf doc) u → Row w m u
+      → RunRefused doc state work w m
 
 -- one that t reaches stops with w at m
 abbrev pub Below : Turn → ℕ → ℕ → Type 0
@@ -140,6 +141,5 @@ pub record TroubleLaws : Type 0 where
   pub each : (t : Turn) (w m : ℕ) → StopsAt t w m ↔ (Below t w m ⊎ Row w m t)
   -- so a turn stops exactly where a row holds of a turn that it reaches
   pub all : (t : Turn) (w m : ℕ) → StopsAt t w m ↔ ((u : Turn) × Within t u × Row w m u)
-  -- after reading, 21 and 41, a run is refused with w at m exactly where the row w holds of one of its turns, at m
-  pub run : (doc state : List ℕ) (work w m : ℕ) → readOf doc ≡ Readable → 16384 ≤ work → WellFormed (documentNames (treeOf doc)) state
-      → (runOf doc state work .finding ≡ Refused w m) ↔ ((u : Turn) × InRun (valueIn (documentNames (treeOf doc)) state) (treeOf doc) u × Row w m u)
+  -- so is a run refused, after reading, 21 and 41
+  pub run : (doc state : List ℕ) (work w m : ℕ) → (runOf doc state work .finding ≡ Refused w m) ↔ RunRefused doc state work w m

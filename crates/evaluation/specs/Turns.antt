@@ -147,6 +147,6 @@ pub data Begins (state : State) : Paragraph → Scope → Turn → Type 0 where
   constrained : {n : ℕ} {p : Pred} {scope : Scope} → Begins state (constraint n p) scope (telling p scope)
 
 -- "the paragraphs in Document order": u is begun by one of the paragraphs, and those before it go on
-pub data Comes (state : State) : List Paragraph → Scope → Turn → Type 0 where
-  thisParagraph : {p : Paragraph} {ps : List Paragraph} {scope : Scope} {u : Turn} → Begins state p scope u → Comes state (p ∷ ps) scope u
-  nextParagraph : {p : Paragraph} {ps : List Paragraph} {scope scope′ : Scope} {u : Turn} → Gives (runParagraph p state scope) (onward scope′) → Comes state ps scope′ u → Comes state (p ∷ ps) scope u
+pub data BeginsIn (state : State) : List Paragraph → Scope → Turn → Type 0 where
+  thisParagraph : {p : Paragraph} {ps : List Paragraph} {scope : Scope} {u : Turn} → Begins state p scope u → BeginsIn state (p ∷ ps) scope u
+  nextParagraph : {p : Paragraph} {ps : List Paragraph} {scope scope′ : Scope} {u : Turn} → Gives (runParagraph p state scope) (onward scope′) → BeginsIn state ps scope′ u → BeginsIn state (p ∷ ps) scope u
