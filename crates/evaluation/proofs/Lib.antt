@@ -17,3 +17,11 @@ pub mod ListingSaid
 pub mod Comes
 pub mod ListingOnly
 pub mod WholeList
+pub mod OperandValues
+pub mod TurnLists
+pub mod TroublesFound
+pub mod TroublesCome
+pub mod TroublesWithin
+pub mod TroubleRuns
+pub mod TroubleLaws
+pub mod TroublePlaces

@@ -72,16 +72,16 @@ pub record OnlyExpr (a : Expr) : Type 0 where
   pub works : (scope : Scope) (t : List Event) (r : Result Value) → Works a scope t r → Comes (evalExpr a scope) t r
   pub tests : (scope : Scope) (v : Value) (t : List Event) (r : Result Bool) → Tests a scope v t r → Comes (testExpr a (λ scope′. evalExpr a scope′) v scope) t r
 
-record OnlyExprs (xs : Exprs) : Type 0 where
-  works : (scope : Scope) (t : List Event) (r : Result Values) → WorksAll xs scope t r → Comes (evalExprs xs scope) t r
-  fills : (n : ℕ) (scope : Scope) (s : Values) (t : List Event) (r : Result Values) → Fills xs n scope s t r → Comes (evalMembers xs n scope s) t r
-  tests : (scope : Scope) (vs : Values) (t : List Event) (r : Result Bool) → TestsParts xs scope vs t r → Comes (testExprs xs vs scope) t r
+pub record OnlyExprs (xs : Exprs) : Type 0 where
+  pub works : (scope : Scope) (t : List Event) (r : Result Values) → WorksAll xs scope t r → Comes (evalExprs xs scope) t r
+  pub fills : (n : ℕ) (scope : Scope) (s : Values) (t : List Event) (r : Result Values) → Fills xs n scope s t r → Comes (evalMembers xs n scope s) t r
+  pub tests : (scope : Scope) (vs : Values) (t : List Event) (r : Result Bool) → TestsParts xs scope vs t r → Comes (testExprs xs vs scope) t r
 
 pub record OnlyPred (p : Pred) : Type 0 where
   pub tells : (scope : Scope) (t : List Event) (r : Result Bool) → Tells p scope t r → Comes (evalPred p scope) t r
 
-record OnlyLines (ls : Lines) : Type 0 where
-  declares : (scope : Scope) (t : List Event) (r : Result Domains) → Declares ls scope t r → Comes (evalLines ls scope) t r
+pub record OnlyLines (ls : Lines) : Type 0 where
+  pub declares : (scope : Scope) (t : List Event) (r : Result Domains) → Declares ls scope t r → Comes (evalLines ls scope) t r
 
 abbrev OnlyText : Text → Type 0
 OnlyText (text k p ls) = OnlyPred p × OnlyLines ls
@@ -268,7 +268,7 @@ mutual
   only-expr (arithmetic n o a b) = of-expr (arithmetic n o a b) (only-expr a, only-expr b)
   only-expr (comprehension n x a) = of-expr (comprehension n x a) (only-text x, only-expr a)
 
-  only-exprs : (xs : Exprs) → OnlyExprs xs
+  pub only-exprs : (xs : Exprs) → OnlyExprs xs
   only-exprs none = of-exprs none tt
   only-exprs (more a xs) = of-exprs (more a xs) (only-expr a, only-exprs xs)
 
@@ -284,7 +284,7 @@ mutual
   only-text : (x : Text) → OnlyText x
   only-text (text k p ls) = (only-pred p, only-lines ls)
 
-  only-lines : (ls : Lines) → OnlyLines ls
+  pub only-lines : (ls : Lines) → OnlyLines ls
   only-lines end = of-lines end tt
   only-lines (declaration n a is ls) = of-lines (declaration n a is ls) (only-expr a, only-lines ls)
   only-lines (inclusion i ls) = of-lines (inclusion i ls) tt

@@ -41,20 +41,20 @@ then-says {R = R} {Q = Q} k h l e = bind-says h (λ t s. after-step t s) (λ t w
     after-step t (failed n) j = pure-says (rw append-nil (e t (gives (failed n)) j ListingRun.failing))
 
 module _ (state : State) where
-  names-say : (n : ℕ) (a : Expr) (scope : Scope) (f : Value → Outcome Bool) → ((v : Value) → Says (Tests a scope v) (f v)) → (is : List ℕ) (own : Scope) → Says (TestsNames state n a scope is own) (testNames n f is state own)
+  pub names-say : (n : ℕ) (a : Expr) (scope : Scope) (f : Value → Outcome Bool) → ((v : Value) → Says (Tests a scope v) (f v)) → (is : List ℕ) (own : Scope) → Says (TestsNames state n a scope is own) (testNames n f is state own)
   unfolding testNames
   names-say n a scope f k [] own = pure-says ListingRun.noName
   names-say n a scope f k (i ∷ is) own =
       truth-says _ (k (state i)) (λ t h. other-says (names-say n a scope f k is _) (λ u r j. ListingRun.namePasses h j)) (λ t h. pure-says (rw append-nil (ListingRun.nameFails h))) (λ t w m h. ListingRun.nameStops h)
 
-  lines-say : (ls : Lines) (scope own : Scope) → Says (TestsLines state scope ls own) (testLines ls state scope own)
+  pub lines-say : (ls : Lines) (scope own : Scope) → Says (TestsLines state scope ls own) (testLines ls state scope own)
   unfolding testLines stopInclude
   lines-say end scope own = pure-says ListingRun.noLine
   lines-say (declaration n a is ls) scope own =
       then-says _ (names-say n a scope _ (λ v. test-says a _ v scope (λ scope′. expr-says a scope′)) is own) (λ t own′ h. other-says (lines-say ls scope own′) (λ u r k. ListingRun.lineGoesOn h k)) (λ t r h e. ListingRun.lineEnds h e)
   lines-say (inclusion (include n s k xs rs) ls) scope own = stop-says ListingRun.lineIncludes
 
-  paragraph-says : (p : Paragraph) (scope : Scope) → Says (Runs state p scope) (runParagraph p state scope)
+  pub paragraph-says : (p : Paragraph) (scope : Scope) → Says (Runs state p scope) (runParagraph p state scope)
   unfolding runParagraph unless
   paragraph-says (given n is) scope = pure-says ListingRun.bindsGivens
   paragraph-says (axiomatic n (text k p ls)) scope =
@@ -67,7 +67,7 @@ module _ (state : State) where
   paragraph-says (constraint n p) scope =
       truth-says _ (pred-says p scope) (λ t h. pure-says (rw append-nil (ListingRun.constraintHolds h))) (λ t h. pure-says (rw append-nil (ListingRun.constraintFails h))) (λ t w m h. ListingRun.constraintStops h)
 
-  paragraphs-say : (ps : List Paragraph) (scope : Scope) → Says (RunsAll state ps scope) (runParagraphs ps state scope)
+  pub paragraphs-say : (ps : List Paragraph) (scope : Scope) → Says (RunsAll state ps scope) (runParagraphs ps state scope)
   unfolding runParagraphs
   paragraphs-say [] scope = pure-says ListingRun.noParagraph
   paragraphs-say (p ∷ ps) scope =
@@ -117,21 +117,21 @@ ends k h ListingRun.failing = last _ h finished
 ends k h ListingRun.stopping = off _ h
 
 module _ (state : State) where
-  names-come : {n : ℕ} {a : Expr} {scope : Scope} {is : List ℕ} {own : Scope} {t : List Event} {r : Result Step} → TestsNames state n a scope is own t r → Comes (testNames n (λ v. testExpr a (λ scope′. evalExpr a scope′) v scope) is state own) t r
+  pub names-come : {n : ℕ} {a : Expr} {scope : Scope} {is : List ℕ} {own : Scope} {t : List Event} {r : Result Step} → TestsNames state n a scope is own t r → Comes (testNames n (λ v. testExpr a (λ scope′. evalExpr a scope′) v scope) is state own) t r
   unfolding testNames
   names-come ListingRun.noName = finished
   names-come {a = a} (ListingRun.nameStops h) = off _ (only-expr a .tests _ _ _ _ h)
   names-come {a = a} (ListingRun.nameFails h) = last _ (only-expr a .tests _ _ _ _ h) finished
   names-come {a = a} (ListingRun.namePasses h k) = on _ (only-expr a .tests _ _ _ _ h) (names-come k)
 
-  lines-come : {scope : Scope} {ls : Lines} {own : Scope} {t : List Event} {r : Result Step} → TestsLines state scope ls own t r → Comes (testLines ls state scope own) t r
+  pub lines-come : {scope : Scope} {ls : Lines} {own : Scope} {t : List Event} {r : Result Step} → TestsLines state scope ls own t r → Comes (testLines ls state scope own) t r
   unfolding testLines stopInclude
   lines-come ListingRun.noLine = finished
   lines-come (ListingRun.lineEnds h e) = ends _ (names-come h) e
   lines-come (ListingRun.lineGoesOn h k) = goes-on _ (names-come h) (lines-come k)
   lines-come ListingRun.lineIncludes = ceased
 
-  runs-come : {p : Paragraph} {scope : Scope} {t : List Event} {r : Result Step} → Runs state p scope t r → Comes (runParagraph p state scope) t r
+  pub runs-come : {p : Paragraph} {scope : Scope} {t : List Event} {r : Result Step} → Runs state p scope t r → Comes (runParagraph p state scope) t r
   unfolding runParagraph unless
   runs-come ListingRun.bindsGivens = finished
   runs-come (ListingRun.linesEnd h e) = ends _ (lines-come h) e
@@ -146,7 +146,7 @@ module _ (state : State) where
   runs-come (ListingRun.constraintFails {p = p} h) = last _ (only-pred p .tells _ _ _ h) finished
   runs-come (ListingRun.constraintHolds {p = p} h) = last _ (only-pred p .tells _ _ _ h) finished
 
-  all-come : {ps : List Paragraph} {scope : Scope} {t : List Event} {r : Result Step} → RunsAll state ps scope t r → Comes (runParagraphs ps state scope) t r
+  pub all-come : {ps : List Paragraph} {scope : Scope} {t : List Event} {r : Result Step} → RunsAll state ps scope t r → Comes (runParagraphs ps state scope) t r
   unfolding runParagraphs
   all-come ListingRun.noParagraph = finished
   all-come (ListingRun.paragraphEnds h e) = ends _ (runs-come h) e
@@ -173,7 +173,7 @@ module _ (doc state : List ℕ) (work : ℕ) (read : readOf doc ≡ Readable) wh
   unfolding runOf runRead runWork
   no-room l = ap (λ (r : Reading). runRead r doc state work) read ∙ ap (λ (b : Bool). runWork b (treeOf doc) state) (lt-leb 16384 work l)
 
-  by-state : 16384 ≤ work → (r : Reading) → stateOf (documentNames (treeOf doc)) state ≡ r → runOf doc state work ≡ runState r (treeOf doc) state
+  pub by-state : 16384 ≤ work → (r : Reading) → stateOf (documentNames (treeOf doc)) state ≡ r → runOf doc state work ≡ runState r (treeOf doc) state
   unfolding runOf runRead runWork
   by-state l r e = ap (λ (x : Reading). runRead x doc state work) read ∙ ap (λ (b : Bool). runWork b (treeOf doc) state) (le-leb 16384 work l) ∙ ap (λ (x : Reading). runState x (treeOf doc) state) e
 
