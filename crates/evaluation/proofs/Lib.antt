@@ -18,7 +18,7 @@ pub mod Comes
 pub mod ListingOnly
 pub mod WholeList
 pub mod OperandValues
-pub mod TurnLists
+pub mod EvaluationLists
 pub mod TroublesFound
 pub mod TroublesCome
 pub mod TroublesWithin

@@ -1,14 +1,14 @@
 -- THE NUMBERS 51 TO 55 COME WHERE THEIR ROWS HOLD, AND NOWHERE ELSE (specs/Troubles).
 use mathlib.Core.Logic.{_⊎_, inl, inr}
 use Prim.Native.Nat.{ℕ}
-use Rattle.evaluation.specs.Turns.{Turn, StopsAt}
+use Rattle.evaluation.specs.Evaluations.{Evaluation, StopsAt}
 use Rattle.evaluation.specs.Troubles.{Row, Below, TroubleLaws}
 use Rattle.evaluation.proofs.TroublesFound.{found}
 use Rattle.evaluation.proofs.TroublesCome.{reached-stops, row-stops}
 use Rattle.evaluation.proofs.TroublesWithin.{within-found, within-row}
 use Rattle.evaluation.proofs.TroubleRuns.{run-refused}
 
-comes : (t : Turn) (w m : ℕ) → Below t w m ⊎ Row w m t → StopsAt t w m
+comes : (t : Evaluation) (w m : ℕ) → Below t w m ⊎ Row w m t → StopsAt t w m
 comes t w m (inl (u, r, h)) = reached-stops w m r h
 comes t w m (inr h) = row-stops h
 

@@ -18,25 +18,25 @@ use Rattle.evaluation.specs.Rules.{evalExpr}
 use Rattle.evaluation.specs.Claims.{Trouble, NotRun, noIntegers, noPower, noProduct, noSelect, noTheta, noSchemaSet}
 use Rattle.evaluation.specs.Listing
 use Rattle.evaluation.specs.Listing.{gives, NoSet, Another, Works}
-use Rattle.evaluation.specs.Turns
-use Rattle.evaluation.specs.Turns.{Gives, gave, Turn, StopsAt, Operand, Adding, EachPart, Reaches, Within, itself, further, Tested, Begins, BeginsIn}
+use Rattle.evaluation.specs.Evaluations
+use Rattle.evaluation.specs.Evaluations.{Gives, gave, Evaluation, StopsAt, Operand, Adding, EachPart, Reaches, Within, itself, further, Tested, Begins, BeginsIn}
 use Rattle.evaluation.specs.Troubles
 use Rattle.evaluation.specs.Troubles.{Divides, Exceeds, Misfit, NoResult, PastBits, Unrun, TooLong, Row, row51, row52, row53, row54, row55, InRun, inRun}
 use Rattle.evaluation.specs.TroublePlaces.{At, numbersOf, PlacedExpr, PlacedExprs, PlacedTest, PlacedTests, PlacedInclude, PlacedAxiom, PlacedParagraph, PlacedParagraphs}
-use Rattle.evaluation.specs.TroublePlaces.{PlacedDocument, PlacedTurn, TroublePlaces}
+use Rattle.evaluation.specs.TroublePlaces.{PlacedDocument, PlacedEvaluation, TroublePlaces}
 use Rattle.evaluation.proofs.RuleLaws.{not-run}
-use Rattle.evaluation.proofs.TurnLists.{value-said}
+use Rattle.evaluation.proofs.EvaluationLists.{value-said}
 use Rattle.evaluation.proofs.TroublesWithin.{within-found}
 use Rattle.evaluation.proofs.TroubleRuns.{run-trouble}
 
-row-number : {w m : ℕ} {t : Turn} → Row w m t → Trouble w m
+row-number : {w m : ℕ} {t : Evaluation} → Row w m t → Trouble w m
 row-number (row51 h) = (omega arith, omega arith)
 row-number (row52 h) = (omega arith, omega arith)
 row-number (row53 h) = (omega arith, omega arith)
 row-number (row54 h) = (omega arith, omega arith)
 row-number (row55 h) = (omega arith, omega arith)
 
--- ---- a turn's own node
+-- ---- an evaluation's own node
 misfit-listed : (o : Operator) → has 51 (numbersOf o) ≡ true
 unfolding has numbersOf
 misfit-listed plus = refl
@@ -82,8 +82,8 @@ anew-placed scope (Listing.aSchemaSet {n = n} {i = i}) g d = absurd (unrun-gives
 anew-placed scope (Listing.anArithmetic {o = o}) g d = inl (refl, misfit-listed o)
 anew-placed scope (Listing.aComprehension {n = n} {x = y} {a = a}) g d = absurd (gathered-set (value-said (comprehension n y a) scope g .1) d)
 
-misfit-placed : {t : Turn} {m : ℕ} → Misfit t m → PlacedTurn 51 m t
-unfolding PlacedTurn PlacedExpr has
+misfit-placed : {t : Evaluation} {m : ℕ} → Misfit t m → PlacedEvaluation 51 m t
+unfolding PlacedEvaluation PlacedExpr has
 misfit-placed (Troubles.nameUnknown g e) = inl (refl, refl)
 misfit-placed (Troubles.actualsOnName g e) = inl (refl, refl)
 misfit-placed (Troubles.noFunction g h d) = inl (refl, refl)
@@ -97,13 +97,13 @@ misfit-placed (Troubles.notTuple d) = inl (refl, refl)
 misfit-placed (Troubles.otherCount d) = inl (refl, refl)
 misfit-placed (Troubles.noSetAnew {scope = scope} o g d) = anew-placed scope o g d
 
-none-placed : {t : Turn} {m : ℕ} → NoResult t m → PlacedTurn 52 m t
-unfolding PlacedTurn PlacedExpr has
+none-placed : {t : Evaluation} {m : ℕ} → NoResult t m → PlacedEvaluation 52 m t
+unfolding PlacedEvaluation PlacedExpr has
 none-placed (Troubles.noneFound g h d) = inl (refl, refl)
 none-placed (Troubles.noDivisor g h d e) = inl (refl, none-listed d)
 
-outside-placed : {t : Turn} {m : ℕ} → PastBits t m → PlacedTurn 53 m t
-unfolding PlacedTurn PlacedExpr has
+outside-placed : {t : Evaluation} {m : ℕ} → PastBits t m → PlacedEvaluation 53 m t
+unfolding PlacedEvaluation PlacedExpr has
 outside-placed (Troubles.outside g h d) = inl (refl, outside-listed d)
 
 value-placed : {a : Expr} → NotRun a → PlacedExpr 54 (exprNode a) a
@@ -115,27 +115,27 @@ value-placed (noSelect n a i) = (refl, refl)
 value-placed (noTheta n s k) = (refl, refl)
 value-placed (noSchemaSet n i) = (refl, refl)
 
-unrun-placed : {t : Turn} {m : ℕ} → Unrun t m → PlacedTurn 54 m t
-unfolding PlacedTurn PlacedExpr PlacedInclude has
+unrun-placed : {t : Evaluation} {m : ℕ} → Unrun t m → PlacedEvaluation 54 m t
+unfolding PlacedEvaluation PlacedExpr PlacedInclude has
 unrun-placed (Troubles.nameGeneric g e) = inl (refl, refl)
 unrun-placed (Troubles.asValue h) = value-placed h
 unrun-placed Troubles.includeLine = (refl, refl)
 
-long-placed : {t : Turn} {m : ℕ} → TooLong t m → PlacedTurn 55 m t
-unfolding PlacedTurn PlacedExpr has
+long-placed : {t : Evaluation} {m : ℕ} → TooLong t m → PlacedEvaluation 55 m t
+unfolding PlacedEvaluation PlacedExpr has
 long-placed (Troubles.nameTooLong e l) = inl (refl, refl)
 long-placed (Troubles.tupleTooLong g l) = inl (refl, refl)
 long-placed (Troubles.memberTooMuch k g l) = inl (refl, refl)
 long-placed (Troubles.bodyTooMuch g k c b l) = inl (refl, refl)
 
-row-placed : {t : Turn} {w m : ℕ} → Row w m t → PlacedTurn w m t
+row-placed : {t : Evaluation} {w m : ℕ} → Row w m t → PlacedEvaluation w m t
 row-placed (row51 h) = misfit-placed h
 row-placed (row52 h) = none-placed h
 row-placed (row53 h) = outside-placed h
 row-placed (row54 h) = unrun-placed h
 row-placed (row55 h) = long-placed h
 
--- ---- what a turn reaches
+-- ---- what an evaluation reaches
 has-more : (w y : ℕ) (l : List ℕ) → has w l ≡ true → has w (y ∷ l) ≡ true
 unfolding has
 has-more w y l h = go (eqb y w)
@@ -147,18 +147,18 @@ has-more w y l h = go (eqb y w)
 module _ (w m : ℕ) where
   operand-placed : {scope : Scope} {xs : Exprs} {a : Expr} → Operand scope xs a → PlacedExpr w m a → PlacedExprs w m xs
   unfolding PlacedExprs
-  operand-placed Turns.firstOperand h = inl h
-  operand-placed (Turns.laterOperand g k) h = inr (operand-placed k h)
+  operand-placed Evaluations.firstOperand h = inl h
+  operand-placed (Evaluations.laterOperand g k) h = inr (operand-placed k h)
 
   member-placed : {scope : Scope} {xs : Exprs} {s s′ : Values} {a : Expr} → Adding scope xs s a s′ → PlacedExpr w m a → PlacedExprs w m xs
   unfolding PlacedExprs
-  member-placed Turns.firstMember h = inl h
-  member-placed (Turns.laterMember g e k) h = inr (member-placed k h)
+  member-placed Evaluations.firstMember h = inl h
+  member-placed (Evaluations.laterMember g e k) h = inr (member-placed k h)
 
   part-placed : {scope : Scope} {xs : Exprs} {vs : Values} {a : Expr} {v : Value} → EachPart scope xs vs a v → PlacedTest w m a → PlacedTests w m xs
   unfolding PlacedTests
-  part-placed Turns.firstPart h = inl h
-  part-placed (Turns.laterPart g k) h = inr (part-placed k h)
+  part-placed Evaluations.firstPart h = inl h
+  part-placed (Evaluations.laterPart g k) h = inr (part-placed k h)
 
   longer : {n : ℕ} {A : Type 0} → At w m n (55 ∷ []) ⊎ A → At w m n (51 ∷ 55 ∷ []) ⊎ A
   longer (inl h) = inl (h .0, has-more w 51 (55 ∷ []) (h .1))
@@ -177,69 +177,69 @@ module _ (w m : ℕ) where
   value-test Listing.anArithmetic h = h
   value-test Listing.aComprehension h = h
 
-  reached-placed : {t u : Turn} → Reaches t u → PlacedTurn w m u → PlacedTurn w m t
-  unfolding PlacedTurn PlacedExpr
-  reached-placed (Turns.actual k) h = inr (operand-placed k h)
-  reached-placed (Turns.setMember k) h = inr (member-placed k h)
-  reached-placed (Turns.tuplePart k) h = inr (operand-placed k h)
-  reached-placed Turns.function h = inr (inl h)
-  reached-placed (Turns.argument g) h = inr (inr h)
-  reached-placed Turns.leftNumber h = inr (inl h)
-  reached-placed (Turns.rightNumber g) h = inr (inr h)
-  reached-placed Turns.gatheredSets h = inr (inl (inl h))
-  reached-placed (Turns.gatheredWhere g k) h = inr (inl (inr h))
-  reached-placed (Turns.gatheredBody g k c) h = inr (inr h)
-  reached-placed Turns.leftEqual h = inl h
-  reached-placed (Turns.rightEqual g) h = inr h
-  reached-placed Turns.leftMember h = inl h
-  reached-placed (Turns.memberTest g) h = inr h
-  reached-placed Turns.leftAtMost h = inr (inl h)
-  reached-placed (Turns.rightAtMost g) h = inr (inr h)
-  reached-placed Turns.negated h = h
-  reached-placed Turns.leftSide h = inl h
-  reached-placed (Turns.rightSide g) h = inr h
-  reached-placed Turns.triedSets h = inl (inl h)
-  reached-placed (Turns.triedWhere g k) h = inl (inr h)
-  reached-placed (Turns.triedBody g k c) h = inr h
-  reached-placed Turns.declared h = inr (inl h)
-  reached-placed (Turns.nextLine g) h = inr (inr h)
-  reached-placed Turns.included h = h
-  reached-placed (Turns.powerMember k) h = inr h
-  reached-placed (Turns.productPart e k) h = inr (part-placed k h)
-  reached-placed (Turns.anew o) h = value-test o h
+  reached-placed : {t u : Evaluation} → Reaches t u → PlacedEvaluation w m u → PlacedEvaluation w m t
+  unfolding PlacedEvaluation PlacedExpr
+  reached-placed (Evaluations.actual k) h = inr (operand-placed k h)
+  reached-placed (Evaluations.setMember k) h = inr (member-placed k h)
+  reached-placed (Evaluations.tuplePart k) h = inr (operand-placed k h)
+  reached-placed Evaluations.function h = inr (inl h)
+  reached-placed (Evaluations.argument g) h = inr (inr h)
+  reached-placed Evaluations.leftNumber h = inr (inl h)
+  reached-placed (Evaluations.rightNumber g) h = inr (inr h)
+  reached-placed Evaluations.gatheredSets h = inr (inl (inl h))
+  reached-placed (Evaluations.gatheredWhere g k) h = inr (inl (inr h))
+  reached-placed (Evaluations.gatheredBody g k c) h = inr (inr h)
+  reached-placed Evaluations.leftEqual h = inl h
+  reached-placed (Evaluations.rightEqual g) h = inr h
+  reached-placed Evaluations.leftMember h = inl h
+  reached-placed (Evaluations.memberTest g) h = inr h
+  reached-placed Evaluations.leftAtMost h = inr (inl h)
+  reached-placed (Evaluations.rightAtMost g) h = inr (inr h)
+  reached-placed Evaluations.negated h = h
+  reached-placed Evaluations.leftSide h = inl h
+  reached-placed (Evaluations.rightSide g) h = inr h
+  reached-placed Evaluations.triedSets h = inl (inl h)
+  reached-placed (Evaluations.triedWhere g k) h = inl (inr h)
+  reached-placed (Evaluations.triedBody g k c) h = inr h
+  reached-placed Evaluations.declared h = inr (inl h)
+  reached-placed (Evaluations.nextLine g) h = inr (inr h)
+  reached-placed Evaluations.included h = h
+  reached-placed (Evaluations.powerMember k) h = inr h
+  reached-placed (Evaluations.productPart e k) h = inr (part-placed k h)
+  reached-placed (Evaluations.anew o) h = value-test o h
 
-  within-placed : {t u : Turn} → Within t u → PlacedTurn w m u → PlacedTurn w m t
+  within-placed : {t u : Evaluation} → Within t u → PlacedEvaluation w m u → PlacedEvaluation w m t
   within-placed itself h = h
   within-placed (further r k) h = reached-placed r (within-placed k h)
 
-  turn-placed : (t : Turn) → StopsAt t w m → Trouble w m × PlacedTurn w m t
-  turn-placed t h = let r = within-found w m t h in (row-number (r .2), within-placed (r .1) (row-placed (r .2)))
+  evaluation-placed : (t : Evaluation) → StopsAt t w m → Trouble w m × PlacedEvaluation w m t
+  evaluation-placed t h = let r = within-found w m t h in (row-number (r .2), within-placed (r .1) (row-placed (r .2)))
 
   -- ---- the paragraphs
-  tested-placed : {state : State} {scope : Scope} {ls : Lines} {own : Scope} {u : Turn} → Tested state scope ls own u → PlacedTurn w m u → PlacedAxiom w m ls
-  unfolding PlacedAxiom PlacedTurn
-  tested-placed (Turns.nameTested k) h = inl h
-  tested-placed (Turns.laterTestedLine g k) h = inr (tested-placed k h)
-  tested-placed Turns.includedLine h = h
+  tested-placed : {state : State} {scope : Scope} {ls : Lines} {own : Scope} {u : Evaluation} → Tested state scope ls own u → PlacedEvaluation w m u → PlacedAxiom w m ls
+  unfolding PlacedAxiom PlacedEvaluation
+  tested-placed (Evaluations.nameTested k) h = inl h
+  tested-placed (Evaluations.laterTestedLine g k) h = inr (tested-placed k h)
+  tested-placed Evaluations.includedLine h = h
 
-  begun-placed : {state : State} {p : Paragraph} {scope : Scope} {u : Turn} → Begins state p scope u → PlacedTurn w m u → PlacedParagraph w m p
-  unfolding PlacedParagraph PlacedTurn
-  begun-placed (Turns.axiomLine k) h = inl (tested-placed k h)
-  begun-placed (Turns.axiomPredicate g) h = inr h
-  begun-placed Turns.workedOut h = h
-  begun-placed Turns.constrained h = h
+  begun-placed : {state : State} {p : Paragraph} {scope : Scope} {u : Evaluation} → Begins state p scope u → PlacedEvaluation w m u → PlacedParagraph w m p
+  unfolding PlacedParagraph PlacedEvaluation
+  begun-placed (Evaluations.axiomLine k) h = inl (tested-placed k h)
+  begun-placed (Evaluations.axiomPredicate g) h = inr h
+  begun-placed Evaluations.workedOut h = h
+  begun-placed Evaluations.constrained h = h
 
-  coming-placed : {state : State} {ps : List Paragraph} {scope : Scope} {u : Turn} → BeginsIn state ps scope u → PlacedTurn w m u → PlacedParagraphs w m ps
+  coming-placed : {state : State} {ps : List Paragraph} {scope : Scope} {u : Evaluation} → BeginsIn state ps scope u → PlacedEvaluation w m u → PlacedParagraphs w m ps
   unfolding PlacedParagraphs
-  coming-placed (Turns.thisParagraph k) h = inl (begun-placed k h)
-  coming-placed (Turns.nextParagraph g k) h = inr (coming-placed k h)
+  coming-placed (Evaluations.thisParagraph k) h = inl (begun-placed k h)
+  coming-placed (Evaluations.nextParagraph g k) h = inr (coming-placed k h)
 
-  run-placed : {state : State} {d : Document} {u : Turn} → InRun state d u → Row w m u → PlacedDocument w m d
+  run-placed : {state : State} {d : Document} {u : Evaluation} → InRun state d u → Row w m u → PlacedDocument w m d
   unfolding PlacedDocument
   run-placed (inRun k j) h = coming-placed k (within-placed j (row-placed h))
 
 pub trouble-places : TroublePlaces
 trouble-places = record {
-  turn = λ t w m h. turn-placed w m t h;
+  each = λ t w m h. evaluation-placed w m t h;
   run = λ doc state work w m read room well e. let r = run-trouble doc state work read room well w m .0 e in (row-number (r .2), run-placed w m (r .1) (r .2));
 }

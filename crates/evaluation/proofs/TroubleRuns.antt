@@ -1,4 +1,4 @@
--- A run stops exactly where one of the turns that its paragraphs begin with stops.
+-- A run stops exactly where one of the evaluations that its paragraphs begin with stops.
 use mathlib.Core.Path.{_≡_, refl, ap, subst, sym, _∙_}
 use mathlib.Core.Logic.{_↔_}
 use mathlib.Core.List.{List}
@@ -19,13 +19,13 @@ use Rattle.evaluation.specs.Claims.{WellFormed}
 use Rattle.evaluation.specs.Listing.{stops}
 use Rattle.evaluation.specs.ListingRun
 use Rattle.evaluation.specs.ListingRun.{TestsNames, TestsLines, Runs, RunsAll, Lists}
-use Rattle.evaluation.specs.Turns
-use Rattle.evaluation.specs.Turns.{Stops, broke, Turn, working, telling, testing, including, StopsAt, EachName, Tested, Begins, BeginsIn}
+use Rattle.evaluation.specs.Evaluations
+use Rattle.evaluation.specs.Evaluations.{Stops, broke, Evaluation, working, telling, testing, including, StopsAt, EachName, Tested, Begins, BeginsIn}
 use Rattle.evaluation.specs.Troubles
 use Rattle.evaluation.specs.Troubles.{Row, InRun, inRun, RunRefused}
 use Rattle.evaluation.specs.declared.Finding.the-variants.{Refused}
 use Rattle.evaluation.proofs.StatePlace.{state-well}
-use Rattle.evaluation.proofs.TurnLists.{Some, said, stop-said, come, stop-come, value-stop, value-stops, truth-stop, truth-stops, test-said, test-stop, test-comes, test-stops}
+use Rattle.evaluation.proofs.EvaluationLists.{Some, said, stop-said, come, stop-come, value-stop, value-stops, truth-stop, truth-stops, test-said, test-stop, test-comes, test-stops}
 use Rattle.evaluation.proofs.TroublesWithin.{within-found, within-row}
 use Rattle.evaluation.proofs.ListingSaid.{expr-says, test-says}
 use Rattle.evaluation.proofs.WholeList.{names-say, lines-say, paragraph-says, paragraphs-say, names-come, lines-come, runs-come, all-come, by-state, run-lists, lists-run}
@@ -33,56 +33,56 @@ use Rattle.evaluation.proofs.WholeList.{names-say, lines-say, paragraph
 module _ (state : State) where
   -- ---- only there
   names-found : {n : ℕ} {a : Expr} {scope : Scope} {is : List ℕ} {own : Scope} {t : List Event} {w m : ℕ} → TestsNames state n a scope is own t (stops w m) → (i : ℕ) × EachName state a scope is i × Stops (test a scope (state i)) w m
-  names-found {a = a} {scope = scope} (ListingRun.nameStops {i = i} h) = (i, Turns.firstName, test-stops a scope (state i) h)
-  names-found {a = a} {scope = scope} (ListingRun.namePasses {i = j} h k) = let r = names-found k in (r .0, Turns.laterName (test-comes a scope (state j) h) (r .1), r .2)
+  names-found {a = a} {scope = scope} (ListingRun.nameStops {i = i} h) = (i, Evaluations.firstName, test-stops a scope (state i) h)
+  names-found {a = a} {scope = scope} (ListingRun.namePasses {i = j} h k) = let r = names-found k in (r .0, Evaluations.laterName (test-comes a scope (state j) h) (r .1), r .2)
 
-  lines-found : {scope own : Scope} {ls : Lines} {t : List Event} {w m : ℕ} → TestsLines state scope ls own t (stops w m) → (u : Turn) × Tested state scope ls own u × StopsAt u w m
+  lines-found : {scope own : Scope} {ls : Lines} {t : List Event} {w m : ℕ} → TestsLines state scope ls own t (stops w m) → (u : Evaluation) × Tested state scope ls own u × StopsAt u w m
   unfolding StopsAt stopInclude
-  lines-found {scope = scope} (ListingRun.lineEnds {a = a} h e) = let r = names-found h in (testing a scope (state (r .0)), Turns.nameTested (r .1), r .2)
-  lines-found (ListingRun.lineGoesOn h k) = let r = lines-found k in (r .0, Turns.laterTestedLine (come (names-come state h)) (r .1), r .2)
-  lines-found (ListingRun.lineIncludes {n = n} {s = s} {k = k} {xs = xs} {rs = rs}) = (including (include n s k xs rs), Turns.includedLine, broke)
+  lines-found {scope = scope} (ListingRun.lineEnds {a = a} h e) = let r = names-found h in (testing a scope (state (r .0)), Evaluations.nameTested (r .1), r .2)
+  lines-found (ListingRun.lineGoesOn h k) = let r = lines-found k in (r .0, Evaluations.laterTestedLine (come (names-come state h)) (r .1), r .2)
+  lines-found (ListingRun.lineIncludes {n = n} {s = s} {k = k} {xs = xs} {rs = rs}) = (including (include n s k xs rs), Evaluations.includedLine, broke)
 
-  paragraph-found : {p : Paragraph} {scope : Scope} {t : List Event} {w m : ℕ} → Runs state p scope t (stops w m) → (u : Turn) × Begins state p scope u × StopsAt u w m
+  paragraph-found : {p : Paragraph} {scope : Scope} {t : List Event} {w m : ℕ} → Runs state p scope t (stops w m) → (u : Evaluation) × Begins state p scope u × StopsAt u w m
   unfolding StopsAt
-  paragraph-found (ListingRun.linesEnd h e) = let r = lines-found h in (r .0, Turns.axiomLine (r .1), r .2)
-  paragraph-found (ListingRun.axiomStops {p = p} {own = own} h k) = (telling p own, Turns.axiomPredicate (come (lines-come state h)), truth-stops p own k)
-  paragraph-found (ListingRun.abbreviationStops {a = a} {scope = scope} h) = (working a scope, Turns.workedOut, value-stops a scope h)
-  paragraph-found (ListingRun.constraintStops {p = p} {scope = scope} h) = (telling p scope, Turns.constrained, truth-stops p scope h)
+  paragraph-found (ListingRun.linesEnd h e) = let r = lines-found h in (r .0, Evaluations.axiomLine (r .1), r .2)
+  paragraph-found (ListingRun.axiomStops {p = p} {own = own} h k) = (telling p own, Evaluations.axiomPredicate (come (lines-come state h)), truth-stops p own k)
+  paragraph-found (ListingRun.abbreviationStops {a = a} {scope = scope} h) = (working a scope, Evaluations.workedOut, value-stops a scope h)
+  paragraph-found (ListingRun.constraintStops {p = p} {scope = scope} h) = (telling p scope, Evaluations.constrained, truth-stops p scope h)
 
-  paragraphs-found : {ps : List Paragraph} {scope : Scope} {t : List Event} {w m : ℕ} → RunsAll state ps scope t (stops w m) → (u : Turn) × BeginsIn state ps scope u × StopsAt u w m
-  paragraphs-found (ListingRun.paragraphEnds h e) = let r = paragraph-found h in (r .0, Turns.thisParagraph (r .1), r .2)
-  paragraphs-found (ListingRun.paragraphGoesOn h k) = let r = paragraphs-found k in (r .0, Turns.nextParagraph (come (runs-come state h)) (r .1), r .2)
+  paragraphs-found : {ps : List Paragraph} {scope : Scope} {t : List Event} {w m : ℕ} → RunsAll state ps scope t (stops w m) → (u : Evaluation) × BeginsIn state ps scope u × StopsAt u w m
+  paragraphs-found (ListingRun.paragraphEnds h e) = let r = paragraph-found h in (r .0, Evaluations.thisParagraph (r .1), r .2)
+  paragraphs-found (ListingRun.paragraphGoesOn h k) = let r = paragraphs-found k in (r .0, Evaluations.nextParagraph (come (runs-come state h)) (r .1), r .2)
 
   -- ---- and there
   names-stop : {n : ℕ} {a : Expr} {scope : Scope} {is : List ℕ} {i : ℕ} {w m : ℕ} → EachName state a scope is i → Stops (test a scope (state i)) w m → (own : Scope) → Some (TestsNames state n a scope is own) (stops w m)
-  names-stop {a = a} {scope = scope} (Turns.firstName {i = i}) h own = (_, ListingRun.nameStops (test-stop a scope (state i) h .1))
-  names-stop {a = a} {scope = scope} (Turns.laterName {j = j} g k) h own = (_, ListingRun.namePasses (test-said a scope (state j) g .1) (names-stop k h _ .1))
+  names-stop {a = a} {scope = scope} (Evaluations.firstName {i = i}) h own = (_, ListingRun.nameStops (test-stop a scope (state i) h .1))
+  names-stop {a = a} {scope = scope} (Evaluations.laterName {j = j} g k) h own = (_, ListingRun.namePasses (test-said a scope (state j) g .1) (names-stop k h _ .1))
 
-  lines-stop : {scope own : Scope} {ls : Lines} {u : Turn} {w m : ℕ} → Tested state scope ls own u → StopsAt u w m → Some (TestsLines state scope ls own) (stops w m)
+  lines-stop : {scope own : Scope} {ls : Lines} {u : Evaluation} {w m : ℕ} → Tested state scope ls own u → StopsAt u w m → Some (TestsLines state scope ls own) (stops w m)
   unfolding StopsAt stopInclude
-  lines-stop (Turns.nameTested k) h = (_, ListingRun.lineEnds (names-stop k h _ .1) ListingRun.stopping)
-  lines-stop {scope = scope} (Turns.laterTestedLine {n = n} {a = a} {is = is} {own = own} g k) h =
+  lines-stop (Evaluations.nameTested k) h = (_, ListingRun.lineEnds (names-stop k h _ .1) ListingRun.stopping)
+  lines-stop {scope = scope} (Evaluations.laterTestedLine {n = n} {a = a} {is = is} {own = own} g k) h =
       (_, ListingRun.lineGoesOn (said (names-say state n a scope (test a scope) (λ v. test-says a _ v scope (λ scope′. expr-says a scope′)) is own) g .1) (lines-stop k h .1))
-  lines-stop (Turns.includedLine {i = include n s k xs rs}) broke = (_, ListingRun.lineIncludes)
+  lines-stop (Evaluations.includedLine {i = include n s k xs rs}) broke = (_, ListingRun.lineIncludes)
 
-  paragraph-stops : {p : Paragraph} {scope : Scope} {u : Turn} {w m : ℕ} → Begins state p scope u → StopsAt u w m → Some (Runs state p scope) (stops w m)
+  paragraph-stops : {p : Paragraph} {scope : Scope} {u : Evaluation} {w m : ℕ} → Begins state p scope u → StopsAt u w m → Some (Runs state p scope) (stops w m)
   unfolding StopsAt
-  paragraph-stops (Turns.axiomLine k) h = (_, ListingRun.linesEnd (lines-stop k h .1) ListingRun.stopping)
-  paragraph-stops (Turns.axiomPredicate {p = p} {ls = ls} {scope = scope} {own = own} g) h = (_, ListingRun.axiomStops (said (lines-say state ls scope scope) g .1) (truth-stop p own h .1))
-  paragraph-stops (Turns.workedOut {a = a} {scope = scope}) h = (_, ListingRun.abbreviationStops (value-stop a scope h .1))
-  paragraph-stops (Turns.constrained {p = p} {scope = scope}) h = (_, ListingRun.constraintStops (truth-stop p scope h .1))
+  paragraph-stops (Evaluations.axiomLine k) h = (_, ListingRun.linesEnd (lines-stop k h .1) ListingRun.stopping)
+  paragraph-stops (Evaluations.axiomPredicate {p = p} {ls = ls} {scope = scope} {own = own} g) h = (_, ListingRun.axiomStops (said (lines-say state ls scope scope) g .1) (truth-stop p own h .1))
+  paragraph-stops (Evaluations.workedOut {a = a} {scope = scope}) h = (_, ListingRun.abbreviationStops (value-stop a scope h .1))
+  paragraph-stops (Evaluations.constrained {p = p} {scope = scope}) h = (_, ListingRun.constraintStops (truth-stop p scope h .1))
 
-  paragraphs-stop : {ps : List Paragraph} {scope : Scope} {u : Turn} {w m : ℕ} → BeginsIn state ps scope u → StopsAt u w m → Some (RunsAll state ps scope) (stops w m)
-  paragraphs-stop (Turns.thisParagraph k) h = (_, ListingRun.paragraphEnds (paragraph-stops k h .1) ListingRun.stopping)
-  paragraphs-stop (Turns.nextParagraph {p = p} {scope = scope} g k) h = (_, ListingRun.paragraphGoesOn (said (paragraph-says state p scope) g .1) (paragraphs-stop k h .1))
+  paragraphs-stop : {ps : List Paragraph} {scope : Scope} {u : Evaluation} {w m : ℕ} → BeginsIn state ps scope u → StopsAt u w m → Some (RunsAll state ps scope) (stops w m)
+  paragraphs-stop (Evaluations.thisParagraph k) h = (_, ListingRun.paragraphEnds (paragraph-stops k h .1) ListingRun.stopping)
+  paragraphs-stop (Evaluations.nextParagraph {p = p} {scope = scope} g k) h = (_, ListingRun.paragraphGoesOn (said (paragraph-says state p scope) g .1) (paragraphs-stop k h .1))
 
   -- ---- the document
-  document-found : (w m : ℕ) (d : Document) → Stops (runDocument d state) w m → (u : Turn) × InRun state d u × Row w m u
+  document-found : (w m : ℕ) (d : Document) → Stops (runDocument d state) w m → (u : Evaluation) × InRun state d u × Row w m u
   unfolding runDocument
   document-found w m (document n ps) h =
       let r = paragraphs-found (stop-said (paragraphs-say state ps empty) h .1) in let q = within-found w m (r .0) (r .2) in (q .0, inRun (r .1) (q .1), q .2)
 
-  document-stops : (w m : ℕ) {d : Document} {u : Turn} → InRun state d u → Row w m u → Stops (runDocument d state) w m
+  document-stops : (w m : ℕ) {d : Document} {u : Evaluation} → InRun state d u → Row w m u → Stops (runDocument d state) w m
   unfolding runDocument
   document-stops w m (inRun {t = t} {u = u} k j) h = stop-come (all-come state (paragraphs-stop k (within-row w m t u j h) .1))
 
@@ -102,7 +102,7 @@ module _ (doc state : List ℕ) (work : ℕ) (read : readOf doc ≡ Readable) (r
   unfolding runState
   by-document = ap (λ (r : Ran). r .finding) (by-state doc state work read room Readable (state-well (documentNames (treeOf doc)) state .1 well))
 
-  pub run-trouble : (w m : ℕ) → (runOf doc state work .finding ≡ Refused w m) ↔ ((u : Turn) × InRun (valueIn (documentNames (treeOf doc)) state) (treeOf doc) u × Row w m u)
+  pub run-trouble : (w m : ℕ) → (runOf doc state work .finding ≡ Refused w m) ↔ ((u : Evaluation) × InRun (valueIn (documentNames (treeOf doc)) state) (treeOf doc) u × Row w m u)
   run-trouble w m = (
     λ e. document-found _ w m (treeOf doc) (ending-refused _ w m (sym by-document ∙ e)),
     λ h. by-document ∙ refused-ending (document-stops _ w m (h .1) (h .2)),
@@ -111,7 +111,7 @@ module _ (doc state : List ℕ) (work : ℕ) (read : readOf doc ≡ Readable) (r
   run-troubled : (w m : ℕ) → runOf doc state work .finding ≡ Refused w m → RunRefused doc state work w m
   run-troubled w m e = let r = run-trouble w m .0 e in Troubles.troubled read room well (r .1) (r .2)
 
-  run-stops : {w m : ℕ} {u : Turn} → InRun (valueIn (documentNames (treeOf doc)) state) (treeOf doc) u → Row w m u → runOf doc state work .finding ≡ Refused w m
+  run-stops : {w m : ℕ} {u : Evaluation} → InRun (valueIn (documentNames (treeOf doc)) state) (treeOf doc) u → Row w m u → runOf doc state work .finding ≡ Refused w m
   run-stops {w = w} {m = m} {u = u} k h = run-trouble w m .1 (u, k, h)
 
 module _ (doc state : List ℕ) (work : ℕ) where

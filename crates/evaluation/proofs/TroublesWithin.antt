@@ -1,4 +1,4 @@
--- A turn stops exactly where a row holds of a turn that it reaches, in any number of steps: each step goes to a smaller tree.
+-- An evaluation stops exactly where a row holds of one that it reaches, in any number of steps: each step goes to a smaller tree.
 use mathlib.Core.Logic.{_⊎_, inl, inr}
 use Prim.Native.Nat.{ℕ, zero, suc, _+_, _*_, _≤_, _<_}
 use native.Mathlib.Omega.{arith}
@@ -8,8 +8,8 @@ use Rattle.syntax.specs.Tree.{comprehension, Exprs, none, more, Pred, truth, eq
 use Rattle.syntax.specs.Tree.{declaration, inclusion}
 use Rattle.syntax.specs.Tree as Tree
 use Rattle.evaluation.specs.Scope.{Scope}
-use Rattle.evaluation.specs.Turns
-use Rattle.evaluation.specs.Turns.{Turn, working, telling, testing, declaring, including, StopsAt, Operand, Adding, EachPart, Reaches, Within, itself, further}
+use Rattle.evaluation.specs.Evaluations
+use Rattle.evaluation.specs.Evaluations.{Evaluation, working, telling, testing, declaring, including, StopsAt, Operand, Adding, EachPart, Reaches, Within, itself, further}
 use Rattle.evaluation.specs.Troubles.{Row, Below}
 use Rattle.evaluation.proofs.TroublesFound.{found}
 use Rattle.evaluation.proofs.TroublesCome.{reached-stops, row-stops}
@@ -53,7 +53,7 @@ unfoldable mutual
   sizeLines (inclusion i ls) = 1
 
 -- a test may work out the same tree
-unfoldable rank : Turn → ℕ
+unfoldable rank : Evaluation → ℕ
 rank (working a scope) = 2 * sizeExpr a
 rank (telling p scope) = 2 * sizePred p
 rank (testing a scope v) = suc (2 * sizeExpr a)
@@ -62,68 +62,68 @@ rank (including i) = 0
 
 operand-size : {scope : Scope} {xs : Exprs} {a : Expr} → Operand scope xs a → sizeExpr a ≤ sizeExprs xs
 unfolding sizeExpr
-operand-size Turns.firstOperand = omega arith
-operand-size (Turns.laterOperand g k) = let h = operand-size k in omega arith
+operand-size Evaluations.firstOperand = omega arith
+operand-size (Evaluations.laterOperand g k) = let h = operand-size k in omega arith
 
 member-size : {scope : Scope} {xs : Exprs} {s s′ : Values} {a : Expr} → Adding scope xs s a s′ → sizeExpr a ≤ sizeExprs xs
 unfolding sizeExpr
-member-size Turns.firstMember = omega arith
-member-size (Turns.laterMember g e k) = let h = member-size k in omega arith
+member-size Evaluations.firstMember = omega arith
+member-size (Evaluations.laterMember g e k) = let h = member-size k in omega arith
 
 part-size : {scope : Scope} {xs : Exprs} {vs : Values} {a : Expr} {v : Value} → EachPart scope xs vs a v → sizeExpr a ≤ sizeExprs xs
 unfolding sizeExpr
-part-size Turns.firstPart = omega arith
-part-size (Turns.laterPart g k) = let h = part-size k in omega arith
+part-size Evaluations.firstPart = omega arith
+part-size (Evaluations.laterPart g k) = let h = part-size k in omega arith
 
-smaller : {t u : Turn} → Reaches t u → rank u < rank t
+smaller : {t u : Evaluation} → Reaches t u → rank u < rank t
 unfolding rank sizeExpr
-smaller (Turns.actual k) = let h = operand-size k in omega arith
-smaller (Turns.setMember k) = let h = member-size k in omega arith
-smaller (Turns.tuplePart k) = let h = operand-size k in omega arith
-smaller Turns.function = omega arith
-smaller (Turns.argument g) = omega arith
-smaller Turns.leftNumber = omega arith
-smaller (Turns.rightNumber g) = omega arith
-smaller Turns.gatheredSets = omega arith
-smaller (Turns.gatheredWhere g k) = omega arith
-smaller (Turns.gatheredBody g k c) = omega arith
-smaller Turns.leftEqual = omega arith
-smaller (Turns.rightEqual g) = omega arith
-smaller Turns.leftMember = omega arith
-smaller (Turns.memberTest g) = omega arith
-smaller Turns.leftAtMost = omega arith
-smaller (Turns.rightAtMost g) = omega arith
-smaller Turns.negated = omega arith
-smaller Turns.leftSide = omega arith
-smaller (Turns.rightSide g) = omega arith
-smaller Turns.triedSets = omega arith
-smaller (Turns.triedWhere g k) = omega arith
-smaller (Turns.triedBody g k c) = omega arith
-smaller Turns.declared = omega arith
-smaller (Turns.nextLine g) = omega arith
-smaller Turns.included = omega arith
-smaller (Turns.powerMember k) = omega arith
-smaller (Turns.productPart e k) = let h = part-size k in omega arith
-smaller (Turns.anew o) = omega arith
+smaller (Evaluations.actual k) = let h = operand-size k in omega arith
+smaller (Evaluations.setMember k) = let h = member-size k in omega arith
+smaller (Evaluations.tuplePart k) = let h = operand-size k in omega arith
+smaller Evaluations.function = omega arith
+smaller (Evaluations.argument g) = omega arith
+smaller Evaluations.leftNumber = omega arith
+smaller (Evaluations.rightNumber g) = omega arith
+smaller Evaluations.gatheredSets = omega arith
+smaller (Evaluations.gatheredWhere g k) = omega arith
+smaller (Evaluations.gatheredBody g k c) = omega arith
+smaller Evaluations.leftEqual = omega arith
+smaller (Evaluations.rightEqual g) = omega arith
+smaller Evaluations.leftMember = omega arith
+smaller (Evaluations.memberTest g) = omega arith
+smaller Evaluations.leftAtMost = omega arith
+smaller (Evaluations.rightAtMost g) = omega arith
+smaller Evaluations.negated = omega arith
+smaller Evaluations.leftSide = omega arith
+smaller (Evaluations.rightSide g) = omega arith
+smaller Evaluations.triedSets = omega arith
+smaller (Evaluations.triedWhere g k) = omega arith
+smaller (Evaluations.triedBody g k c) = omega arith
+smaller Evaluations.declared = omega arith
+smaller (Evaluations.nextLine g) = omega arith
+smaller Evaluations.included = omega arith
+smaller (Evaluations.powerMember k) = omega arith
+smaller (Evaluations.productPart e k) = let h = part-size k in omega arith
+smaller (Evaluations.anew o) = omega arith
 
 module _ (w m : ℕ) where
-  abbrev Deep : Turn → Type 0
-  Deep t = (u : Turn) × Within t u × Row w m u
+  abbrev Deep : Evaluation → Type 0
+  Deep t = (u : Evaluation) × Within t u × Row w m u
 
-  deeper : (k : ℕ) (t : Turn) → ((u : Turn) → rank u < k → StopsAt u w m → Deep u) → rank t < suc k → Below t w m ⊎ Row w m t → Deep t
+  deeper : (k : ℕ) (t : Evaluation) → ((u : Evaluation) → rank u < k → StopsAt u w m → Deep u) → rank t < suc k → Below t w m ⊎ Row w m t → Deep t
   deeper k t h l (inl (u, r, s)) = let q = h u (let e = smaller r in omega arith) s in (q .0, further r (q .1), q .2)
   deeper k t h l (inr r) = (t, itself, r)
 
-  ranked : (k : ℕ) (t : Turn) → rank t < k → StopsAt t w m → Deep t
+  ranked : (k : ℕ) (t : Evaluation) → rank t < k → StopsAt t w m → Deep t
   ranked zero t l h = absurd (omega arith)
   ranked (suc k) t l h = deeper k t (λ u. ranked k u) l (found t w m h)
 
-  pub within-found : (t : Turn) → StopsAt t w m → (u : Turn) × Within t u × Row w m u
+  pub within-found : (t : Evaluation) → StopsAt t w m → (u : Evaluation) × Within t u × Row w m u
   within-found t h = ranked (suc (rank t)) t (omega arith) h
 
-  within-stops : {t u : Turn} → Within t u → StopsAt u w m → StopsAt t w m
+  within-stops : {t u : Evaluation} → Within t u → StopsAt u w m → StopsAt t w m
   within-stops itself h = h
   within-stops (further r k) h = reached-stops w m r (within-stops k h)
 
-  pub within-row : (t u : Turn) → Within t u → Row w m u → StopsAt t w m
+  pub within-row : (t u : Evaluation) → Within t u → Row w m u → StopsAt t w m
   within-row t u k h = within-stops k (row-stops h)

@@ -10,6 +10,6 @@ pub mod Run
 pub mod Claims
 pub mod Listing
 pub mod ListingRun
-pub mod Turns
+pub mod Evaluations
 pub mod Troubles
 pub mod TroublePlaces

@@ -16,7 +16,7 @@ use Rattle.syntax.specs.declared.Reading.the-variants.{Readable}
 use Rattle.state_words.specs.Names.{documentNames}
 use Rattle.evaluation.specs.Run.{runOf}
 use Rattle.evaluation.specs.Claims.{Trouble, WellFormed}
-use Rattle.evaluation.specs.Turns.{Turn, working, telling, testing, declaring, including, StopsAt}
+use Rattle.evaluation.specs.Evaluations.{Evaluation, working, telling, testing, declaring, including, StopsAt}
 use Rattle.evaluation.specs.declared.Finding.the-variants.{Refused}
 
 -- w at m is at n, with one of the numbers
@@ -116,15 +116,15 @@ PlacedParagraphs w m (p ∷ ps) = PlacedParagraph w m p ⊎ PlacedParagraphs w m
 unfoldable pub PlacedDocument : ℕ → ℕ → Document → Type 0
 PlacedDocument w m (document n ps) = PlacedParagraphs w m ps
 
-unfoldable pub PlacedTurn : ℕ → ℕ → Turn → Type 0
-PlacedTurn w m (working a scope) = PlacedExpr w m a
-PlacedTurn w m (telling p scope) = PlacedPred w m p
-PlacedTurn w m (testing a scope v) = PlacedTest w m a
-PlacedTurn w m (declaring ls scope) = PlacedLines w m ls
-PlacedTurn w m (including i) = PlacedInclude w m i
+unfoldable pub PlacedEvaluation : ℕ → ℕ → Evaluation → Type 0
+PlacedEvaluation w m (working a scope) = PlacedExpr w m a
+PlacedEvaluation w m (telling p scope) = PlacedPred w m p
+PlacedEvaluation w m (testing a scope v) = PlacedTest w m a
+PlacedEvaluation w m (declaring ls scope) = PlacedLines w m ls
+PlacedEvaluation w m (including i) = PlacedInclude w m i
 
 -- Every stop is 51 to 55, at a node of a kind that can get the number.
 pub record TroublePlaces : Type 0 where
-  pub turn : (t : Turn) (w m : ℕ) → StopsAt t w m → Trouble w m × PlacedTurn w m t
+  pub each : (t : Evaluation) (w m : ℕ) → StopsAt t w m → Trouble w m × PlacedEvaluation w m t
   pub run : (doc state : List ℕ) (work w m : ℕ) → readOf doc ≡ Readable → 16384 ≤ work → WellFormed (documentNames (treeOf doc)) state
       → runOf doc state work .finding ≡ Refused w m → Trouble w m × PlacedDocument w m (treeOf doc)

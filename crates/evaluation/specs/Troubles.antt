@@ -1,4 +1,4 @@
--- The rows 51 to 55 of document 01's table of findings: when each number comes at a turn's own node, m, in the values that the operands give. That the
+-- The rows 51 to 55 of document 01's table of findings: when each number comes at an evaluation's own node, m, in the values that the operands give. That the
 -- evaluation rules give each number there and nowhere else: `TroubleLaws`, proved in proofs/TroubleLaws.
 use mathlib.Core.Path.{_≡_}
 use mathlib.Core.Bool.{true, false}
@@ -26,7 +26,7 @@ use Rattle.evaluation.specs.Rules.{evalExpr, evalExprs, evalPred, evalLi
 use Rattle.evaluation.specs.Run.{runOf}
 use Rattle.evaluation.specs.Claims.{NotRun, IllFormed, WellFormed}
 use Rattle.evaluation.specs.Listing.{NoInteger, NoSet, NoTuple, Another, assignments}
-use Rattle.evaluation.specs.Turns.{Gives, Turn, working, telling, testing, declaring, including, StopsAt, Adding, Gathering, Reaches, Within, BeginsIn}
+use Rattle.evaluation.specs.Evaluations.{Gives, Evaluation, working, telling, testing, declaring, including, StopsAt, Adding, Gathering, Reaches, Within, BeginsIn}
 use Rattle.evaluation.specs.declared.Finding.the-variants.{Refused}
 
 -- ---- Apply: "the lowest pair whose first part equals the argument; members that are not pairs, met before it, are 51; none found is 52"
@@ -59,7 +59,7 @@ pub data Exceeds (j k : ℤ) : Operator → Type 0 where
 
 -- ---- the rows
 -- 51, "misfit: value of a sort that the operation cannot use", at the "node that uses it"
-pub data Misfit : Turn → ℕ → Type 0 where
+pub data Misfit : Evaluation → ℕ → Type 0 where
   -- "Ref: .. unknown 51, .. actuals on another name 51", the actuals worked out before (R23)
   nameUnknown : {n i : ℕ} {xs : Exprs} {vs : Values} {scope : Scope} → Gives (evalExprs xs scope) vs → lookup i scope ≡ unknown → Misfit (working (reference n i xs) scope) n
   actualsOnName : {n i : ℕ} {a : Expr} {xs : Exprs} {vs : Values} {v : Value} {scope : Scope} → Gives (evalExprs (more a xs) scope) vs → lookup i scope ≡ valued v
@@ -81,7 +81,7 @@ pub data Misfit : Turn → ℕ → Type 0 where
   noSetAnew : {a : Expr} {v x : Value} {scope : Scope} → Another a → Gives (evalExpr a scope) x → NoSet x → Misfit (testing a scope v) (exprNode a)
 
 -- 52, "undefined"
-pub data NoResult : Turn → ℕ → Type 0 where
+pub data NoResult : Evaluation → ℕ → Type 0 where
   noneFound : {n : ℕ} {f a : Expr} {vs : Values} {y : Value} {scope : Scope} → Gives (evalExpr f scope) (Value.set vs) → Gives (evalExpr a scope) y → NoneFound y vs
       → NoResult (working (application n f a) scope) n
   -- "a mod n .. a div n ..; n < 1 is 52"
@@ -89,12 +89,12 @@ pub data NoResult : Turn → ℕ → Type 0 where
       → NoResult (working (arithmetic n o a b) scope) n
 
 -- 53, "integer outside 32 bits signed"
-pub data PastBits : Turn → ℕ → Type 0 where
+pub data PastBits : Evaluation → ℕ → Type 0 where
   outside : {n : ℕ} {o : Operator} {a b : Expr} {j k : ℤ} {scope : Scope} → Gives (evalExpr a scope) (int j) → Gives (evalExpr b scope) (int k) → Exceeds j k o
       → PastBits (working (arithmetic n o a b) scope) n
 
 -- 54, "not run"
-pub data Unrun : Turn → ℕ → Type 0 where
+pub data Unrun : Evaluation → ℕ → Type 0 where
   -- "generic abbreviation 54", the actuals worked out before (R23)
   nameGeneric : {n i : ℕ} {xs : Exprs} {vs : Values} {scope : Scope} → Gives (evalExprs xs scope) vs → lookup i scope ≡ generic → Unrun (working (reference n i xs) scope) n
   -- "As values ℤ, Power, Product, Select, Theta, SchemaSet, and any Include line, are 54 before their operands"
@@ -103,7 +103,7 @@ pub data Unrun : Turn → ℕ → Type 0 where
 
 -- 55, "value over 64 words": at a Ref and a Tuple of their value, at a Set and a Comprehension where the member being added makes the set pass 64 words (R24).
 -- Their whole value is then not too long, nor is that of an Apply, a part of a set of at most 64 words, or of a Number and arithmetic, of two words.
-pub data TooLong : Turn → ℕ → Type 0 where
+pub data TooLong : Evaluation → ℕ → Type 0 where
   nameTooLong : {n i : ℕ} {v : Value} {scope : Scope} → lookup i scope ≡ valued v → 64 < wordCount v → TooLong (working (reference n i none) scope) n
   tupleTooLong : {n : ℕ} {xs : Exprs} {vs : Values} {scope : Scope} → Gives (evalExprs xs scope) vs → 64 < wordCount (Value.tuple vs) → TooLong (working (tuple n xs) scope) n
   memberTooMuch : {n : ℕ} {xs : Exprs} {a : Expr} {s : Values} {v : Value} {scope : Scope} → Adding scope xs nil a s → Gives (evalExpr a scope) v → 64 < wordCount (Value.set (insertValue v s))
@@ -112,34 +112,34 @@ pub data TooLong : Turn → ℕ → Type 0 where
       → Gives (evalPred p x) true → Gives (evalExpr a x) v → 64 < wordCount (Value.set (insertValue v s)) → TooLong (working (comprehension n (text k p ls) a) scope) n
 
 -- the rows of the table: number, node, when
-pub data Row : ℕ → ℕ → Turn → Type 0 where
-  row51 : {m : ℕ} {t : Turn} → Misfit t m → Row 51 m t
-  row52 : {m : ℕ} {t : Turn} → NoResult t m → Row 52 m t
-  row53 : {m : ℕ} {t : Turn} → PastBits t m → Row 53 m t
-  row54 : {m : ℕ} {t : Turn} → Unrun t m → Row 54 m t
-  row55 : {m : ℕ} {t : Turn} → TooLong t m → Row 55 m t
+pub data Row : ℕ → ℕ → Evaluation → Type 0 where
+  row51 : {m : ℕ} {t : Evaluation} → Misfit t m → Row 51 m t
+  row52 : {m : ℕ} {t : Evaluation} → NoResult t m → Row 52 m t
+  row53 : {m : ℕ} {t : Evaluation} → PastBits t m → Row 53 m t
+  row54 : {m : ℕ} {t : Evaluation} → Unrun t m → Row 54 m t
+  row55 : {m : ℕ} {t : Evaluation} → TooLong t m → Row 55 m t
 
--- u is a turn of the document's run
-pub data InRun (state : State) : Document → Turn → Type 0 where
-  inRun : {n : ℕ} {ps : List Paragraph} {t u : Turn} → BeginsIn state ps empty t → Within t u → InRun state (document n ps) u
+-- u is an evaluation of the document's run
+pub data InRun (state : State) : Document → Evaluation → Type 0 where
+  inRun : {n : ℕ} {ps : List Paragraph} {t u : Evaluation} → BeginsIn state ps empty t → Within t u → InRun state (document n ps) u
 
 -- the refusals of a run, with number and place
 pub data RunRefused (doc state : List ℕ) (work : ℕ) : ℕ → ℕ → Type 0 where
   unreadable : {w m : ℕ} → readOf doc ≡ Unreadable w m → RunRefused doc state work w m
   noRoom : readOf doc ≡ Readable → work < 16384 → RunRefused doc state work 21 0
   illFormed : {m : ℕ} → readOf doc ≡ Readable → 16384 ≤ work → IllFormed (documentNames (treeOf doc)) state m → RunRefused doc state work 41 m
-  troubled : {w m : ℕ} {u : Turn} → readOf doc ≡ Readable → 16384 ≤ work → WellFormed (documentNames (treeOf doc)) state → InRun (valueIn (documentNames (treeOf doc)) state) (treeOf doc) u → Row w m u
+  troubled : {w m : ℕ} {u : Evaluation} → readOf doc ≡ Readable → 16384 ≤ work → WellFormed (documentNames (treeOf doc)) state → InRun (valueIn (documentNames (treeOf doc)) state) (treeOf doc) u → Row w m u
       → RunRefused doc state work w m
 
 -- one that t reaches stops with w at m
-abbrev pub Below : Turn → ℕ → ℕ → Type 0
-Below t w m = (u : Turn) × Reaches t u × StopsAt u w m
+abbrev pub Below : Evaluation → ℕ → ℕ → Type 0
+Below t w m = (u : Evaluation) × Reaches t u × StopsAt u w m
 
 -- Where, and only where, the numbers 51 to 55 come.
 pub record TroubleLaws : Type 0 where
-  -- a turn stops where one that it reaches stops, and at its own node where the number's row holds of it
-  pub each : (t : Turn) (w m : ℕ) → StopsAt t w m ↔ (Below t w m ⊎ Row w m t)
-  -- so a turn stops exactly where a row holds of a turn that it reaches
-  pub all : (t : Turn) (w m : ℕ) → StopsAt t w m ↔ ((u : Turn) × Within t u × Row w m u)
+  -- an evaluation stops where one that it reaches stops, and at its own node where the number's row holds of it
+  pub each : (t : Evaluation) (w m : ℕ) → StopsAt t w m ↔ (Below t w m ⊎ Row w m t)
+  -- so an evaluation stops exactly where a row holds of one that it reaches, in any number of steps
+  pub all : (t : Evaluation) (w m : ℕ) → StopsAt t w m ↔ ((u : Evaluation) × Within t u × Row w m u)
   -- so is a run refused, after reading, 21 and 41
   pub run : (doc state : List ℕ) (work w m : ℕ) → (runOf doc state work .finding ≡ Refused w m) ↔ RunRefused doc state work w m

@@ -1,4 +1,4 @@
--- What a turn gives, or where it stops, said by the sentences of the list (specs/Listing), and back.
+-- What an evaluation gives, or where it stops, said by the sentences of the list (specs/Listing), and back.
 use mathlib.Core.List.{List}
 use Prim.Native.Nat.{ℕ}
 use mathlib.Core.Bool.{Bool}
@@ -9,7 +9,7 @@ use Rattle.evaluation.specs.Scope.{Scope}
 use Rattle.evaluation.specs.Assignments.{Domains}
 use Rattle.evaluation.specs.Rules.{evalExpr, evalExprs, evalPred, evalLines, test}
 use Rattle.evaluation.specs.Listing.{Result, gives, stops, Works, WorksAll, Tells, Declares, Tests}
-use Rattle.evaluation.specs.Turns.{Gives, gave, Stops, broke}
+use Rattle.evaluation.specs.Evaluations.{Gives, gave, Stops, broke}
 use Rattle.evaluation.proofs.Said.{Says}
 use Rattle.evaluation.proofs.Said as Said
 use Rattle.evaluation.proofs.ListingSaid.{expr-says, exprs-says, pred-says, lines-say, test-says}

@@ -1,6 +1,6 @@
 -- What is worked out in a run, one thing after the other, and what leads to it (document 01, "Evaluation is left to right, operands first, and stops at
--- the first trouble"; R23 to R26). A turn is an expression worked out in a scope, a predicate decided in a scope, a value tested against an expression,
--- the lines of a quantifier's or Comprehension's Text, or an Include line. It reaches those directly below it whose turn comes: all that stands before
+-- the first trouble"; R23 to R26). An evaluation is an expression worked out in a scope, a predicate decided in a scope, a value tested against an expression,
+-- the lines of a quantifier's or Comprehension's Text, or an Include line. It reaches those directly below it that come next: all that stands before
 -- them has gone on.
 use mathlib.Core.Path.{_≡_}
 use mathlib.Core.List.{List, [], _∷_}
@@ -29,15 +29,15 @@ pub data Gives {A : Type 0} : Outcome A → A → Type 0 where
 pub data Stops {A : Type 0} : Outcome A → ℕ → ℕ → Type 0 where
   broke : {t : List Event} {w m : ℕ} → Stops (stopped t w m) w m
 
-pub data Turn : Type 0 where
-  working : Expr → Scope → Turn
-  telling : Pred → Scope → Turn
-  testing : Expr → Scope → Value → Turn
-  declaring : Lines → Scope → Turn
-  including : Include → Turn
+pub data Evaluation : Type 0 where
+  working : Expr → Scope → Evaluation
+  telling : Pred → Scope → Evaluation
+  testing : Expr → Scope → Value → Evaluation
+  declaring : Lines → Scope → Evaluation
+  including : Include → Evaluation
 
--- the turn stops with number w at node m
-unfoldable pub StopsAt : Turn → ℕ → ℕ → Type 0
+-- the evaluation stops with number w at node m
+unfoldable pub StopsAt : Evaluation → ℕ → ℕ → Type 0
 StopsAt (working a scope) w m = Stops (evalExpr a scope) w m
 StopsAt (telling p scope) w m = Stops (evalPred p scope) w m
 StopsAt (testing a scope v) w m = Stops (test a scope v) w m
@@ -45,8 +45,8 @@ StopsAt (declaring ls scope) w m = Stops (evalLines ls scope) w m
 StopsAt (including i) w m = Stops {A = Domains} (stopInclude i) w m
 
 -- a set of these members has at most 64 words
-abbrev pub Fits : Values → Type 0
-Fits vs = wordCount (Value.set vs) ≤ 64
+abbrev pub RoomFor : Values → Type 0
+RoomFor vs = wordCount (Value.set vs) ≤ 64
 
 -- left to right: a is one of the expressions, and those before it have values
 pub data Operand (scope : Scope) : Exprs → Expr → Type 0 where
@@ -56,13 +56,13 @@ pub data Operand (scope : Scope) : Exprs → Expr → Type 0 where
 -- "Set members are added one at a time": a is one of the expressions, those before it are added to s, and that is s′ (R24)
 pub data Adding (scope : Scope) : Exprs → Values → Expr → Values → Type 0 where
   firstMember : {a : Expr} {xs : Exprs} {s : Values} → Adding scope (more a xs) s a s
-  laterMember : {a b : Expr} {xs : Exprs} {s s′ : Values} {v : Value} → Gives (evalExpr b scope) v → Fits (insertValue v s) → Adding scope xs (insertValue v s) a s′ → Adding scope (more b xs) s a s′
+  laterMember : {a b : Expr} {xs : Exprs} {s s′ : Values} {v : Value} → Gives (evalExpr b scope) v → RoomFor (insertValue v s) → Adding scope xs (insertValue v s) a s′ → Adding scope (more b xs) s a s′
 
 -- "a Comprehension adds each body, .. over assignments where the Text's predicate is true": x is one of the assignments, and with those before it s has become s′
 pub data Gathering (p : Pred) (a : Expr) : List Scope → Values → Scope → Values → Type 0 where
   firstGathered : {x : Scope} {xs : List Scope} {s : Values} → Gathering p a (x ∷ xs) s x s
   leftOut : {x y : Scope} {xs : List Scope} {s s′ : Values} → Gives (evalPred p y) false → Gathering p a xs s x s′ → Gathering p a (y ∷ xs) s x s′
-  added : {x y : Scope} {xs : List Scope} {s s′ : Values} {v : Value} → Gives (evalPred p y) true → Gives (evalExpr a y) v → Fits (insertValue v s) → Gathering p a xs (insertValue v s) x s′
+  added : {x y : Scope} {xs : List Scope} {s s′ : Values} {v : Value} → Gives (evalPred p y) true → Gives (evalExpr a y) v → RoomFor (insertValue v s) → Gathering p a xs (insertValue v s) x s′
       → Gathering p a (y ∷ xs) s x s′
 
 -- "forall stops at a false, exists at a true": x is one of the assignments, and none before it has ended the quantifier q
@@ -81,7 +81,7 @@ pub data EachPart (scope : Scope) : Exprs → Values → Expr → Value → Type
   laterPart : {a b : Expr} {xs : Exprs} {u v : Value} {vs : Values} → Gives (test b scope u) true → EachPart scope xs vs a v → EachPart scope (more b xs) (cons u vs) a v
 
 -- ℤ, Power, Product, Select, Theta and SchemaSet as values reach nothing: they are 54 "before their operands".
-pub data Reaches : Turn → Turn → Type 0 where
+pub data Reaches : Evaluation → Evaluation → Type 0 where
   actual : {n i : ℕ} {xs : Exprs} {a : Expr} {scope : Scope} → Operand scope xs a → Reaches (working (reference n i xs) scope) (working a scope)
   setMember : {n : ℕ} {xs : Exprs} {a : Expr} {s : Values} {scope : Scope} → Adding scope xs nil a s → Reaches (working (set n xs) scope) (working a scope)
   tuplePart : {n : ℕ} {xs : Exprs} {a : Expr} {scope : Scope} → Operand scope xs a → Reaches (working (tuple n xs) scope) (working a scope)
@@ -122,9 +122,9 @@ pub data Reaches : Turn → Turn → Type 0 where
   anew : {a : Expr} {v : Value} {scope : Scope} → Another a → Reaches (testing a scope v) (working a scope)
 
 -- u is reached from t, in any number of steps
-pub data Within : Turn → Turn → Type 0 where
-  itself : {t : Turn} → Within t t
-  further : {t u v : Turn} → Reaches t u → Within u v → Within t v
+pub data Within : Evaluation → Evaluation → Type 0 where
+  itself : {t : Evaluation} → Within t t
+  further : {t u v : Evaluation} → Reaches t u → Within u v → Within t v
 
 -- ---- the paragraphs
 -- "Axiom tests each identifier against its Decl": i is one of the identifiers, and those before it pass
@@ -133,20 +133,20 @@ pub data EachName (state : State) (a : Expr) (scope : Scope) : List ℕ → ℕ 
   laterName : {i j : ℕ} {is : List ℕ} → Gives (test a scope (state j)) true → EachName state a scope is i → EachName state a scope (j ∷ is) i
 
 -- an Axiom's lines, which see only earlier paragraphs' names; own has the Axiom's identifiers so far
-pub data Tested (state : State) (scope : Scope) : Lines → Scope → Turn → Type 0 where
+pub data Tested (state : State) (scope : Scope) : Lines → Scope → Evaluation → Type 0 where
   nameTested : {n i : ℕ} {a : Expr} {is : List ℕ} {ls : Lines} {own : Scope} → EachName state a scope is i → Tested state scope (declaration n a is ls) own (testing a scope (state i))
-  laterTestedLine : {n : ℕ} {a : Expr} {is : List ℕ} {ls : Lines} {own own′ : Scope} {u : Turn} → Gives (testNames n (test a scope) is state own) (onward own′) → Tested state scope ls own′ u
+  laterTestedLine : {n : ℕ} {a : Expr} {is : List ℕ} {ls : Lines} {own own′ : Scope} {u : Evaluation} → Gives (testNames n (test a scope) is state own) (onward own′) → Tested state scope ls own′ u
       → Tested state scope (declaration n a is ls) own u
   includedLine : {i : Include} {ls : Lines} {own : Scope} → Tested state scope (inclusion i ls) own (including i)
 
--- the turns that a paragraph begins with; Givens, Schemas and Abbreviations with parameters have none
-pub data Begins (state : State) : Paragraph → Scope → Turn → Type 0 where
-  axiomLine : {n k : ℕ} {p : Pred} {ls : Lines} {scope : Scope} {u : Turn} → Tested state scope ls scope u → Begins state (axiomatic n (text k p ls)) scope u
+-- the evaluations that a paragraph begins with; Givens, Schemas and Abbreviations with parameters have none
+pub data Begins (state : State) : Paragraph → Scope → Evaluation → Type 0 where
+  axiomLine : {n k : ℕ} {p : Pred} {ls : Lines} {scope : Scope} {u : Evaluation} → Tested state scope ls scope u → Begins state (axiomatic n (text k p ls)) scope u
   axiomPredicate : {n k : ℕ} {p : Pred} {ls : Lines} {scope own : Scope} → Gives (testLines ls state scope scope) (onward own) → Begins state (axiomatic n (text k p ls)) scope (telling p own)
   workedOut : {n i : ℕ} {a : Expr} {scope : Scope} → Begins state (abbreviation n i [] a) scope (working a scope)
   constrained : {n : ℕ} {p : Pred} {scope : Scope} → Begins state (constraint n p) scope (telling p scope)
 
 -- "the paragraphs in Document order": u is begun by one of the paragraphs, and those before it go on
-pub data BeginsIn (state : State) : List Paragraph → Scope → Turn → Type 0 where
-  thisParagraph : {p : Paragraph} {ps : List Paragraph} {scope : Scope} {u : Turn} → Begins state p scope u → BeginsIn state (p ∷ ps) scope u
-  nextParagraph : {p : Paragraph} {ps : List Paragraph} {scope scope′ : Scope} {u : Turn} → Gives (runParagraph p state scope) (onward scope′) → BeginsIn state ps scope′ u → BeginsIn state (p ∷ ps) scope u
+pub data BeginsIn (state : State) : List Paragraph → Scope → Evaluation → Type 0 where
+  thisParagraph : {p : Paragraph} {ps : List Paragraph} {scope : Scope} {u : Evaluation} → Begins state p scope u → BeginsIn state (p ∷ ps) scope u
+  nextParagraph : {p : Paragraph} {ps : List Paragraph} {scope scope′ : Scope} {u : Evaluation} → Gives (runParagraph p state scope) (onward scope′) → BeginsIn state ps scope′ u → BeginsIn state (p ∷ ps) scope u
