@@ -18,6 +18,7 @@ pub mod Verdicts
 pub mod WellFormed
 pub mod Typing
 pub mod Findings
+pub mod FindingRows
 pub mod Pieces
 pub mod Places
 pub mod AcceptedTypings
