@@ -18,14 +18,15 @@ use Rattle.typing.specs.Strokes.{decorate, takes}
 use Rattle.typing.specs.Unknowns.{slot, unknownAt, row, integer, powerOf, productOf}
 use Rattle.typing.specs.Items.{Items, _⨾_, refusal}
 use Rattle.typing.specs.Dictionary.{nameEntry, schemaEntry, Dictionary, blank, _▸_, Named, unnamed, ofLocal, ofGlobal, nameIn, Found, noSchema, aSchema}
-use Rattle.typing.specs.Signatures.{Signature, noNames, naming, namesOf, termsOf, bindingOf, withNames, componentsOf, orElse, termIn, countNames}
-use Rattle.typing.specs.Signatures.{insertName, merge, declare, strokeAll, renamed, renameAll, someStroked, wrongNames}
+use Rattle.typing.specs.Signatures.{Signature, noNames, naming, namesOf, termsOf, bindingOf, withNames, componentsOf, termIn, countNames}
+use Rattle.typing.specs.Signatures.{merge, declare, someStroked, wrongNames}
 use Rattle.typing.specs.Scopes.{Scope, globals, local, nameAt, schemaNamed, withParameters, enter, brought, includeSignature, includeNode}
 use Rattle.typing.specs.Scopes.{linesSignature, textSignature, inside, schemaSignature}
 use Rattle.typing.specs.Conditions.{refuseIf, sameType, mergeDeclared, mergeNames, newName, newNames, smallTypes, fewNames, typeOf, typesOf, typed}
 use Rattle.typing.specs.Conditions.{arePowers, areMembers, freshRow}
 use Rattle.typing.specs.Rules.{referenceItems, thetaName, thetaNames, typeInScope, thetaSignature, thetaItems, includeRule, exprItems}
 use Rattle.typing.specs.Rules.{exprsItems, predItems, textItems, linesItems, includeItems, actualItems, schemaItems}
+use Rattle.typing.proofs.SignatureTerms.{Having, HavingOption, none-having, merge-having, declare-having, stroke-having, rename-having, termIn-having}
 use Rattle.typing.proofs.ItemUnknowns.{Over}
 use Rattle.syntax.proofs.Sized.{SizedExpr, SizedExprs, SizedPred, SizedText, SizedLines, SizedInclude, SizedSchema}
 
@@ -67,9 +68,8 @@ module _ (N : ℕ → Type 0) where
   NamedOver (ofLocal t) = Each N t
   NamedOver (ofGlobal p g) = p ≤ 4
 
-  unfoldable pub SigOver : Signature → Type 0
-  SigOver noNames = Unit {0}
-  SigOver (naming i t s) = Each N t × SigOver s
+  abbrev pub SigOver : Signature → Type 0
+  SigOver s = Having (Each N) s
 
   either-named : (b : Bool) (m n : Named) → NamedOver m → NamedOver n → NamedOver (cond b m n)
   either-named true m n h k = h
@@ -87,73 +87,25 @@ module _ (N : ℕ → Type 0) where
   name-over i (local j t Γ) h = either-named (eqb i j) (ofLocal t) (nameAt i Γ) (h .0) (name-over i Γ (h .1))
 
   -- ---- signatures
-  either-sig : (b : Bool) (s r : Signature) → SigOver s → SigOver r → SigOver (cond b s r)
-  either-sig true s r h k = h
-  either-sig false s r h k = k
-
-  insert-over : (i : ℕ) (t : Term) (s : Signature) → Each N t → SigOver s → SigOver (insertName i t s)
-  unfolding insertName SigOver
-  insert-over i t noNames e h = (e, tt)
-  insert-over i t (naming j u s) e h =
-      either-sig (eqb i j) (naming j u s) _ h (either-sig (ltb i j) (naming i t (naming j u s)) (naming j u (insertName i t s)) (e, h) (h .0, insert-over i t s e (h .1)))
-
-  pub merge-over : (s r : Signature) → SigOver s → SigOver r → SigOver (merge s r)
-  unfolding merge SigOver
-  merge-over noNames r h k = k
-  merge-over (naming i t s) r h k = merge-over s (insertName i t r) (h .1) (insert-over i t r (h .0) k)
-
-  pub declare-over : (is : List ℕ) (t : Term) (r : Signature) → Each N t → SigOver r → SigOver (declare is t r)
-  unfolding declare
-  declare-over [] t r e k = k
-  declare-over (i ∷ is) t r e k = declare-over is t (insertName i t r) e (insert-over i t r e k)
-
-  stroke-over : (k : ℕ) (s : Signature) → SigOver s → SigOver (strokeAll k s)
-  unfolding strokeAll SigOver
-  stroke-over k noNames h = tt
-  stroke-over k (naming i t s) h = (h .0, stroke-over k s (h .1))
-
-  rename-over : (rs : List (ℕ × ℕ)) (s : Signature) → SigOver s → SigOver (renameAll rs s)
-  unfolding renameAll SigOver
-  rename-over rs noNames h = tt
-  rename-over rs (naming i t s) h = insert-over (renamed rs i) t (renameAll rs s) (h .0) (rename-over rs s (h .1))
-
   withNames-over : (is : List ℕ) (ts : Terms) → Eachs N ts → SigOver (withNames is ts)
-  unfolding withNames SigOver Each
+  unfolding withNames Each
   withNames-over [] ts h = tt
   withNames-over (i ∷ is) nil h = tt
   withNames-over (i ∷ is) (cons t ts) h = (h .0, withNames-over is ts (h .1))
 
   components-over : (t : Term) → Each N t → SigOver (componentsOf t)
-  unfolding componentsOf SigOver Each
+  unfolding componentsOf Each
   components-over (unknown x) h = tt
   components-over (con f ts) h = withNames-over (identifiers f) ts h
 
   terms-over : (s : Signature) → SigOver s → Eachs N (termsOf s)
-  unfolding termsOf SigOver Each
+  unfolding termsOf Each
   terms-over noNames h = tt
   terms-over (naming i t s) h = (h .0, terms-over s (h .1))
 
   binding-over : (s : Signature) → SigOver s → Each N (bindingOf s)
   unfolding bindingOf Each
   binding-over s h = terms-over s h
-
-  abbrev OptionOver : Option Term → Type 0
-  OptionOver (some t) = Each N t
-  OptionOver nothing = Unit {0}
-
-  orElse-over : (o p : Option Term) → OptionOver o → OptionOver p → OptionOver (orElse o p)
-  unfolding orElse
-  orElse-over (some t) p h k = h
-  orElse-over nothing p h k = k
-
-  termIn-over : (i : ℕ) (r : Signature) → SigOver r → OptionOver (termIn i r)
-  unfolding termIn SigOver
-  termIn-over i noNames h = tt
-  termIn-over i (naming j t s) h = orElse-over (termIn i s) (cond (eqb i j) (some t) nothing) (termIn-over i s (h .1)) (go (eqb i j))
-    where
-      go : (b : Bool) → OptionOver (cond b (some t) nothing)
-      go true = h .0
-      go false = tt
 
   -- ---- instances
   actual-over : (ts : Terms) (i j : ℕ) (us : Terms) → Eachs N ts → Eachs N us → Each N (actual (nth ts i) j us)
@@ -198,7 +150,7 @@ module _ (N : ℕ → Type 0) where
 
   -- ---- scopes
   enter-over : (s : Signature) (Γ : Scope) → SigOver s → ScopeOver Γ → ScopeOver (enter s Γ)
-  unfolding enter SigOver ScopeOver
+  unfolding enter ScopeOver
   enter-over noNames Γ h k = k
   enter-over (naming i t s) Γ h k = enter-over s (local i t Γ) (h .1) (h .0, k)
 
@@ -208,9 +160,9 @@ module _ (N : ℕ → Type 0) where
   parameters-over (i ∷ is) k Γ h = parameters-over is (suc k) _ ((tt, tt), h)
 
   brought-over : (f : Found) (ts : Terms) (k : ℕ) (rs : List (ℕ × ℕ)) → Eachs N ts → SigOver (brought f ts k rs)
-  unfolding brought SigOver
+  unfolding brought
   brought-over noSchema ts k rs h = tt
-  brought-over (aSchema p g) ts k rs h = rename-over rs _ (stroke-over k _ (components-over (instance ts g) (instance-over ts g h)))
+  brought-over (aSchema p g) ts k rs h = rename-having (Each N) rs _ (stroke-having (Each N) k _ (components-over (instance ts g) (instance-over ts g h)))
 
   include-own : (i : Include) → AllIn Own (includeNumbers i) → Own (includeNode i)
   unfolding includeNumbers includeNode
@@ -225,13 +177,13 @@ module _ (N : ℕ → Type 0) where
   lines-sig-over end Γ r h f k = k
   lines-sig-over (declaration n a is ls) Γ r h f k =
       let own = all-right Own (exprNumbers a) (n ∷ []) (all-left Own (exprNumbers a ++ (n ∷ [])) (linesNumbers ls) h) .0 in
-      lines-sig-over ls Γ (declare is (unknownAt n 0) r) (all-right Own (exprNumbers a ++ (n ∷ [])) (linesNumbers ls) h) (f .1) (declare-over is (unknownAt n 0) r (own 0 (omega arith)) k)
+      lines-sig-over ls Γ (declare is (unknownAt n 0) r) (all-right Own (exprNumbers a ++ (n ∷ [])) (linesNumbers ls) h) (f .1) (declare-having (Each N) is (unknownAt n 0) r (own 0 (omega arith)) k)
   lines-sig-over (inclusion i ls) Γ r h f k =
       lines-sig-over ls Γ (merge (includeSignature i Γ) r) (all-right Own (includeNumbers i) (linesNumbers ls) h) (f .1)
-      (merge-over (includeSignature i Γ) r (included-over i Γ (all-left Own (includeNumbers i) (linesNumbers ls) h) (f .0)) k)
+      (merge-having (Each N) (includeSignature i Γ) r (included-over i Γ (all-left Own (includeNumbers i) (linesNumbers ls) h) (f .0)) k)
 
   pub lines-inside : (n : ℕ) (p : Pred) (ls : Lines) (Γ : Scope) → AllIn Own (linesNumbers ls) → SizedLines ls → ScopeOver Γ → ScopeOver (inside (text n p ls) Γ)
-  unfolding inside textSignature SigOver
+  unfolding inside textSignature
   lines-inside n p ls Γ h f k = enter-over (linesSignature ls Γ noNames) Γ (lines-sig-over ls Γ noNames h f tt) k
 
   pub inside-over : (t : Text) (Γ : Scope) → AllIn Own (textNumbers t) → SizedText t → ScopeOver Γ → ScopeOver (inside t Γ)
@@ -240,7 +192,7 @@ module _ (N : ℕ → Type 0) where
       lines-inside n p ls Γ (all-right Own (predNumbers p) (linesNumbers ls) (all-left Own (predNumbers p ++ linesNumbers ls) (n ∷ []) h)) (f .1) k
 
   text-sig-over : (t : Text) (Γ : Scope) → AllIn Own (textNumbers t) → SizedText t → SigOver (textSignature t Γ)
-  unfolding textSignature textNumbers SizedText SigOver
+  unfolding textSignature textNumbers SizedText
   text-sig-over (text n p ls) Γ h f = lines-sig-over ls Γ noNames (all-right Own (predNumbers p) (linesNumbers ls) (all-left Own (predNumbers p ++ linesNumbers ls) (n ∷ []) h)) (f .1) tt
 
   schema-sig-over : (x : Schema) (Γ : Scope) → AllIn Own (schemaNumbers x) → SizedSchema x → SigOver (schemaSignature x Γ)
@@ -249,7 +201,7 @@ module _ (N : ℕ → Type 0) where
   schema-sig-over (from i) Γ h f = included-over i Γ h f
   schema-sig-over (both n a b) Γ h f =
       let z = all-left Own (schemaNumbers a ++ schemaNumbers b) (n ∷ []) h in
-      merge-over (schemaSignature b Γ) (schemaSignature a Γ) (schema-sig-over b Γ (all-right Own (schemaNumbers a) (schemaNumbers b) z) (f .1)) (schema-sig-over a Γ (all-left Own (schemaNumbers a) (schemaNumbers b) z) (f .0))
+      merge-having (Each N) (schemaSignature b Γ) (schemaSignature a Γ) (schema-sig-over b Γ (all-right Own (schemaNumbers a) (schemaNumbers b) z) (f .1)) (schema-sig-over a Γ (all-left Own (schemaNumbers a) (schemaNumbers b) z) (f .0))
 
   -- ---- items that rules share
   refuseIf-over : (b : Bool) (f n : ℕ) → Over N (refuseIf b f n)
@@ -261,7 +213,7 @@ module _ (N : ℕ → Type 0) where
   cond-over true x y h k = h
   cond-over false x y h k = k
 
-  sameType-over : (n : ℕ) (t : Term) (o : Option Term) → Each N t → OptionOver o → Over N (sameType n t o)
+  sameType-over : (n : ℕ) (t : Term) (o : Option Term) → Each N t → HavingOption (Each N) o → Over N (sameType n t o)
   unfolding sameType Over
   sameType-over n t (some u) h k = (h, k)
   sameType-over n t nothing h k = tt
@@ -269,12 +221,12 @@ module _ (N : ℕ → Type 0) where
   declared-over : (n : ℕ) (is : List ℕ) (t : Term) (r : Signature) → Each N t → SigOver r → Over N (mergeDeclared n is t r)
   unfolding mergeDeclared Over
   declared-over n [] t r h k = tt
-  declared-over n (i ∷ is) t r h k = (sameType-over n t (termIn i r) h (termIn-over i r k), declared-over n is t r h k)
+  declared-over n (i ∷ is) t r h k = (sameType-over n t (termIn i r) h (termIn-having (Each N) i r k), declared-over n is t r h k)
 
   names-over : (n : ℕ) (s r : Signature) → SigOver s → SigOver r → Over N (mergeNames n s r)
-  unfolding mergeNames Over SigOver
+  unfolding mergeNames Over
   names-over n noNames r h k = tt
-  names-over n (naming i t s) r h k = (sameType-over n t (termIn i r) (h .0) (termIn-over i r k), names-over n s r (h .1) k)
+  names-over n (naming i t s) r h k = (sameType-over n t (termIn i r) (h .0) (termIn-having (Each N) i r k), names-over n s r (h .1) k)
 
   newName-over : (n : ℕ) (m : Named) → Over N (newName n m)
   unfolding newName Over
@@ -288,7 +240,7 @@ module _ (N : ℕ → Type 0) where
   newNames-over n (i ∷ is) G = (newName-over n (nameIn i G), newNames-over n is G)
 
   smalls-over : (n : ℕ) (s : Signature) → SigOver s → Over N (smallTypes n s)
-  unfolding smallTypes Over SigOver
+  unfolding smallTypes Over
   smalls-over n noNames h = tt
   smalls-over n (naming i t s) h = (h .0, smalls-over n s (h .1))
 
@@ -376,7 +328,7 @@ module _ (N : ℕ → Type 0) where
   scoped-over (ofGlobal p g) h = instance-over nil g nil-over
 
   thetaSig-over : (k : ℕ) (s : Signature) (Γ : Scope) → ScopeOver Γ → SigOver (thetaSignature k s Γ)
-  unfolding thetaSignature SigOver
+  unfolding thetaSignature
   thetaSig-over k noNames Γ h = tt
   thetaSig-over k (naming i t s) Γ h = (scoped-over (nameAt (decorate k i) Γ) (name-over (decorate k i) Γ h), thetaSig-over k s Γ h)
 
@@ -396,10 +348,6 @@ module _ (N : ℕ → Type 0) where
   rule-over noSchema (include n s k xs rs) actuals h = tt
   rule-over (aSchema p g) (include n s k xs rs) actuals h =
       cond-over (eqb (exprsLength xs) p) _ (refusal 32 n) (h, refuseIf-over (wrongNames k rs (componentsOf (instance nil g))) 37 n) tt
-
-  pub none-over : SigOver noNames
-  unfolding SigOver
-  none-over = tt
 
   -- ---- the rules
   mutual
@@ -490,7 +438,7 @@ module _ (N : ℕ → Type 0) where
     text-over (text n p ls) Γ G h f s =
         let z = all-left Own (predNumbers p ++ linesNumbers ls) (n ∷ []) h in
         let l = all-right Own (predNumbers p) (linesNumbers ls) z in
-        (lines-over ls Γ G noNames l (f .1) s none-over, pred-over p (inside (text n p ls) Γ) (all-left Own (predNumbers p) (linesNumbers ls) z) (f .0) (lines-inside n p ls Γ l (f .1) s))
+        (lines-over ls Γ G noNames l (f .1) s (none-having (Each N)), pred-over p (inside (text n p ls) Γ) (all-left Own (predNumbers p) (linesNumbers ls) z) (f .0) (lines-inside n p ls Γ l (f .1) s))
 
     pub lines-over : (ls : Lines) (Γ : Scope) (G : Dictionary) (r : Signature) → AllIn Own (linesNumbers ls) → SizedLines ls → ScopeOver Γ → SigOver r → Over N (linesItems ls Γ G r)
     lines-over end Γ G r h f s k = tt
@@ -502,7 +450,7 @@ module _ (N : ℕ → Type 0) where
           (expr-over a Γ l (f .0) s, (t, (root-own a l 0 (omega arith), (t, tt)))),
           (
             (declared-over n is (unknownAt n 0) r t k, newNames-over n is G),
-            ((t, few-over n (declare is (unknownAt n 0) r)), lines-over ls Γ G (declare is (unknownAt n 0) r) (all-right Own (exprNumbers a ++ (n ∷ [])) (linesNumbers ls) h) (f .1) s (declare-over is (unknownAt n 0) r t k)),
+            ((t, few-over n (declare is (unknownAt n 0) r)), lines-over ls Γ G (declare is (unknownAt n 0) r) (all-right Own (exprNumbers a ++ (n ∷ [])) (linesNumbers ls) h) (f .1) s (declare-having (Each N) is (unknownAt n 0) r t k)),
           ),
         )
     lines-over (inclusion i ls) Γ G r h f s k =
@@ -513,7 +461,7 @@ module _ (N : ℕ → Type 0) where
             (names-over (includeNode i) (includeSignature i Γ) r b k, newNames-over (includeNode i) (namesOf (includeSignature i Γ)) G),
             (
               (smalls-over (includeNode i) (includeSignature i Γ) b, few-over (includeNode i) (merge (includeSignature i Γ) r)),
-              lines-over ls Γ G (merge (includeSignature i Γ) r) (all-right Own (includeNumbers i) (linesNumbers ls) h) (f .1) s (merge-over (includeSignature i Γ) r b k),
+              lines-over ls Γ G (merge (includeSignature i Γ) r) (all-right Own (includeNumbers i) (linesNumbers ls) h) (f .1) s (merge-having (Each N) (includeSignature i Γ) r b k),
             ),
           ),
         )

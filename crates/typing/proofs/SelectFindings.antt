@@ -39,12 +39,13 @@ use Rattle.typing.specs.Check.{paragraphsOf}
 use Rattle.typing.specs.Findings.{NoSelect33, NeverAtSelect}
 use Rattle.typing.proofs.ItemLaws.{table}
 use Rattle.typing.proofs.Slots.{slots-apart}
+use Rattle.typing.proofs.SignatureTerms.{none-having, merge-having, declare-having}
 use Rattle.typing.proofs.ItemUnknowns.{Over}
 use Rattle.typing.proofs.WrittenOnce.{paragraphs-once}
 use Rattle.syntax.proofs.Sized.{SizedExpr, SizedExprs, SizedPred, SizedText, SizedLines, SizedInclude, SizedSchema, SizedParagraph, SizedParagraphs}
 use Rattle.typing.proofs.SizedTree.{tree-sized}
-use Rattle.typing.proofs.RuleUnknowns.{AllIn, FewRecorded, longer, Own, ScopeOver, SigOver, parameters-over, merge-over, declare-over, included-over}
-use Rattle.typing.proofs.RuleUnknowns.{none-over, lines-inside, inside-over, type-over, expr-over, pred-over, text-over, lines-over}
+use Rattle.typing.proofs.RuleUnknowns.{AllIn, FewRecorded, longer, Own, ScopeOver, SigOver, parameters-over, included-over}
+use Rattle.typing.proofs.RuleUnknowns.{lines-inside, inside-over, type-over, expr-over, pred-over, text-over, lines-over}
 use Rattle.typing.proofs.RuleUnknowns.{schema-over, all-right}
 use Rattle.typing.proofs.TypingLaws.{first-has, rest-has}
 use Rattle.syntax.specs.declared.Reading.the-variants.{Readable}
@@ -308,7 +309,7 @@ module _ (n : ℕ) (a : Expr) (is : List ℕ) (l : List ℕ) (Γ : Scope) (G : D
 
   sig-declaration : NewSig l (declare is (unknownAt n 0) r)
   unfolding Each
-  sig-declaration m q = declare-over (Not (slot m 0)) is (unknownAt n 0) r (all-right (Own (Not (slot m 0))) (exprNumbers a) (n ∷ []) (own-decl m q) .0 0 (omega arith)) (k m q)
+  sig-declaration m q = declare-having (Each (Not (slot m 0))) is (unknownAt n 0) r (all-right (Own (Not (slot m 0))) (exprNumbers a) (n ∷ []) (own-decl m q) .0 0 (omega arith)) (k m q)
 
 module _ (i : Include) (l : List ℕ) (Γ : Scope) (G : Dictionary) (r : Signature) (P : Table → Type 0)
     (d : Apart (includeNumbers i) l) (f : SizedInclude i) (w : New l P Γ) (k : NewSig l r) where
@@ -324,7 +325,7 @@ module _ (i : Include) (l : List ℕ) (Γ : Scope) (G : Dictionary) (r : Signatu
   new-inclusion = new-with l _ _ Γ (λ m q. incl-line m q .1 .1 .0) (new-with l _ _ Γ (λ m q. incl-line m q .1 .0) (new-with l (includeItems i Γ) P Γ (λ m q. incl-line m q .0) w))
 
   sig-inclusion : NewSig l (merge (includeSignature i Γ) r)
-  sig-inclusion m q = merge-over (Not (slot m 0)) (includeSignature i Γ) r (included-over (Not (slot m 0)) i Γ (own-incl m q) f) (k m q)
+  sig-inclusion m q = merge-having (Each (Not (slot m 0))) (includeSignature i Γ) r (included-over (Not (slot m 0)) i Γ (own-incl m q) f) (k m q)
 
 -- an actual, of an Include of another number than the nodes to come
 other-own : (n m : ℕ) (l : List ℕ) → (has n l ≡ true → ⊥) → has m l ≡ true → Own (Not (slot m 0)) n
@@ -481,10 +482,10 @@ mutual
       let z = new-left (A ++ L) (n ∷ []) P Γ w in
       let u = once-left (A ++ L) (n ∷ []) o in
       let d = turned A L (apart A L u) in (
-        lines-selects ls Γ G noNames P (new-right A L P Γ z) (λ m q. none-over (Not (slot m 0))) (once-right A L u) (f .1) s,
+        lines-selects ls Γ G noNames P (new-right A L P Γ z) (λ m q. none-having (Each (Not (slot m 0)))) (once-right A L u) (f .1) s,
         λ h. pred-selects p (inside (text n p ls) Γ) (And P t)
             (new-inside L A (And P t) Γ (inside (text n p ls) Γ) d (λ N h k. lines-inside N n p ls Γ h (f .1) k)
-            (new-after L A t P Γ d (λ N h k. lines-over N ls Γ G noNames h (f .1) k (none-over N)) (new-left A L P Γ z)))
+            (new-after L A t P Γ d (λ N h k. lines-over N ls Γ G noNames h (f .1) k (none-having (Each N))) (new-left A L P Γ z)))
             (once-left A L u) (f .0) (some-after t P s h),
       )
 
