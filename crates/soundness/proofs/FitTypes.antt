@@ -17,7 +17,7 @@ use Rattle.typing.specs.Check.{Answer, accepted, refused, checkOf}
 use Rattle.typing.specs.WellFormed.{FormedDictionary, FormedAnswer}
 use Rattle.typing.proofs.CheckRight.{accepted-says}
 use Rattle.typing.proofs.FormedCheck.{check-formed}
-use Rattle.typing.proofs.CheckNumbers.{check-numbers}
+use Rattle.typing.proofs.CheckNumbers.{same-number, check-numbers}
 use Rattle.state_words.specs.Names.{Name, documentNames}
 use Rattle.state_words.specs.Decode.{valueOf}
 use Rattle.state_words.specs.States.{nameAt, sizesIn}
@@ -37,9 +37,6 @@ no-answer E n p e = let z : _≡_ {A = ℕ} 0 1 = cc in absurd (omega arith)
 
 same-dictionary : (D E : Dictionary) → accepted D ≡ accepted E → D ≡ E
 same-dictionary D E e = cc
-
-same-number : (n p m q : ℕ) → refused n p ≡ refused m q → n ≡ m
-same-number n p m q e = cc
 
 same-place : (n p m q : ℕ) → refused n p ≡ refused m q → p ≡ q
 same-place n p m q e = cc

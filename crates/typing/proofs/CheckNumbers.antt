@@ -171,7 +171,7 @@ module _ (f j : ℕ) where
   paragraphs-few [] h = absurd h
   paragraphs-few (p ∷ ps) h = ⊎-elim (paragraph-few p) (⊎-elim (at-few (paragraphNode p) _ refl) (λ x. paragraphs-few ps x)) h
 
-same-number : (n p m q : ℕ) → refused n p ≡ refused m q → n ≡ m
+pub same-number : (n p m q : ℕ) → refused n p ≡ refused m q → n ≡ m
 same-number n p m q e = cc
 
 answers-few : (doc : List ℕ) (d w n p : ℕ) → Answers Any doc d w (refused n p) → n ≤ 38

@@ -21,7 +21,7 @@ use Rattle.typing.specs.Strokes.{decorate, takes}
 use Rattle.typing.specs.Unknowns.{Table, slot, row}
 use Rattle.typing.specs.Items.{Items, skip, _⨾_, fresh, equate, small, refusal, Meets, And, Passes, Refuses}
 use Rattle.typing.specs.Dictionary.{Dictionary, Named, unnamed, ofLocal, ofGlobal, nameIn, Found, noSchema, aSchema}
-use Rattle.typing.specs.Signatures.{Signature, noNames, naming, countNames, namesOf, bindingOf, orElse, termIn, someStroked, wrongNames}
+use Rattle.typing.specs.Signatures.{Signature, noNames, naming, countNames, namesOf, bindingOf, termIn, someStroked, wrongNames}
 use Rattle.typing.specs.Scopes.{Scope, nameAt, schemaNamed}
 use Rattle.typing.specs.Conditions.{refuseIf, sameType, mergeDeclared, mergeNames, newName, newNames, smallTypes, fewNames, typed, isPower}
 use Rattle.typing.specs.Conditions.{arePowers, freshRow}
@@ -32,6 +32,7 @@ use Rattle.typing.specs.Typing.{schemaOf, schemaNames, Stroked, BadNames
 use Rattle.typing.specs.Findings.{Or, parameterCount, WrongActuals, AbsentOrGeneric, SomeAbsent, ThetaUnknown, HasParameters, ThetaStroked, Counted}
 use Rattle.typing.specs.Findings.{WrongCount, IncludeNames, GlobalTwice, Clash, Clashes, TooBig}
 use Rattle.typing.proofs.ItemLaws.{not-both, one}
+use Rattle.typing.proofs.SignatureTerms.{HavingOption, termIn-having}
 use Rattle.typing.proofs.OneType.{SameNames}
 use Rattle.typing.proofs.TypingLaws.{first-has, rest-has, none-has, which-has, stroked-law, names-law, mergedAs-law, news-law}
 
@@ -174,18 +175,8 @@ SettledNames P s = (σ τ : Table) → P σ → P τ → SameNames σ τ s
 pub settled-more : (P : Table → Type 0) (x : Items) (s : Signature) → SettledNames P s → SettledNames (And P x) s
 settled-more P x s h = λ σ τ a b. h σ τ (a .0) (b .0)
 
-module _ (σ τ : Table) where
-  later : (o : Option Term) (b : Bool) (t u : Term) → ((u : Term) → o ≡ some u → under σ u ≡ under τ u) → under σ t ≡ under τ t → orElse o (cond b (some t) nothing) ≡ some u
-      → under σ u ≡ under τ u
-  unfolding orElse
-  later (some v) b t u f q e = f u e
-  later nothing true t u f q e = let z : t ≡ u = cc in subst (λ x. under σ x ≡ under τ x) z q
-  later nothing false t u f q e = let z : _≡_ {A = ℕ} 0 1 = cc in absurd (omega arith)
-
-  term-same : (i : ℕ) (r : Signature) → SameNames σ τ r → (u : Term) → termIn i r ≡ some u → under σ u ≡ under τ u
-  unfolding termIn
-  term-same i noNames h u e = let z : _≡_ {A = ℕ} 0 1 = cc in absurd (omega arith)
-  term-same i (naming j t s) h u e = later (termIn i s) (eqb i j) t u (λ v q. term-same i s (h .1) v q) (h .0) e
+term-same : (σ τ : Table) (i : ℕ) (r : Signature) → SameNames σ τ r → (u : Term) → termIn i r ≡ some u → under σ u ≡ under τ u
+term-same σ τ i r h u e = subst (HavingOption (λ t. under σ t ≡ under τ t)) e (termIn-having (λ t. under σ t ≡ under τ t) i r h)
 
 term-settled : (P : Table → Type 0) (i : ℕ) (r : Signature) → SettledNames P r → (u : Term) → termIn i r ≡ some u → Settled P u
 term-settled P i r h u e = λ σ τ a b. term-same σ τ i r (h σ τ a b) u e

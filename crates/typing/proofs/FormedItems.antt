@@ -26,7 +26,8 @@ use Rattle.typing.specs.Rules.{referenceItems, thetaName, thetaNames, ty
 use Rattle.typing.specs.Rules.{exprsItems, predItems, textItems, linesItems, includeItems, actualItems, schemaItems, paragraphItems}
 use Rattle.typing.specs.WellFormed.{FormedDictionary}
 use Rattle.typing.proofs.FormedInstances.{FormedOption, instance-formed, row-formed, nil-formed}
-use Rattle.typing.proofs.FormedSignatures.{FormedTerms, merge-formed, declare-formed, noNames-formed, termIn-formed, components-rising}
+use Rattle.typing.proofs.SignatureTerms.{merge-having, termIn-having, none-having}
+use Rattle.typing.proofs.FormedSignatures.{FormedTerms, declare-formed, components-rising}
 use Rattle.typing.proofs.FormedSignatures.{binding-formed}
 use Rattle.typing.proofs.FormedScopes.{FormedScope, FormedNamed, FormedFound, nameAt-formed, schemaNamed-formed, included-formed}
 use Rattle.typing.proofs.FormedScopes.{schema-formed, inside-formed, parameters-formed, included-rising}
@@ -53,19 +54,19 @@ cond-formed true x y h k = h
 cond-formed false x y h k = k
 
 pub sameType-formed : (n : ℕ) (t : Term) (o : Option Term) → Formed Arity t → FormedOption o → FormedItems (sameType n t o)
-unfolding sameType FormedItems FormedOption
+unfolding sameType FormedItems
 sameType-formed n t (some u) h k = (h, k)
 sameType-formed n t nothing h k = tt
 
 pub mergeDeclared-formed : (n : ℕ) (xs : List ℕ) (t : Term) (r : Signature) → Formed Arity t → FormedTerms r → FormedItems (mergeDeclared n xs t r)
 unfolding mergeDeclared FormedItems
 mergeDeclared-formed n [] t r h k = tt
-mergeDeclared-formed n (i ∷ xs) t r h k = (sameType-formed n t (termIn i r) h (termIn-formed i r k), mergeDeclared-formed n xs t r h k)
+mergeDeclared-formed n (i ∷ xs) t r h k = (sameType-formed n t (termIn i r) h (termIn-having (Formed Arity) i r k), mergeDeclared-formed n xs t r h k)
 
 pub mergeNames-formed : (n : ℕ) (s r : Signature) → FormedTerms s → FormedTerms r → FormedItems (mergeNames n s r)
-unfolding mergeNames FormedItems FormedTerms
+unfolding mergeNames FormedItems
 mergeNames-formed n noNames r h k = tt
-mergeNames-formed n (naming i t s) r h k = (sameType-formed n t (termIn i r) (h .0) (termIn-formed i r k), mergeNames-formed n s r (h .1) k)
+mergeNames-formed n (naming i t s) r h k = (sameType-formed n t (termIn i r) (h .0) (termIn-having (Formed Arity) i r k), mergeNames-formed n s r (h .1) k)
 
 pub newName-formed : (n : ℕ) (m : Named) → FormedItems (newName n m)
 unfolding newName FormedItems
@@ -139,7 +140,7 @@ typeInScope-formed (ofLocal t) h = h
 typeInScope-formed (ofGlobal p g) h = instance-formed nil g nil-formed h
 
 pub thetaSignature-formed : (k : ℕ) (s : Signature) (Γ : Scope) → FormedScope Γ → FormedTerms (thetaSignature k s Γ)
-unfolding thetaSignature FormedTerms
+unfolding thetaSignature
 thetaSignature-formed k noNames Γ h = tt
 thetaSignature-formed k (naming i t s) Γ h = (typeInScope-formed (nameAt (decorate k i) Γ) (nameAt-formed (decorate k i) Γ h), thetaSignature-formed k s Γ h)
 
@@ -228,7 +229,7 @@ mutual
 
   pub formedText : (t : Text) (Γ : Scope) (D : Dictionary) → SizedText t → FormedScope Γ → FormedItems (textItems t Γ D)
   formedText (text n p ls) Γ D z h =
-      (formedLines ls Γ D noNames (z .1) h noNames-formed, formedPred p (inside (text n p ls) Γ) (z .0) (inside-formed (text n p ls) Γ h))
+      (formedLines ls Γ D noNames (z .1) h (none-having (Formed Arity)), formedPred p (inside (text n p ls) Γ) (z .0) (inside-formed (text n p ls) Γ h))
 
   pub formedLines : (ls : Lines) (Γ : Scope) (D : Dictionary) (r : Signature) → SizedLines ls → FormedScope Γ → FormedTerms r → FormedItems (linesItems ls Γ D r)
   formedLines end Γ D r z h k = tt
@@ -245,7 +246,7 @@ mutual
       (mergeNames-formed (includeNode i) (includeSignature i Γ) r (included-formed i Γ h) k, newNames-formed (includeNode i) (namesOf (includeSignature i Γ)) D),
       (
         (smallTypes-formed (includeNode i) (includeSignature i Γ), fewNames-formed (includeNode i) (merge (includeSignature i Γ) r)),
-        formedLines ls Γ D (merge (includeSignature i Γ) r) (z .1) h (merge-formed (includeSignature i Γ) r (included-formed i Γ h) k),
+        formedLines ls Γ D (merge (includeSignature i Γ) r) (z .1) h (merge-having (Formed Arity) (includeSignature i Γ) r (included-formed i Γ h) k),
       ),
     ),
   )

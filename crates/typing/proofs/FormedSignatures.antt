@@ -2,7 +2,6 @@
 use mathlib.Core.Path.{_≡_, refl, ap, sym}
 use mathlib.Core.Bool.{Bool, true, false, cond}
 use mathlib.Core.List.{List, [], _∷_}
-use mathlib.Core.Option.{Option, some, none as nothing}
 use Prim.Native.Nat.{ℕ, suc, _≤_, _<_}
 use native.Mathlib.Omega.{arith}
 use lib.Dec.{ltb, eqb}
@@ -13,58 +12,27 @@ use Rattle.types.specs.Types.{Term, unknown, con, Terms, nil, cons}
 use Rattle.types.specs.Formed.{partCount, Formed, Formeds, Ascending, Arity}
 use Rattle.typing.specs.Strokes.{decorate}
 use Rattle.typing.specs.Unknowns.{unknownAt}
-use Rattle.typing.specs.Signatures.{Signature, noNames, naming, namesOf, termsOf, bindingOf, withNames, componentsOf, orElse, termIn}
+use Rattle.typing.specs.Signatures.{Signature, noNames, naming, namesOf, termsOf, bindingOf, withNames, componentsOf}
 use Rattle.typing.specs.Signatures.{insertName, merge, declare, strokeAll, renamed, renameAll}
-use Rattle.typing.proofs.FormedInstances.{FormedOption}
+use Rattle.typing.proofs.SignatureTerms.{Having, declare-having}
 
-unfoldable pub FormedTerms : Signature → Type 0
-FormedTerms noNames = Unit {0}
-FormedTerms (naming i t s) = Formed Arity t × FormedTerms s
-
-pub insert-formed : (i : ℕ) (t : Term) (s : Signature) → Formed Arity t → FormedTerms s → FormedTerms (insertName i t s)
-unfolding insertName FormedTerms
-insert-formed i t noNames e h = (e, tt)
-insert-formed i t (naming j u s) e h = go (eqb i j) (ltb i j) (insert-formed i t s e (h .1))
-  where
-    go : (a b : Bool) → FormedTerms (insertName i t s) → FormedTerms (cond a (naming j u s) (cond b (naming i t (naming j u s)) (naming j u (insertName i t s))))
-    go true b k = h
-    go false true k = (e, h)
-    go false false k = (h .0, k)
-
-pub merge-formed : (s r : Signature) → FormedTerms s → FormedTerms r → FormedTerms (merge s r)
-unfolding merge FormedTerms
-merge-formed noNames r h k = k
-merge-formed (naming i t s) r h k = merge-formed s (insertName i t r) (h .1) (insert-formed i t r (h .0) k)
+abbrev pub FormedTerms : Signature → Type 0
+FormedTerms s = Having (Formed Arity) s
 
 pub declare-formed : (xs : List ℕ) (n : ℕ) (r : Signature) → FormedTerms r → FormedTerms (declare xs (unknownAt n 0) r)
-unfolding declare Formed
-declare-formed [] n r k = k
-declare-formed (i ∷ xs) n r k = declare-formed xs n (insertName i (unknownAt n 0) r) (insert-formed i (unknownAt n 0) r tt k)
-
-pub stroke-formed : (k : ℕ) (s : Signature) → FormedTerms s → FormedTerms (strokeAll k s)
-unfolding strokeAll FormedTerms
-stroke-formed k noNames h = tt
-stroke-formed k (naming i t s) h = (h .0, stroke-formed k s (h .1))
-
-pub rename-formed : (rs : List (ℕ × ℕ)) (s : Signature) → FormedTerms s → FormedTerms (renameAll rs s)
-unfolding renameAll FormedTerms
-rename-formed rs noNames h = tt
-rename-formed rs (naming i t s) h = insert-formed (renamed rs i) t (renameAll rs s) (h .0) (rename-formed rs s (h .1))
+unfolding Formed
+declare-formed xs n r k = declare-having (Formed Arity) xs (unknownAt n 0) r tt k
 
 pub withNames-formed : (is : List ℕ) (ts : Terms) → Formeds Arity ts → FormedTerms (withNames is ts)
-unfolding withNames FormedTerms Formed
+unfolding withNames Formed
 withNames-formed [] ts h = tt
 withNames-formed (i ∷ is) nil h = tt
 withNames-formed (i ∷ is) (cons t ts) h = (h .0, withNames-formed is ts (h .1))
 
 pub components-formed : (t : Term) → Formed Arity t → FormedTerms (componentsOf t)
-unfolding componentsOf FormedTerms Formed
+unfolding componentsOf Formed
 components-formed (unknown x) h = tt
 components-formed (con k ts) h = withNames-formed (identifiers k) ts (h .1)
-
-pub noNames-formed : FormedTerms noNames
-unfolding FormedTerms
-noNames-formed = tt
 
 pub terms-count : (s : Signature) → partCount (termsOf s) ≡ length (namesOf s)
 unfolding termsOf namesOf
@@ -72,19 +40,9 @@ terms-count noNames = refl
 terms-count (naming i t s) = ap suc (terms-count s)
 
 pub terms-formed : (s : Signature) → FormedTerms s → Formeds Arity (termsOf s)
-unfolding termsOf FormedTerms Formed
+unfolding termsOf Formed
 terms-formed noNames h = tt
 terms-formed (naming i t s) h = (h .0, terms-formed s (h .1))
-
-pub termIn-formed : (i : ℕ) (s : Signature) → FormedTerms s → FormedOption (termIn i s)
-unfolding termIn FormedTerms FormedOption
-termIn-formed i noNames h = tt
-termIn-formed i (naming j t s) h = go (termIn i s) (eqb i j) (termIn-formed i s (h .1))
-  where
-    go : (o : Option Term) (b : Bool) → FormedOption o → FormedOption (orElse o (cond b (some t) nothing))
-    go (some u) b k = unfold orElse in k
-    go nothing true k = unfold orElse in h .0
-    go nothing false k = unfold orElse in tt
 
 -- Identifiers ascending.
 abbrev pub Rising : Signature → Type 0

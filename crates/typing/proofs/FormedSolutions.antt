@@ -1,17 +1,16 @@
 -- SOLUTIONS ARE TYPES. A table may give an unknown a tree that is no type of document 01, as a power of two parts. It does not matter: items of well-formed
 -- terms pass, and refuse f at m, exactly where they do with well-formed types alone as solutions.
-use mathlib.Core.Path.{_≡_, refl}
+use mathlib.Core.Path.{refl}
 use mathlib.Core.Bool.{Bool, true, false}
 use mathlib.Core.Logic.{_↔_}
 use Prim.Native.Nat.{ℕ, zero, suc}
 use lib.Dec.{eqb}
 use Rattle.types.specs.Types.{Ty, ℤ, ℙℤ}
-use Rattle.types.specs.Substitution.{Substitution, update, sol}
+use Rattle.types.specs.Substitution.{Substitution, update}
 use Rattle.types.specs.Formed.{FormedType, Arity, WellFormed}
 use Rattle.types.proofs.Formed.{FitS, sol-fit}
-use Rattle.typing.specs.Unknowns.{Table}
-use Rattle.typing.specs.Items.{Items, _⨾_, piece, Meets, Any, Passes, Refuses}
-use Rattle.typing.specs.Solving.{Solved, pass, refuse, solve}
+use Rattle.typing.specs.Items.{Items, Any, Passes, Refuses}
+use Rattle.typing.specs.Solving.{solve}
 use Rattle.typing.specs.WellFormed.{FormedTable}
 use Rattle.typing.proofs.SettledTerms.{tower}
 use Rattle.typing.proofs.SolvingRight.{Solutions, Verdict, solve-right-in, solve-right, passes-in, refuses-in}

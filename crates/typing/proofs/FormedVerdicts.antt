@@ -39,30 +39,26 @@ onward : (p : Paragraph) (ps : List Paragraph) (D : Dictionary) (τ : Table) →
 unfolding SizedParagraphs
 onward p ps D τ i c = (i .0 .1, extend-formed τ c p D (i .1))
 
-start : (doc : List ℕ) → readOf doc ≡ Readable → Keeping (paragraphsOf (treeOf doc)) blank
-start doc r = (tree-sized doc r, unfold FormedDictionary in tt)
-
 -- THE CHECK'S ANSWER IS WHAT THE PAGE SAYS with well-formed types alone as solutions.
 pub check-right-formed : (doc : List ℕ) (d w : ℕ) (a : Answer) → (checkOf doc d w ≡ a) ↔ Answers FormedTable doc d w a
-check-right-formed doc d w a = check-right-in FormedTable Keeping right onward doc d w a (start doc)
+check-right-formed doc d w a = check-right-in FormedTable Keeping right onward doc d w a (λ r. (tree-sized doc r, unfold FormedDictionary in tt))
 
 -- A READABLE DOCUMENT'S VERDICTS ARE THE SAME where only well-formed types count as solutions.
-answers-same : (doc : List ℕ) → readOf doc ≡ Readable → (d : ℕ) (a : Answer)
-    → AnswersFrom Any (paragraphsOf (treeOf doc)) blank d a ↔ AnswersFrom FormedTable (paragraphsOf (treeOf doc)) blank d a
-answers-same doc r d a =
-    let u = paragraphs-law (paragraphsOf (treeOf doc)) blank d a in
-    let v = answers-from FormedTable Keeping right onward (paragraphsOf (treeOf doc)) blank d (start doc r) a in
-    (λ h. v .0 (u .1 h), λ h. u .0 (v .1 h))
+pub answers-same : (ps : List Paragraph) (D : Dictionary) → SizedParagraphs ps → FormedDictionary D → (d : ℕ) (a : Answer) → AnswersFrom Any ps D d a ↔ AnswersFrom FormedTable ps D d a
+answers-same ps D z h d a =
+    let u = paragraphs-law ps D d a in
+    let v = answers-from FormedTable Keeping right onward ps D d (z, h) a in
+    (λ x. v .0 (u .1 x), λ x. u .0 (v .1 x))
 
 pub accepts-same : (doc : List ℕ) → readOf doc ≡ Readable → (d : ℕ) (E : Dictionary)
     → Accepts Any (paragraphsOf (treeOf doc)) blank d E ↔ Accepts FormedTable (paragraphsOf (treeOf doc)) blank d E
 unfolding AnswersFrom
-accepts-same doc r d E = answers-same doc r d (accepted E)
+accepts-same doc r d E = answers-same (paragraphsOf (treeOf doc)) blank (tree-sized doc r) (unfold FormedDictionary in tt) d (accepted E)
 
 pub refuses-same : (doc : List ℕ) → readOf doc ≡ Readable → (d f m : ℕ)
     → RefusesAt Any (paragraphsOf (treeOf doc)) blank d f m ↔ RefusesAt FormedTable (paragraphsOf (treeOf doc)) blank d f m
 unfolding AnswersFrom
-refuses-same doc r d f m = answers-same doc r d (refused f m)
+refuses-same doc r d f m = answers-same (paragraphsOf (treeOf doc)) blank (tree-sized doc r) (unfold FormedDictionary in tt) d (refused f m)
 
 -- Accepted types are well formed.
 pub type-formed : (ps : List Paragraph) (D : Dictionary) (d : ℕ) (E : Dictionary) → Accepts FormedTable ps D d E → (m : ℕ) (g : Ty) → HasType ps D m g → WellFormed g

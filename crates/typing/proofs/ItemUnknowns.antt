@@ -1,13 +1,16 @@
 -- The unknowns of items: `Over N`, all of them have N, and the list that the solver starts from has them all.
-use mathlib.Core.Path.{_≡_, refl}
+use mathlib.Core.Path.{_≡_, refl, sym, ap, _∙_}
 use mathlib.Core.Bool.{Bool, true, false, cond}
 use mathlib.Core.List.{List, _∷_}
+use mathlib.Core.Option.{some}
 use Prim.Native.Nat.{ℕ}
-use Rattle.types.specs.Types.{Term, unknown, con, Terms, nil, cons, Each, Eachs}
+use Rattle.types.specs.Types.{Term, unknown, con, Terms, nil, cons, under, Each, Eachs}
+use Rattle.types.specs.Component.{componentType}
 use Rattle.types.specs.Substitution.{member}
-use Rattle.types.proofs.Terms.{each-map}
+use Rattle.types.proofs.Terms.{each-map, under-ext}
 use Rattle.types.proofs.States.{or-true-r, member-head}
-use Rattle.typing.specs.Items.{Items, skip, _⨾_, fresh, equate, select, small, refusal, piece}
+use Rattle.typing.specs.Unknowns.{Table}
+use Rattle.typing.specs.Items.{Items, skip, _⨾_, fresh, equate, select, small, refusal, piece, Meets}
 use Rattle.typing.specs.Solving.{addUnknown, termUnknowns, termsUnknowns, unknowns}
 
 -- All the unknowns of the items have N.
@@ -94,3 +97,19 @@ over (select n i a x) l = (each-map _ _ (λ y h. add-keeps x (termUnknowns a l) 
 over (small n a) l = hasT a l
 over (refusal g n) l = tt
 over (piece n t) l = over t l
+
+-- Tables that agree on the unknowns of a term or of items.
+module _ (N : ℕ → Type 0) (σ τ : Table) (e : (x : ℕ) → N x → σ x ≡ τ x) where
+  pub same-under : (t : Term) → Each N t → under σ t ≡ under τ t
+  same-under t h = under-ext σ τ t (each-map N _ (λ y n. e y n) t h)
+
+  pub met-too : (t : Items) → Over N t → Meets t τ → Meets t σ
+  unfolding Over Meets
+  met-too skip o h = tt
+  met-too (a ⨾ b) o h = (met-too a (o .0) (h .0), met-too b (o .1) (h .1))
+  met-too (fresh y) o h = tt
+  met-too (equate f n a b) o h = same-under a (o .0) ∙ h ∙ sym (same-under b (o .1))
+  met-too (select n i a y) o h = ap (componentType i) (same-under a (o .0)) ∙ h ∙ ap some (sym (e y (o .1)))
+  met-too (small n a) o h = rw (same-under a o) h
+  met-too (refusal f n) o h = h
+  met-too (piece n t) o h = met-too t o h

@@ -4,7 +4,7 @@ use mathlib.Core.Bool.{Bool, true, false, cond}
 use mathlib.Core.List.{List, [], _∷_}
 use mathlib.Core.Logic.{inl, inr}
 use Prim.Native.Nat.{ℕ, suc}
-use lib.Dec.{ltb, eqb}
+use lib.Dec.{eqb}
 use lib.ListN.{length}
 use Rattle.syntax.specs.Tree.{Expr, reference, number, integers, set, tuple, product, power, application, selection, theta, schemaSet, arithmetic}
 use Rattle.syntax.specs.Tree.{comprehension, Exprs, none, more, Pred, truth, equal, member, atMost, not, connected, quantified, Text, text, Lines}
@@ -19,8 +19,8 @@ use Rattle.typing.specs.Unknowns.{Table, slot, unknownAt, row}
 use Rattle.typing.specs.Items.{Items, _⨾_, refusal, Meets, Agree, Any, Passes}
 use Rattle.typing.specs.Dictionary.{nameEntry, schemaEntry, Dictionary, blank, _▸_, Named, unnamed, ofLocal, ofGlobal, Found, noSchema}
 use Rattle.typing.specs.Dictionary.{aSchema}
-use Rattle.typing.specs.Signatures.{Signature, noNames, naming, namesOf, termsOf, bindingOf, withNames, componentsOf, insertName, merge}
-use Rattle.typing.specs.Signatures.{declare, strokeAll, renamed, renameAll, wrongNames}
+use Rattle.typing.specs.Signatures.{Signature, noNames, naming, namesOf, termsOf, bindingOf, withNames, componentsOf, merge}
+use Rattle.typing.specs.Signatures.{declare, strokeAll, wrongNames}
 use Rattle.typing.specs.Scopes.{Scope, globals, nameAt, schemaNamed, withParameters, brought, includeSignature, linesSignature, textSignature}
 use Rattle.typing.specs.Scopes.{inside, schemaSignature}
 use Rattle.typing.specs.Conditions.{refuseIf, typed, arePowers}
@@ -28,6 +28,7 @@ use Rattle.typing.specs.Rules.{referenceItems, thetaItems, includeRule, 
 use Rattle.typing.specs.Rules.{actualItems, schemaItems, paragraphItems}
 use Rattle.typing.specs.Entries.{addSignature, extend}
 use Rattle.typing.specs.ExpressionNodes.{InExpr, InExprs, InPred, InText, InLines, InInclude, InSchema, InParagraph}
+use Rattle.typing.proofs.SignatureTerms.{Having, merge-having, declare-having, stroke-having, rename-having}
 use Rattle.typing.proofs.ItemLaws.{Agrees, agreed}
 use Rattle.typing.proofs.ExpressionRoot.{root}
 
@@ -152,40 +153,17 @@ module _ (σ τ : Table) where
   onePara (constraint n p) D b m q = oneP p (globals D) b m q
 
   -- Signatures whose terms have one type.
-  abbrev pub SameNames : Signature → Type 0
-  SameNames noNames = Unit {0}
-  SameNames (naming i t s) = (under σ t ≡ under τ t) × SameNames s
+  abbrev OneTerm : Term → Type 0
+  OneTerm t = under σ t ≡ under τ t
 
-  insert-same : (i : ℕ) (t : Term) (s : Signature) → under σ t ≡ under τ t → SameNames s → SameNames (insertName i t s)
-  unfolding insertName
-  insert-same i t noNames e h = (e, tt)
-  insert-same i t (naming j u s) e h = go (eqb i j) (ltb i j) (insert-same i t s e (h .1))
-    where
-      go : (a b : Bool) → SameNames (insertName i t s) →
-          SameNames (cond a (naming j u s) (cond b (naming i t (naming j u s)) (naming j u (insertName i t s))))
-      go true b k = h
-      go false true k = (e, h)
-      go false false k = (h .0, k)
+  abbrev pub SameNames : Signature → Type 0
+  SameNames s = Having OneTerm s
 
   pub join-same : (s r : Signature) → SameNames s → SameNames r → SameNames (merge s r)
-  unfolding merge
-  join-same noNames r h k = k
-  join-same (naming i t s) r h k = join-same s (insertName i t r) (h .1) (insert-same i t r (h .0) k)
+  join-same s r h k = merge-having OneTerm s r h k
 
   pub names-same : (xs : List ℕ) (t : Term) (r : Signature) → under σ t ≡ under τ t → SameNames r → SameNames (declare xs t r)
-  unfolding declare
-  names-same [] t r e k = k
-  names-same (i ∷ xs) t r e k = names-same xs t (insertName i t r) e (insert-same i t r e k)
-
-  stroke-same : (k : ℕ) (s : Signature) → SameNames s → SameNames (strokeAll k s)
-  unfolding strokeAll
-  stroke-same k noNames h = tt
-  stroke-same k (naming i t s) h = (h .0, stroke-same k s (h .1))
-
-  rename-same : (rs : List (ℕ × ℕ)) (s : Signature) → SameNames s → SameNames (renameAll rs s)
-  unfolding renameAll
-  rename-same rs noNames h = tt
-  rename-same rs (naming i t s) h = insert-same (renamed rs i) t (renameAll rs s) (h .0) (rename-same rs s (h .1))
+  names-same xs t r e k = declare-having OneTerm xs t r e k
 
   fieldsOf-same : (is : List ℕ) (ts : Terms) → unders σ ts ≡ unders τ ts → SameNames (withNames is ts)
   unfolding withNames under
@@ -201,7 +179,7 @@ module _ (σ τ : Table) where
   bring-same : (f : Found) (r : Terms) (k : ℕ) (rs : List (ℕ × ℕ)) → unders σ r ≡ unders τ r → SameNames (brought f r k rs)
   unfolding brought
   bring-same noSchema r k rs e = tt
-  bring-same (aSchema p g) r k rs e = rename-same rs (strokeAll k (componentsOf (instance r g))) (stroke-same k (componentsOf (instance r g)) (fields-same (instance r g) (instance-same σ τ r g e)))
+  bring-same (aSchema p g) r k rs e = rename-having OneTerm rs (strokeAll k (componentsOf (instance r g))) (stroke-having OneTerm k (componentsOf (instance r g)) (fields-same (instance r g) (instance-same σ τ r g e)))
 
   row-same : (xs : Exprs) (n k : ℕ) (Γ : Scope) → Agrees (actualItems xs n k Γ) σ τ → unders σ (row n k (exprsLength xs)) ≡ unders τ (row n k (exprsLength xs))
   unfolding actualItems Agree Agrees row exprsLength under
@@ -216,8 +194,8 @@ module _ (σ τ : Table) where
   lines-same : (ls : Lines) (Γ : Scope) (D : Dictionary) (r : Signature) → Agrees (linesItems ls Γ D r) σ τ → SameNames r → SameNames (linesSignature ls Γ r)
   unfolding linesSignature linesItems Agree Agrees under
   lines-same end Γ D r b h = h
-  lines-same (declaration n e xs ls) Γ D r b h = lines-same ls Γ D (declare xs (unknownAt n 0) r) (b .1 .1 .1) (names-same xs (unknownAt n 0) r (b .0 .0 .1 .0) h)
-  lines-same (inclusion i ls) Γ D r b h = lines-same ls Γ D (merge (includeSignature i Γ) r) (b .1 .1 .1) (join-same (includeSignature i Γ) r (incl-same i Γ (b .0)) h)
+  lines-same (declaration n e xs ls) Γ D r b h = lines-same ls Γ D (declare xs (unknownAt n 0) r) (b .1 .1 .1) (declare-having OneTerm xs (unknownAt n 0) r (b .0 .0 .1 .0) h)
+  lines-same (inclusion i ls) Γ D r b h = lines-same ls Γ D (merge (includeSignature i Γ) r) (b .1 .1 .1) (merge-having OneTerm (includeSignature i Γ) r (incl-same i Γ (b .0)) h)
 
   text-same : (t : Text) (Γ : Scope) (D : Dictionary) → Agrees (textItems t Γ D) σ τ → SameNames (textSignature t Γ)
   unfolding textSignature textItems Agrees
@@ -227,7 +205,7 @@ module _ (σ τ : Table) where
   unfolding schemaSignature schemaItems Agrees
   sig-same (plain t) Γ b = text-same t Γ blank b
   sig-same (from i) Γ b = incl-same i Γ (b .0)
-  sig-same (both n x y) Γ b = join-same (schemaSignature y Γ) (schemaSignature x Γ) (sig-same y Γ (b .1 .0)) (sig-same x Γ (b .0))
+  sig-same (both n x y) Γ b = merge-having OneTerm (schemaSignature y Γ) (schemaSignature x Γ) (sig-same y Γ (b .1 .0)) (sig-same x Γ (b .0))
 
   types-same : (s : Signature) → SameNames s → unders σ (termsOf s) ≡ unders τ (termsOf s)
   unfolding termsOf under

@@ -1,38 +1,20 @@
 -- 33, 34 AND 35 REST ON THE OWN EQUATIONS OF THEIR PIECE (R15), in every readable document: what else is asked before a node of a piece mentions none of the
 -- piece's own unknowns. First for items of any kind, then for those of the rules.
-use mathlib.Core.Path.{_≡_, refl, sym, ap, _∙_}
-use mathlib.Core.Option.{some}
+use mathlib.Core.Path.{_≡_, refl, sym, _∙_}
 use mathlib.Core.Logic.{_⊎_, inl, inr}
 use Prim.Native.Nat.{ℕ}
 use native.Mathlib.Omega.{arith}
-use Rattle.types.specs.Types.{Term, under, Each}
+use Rattle.types.specs.Types.{under, Each}
 use Rattle.types.specs.Component.{componentType}
-use Rattle.types.proofs.Terms.{each-map, under-ext}
 use Rattle.typing.specs.Unknowns.{Table}
 use Rattle.typing.specs.Items.{Items, skip, _⨾_, fresh, equate, select, small, refusal, piece, Known, Meets, Any, And, Refuses}
 use Rattle.typing.specs.Pieces.{Owns}
 use Rattle.typing.specs.PieceEquations.{Solves, Beside, OwnSolution, ByOwnEquations}
-use Rattle.typing.proofs.ItemUnknowns.{Over}
+use Rattle.typing.proofs.ItemUnknowns.{Over, same-under, met-too}
 
 -- x is none of the own unknowns of the piece
 abbrev pub Off : Items → ℕ → Type 0
 Off w x = Owns w x → ⊥
-
-module _ (N : ℕ → Type 0) (σ τ : Table) (e : (x : ℕ) → N x → σ x ≡ τ x) where
-  same-under : (t : Term) → Each N t → under σ t ≡ under τ t
-  same-under t h = under-ext σ τ t (each-map N _ (λ y n. e y n) t h)
-
-  -- tables that agree on the unknowns of the items meet the same items
-  pub met-too : (t : Items) → Over N t → Meets t τ → Meets t σ
-  unfolding Over Meets
-  met-too skip o h = tt
-  met-too (a ⨾ b) o h = (met-too a (o .0) (h .0), met-too b (o .1) (h .1))
-  met-too (fresh y) o h = tt
-  met-too (equate f n a b) o h = same-under a (o .0) ∙ h ∙ sym (same-under b (o .1))
-  met-too (select n i a y) o h = ap (componentType i) (same-under a (o .0)) ∙ h ∙ ap some (sym (e y (o .1)))
-  met-too (small n a) o h = rw (same-under a o) h
-  met-too (refusal f n) o h = h
-  met-too (piece n t) o h = met-too t o h
 
 -- What is asked beside the own equations of the piece w mentions none of its unknowns: pieces inside it, 36, sizes. The tables P before a piece do not
 -- depend on the piece's unknowns.

@@ -27,8 +27,8 @@ use Rattle.typing.specs.Pieces.{Owns}
 use Rattle.typing.proofs.OwnUnknowns.{include-agrees, text-agrees}
 use Rattle.typing.proofs.PieceTypes.{owned}
 use Rattle.syntax.proofs.Sized.{SizedExpr, SizedExprs}
-use Rattle.typing.proofs.RuleUnknowns.{AllIn, Own, ScopeOver, NamedOver, name-over, inside-over}
-use Rattle.typing.proofs.SelectFindings.{has-left, has-right}
+use Rattle.typing.proofs.ScopeUnknowns.{AllIn, Own, ScopeOver, NamedOver, name-over, inside-over}
+use Rattle.typing.proofs.NewUnknowns.{has-left, has-right}
 use Rattle.typing.proofs.TypingLaws.{first-has}
 
 unfoldable mutual

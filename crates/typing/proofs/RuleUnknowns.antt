@@ -11,246 +11,28 @@ use Rattle.syntax.specs.Tree.{Expr, reference, number, integers, set, tuple, pr
 use Rattle.syntax.specs.Tree.{comprehension, Exprs, none, more, Pred, truth, equal, member, atMost, not, connected, quantified, Text, text, Lines}
 use Rattle.syntax.specs.Tree.{end, declaration, inclusion, Include, include, Schema, plain, from, both, exprNode, exprsLength}
 use Rattle.syntax.specs.TreeNumbers.{exprNumbers, exprsNumbers, predNumbers, textNumbers, linesNumbers, includeNumbers, schemaNumbers}
-use Rattle.types.specs.Former.{Former, int, given as givenFormer, parameter, power as powerFormer, product as productFormer, binding, identifiers}
-use Rattle.types.specs.Types.{Ty, node, Tys, tnil, tcons, Term, unknown, con, Terms, nil, cons, Each, Eachs}
-use Rattle.types.specs.Instance.{nth, actual, instanceFormer, instance, instances}
+use Rattle.types.specs.Types.{Term, nil, Each, Eachs}
+use Rattle.types.specs.Instance.{instance}
 use Rattle.typing.specs.Strokes.{decorate, takes}
-use Rattle.typing.specs.Unknowns.{slot, unknownAt, row, integer, powerOf, productOf}
+use Rattle.typing.specs.Unknowns.{unknownAt, row, integer, powerOf, productOf}
 use Rattle.typing.specs.Items.{Items, _⨾_, refusal}
-use Rattle.typing.specs.Dictionary.{nameEntry, schemaEntry, Dictionary, blank, _▸_, Named, unnamed, ofLocal, ofGlobal, nameIn, Found, noSchema, aSchema}
-use Rattle.typing.specs.Signatures.{Signature, noNames, naming, namesOf, termsOf, bindingOf, withNames, componentsOf, orElse, termIn, countNames}
-use Rattle.typing.specs.Signatures.{insertName, merge, declare, strokeAll, renamed, renameAll, someStroked, wrongNames}
-use Rattle.typing.specs.Scopes.{Scope, globals, local, nameAt, schemaNamed, withParameters, enter, brought, includeSignature, includeNode}
-use Rattle.typing.specs.Scopes.{linesSignature, textSignature, inside, schemaSignature}
+use Rattle.typing.specs.Dictionary.{Dictionary, blank, Named, unnamed, ofLocal, ofGlobal, nameIn, Found, noSchema, aSchema}
+use Rattle.typing.specs.Signatures.{Signature, noNames, naming, namesOf, bindingOf, componentsOf, termIn, countNames}
+use Rattle.typing.specs.Signatures.{merge, declare, someStroked, wrongNames}
+use Rattle.typing.specs.Scopes.{Scope, nameAt, schemaNamed, includeSignature, includeNode}
+use Rattle.typing.specs.Scopes.{inside, schemaSignature}
 use Rattle.typing.specs.Conditions.{refuseIf, sameType, mergeDeclared, mergeNames, newName, newNames, smallTypes, fewNames, typeOf, typesOf, typed}
-use Rattle.typing.specs.Conditions.{arePowers, areMembers, freshRow}
+use Rattle.typing.specs.Conditions.{arePowers, areMembers}
 use Rattle.typing.specs.Rules.{referenceItems, thetaName, thetaNames, typeInScope, thetaSignature, thetaItems, includeRule, exprItems}
 use Rattle.typing.specs.Rules.{exprsItems, predItems, textItems, linesItems, includeItems, actualItems, schemaItems}
+use Rattle.typing.proofs.SignatureTerms.{HavingOption, none-having, merge-having, declare-having, termIn-having}
 use Rattle.typing.proofs.ItemUnknowns.{Over}
 use Rattle.syntax.proofs.Sized.{SizedExpr, SizedExprs, SizedPred, SizedText, SizedLines, SizedInclude, SizedSchema}
-
--- M of each number of the list
-abbrev pub AllIn : (ℕ → Type 0) → List ℕ → Type 0
-AllIn M [] = Unit {0}
-AllIn M (x ∷ l) = M x × AllIn M l
-
-pub all-left : (M : ℕ → Type 0) (a b : List ℕ) → AllIn M (a ++ b) → AllIn M a
-all-left M [] b h = tt
-all-left M (x ∷ a) b h = (h .0, all-left M a b (h .1))
-
-pub all-right : (M : ℕ → Type 0) (a b : List ℕ) → AllIn M (a ++ b) → AllIn M b
-all-right M [] b h = h
-all-right M (x ∷ a) b h = all-right M a b (h .1)
-
--- recorded names have at most 4 parameters
-unfoldable pub FewRecorded : Dictionary → Type 0
-FewRecorded blank = Unit {0}
-FewRecorded (D ▸ nameEntry i p g) = FewRecorded D × (p ≤ 4)
-FewRecorded (D ▸ schemaEntry s p g) = FewRecorded D
-
--- unknown k of a node for one actual, k + 1 and so on for those after it
-pub longer : (k : ℕ) (a : Expr) (xs : Exprs) → k + exprsLength (more a xs) ≤ 7 → (k ≤ 6) × (suc k + exprsLength xs ≤ 7)
-unfolding exprsLength
-longer k a xs l = (omega (arith, l), omega (arith, l))
+use Rattle.typing.proofs.ScopeUnknowns.{AllIn, all-left, all-right, longer, Own, ScopeOver, NamedOver, SigOver, name-over, binding-over}
+use Rattle.typing.proofs.ScopeUnknowns.{nil-over, row-over, fresh-over, included-over, lines-inside, inside-over, schema-sig-over}
+use Rattle.typing.proofs.ScopeUnknowns.{instance-over}
 
 module _ (N : ℕ → Type 0) where
-  -- N of the unknowns of node m
-  abbrev pub Own : ℕ → Type 0
-  Own m = (k : ℕ) → k ≤ 6 → N (slot m k)
-
-  unfoldable pub ScopeOver : Scope → Type 0
-  ScopeOver (globals D) = FewRecorded D
-  ScopeOver (local i t Γ) = Each N t × ScopeOver Γ
-
-  unfoldable pub NamedOver : Named → Type 0
-  NamedOver unnamed = Unit {0}
-  NamedOver (ofLocal t) = Each N t
-  NamedOver (ofGlobal p g) = p ≤ 4
-
-  unfoldable pub SigOver : Signature → Type 0
-  SigOver noNames = Unit {0}
-  SigOver (naming i t s) = Each N t × SigOver s
-
-  either-named : (b : Bool) (m n : Named) → NamedOver m → NamedOver n → NamedOver (cond b m n)
-  either-named true m n h k = h
-  either-named false m n h k = k
-
-  nameIn-over : (i : ℕ) (D : Dictionary) → FewRecorded D → NamedOver (nameIn i D)
-  unfolding nameIn FewRecorded NamedOver
-  nameIn-over i blank h = tt
-  nameIn-over i (D ▸ nameEntry j p g) h = either-named (eqb i j) (ofGlobal p g) (nameIn i D) (h .1) (nameIn-over i D (h .0))
-  nameIn-over i (D ▸ schemaEntry s p g) h = nameIn-over i D h
-
-  pub name-over : (i : ℕ) (Γ : Scope) → ScopeOver Γ → NamedOver (nameAt i Γ)
-  unfolding nameAt ScopeOver NamedOver
-  name-over i (globals D) h = nameIn-over i D h
-  name-over i (local j t Γ) h = either-named (eqb i j) (ofLocal t) (nameAt i Γ) (h .0) (name-over i Γ (h .1))
-
-  -- ---- signatures
-  either-sig : (b : Bool) (s r : Signature) → SigOver s → SigOver r → SigOver (cond b s r)
-  either-sig true s r h k = h
-  either-sig false s r h k = k
-
-  insert-over : (i : ℕ) (t : Term) (s : Signature) → Each N t → SigOver s → SigOver (insertName i t s)
-  unfolding insertName SigOver
-  insert-over i t noNames e h = (e, tt)
-  insert-over i t (naming j u s) e h =
-      either-sig (eqb i j) (naming j u s) _ h (either-sig (ltb i j) (naming i t (naming j u s)) (naming j u (insertName i t s)) (e, h) (h .0, insert-over i t s e (h .1)))
-
-  pub merge-over : (s r : Signature) → SigOver s → SigOver r → SigOver (merge s r)
-  unfolding merge SigOver
-  merge-over noNames r h k = k
-  merge-over (naming i t s) r h k = merge-over s (insertName i t r) (h .1) (insert-over i t r (h .0) k)
-
-  pub declare-over : (is : List ℕ) (t : Term) (r : Signature) → Each N t → SigOver r → SigOver (declare is t r)
-  unfolding declare
-  declare-over [] t r e k = k
-  declare-over (i ∷ is) t r e k = declare-over is t (insertName i t r) e (insert-over i t r e k)
-
-  stroke-over : (k : ℕ) (s : Signature) → SigOver s → SigOver (strokeAll k s)
-  unfolding strokeAll SigOver
-  stroke-over k noNames h = tt
-  stroke-over k (naming i t s) h = (h .0, stroke-over k s (h .1))
-
-  rename-over : (rs : List (ℕ × ℕ)) (s : Signature) → SigOver s → SigOver (renameAll rs s)
-  unfolding renameAll SigOver
-  rename-over rs noNames h = tt
-  rename-over rs (naming i t s) h = insert-over (renamed rs i) t (renameAll rs s) (h .0) (rename-over rs s (h .1))
-
-  withNames-over : (is : List ℕ) (ts : Terms) → Eachs N ts → SigOver (withNames is ts)
-  unfolding withNames SigOver Each
-  withNames-over [] ts h = tt
-  withNames-over (i ∷ is) nil h = tt
-  withNames-over (i ∷ is) (cons t ts) h = (h .0, withNames-over is ts (h .1))
-
-  components-over : (t : Term) → Each N t → SigOver (componentsOf t)
-  unfolding componentsOf SigOver Each
-  components-over (unknown x) h = tt
-  components-over (con f ts) h = withNames-over (identifiers f) ts h
-
-  terms-over : (s : Signature) → SigOver s → Eachs N (termsOf s)
-  unfolding termsOf SigOver Each
-  terms-over noNames h = tt
-  terms-over (naming i t s) h = (h .0, terms-over s (h .1))
-
-  binding-over : (s : Signature) → SigOver s → Each N (bindingOf s)
-  unfolding bindingOf Each
-  binding-over s h = terms-over s h
-
-  abbrev OptionOver : Option Term → Type 0
-  OptionOver (some t) = Each N t
-  OptionOver nothing = Unit {0}
-
-  orElse-over : (o p : Option Term) → OptionOver o → OptionOver p → OptionOver (orElse o p)
-  unfolding orElse
-  orElse-over (some t) p h k = h
-  orElse-over nothing p h k = k
-
-  termIn-over : (i : ℕ) (r : Signature) → SigOver r → OptionOver (termIn i r)
-  unfolding termIn SigOver
-  termIn-over i noNames h = tt
-  termIn-over i (naming j t s) h = orElse-over (termIn i s) (cond (eqb i j) (some t) nothing) (termIn-over i s (h .1)) (go (eqb i j))
-    where
-      go : (b : Bool) → OptionOver (cond b (some t) nothing)
-      go true = h .0
-      go false = tt
-
-  -- ---- instances
-  actual-over : (ts : Terms) (i j : ℕ) (us : Terms) → Eachs N ts → Eachs N us → Each N (actual (nth ts i) j us)
-  unfolding nth actual Each
-  actual-over nil i j us h k = k
-  actual-over (cons t ts) zero j us h k = k
-  actual-over (cons t ts) (suc zero) j us h k = h .0
-  actual-over (cons t ts) (suc (suc i)) j us h k = actual-over ts (suc i) j us (h .1) k
-
-  former-over : (f : Former) (ts us : Terms) → Eachs N ts → Eachs N us → Each N (instanceFormer f ts us)
-  unfolding instanceFormer Each
-  former-over int ts us h k = k
-  former-over (givenFormer g) ts us h k = k
-  former-over (parameter i) ts us h k = actual-over ts i i us h k
-  former-over powerFormer ts us h k = k
-  former-over productFormer ts us h k = k
-  former-over (binding l) ts us h k = k
-
-  mutual
-    unfolding instance Each
-
-    instance-over : (ts : Terms) (g : Ty) → Eachs N ts → Each N (instance ts g)
-    instance-over ts (node f gs) h = former-over f ts (instances ts gs) h (instances-over ts gs h)
-
-    instances-over : (ts : Terms) (gs : Tys) → Eachs N ts → Eachs N (instances ts gs)
-    instances-over ts tnil h = tt
-    instances-over ts (tcons g gs) h = (instance-over ts g h, instances-over ts gs h)
-
-  nil-over : Eachs N nil
-  unfolding Each
-  nil-over = tt
-
-  row-over : (n k p : ℕ) → Own n → k + p ≤ 7 → Eachs N (row n k p)
-  unfolding row Each
-  row-over n k zero o l = tt
-  row-over n k (suc p) o l = (o k (omega arith), row-over n (suc k) p o (omega arith))
-
-  fresh-over : (n k p : ℕ) → Own n → k + p ≤ 7 → Over N (freshRow n k p)
-  unfolding freshRow Over
-  fresh-over n k zero o l = tt
-  fresh-over n k (suc p) o l = (o k (omega arith), fresh-over n (suc k) p o (omega arith))
-
-  -- ---- scopes
-  enter-over : (s : Signature) (Γ : Scope) → SigOver s → ScopeOver Γ → ScopeOver (enter s Γ)
-  unfolding enter SigOver ScopeOver
-  enter-over noNames Γ h k = k
-  enter-over (naming i t s) Γ h k = enter-over s (local i t Γ) (h .1) (h .0, k)
-
-  pub parameters-over : (is : List ℕ) (k : ℕ) (Γ : Scope) → ScopeOver Γ → ScopeOver (withParameters is k Γ)
-  unfolding withParameters ScopeOver Each
-  parameters-over [] k Γ h = h
-  parameters-over (i ∷ is) k Γ h = parameters-over is (suc k) _ ((tt, tt), h)
-
-  brought-over : (f : Found) (ts : Terms) (k : ℕ) (rs : List (ℕ × ℕ)) → Eachs N ts → SigOver (brought f ts k rs)
-  unfolding brought SigOver
-  brought-over noSchema ts k rs h = tt
-  brought-over (aSchema p g) ts k rs h = rename-over rs _ (stroke-over k _ (components-over (instance ts g) (instance-over ts g h)))
-
-  include-own : (i : Include) → AllIn Own (includeNumbers i) → Own (includeNode i)
-  unfolding includeNumbers includeNode
-  include-own (include n s k xs rs) h = all-right Own (exprsNumbers xs) (n ∷ []) h .0
-
-  pub included-over : (i : Include) (Γ : Scope) → AllIn Own (includeNumbers i) → SizedInclude i → SigOver (includeSignature i Γ)
-  unfolding includeSignature includeNumbers SizedInclude
-  included-over (include n s k xs rs) Γ h f = brought-over (schemaNamed s Γ) (row n 1 (exprsLength xs)) k rs (row-over n 1 (exprsLength xs) (all-right Own (exprsNumbers xs) (n ∷ []) h .0) (omega (arith, f .0)))
-
-  lines-sig-over : (ls : Lines) (Γ : Scope) (r : Signature) → AllIn Own (linesNumbers ls) → SizedLines ls → SigOver r → SigOver (linesSignature ls Γ r)
-  unfolding linesSignature linesNumbers SizedLines Each
-  lines-sig-over end Γ r h f k = k
-  lines-sig-over (declaration n a is ls) Γ r h f k =
-      let own = all-right Own (exprNumbers a) (n ∷ []) (all-left Own (exprNumbers a ++ (n ∷ [])) (linesNumbers ls) h) .0 in
-      lines-sig-over ls Γ (declare is (unknownAt n 0) r) (all-right Own (exprNumbers a ++ (n ∷ [])) (linesNumbers ls) h) (f .1) (declare-over is (unknownAt n 0) r (own 0 (omega arith)) k)
-  lines-sig-over (inclusion i ls) Γ r h f k =
-      lines-sig-over ls Γ (merge (includeSignature i Γ) r) (all-right Own (includeNumbers i) (linesNumbers ls) h) (f .1)
-      (merge-over (includeSignature i Γ) r (included-over i Γ (all-left Own (includeNumbers i) (linesNumbers ls) h) (f .0)) k)
-
-  pub lines-inside : (n : ℕ) (p : Pred) (ls : Lines) (Γ : Scope) → AllIn Own (linesNumbers ls) → SizedLines ls → ScopeOver Γ → ScopeOver (inside (text n p ls) Γ)
-  unfolding inside textSignature SigOver
-  lines-inside n p ls Γ h f k = enter-over (linesSignature ls Γ noNames) Γ (lines-sig-over ls Γ noNames h f tt) k
-
-  pub inside-over : (t : Text) (Γ : Scope) → AllIn Own (textNumbers t) → SizedText t → ScopeOver Γ → ScopeOver (inside t Γ)
-  unfolding textNumbers SizedText
-  inside-over (text n p ls) Γ h f k =
-      lines-inside n p ls Γ (all-right Own (predNumbers p) (linesNumbers ls) (all-left Own (predNumbers p ++ linesNumbers ls) (n ∷ []) h)) (f .1) k
-
-  text-sig-over : (t : Text) (Γ : Scope) → AllIn Own (textNumbers t) → SizedText t → SigOver (textSignature t Γ)
-  unfolding textSignature textNumbers SizedText SigOver
-  text-sig-over (text n p ls) Γ h f = lines-sig-over ls Γ noNames (all-right Own (predNumbers p) (linesNumbers ls) (all-left Own (predNumbers p ++ linesNumbers ls) (n ∷ []) h)) (f .1) tt
-
-  schema-sig-over : (x : Schema) (Γ : Scope) → AllIn Own (schemaNumbers x) → SizedSchema x → SigOver (schemaSignature x Γ)
-  unfolding schemaSignature schemaNumbers SizedSchema
-  schema-sig-over (plain t) Γ h f = text-sig-over t Γ h f
-  schema-sig-over (from i) Γ h f = included-over i Γ h f
-  schema-sig-over (both n a b) Γ h f =
-      let z = all-left Own (schemaNumbers a ++ schemaNumbers b) (n ∷ []) h in
-      merge-over (schemaSignature b Γ) (schemaSignature a Γ) (schema-sig-over b Γ (all-right Own (schemaNumbers a) (schemaNumbers b) z) (f .1)) (schema-sig-over a Γ (all-left Own (schemaNumbers a) (schemaNumbers b) z) (f .0))
-
   -- ---- items that rules share
   refuseIf-over : (b : Bool) (f n : ℕ) → Over N (refuseIf b f n)
   unfolding refuseIf Over
@@ -261,20 +43,20 @@ module _ (N : ℕ → Type 0) where
   cond-over true x y h k = h
   cond-over false x y h k = k
 
-  sameType-over : (n : ℕ) (t : Term) (o : Option Term) → Each N t → OptionOver o → Over N (sameType n t o)
+  sameType-over : (n : ℕ) (t : Term) (o : Option Term) → Each N t → HavingOption (Each N) o → Over N (sameType n t o)
   unfolding sameType Over
   sameType-over n t (some u) h k = (h, k)
   sameType-over n t nothing h k = tt
 
-  declared-over : (n : ℕ) (is : List ℕ) (t : Term) (r : Signature) → Each N t → SigOver r → Over N (mergeDeclared n is t r)
+  declared-over : (n : ℕ) (is : List ℕ) (t : Term) (r : Signature) → Each N t → SigOver N r → Over N (mergeDeclared n is t r)
   unfolding mergeDeclared Over
   declared-over n [] t r h k = tt
-  declared-over n (i ∷ is) t r h k = (sameType-over n t (termIn i r) h (termIn-over i r k), declared-over n is t r h k)
+  declared-over n (i ∷ is) t r h k = (sameType-over n t (termIn i r) h (termIn-having (Each N) i r k), declared-over n is t r h k)
 
-  names-over : (n : ℕ) (s r : Signature) → SigOver s → SigOver r → Over N (mergeNames n s r)
-  unfolding mergeNames Over SigOver
+  names-over : (n : ℕ) (s r : Signature) → SigOver N s → SigOver N r → Over N (mergeNames n s r)
+  unfolding mergeNames Over
   names-over n noNames r h k = tt
-  names-over n (naming i t s) r h k = (sameType-over n t (termIn i r) (h .0) (termIn-over i r k), names-over n s r (h .1) k)
+  names-over n (naming i t s) r h k = (sameType-over n t (termIn i r) (h .0) (termIn-having (Each N) i r k), names-over n s r (h .1) k)
 
   newName-over : (n : ℕ) (m : Named) → Over N (newName n m)
   unfolding newName Over
@@ -287,8 +69,8 @@ module _ (N : ℕ → Type 0) where
   newNames-over n [] G = tt
   newNames-over n (i ∷ is) G = (newName-over n (nameIn i G), newNames-over n is G)
 
-  pub smalls-over : (n : ℕ) (s : Signature) → SigOver s → Over N (smallTypes n s)
-  unfolding smallTypes Over SigOver
+  pub smalls-over : (n : ℕ) (s : Signature) → SigOver N s → Over N (smallTypes n s)
+  unfolding smallTypes Over
   smalls-over n noNames h = tt
   smalls-over n (naming i t s) h = (h .0, smalls-over n s (h .1))
 
@@ -297,62 +79,62 @@ module _ (N : ℕ → Type 0) where
   few-over n s = refuseIf-over (ltb 16 (countNames s)) 38 n
 
   -- the type of an expression is an unknown of one of its nodes
-  pub root-own : (a : Expr) → AllIn Own (exprNumbers a) → Own (exprNode a)
+  pub root-own : (a : Expr) → AllIn (Own N) (exprNumbers a) → Own N (exprNode a)
   unfolding exprNumbers exprNode
-  root-own (reference n i xs) h = all-right Own (exprsNumbers xs) (n ∷ []) h .0
+  root-own (reference n i xs) h = all-right (Own N) (exprsNumbers xs) (n ∷ []) h .0
   root-own (number n v) h = h .0
   root-own (integers n) h = h .0
-  root-own (set n xs) h = all-right Own (exprsNumbers xs) (n ∷ []) h .0
-  root-own (tuple n xs) h = all-right Own (exprsNumbers xs) (n ∷ []) h .0
-  root-own (product n xs) h = all-right Own (exprsNumbers xs) (n ∷ []) h .0
-  root-own (power n a) h = all-right Own (exprNumbers a) (n ∷ []) h .0
-  root-own (application n a b) h = all-right Own (exprNumbers a ++ exprNumbers b) (n ∷ []) h .0
-  root-own (selection n a i) h = all-right Own (exprNumbers a) (n ∷ []) h .0
+  root-own (set n xs) h = all-right (Own N) (exprsNumbers xs) (n ∷ []) h .0
+  root-own (tuple n xs) h = all-right (Own N) (exprsNumbers xs) (n ∷ []) h .0
+  root-own (product n xs) h = all-right (Own N) (exprsNumbers xs) (n ∷ []) h .0
+  root-own (power n a) h = all-right (Own N) (exprNumbers a) (n ∷ []) h .0
+  root-own (application n a b) h = all-right (Own N) (exprNumbers a ++ exprNumbers b) (n ∷ []) h .0
+  root-own (selection n a i) h = all-right (Own N) (exprNumbers a) (n ∷ []) h .0
   root-own (theta n s k) h = h .0
-  root-own (schemaSet n i) h = all-right Own (includeNumbers i) (n ∷ []) h .0
-  root-own (arithmetic n o a b) h = all-right Own (exprNumbers a ++ exprNumbers b) (n ∷ []) h .0
-  root-own (comprehension n t a) h = all-right Own (textNumbers t ++ exprNumbers a) (n ∷ []) h .0
+  root-own (schemaSet n i) h = all-right (Own N) (includeNumbers i) (n ∷ []) h .0
+  root-own (arithmetic n o a b) h = all-right (Own N) (exprNumbers a ++ exprNumbers b) (n ∷ []) h .0
+  root-own (comprehension n t a) h = all-right (Own N) (textNumbers t ++ exprNumbers a) (n ∷ []) h .0
 
-  pub type-over : (a : Expr) → AllIn Own (exprNumbers a) → Each N (typeOf a)
+  pub type-over : (a : Expr) → AllIn (Own N) (exprNumbers a) → Each N (typeOf a)
   unfolding Each
   type-over a h = root-own a h 0 (omega arith)
 
-  types-over : (xs : Exprs) → AllIn Own (exprsNumbers xs) → Eachs N (typesOf xs)
+  types-over : (xs : Exprs) → AllIn (Own N) (exprsNumbers xs) → Eachs N (typesOf xs)
   unfolding typesOf exprsNumbers Each
   types-over none h = tt
-  types-over (more a xs) h = (root-own a (all-left Own (exprNumbers a) (exprsNumbers xs) h) 0 (omega arith), types-over xs (all-right Own (exprNumbers a) (exprsNumbers xs) h))
+  types-over (more a xs) h = (root-own a (all-left (Own N) (exprNumbers a) (exprsNumbers xs) h) 0 (omega arith), types-over xs (all-right (Own N) (exprNumbers a) (exprsNumbers xs) h))
 
-  powers-over : (n : ℕ) (xs : Exprs) (k : ℕ) → Own n → AllIn Own (exprsNumbers xs) → k + exprsLength xs ≤ 7 → Over N (arePowers n xs k)
+  powers-over : (n : ℕ) (xs : Exprs) (k : ℕ) → Own N n → AllIn (Own N) (exprsNumbers xs) → k + exprsLength xs ≤ 7 → Over N (arePowers n xs k)
   unfolding arePowers Over Each exprsNumbers exprsLength
   powers-over n none k o h l = tt
   powers-over n (more a xs) k o h l =
-      ((o k (omega arith), (root-own a (all-left Own (exprNumbers a) (exprsNumbers xs) h) 0 (omega arith), (o k (omega arith), tt))), powers-over n xs (suc k) o (all-right Own (exprNumbers a) (exprsNumbers xs) h) (omega arith))
+      ((o k (omega arith), (root-own a (all-left (Own N) (exprNumbers a) (exprsNumbers xs) h) 0 (omega arith), (o k (omega arith), tt))), powers-over n xs (suc k) o (all-right (Own N) (exprNumbers a) (exprsNumbers xs) h) (omega arith))
 
-  members-over : (n : ℕ) (xs : Exprs) → Own n → AllIn Own (exprsNumbers xs) → Over N (areMembers n xs)
+  members-over : (n : ℕ) (xs : Exprs) → Own N n → AllIn (Own N) (exprsNumbers xs) → Over N (areMembers n xs)
   unfolding areMembers Over Each exprsNumbers
   members-over n none o h = tt
   members-over n (more a xs) o h =
-      ((root-own a (all-left Own (exprNumbers a) (exprsNumbers xs) h) 0 (omega arith), o 1 (omega arith)), members-over n xs o (all-right Own (exprNumbers a) (exprsNumbers xs) h))
+      ((root-own a (all-left (Own N) (exprNumbers a) (exprsNumbers xs) h) 0 (omega arith), o 1 (omega arith)), members-over n xs o (all-right (Own N) (exprNumbers a) (exprsNumbers xs) h))
 
-  typed-over : (n : ℕ) (t : Term) → Own n → Each N t → Over N (typed n t)
+  typed-over : (n : ℕ) (t : Term) → Own N n → Each N t → Over N (typed n t)
   unfolding Over Each
   typed-over n t o h = (o 0 (omega arith), (o 0 (omega arith), h))
 
   -- ---- Ref, Theta, Include
-  reference-over : (n : ℕ) (xs : Exprs) (m : Named) → Own n → AllIn Own (exprsNumbers xs) → NamedOver m → Over N (referenceItems n xs m)
+  reference-over : (n : ℕ) (xs : Exprs) (m : Named) → Own N n → AllIn (Own N) (exprsNumbers xs) → NamedOver N m → Over N (referenceItems n xs m)
   unfolding referenceItems Over NamedOver
   reference-over n none unnamed o h k = tt
   reference-over n (more a xs) unnamed o h k = tt
   reference-over n none (ofLocal t) o h k = typed-over n t o k
   reference-over n (more a xs) (ofLocal t) o h k = tt
   reference-over n none (ofGlobal p g) o h k =
-      (fresh-over n 1 p o (omega (arith, k)), typed-over n (instance (row n 1 p) g) o (instance-over (row n 1 p) g (row-over n 1 p o (omega (arith, k)))))
+      (fresh-over N n 1 p o (omega (arith, k)), typed-over n (instance (row n 1 p) g) o (instance-over N (row n 1 p) g (row-over N n 1 p o (omega (arith, k)))))
   reference-over n (more a xs) (ofGlobal p g) o h k = go (eqb (exprsLength (more a xs)) p) refl
     where
       go : (b : Bool) → eqb (exprsLength (more a xs)) p ≡ b → Over N (cond b (arePowers n (more a xs) 1 ⨾ typed n (instance (row n 1 p) g)) (refusal 32 n))
       go true e = (
         powers-over n (more a xs) 1 o h (omega (arith, k, eqb-true (exprsLength (more a xs)) p e)),
-        typed-over n (instance (row n 1 p) g) o (instance-over (row n 1 p) g (row-over n 1 p o (omega (arith, k)))),
+        typed-over n (instance (row n 1 p) g) o (instance-over N (row n 1 p) g (row-over N n 1 p o (omega (arith, k)))),
       )
       go false e = tt
 
@@ -369,25 +151,25 @@ module _ (N : ℕ → Type 0) where
   thetaNames-over n k noNames Γ = tt
   thetaNames-over n k (naming i t s) Γ = (thetaName-over (takes k i) n (nameAt (decorate k i) Γ), thetaNames-over n k s Γ)
 
-  scoped-over : (m : Named) → NamedOver m → Each N (typeInScope m)
+  scoped-over : (m : Named) → NamedOver N m → Each N (typeInScope m)
   unfolding typeInScope NamedOver Each
   scoped-over unnamed h = tt
   scoped-over (ofLocal t) h = h
-  scoped-over (ofGlobal p g) h = instance-over nil g nil-over
+  scoped-over (ofGlobal p g) h = instance-over N nil g (nil-over N)
 
-  thetaSig-over : (k : ℕ) (s : Signature) (Γ : Scope) → ScopeOver Γ → SigOver (thetaSignature k s Γ)
-  unfolding thetaSignature SigOver
+  thetaSig-over : (k : ℕ) (s : Signature) (Γ : Scope) → ScopeOver N Γ → SigOver N (thetaSignature k s Γ)
+  unfolding thetaSignature
   thetaSig-over k noNames Γ h = tt
-  thetaSig-over k (naming i t s) Γ h = (scoped-over (nameAt (decorate k i) Γ) (name-over (decorate k i) Γ h), thetaSig-over k s Γ h)
+  thetaSig-over k (naming i t s) Γ h = (scoped-over (nameAt (decorate k i) Γ) (name-over N (decorate k i) Γ h), thetaSig-over k s Γ h)
 
-  theta-over : (n k : ℕ) (f : Found) (Γ : Scope) → Own n → ScopeOver Γ → Over N (thetaItems n k f Γ)
+  theta-over : (n k : ℕ) (f : Found) (Γ : Scope) → Own N n → ScopeOver N Γ → Over N (thetaItems n k f Γ)
   unfolding thetaItems Over
   theta-over n k noSchema Γ o h = tt
   theta-over n k (aSchema p g) Γ o h = (
     thetaNames-over n k (componentsOf (instance nil g)) Γ,
     (
       refuseIf-over (ltb 0 p) 32 n,
-      (refuseIf-over (someStroked k (componentsOf (instance nil g))) 37 n, typed-over n _ o (binding-over _ (thetaSig-over k (componentsOf (instance nil g)) Γ h))),
+      (refuseIf-over (someStroked k (componentsOf (instance nil g))) 37 n, typed-over n _ o (binding-over N _ (thetaSig-over k (componentsOf (instance nil g)) Γ h))),
     ),
   )
 
@@ -397,150 +179,146 @@ module _ (N : ℕ → Type 0) where
   rule-over (aSchema p g) (include n s k xs rs) actuals h =
       cond-over (eqb (exprsLength xs) p) _ (refusal 32 n) (h, refuseIf-over (wrongNames k rs (componentsOf (instance nil g))) 37 n) tt
 
-  pub none-over : SigOver noNames
-  unfolding SigOver
-  none-over = tt
-
   -- ---- the rules
   mutual
     unfolding exprItems exprNumbers SizedExpr Over Each
 
-    pub expr-over : (a : Expr) (Γ : Scope) → AllIn Own (exprNumbers a) → SizedExpr a → ScopeOver Γ → Over N (exprItems a Γ)
+    pub expr-over : (a : Expr) (Γ : Scope) → AllIn (Own N) (exprNumbers a) → SizedExpr a → ScopeOver N Γ → Over N (exprItems a Γ)
     expr-over (reference n i xs) Γ h f s =
-        let l = all-left Own (exprsNumbers xs) (n ∷ []) h in
-        (exprs-over xs Γ l f s, reference-over n xs (nameAt i Γ) (all-right Own (exprsNumbers xs) (n ∷ []) h .0) l (name-over i Γ s))
+        let l = all-left (Own N) (exprsNumbers xs) (n ∷ []) h in
+        (exprs-over xs Γ l f s, reference-over n xs (nameAt i Γ) (all-right (Own N) (exprsNumbers xs) (n ∷ []) h .0) l (name-over N i Γ s))
     expr-over (number n v) Γ h f s = typed-over n integer (h .0) tt
     expr-over (integers n) Γ h f s = typed-over n (powerOf integer) (h .0) (tt, tt)
     expr-over (set n xs) Γ h f s =
-        let l = all-left Own (exprsNumbers xs) (n ∷ []) h in
-        let o = all-right Own (exprsNumbers xs) (n ∷ []) h .0 in
+        let l = all-left (Own N) (exprsNumbers xs) (n ∷ []) h in
+        let o = all-right (Own N) (exprsNumbers xs) (n ∷ []) h .0 in
         (exprs-over xs Γ l f s, (o 1 (omega arith), (members-over n xs o l, typed-over n (powerOf (unknownAt n 1)) o (o 1 (omega arith), tt))))
     expr-over (tuple n xs) Γ h f s =
-        let l = all-left Own (exprsNumbers xs) (n ∷ []) h in
-        (exprs-over xs Γ l (f .1) s, typed-over n (productOf (typesOf xs)) (all-right Own (exprsNumbers xs) (n ∷ []) h .0) (types-over xs l))
+        let l = all-left (Own N) (exprsNumbers xs) (n ∷ []) h in
+        (exprs-over xs Γ l (f .1) s, typed-over n (productOf (typesOf xs)) (all-right (Own N) (exprsNumbers xs) (n ∷ []) h .0) (types-over xs l))
     expr-over (product n xs) Γ h f s =
-        let l = all-left Own (exprsNumbers xs) (n ∷ []) h in
-        let o = all-right Own (exprsNumbers xs) (n ∷ []) h .0 in
-        (exprs-over xs Γ l (f .1) s, (powers-over n xs 1 o l (omega (arith, f .0 .1)), typed-over n (powerOf (productOf (row n 1 (exprsLength xs)))) o (row-over n 1 (exprsLength xs) o (omega (arith, f .0 .1)), tt)))
+        let l = all-left (Own N) (exprsNumbers xs) (n ∷ []) h in
+        let o = all-right (Own N) (exprsNumbers xs) (n ∷ []) h .0 in
+        (exprs-over xs Γ l (f .1) s, (powers-over n xs 1 o l (omega (arith, f .0 .1)), typed-over n (powerOf (productOf (row n 1 (exprsLength xs)))) o (row-over N n 1 (exprsLength xs) o (omega (arith, f .0 .1)), tt)))
     expr-over (power n a) Γ h f s =
-        let l = all-left Own (exprNumbers a) (n ∷ []) h in
-        let o = all-right Own (exprNumbers a) (n ∷ []) h .0 in
+        let l = all-left (Own N) (exprNumbers a) (n ∷ []) h in
+        let o = all-right (Own N) (exprNumbers a) (n ∷ []) h .0 in
         (expr-over a Γ l f s, ((o 1 (omega arith), (root-own a l 0 (omega arith), (o 1 (omega arith), tt))), typed-over n (powerOf (powerOf (unknownAt n 1))) o ((o 1 (omega arith), tt), tt)))
     expr-over (application n a b) Γ h f s =
-        let z = all-left Own (exprNumbers a ++ exprNumbers b) (n ∷ []) h in
-        let l = all-left Own (exprNumbers a) (exprNumbers b) z in
-        let r = all-right Own (exprNumbers a) (exprNumbers b) z in
-        let o = all-right Own (exprNumbers a ++ exprNumbers b) (n ∷ []) h .0 in
+        let z = all-left (Own N) (exprNumbers a ++ exprNumbers b) (n ∷ []) h in
+        let l = all-left (Own N) (exprNumbers a) (exprNumbers b) z in
+        let r = all-right (Own N) (exprNumbers a) (exprNumbers b) z in
+        let o = all-right (Own N) (exprNumbers a ++ exprNumbers b) (n ∷ []) h .0 in
         (expr-over a Γ l (f .0) s, (expr-over b Γ r (f .1) s, (o 0 (omega arith), (root-own a l 0 (omega arith), ((root-own b r 0 (omega arith), (o 0 (omega arith), tt)), tt)))))
     expr-over (selection n a i) Γ h f s =
-        let l = all-left Own (exprNumbers a) (n ∷ []) h in
-        let o = all-right Own (exprNumbers a) (n ∷ []) h .0 in
+        let l = all-left (Own N) (exprNumbers a) (n ∷ []) h in
+        let o = all-right (Own N) (exprNumbers a) (n ∷ []) h .0 in
         (expr-over a Γ l f s, (o 0 (omega arith), (root-own a l 0 (omega arith), o 0 (omega arith))))
     expr-over (theta n s k) Γ h f q = theta-over n k (schemaNamed s Γ) Γ (h .0) q
     expr-over (schemaSet n i) Γ h f s =
-        let l = all-left Own (includeNumbers i) (n ∷ []) h in
-        let o = all-right Own (includeNumbers i) (n ∷ []) h .0 in
-        let b = included-over i Γ l f in
-        (include-over i Γ l f s, (smalls-over (includeNode i) (includeSignature i Γ) b, typed-over n (powerOf (bindingOf (includeSignature i Γ))) o (binding-over (includeSignature i Γ) b, tt)))
+        let l = all-left (Own N) (includeNumbers i) (n ∷ []) h in
+        let o = all-right (Own N) (includeNumbers i) (n ∷ []) h .0 in
+        let b = included-over N i Γ l f in
+        (include-over i Γ l f s, (smalls-over (includeNode i) (includeSignature i Γ) b, typed-over n (powerOf (bindingOf (includeSignature i Γ))) o (binding-over N (includeSignature i Γ) b, tt)))
     expr-over (arithmetic n p a b) Γ h f s =
-        let z = all-left Own (exprNumbers a ++ exprNumbers b) (n ∷ []) h in
-        let l = all-left Own (exprNumbers a) (exprNumbers b) z in
-        let r = all-right Own (exprNumbers a) (exprNumbers b) z in
-        let o = all-right Own (exprNumbers a ++ exprNumbers b) (n ∷ []) h .0 in
+        let z = all-left (Own N) (exprNumbers a ++ exprNumbers b) (n ∷ []) h in
+        let l = all-left (Own N) (exprNumbers a) (exprNumbers b) z in
+        let r = all-right (Own N) (exprNumbers a) (exprNumbers b) z in
+        let o = all-right (Own N) (exprNumbers a ++ exprNumbers b) (n ∷ []) h .0 in
         (expr-over a Γ l (f .0) s, (expr-over b Γ r (f .1) s, ((root-own a l 0 (omega arith), tt), ((root-own b r 0 (omega arith), tt), typed-over n integer o tt))))
     expr-over (comprehension n t a) Γ h f s =
-        let z = all-left Own (textNumbers t ++ exprNumbers a) (n ∷ []) h in
-        let l = all-left Own (textNumbers t) (exprNumbers a) z in
-        let r = all-right Own (textNumbers t) (exprNumbers a) z in
-        let o = all-right Own (textNumbers t ++ exprNumbers a) (n ∷ []) h .0 in
-        (text-over t Γ blank l (f .0) s, (expr-over a (inside t Γ) r (f .1) (inside-over t Γ l (f .0) s), typed-over n (powerOf (typeOf a)) o (root-own a r 0 (omega arith), tt)))
+        let z = all-left (Own N) (textNumbers t ++ exprNumbers a) (n ∷ []) h in
+        let l = all-left (Own N) (textNumbers t) (exprNumbers a) z in
+        let r = all-right (Own N) (textNumbers t) (exprNumbers a) z in
+        let o = all-right (Own N) (textNumbers t ++ exprNumbers a) (n ∷ []) h .0 in
+        (text-over t Γ blank l (f .0) s, (expr-over a (inside t Γ) r (f .1) (inside-over N t Γ l (f .0) s), typed-over n (powerOf (typeOf a)) o (root-own a r 0 (omega arith), tt)))
 
-    pub exprs-over : (xs : Exprs) (Γ : Scope) → AllIn Own (exprsNumbers xs) → SizedExprs xs → ScopeOver Γ → Over N (exprsItems xs Γ)
+    pub exprs-over : (xs : Exprs) (Γ : Scope) → AllIn (Own N) (exprsNumbers xs) → SizedExprs xs → ScopeOver N Γ → Over N (exprsItems xs Γ)
     exprs-over none Γ h f s = tt
     exprs-over (more a xs) Γ h f s =
-        (expr-over a Γ (all-left Own (exprNumbers a) (exprsNumbers xs) h) (f .0) s, exprs-over xs Γ (all-right Own (exprNumbers a) (exprsNumbers xs) h) (f .1) s)
+        (expr-over a Γ (all-left (Own N) (exprNumbers a) (exprsNumbers xs) h) (f .0) s, exprs-over xs Γ (all-right (Own N) (exprNumbers a) (exprsNumbers xs) h) (f .1) s)
 
-    pub pred-over : (p : Pred) (Γ : Scope) → AllIn Own (predNumbers p) → SizedPred p → ScopeOver Γ → Over N (predItems p Γ)
+    pub pred-over : (p : Pred) (Γ : Scope) → AllIn (Own N) (predNumbers p) → SizedPred p → ScopeOver N Γ → Over N (predItems p Γ)
     pred-over (truth n) Γ h f s = tt
     pred-over (equal n a b) Γ h f s =
-        let z = all-left Own (exprNumbers a ++ exprNumbers b) (n ∷ []) h in
-        let l = all-left Own (exprNumbers a) (exprNumbers b) z in
-        let r = all-right Own (exprNumbers a) (exprNumbers b) z in
+        let z = all-left (Own N) (exprNumbers a ++ exprNumbers b) (n ∷ []) h in
+        let l = all-left (Own N) (exprNumbers a) (exprNumbers b) z in
+        let r = all-right (Own N) (exprNumbers a) (exprNumbers b) z in
         (expr-over a Γ l (f .0) s, (expr-over b Γ r (f .1) s, (root-own a l 0 (omega arith), root-own b r 0 (omega arith))))
     pred-over (member n a b) Γ h f s =
-        let z = all-left Own (exprNumbers a ++ exprNumbers b) (n ∷ []) h in
-        let l = all-left Own (exprNumbers a) (exprNumbers b) z in
-        let r = all-right Own (exprNumbers a) (exprNumbers b) z in
+        let z = all-left (Own N) (exprNumbers a ++ exprNumbers b) (n ∷ []) h in
+        let l = all-left (Own N) (exprNumbers a) (exprNumbers b) z in
+        let r = all-right (Own N) (exprNumbers a) (exprNumbers b) z in
         (expr-over a Γ l (f .0) s, (expr-over b Γ r (f .1) s, ((root-own a l 0 (omega arith), tt), root-own b r 0 (omega arith))))
     pred-over (atMost n a b) Γ h f s =
-        let z = all-left Own (exprNumbers a ++ exprNumbers b) (n ∷ []) h in
-        let l = all-left Own (exprNumbers a) (exprNumbers b) z in
-        let r = all-right Own (exprNumbers a) (exprNumbers b) z in
+        let z = all-left (Own N) (exprNumbers a ++ exprNumbers b) (n ∷ []) h in
+        let l = all-left (Own N) (exprNumbers a) (exprNumbers b) z in
+        let r = all-right (Own N) (exprNumbers a) (exprNumbers b) z in
         (expr-over a Γ l (f .0) s, (expr-over b Γ r (f .1) s, ((root-own a l 0 (omega arith), tt), (root-own b r 0 (omega arith), tt))))
-    pred-over (not n p) Γ h f s = pred-over p Γ (all-left Own (predNumbers p) (n ∷ []) h) f s
+    pred-over (not n p) Γ h f s = pred-over p Γ (all-left (Own N) (predNumbers p) (n ∷ []) h) f s
     pred-over (connected n o p q) Γ h f s =
-        let z = all-left Own (predNumbers p ++ predNumbers q) (n ∷ []) h in
-        (pred-over p Γ (all-left Own (predNumbers p) (predNumbers q) z) (f .0) s, pred-over q Γ (all-right Own (predNumbers p) (predNumbers q) z) (f .1) s)
+        let z = all-left (Own N) (predNumbers p ++ predNumbers q) (n ∷ []) h in
+        (pred-over p Γ (all-left (Own N) (predNumbers p) (predNumbers q) z) (f .0) s, pred-over q Γ (all-right (Own N) (predNumbers p) (predNumbers q) z) (f .1) s)
     pred-over (quantified n o t p) Γ h f s =
-        let z = all-left Own (textNumbers t ++ predNumbers p) (n ∷ []) h in
-        let l = all-left Own (textNumbers t) (predNumbers p) z in
-        (text-over t Γ blank l (f .0) s, pred-over p (inside t Γ) (all-right Own (textNumbers t) (predNumbers p) z) (f .1) (inside-over t Γ l (f .0) s))
+        let z = all-left (Own N) (textNumbers t ++ predNumbers p) (n ∷ []) h in
+        let l = all-left (Own N) (textNumbers t) (predNumbers p) z in
+        (text-over t Γ blank l (f .0) s, pred-over p (inside t Γ) (all-right (Own N) (textNumbers t) (predNumbers p) z) (f .1) (inside-over N t Γ l (f .0) s))
 
-    pub text-over : (t : Text) (Γ : Scope) (G : Dictionary) → AllIn Own (textNumbers t) → SizedText t → ScopeOver Γ → Over N (textItems t Γ G)
+    pub text-over : (t : Text) (Γ : Scope) (G : Dictionary) → AllIn (Own N) (textNumbers t) → SizedText t → ScopeOver N Γ → Over N (textItems t Γ G)
     text-over (text n p ls) Γ G h f s =
-        let z = all-left Own (predNumbers p ++ linesNumbers ls) (n ∷ []) h in
-        let l = all-right Own (predNumbers p) (linesNumbers ls) z in
-        (lines-over ls Γ G noNames l (f .1) s none-over, pred-over p (inside (text n p ls) Γ) (all-left Own (predNumbers p) (linesNumbers ls) z) (f .0) (lines-inside n p ls Γ l (f .1) s))
+        let z = all-left (Own N) (predNumbers p ++ linesNumbers ls) (n ∷ []) h in
+        let l = all-right (Own N) (predNumbers p) (linesNumbers ls) z in
+        (lines-over ls Γ G noNames l (f .1) s (none-having (Each N)), pred-over p (inside (text n p ls) Γ) (all-left (Own N) (predNumbers p) (linesNumbers ls) z) (f .0) (lines-inside N n p ls Γ l (f .1) s))
 
-    pub lines-over : (ls : Lines) (Γ : Scope) (G : Dictionary) (r : Signature) → AllIn Own (linesNumbers ls) → SizedLines ls → ScopeOver Γ → SigOver r → Over N (linesItems ls Γ G r)
+    pub lines-over : (ls : Lines) (Γ : Scope) (G : Dictionary) (r : Signature) → AllIn (Own N) (linesNumbers ls) → SizedLines ls → ScopeOver N Γ → SigOver N r → Over N (linesItems ls Γ G r)
     lines-over end Γ G r h f s k = tt
     lines-over (declaration n a is ls) Γ G r h f s k =
-        let z = all-left Own (exprNumbers a ++ (n ∷ [])) (linesNumbers ls) h in
-        let l = all-left Own (exprNumbers a) (n ∷ []) z in
-        let o = all-right Own (exprNumbers a) (n ∷ []) z .0 in
+        let z = all-left (Own N) (exprNumbers a ++ (n ∷ [])) (linesNumbers ls) h in
+        let l = all-left (Own N) (exprNumbers a) (n ∷ []) z in
+        let o = all-right (Own N) (exprNumbers a) (n ∷ []) z .0 in
         let t = o 0 (omega arith) in (
           (expr-over a Γ l (f .0) s, (t, (root-own a l 0 (omega arith), (t, tt)))),
           (
             (declared-over n is (unknownAt n 0) r t k, newNames-over n is G),
-            ((t, few-over n (declare is (unknownAt n 0) r)), lines-over ls Γ G (declare is (unknownAt n 0) r) (all-right Own (exprNumbers a ++ (n ∷ [])) (linesNumbers ls) h) (f .1) s (declare-over is (unknownAt n 0) r t k)),
+            ((t, few-over n (declare is (unknownAt n 0) r)), lines-over ls Γ G (declare is (unknownAt n 0) r) (all-right (Own N) (exprNumbers a ++ (n ∷ [])) (linesNumbers ls) h) (f .1) s (declare-having (Each N) is (unknownAt n 0) r t k)),
           ),
         )
     lines-over (inclusion i ls) Γ G r h f s k =
-        let l = all-left Own (includeNumbers i) (linesNumbers ls) h in
-        let b = included-over i Γ l (f .0) in (
+        let l = all-left (Own N) (includeNumbers i) (linesNumbers ls) h in
+        let b = included-over N i Γ l (f .0) in (
           include-over i Γ l (f .0) s,
           (
             (names-over (includeNode i) (includeSignature i Γ) r b k, newNames-over (includeNode i) (namesOf (includeSignature i Γ)) G),
             (
               (smalls-over (includeNode i) (includeSignature i Γ) b, few-over (includeNode i) (merge (includeSignature i Γ) r)),
-              lines-over ls Γ G (merge (includeSignature i Γ) r) (all-right Own (includeNumbers i) (linesNumbers ls) h) (f .1) s (merge-over (includeSignature i Γ) r b k),
+              lines-over ls Γ G (merge (includeSignature i Γ) r) (all-right (Own N) (includeNumbers i) (linesNumbers ls) h) (f .1) s (merge-having (Each N) (includeSignature i Γ) r b k),
             ),
           ),
         )
 
-    pub include-over : (i : Include) (Γ : Scope) → AllIn Own (includeNumbers i) → SizedInclude i → ScopeOver Γ → Over N (includeItems i Γ)
+    pub include-over : (i : Include) (Γ : Scope) → AllIn (Own N) (includeNumbers i) → SizedInclude i → ScopeOver N Γ → Over N (includeItems i Γ)
     include-over (include n s k xs rs) Γ h f q =
         rule-over (schemaNamed s Γ) (include n s k xs rs) (actualItems xs n 1 Γ)
-        (actuals-over xs n 1 Γ (all-right Own (exprsNumbers xs) (n ∷ []) h .0) (all-left Own (exprsNumbers xs) (n ∷ []) h) (omega (arith, f .0)) (f .1) q)
+        (actuals-over xs n 1 Γ (all-right (Own N) (exprsNumbers xs) (n ∷ []) h .0) (all-left (Own N) (exprsNumbers xs) (n ∷ []) h) (omega (arith, f .0)) (f .1) q)
 
-    pub actuals-over : (xs : Exprs) (n k : ℕ) (Γ : Scope) → Own n → AllIn Own (exprsNumbers xs) → k + exprsLength xs ≤ 7 → SizedExprs xs → ScopeOver Γ → Over N (actualItems xs n k Γ)
+    pub actuals-over : (xs : Exprs) (n k : ℕ) (Γ : Scope) → Own N n → AllIn (Own N) (exprsNumbers xs) → k + exprsLength xs ≤ 7 → SizedExprs xs → ScopeOver N Γ → Over N (actualItems xs n k Γ)
     actuals-over none n k Γ o h l f s = tt
     actuals-over (more a xs) n k Γ o h l f s =
         let m = longer k a xs l in
-        let e = all-left Own (exprNumbers a) (exprsNumbers xs) h in
-        ((expr-over a Γ e (f .0) s, (o k (m .0), (root-own a e 0 (omega arith), (o k (m .0), tt)))), actuals-over xs n (suc k) Γ o (all-right Own (exprNumbers a) (exprsNumbers xs) h) (m .1) (f .1) s)
+        let e = all-left (Own N) (exprNumbers a) (exprsNumbers xs) h in
+        ((expr-over a Γ e (f .0) s, (o k (m .0), (root-own a e 0 (omega arith), (o k (m .0), tt)))), actuals-over xs n (suc k) Γ o (all-right (Own N) (exprNumbers a) (exprsNumbers xs) h) (m .1) (f .1) s)
 
-  pub schema-over : (x : Schema) (Γ : Scope) → AllIn Own (schemaNumbers x) → SizedSchema x → ScopeOver Γ → Over N (schemaItems x Γ)
+  pub schema-over : (x : Schema) (Γ : Scope) → AllIn (Own N) (schemaNumbers x) → SizedSchema x → ScopeOver N Γ → Over N (schemaItems x Γ)
   unfolding schemaItems schemaNumbers SizedSchema Over
   schema-over (plain t) Γ h f s = text-over t Γ blank h f s
-  schema-over (from i) Γ h f s = (include-over i Γ h f s, smalls-over (includeNode i) (includeSignature i Γ) (included-over i Γ h f))
+  schema-over (from i) Γ h f s = (include-over i Γ h f s, smalls-over (includeNode i) (includeSignature i Γ) (included-over N i Γ h f))
   schema-over (both n a b) Γ h f s =
-      let z = all-left Own (schemaNumbers a ++ schemaNumbers b) (n ∷ []) h in
-      let l = all-left Own (schemaNumbers a) (schemaNumbers b) z in
-      let r = all-right Own (schemaNumbers a) (schemaNumbers b) z in (
+      let z = all-left (Own N) (schemaNumbers a ++ schemaNumbers b) (n ∷ []) h in
+      let l = all-left (Own N) (schemaNumbers a) (schemaNumbers b) z in
+      let r = all-right (Own N) (schemaNumbers a) (schemaNumbers b) z in (
         schema-over a Γ l (f .0) s,
         (
           schema-over b Γ r (f .1) s,
-          (names-over n (schemaSignature b Γ) (schemaSignature a Γ) (schema-sig-over b Γ r (f .1)) (schema-sig-over a Γ l (f .0)), few-over n (merge (schemaSignature b Γ) (schemaSignature a Γ))),
+          (names-over n (schemaSignature b Γ) (schemaSignature a Γ) (schema-sig-over N b Γ r (f .1)) (schema-sig-over N a Γ l (f .0)), few-over n (merge (schemaSignature b Γ) (schemaSignature a Γ))),
         ),
       )
