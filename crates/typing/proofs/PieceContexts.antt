@@ -1,6 +1,6 @@
 -- Pieces in their context: what comes before a piece, and its scope, have none of its own unknowns, since its nodes are new there.
 use mathlib.Core.Path.{_≡_, refl, sym, ap, _∙_}
-use mathlib.Core.Bool.{true}
+use mathlib.Core.Bool.{Bool, true, false, cond}
 use mathlib.Core.List.{List, [], _∷_, _++_}
 use mathlib.Core.Logic.{_⊎_, inl, inr}
 use Prim.Native.Nat.{ℕ, suc, _+_, _≤_}
@@ -27,12 +27,12 @@ use Rattle.typing.proofs.Slots.{slots-apart}
 use Rattle.typing.proofs.ItemUnknowns.{Over, met-too}
 use Rattle.syntax.proofs.Sized.{SizedExpr}
 use Rattle.typing.proofs.ScopeUnknowns.{AllIn, all-left, all-right, Own, ScopeOver, SigOver}
-use Rattle.typing.proofs.RuleUnknowns.{type-over, expr-over}
+use Rattle.typing.proofs.RuleUnknowns.{refuseIf-over, type-over, expr-over}
 use Rattle.typing.proofs.NewUnknowns.{EachOnce, once-left, once-right, has-left, has-right, Apart, apart}
 use Rattle.typing.proofs.TypingLaws.{first-has, rest-has}
 use Rattle.typing.proofs.PieceOwners.{ownNumbers, innerNumbers, parted, SlotIn, in-left, in-right, Every, expr-owns, power-owns}
-use Rattle.typing.proofs.PieceEquations.{Off, Separate}
-use Rattle.typing.proofs.SeparateItems.{refuseIf-separate, cond-separate}
+use Rattle.typing.proofs.PieceEquations.{Off, Separate, bare-separate}
+use Rattle.typing.proofs.ItemForms.{refuseIf-bare}
 
 -- ---- what has come before: the tables P rest on the unknowns C, which are in scope and none of the nodes to come, l; none of them is the surrounding piece's
 abbrev New : List ℕ → (ℕ → Type 0) → Type 0
@@ -256,6 +256,8 @@ all-map N M f (m ∷ l) h = (λ k u. f (slot m k) (h .0 k u), all-map N M f l (h
 pub rule-separate : (f : Found) (i : Include) (actuals w : Items) (P : Table → Type 0) → Separate actuals w P → Separate (includeRule f i actuals) w P
 unfolding includeRule Separate
 rule-separate noSchema (include n s k xs rs) actuals w P h = tt
-rule-separate (aSchema p g) (include n s k xs rs) actuals w P h =
-    cond-separate w (eqb (exprsLength xs) p) (actuals ⨾ refuseIf (wrongNames k rs (componentsOf (instance nil g))) 37 n) (refusal 32 n) P
-    (h, refuseIf-separate w (wrongNames k rs (componentsOf (instance nil g))) 37 n _) tt
+rule-separate (aSchema p g) (include n s k xs rs) actuals w P h = go (eqb (exprsLength xs) p)
+  where
+    go : (b : Bool) → Separate (cond b (actuals ⨾ refuseIf (wrongNames k rs (componentsOf (instance nil g))) 37 n) (refusal 32 n)) w P
+    go true = (h, bare-separate _ w (And P actuals) (refuseIf-bare (wrongNames k rs (componentsOf (instance nil g))) 37 n) (refuseIf-over (Off w) (wrongNames k rs (componentsOf (instance nil g))) 37 n))
+    go false = tt

@@ -10,6 +10,7 @@ use Rattle.typing.specs.Unknowns.{Table}
 use Rattle.typing.specs.Items.{Items, skip, _⨾_, fresh, equate, select, small, refusal, piece, Known, Meets, Any, And, Refuses}
 use Rattle.typing.specs.Pieces.{Owns}
 use Rattle.typing.specs.PieceEquations.{Solves, Beside, OwnSolution, ByOwnEquations}
+use Rattle.typing.proofs.ItemForms.{Bare, OfNode}
 use Rattle.typing.proofs.ItemUnknowns.{Over, same-under, met-too}
 
 -- x is none of the own unknowns of the piece
@@ -97,3 +98,26 @@ by-own (piece n t) w P E s a =
         λ r. (r .0, r .1, c .all (r .0) (r .2), c .all (r .1) (r .3), r .4),
       ),
     )
+
+-- ---- bare items over other unknowns, and the items of an expression's own node
+pub bare-separate : (t w : Items) (P : Table → Type 0) → Bare t → Over (Off w) t → Separate t w P
+unfolding Bare Over Separate
+bare-separate skip w P f o = tt
+bare-separate (a ⨾ b) w P f o = (bare-separate a w P (f .0) (o .0), bare-separate b w (And P a) (f .1) (o .1))
+bare-separate (fresh x) w P f o = tt
+bare-separate (equate g n a b) w P f o = inr o
+bare-separate (select n i a x) w P f o = tt
+bare-separate (small n a) w P f o = o
+bare-separate (refusal g n) w P f o = tt
+bare-separate (piece n t) w P f o = absurd f
+
+pub node-separate : (t w : Items) (P : Table → Type 0) → OfNode t → Separate t w P
+unfolding OfNode Separate
+node-separate skip w P f = tt
+node-separate (a ⨾ b) w P f = (node-separate a w P (f .0), node-separate b w (And P a) (f .1))
+node-separate (fresh x) w P f = tt
+node-separate (equate g n a b) w P f = inl f
+node-separate (select n i a x) w P f = tt
+node-separate (small n a) w P f = absurd f
+node-separate (refusal g n) w P f = tt
+node-separate (piece n t) w P f = absurd f

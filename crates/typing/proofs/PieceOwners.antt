@@ -3,7 +3,7 @@
 use mathlib.Core.Path.{_≡_, refl, sym}
 use mathlib.Core.Bool.{Bool, true, false, cond}
 use mathlib.Core.List.{List, [], _∷_, _++_}
-use mathlib.Core.Logic.{_⊎_, inl, inr}
+use mathlib.Core.Logic.{inl, inr}
 use Prim.Native.Nat.{ℕ, zero, suc, _+_, _≤_}
 use native.Mathlib.Omega.{arith}
 use lib.Dec.{ltb, eqb}
@@ -15,15 +15,15 @@ use Rattle.syntax.specs.Tree.{comprehension, Exprs, none, more, exprsLength}
 use Rattle.syntax.specs.TreeNumbers.{exprNumbers, exprsNumbers, textNumbers, includeNumbers}
 use Rattle.types.specs.Types.{Term, nil, ℤ, ℙℤ}
 use Rattle.types.specs.Instance.{instance}
-use Rattle.typing.specs.Strokes.{decorate, takes}
 use Rattle.typing.specs.Unknowns.{Table, slot, unknownAt, row, integer, powerOf, productOf}
 use Rattle.typing.specs.Items.{Items, _⨾_, refusal, Agree}
 use Rattle.typing.specs.Dictionary.{blank, Named, unnamed, ofLocal, ofGlobal, Found, noSchema, aSchema}
-use Rattle.typing.specs.Signatures.{Signature, noNames, naming, bindingOf, componentsOf, someStroked}
+use Rattle.typing.specs.Signatures.{bindingOf, componentsOf, someStroked}
 use Rattle.typing.specs.Scopes.{Scope, nameAt, schemaNamed, includeSignature, includeNode, inside}
-use Rattle.typing.specs.Conditions.{refuseIf, smallTypes, typeOf, typesOf, typed, isPower, arePowers, areMembers, freshRow}
-use Rattle.typing.specs.Rules.{referenceItems, thetaName, thetaNames, thetaSignature, thetaItems, exprItems, exprsItems, textItems, includeItems}
+use Rattle.typing.specs.Conditions.{typeOf, typesOf, typed, isPower, arePowers, freshRow}
+use Rattle.typing.specs.Rules.{referenceItems, thetaSignature, thetaItems, exprItems, exprsItems, textItems, includeItems}
 use Rattle.typing.specs.Pieces.{Owns}
+use Rattle.typing.proofs.ItemForms.{Bare, bare-agrees, refuseIf-bare, members-bare, smalls-bare, thetaNames-bare}
 use Rattle.typing.proofs.OwnUnknowns.{include-agrees, text-agrees}
 use Rattle.typing.proofs.PieceTypes.{owned}
 use Rattle.syntax.proofs.Sized.{SizedExpr, SizedExprs}
@@ -135,6 +135,9 @@ in-last a n x o = in-right a (n ∷ []) x (in-one n x o)
 pub owns-none : (t : Items) → ((σ τ : Table) → Agree t σ τ) → (x : ℕ) → Owns t x → ⊥
 owns-none t h x q = let e = owned t (λ y. ℤ) (λ y. ℙℤ) (h (λ y. ℤ) (λ y. ℙℤ)) x q in let z : _≡_ {A = ℕ} 0 1 = cc in omega arith
 
+bare-owns : (t : Items) → Bare t → (x : ℕ) → Owns t x → ⊥
+bare-owns t b = owns-none t (λ σ τ. bare-agrees σ τ t b)
+
 -- every unknown
 abbrev pub Every : ℕ → Type 0
 Every y = Unit {0}
@@ -166,12 +169,6 @@ module _ (x : ℕ) where
   powers-own n (more a xs) k l (inl q) = (k, omega (arith, l), power-owns n k a q)
   powers-own n (more a xs) k l (inr q) = powers-own n xs (suc k) (omega (arith, l)) q
 
-  members-own : (n : ℕ) (xs : Exprs) → Owns (areMembers n xs) x → ⊥
-  unfolding areMembers Owns
-  members-own n none q = q
-  members-own n (more a xs) (inl q) = q
-  members-own n (more a xs) (inr q) = members-own n xs q
-
   reference-owns : (n : ℕ) (xs : Exprs) (m : Named) → NamedOver Every m → Owns (referenceItems n xs m) x → OwnSlot n x
   unfolding referenceItems Owns NamedOver
   reference-owns n none unnamed h q = absurd q
@@ -187,38 +184,13 @@ module _ (x : ℕ) where
       go true e (inr z) = typed-owns n (instance (row n 1 p) g) z
       go false e z = absurd z
 
-  refuseIf-owns : (b : Bool) (f n : ℕ) → Owns (refuseIf b f n) x → ⊥
-  unfolding refuseIf Owns
-  refuseIf-owns true f n q = q
-  refuseIf-owns false f n q = q
-
-  thetaName-owns : (b : Bool) (n : ℕ) (m : Named) → Owns (thetaName b n m) x → ⊥
-  unfolding thetaName Owns
-  thetaName-owns false n m q = q
-  thetaName-owns true n unnamed q = q
-  thetaName-owns true n (ofLocal t) q = q
-  thetaName-owns true n (ofGlobal zero g) q = q
-  thetaName-owns true n (ofGlobal (suc p) g) q = q
-
-  thetaNames-own : (n k : ℕ) (s : Signature) (Γ : Scope) → Owns (thetaNames n k s Γ) x → ⊥
-  unfolding thetaNames Owns
-  thetaNames-own n k noNames Γ q = q
-  thetaNames-own n k (naming i t s) Γ (inl q) = thetaName-owns (takes k i) n (nameAt (decorate k i) Γ) q
-  thetaNames-own n k (naming i t s) Γ (inr q) = thetaNames-own n k s Γ q
-
   theta-owns : (n k : ℕ) (f : Found) (Γ : Scope) → Owns (thetaItems n k f Γ) x → OwnSlot n x
   unfolding thetaItems Owns
   theta-owns n k noSchema Γ q = absurd q
-  theta-owns n k (aSchema p g) Γ (inl q) = absurd (thetaNames-own n k (componentsOf (instance nil g)) Γ q)
-  theta-owns n k (aSchema p g) Γ (inr (inl q)) = absurd (refuseIf-owns (ltb 0 p) 32 n q)
-  theta-owns n k (aSchema p g) Γ (inr (inr (inl q))) = absurd (refuseIf-owns (someStroked k (componentsOf (instance nil g))) 37 n q)
+  theta-owns n k (aSchema p g) Γ (inl q) = absurd (bare-owns _ (thetaNames-bare n k (componentsOf (instance nil g)) Γ) x q)
+  theta-owns n k (aSchema p g) Γ (inr (inl q)) = absurd (bare-owns _ (refuseIf-bare (ltb 0 p) 32 n) x q)
+  theta-owns n k (aSchema p g) Γ (inr (inr (inl q))) = absurd (bare-owns _ (refuseIf-bare (someStroked k (componentsOf (instance nil g))) 37 n) x q)
   theta-owns n k (aSchema p g) Γ (inr (inr (inr q))) = typed-owns n (bindingOf (thetaSignature k (componentsOf (instance nil g)) Γ)) q
-
-  smalls-own : (n : ℕ) (s : Signature) → Owns (smallTypes n s) x → ⊥
-  unfolding smallTypes Owns
-  smalls-own n noNames q = q
-  smalls-own n (naming i t s) (inl q) = q
-  smalls-own n (naming i t s) (inr q) = smalls-own n s q
 
   -- an expression's own unknowns are of its own nodes
   mutual
@@ -231,7 +203,7 @@ module _ (x : ℕ) where
     expr-owns (integers n) Γ f s q = in-one n x (typed-owns n (powerOf integer) q)
     expr-owns (set n xs) Γ f s (inl q) = in-left (ownsNumbers xs) (n ∷ []) x (exprs-own xs Γ f s q)
     expr-owns (set n xs) Γ f s (inr (inl e)) = in-last (ownsNumbers xs) n x (1, omega arith, sym e)
-    expr-owns (set n xs) Γ f s (inr (inr (inl q))) = absurd (members-own n xs q)
+    expr-owns (set n xs) Γ f s (inr (inr (inl q))) = absurd (bare-owns _ (members-bare n xs) x q)
     expr-owns (set n xs) Γ f s (inr (inr (inr q))) = in-last (ownsNumbers xs) n x (typed-owns n (powerOf (unknownAt n 1)) q)
     expr-owns (tuple n xs) Γ f s (inl q) = in-left (ownsNumbers xs) (n ∷ []) x (exprs-own xs Γ (f .1) s q)
     expr-owns (tuple n xs) Γ f s (inr q) = in-last (ownsNumbers xs) n x (typed-owns n (productOf (typesOf xs)) q)
@@ -250,7 +222,7 @@ module _ (x : ℕ) where
     expr-owns (selection n a i) Γ f s (inr (inr q)) = absurd q
     expr-owns (theta n c k) Γ f s q = in-one n x (theta-owns n k (schemaNamed c Γ) Γ q)
     expr-owns (schemaSet n i) Γ f s (inl q) = absurd (owns-none (includeItems i Γ) (λ σ τ. include-agrees i Γ σ τ) x q)
-    expr-owns (schemaSet n i) Γ f s (inr (inl q)) = absurd (smalls-own (includeNode i) (includeSignature i Γ) q)
+    expr-owns (schemaSet n i) Γ f s (inr (inl q)) = absurd (bare-owns _ (smalls-bare (includeNode i) (includeSignature i Γ)) x q)
     expr-owns (schemaSet n i) Γ f s (inr (inr q)) = in-one n x (typed-owns n (powerOf (bindingOf (includeSignature i Γ))) q)
     expr-owns (arithmetic n c a b) Γ f s (inl q) = in-left (ownNumbers a ++ ownNumbers b) (n ∷ []) x (in-left (ownNumbers a) (ownNumbers b) x (expr-owns a Γ (f .0) s q))
     expr-owns (arithmetic n c a b) Γ f s (inr (inl q)) = in-left (ownNumbers a ++ ownNumbers b) (n ∷ []) x (in-right (ownNumbers a) (ownNumbers b) x (expr-owns b Γ (f .1) s q))

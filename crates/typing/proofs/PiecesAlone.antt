@@ -21,8 +21,8 @@ use Rattle.typing.specs.Items.{Items, skip, _⨾_, fresh, equate, small,
 use Rattle.typing.specs.Dictionary.{Dictionary, blank}
 use Rattle.typing.specs.Signatures.{Signature, noNames, namesOf, merge, declare}
 use Rattle.typing.specs.Scopes.{Scope, globals, nameAt, schemaNamed, withParameters, includeSignature, includeNode, inside, schemaSignature}
-use Rattle.typing.specs.Conditions.{mergeDeclared, mergeNames, newNames, smallTypes, fewNames, typeOf, isPower}
-use Rattle.typing.specs.Rules.{exprItems, exprsItems, predItems, textItems}
+use Rattle.typing.specs.Conditions.{arePowers, areMembers, mergeDeclared, mergeNames, newNames, smallTypes, fewNames, typeOf, isPower}
+use Rattle.typing.specs.Rules.{referenceItems, thetaItems, exprItems, exprsItems, predItems, textItems}
 use Rattle.typing.specs.Rules.{linesItems, includeItems, actualItems, schemaItems, paragraphItems}
 use Rattle.typing.specs.Entries.{extend}
 use Rattle.typing.specs.Check.{paragraphsOf}
@@ -39,32 +39,32 @@ use Rattle.typing.proofs.NewUnknowns.{EachOnce, once-left, once-right, 
 use Rattle.typing.proofs.SelectFindings.{extend-few}
 use Rattle.typing.proofs.TypingLaws.{first-has}
 use Rattle.typing.proofs.PieceOwners.{innerNumbers, innersNumbers}
-use Rattle.typing.proofs.PieceEquations.{Off, Separate, Alone, by-own}
+use Rattle.typing.proofs.PieceEquations.{Off, Separate, Alone, by-own, bare-separate, node-separate}
 use Rattle.syntax.specs.declared.Reading.the-variants.{Readable}
-use Rattle.typing.proofs.SeparateItems.{Flat, flat-separate, declared-flat, names-flat, newNames-flat, smalls-flat, few-flat, powers-separate, members-separate, reference-separate, theta-separate}
+use Rattle.typing.proofs.ItemForms.{declared-new, names-new, small-few, smalls-few, names-few, newNames-bare, smalls-bare, powers-node, members-node, reference-node, theta-node}
 use Rattle.typing.proofs.PieceContexts.{Ready, With, own-all, sig-map, ready-left, ready-right, ready-and, ready-with, ready-after, ready-inside, pair-separate, power-piece, expr-piece, relation-piece, NewRow, WithOne, mentions, ready-one, row-after, all-map, rule-separate}
 
 -- ---- the rules
 mutual
-  unfolding exprItems exprNumbers innerNumbers SizedExpr Separate Over Owns Flat Each
+  unfolding exprItems exprNumbers innerNumbers SizedExpr Separate Over Owns Each
 
   expr-separate : (a : Expr) (Γ : Scope) (w : Items) (P : Table → Type 0) (C : ℕ → Type 0) → Ready (exprNumbers a) w P C Γ → AllIn (Own (Off w)) (innerNumbers a) → EachOnce (exprNumbers a) → SizedExpr a
       → Separate (exprItems a Γ) w P
   expr-separate (reference n i xs) Γ w P C r h o f = (
     exprs-separate xs Γ w P C (ready-left w P C Γ (exprsNumbers xs) (n ∷ []) r) h (once-left (exprsNumbers xs) (n ∷ []) o) f,
-    reference-separate w n xs (nameAt i Γ) (And P (exprsItems xs Γ)),
+    node-separate (referenceItems n xs (nameAt i Γ)) w (And P (exprsItems xs Γ)) (reference-node n xs (nameAt i Γ)),
   )
   expr-separate (number n v) Γ w P C r h o f = (tt, inl refl)
   expr-separate (integers n) Γ w P C r h o f = (tt, inl refl)
   expr-separate (set n xs) Γ w P C r h o f = (
     exprs-separate xs Γ w P C (ready-left w P C Γ (exprsNumbers xs) (n ∷ []) r) h (once-left (exprsNumbers xs) (n ∷ []) o) f,
-    (tt, (members-separate w n xs (And (And P (exprsItems xs Γ)) (fresh (slot n 1))), (tt, inl refl))),
+    (tt, (node-separate (areMembers n xs) w (And (And P (exprsItems xs Γ)) (fresh (slot n 1))) (members-node n xs), (tt, inl refl))),
   )
   expr-separate (tuple n xs) Γ w P C r h o f =
       (exprs-separate xs Γ w P C (ready-left w P C Γ (exprsNumbers xs) (n ∷ []) r) h (once-left (exprsNumbers xs) (n ∷ []) o) (f .1), (tt, inl refl))
   expr-separate (product n xs) Γ w P C r h o f = (
     exprs-separate xs Γ w P C (ready-left w P C Γ (exprsNumbers xs) (n ∷ []) r) h (once-left (exprsNumbers xs) (n ∷ []) o) (f .1),
-    (powers-separate w n xs 1 (And P (exprsItems xs Γ)), (tt, inl refl)),
+    (node-separate (arePowers n xs 1) w (And P (exprsItems xs Γ)) (powers-node n xs 1), (tt, inl refl)),
   )
   expr-separate (power n a) Γ w P C r h o f =
       (expr-separate a Γ w P C (ready-left w P C Γ (exprNumbers a) (n ∷ []) r) h (once-left (exprNumbers a) (n ∷ []) o) f, ((tt, inl refl), (tt, inl refl)))
@@ -73,10 +73,10 @@ mutual
       (t .0, (t .1, (tt, inl refl)))
   expr-separate (selection n a i) Γ w P C r h o f =
       (expr-separate a Γ w P C (ready-left w P C Γ (exprNumbers a) (n ∷ []) r) h (once-left (exprNumbers a) (n ∷ []) o) f, (tt, tt))
-  expr-separate (theta n c k) Γ w P C r h o f = theta-separate w n k (schemaNamed c Γ) Γ P
+  expr-separate (theta n c k) Γ w P C r h o f = node-separate (thetaItems n k (schemaNamed c Γ) Γ) w P (theta-node n k (schemaNamed c Γ) Γ)
   expr-separate (schemaSet n i) Γ w P C r h o f = (
     include-separate i Γ w P C (ready-left w P C Γ (includeNumbers i) (n ∷ []) r) h (once-left (includeNumbers i) (n ∷ []) o) f,
-    (flat-separate (smallTypes (includeNode i) (includeSignature i Γ)) w _ (smalls-flat (includeNode i) (includeSignature i Γ)) (smalls-over (Off w) (includeNode i) (includeSignature i Γ) (included-over (Off w) i Γ h f)), (tt, inl refl)),
+    (bare-separate (smallTypes (includeNode i) (includeSignature i Γ)) w _ (smalls-bare (includeNode i) (includeSignature i Γ)) (smalls-over (Off w) (includeNode i) (includeSignature i Γ) (included-over (Off w) i Γ h f)), (tt, inl refl)),
   )
   expr-separate (arithmetic n c a b) Γ w P C r h o f =
       let t = pair-separate a b Γ (λ w P C r h o f. expr-separate a Γ w P C r h o f) (λ w P C r h o f. expr-separate b Γ w P C r h o f) w P C (ready-left w P C Γ (exprNumbers a ++ exprNumbers b) (n ∷ []) r) h (once-left (exprNumbers a ++ exprNumbers b) (n ∷ []) o) (f .0) (f .1) in
@@ -192,9 +192,9 @@ mutual
         power-piece n 0 a w P C Γ (omega arith) (λ e. apart A (n ∷ []) b n e (first-has n [])) (y .new n 0 (has-right n A (n ∷ []) (first-has n [])) (omega arith)) (g .0) (ready-left w P C Γ A (n ∷ []) y) (once-left A (n ∷ []) b) (f .0)
             (λ w P C r h o f. expr-separate a Γ w P C r h o f),
         (
-          flat-separate m w (And P x) (declared-flat n is (unknownAt n 0) s, newNames-flat n is G) (g .1 .0),
+          bare-separate m w (And P x) (declared-new n is (unknownAt n 0) s G) (g .1 .0),
           (
-            flat-separate c w (And (And P x) m) (tt, few-flat n s′) (g .1 .1 .0),
+            bare-separate c w (And (And P x) m) (small-few n (unknownAt n 0) s′) (g .1 .1 .0),
             lines-separate ls Γ G s′ w (And (And (And P x) m) c) N (ready-and w (And (And P x) m) N Γ L c (v .1 .1 .0) (ready-and w (And P x) N Γ L m (v .1 .0) (ready-and w P N Γ L x (v .0) q)))
                 (all-right (Own (Off w)) B L h) (declare-having (Each N) is (unknownAt n 0) s (all-right (Own N) A (n ∷ []) (own-all B C) .0 0 (omega arith)) k′) (declare-having (Each (Off w)) is (unknownAt n 0) s own j) (once-right B L o) (f .1),
           ),
@@ -216,9 +216,9 @@ mutual
       let g = inclusion-over (Off w) i Γ G s l (f .0) (r .off) j in (
         include-separate i Γ w P C (ready-left w P C Γ B L r) l (once-left B L o) (f .0),
         (
-          flat-separate m w (And P x) (names-flat (includeNode i) b s, newNames-flat (includeNode i) (namesOf b) G) (g .1 .0),
+          bare-separate m w (And P x) (names-new (includeNode i) b s (namesOf b) G) (g .1 .0),
           (
-            flat-separate c w (And (And P x) m) (smalls-flat (includeNode i) b, few-flat (includeNode i) s′) (g .1 .1 .0),
+            bare-separate c w (And (And P x) m) (smalls-few (includeNode i) b s′) (g .1 .1 .0),
             lines-separate ls Γ G s′ w (And (And (And P x) m) c) N (ready-and w (And (And P x) m) N Γ L c (v .1 .1 .0) (ready-and w (And P x) N Γ L m (v .1 .0) (ready-and w P N Γ L x (v .0) q)))
                 (all-right (Own (Off w)) B L h) (merge-having (Each N) b s (included-over N i Γ (own-all B C) (f .0)) k′) (merge-having (Each (Off w)) b s (included-over (Off w) i Γ l (f .0)) j) (once-right B L o) (f .1),
           ),
@@ -253,11 +253,11 @@ mutual
 
 schema-separate : (x : Schema) (Γ : Scope) (w : Items) (P : Table → Type 0) (C : ℕ → Type 0) → Ready (schemaNumbers x) w P C Γ → AllIn (Own (Off w)) (schemaNumbers x) → EachOnce (schemaNumbers x) → SizedSchema x
     → Separate (schemaItems x Γ) w P
-unfolding schemaItems schemaNumbers SizedSchema Separate Over Flat
+unfolding schemaItems schemaNumbers SizedSchema Separate Over
 schema-separate (plain t) Γ w P C r h o f = text-separate t Γ blank w P C r h o f
 schema-separate (from i) Γ w P C r h o f = (
   include-separate i Γ w P C r h o f,
-  flat-separate (smallTypes (includeNode i) (includeSignature i Γ)) w _ (smalls-flat (includeNode i) (includeSignature i Γ)) (smalls-over (Off w) (includeNode i) (includeSignature i Γ) (included-over (Off w) i Γ h f)),
+  bare-separate (smallTypes (includeNode i) (includeSignature i Γ)) w _ (smalls-bare (includeNode i) (includeSignature i Γ)) (smalls-over (Off w) (includeNode i) (includeSignature i Γ) (included-over (Off w) i Γ h f)),
 )
 schema-separate (both n a b) Γ w P C r h o f =
     let A = schemaNumbers a in
@@ -270,8 +270,8 @@ schema-separate (both n a b) Γ w P C r h o f =
       (
         schema-separate b Γ w (And P (schemaItems a Γ)) (With A C) (ready-after w P C Γ A B (schemaItems a Γ) (apart A B u) (λ N h k. schema-over N a Γ h (f .0) k) (ready-right w P C Γ A B z)) (all-right (Own (Off w)) A B l)
             (once-right A B u) (f .1),
-        flat-separate (mergeNames n (schemaSignature b Γ) (schemaSignature a Γ) ⨾ fewNames n (merge (schemaSignature b Γ) (schemaSignature a Γ))) w (And (And P (schemaItems a Γ)) (schemaItems b Γ))
-            (names-flat n (schemaSignature b Γ) (schemaSignature a Γ), few-flat n (merge (schemaSignature b Γ) (schemaSignature a Γ))) (g .1 .1),
+        bare-separate (mergeNames n (schemaSignature b Γ) (schemaSignature a Γ) ⨾ fewNames n (merge (schemaSignature b Γ) (schemaSignature a Γ))) w (And (And P (schemaItems a Γ)) (schemaItems b Γ))
+            (names-few n (schemaSignature b Γ) (schemaSignature a Γ) (merge (schemaSignature b Γ) (schemaSignature a Γ))) (g .1 .1),
       ),
     )
 
@@ -295,7 +295,7 @@ module _ (D : Dictionary) (d : FewRecorded D) where
   }
 
   names-separate : (n : ℕ) (is : List ℕ) (P : Table → Type 0) → Separate (newNames n is D) skip P
-  names-separate n is P = flat-separate (newNames n is D) skip P (newNames-flat n is D) (newNames-over (Off skip) n is D)
+  names-separate n is P = bare-separate (newNames n is D) skip P (newNames-bare n is D) (newNames-over (Off skip) n is D)
 
   paragraph-separate : (p : Paragraph) → EachOnce (paragraphNumbers p) → SizedParagraph p → Separate (paragraphItems p D) skip Any
   unfolding paragraphItems paragraphNumbers SizedParagraph Separate withParameters Owns Each

@@ -34,7 +34,7 @@ use Rattle.typing.proofs.ScopeUnknowns.{instance-over}
 
 module _ (N : ℕ → Type 0) where
   -- ---- items that rules share
-  refuseIf-over : (b : Bool) (f n : ℕ) → Over N (refuseIf b f n)
+  pub refuseIf-over : (b : Bool) (f n : ℕ) → Over N (refuseIf b f n)
   unfolding refuseIf Over
   refuseIf-over true f n = tt
   refuseIf-over false f n = tt

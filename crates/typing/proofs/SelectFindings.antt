@@ -1,29 +1,25 @@
 -- 33 NEVER COMES AT A SELECT OF A READABLE DOCUMENT: its unknown is new there, so that it can take the component's type.
+use mathlib.Core.Bool.{Bool, true, false, cond}
+use lib.Dec.{eqb}
+use Rattle.types.specs.Types.{nil, under, Each, ℤ}
+use Rattle.types.specs.Instance.{instance}
+use Rattle.typing.specs.Items.{Items, refusal, _⨾_, fresh, small, piece, Any, And, Passes}
+use Rattle.typing.specs.Dictionary.{Found, noSchema, aSchema, nameEntry, Dictionary, blank, _▸_}
+use Rattle.typing.specs.Signatures.{componentsOf, wrongNames, Signature, noNames, naming, namesOf, merge, declare}
+use Rattle.typing.specs.Conditions.{refuseIf, mergeDeclared, mergeNames, newNames, smallTypes, fewNames, typeOf, isPower, arePowers, areMembers}
+use Rattle.typing.specs.Rules.{includeRule, referenceItems, thetaItems, exprItems, exprsItems, predItems, textItems, linesItems, includeItems, actualItems, schemaItems, paragraphItems}
+use Rattle.syntax.specs.Tree.{exprsLength, Expr, reference, number, integers, set, tuple, product, power, application, selection, theta, schemaSet, arithmetic, comprehension, Exprs, none, more, Pred, truth, equal, member, atMost, not, connected, quantified, Text, text, Lines, end, declaration, inclusion, Include, include, Schema, plain, from, both, Paragraph, given, axiomatic, schema, abbreviation, constraint}
 use mathlib.Core.Path.{_≡_}
-use mathlib.Core.Bool.{true}
 use mathlib.Core.List.{List, [], _∷_, _++_}
 use Prim.Native.Nat.{ℕ, suc, _+_, _≤_}
 use native.Mathlib.Omega.{arith}
 use Rattle.words.specs.Loops.{has}
 use Rattle.syntax.specs.Reading.{readOf}
 use Rattle.syntax.specs.Decode.{treeOf}
-use Rattle.syntax.specs.Tree.{Expr, reference, number, integers, set, tuple, product, power, application, selection, theta, schemaSet, arithmetic}
-use Rattle.syntax.specs.Tree.{comprehension, Exprs, none, more, Pred, truth, equal, member, atMost, not, connected, quantified, Text, text, Lines}
-use Rattle.syntax.specs.Tree.{end, declaration, inclusion, Include, include, Schema, plain, from, both, Paragraph, given, axiomatic, schema}
-use Rattle.syntax.specs.Tree.{abbreviation, constraint, exprsLength}
-use Rattle.syntax.specs.TreeNumbers.{exprNumbers, exprsNumbers, predNumbers, textNumbers, linesNumbers, includeNumbers, schemaNumbers, paragraphNumbers}
-use Rattle.syntax.specs.TreeNumbers.{paragraphsNumbers}
+use Rattle.syntax.specs.TreeNumbers.{exprNumbers, exprsNumbers, predNumbers, textNumbers, linesNumbers, includeNumbers, schemaNumbers, paragraphNumbers, paragraphsNumbers}
 use Rattle.syntax.specs.Limited.{FewParameters}
-use Rattle.types.specs.Types.{under, Each, ℤ}
 use Rattle.typing.specs.Unknowns.{Table, slot, unknownAt, givenSet}
-use Rattle.typing.specs.Items.{_⨾_, fresh, small, piece, Any, And, Passes}
-use Rattle.typing.specs.Dictionary.{nameEntry, Dictionary, blank, _▸_}
-use Rattle.typing.specs.Signatures.{Signature, noNames, naming, namesOf, merge, declare}
 use Rattle.typing.specs.Scopes.{Scope, globals, nameAt, schemaNamed, withParameters, includeSignature, includeNode, inside, textSignature, schemaSignature}
-use Rattle.typing.specs.Conditions.{mergeDeclared, mergeNames, newNames, smallTypes, fewNames, typeOf, isPower}
-use Rattle.typing.specs.Conditions.{arePowers, areMembers}
-use Rattle.typing.specs.Rules.{referenceItems, thetaItems, exprItems, exprsItems, predItems, textItems}
-use Rattle.typing.specs.Rules.{linesItems, includeItems, actualItems, schemaItems, paragraphItems}
 use Rattle.typing.specs.Entries.{addGivens, addSignature, extend}
 use Rattle.typing.specs.Check.{paragraphsOf}
 use Rattle.typing.specs.Findings.{NoSelect33, NeverAtSelect}
@@ -35,11 +31,18 @@ use Rattle.typing.proofs.ScopeUnknowns.{FewRecorded, longer, ScopeOver,
 use Rattle.typing.proofs.RuleUnknowns.{type-over, expr-over, pred-over, text-over, lines-over, schema-over}
 use Rattle.typing.proofs.TypingLaws.{first-has}
 use Rattle.syntax.specs.declared.Reading.the-variants.{Readable}
-use Rattle.typing.proofs.PlainItems.{no-select, newNames-plain, smalls-plain, powers-plain, members-plain, reference-plain, theta-plain}
-use Rattle.typing.proofs.PlainItems.{rule-selects, declared-new, names-new, small-few, smalls-few, names-few}
-use Rattle.typing.proofs.NewUnknowns.{Not, select-open, EachOnce, once-left, once-right, has-right, apart, turned, own-not, New, new-left}
-use Rattle.typing.proofs.NewUnknowns.{new-right, new-after, new-inside, Some, some-after, free-fresh, some-fresh, NewSig, new-with}
-use Rattle.typing.proofs.NewUnknowns.{new-declaration, sig-declaration, new-inclusion, sig-inclusion, other-own, actual-over}
+use Rattle.typing.proofs.ItemForms.{bare-selects, node-selects, refuseIf-bare, newNames-bare, smalls-bare, declared-new, names-new, small-few, smalls-few, names-few, powers-node, members-node, reference-node, theta-node}
+use Rattle.typing.proofs.NewUnknowns.{Not, select-open, EachOnce, once-left, once-right, has-right, apart, turned, own-not, New, new-left, new-right, new-after, new-inside, Some, some-after, free-fresh, some-fresh, NewSig, new-with, new-declaration, sig-declaration, new-inclusion, sig-inclusion, other-own, actual-over}
+
+-- ---- an Include
+rule-selects : (f : Found) (i : Include) (actuals : Items) (P : Table → Type 0) → NoSelect33 actuals P → NoSelect33 (includeRule f i actuals) P
+unfolding includeRule NoSelect33
+rule-selects noSchema (include n s k xs rs) actuals P h = tt
+rule-selects (aSchema p g) (include n s k xs rs) actuals P h = go (eqb (exprsLength xs) p)
+  where
+    go : (b : Bool) → NoSelect33 (cond b (actuals ⨾ refuseIf (wrongNames k rs (componentsOf (instance nil g))) 37 n) (refusal 32 n)) P
+    go true = (h, λ p. bare-selects _ (And P actuals) (refuseIf-bare (wrongNames k rs (componentsOf (instance nil g))) 37 n))
+    go false = tt
 
 -- what is claimed of an expression in its scope
 abbrev Selects : Expr → Scope → Type 1
@@ -62,19 +65,19 @@ mutual
   expr-selects : (a : Expr) (Γ : Scope) (P : Table → Type 0) → New (exprNumbers a) P Γ → EachOnce (exprNumbers a) → SizedExpr a → Some P → NoSelect33 (exprItems a Γ) P
   expr-selects (reference n i xs) Γ P w o f s = (
     exprs-selects xs Γ P (new-left (exprsNumbers xs) (n ∷ []) P Γ w) (once-left (exprsNumbers xs) (n ∷ []) o) f s,
-    λ p. no-select (referenceItems n xs (nameAt i Γ)) (And P (exprsItems xs Γ)) (reference-plain n xs (nameAt i Γ)),
+    λ p. node-selects (referenceItems n xs (nameAt i Γ)) (And P (exprsItems xs Γ)) (reference-node n xs (nameAt i Γ)),
   )
   expr-selects (number n v) Γ P w o f s = (tt, λ p. tt)
   expr-selects (integers n) Γ P w o f s = (tt, λ p. tt)
   expr-selects (set n xs) Γ P w o f s = (
     exprs-selects xs Γ P (new-left (exprsNumbers xs) (n ∷ []) P Γ w) (once-left (exprsNumbers xs) (n ∷ []) o) f s,
-    λ p. (tt, λ q. (no-select (areMembers n xs) (And (And P (exprsItems xs Γ)) (fresh (slot n 1))) (members-plain n xs), λ q. (tt, λ q. tt))),
+    λ p. (tt, λ q. (node-selects (areMembers n xs) (And (And P (exprsItems xs Γ)) (fresh (slot n 1))) (members-node n xs), λ q. (tt, λ q. tt))),
   )
   expr-selects (tuple n xs) Γ P w o f s =
       (exprs-selects xs Γ P (new-left (exprsNumbers xs) (n ∷ []) P Γ w) (once-left (exprsNumbers xs) (n ∷ []) o) (f .1) s, λ p. (tt, λ q. tt))
   expr-selects (product n xs) Γ P w o f s = (
     exprs-selects xs Γ P (new-left (exprsNumbers xs) (n ∷ []) P Γ w) (once-left (exprsNumbers xs) (n ∷ []) o) (f .1) s,
-    λ p. (no-select (arePowers n xs 1) (And P (exprsItems xs Γ)) (powers-plain n xs 1), λ q. (tt, λ q. tt)),
+    λ p. (node-selects (arePowers n xs 1) (And P (exprsItems xs Γ)) (powers-node n xs 1), λ q. (tt, λ q. tt)),
   )
   expr-selects (power n a) Γ P w o f s =
       (expr-selects a Γ P (new-left (exprNumbers a) (n ∷ []) P Γ w) (once-left (exprNumbers a) (n ∷ []) o) f s, λ p. ((tt, λ q. tt), λ q. (tt, λ q. tt)))
@@ -94,10 +97,10 @@ mutual
               λ m r. select-open n i (typeOf a) x (And Q (fresh x)) (free-fresh x x Q (v .0)) (type-over (Not x) a (own-not n A (λ e. d n e (first-has n [])))) (y .0) (y .1) m r,
         ),
       )
-  expr-selects (theta n c k) Γ P w o f s = no-select (thetaItems n k (schemaNamed c Γ) Γ) P (theta-plain n k (schemaNamed c Γ) Γ)
+  expr-selects (theta n c k) Γ P w o f s = node-selects (thetaItems n k (schemaNamed c Γ) Γ) P (theta-node n k (schemaNamed c Γ) Γ)
   expr-selects (schemaSet n i) Γ P w o f s = (
     include-selects i Γ P (new-left (includeNumbers i) (n ∷ []) P Γ w) (once-left (includeNumbers i) (n ∷ []) o) f s,
-    λ p. (no-select (smallTypes (includeNode i) (includeSignature i Γ)) (And P (includeItems i Γ)) (smalls-plain (includeNode i) (includeSignature i Γ)), λ q. (tt, λ q. tt)),
+    λ p. (bare-selects (smallTypes (includeNode i) (includeSignature i Γ)) (And P (includeItems i Γ)) (smalls-bare (includeNode i) (includeSignature i Γ)), λ q. (tt, λ q. tt)),
   )
   expr-selects (arithmetic n c a b) Γ P w o f s =
       let t = pair-selects a b Γ (λ Q w o f s. expr-selects a Γ Q w o f s) (λ Q w o f s. expr-selects b Γ Q w o f s) P (new-left (exprNumbers a ++ exprNumbers b) (n ∷ []) P Γ w) (once-left (exprNumbers a ++ exprNumbers b) (n ∷ []) o) (f .0) (f .1) s in
@@ -190,9 +193,9 @@ mutual
       let w′ = new-right A L P Γ w in (
         (expr-selects a Γ P (new-left (exprNumbers a) (n ∷ []) P Γ (new-left A L P Γ w)) (once-left (exprNumbers a) (n ∷ []) (once-left A L o)) (f .0) s, λ p. (tt, λ p. tt)),
         λ p. (
-          no-select m (And P x) (declared-new n is (unknownAt n 0) r G),
+          bare-selects m (And P x) (declared-new n is (unknownAt n 0) r G),
           λ q. (
-            no-select c (And (And P x) m) (small-few n (unknownAt n 0) r′),
+            bare-selects c (And (And P x) m) (small-few n (unknownAt n 0) r′),
             λ h. lines-selects ls Γ G r′ (And (And (And P x) m) c) (new-declaration n a is L Γ G r P d (f .0) w′ k′) (sig-declaration n a is L Γ G r P d (f .0) w′ k′) (once-right A L o) (f .1)
                 (some-after c (And (And P x) m) (some-after m (And P x) (some-after x P s p) q) h),
           ),
@@ -211,9 +214,9 @@ mutual
       let w′ = new-right A L P Γ w in (
         include-selects i Γ P (new-left A L P Γ w) (once-left A L o) (f .0) s,
         λ p. (
-          no-select m (And P x) (names-new (includeNode i) b r (namesOf b) G),
+          bare-selects m (And P x) (names-new (includeNode i) b r (namesOf b) G),
           λ q. (
-            no-select c (And (And P x) m) (smalls-few (includeNode i) b r′),
+            bare-selects c (And (And P x) m) (smalls-few (includeNode i) b r′),
             λ h. lines-selects ls Γ G r′ (And (And (And P x) m) c) (new-inclusion i L Γ G r P d (f .0) w′ k′) (sig-inclusion i L Γ G r P d (f .0) w′ k′) (once-right A L o) (f .1)
                 (some-after c (And (And P x) m) (some-after m (And P x) (some-after x P s p) q) h),
           ),
@@ -246,7 +249,7 @@ schema-selects : (x : Schema) (Γ : Scope) (P : Table → Type 0) → New (schem
 unfolding schemaItems schemaNumbers SizedSchema NoSelect33
 schema-selects (plain t) Γ P w o f s = text-selects t Γ blank P w o f s
 schema-selects (from i) Γ P w o f s =
-    (include-selects i Γ P w o f s, λ p. no-select (smallTypes (includeNode i) (includeSignature i Γ)) (And P (includeItems i Γ)) (smalls-plain (includeNode i) (includeSignature i Γ)))
+    (include-selects i Γ P w o f s, λ p. bare-selects (smallTypes (includeNode i) (includeSignature i Γ)) (And P (includeItems i Γ)) (smalls-bare (includeNode i) (includeSignature i Γ)))
 schema-selects (both n a b) Γ P w o f s =
     let A = schemaNumbers a in
     let B = schemaNumbers b in
@@ -255,7 +258,7 @@ schema-selects (both n a b) Γ P w o f s =
       schema-selects a Γ P (new-left A B P Γ z) (once-left A B u) (f .0) s,
       λ p. (
         schema-selects b Γ (And P (schemaItems a Γ)) (new-after A B (schemaItems a Γ) P Γ (apart A B u) (λ N h k. schema-over N a Γ h (f .0) k) (new-right A B P Γ z)) (once-right A B u) (f .1) (some-after (schemaItems a Γ) P s p),
-        λ q. no-select (mergeNames n (schemaSignature b Γ) (schemaSignature a Γ) ⨾ fewNames n (merge (schemaSignature b Γ) (schemaSignature a Γ))) (And (And P (schemaItems a Γ)) (schemaItems b Γ))
+        λ q. bare-selects (mergeNames n (schemaSignature b Γ) (schemaSignature a Γ) ⨾ fewNames n (merge (schemaSignature b Γ) (schemaSignature a Γ))) (And (And P (schemaItems a Γ)) (schemaItems b Γ))
             (names-few n (schemaSignature b Γ) (schemaSignature a Γ) (merge (schemaSignature b Γ) (schemaSignature a Γ))),
       ),
     )
@@ -271,13 +274,13 @@ module _ (D : Dictionary) (d : FewRecorded D) where
 
   paragraph-selects : (p : Paragraph) → EachOnce (paragraphNumbers p) → SizedParagraph p → NoSelect33 (paragraphItems p D) Any
   unfolding paragraphItems paragraphNumbers SizedParagraph NoSelect33 withParameters
-  paragraph-selects (given n is) o f = no-select (newNames n is D) Any (newNames-plain n is D)
+  paragraph-selects (given n is) o f = bare-selects (newNames n is D) Any (newNames-bare n is D)
   paragraph-selects (axiomatic n t) o f = text-selects t (globals D) D Any (new-start (textNumbers t) []) (once-left (textNumbers t) (n ∷ []) o) f some-start
   paragraph-selects (schema n c ps x) o f =
       schema-selects x (withParameters ps 1 (globals D)) Any (new-start (schemaNumbers x) ps) (once-left (schemaNumbers x) (n ∷ []) o) f some-start
   paragraph-selects (abbreviation n i ps a) o f = (
     expr-selects a (withParameters ps 1 (globals D)) Any (new-start (exprNumbers a) ps) (once-left (exprNumbers a) (n ∷ []) o) f some-start,
-    λ p. (no-select (newNames n (i ∷ []) D) (And Any (piece n (exprItems a (withParameters ps 1 (globals D))))) (newNames-plain n (i ∷ []) D), λ q. tt),
+    λ p. (bare-selects (newNames n (i ∷ []) D) (And Any (piece n (exprItems a (withParameters ps 1 (globals D))))) (newNames-bare n (i ∷ []) D), λ q. tt),
   )
   paragraph-selects (constraint n p) o f = pred-selects p (globals D) Any (new-start (predNumbers p) []) (once-left (predNumbers p) (n ∷ []) o) f some-start
 
