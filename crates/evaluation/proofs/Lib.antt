@@ -25,3 +25,5 @@ pub mod TroublesWithin
 pub mod TroubleRuns
 pub mod TroubleLaws
 pub mod TroublePlaces
+pub mod ShortState
+pub mod ShortNames

@@ -12,6 +12,7 @@ use Rattle.values.specs.SetValues.{sameValue, Image, found, misfit, undefined, 
 use Rattle.words.proofs.Loops.{and-left, and-right}
 use Rattle.evaluation.specs.Outcomes.{pure}
 use Rattle.evaluation.specs.Operations.{image, findPair}
+use Rattle.evaluation.specs.Troubles.{pair}
 use Rattle.evaluation.proofs.WordOrder.{less-trans}
 
 -- ---- members
@@ -27,9 +28,6 @@ ascends-above p (cons v vs) h w (inr m) =
     less-trans p (encode v) (encode w) (and-left (isLess (compare p (encode v))) _ h) (ascends-above (encode v) vs (and-right (isLess (compare p (encode v))) _ h) w m)
 
 -- ---- Apply
-abbrev pub pair : Value → Value → Value
-pair x y = tuple (cons x (cons y nil))
-
 -- y is the second part of a pair of vs whose first part is a, and every other such pair of vs is above it
 pub record Lowest (a : Value) (vs : Values) (y : Value) : Type 0 where
   pub first : Value

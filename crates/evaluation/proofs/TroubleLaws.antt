@@ -6,7 +6,7 @@ use Rattle.evaluation.specs.Troubles.{Row, Below, TroubleLaws}
 use Rattle.evaluation.proofs.TroublesFound.{found}
 use Rattle.evaluation.proofs.TroublesCome.{reached-stops, row-stops}
 use Rattle.evaluation.proofs.TroublesWithin.{within-found, within-row}
-use Rattle.evaluation.proofs.TroubleRuns.{run-refused}
+use Rattle.evaluation.proofs.TroubleRuns.{paragraph-trouble, run-refused}
 
 comes : (t : Evaluation) (w m : ℕ) → Below t w m ⊎ Row w m t → StopsAt t w m
 comes t w m (inl (u, r, h)) = reached-stops w m r h
@@ -16,5 +16,6 @@ pub trouble-laws : TroubleLaws
 trouble-laws = record {
   each = λ t w m. (λ h. found t w m h, λ h. comes t w m h);
   all = λ t w m. (λ h. within-found w m t h, λ h. within-row w m t (h .0) (h .1) (h .2));
+  paragraph = λ p state scope w m. paragraph-trouble state p scope w m;
   run = λ doc state work w m. run-refused doc state work w m;
 }

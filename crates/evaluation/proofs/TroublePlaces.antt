@@ -27,7 +27,7 @@ use Rattle.evaluation.specs.TroublePlaces.{PlacedDocument, PlacedEvaluat
 use Rattle.evaluation.proofs.RuleLaws.{not-run}
 use Rattle.evaluation.proofs.EvaluationLists.{value-said}
 use Rattle.evaluation.proofs.TroublesWithin.{within-found}
-use Rattle.evaluation.proofs.TroubleRuns.{run-trouble}
+use Rattle.evaluation.proofs.TroubleRuns.{paragraph-trouble, run-trouble}
 
 row-number : {w m : ℕ} {t : Evaluation} → Row w m t → Trouble w m
 row-number (row51 h) = (omega arith, omega arith)
@@ -241,5 +241,6 @@ module _ (w m : ℕ) where
 pub trouble-places : TroublePlaces
 trouble-places = record {
   each = λ t w m h. evaluation-placed w m t h;
+  paragraph = λ p state scope w m h. let r = paragraph-trouble state p scope w m .0 h in (row-number (r .4), begun-placed w m (r .2) (within-placed w m (r .3) (row-placed (r .4))));
   run = λ doc state work w m read room well e. let r = run-trouble doc state work read room well w m .0 e in (row-number (r .2), run-placed w m (r .1) (r .2));
 }

@@ -13,14 +13,14 @@ use Rattle.state_words.specs.States.{State, valueIn}
 use Rattle.evaluation.specs.Outcomes.{Event, Outcome, done, stopped}
 use Rattle.evaluation.specs.Scope.{Scope, empty}
 use Rattle.evaluation.specs.Rules.{test, stopInclude}
-use Rattle.evaluation.specs.Paragraphs.{Step, onward, failed, runDocument}
+use Rattle.evaluation.specs.Paragraphs.{Step, onward, failed, runParagraph, runDocument}
 use Rattle.evaluation.specs.Run.{Ran, ending, runState, runOf}
 use Rattle.evaluation.specs.Claims.{WellFormed}
 use Rattle.evaluation.specs.Listing.{stops}
 use Rattle.evaluation.specs.ListingRun
 use Rattle.evaluation.specs.ListingRun.{TestsNames, TestsLines, Runs, RunsAll, Lists}
 use Rattle.evaluation.specs.Evaluations
-use Rattle.evaluation.specs.Evaluations.{Stops, broke, Evaluation, working, telling, testing, including, StopsAt, EachName, Tested, Begins, BeginsIn}
+use Rattle.evaluation.specs.Evaluations.{Stops, broke, Evaluation, working, telling, testing, including, StopsAt, EachName, Tested, Begins, BeginsIn, Within}
 use Rattle.evaluation.specs.Troubles
 use Rattle.evaluation.specs.Troubles.{Row, InRun, inRun, RunRefused}
 use Rattle.evaluation.specs.declared.Finding.the-variants.{Refused}
@@ -75,6 +75,12 @@ module _ (state : State) where
   paragraphs-stop : {ps : List Paragraph} {scope : Scope} {u : Evaluation} {w m : ℕ} → BeginsIn state ps scope u → StopsAt u w m → Some (RunsAll state ps scope) (stops w m)
   paragraphs-stop (Evaluations.thisParagraph k) h = (_, ListingRun.paragraphEnds (paragraph-stops k h .1) ListingRun.stopping)
   paragraphs-stop (Evaluations.nextParagraph {p = p} {scope = scope} g k) h = (_, ListingRun.paragraphGoesOn (said (paragraph-says state p scope) g .1) (paragraphs-stop k h .1))
+
+  pub paragraph-trouble : (p : Paragraph) (scope : Scope) (w m : ℕ) → Stops (runParagraph p state scope) w m ↔ ((t u : Evaluation) × Begins state p scope t × Within t u × Row w m u)
+  paragraph-trouble p scope w m = (
+    λ h. let r = paragraph-found (stop-said (paragraph-says state p scope) h .1) in let q = within-found w m (r .0) (r .2) in (r .0, q .0, r .1, q .1, q .2),
+    λ r. stop-come (runs-come state (paragraph-stops (r .2) (within-row w m (r .0) (r .1) (r .3) (r .4)) .1)),
+  )
 
   -- ---- the document
   document-found : (w m : ℕ) (d : Document) → Stops (runDocument d state) w m → (u : Evaluation) × InRun state d u × Row w m u

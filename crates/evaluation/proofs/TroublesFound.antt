@@ -112,7 +112,7 @@ never : {A : Type 0} (vs : Values) → RoomFor vs → 64 < wordCount (Value.set 
 never vs f l = absurd (omega arith)
 
 -- every value that is worked out has at most 64 words
-value-short : {a : Expr} {scope : Scope} {t : List Event} {v : Value} → Works a scope t (gives v) → wordCount v ≤ 64
+pub value-short : {a : Expr} {scope : Scope} {t : List Event} {v : Value} → Works a scope t (gives v) → wordCount v ≤ 64
 value-short (Listing.nameValued e (Listing.entered l)) = l
 value-short (Listing.aLiteral (Listing.entered l)) = l
 value-short (Listing.aSet h (Listing.entered l)) = l

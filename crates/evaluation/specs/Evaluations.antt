@@ -58,7 +58,8 @@ pub data Adding (scope : Scope) : Exprs → Values → Expr → Values → Type 
   firstMember : {a : Expr} {xs : Exprs} {s : Values} → Adding scope (more a xs) s a s
   laterMember : {a b : Expr} {xs : Exprs} {s s′ : Values} {v : Value} → Gives (evalExpr b scope) v → RoomFor (insertValue v s) → Adding scope xs (insertValue v s) a s′ → Adding scope (more b xs) s a s′
 
--- "a Comprehension adds each body, .. over assignments where the Text's predicate is true": x is one of the assignments, and with those before it s has become s′
+-- "a Comprehension adds each body, .. over assignments where the Text's predicate is true": x is one of the assignments, and the bodies of those before it
+-- are added to s, and that is s′
 pub data Gathering (p : Pred) (a : Expr) : List Scope → Values → Scope → Values → Type 0 where
   firstGathered : {x : Scope} {xs : List Scope} {s : Values} → Gathering p a (x ∷ xs) s x s
   leftOut : {x y : Scope} {xs : List Scope} {s s′ : Values} → Gives (evalPred p y) false → Gathering p a xs s x s′ → Gathering p a (y ∷ xs) s x s′

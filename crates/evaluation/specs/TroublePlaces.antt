@@ -1,5 +1,5 @@
--- The column "Place" of the table of findings: which of the numbers 51 to 55 a node of each kind can get. w at m in a tree: m is one of its nodes, of a kind
--- that can get w, and not below one that is never worked out.
+-- The column "Place" of the table of findings: which of the numbers 51 to 55 a node of each kind can get. w at m in a tree: m is one of its nodes, of a
+-- kind that can get w, and not below one that is never worked out. (A Ref's 55 is for scopes in general; in a run none comes, proofs/ShortNames.)
 use mathlib.Core.Path.{_≡_}
 use mathlib.Core.Bool.{true}
 use mathlib.Core.List.{List, [], _∷_}
@@ -14,9 +14,12 @@ use Rattle.syntax.specs.Reading.{readOf}
 use Rattle.syntax.specs.Decode.{treeOf}
 use Rattle.syntax.specs.declared.Reading.the-variants.{Readable}
 use Rattle.state_words.specs.Names.{documentNames}
+use Rattle.state_words.specs.States.{State}
+use Rattle.evaluation.specs.Scope.{Scope}
+use Rattle.evaluation.specs.Paragraphs.{runParagraph}
 use Rattle.evaluation.specs.Run.{runOf}
 use Rattle.evaluation.specs.Claims.{Trouble, WellFormed}
-use Rattle.evaluation.specs.Evaluations.{Evaluation, working, telling, testing, declaring, including, StopsAt}
+use Rattle.evaluation.specs.Evaluations.{Stops, Evaluation, working, telling, testing, declaring, including, StopsAt}
 use Rattle.evaluation.specs.declared.Finding.the-variants.{Refused}
 
 -- w at m is at n, with one of the numbers
@@ -126,5 +129,6 @@ PlacedEvaluation w m (including i) = PlacedInclude w m i
 -- Every stop is 51 to 55, at a node of a kind that can get the number.
 pub record TroublePlaces : Type 0 where
   pub each : (t : Evaluation) (w m : ℕ) → StopsAt t w m → Trouble w m × PlacedEvaluation w m t
+  pub paragraph : (p : Paragraph) (state : State) (scope : Scope) (w m : ℕ) → Stops (runParagraph p state scope) w m → Trouble w m × PlacedParagraph w m p
   pub run : (doc state : List ℕ) (work w m : ℕ) → readOf doc ≡ Readable → 16384 ≤ work → WellFormed (documentNames (treeOf doc)) state
       → runOf doc state work .finding ≡ Refused w m → Trouble w m × PlacedDocument w m (treeOf doc)

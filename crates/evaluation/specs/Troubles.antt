@@ -23,10 +23,11 @@ use Rattle.evaluation.specs.WordCount.{wordCount}
 use Rattle.evaluation.specs.Scope.{Scope, empty, valued, generic, unknown, lookup}
 use Rattle.evaluation.specs.Assignments.{Domains}
 use Rattle.evaluation.specs.Rules.{evalExpr, evalExprs, evalPred, evalLines}
+use Rattle.evaluation.specs.Paragraphs.{runParagraph}
 use Rattle.evaluation.specs.Run.{runOf}
 use Rattle.evaluation.specs.Claims.{NotRun, IllFormed, WellFormed}
 use Rattle.evaluation.specs.Listing.{NoInteger, NoSet, NoTuple, Another, assignments}
-use Rattle.evaluation.specs.Evaluations.{Gives, Evaluation, working, telling, testing, declaring, including, StopsAt, Adding, Gathering, Reaches, Within, BeginsIn}
+use Rattle.evaluation.specs.Evaluations.{Gives, Stops, Evaluation, working, telling, testing, declaring, including, StopsAt, Adding, Gathering, Reaches, Within, Begins, BeginsIn}
 use Rattle.evaluation.specs.declared.Finding.the-variants.{Refused}
 
 -- ---- Apply: "the lowest pair whose first part equals the argument; members that are not pairs, met before it, are 51; none found is 52"
@@ -101,8 +102,9 @@ pub data Unrun : Evaluation → ℕ → Type 0 where
   asValue : {a : Expr} {scope : Scope} → NotRun a → Unrun (working a scope) (exprNode a)
   includeLine : {n s k : ℕ} {xs : Exprs} {rs : List (ℕ × ℕ)} → Unrun (including (include n s k xs rs)) n
 
--- 55, "value over 64 words": at a Ref and a Tuple of their value, at a Set and a Comprehension where the member being added makes the set pass 64 words (R24).
--- Their whole value is then not too long, nor is that of an Apply, a part of a set of at most 64 words, or of a Number and arithmetic, of two words.
+-- 55, "value over 64 words": at a Ref and a Tuple of their value, at a Set and a Comprehension where the member being added makes the set pass 64 words
+-- (R24). No other value is too long: that of an Apply is a part of a set of at most 64 words, those of a Number and of arithmetic have two. In a run no name's
+-- value is too long either (proofs/ShortNames).
 pub data TooLong : Evaluation → ℕ → Type 0 where
   nameTooLong : {n i : ℕ} {v : Value} {scope : Scope} → lookup i scope ≡ valued v → 64 < wordCount v → TooLong (working (reference n i none) scope) n
   tupleTooLong : {n : ℕ} {xs : Exprs} {vs : Values} {scope : Scope} → Gives (evalExprs xs scope) vs → 64 < wordCount (Value.tuple vs) → TooLong (working (tuple n xs) scope) n
@@ -141,5 +143,7 @@ pub record TroubleLaws : Type 0 where
   pub each : (t : Evaluation) (w m : ℕ) → StopsAt t w m ↔ (Below t w m ⊎ Row w m t)
   -- so an evaluation stops exactly where a row holds of one that it reaches, in any number of steps
   pub all : (t : Evaluation) (w m : ℕ) → StopsAt t w m ↔ ((u : Evaluation) × Within t u × Row w m u)
-  -- so is a run refused, after reading, 21 and 41
+  -- and a paragraph where a row holds of an evaluation that is reached from one that it begins with
+  pub paragraph : (p : Paragraph) (state : State) (scope : Scope) (w m : ℕ) → Stops (runParagraph p state scope) w m ↔ ((t u : Evaluation) × Begins state p scope t × Within t u × Row w m u)
+  -- a run is refused by reading, 21 and 41, and after them where a row holds of one of its evaluations
   pub run : (doc state : List ℕ) (work w m : ℕ) → (runOf doc state work .finding ≡ Refused w m) ↔ RunRefused doc state work w m
