@@ -20,6 +20,7 @@ use Rattle.typing.specs.Entries.{extend}
 use Rattle.typing.specs.ExpressionNodes.{InParagraph}
 use Rattle.typing.specs.AcceptedTypes.{HasType, TheType}
 use Rattle.typing.specs.Pieces.{Owns, InPiece, EachPiece, PieceTypes}
+use Rattle.typing.specs.PieceEquations.{Settled}
 use Rattle.typing.specs.Check.{accepted, checkOf, paragraphsOf}
 use Rattle.typing.specs.Verdicts.{Accepts}
 use Rattle.typing.proofs.ItemLaws.{Agrees}
@@ -52,6 +53,20 @@ each-piece (small n a) P T τ p h f = tt
 each-piece (refusal g n) P T τ p h f = tt
 each-piece (piece n t) P T τ p h f =
     (λ σ w m q. subst (T m) (sym (owned t σ τ (p .1 σ τ w h) (slot m 0) q)) (f m), each-piece t P T τ (p .0) h f)
+
+-- What has passed is settled.
+pub settled : (t : Items) (P : Table → Type 0) → Passes t P → Settled t P
+unfolding Passes Meets InPiece
+settled skip P p σ τ g h x q = absurd q
+settled (a ⨾ b) P p σ τ g h x (inl q) = settled a P (p .0) σ τ (g .0, g .1 .0) (h .0, h .1 .0) x q
+settled (a ⨾ b) P p σ τ g h x (inr q) = settled b (And P a) (p .1) σ τ ((g .0, g .1 .0), g .1 .1) ((h .0, h .1 .0), h .1 .1) x q
+settled (fresh y) P p σ τ g h x q = absurd q
+settled (equate f n a b) P p σ τ g h x q = absurd q
+settled (select n i a y) P p σ τ g h x q = absurd q
+settled (small n a) P p σ τ g h x q = absurd q
+settled (refusal f n) P p σ τ g h x q = absurd q
+settled (piece n t) P p σ τ g h x (inl q) = owned t σ τ (p .1 σ τ g h) x q
+settled (piece n t) P p σ τ g h x (inr q) = settled t P (p .0) σ τ g h x q
 
 -- ---- every expression node is in a piece: tables that differ at its type alone would agree otherwise
 never : ⊥ ⊎ (⊥ → ⊥)

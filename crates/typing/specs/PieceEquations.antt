@@ -13,7 +13,7 @@ use Rattle.typing.specs.Items.{Items, skip, _⨾_, fresh, equate, select
 use Rattle.typing.specs.Dictionary.{Dictionary}
 use Rattle.typing.specs.Rules.{paragraphItems}
 use Rattle.typing.specs.Entries.{extend}
-use Rattle.typing.specs.Pieces.{Owns}
+use Rattle.typing.specs.Pieces.{Owns, InPiece}
 
 -- The table solves the own equations of a piece, those of 33 and of its Selects; not those of a piece inside it, of 36, or of sizes.
 unfoldable pub Solves : Items → Table → Type 0
@@ -49,6 +49,10 @@ ByOwnEquations (piece n t) w P E =
     ByOwnEquations t t P Any
     × (((σ τ : Table) × And P t σ × And P t τ × (Agree t σ τ → ⊥))
     ↔ ((σ τ : Table) × OwnSolution t (And P t) (Solves t) σ × OwnSolution t (And P t) (Solves t) τ × (Agree t σ τ → ⊥)))
+
+-- The types of the pieces in items that pass are settled: all tables that meet the items give them the same ones (R15, "34 at the Decl otherwise").
+abbrev pub Settled : Items → (Table → Type 0) → Type 0
+Settled t P = (σ τ : Table) → And P t σ → And P t τ → (x : ℕ) → InPiece t x → σ x ≡ τ x
 
 -- through paragraphs, over the dictionary so far, with any typing of each; no piece is around a paragraph
 unfoldable pub PiecesAlone : List Paragraph → Dictionary → Type 0
