@@ -17,6 +17,7 @@ pub mod Areas
 pub mod Verdicts
 pub mod WellFormed
 pub mod Typing
+pub mod RuleTypings
 pub mod Findings
 pub mod FindingRows
 pub mod Pieces
