@@ -1,4 +1,4 @@
--- Two forms of items: those that rules share, without an unknown, a Select or a piece (`Bare`), and those of an expression's own node, unknowns, equations of
+-- Two forms of items: those that rules share, 36, sizes and refusals (`Bare`), and those of an expression's own node, unknowns, equations of
 -- 33 and refusals (`OfNode`).
 use mathlib.Core.Path.{_≡_, refl}
 use mathlib.Core.Bool.{Bool, true, false, cond}
@@ -23,7 +23,7 @@ unfoldable pub Bare : Items → Type 0
 Bare skip = Unit {0}
 Bare (a ⨾ b) = Bare a × Bare b
 Bare (fresh x) = ⊥
-Bare (equate f n a b) = Unit {0}
+Bare (equate f n a b) = f ≡ 36
 Bare (select n i a x) = ⊥
 Bare (small n a) = Unit {0}
 Bare (refusal f n) = Unit {0}
@@ -82,7 +82,7 @@ refuseIf-bare false f n = tt
 
 sameType-bare : (n : ℕ) (t : Term) (o : Option Term) → Bare (sameType n t o)
 unfolding sameType Bare
-sameType-bare n t (some u) = tt
+sameType-bare n t (some u) = refl
 sameType-bare n t nothing = tt
 
 pub declared-bare : (n : ℕ) (is : List ℕ) (t : Term) (r : Signature) → Bare (mergeDeclared n is t r)
@@ -114,11 +114,6 @@ smalls-bare n (naming i t s) = (tt, smalls-bare n s)
 pub few-bare : (n : ℕ) (s : Signature) → Bare (fewNames n s)
 unfolding fewNames
 few-bare n s = refuseIf-bare (ltb 16 (countNames s)) 38 n
-
-pub members-bare : (n : ℕ) (xs : Exprs) → Bare (areMembers n xs)
-unfolding areMembers Bare
-members-bare n none = tt
-members-bare n (more a xs) = (tt, members-bare n xs)
 
 thetaName-bare : (b : Bool) (n : ℕ) (m : Named) → Bare (thetaName b n m)
 unfolding thetaName Bare

@@ -191,13 +191,13 @@ module _ (σ τ : Table) where
   incl-same (include n s k xs rs) Γ b =
       bring-same (schemaNamed s Γ) (row n 1 (exprsLength xs)) k rs (row-same xs n 1 Γ (incl-agrees (schemaNamed s Γ) (include n s k xs rs) (actualItems xs n 1 Γ) b))
 
-  lines-same : (ls : Lines) (Γ : Scope) (D : Dictionary) (r : Signature) → Agrees (linesItems ls Γ D r) σ τ → SameNames r → SameNames (linesSignature ls Γ r)
+  pub lines-same : (ls : Lines) (Γ : Scope) (D : Dictionary) (r : Signature) → Agrees (linesItems ls Γ D r) σ τ → SameNames r → SameNames (linesSignature ls Γ r)
   unfolding linesSignature linesItems Agree Agrees under
   lines-same end Γ D r b h = h
   lines-same (declaration n e xs ls) Γ D r b h = lines-same ls Γ D (declare xs (unknownAt n 0) r) (b .1 .1 .1) (declare-having OneTerm xs (unknownAt n 0) r (b .0 .0 .1 .0) h)
   lines-same (inclusion i ls) Γ D r b h = lines-same ls Γ D (merge (includeSignature i Γ) r) (b .1 .1 .1) (merge-having OneTerm (includeSignature i Γ) r (incl-same i Γ (b .0)) h)
 
-  text-same : (t : Text) (Γ : Scope) (D : Dictionary) → Agrees (textItems t Γ D) σ τ → SameNames (textSignature t Γ)
+  pub text-same : (t : Text) (Γ : Scope) (D : Dictionary) → Agrees (textItems t Γ D) σ τ → SameNames (textSignature t Γ)
   unfolding textSignature textItems Agrees
   text-same (text n p ls) Γ D b = lines-same ls Γ D noNames (b .0) tt
 
@@ -207,7 +207,7 @@ module _ (σ τ : Table) where
   sig-same (from i) Γ b = incl-same i Γ (b .0)
   sig-same (both n x y) Γ b = merge-having OneTerm (schemaSignature y Γ) (schemaSignature x Γ) (sig-same y Γ (b .1 .0)) (sig-same x Γ (b .0))
 
-  types-same : (s : Signature) → SameNames s → unders σ (termsOf s) ≡ unders τ (termsOf s)
+  pub types-same : (s : Signature) → SameNames s → unders σ (termsOf s) ≡ unders τ (termsOf s)
   unfolding termsOf under
   types-same noNames h = refl
   types-same (naming i t s) h = ap₂ tcons (h .0) (types-same s (h .1))

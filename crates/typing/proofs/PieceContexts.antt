@@ -8,7 +8,7 @@ use native.Mathlib.Omega.{arith}
 use lib.Dec.{eqb}
 use Rattle.words.specs.Loops.{has, occurrences}
 use Rattle.words.proofs.Lists.{occurrences-append, has-once, once-has}
-use Rattle.syntax.specs.Tree.{Expr}
+use Rattle.syntax.specs.Tree.{exprNode, Expr}
 use Rattle.syntax.specs.Tree.{Include, include}
 use Rattle.syntax.specs.Tree.{exprsLength}
 use Rattle.syntax.specs.TreeNumbers.{exprNumbers}
@@ -16,7 +16,7 @@ use Rattle.types.specs.Types.{nil, Each}
 use Rattle.types.specs.Instance.{instance}
 use Rattle.types.proofs.Terms.{each-map}
 use Rattle.typing.specs.Unknowns.{Table, slot}
-use Rattle.typing.specs.Items.{Items, _⨾_, refusal, piece, And}
+use Rattle.typing.specs.Items.{Passes, Items, _⨾_, refusal, piece, And}
 use Rattle.typing.specs.Dictionary.{Found, noSchema, aSchema}
 use Rattle.typing.specs.Signatures.{Signature, noNames, naming, componentsOf, wrongNames}
 use Rattle.typing.specs.Scopes.{Scope, globals, local}
@@ -30,8 +30,9 @@ use Rattle.typing.proofs.ScopeUnknowns.{AllIn, all-left, all-right, Own
 use Rattle.typing.proofs.RuleUnknowns.{refuseIf-over, type-over, expr-over}
 use Rattle.typing.proofs.NewUnknowns.{EachOnce, once-left, once-right, has-left, has-right, Apart, apart}
 use Rattle.typing.proofs.TypingLaws.{first-has, rest-has}
-use Rattle.typing.proofs.PieceOwners.{ownNumbers, innerNumbers, parted, SlotIn, in-left, in-right, Every, expr-owns, power-owns}
-use Rattle.typing.proofs.PieceEquations.{Off, Separate, bare-separate}
+use Rattle.typing.proofs.PieceOwners.{root-owned, ownNumbers, innerNumbers, parted, SlotIn, in-left, in-right, Every, expr-owns, power-owns}
+use Rattle.typing.proofs.PieceEquations.{Off, Separate, OwnNode, bare-separate, node-separate}
+use Rattle.typing.proofs.PieceTerms.{ScopeSame, power-own}
 use Rattle.typing.proofs.ItemForms.{refuseIf-bare}
 
 -- ---- what has come before: the tables P rest on the unknowns C, which are in scope and none of the nodes to come, l; none of them is the surrounding piece's
@@ -43,6 +44,7 @@ pub record Ready (l : List ℕ) (w : Items) (P : Table → Type 0) (C : ℕ → 
   pub new : New l C
   pub scope : ScopeOver C Γ
   pub off : ScopeOver (Off w) Γ
+  pub settled : (σ τ : Table) → P σ → P τ → ScopeSame σ τ Γ
 
 abbrev pub With : List ℕ → (ℕ → Type 0) → ℕ → Type 0
 With l C x = SlotIn l x ⊎ C x
@@ -69,14 +71,14 @@ slot-apart a b d m k h l s =
 
 module _ (w : Items) (P : Table → Type 0) (C : ℕ → Type 0) (Γ : Scope) where
   pub ready-left : (a b : List ℕ) → Ready (a ++ b) w P C Γ → Ready a w P C Γ
-  ready-left a b r = record { rests = r .rests; new = λ m k h l c. r .new m k (has-left m a b h) l c; scope = r .scope; off = r .off }
+  ready-left a b r = record { rests = r .rests; new = λ m k h l c. r .new m k (has-left m a b h) l c; scope = r .scope; off = r .off; settled = r .settled }
 
   pub ready-right : (a b : List ℕ) → Ready (a ++ b) w P C Γ → Ready b w P C Γ
-  ready-right a b r = record { rests = r .rests; new = λ m k h l c. r .new m k (has-right m a b h) l c; scope = r .scope; off = r .off }
+  ready-right a b r = record { rests = r .rests; new = λ m k h l c. r .new m k (has-right m a b h) l c; scope = r .scope; off = r .off; settled = r .settled }
 
   -- with items over C; with the unknowns of other nodes among C
   pub ready-and : (b : List ℕ) (t : Items) → Over C t → Ready b w P C Γ → Ready b w (And P t) C Γ
-  ready-and b t o r = record { rests = λ σ τ e h. (r .rests σ τ e (h .0), met-too C σ τ e t o (h .1)); new = r .new; scope = r .scope; off = r .off }
+  ready-and b t o r = record { rests = λ σ τ e h. (r .rests σ τ e (h .0), met-too C σ τ e t o (h .1)); new = r .new; scope = r .scope; off = r .off; settled = λ σ τ g h. r .settled σ τ (g .0) (h .0) }
 
   pub ready-with : (a b : List ℕ) → Apart a b → Ready b w P C Γ → Ready b w P (With a C) Γ
   ready-with a b d r = record {
@@ -84,6 +86,7 @@ module _ (w : Items) (P : Table → Type 0) (C : ℕ → Type 0) (Γ : Scope) wh
     new = there;
     scope = scope-map C (With a C) (λ x c. inr c) Γ (r .scope);
     off = r .off;
+    settled = r .settled;
   }
     where
       there : New b (With a C)
@@ -97,9 +100,9 @@ ready-after w P C Γ a b t d o r = let q = ready-with w P C Γ a b d r in ready-
 
 -- in the scope that the nodes a make
 pub ready-inside : (w : Items) (P : Table → Type 0) (C : ℕ → Type 0) (Γ Δ : Scope) (a b : List ℕ) → ((N : ℕ → Type 0) → AllIn (Own N) a → ScopeOver N Γ → ScopeOver N Δ) → AllIn (Own (Off w)) a
-    → Ready b w P (With a C) Γ → Ready b w P (With a C) Δ
-ready-inside w P C Γ Δ a b o h r =
-    record { rests = r .rests; new = r .new; scope = o (With a C) (own-all a C) (r .scope); off = o (Off w) h (r .off) }
+    → ((σ τ : Table) → P σ → P τ → ScopeSame σ τ Γ → ScopeSame σ τ Δ) → Ready b w P (With a C) Γ → Ready b w P (With a C) Δ
+ready-inside w P C Γ Δ a b o h s r =
+    record { rests = r .rests; new = r .new; scope = o (With a C) (own-all a C) (r .scope); off = o (Off w) h (r .off); settled = λ σ τ g k. s σ τ g k (r .settled σ τ g k) }
 
 -- ---- own nodes and nodes of inner pieces
 own-in : (a : Expr) (m : ℕ) → has m (ownNumbers a) ≡ true → has m (exprNumbers a) ≡ true
@@ -118,7 +121,7 @@ all-off t (m ∷ l) f = (λ k u. f m k (first-has m l) u, all-off t l (λ j k h 
 -- ---- a piece t inside w whose own unknowns are none of C
 module _ (n : ℕ) (t w : Items) (P : Table → Type 0) (C : ℕ → Type 0) (Γ : Scope) (l : List ℕ) where
   within : ((x : ℕ) → C x → Off t x) → Ready l w P C Γ → Ready l t P C Γ
-  within f r = record { rests = r .rests; new = r .new; scope = r .scope; off = scope-map C (Off t) f Γ (r .scope) }
+  within f r = record { rests = r .rests; new = r .new; scope = r .scope; off = scope-map C (Off t) f Γ (r .scope); settled = r .settled }
 
   pieced : ((x : ℕ) → C x → Off t x) → Over (Off w) t → Ready l w P C Γ → (Ready l t P C Γ → Separate t t P) → Separate (piece n t) w P
   unfolding Separate
@@ -126,18 +129,19 @@ module _ (n : ℕ) (t w : Items) (P : Table → Type 0) (C : ℕ → Type 0) (Γ
 
 -- what is claimed of an expression in its scope
 abbrev Parts : Expr → Scope → Type 1
-Parts a Γ = (w : Items) (P : Table → Type 0) (C : ℕ → Type 0) → Ready (exprNumbers a) w P C Γ → AllIn (Own (Off w)) (innerNumbers a) → EachOnce (exprNumbers a) → SizedExpr a → Separate (exprItems a Γ) w P
+Parts a Γ = (w : Items) (P : Table → Type 0) (C : ℕ → Type 0) → Ready (exprNumbers a) w P C Γ → ((x : ℕ) → Owns (exprItems a Γ) x → Owns w x) → AllIn (Own (Off w)) (innerNumbers a) → EachOnce (exprNumbers a) → SizedExpr a → Separate (exprItems a Γ) w P
 
 few-scope : (C : ℕ → Type 0) (Γ : Scope) → ScopeOver C Γ → ScopeOver Every Γ
 few-scope C Γ h = scope-map C Every (λ x c. tt) Γ h
 
 pub pair-separate : (a b : Expr) (Γ : Scope) → Parts a Γ → Parts b Γ → (w : Items) (P : Table → Type 0) (C : ℕ → Type 0) → Ready (exprNumbers a ++ exprNumbers b) w P C Γ
-    → AllIn (Own (Off w)) (innerNumbers a ++ innerNumbers b) → EachOnce (exprNumbers a ++ exprNumbers b) → SizedExpr a → SizedExpr b → Separate (exprItems a Γ) w P × Separate (exprItems b Γ) w (And P (exprItems a Γ))
-pair-separate a b Γ x y w P C r h o f g =
+    → ((z : ℕ) → Owns (exprItems a Γ) z → Owns w z) → ((z : ℕ) → Owns (exprItems b Γ) z → Owns w z) → AllIn (Own (Off w)) (innerNumbers a ++ innerNumbers b) → EachOnce (exprNumbers a ++ exprNumbers b) → SizedExpr a → SizedExpr b
+    → Separate (exprItems a Γ) w P × (Passes (exprItems a Γ) P → Separate (exprItems b Γ) w (And P (exprItems a Γ)))
+pair-separate a b Γ x y w P C r u v h o f g =
     let A = exprNumbers a in
     let B = exprNumbers b in (
-      x w P C (ready-left w P C Γ A B r) (all-left (Own (Off w)) (innerNumbers a) (innerNumbers b) h) (once-left A B o) f,
-      y w (And P (exprItems a Γ)) (With A C) (ready-after w P C Γ A B (exprItems a Γ) (apart A B o) (λ N h k. expr-over N a Γ h f k) (ready-right w P C Γ A B r)) (all-right (Own (Off w)) (innerNumbers a) (innerNumbers b) h)
+      x w P C (ready-left w P C Γ A B r) u (all-left (Own (Off w)) (innerNumbers a) (innerNumbers b) h) (once-left A B o) f,
+      λ p. y w (And P (exprItems a Γ)) (With A C) (ready-after w P C Γ A B (exprItems a Γ) (apart A B o) (λ N h k. expr-over N a Γ h f k) (ready-right w P C Γ A B r)) v (all-right (Own (Off w)) (innerNumbers a) (innerNumbers b) h)
           (once-right A B o) g,
     )
 
@@ -148,7 +152,10 @@ module _ (n k : ℕ) (a : Expr) (w : Items) (P : Table → Type 0) (C : ℕ → 
   unfolding Separate Owns
   power-piece u z c v r o f s =
       pieced n (exprItems a Γ ⨾ isPower n k a) w P C Γ (exprNumbers a) before v r
-      (λ q. (s (exprItems a Γ ⨾ isPower n k a) P C q (all-off (exprItems a Γ ⨾ isPower n k a) (innerNumbers a) inner) o f, (tt, inl refl)))
+      (λ q. (
+        s (exprItems a Γ ⨾ isPower n k a) P C q (λ x y. inl y) (all-off (exprItems a Γ ⨾ isPower n k a) (innerNumbers a) inner) o f,
+        λ p. node-separate (isPower n k a) (exprItems a Γ ⨾ isPower n k a) (And P (exprItems a Γ)) (power-own (exprItems a Γ ⨾ isPower n k a) (And P (exprItems a Γ)) n k a (inr (inl refl)) (inl (root-owned a Γ P p))),
+      ))
     where
       owns : (x : ℕ) → Owns (exprItems a Γ ⨾ isPower n k a) x → SlotIn (ownNumbers a) x ⊎ (x ≡ slot n k)
       owns x (inl q) = inl (expr-owns x a Γ f (few-scope C Γ (r .scope)) q)
@@ -173,7 +180,7 @@ module _ (n : ℕ) (a : Expr) (w : Items) (P : Table → Type 0) (C : ℕ → Ty
   pub expr-piece : Over (Off w) (exprItems a Γ) → Ready (exprNumbers a) w P C Γ → EachOnce (exprNumbers a) → SizedExpr a → Parts a Γ → Separate (piece n (exprItems a Γ)) w P
   expr-piece v r o f s =
       pieced n (exprItems a Γ) w P C Γ (exprNumbers a) before v r
-      (λ q. s (exprItems a Γ) P C q (all-off (exprItems a Γ) (innerNumbers a) (λ m j h l z. slot-apart (ownNumbers a) (innerNumbers a) (own-apart a o) m j h l (owns (slot m j) z))) o f)
+      (λ q. s (exprItems a Γ) P C q (λ x y. y) (all-off (exprItems a Γ) (innerNumbers a) (λ m j h l z. slot-apart (ownNumbers a) (innerNumbers a) (own-apart a o) m j h l (owns (slot m j) z))) o f)
     where
       owns : (x : ℕ) → Owns (exprItems a Γ) x → SlotIn (ownNumbers a) x
       owns x q = expr-owns x a Γ f (few-scope C Γ (r .scope)) q
@@ -183,11 +190,14 @@ module _ (n : ℕ) (a : Expr) (w : Items) (P : Table → Type 0) (C : ℕ → Ty
 
 -- the piece of a relation; e: its equations
 module _ (n : ℕ) (a b : Expr) (e w : Items) (P : Table → Type 0) (C : ℕ → Type 0) (Γ : Scope) where
-  pub relation-piece : ((x : ℕ) → Owns e x → ⊥) → Separate e (exprItems a Γ ⨾ exprItems b Γ ⨾ e) (And (And P (exprItems a Γ)) (exprItems b Γ)) → Over (Off w) (exprItems a Γ ⨾ exprItems b Γ ⨾ e)
+  pub relation-piece : ((x : ℕ) → Owns e x → ⊥)
+      → (Owns (exprItems a Γ ⨾ exprItems b Γ ⨾ e) (slot (exprNode a) 0) → Owns (exprItems a Γ ⨾ exprItems b Γ ⨾ e) (slot (exprNode b) 0) → OwnNode e (exprItems a Γ ⨾ exprItems b Γ ⨾ e) (And (And P (exprItems a Γ)) (exprItems b Γ)))
+      → Over (Off w) (exprItems a Γ ⨾ exprItems b Γ ⨾ e)
       → Ready (exprNumbers a ++ exprNumbers b) w P C Γ → EachOnce (exprNumbers a ++ exprNumbers b) → SizedExpr a → SizedExpr b → Parts a Γ → Parts b Γ → Separate (piece n (exprItems a Γ ⨾ exprItems b Γ ⨾ e)) w P
   unfolding Separate Owns
   relation-piece z c v r o f g s u =
-      pieced n t w P C Γ L before v r (λ q. let h = pair-separate a b Γ s u t P C q (all-off t J inner) o f g in (h .0, (h .1, c)))
+      pieced n t w P C Γ L before v r (λ q. let h = pair-separate a b Γ s u t P C q (λ x y. inl y) (λ x y. inr (inl y)) (all-off t J inner) o f g in
+      (h .0, λ p. (h .1 p, λ y. node-separate e t _ (c (inl (root-owned a Γ P p)) (inr (inl (root-owned b Γ (And P (exprItems a Γ)) y)))))))
     where
       t : Items
       t = exprItems a Γ ⨾ exprItems b Γ ⨾ e
@@ -237,6 +247,7 @@ module _ (n k : ℕ) (w : Items) (P : Table → Type 0) (C : ℕ → Type 0) (Γ
     new = there;
     scope = scope-map C (WithOne (slot n k) C) (λ x c. inr c) Γ (r .scope);
     off = r .off;
+    settled = r .settled;
   }
     where
       there : New b (WithOne (slot n k) C)
@@ -259,5 +270,5 @@ rule-separate noSchema (include n s k xs rs) actuals w P h = tt
 rule-separate (aSchema p g) (include n s k xs rs) actuals w P h = go (eqb (exprsLength xs) p)
   where
     go : (b : Bool) → Separate (cond b (actuals ⨾ refuseIf (wrongNames k rs (componentsOf (instance nil g))) 37 n) (refusal 32 n)) w P
-    go true = (h, bare-separate _ w (And P actuals) (refuseIf-bare (wrongNames k rs (componentsOf (instance nil g))) 37 n) (refuseIf-over (Off w) (wrongNames k rs (componentsOf (instance nil g))) 37 n))
+    go true = (h, λ y. bare-separate _ w (And P actuals) (refuseIf-bare (wrongNames k rs (componentsOf (instance nil g))) 37 n) (refuseIf-over (Off w) (wrongNames k rs (componentsOf (instance nil g))) 37 n))
     go false = tt

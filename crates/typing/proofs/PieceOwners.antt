@@ -11,19 +11,19 @@ use borrow.Author.Tests.{eqb-true}
 use Rattle.words.specs.Loops.{has, occurrences}
 use Rattle.words.proofs.Lists.{occurrences-append}
 use Rattle.syntax.specs.Tree.{Expr, reference, number, integers, set, tuple, product, power, application, selection, theta, schemaSet, arithmetic}
-use Rattle.syntax.specs.Tree.{comprehension, Exprs, none, more, exprsLength}
+use Rattle.syntax.specs.Tree.{comprehension, Exprs, none, more, exprNode, exprsLength}
 use Rattle.syntax.specs.TreeNumbers.{exprNumbers, exprsNumbers, textNumbers, includeNumbers}
 use Rattle.types.specs.Types.{Term, nil, ℤ, ℙℤ}
 use Rattle.types.specs.Instance.{instance}
 use Rattle.typing.specs.Unknowns.{Table, slot, unknownAt, row, integer, powerOf, productOf}
-use Rattle.typing.specs.Items.{Items, _⨾_, refusal, Agree}
+use Rattle.typing.specs.Items.{Items, _⨾_, refusal, Agree, And, Passes}
 use Rattle.typing.specs.Dictionary.{blank, Named, unnamed, ofLocal, ofGlobal, Found, noSchema, aSchema}
 use Rattle.typing.specs.Signatures.{bindingOf, componentsOf, someStroked}
 use Rattle.typing.specs.Scopes.{Scope, nameAt, schemaNamed, includeSignature, includeNode, inside}
-use Rattle.typing.specs.Conditions.{typeOf, typesOf, typed, isPower, arePowers, freshRow}
+use Rattle.typing.specs.Conditions.{typeOf, typesOf, typed, isPower, arePowers, areMembers, freshRow}
 use Rattle.typing.specs.Rules.{referenceItems, thetaSignature, thetaItems, exprItems, exprsItems, textItems, includeItems}
 use Rattle.typing.specs.Pieces.{Owns}
-use Rattle.typing.proofs.ItemForms.{Bare, bare-agrees, refuseIf-bare, members-bare, smalls-bare, thetaNames-bare}
+use Rattle.typing.proofs.ItemForms.{Bare, bare-agrees, refuseIf-bare, smalls-bare, thetaNames-bare}
 use Rattle.typing.proofs.OwnUnknowns.{include-agrees, text-agrees}
 use Rattle.typing.proofs.PieceTypes.{owned}
 use Rattle.syntax.proofs.Sized.{SizedExpr, SizedExprs}
@@ -169,6 +169,12 @@ module _ (x : ℕ) where
   powers-own n (more a xs) k l (inl q) = (k, omega (arith, l), power-owns n k a q)
   powers-own n (more a xs) k l (inr q) = powers-own n xs (suc k) (omega (arith, l)) q
 
+  members-own : (n : ℕ) (xs : Exprs) → Owns (areMembers n xs) x → ⊥
+  unfolding areMembers Owns
+  members-own n none q = q
+  members-own n (more a xs) (inl q) = q
+  members-own n (more a xs) (inr q) = members-own n xs q
+
   reference-owns : (n : ℕ) (xs : Exprs) (m : Named) → NamedOver Every m → Owns (referenceItems n xs m) x → OwnSlot n x
   unfolding referenceItems Owns NamedOver
   reference-owns n none unnamed h q = absurd q
@@ -203,7 +209,7 @@ module _ (x : ℕ) where
     expr-owns (integers n) Γ f s q = in-one n x (typed-owns n (powerOf integer) q)
     expr-owns (set n xs) Γ f s (inl q) = in-left (ownsNumbers xs) (n ∷ []) x (exprs-own xs Γ f s q)
     expr-owns (set n xs) Γ f s (inr (inl e)) = in-last (ownsNumbers xs) n x (1, omega arith, sym e)
-    expr-owns (set n xs) Γ f s (inr (inr (inl q))) = absurd (bare-owns _ (members-bare n xs) x q)
+    expr-owns (set n xs) Γ f s (inr (inr (inl q))) = absurd (members-own n xs q)
     expr-owns (set n xs) Γ f s (inr (inr (inr q))) = in-last (ownsNumbers xs) n x (typed-owns n (powerOf (unknownAt n 1)) q)
     expr-owns (tuple n xs) Γ f s (inl q) = in-left (ownsNumbers xs) (n ∷ []) x (exprs-own xs Γ (f .1) s q)
     expr-owns (tuple n xs) Γ f s (inr q) = in-last (ownsNumbers xs) n x (typed-owns n (productOf (typesOf xs)) q)
@@ -238,3 +244,48 @@ module _ (x : ℕ) where
     exprs-own none Γ f s q = absurd q
     exprs-own (more a xs) Γ f s (inl q) = in-left (ownNumbers a) (ownsNumbers xs) x (expr-owns a Γ (f .0) s q)
     exprs-own (more a xs) Γ f s (inr q) = in-right (ownNumbers a) (ownsNumbers xs) x (exprs-own xs Γ (f .1) s q)
+
+-- ---- the unknown of an expression's type is its piece's own, where no rule refuses the name
+reference-root : (n : ℕ) (xs : Exprs) (m : Named) (P : Table → Type 0) → Passes (referenceItems n xs m) P → Owns (referenceItems n xs m) (slot n 0)
+unfolding referenceItems Owns Passes
+reference-root n none unnamed P p = absurd p
+reference-root n (more a xs) unnamed P p = absurd p
+reference-root n none (ofLocal t) P p = inl refl
+reference-root n (more a xs) (ofLocal t) P p = absurd p
+reference-root n none (ofGlobal q g) P p = inr (inl refl)
+reference-root n (more a xs) (ofGlobal q g) P p = go (eqb (exprsLength (more a xs)) q) p
+  where
+    go : (b : Bool) → Passes (cond b (arePowers n (more a xs) 1 ⨾ typed n (instance (row n 1 q) g)) (refusal 32 n)) P → Owns (cond b (arePowers n (more a xs) 1 ⨾ typed n (instance (row n 1 q) g)) (refusal 32 n)) (slot n 0)
+    go true z = inr (inl refl)
+    go false z = absurd z
+
+theta-root : (n k : ℕ) (f : Found) (Γ : Scope) (P : Table → Type 0) → Passes (thetaItems n k f Γ) P → Owns (thetaItems n k f Γ) (slot n 0)
+unfolding thetaItems Owns Passes
+theta-root n k noSchema Γ P p = absurd p
+theta-root n k (aSchema q g) Γ P p = inr (inr (inr (inl refl)))
+
+pub root-owned : (a : Expr) (Γ : Scope) (P : Table → Type 0) → Passes (exprItems a Γ) P → Owns (exprItems a Γ) (slot (exprNode a) 0)
+unfolding exprItems exprNode Owns Passes
+root-owned (reference n i xs) Γ P p = inr (reference-root n xs (nameAt i Γ) (And P (exprsItems xs Γ)) (p .1))
+root-owned (number n v) Γ P p = inl refl
+root-owned (integers n) Γ P p = inl refl
+root-owned (set n xs) Γ P p = inr (inr (inr (inl refl)))
+root-owned (tuple n xs) Γ P p = inr (inl refl)
+root-owned (product n xs) Γ P p = inr (inr (inl refl))
+root-owned (power n a) Γ P p = inr (inr (inl refl))
+root-owned (application n a b) Γ P p = inr (inr (inl refl))
+root-owned (selection n a i) Γ P p = inr (inl refl)
+root-owned (theta n s k) Γ P p = theta-root n k (schemaNamed s Γ) Γ P p
+root-owned (schemaSet n i) Γ P p = inr (inr (inl refl))
+root-owned (arithmetic n o a b) Γ P p = inr (inr (inr (inr (inl refl))))
+root-owned (comprehension n t a) Γ P p = inr (inr (inl refl))
+
+-- the roots of several
+unfoldable pub RootsOwned : Items → Exprs → Type 0
+RootsOwned w none = Unit {0}
+RootsOwned w (more a xs) = Owns w (slot (exprNode a) 0) × RootsOwned w xs
+
+pub roots-owned : (xs : Exprs) (Γ : Scope) (P : Table → Type 0) (w : Items) → Passes (exprsItems xs Γ) P → ((x : ℕ) → Owns (exprsItems xs Γ) x → Owns w x) → RootsOwned w xs
+unfolding exprsItems RootsOwned Owns Passes
+roots-owned none Γ P w p f = tt
+roots-owned (more a xs) Γ P w p f = (f (slot (exprNode a) 0) (inl (root-owned a Γ P (p .0))), roots-owned xs Γ (And P (exprItems a Γ)) w (p .1) (λ x q. f x (inr q)))

@@ -72,7 +72,7 @@ settled (piece n t) P p σ τ g h x (inr q) = settled t P (p .0) σ τ g h x q
 never : ⊥ ⊎ (⊥ → ⊥)
 never = inr (λ z. z)
 
-owns-decide : (t : Items) (x : ℕ) → Owns t x ⊎ (Owns t x → ⊥)
+pub owns-decide : (t : Items) (x : ℕ) → Owns t x ⊎ (Owns t x → ⊥)
 unfolding Owns
 owns-decide skip x = never
 owns-decide (a ⨾ b) x = either _ _ (owns-decide a x) (owns-decide b x)

@@ -1,6 +1,19 @@
 -- The rules keep the pieces apart (R15): in a readable document no piece shares an unknown of its own with a piece before or inside it, with merging or with
 -- sizes. So 33, 34 and 35 rest on their piece's own equations.
-use mathlib.Core.Path.{_≡_, refl}
+use mathlib.Core.Path.{_≡_, refl, ap}
+use Rattle.types.specs.Former.{power as powerFormer}
+use Rattle.types.specs.Types.{Ty, node, tnil, tcons, Term, under, Each}
+use Rattle.syntax.specs.Tree.{exprNode, exprsLength, Expr, reference, number, integers, set, tuple, product, power, application, selection, theta, schemaSet, arithmetic, comprehension, Exprs, none, more, Pred, truth, equal, member, atMost, not, connected, quantified, Text, text, Lines, end, declaration, inclusion, Include, include, Schema, plain, from, both, Paragraph, given, axiomatic, schema, abbreviation, constraint}
+use Rattle.typing.specs.Unknowns.{Table, slot, unknownAt, row, integer, powerOf, productOf, pairOf}
+use Rattle.typing.specs.Items.{_⨾_, fresh, equate, And, Items, skip, small, piece, Any}
+use Rattle.typing.specs.Signatures.{bindingOf, Signature, noNames, namesOf, merge, declare}
+use Rattle.typing.specs.Conditions.{typeOf, typesOf, typed, isPower, arePowers, areMembers, mergeDeclared, mergeNames, newNames, smallTypes, fewNames}
+use Rattle.typing.proofs.ItemLaws.{agreed}
+use Rattle.typing.proofs.OneType.{incl-same}
+use Rattle.typing.proofs.ScopeUnknowns.{name-over, binding-over, AllIn, all-left, all-right, FewRecorded, longer, Own, ScopeOver, SigOver, parameters-over, included-over, lines-inside, inside-over}
+use Rattle.typing.proofs.PieceOwners.{root-owned, roots-owned, innerNumbers, innersNumbers}
+use Rattle.typing.proofs.PieceEquations.{fixed-own, fixed-off, OwnNode, Off, Separate, Alone, by-own, bare-separate, node-separate}
+use Rattle.typing.proofs.PieceTerms.{ScopeSame, name-same, parameters-same, inside-same, inside-lines, binding-same, root-fixed, typed-own, power-own, powers-own, members-own, types-own, powers-row, reference-own, theta-own}
 use mathlib.Core.Bool.{true}
 use mathlib.Core.List.{List, [], _∷_, _++_}
 use mathlib.Core.Logic.{_⊎_, inl, inr}
@@ -9,21 +22,10 @@ use native.Mathlib.Omega.{arith}
 use Rattle.words.specs.Loops.{has}
 use Rattle.syntax.specs.Reading.{readOf}
 use Rattle.syntax.specs.Decode.{treeOf}
-use Rattle.syntax.specs.Tree.{Expr, reference, number, integers, set, tuple, product, power, application, selection, theta, schemaSet, arithmetic}
-use Rattle.syntax.specs.Tree.{comprehension, Exprs, none, more, Pred, truth, equal, member, atMost, not, connected, quantified, Text, text, Lines}
-use Rattle.syntax.specs.Tree.{end, declaration, inclusion, Include, include, Schema, plain, from, both, Paragraph, given, axiomatic, schema}
-use Rattle.syntax.specs.Tree.{abbreviation, constraint, exprsLength}
-use Rattle.syntax.specs.TreeNumbers.{exprNumbers, exprsNumbers, predNumbers, textNumbers, linesNumbers, includeNumbers, schemaNumbers, paragraphNumbers}
-use Rattle.syntax.specs.TreeNumbers.{paragraphsNumbers}
-use Rattle.types.specs.Types.{Each}
-use Rattle.typing.specs.Unknowns.{Table, slot, unknownAt, integer, powerOf}
-use Rattle.typing.specs.Items.{Items, skip, _⨾_, fresh, equate, small, piece, Any, And}
+use Rattle.syntax.specs.TreeNumbers.{exprNumbers, exprsNumbers, predNumbers, textNumbers, linesNumbers, includeNumbers, schemaNumbers, paragraphNumbers, paragraphsNumbers}
 use Rattle.typing.specs.Dictionary.{Dictionary, blank}
-use Rattle.typing.specs.Signatures.{Signature, noNames, namesOf, merge, declare}
 use Rattle.typing.specs.Scopes.{Scope, globals, nameAt, schemaNamed, withParameters, includeSignature, includeNode, inside, schemaSignature}
-use Rattle.typing.specs.Conditions.{arePowers, areMembers, mergeDeclared, mergeNames, newNames, smallTypes, fewNames, typeOf, isPower}
-use Rattle.typing.specs.Rules.{referenceItems, thetaItems, exprItems, exprsItems, predItems, textItems}
-use Rattle.typing.specs.Rules.{linesItems, includeItems, actualItems, schemaItems, paragraphItems}
+use Rattle.typing.specs.Rules.{referenceItems, thetaItems, exprItems, exprsItems, predItems, textItems, linesItems, includeItems, actualItems, schemaItems, paragraphItems}
 use Rattle.typing.specs.Entries.{extend}
 use Rattle.typing.specs.Check.{paragraphsOf}
 use Rattle.typing.specs.Pieces.{Owns}
@@ -33,79 +35,129 @@ use Rattle.typing.proofs.WrittenOnce.{paragraphs-once}
 use Rattle.syntax.proofs.Sized.{SizedExpr, SizedExprs, SizedPred, SizedText, SizedLines, SizedInclude, SizedSchema, SizedParagraph, SizedParagraphs}
 use Rattle.typing.proofs.SizedTree.{tree-sized}
 use Rattle.typing.proofs.SignatureTerms.{none-having, merge-having, declare-having}
-use Rattle.typing.proofs.ScopeUnknowns.{AllIn, all-left, all-right, FewRecorded, longer, Own, ScopeOver, SigOver, parameters-over, included-over, lines-inside, inside-over}
 use Rattle.typing.proofs.RuleUnknowns.{smalls-over, newNames-over, expr-over, pred-over, text-over, lines-over, schema-over}
 use Rattle.typing.proofs.NewUnknowns.{EachOnce, once-left, once-right, has-left, has-right, apart, turned, declaration-over, inclusion-over}
 use Rattle.typing.proofs.SelectFindings.{extend-few}
 use Rattle.typing.proofs.TypingLaws.{first-has}
-use Rattle.typing.proofs.PieceOwners.{innerNumbers, innersNumbers}
-use Rattle.typing.proofs.PieceEquations.{Off, Separate, Alone, by-own, bare-separate, node-separate}
 use Rattle.syntax.specs.declared.Reading.the-variants.{Readable}
-use Rattle.typing.proofs.ItemForms.{declared-new, names-new, small-few, smalls-few, names-few, newNames-bare, smalls-bare, powers-node, members-node, reference-node, theta-node}
+use Rattle.typing.proofs.ItemForms.{declared-new, names-new, small-few, smalls-few, names-few, newNames-bare, smalls-bare}
 use Rattle.typing.proofs.PieceContexts.{Ready, With, own-all, sig-map, ready-left, ready-right, ready-and, ready-with, ready-after, ready-inside, pair-separate, power-piece, expr-piece, relation-piece, NewRow, WithOne, mentions, ready-one, row-after, all-map, rule-separate}
+
+power-same : (σ τ : Table) (t : Term) → under σ t ≡ under τ t → under σ (powerOf t) ≡ under τ (powerOf t)
+unfolding under
+power-same σ τ t e = ap (λ (g : Ty). node powerFormer (tcons g tnil)) e
 
 -- ---- the rules
 mutual
-  unfolding exprItems exprNumbers innerNumbers SizedExpr Separate Over Owns Each
+  unfolding exprItems exprNumbers innerNumbers SizedExpr Separate Over Owns Each OwnNode
 
-  expr-separate : (a : Expr) (Γ : Scope) (w : Items) (P : Table → Type 0) (C : ℕ → Type 0) → Ready (exprNumbers a) w P C Γ → AllIn (Own (Off w)) (innerNumbers a) → EachOnce (exprNumbers a) → SizedExpr a
+  expr-separate : (a : Expr) (Γ : Scope) (w : Items) (P : Table → Type 0) (C : ℕ → Type 0) → Ready (exprNumbers a) w P C Γ → ((x : ℕ) → Owns (exprItems a Γ) x → Owns w x) → AllIn (Own (Off w)) (innerNumbers a) → EachOnce (exprNumbers a) → SizedExpr a
       → Separate (exprItems a Γ) w P
-  expr-separate (reference n i xs) Γ w P C r h o f = (
-    exprs-separate xs Γ w P C (ready-left w P C Γ (exprsNumbers xs) (n ∷ []) r) h (once-left (exprsNumbers xs) (n ∷ []) o) f,
-    node-separate (referenceItems n xs (nameAt i Γ)) w (And P (exprsItems xs Γ)) (reference-node n xs (nameAt i Γ)),
+  expr-separate (reference n i xs) Γ w P C r own h o f = (
+    exprs-separate xs Γ w P C (ready-left w P C Γ (exprsNumbers xs) (n ∷ []) r) (λ x q. own x (inl q)) h (once-left (exprsNumbers xs) (n ∷ []) o) f,
+    λ p. node-separate (referenceItems n xs (nameAt i Γ)) w (And P (exprsItems xs Γ))
+        (reference-own w (And P (exprsItems xs Γ)) n xs (nameAt i Γ) (roots-owned xs Γ P w p (λ x q. own x (inl q))) (λ x q. own x (inr q)) (name-over (Off w) i Γ (r .off)) (λ σ τ g k. name-same σ τ i Γ (r .settled σ τ (g .0) (k .0)))),
   )
-  expr-separate (number n v) Γ w P C r h o f = (tt, inl refl)
-  expr-separate (integers n) Γ w P C r h o f = (tt, inl refl)
-  expr-separate (set n xs) Γ w P C r h o f = (
-    exprs-separate xs Γ w P C (ready-left w P C Γ (exprsNumbers xs) (n ∷ []) r) h (once-left (exprsNumbers xs) (n ∷ []) o) f,
-    (tt, (node-separate (areMembers n xs) w (And (And P (exprsItems xs Γ)) (fresh (slot n 1))) (members-node n xs), (tt, inl refl))),
-  )
-  expr-separate (tuple n xs) Γ w P C r h o f =
-      (exprs-separate xs Γ w P C (ready-left w P C Γ (exprsNumbers xs) (n ∷ []) r) h (once-left (exprsNumbers xs) (n ∷ []) o) (f .1), (tt, inl refl))
-  expr-separate (product n xs) Γ w P C r h o f = (
-    exprs-separate xs Γ w P C (ready-left w P C Γ (exprsNumbers xs) (n ∷ []) r) h (once-left (exprsNumbers xs) (n ∷ []) o) (f .1),
-    (node-separate (arePowers n xs 1) w (And P (exprsItems xs Γ)) (powers-node n xs 1), (tt, inl refl)),
-  )
-  expr-separate (power n a) Γ w P C r h o f =
-      (expr-separate a Γ w P C (ready-left w P C Γ (exprNumbers a) (n ∷ []) r) h (once-left (exprNumbers a) (n ∷ []) o) f, ((tt, inl refl), (tt, inl refl)))
-  expr-separate (application n a b) Γ w P C r h o f =
-      let t = pair-separate a b Γ (λ w P C r h o f. expr-separate a Γ w P C r h o f) (λ w P C r h o f. expr-separate b Γ w P C r h o f) w P C (ready-left w P C Γ (exprNumbers a ++ exprNumbers b) (n ∷ []) r) h (once-left (exprNumbers a ++ exprNumbers b) (n ∷ []) o) (f .0) (f .1) in
-      (t .0, (t .1, (tt, inl refl)))
-  expr-separate (selection n a i) Γ w P C r h o f =
-      (expr-separate a Γ w P C (ready-left w P C Γ (exprNumbers a) (n ∷ []) r) h (once-left (exprNumbers a) (n ∷ []) o) f, (tt, tt))
-  expr-separate (theta n c k) Γ w P C r h o f = node-separate (thetaItems n k (schemaNamed c Γ) Γ) w P (theta-node n k (schemaNamed c Γ) Γ)
-  expr-separate (schemaSet n i) Γ w P C r h o f = (
-    include-separate i Γ w P C (ready-left w P C Γ (includeNumbers i) (n ∷ []) r) h (once-left (includeNumbers i) (n ∷ []) o) f,
-    (bare-separate (smallTypes (includeNode i) (includeSignature i Γ)) w _ (smalls-bare (includeNode i) (includeSignature i Γ)) (smalls-over (Off w) (includeNode i) (includeSignature i Γ) (included-over (Off w) i Γ h f)), (tt, inl refl)),
-  )
-  expr-separate (arithmetic n c a b) Γ w P C r h o f =
-      let t = pair-separate a b Γ (λ w P C r h o f. expr-separate a Γ w P C r h o f) (λ w P C r h o f. expr-separate b Γ w P C r h o f) w P C (ready-left w P C Γ (exprNumbers a ++ exprNumbers b) (n ∷ []) r) h (once-left (exprNumbers a ++ exprNumbers b) (n ∷ []) o) (f .0) (f .1) in
-      (t .0, (t .1, (inl refl, (inl refl, (tt, inl refl)))))
-  expr-separate (comprehension n t a) Γ w P C r h o f =
+  expr-separate (number n v) Γ w P C r own h o f = node-separate (typed n integer) w P (typed-own w P n integer (own (slot n 0) (inl refl)) (fixed-own w P integer tt))
+  expr-separate (integers n) Γ w P C r own h o f = node-separate (typed n (powerOf integer)) w P (typed-own w P n (powerOf integer) (own (slot n 0) (inl refl)) (fixed-own w P (powerOf integer) (tt, tt)))
+  expr-separate (set n xs) Γ w P C r own h o f =
+      let Q : Table → Type 0 = And P (exprsItems xs Γ) in
+      let e = own (slot n 1) (inr (inl refl)) in (
+        exprs-separate xs Γ w P C (ready-left w P C Γ (exprsNumbers xs) (n ∷ []) r) (λ x q. own x (inl q)) h (once-left (exprsNumbers xs) (n ∷ []) o) f,
+        λ p. node-separate (fresh (slot n 1) ⨾ areMembers n xs ⨾ typed n (powerOf (unknownAt n 1))) w Q
+            (tt, (members-own w Q n xs (roots-owned xs Γ P w p (λ x q. own x (inl q))) e, typed-own w Q n (powerOf (unknownAt n 1)) (own (slot n 0) (inr (inr (inr (inl refl))))) (fixed-own w Q (powerOf (unknownAt n 1)) (e, tt)))),
+      )
+  expr-separate (tuple n xs) Γ w P C r own h o f =
+      let Q : Table → Type 0 = And P (exprsItems xs Γ) in (
+        exprs-separate xs Γ w P C (ready-left w P C Γ (exprsNumbers xs) (n ∷ []) r) (λ x q. own x (inl q)) h (once-left (exprsNumbers xs) (n ∷ []) o) (f .1),
+        λ p. node-separate (typed n (productOf (typesOf xs))) w Q
+            (typed-own w Q n (productOf (typesOf xs)) (own (slot n 0) (inr (inl refl))) (fixed-own w Q (productOf (typesOf xs)) (types-own w Q xs (roots-owned xs Γ P w p (λ x q. own x (inl q)))))),
+      )
+  expr-separate (product n xs) Γ w P C r own h o f =
+      let Q : Table → Type 0 = And P (exprsItems xs Γ) in
+      let e : (x : ℕ) → Owns (arePowers n xs 1) x → Owns w x = λ x q. own x (inr (inl q)) in
+      let t = powerOf (productOf (row n 1 (exprsLength xs))) in (
+        exprs-separate xs Γ w P C (ready-left w P C Γ (exprsNumbers xs) (n ∷ []) r) (λ x q. own x (inl q)) h (once-left (exprsNumbers xs) (n ∷ []) o) (f .1),
+        λ p. node-separate (arePowers n xs 1 ⨾ typed n t) w Q
+            (powers-own w Q n xs 1 (roots-owned xs Γ P w p (λ x q. own x (inl q))) e, typed-own w Q n t (own (slot n 0) (inr (inr (inl refl)))) (fixed-own w Q t (powers-row w Q n xs 1 e, tt))),
+      )
+  expr-separate (power n a) Γ w P C r own h o f =
+      let Q : Table → Type 0 = And P (exprItems a Γ) in
+      let e = own (slot n 1) (inr (inl (inl refl))) in
+      let t = powerOf (powerOf (unknownAt n 1)) in (
+        expr-separate a Γ w P C (ready-left w P C Γ (exprNumbers a) (n ∷ []) r) (λ x q. own x (inl q)) h (once-left (exprNumbers a) (n ∷ []) o) f,
+        λ p. node-separate (isPower n 1 a ⨾ typed n t) w Q (power-own w Q n 1 a e (own (slot (exprNode a) 0) (inl (root-owned a Γ P p))), typed-own w Q n t (own (slot n 0) (inr (inr (inl refl)))) (fixed-own w Q t ((e, tt), tt))),
+      )
+  expr-separate (application n a b) Γ w P C r own h o f =
+      let Q : Table → Type 0 = And (And P (exprItems a Γ)) (exprItems b Γ) in
+      let t = powerOf (pairOf (typeOf b) (unknownAt n 0)) in
+      let s = pair-separate a b Γ (λ w P C r u h o f. expr-separate a Γ w P C r u h o f) (λ w P C r u h o f. expr-separate b Γ w P C r u h o f) w P C (ready-left w P C Γ (exprNumbers a ++ exprNumbers b) (n ∷ []) r) (λ x q. own x (inl q)) (λ x q. own x (inr (inl q))) h (once-left (exprNumbers a ++ exprNumbers b) (n ∷ []) o) (f .0) (f .1) in (
+        s .0,
+        λ p. (
+          s .1 p,
+          λ q. node-separate (fresh (slot n 0) ⨾ equate 33 n (typeOf a) t) w Q
+              (tt, (refl, root-fixed w Q a (own (slot (exprNode a) 0) (inl (root-owned a Γ P p))), fixed-own w Q t ((own (slot (exprNode b) 0) (inr (inl (root-owned b Γ (And P (exprItems a Γ)) q))), (own (slot n 0) (inr (inr (inl refl))), tt)), tt))),
+        ),
+      )
+  expr-separate (selection n a i) Γ w P C r own h o f =
+      let Q : Table → Type 0 = And (And P (exprItems a Γ)) (fresh (slot n 0)) in (
+        expr-separate a Γ w P C (ready-left w P C Γ (exprNumbers a) (n ∷ []) r) (λ x q. own x (inl q)) h (once-left (exprNumbers a) (n ∷ []) o) f,
+        λ p. (tt, λ q. (root-fixed w Q a (own (slot (exprNode a) 0) (inl (root-owned a Γ P p))), fixed-own w Q (unknownAt n 0) (own (slot n 0) (inr (inl refl))))),
+      )
+  expr-separate (theta n c k) Γ w P C r own h o f = node-separate (thetaItems n k (schemaNamed c Γ) Γ) w P (theta-own w P n k (schemaNamed c Γ) Γ own (r .off) (r .settled))
+  expr-separate (schemaSet n i) Γ w P C r own h o f =
+      let s = includeSignature i Γ in
+      let Q : Table → Type 0 = And (And P (includeItems i Γ)) (smallTypes (includeNode i) s) in
+      let over = included-over (Off w) i Γ h f in (
+        include-separate i Γ w P C (ready-left w P C Γ (includeNumbers i) (n ∷ []) r) h (once-left (includeNumbers i) (n ∷ []) o) f,
+        λ p. (
+          bare-separate (smallTypes (includeNode i) s) w _ (smalls-bare (includeNode i) s) (smalls-over (Off w) (includeNode i) s over),
+          λ q. node-separate (typed n (powerOf (bindingOf s))) w Q
+              (typed-own w Q n (powerOf (bindingOf s)) (own (slot n 0) (inr (inr (inl refl))))
+              (fixed-off w Q (powerOf (bindingOf s)) (binding-over (Off w) s over, tt) (λ σ τ g k. power-same σ τ (bindingOf s) (binding-same σ τ s (incl-same σ τ i Γ (agreed (includeItems i Γ) P σ τ p (g .0) (k .0))))))),
+        ),
+      )
+  expr-separate (arithmetic n c a b) Γ w P C r own h o f =
+      let Q : Table → Type 0 = And (And P (exprItems a Γ)) (exprItems b Γ) in
+      let s = pair-separate a b Γ (λ w P C r u h o f. expr-separate a Γ w P C r u h o f) (λ w P C r u h o f. expr-separate b Γ w P C r u h o f) w P C (ready-left w P C Γ (exprNumbers a ++ exprNumbers b) (n ∷ []) r) (λ x q. own x (inl q)) (λ x q. own x (inr (inl q))) h (once-left (exprNumbers a ++ exprNumbers b) (n ∷ []) o) (f .0) (f .1) in
+      let z = fixed-own w Q integer tt in (
+        s .0,
+        λ p. (
+          s .1 p,
+          λ q. node-separate (equate 33 n (typeOf a) integer ⨾ equate 33 n (typeOf b) integer ⨾ typed n integer) w Q (
+            (refl, root-fixed w Q a (own (slot (exprNode a) 0) (inl (root-owned a Γ P p))), z),
+            ((refl, root-fixed w Q b (own (slot (exprNode b) 0) (inr (inl (root-owned b Γ (And P (exprItems a Γ)) q)))), z), typed-own w Q n integer (own (slot n 0) (inr (inr (inr (inr (inl refl)))))) z),
+          ),
+        ),
+      )
+  expr-separate (comprehension n t a) Γ w P C r own h o f =
       let T = textNumbers t in
       let A = exprNumbers a in
       let z = ready-left w P C Γ (T ++ A) (n ∷ []) r in
       let u = once-left (T ++ A) (n ∷ []) o in
       let d = apart T A u in
-      let q = all-left (Own (Off w)) T (innerNumbers a) h in (
+      let q = all-left (Own (Off w)) T (innerNumbers a) h in
+      let Q : Table → Type 0 = And P (textItems t Γ blank) in
+      let R : Table → Type 0 = And Q (exprItems a (inside t Γ)) in (
         text-separate t Γ blank w P C (ready-left w P C Γ T A z) q (once-left T A u) (f .0),
-        (
-          expr-separate a (inside t Γ) w (And P (textItems t Γ blank)) (With T C)
-              (ready-inside w (And P (textItems t Γ blank)) C Γ (inside t Γ) T A (λ N h k. inside-over N t Γ h (f .0) k) q
+        λ p. (
+          expr-separate a (inside t Γ) w Q (With T C)
+              (ready-inside w Q C Γ (inside t Γ) T A (λ N h k. inside-over N t Γ h (f .0) k) q (λ σ τ g k s. inside-same σ τ t Γ blank (agreed (textItems t Γ blank) P σ τ p g k) s)
               (ready-after w P C Γ T A (textItems t Γ blank) d (λ N h k. text-over N t Γ blank h (f .0) k) (ready-right w P C Γ T A z)))
-              (all-right (Own (Off w)) T (innerNumbers a) h) (once-right T A u) (f .1),
-          (tt, inl refl),
+              (λ x y. own x (inr (inl y))) (all-right (Own (Off w)) T (innerNumbers a) h) (once-right T A u) (f .1),
+          λ y. let e = own (slot (exprNode a) 0) (inr (inl (root-owned a (inside t Γ) Q y))) in
+              node-separate (typed n (powerOf (typeOf a))) w R (typed-own w R n (powerOf (typeOf a)) (own (slot n 0) (inr (inr (inl refl)))) (fixed-own w R (powerOf (typeOf a)) (e, tt))),
         ),
       )
 
-  exprs-separate : (xs : Exprs) (Γ : Scope) (w : Items) (P : Table → Type 0) (C : ℕ → Type 0) → Ready (exprsNumbers xs) w P C Γ → AllIn (Own (Off w)) (innersNumbers xs) → EachOnce (exprsNumbers xs) → SizedExprs xs
-      → Separate (exprsItems xs Γ) w P
-  exprs-separate none Γ w P C r h o f = tt
-  exprs-separate (more a xs) Γ w P C r h o f =
+  exprs-separate : (xs : Exprs) (Γ : Scope) (w : Items) (P : Table → Type 0) (C : ℕ → Type 0) → Ready (exprsNumbers xs) w P C Γ → ((x : ℕ) → Owns (exprsItems xs Γ) x → Owns w x) → AllIn (Own (Off w)) (innersNumbers xs) → EachOnce (exprsNumbers xs)
+      → SizedExprs xs → Separate (exprsItems xs Γ) w P
+  exprs-separate none Γ w P C r own h o f = tt
+  exprs-separate (more a xs) Γ w P C r own h o f =
       let A = exprNumbers a in
       let B = exprsNumbers xs in (
-        expr-separate a Γ w P C (ready-left w P C Γ A B r) (all-left (Own (Off w)) (innerNumbers a) (innersNumbers xs) h) (once-left A B o) (f .0),
-        exprs-separate xs Γ w (And P (exprItems a Γ)) (With A C) (ready-after w P C Γ A B (exprItems a Γ) (apart A B o) (λ N h k. expr-over N a Γ h (f .0) k) (ready-right w P C Γ A B r))
+        expr-separate a Γ w P C (ready-left w P C Γ A B r) (λ x q. own x (inl q)) (all-left (Own (Off w)) (innerNumbers a) (innersNumbers xs) h) (once-left A B o) (f .0),
+        λ p. exprs-separate xs Γ w (And P (exprItems a Γ)) (With A C) (ready-after w P C Γ A B (exprItems a Γ) (apart A B o) (λ N h k. expr-over N a Γ h (f .0) k) (ready-right w P C Γ A B r)) (λ x q. own x (inr q))
             (all-right (Own (Off w)) (innerNumbers a) (innersNumbers xs) h) (once-right A B o) (f .1),
       )
 
@@ -113,14 +165,14 @@ mutual
       → Separate (predItems p Γ) w P
   pred-separate (truth n) Γ w P C r h o f = tt
   pred-separate (equal n a b) Γ w P C r h o f =
-      relation-piece n a b (equate 33 n (typeOf a) (typeOf b)) w P C Γ (λ x q. q) (inl refl) (pred-over (Off w) (equal n a b) Γ h f (r .off)) (ready-left w P C Γ (exprNumbers a ++ exprNumbers b) (n ∷ []) r)
-      (once-left (exprNumbers a ++ exprNumbers b) (n ∷ []) o) (f .0) (f .1) (λ w P C r h o f. expr-separate a Γ w P C r h o f) (λ w P C r h o f. expr-separate b Γ w P C r h o f)
+      relation-piece n a b (equate 33 n (typeOf a) (typeOf b)) w P C Γ (λ x q. q) (λ y z. let t = exprItems a Γ ⨾ exprItems b Γ ⨾ equate 33 n (typeOf a) (typeOf b) in let Q : Table → Type 0 = And (And P (exprItems a Γ)) (exprItems b Γ) in (refl, root-fixed t Q a y, root-fixed t Q b z)) (pred-over (Off w) (equal n a b) Γ h f (r .off)) (ready-left w P C Γ (exprNumbers a ++ exprNumbers b) (n ∷ []) r)
+      (once-left (exprNumbers a ++ exprNumbers b) (n ∷ []) o) (f .0) (f .1) (λ w P C r u h o f. expr-separate a Γ w P C r u h o f) (λ w P C r u h o f. expr-separate b Γ w P C r u h o f)
   pred-separate (member n a b) Γ w P C r h o f =
-      relation-piece n a b (equate 33 n (powerOf (typeOf a)) (typeOf b)) w P C Γ (λ x q. q) (inl refl) (pred-over (Off w) (member n a b) Γ h f (r .off)) (ready-left w P C Γ (exprNumbers a ++ exprNumbers b) (n ∷ []) r)
-      (once-left (exprNumbers a ++ exprNumbers b) (n ∷ []) o) (f .0) (f .1) (λ w P C r h o f. expr-separate a Γ w P C r h o f) (λ w P C r h o f. expr-separate b Γ w P C r h o f)
+      relation-piece n a b (equate 33 n (powerOf (typeOf a)) (typeOf b)) w P C Γ (λ x q. q) (λ y z. let t = exprItems a Γ ⨾ exprItems b Γ ⨾ equate 33 n (powerOf (typeOf a)) (typeOf b) in let Q : Table → Type 0 = And (And P (exprItems a Γ)) (exprItems b Γ) in (refl, fixed-own t Q (powerOf (typeOf a)) (y, tt), root-fixed t Q b z)) (pred-over (Off w) (member n a b) Γ h f (r .off)) (ready-left w P C Γ (exprNumbers a ++ exprNumbers b) (n ∷ []) r)
+      (once-left (exprNumbers a ++ exprNumbers b) (n ∷ []) o) (f .0) (f .1) (λ w P C r u h o f. expr-separate a Γ w P C r u h o f) (λ w P C r u h o f. expr-separate b Γ w P C r u h o f)
   pred-separate (atMost n a b) Γ w P C r h o f =
-      relation-piece n a b (equate 33 n (typeOf a) integer ⨾ equate 33 n (typeOf b) integer) w P C Γ (λ x q. none-of x q) (inl refl, inl refl) (pred-over (Off w) (atMost n a b) Γ h f (r .off)) (ready-left w P C Γ (exprNumbers a ++ exprNumbers b) (n ∷ []) r)
-      (once-left (exprNumbers a ++ exprNumbers b) (n ∷ []) o) (f .0) (f .1) (λ w P C r h o f. expr-separate a Γ w P C r h o f) (λ w P C r h o f. expr-separate b Γ w P C r h o f)
+      relation-piece n a b (equate 33 n (typeOf a) integer ⨾ equate 33 n (typeOf b) integer) w P C Γ (λ x q. none-of x q) (λ y z. let t = exprItems a Γ ⨾ exprItems b Γ ⨾ equate 33 n (typeOf a) integer ⨾ equate 33 n (typeOf b) integer in let Q : Table → Type 0 = And (And P (exprItems a Γ)) (exprItems b Γ) in ((refl, root-fixed t Q a y, fixed-own t Q integer tt), (refl, root-fixed t Q b z, fixed-own t Q integer tt))) (pred-over (Off w) (atMost n a b) Γ h f (r .off)) (ready-left w P C Γ (exprNumbers a ++ exprNumbers b) (n ∷ []) r)
+      (once-left (exprNumbers a ++ exprNumbers b) (n ∷ []) o) (f .0) (f .1) (λ w P C r u h o f. expr-separate a Γ w P C r u h o f) (λ w P C r u h o f. expr-separate b Γ w P C r u h o f)
     where
       none-of : (x : ℕ) → ⊥ ⊎ ⊥ → ⊥
       none-of x (inl q) = q
@@ -134,7 +186,7 @@ mutual
       let u = once-left (A ++ B) (n ∷ []) o in
       let l = all-left (Own (Off w)) (A ++ B) (n ∷ []) h in (
         pred-separate p Γ w P C (ready-left w P C Γ A B z) (all-left (Own (Off w)) A B l) (once-left A B u) (f .0),
-        pred-separate q Γ w (And P (predItems p Γ)) (With A C) (ready-after w P C Γ A B (predItems p Γ) (apart A B u) (λ N h k. pred-over N p Γ h (f .0) k) (ready-right w P C Γ A B z)) (all-right (Own (Off w)) A B l) (once-right A B u) (f .1),
+        λ y. pred-separate q Γ w (And P (predItems p Γ)) (With A C) (ready-after w P C Γ A B (predItems p Γ) (apart A B u) (λ N h k. pred-over N p Γ h (f .0) k) (ready-right w P C Γ A B z)) (all-right (Own (Off w)) A B l) (once-right A B u) (f .1),
       )
   pred-separate (quantified n c t p) Γ w P C r h o f =
       let T = textNumbers t in
@@ -145,8 +197,8 @@ mutual
       let l = all-left (Own (Off w)) (T ++ A) (n ∷ []) h in
       let q = all-left (Own (Off w)) T A l in (
         text-separate t Γ blank w P C (ready-left w P C Γ T A z) q (once-left T A u) (f .0),
-        pred-separate p (inside t Γ) w (And P (textItems t Γ blank)) (With T C)
-            (ready-inside w (And P (textItems t Γ blank)) C Γ (inside t Γ) T A (λ N h k. inside-over N t Γ h (f .0) k) q
+        λ y. pred-separate p (inside t Γ) w (And P (textItems t Γ blank)) (With T C)
+            (ready-inside w (And P (textItems t Γ blank)) C Γ (inside t Γ) T A (λ N h k. inside-over N t Γ h (f .0) k) q (λ σ τ g k s. inside-same σ τ t Γ blank (agreed (textItems t Γ blank) P σ τ y g k) s)
             (ready-after w P C Γ T A (textItems t Γ blank) d (λ N h k. text-over N t Γ blank h (f .0) k) (ready-right w P C Γ T A z)))
             (all-right (Own (Off w)) T A l) (once-right T A u) (f .1),
       )
@@ -163,8 +215,8 @@ mutual
       let l = all-left (Own (Off w)) (A ++ L) (n ∷ []) h in
       let q = all-right (Own (Off w)) A L l in (
         lines-separate ls Γ G noNames w P C (ready-right w P C Γ A L z) q (none-having (Each C)) (none-having (Each (Off w))) (once-right A L u) (f .1),
-        pred-separate p (inside (text n p ls) Γ) w (And P t) (With L C)
-            (ready-inside w (And P t) C Γ (inside (text n p ls) Γ) L A (λ N h k. lines-inside N n p ls Γ h (f .1) k) q
+        λ y. pred-separate p (inside (text n p ls) Γ) w (And P t) (With L C)
+            (ready-inside w (And P t) C Γ (inside (text n p ls) Γ) L A (λ N h k. lines-inside N n p ls Γ h (f .1) k) q (λ σ τ g k s. inside-lines σ τ n p ls Γ G (agreed t P σ τ y g k) s)
             (ready-after w P C Γ L A t d (λ N h k. lines-over N ls Γ G noNames h (f .1) k (none-having (Each N))) (ready-left w P C Γ A L z)))
             (all-left (Own (Off w)) A L l) (once-left A L u) (f .0),
       )
@@ -190,12 +242,12 @@ mutual
       let b = once-left B L o in
       let y = ready-left w P C Γ B L r in (
         power-piece n 0 a w P C Γ (omega arith) (λ e. apart A (n ∷ []) b n e (first-has n [])) (y .new n 0 (has-right n A (n ∷ []) (first-has n [])) (omega arith)) (g .0) (ready-left w P C Γ A (n ∷ []) y) (once-left A (n ∷ []) b) (f .0)
-            (λ w P C r h o f. expr-separate a Γ w P C r h o f),
-        (
+            (λ w P C r u h o f. expr-separate a Γ w P C r u h o f),
+        λ p1. (
           bare-separate m w (And P x) (declared-new n is (unknownAt n 0) s G) (g .1 .0),
-          (
+          λ p2. (
             bare-separate c w (And (And P x) m) (small-few n (unknownAt n 0) s′) (g .1 .1 .0),
-            lines-separate ls Γ G s′ w (And (And (And P x) m) c) N (ready-and w (And (And P x) m) N Γ L c (v .1 .1 .0) (ready-and w (And P x) N Γ L m (v .1 .0) (ready-and w P N Γ L x (v .0) q)))
+            λ p3. lines-separate ls Γ G s′ w (And (And (And P x) m) c) N (ready-and w (And (And P x) m) N Γ L c (v .1 .1 .0) (ready-and w (And P x) N Γ L m (v .1 .0) (ready-and w P N Γ L x (v .0) q)))
                 (all-right (Own (Off w)) B L h) (declare-having (Each N) is (unknownAt n 0) s (all-right (Own N) A (n ∷ []) (own-all B C) .0 0 (omega arith)) k′) (declare-having (Each (Off w)) is (unknownAt n 0) s own j) (once-right B L o) (f .1),
           ),
         ),
@@ -215,11 +267,11 @@ mutual
       let v = inclusion-over N i Γ G s (own-all B C) (f .0) (q .scope) k′ in
       let g = inclusion-over (Off w) i Γ G s l (f .0) (r .off) j in (
         include-separate i Γ w P C (ready-left w P C Γ B L r) l (once-left B L o) (f .0),
-        (
+        λ p1. (
           bare-separate m w (And P x) (names-new (includeNode i) b s (namesOf b) G) (g .1 .0),
-          (
+          λ p2. (
             bare-separate c w (And (And P x) m) (smalls-few (includeNode i) b s′) (g .1 .1 .0),
-            lines-separate ls Γ G s′ w (And (And (And P x) m) c) N (ready-and w (And (And P x) m) N Γ L c (v .1 .1 .0) (ready-and w (And P x) N Γ L m (v .1 .0) (ready-and w P N Γ L x (v .0) q)))
+            λ p3. lines-separate ls Γ G s′ w (And (And (And P x) m) c) N (ready-and w (And (And P x) m) N Γ L c (v .1 .1 .0) (ready-and w (And P x) N Γ L m (v .1 .0) (ready-and w P N Γ L x (v .0) q)))
                 (all-right (Own (Off w)) B L h) (merge-having (Each N) b s (included-over N i Γ (own-all B C) (f .0)) k′) (merge-having (Each (Off w)) b s (included-over (Off w) i Γ l (f .0)) j) (once-right B L o) (f .1),
           ),
         ),
@@ -246,8 +298,8 @@ mutual
       let zb : has n B ≡ true → ⊥ = λ e. z (has-right n A B e) in
       let v = ready-one n k w P (With A C) Γ B (u .0) zb (ready-with w P C Γ A B (apart A B o) (ready-right w P C Γ A B r)) in (
         power-piece n k a w P C Γ (u .0) za (q k (omega arith) (u .0)) (mentions (Off w) a n k Γ (own k (u .0)) (all-left (Own (Off w)) A B h) (f .0) (r .off)) (ready-left w P C Γ A B r) (once-left A B o) (f .0)
-            (λ w P C r h o f. expr-separate a Γ w P C r h o f),
-        actuals-separate xs n (suc k) Γ w (And P x) N zb (u .1) (row-after n k A C (u .0) za q) own
+            (λ w P C r u h o f. expr-separate a Γ w P C r u h o f),
+        λ p. actuals-separate xs n (suc k) Γ w (And P x) N zb (u .1) (row-after n k A C (u .0) za q) own
             (ready-and w P N Γ B x (mentions N a n k Γ (inl refl) (all-map (With A C) N (λ y c. inr c) A (own-all A C)) (f .0) (v .scope)) v) (all-right (Own (Off w)) A B h) (once-right A B o) (f .1),
       )
 
@@ -257,7 +309,7 @@ unfolding schemaItems schemaNumbers SizedSchema Separate Over
 schema-separate (plain t) Γ w P C r h o f = text-separate t Γ blank w P C r h o f
 schema-separate (from i) Γ w P C r h o f = (
   include-separate i Γ w P C r h o f,
-  bare-separate (smallTypes (includeNode i) (includeSignature i Γ)) w _ (smalls-bare (includeNode i) (includeSignature i Γ)) (smalls-over (Off w) (includeNode i) (includeSignature i Γ) (included-over (Off w) i Γ h f)),
+  λ p. bare-separate (smallTypes (includeNode i) (includeSignature i Γ)) w _ (smalls-bare (includeNode i) (includeSignature i Γ)) (smalls-over (Off w) (includeNode i) (includeSignature i Γ) (included-over (Off w) i Γ h f)),
 )
 schema-separate (both n a b) Γ w P C r h o f =
     let A = schemaNumbers a in
@@ -267,10 +319,10 @@ schema-separate (both n a b) Γ w P C r h o f =
     let l = all-left (Own (Off w)) (A ++ B) (n ∷ []) h in
     let g = schema-over (Off w) (both n a b) Γ h f (r .off) in (
       schema-separate a Γ w P C (ready-left w P C Γ A B z) (all-left (Own (Off w)) A B l) (once-left A B u) (f .0),
-      (
+      λ p. (
         schema-separate b Γ w (And P (schemaItems a Γ)) (With A C) (ready-after w P C Γ A B (schemaItems a Γ) (apart A B u) (λ N h k. schema-over N a Γ h (f .0) k) (ready-right w P C Γ A B z)) (all-right (Own (Off w)) A B l)
             (once-right A B u) (f .1),
-        bare-separate (mergeNames n (schemaSignature b Γ) (schemaSignature a Γ) ⨾ fewNames n (merge (schemaSignature b Γ) (schemaSignature a Γ))) w (And (And P (schemaItems a Γ)) (schemaItems b Γ))
+        λ q. bare-separate (mergeNames n (schemaSignature b Γ) (schemaSignature a Γ) ⨾ fewNames n (merge (schemaSignature b Γ) (schemaSignature a Γ))) w (And (And P (schemaItems a Γ)) (schemaItems b Γ))
             (names-few n (schemaSignature b Γ) (schemaSignature a Γ) (merge (schemaSignature b Γ) (schemaSignature a Γ))) (g .1 .1),
       ),
     )
@@ -292,6 +344,7 @@ module _ (D : Dictionary) (d : FewRecorded D) where
     new = λ m k h u c. c;
     scope = parameters-over Nothing ps 1 (globals D) d;
     off = parameters-over (Off skip) ps 1 (globals D) d;
+    settled = λ σ τ g h. parameters-same σ τ ps 1 (globals D) (unfold ScopeSame in tt);
   }
 
   names-separate : (n : ℕ) (is : List ℕ) (P : Table → Type 0) → Separate (newNames n is D) skip P
@@ -306,13 +359,13 @@ module _ (D : Dictionary) (d : FewRecorded D) where
   paragraph-separate (abbreviation n i ps a) o f =
       let Γ = withParameters ps 1 (globals D) in
       let r = start (exprNumbers a) ps in (
-        expr-piece n a skip Any Nothing Γ (expr-over (Off skip) a Γ (off-skip (exprNumbers a)) f (r .off)) r (once-left (exprNumbers a) (n ∷ []) o) f (λ w P C r h o f. expr-separate a Γ w P C r h o f),
-        (names-separate n (i ∷ []) _, λ q. q),
+        expr-piece n a skip Any Nothing Γ (expr-over (Off skip) a Γ (off-skip (exprNumbers a)) f (r .off)) r (once-left (exprNumbers a) (n ∷ []) o) f (λ w P C r u h o f. expr-separate a Γ w P C r u h o f),
+        λ p. (names-separate n (i ∷ []) _, λ p1 q. q),
       )
   paragraph-separate (constraint n p) o f = pred-separate p (globals D) skip Any Nothing (start (predNumbers p) []) (off-skip (predNumbers p)) (once-left (predNumbers p) (n ∷ []) o) f
 
 alone-any : Alone skip Any Any
-alone-any = record { own = λ σ h. tt; all = λ σ h. tt }
+alone-any = record { own = λ σ h. tt; all = λ σ τ h o. tt; any = λ σ σ′ τ g h j. tt }
 
 paragraphs-alone : (ps : List Paragraph) (D : Dictionary) → EachOnce (paragraphsNumbers ps) → SizedParagraphs ps → FewRecorded D → PiecesAlone ps D
 unfolding PiecesAlone paragraphsNumbers SizedParagraphs

@@ -157,7 +157,7 @@ module _ (N : ℕ → Type 0) where
   scoped-over (ofLocal t) h = h
   scoped-over (ofGlobal p g) h = instance-over N nil g (nil-over N)
 
-  thetaSig-over : (k : ℕ) (s : Signature) (Γ : Scope) → ScopeOver N Γ → SigOver N (thetaSignature k s Γ)
+  pub thetaSig-over : (k : ℕ) (s : Signature) (Γ : Scope) → ScopeOver N Γ → SigOver N (thetaSignature k s Γ)
   unfolding thetaSignature
   thetaSig-over k noNames Γ h = tt
   thetaSig-over k (naming i t s) Γ h = (scoped-over (nameAt (decorate k i) Γ) (name-over N (decorate k i) Γ h), thetaSig-over k s Γ h)

@@ -9,7 +9,7 @@ use Rattle.syntax.specs.Tree.{Paragraph}
 use Rattle.types.specs.Types.{under}
 use Rattle.types.specs.Component.{componentType}
 use Rattle.typing.specs.Unknowns.{Table}
-use Rattle.typing.specs.Items.{Items, skip, _⨾_, fresh, equate, select, small, refusal, piece, Known, Meets, Agree, Any, And, Refuses}
+use Rattle.typing.specs.Items.{Items, skip, _⨾_, fresh, equate, select, small, refusal, piece, Known, Meets, Agree, Any, And, Passes, Refuses}
 use Rattle.typing.specs.Dictionary.{Dictionary}
 use Rattle.typing.specs.Rules.{paragraphItems}
 use Rattle.typing.specs.Entries.{extend}
@@ -30,25 +30,28 @@ Solves (piece n t) τ = Unit {0}
 abbrev pub Beside : Items → Table → Table → Type 0
 Beside w σ τ = (x : ℕ) → (Owns w x → ⊥) → σ x ≡ τ x
 
--- P are the tables that meet all that comes before in the paragraph, E those that solve the own equations of the piece w so far. A solution of these
--- equations alone: any types for the piece's own unknowns that solve E, beside a typing of what comes before.
-abbrev pub OwnSolution : Items → (Table → Type 0) → (Table → Type 0) → Table → Type 0
-OwnSolution w P E σ = ((τ : Table) × P τ × Beside w σ τ) × E σ
+-- E: the tables that solve the own equations of the piece w so far. A solution of them alone: types for the piece's own unknowns that solve E, beside a
+-- typing τ of what comes before.
+abbrev pub OwnSolution : Items → (Table → Type 0) → Table → Table → Type 0
+OwnSolution w E τ σ = Beside w σ τ × E σ
 
--- 33, 35 and 34 by the solutions of the own equations of their piece, at each item; w: the whole piece that the items are of.
+-- 33, 35 and 34 by the solutions of the own equations of their piece, at each item that is reached; w: the whole piece that the items are of; P: the tables
+-- that meet all that comes before in the paragraph. Beside any one of them, τ, it is the same: the types of other pieces are settled.
 unfoldable pub ByOwnEquations : Items → Items → (Table → Type 0) → (Table → Type 0) → Type 0
 ByOwnEquations skip w P E = Unit {0}
-ByOwnEquations (a ⨾ b) w P E = ByOwnEquations a w P E × ByOwnEquations b w (And P a) (λ τ. E τ × Solves a τ)
+ByOwnEquations (a ⨾ b) w P E = ByOwnEquations a w P E × (Passes a P → ByOwnEquations b w (And P a) (λ τ. E τ × Solves a τ))
 ByOwnEquations (fresh x) w P E = Unit {0}
-ByOwnEquations (equate f n a b) w P E = f ≡ 33 → (Refuses (equate f n a b) P 33 n ↔ ((σ : Table) → OwnSolution w P E σ → under σ a ≡ under σ b → ⊥))
+ByOwnEquations (equate f n a b) w P E =
+    f ≡ 33 → (τ : Table) → P τ → (Refuses (equate f n a b) P 33 n ↔ ((σ : Table) → OwnSolution w E τ σ → under σ a ≡ under σ b → ⊥))
 ByOwnEquations (select n i a x) w P E =
-    Refuses (select n i a x) P 35 n ↔ ((σ : Table) × OwnSolution w P E σ × (Known (componentType i (under σ a)) → ⊥))
+    (τ : Table) → P τ → (Refuses (select n i a x) P 35 n ↔ ((σ : Table) × OwnSolution w E τ σ × (Known (componentType i (under σ a)) → ⊥)))
 ByOwnEquations (small n a) w P E = Unit {0}
 ByOwnEquations (refusal f n) w P E = Unit {0}
 ByOwnEquations (piece n t) w P E =
     ByOwnEquations t t P Any
-    × (((σ τ : Table) × And P t σ × And P t τ × (Agree t σ τ → ⊥))
-    ↔ ((σ τ : Table) × OwnSolution t (And P t) (Solves t) σ × OwnSolution t (And P t) (Solves t) τ × (Agree t σ τ → ⊥)))
+    × (Passes t P → (τ : Table) → And P t τ
+    → (((σ υ : Table) × And P t σ × And P t υ × (Agree t σ υ → ⊥))
+    ↔ ((σ υ : Table) × OwnSolution t (Solves t) τ σ × OwnSolution t (Solves t) τ υ × (Agree t σ υ → ⊥))))
 
 -- The types of the pieces in items that pass are settled: all tables that meet the items give them the same ones (R15, "34 at the Decl otherwise").
 abbrev pub Settled : Items → (Table → Type 0) → Type 0
