@@ -1,5 +1,4 @@
 pub mod Outcomes
-pub mod LastEntry
 pub mod Findings
 pub mod Decoding
 pub mod StateWords

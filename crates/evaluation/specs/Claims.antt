@@ -1,19 +1,19 @@
 -- What may be said of an outcome: E of each listed node and value, S of a stop's number and node, P of what comes out.
 use mathlib.Core.Path.{_≡_}
-use mathlib.Core.List.{List, [], _∷_, _++_}
+use mathlib.Core.List.{List, [], _∷_}
 use mathlib.Core.Bool.{true, false}
 use Prim.Native.Nat.{ℕ, _≤_, _<_}
 use lib.ListN.{length}
 use Rattle.values.specs.Value.{Value}
 use Rattle.values.specs.WellFormed.{wellFormed}
-use Rattle.syntax.specs.Tree.{Document, Expr, Exprs, Include, integers, product, power, selection, theta, schemaSet}
+use Rattle.syntax.specs.Tree.{Expr, Exprs, Include, integers, product, power, selection, theta, schemaSet}
 use Rattle.syntax.specs.Reading.{readOf}
 use Rattle.syntax.specs.Decode.{treeOf}
 use Rattle.syntax.specs.declared.Reading.the-variants.{Readable, Refused as Unreadable}
 use Rattle.evaluation.specs.WordCount.{wordCount}
 use Rattle.evaluation.specs.Outcomes.{Event, worked, Outcome, done, stopped}
 use Rattle.state_words.specs.Names.{Name, documentNames}
-use Rattle.state_words.specs.States.{isPaired, givenNumber, valueNumber, stateOf}
+use Rattle.state_words.specs.States.{isPaired, givenNumber, valueNumber}
 use Rattle.evaluation.specs.Run.{Ran, ran}
 use Rattle.evaluation.specs.declared.Finding.the-variants.{Holds, Fails, Refused}
 
@@ -24,11 +24,6 @@ pub data Listed (E : ℕ → Value → Type 0) : List Event → Type 0 where
 pub data Good (E : ℕ → Value → Type 0) (S : ℕ → ℕ → Type 0) {A : Type 0} (P : A → Type 0) : Outcome A → Type 0 where
   finished : {t : List Event} {a : A} → Listed E t → P a → Good E S P (done t a)
   ceased : {t : List Event} {number node : ℕ} → Listed E t → S number node → Good E S P (stopped t number node)
-
--- node n has its entry once its value is complete, after all that was listed on the way (R28)
-pub data Last (n : ℕ) : Outcome Value → Type 0 where
-  last : (t : List Event) (v : Value) → Last n (done (t ++ (worked n v ∷ [])) v)
-  none : {t : List Event} {number node : ℕ} → Last n (stopped t number node)
 
 -- the expressions that are 54 as values (R23)
 pub data NotRun : Expr → Type 0 where
