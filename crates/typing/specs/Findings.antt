@@ -1,5 +1,5 @@
--- When the findings 31, 32, 36, 37 and 38 come at their nodes, in lookups, signatures and types, as the table of document 01 words it; 33, 34 and 35 are
--- worded by `Refuses` itself. That the rules give each finding there and nowhere else: proofs/FindingLaws.
+-- When the findings 31, 32, 36, 37 and 38 come at their nodes, in lookups, signatures and types, as the table of document 01 words it. That the rules give
+-- each finding there and nowhere else: specs/FindingRows. (33, 34 and 35: specs/PieceEquations.)
 use mathlib.Core.Path.{_≡_}
 use mathlib.Core.Bool.{true}
 use mathlib.Core.List.{List, [], _∷_}

@@ -1,5 +1,5 @@
 -- What a typing is, kind by kind and in types, as document 01's "Typing rules" word it: no items, no order of visiting, no finding numbers. A table is
--- a typing of a paragraph exactly where it meets the paragraph's items (proofs/TypingLaws), so that the rules ask neither less than this nor more.
+-- a typing of a paragraph exactly where it meets the paragraph's items (specs/RuleTypings), so that the rules ask neither less than this nor more.
 use mathlib.Core.Path.{_≡_}
 use mathlib.Core.Bool.{true, false}
 use mathlib.Core.List.{List, [], _∷_}
