@@ -43,11 +43,6 @@ off f ceased = ceased
 pub assoc-comes : {A B C : Type 0} (o : Outcome A) (f : A → Outcome B) (g : B → Outcome C) {t : List Event} {r : Result C} → Comes (o >>= λ a. f a >>= g) t r → Comes ((o >>= f) >>= g) t r
 assoc-comes o f g {t = t} {r = r} h = subst (λ (x : Outcome _). Comes x t r) (sym (bind-assoc o f g)) h
 
--- one outcome has one list and one result
-pub one-list : {A : Type 0} {o : Outcome A} {t u : List Event} {r q : Result A} → Comes o t r → Comes o u q → (t ≡ u) × (r ≡ q)
-one-list finished finished = (refl, refl)
-one-list ceased ceased = (refl, refl)
-
 pub enters-comes : {n : ℕ} {v : Value} {t : List Event} {r : Result Value} → Enters n v t r → Comes (keep n v) t r
 unfolding keep keepIf
 enters-comes {v = v} (entered h) = rw (le-leb (wordCount v) 64 h) finished

@@ -22,7 +22,8 @@ use Rattle.evaluation.specs.Evaluations
 use Rattle.evaluation.specs.Evaluations.{Gives, gave, Evaluation, StopsAt, Operand, Adding, EachPart, Reaches, Within, itself, further, Tested, Begins, BeginsIn}
 use Rattle.evaluation.specs.Troubles
 use Rattle.evaluation.specs.Troubles.{Divides, Exceeds, Misfit, NoResult, PastBits, Unrun, TooLong, Row, row51, row52, row53, row54, row55, InRun, inRun}
-use Rattle.evaluation.specs.TroublePlaces.{At, numbersOf, PlacedExpr, PlacedExprs, PlacedTest, PlacedTests, PlacedInclude, PlacedAxiom, PlacedParagraph, PlacedParagraphs}
+use Rattle.syntax.specs.Places.{At}
+use Rattle.evaluation.specs.TroublePlaces.{numbersOf, PlacedExpr, PlacedExprs, PlacedTest, PlacedTests, PlacedInclude, PlacedAxiom, PlacedParagraph, PlacedParagraphs}
 use Rattle.evaluation.specs.TroublePlaces.{PlacedDocument, PlacedEvaluation, TroublePlaces}
 use Rattle.evaluation.proofs.RuleLaws.{not-run}
 use Rattle.evaluation.proofs.EvaluationLists.{value-said}

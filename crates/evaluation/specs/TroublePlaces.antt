@@ -1,15 +1,14 @@
 -- The column "Place" of the table of findings: which of the numbers 51 to 55 a node of each kind can get. w at m in a tree: m is one of its nodes, of a
 -- kind that can get w, and not below one that is never worked out. (A Ref's 55 is for scopes in general; in a run none comes, proofs/ShortNames.)
 use mathlib.Core.Path.{_≡_}
-use mathlib.Core.Bool.{true}
 use mathlib.Core.List.{List, [], _∷_}
 use mathlib.Core.Logic.{_⊎_}
 use Prim.Native.Nat.{ℕ, _≤_}
-use Rattle.words.specs.Loops.{has}
 use Rattle.syntax.specs.Tree.{Operator, plus, minus, times, Expr, reference, number, integers, set, tuple, product, power, application, selection, theta, schemaSet}
 use Rattle.syntax.specs.Tree.{arithmetic, comprehension, Exprs, none, more, Pred, truth, equal, member, atMost, not, connected, quantified, Text, text}
 use Rattle.syntax.specs.Tree.{Lines, end, declaration, inclusion, Include, include, Paragraph, given, axiomatic, schema, abbreviation, constraint, Document, document}
 use Rattle.syntax.specs.Tree as Tree
+use Rattle.syntax.specs.Places.{At}
 use Rattle.syntax.specs.Reading.{readOf}
 use Rattle.syntax.specs.Decode.{treeOf}
 use Rattle.syntax.specs.declared.Reading.the-variants.{Readable}
@@ -21,10 +20,6 @@ use Rattle.evaluation.specs.Run.{runOf}
 use Rattle.evaluation.specs.Claims.{Trouble, WellFormed}
 use Rattle.evaluation.specs.Evaluations.{Stops, Evaluation, working, telling, testing, declaring, including, StopsAt}
 use Rattle.evaluation.specs.declared.Finding.the-variants.{Refused}
-
--- w at m is at n, with one of the numbers
-abbrev pub At : ℕ → ℕ → ℕ → List ℕ → Type 0
-At w m n l = (m ≡ n) × (has w l ≡ true)
 
 -- 52 at div and mod alone, 53 at the others
 unfoldable pub numbersOf : Operator → List ℕ

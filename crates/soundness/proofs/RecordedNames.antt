@@ -20,7 +20,7 @@ use Rattle.typing.specs.Scopes.{Scope, globals, linesSignature, textSignature}
 use Rattle.typing.specs.Rules.{textItems, linesItems, paragraphItems}
 use Rattle.typing.specs.Verdicts.{Accepts}
 use Rattle.typing.specs.WellFormed.{FormedDictionary}
-use Rattle.typing.specs.Check.{accepted, paragraphsOf}
+use Rattle.typing.specs.Check.{paragraphsOf}
 use Rattle.soundness.proofs.EachName.{Every, none, also, every-append}
 use Rattle.state_words.specs.Names.{Name, namesAs, lineNames, paragraphNames, namesOf, documentNames}
 use Rattle.soundness.proofs.Scopes.{overRecorded, name-added, names-stay, lines-stay, merge-fits, merges-next, added}

@@ -2,6 +2,7 @@ pub mod Identifiers
 pub mod Kinds
 pub mod Nodes
 pub mod Findings
+pub mod Places
 pub mod Repeats
 pub mod Limits
 pub mod Reading

@@ -29,7 +29,8 @@ use Rattle.typing.specs.Entries.{paragraphNode}
 use Rattle.typing.specs.Check.{refused, checkOf, paragraphsOf}
 use Rattle.typing.specs.Items.{Any}
 use Rattle.typing.specs.Verdicts.{AnswersFrom, AnswersTree, Answers}
-use Rattle.typing.specs.Places.{At, PlacedExpr, PlacedExprs, PlacedPred, PlacedText, PlacedLines, PlacedInclude, PlacedSchema, PlacedParagraph}
+use Rattle.syntax.specs.Places.{At}
+use Rattle.typing.specs.Places.{PlacedExpr, PlacedExprs, PlacedPred, PlacedText, PlacedLines, PlacedInclude, PlacedSchema, PlacedParagraph}
 use Rattle.typing.specs.Places.{PlacedParagraphs}
 use Rattle.typing.proofs.CheckRight.{check-right}
 use Rattle.typing.proofs.GlobalNames.{or-side}

@@ -26,7 +26,8 @@ use Rattle.typing.specs.Rules.{textItems, linesItems, includeItems, actu
 use Rattle.typing.specs.Entries.{extend, paragraphNode}
 use Rattle.typing.specs.Verdicts.{RefusesAt}
 use Rattle.typing.specs.Typing.{schemaOf}
-use Rattle.typing.specs.Places.{At, PlacedExpr, PlacedExprs, PlacedPred, PlacedText, PlacedLines, PlacedInclude, PlacedSchema, PlacedParagraph}
+use Rattle.syntax.specs.Places.{At}
+use Rattle.typing.specs.Places.{PlacedExpr, PlacedExprs, PlacedPred, PlacedText, PlacedLines, PlacedInclude, PlacedSchema, PlacedParagraph}
 use Rattle.typing.specs.Places.{PlacedParagraphs}
 use Rattle.typing.proofs.FindingLaws.{fresh-none}
 

@@ -15,7 +15,7 @@ use Rattle.typing.specs.Unknowns.{slot, unknownAt, row}
 use Rattle.typing.specs.Dictionary.{nameEntry, schemaEntry, Dictionary, blank, _▸_, Named, unnamed, ofLocal, ofGlobal, nameIn, Found, noSchema, aSchema}
 use Rattle.typing.specs.Signatures.{Signature, noNames, naming, termsOf, bindingOf, withNames, componentsOf}
 use Rattle.typing.specs.Signatures.{merge, declare}
-use Rattle.typing.specs.Scopes.{Scope, globals, local, nameAt, schemaNamed, withParameters, enter, brought, includeSignature, includeNode}
+use Rattle.typing.specs.Scopes.{Scope, globals, local, nameAt, schemaNamed, withParameters, enter, brought, includeSignature}
 use Rattle.typing.specs.Scopes.{linesSignature, textSignature, inside, schemaSignature}
 use Rattle.typing.specs.Conditions.{freshRow}
 use Rattle.typing.proofs.SignatureTerms.{Having, merge-having, declare-having, stroke-having, rename-having}
@@ -155,10 +155,6 @@ module _ (N : ℕ → Type 0) where
   unfolding brought
   brought-over noSchema ts k rs h = tt
   brought-over (aSchema p g) ts k rs h = rename-having (Each N) rs _ (stroke-having (Each N) k _ (components-over (instance ts g) (instance-over ts g h)))
-
-  include-own : (i : Include) → AllIn Own (includeNumbers i) → Own (includeNode i)
-  unfolding includeNumbers includeNode
-  include-own (include n s k xs rs) h = all-right Own (exprsNumbers xs) (n ∷ []) h .0
 
   pub included-over : (i : Include) (Γ : Scope) → AllIn Own (includeNumbers i) → SizedInclude i → SigOver (includeSignature i Γ)
   unfolding includeSignature includeNumbers SizedInclude

@@ -1,21 +1,15 @@
--- The column "Place" of the table of findings: which of the numbers 31 to 38 a node of each kind can get. f at j in a tree: j is one of its nodes, of a kind
--- that can get f.
-use mathlib.Core.Path.{_≡_}
-use mathlib.Core.Bool.{true}
+-- The column "Place" of the table of findings: which of the numbers 31 to 38 a node of each kind can get at most. f at j in a tree: j is one of its nodes, of
+-- a kind that can get f; 33 stands at every kind whose rule has an equation.
 use mathlib.Core.List.{List, [], _∷_}
 use mathlib.Core.Logic.{_⊎_}
 use Prim.Native.Nat.{ℕ}
-use Rattle.words.specs.Loops.{has}
 use Rattle.syntax.specs.Tree.{Expr, reference, number, integers, set, tuple, product, power, application, selection, theta, schemaSet, arithmetic}
 use Rattle.syntax.specs.Tree.{comprehension, Exprs, none, more, Pred, truth, equal, member, atMost, not, connected, quantified, Text, text, Lines}
 use Rattle.syntax.specs.Tree.{end, declaration, inclusion, Include, include, Schema, plain, from, both, Paragraph, given, axiomatic, schema}
 use Rattle.syntax.specs.Tree.{abbreviation, constraint}
+use Rattle.syntax.specs.Places.{At}
 use Rattle.typing.specs.Scopes.{includeNode}
 use Rattle.typing.specs.Entries.{paragraphNode}
-
--- f at j is at n, with one of the numbers
-abbrev pub At : ℕ → ℕ → ℕ → List ℕ → Type 0
-At f j n l = (j ≡ n) × (has f l ≡ true)
 
 unfoldable mutual
   pub PlacedExpr : ℕ → ℕ → Expr → Type 0
