@@ -3,10 +3,10 @@ use mathlib.Core.Path.{_≡_}
 use mathlib.Core.List.{List}
 use Prim.Native.Nat.{ℕ}
 use lib.ListN.{length, replicate}
-use Rattle.evaluation.specs.Run.{runOf}
-use Rattle.typing.specs.Check.{Answer}
-use Rattle.typing.specs.Areas.{findingOf, dictionaryAfter, workAfter}
-use Rattle.finding_codes.specs.Code.{checkCode, runCode}
+use Rattle.evaluator_rules.specs.Run.{runOf}
+use Rattle.checker_rules.specs.Check.{Answer}
+use Rattle.checker_rules.specs.Areas.{findingOf, dictionaryAfter, workAfter}
+use Rattle.capi_codes.specs.Code.{checkCode, runCode}
 
 -- the check call and the fit call, with areas of d and w words: the number of their answer, and what each area then holds
 pub record Decided (a : Answer) (d w code : ℕ) (dictionary work : List ℕ) : Type 0 where

@@ -1,17 +1,17 @@
 // The calls for C and Rust. Each gives its finding as one number.
-use finding_codes::check_code;
-use finding_codes::code_of;
-use finding_codes::finding_of;
-use finding_codes::run_code;
+use capi_codes::check_code;
+use capi_codes::code_of;
+use capi_codes::finding_of;
+use capi_codes::run_code;
 ghost use mathlib.Core.Path.{_≡_};
 ghost use lib.ListN.{length};
-ghost use Rattle.syntax.specs.Reading.{readOf};
-ghost use Rattle.state_words.specs.States.{stateCheckOf};
-ghost use Rattle.typing.specs.Check.{checkOf};
-ghost use Rattle.fit.specs.Fit.{fitOf};
-ghost use Rattle.printing.specs.Print.{printOf};
-ghost use Rattle.printing.specs.Buffer.{Printed};
-ghost use Rattle.finding_codes.specs.Code.{codeOf, findingOf};
+ghost use Rattle.reader_rules.specs.Reading.{readOf};
+ghost use Rattle.states_rules.specs.States.{stateCheckOf};
+ghost use Rattle.checker_rules.specs.Check.{checkOf};
+ghost use Rattle.fitter_rules.specs.Fit.{fitOf};
+ghost use Rattle.printer_rules.specs.Print.{printOf};
+ghost use Rattle.printer_rules.specs.Buffer.{Printed};
+ghost use Rattle.capi_codes.specs.Code.{codeOf, findingOf};
 ghost use Rattle.capi.specs.Areas.{Decided, Ran};
 
 // Reading: 0 where the document is readable, else one of 11 to 17 with its place.
@@ -45,7 +45,7 @@ pub extern "C" fn z_check(doc: &[u32], dict: &mut [u32], work: &mut [u32]) -> u6
 pub extern "C" fn z_fit(doc: &[u32], state: &[u32], dict: &mut [u32], work: &mut [u32]) -> u64
     ensures { λ n. ⌜ Decided (fitOf (now (doc .entry)) (now (state .entry)) (length (now (dict .entry))) (length (now (work .entry)))) (length (now (dict .entry))) (length (now (work .entry))) n (now (dict .exit)) (now (work .exit)) ⌝ }
 {
-    check_code(fitting::fit(doc, state, dict, work))
+    check_code(fitter::fit(doc, state, dict, work))
 }
 
 // A run of a document over a state: reading's finding first, then 21, 41, and those of the paragraphs. The work area is zeros afterwards.

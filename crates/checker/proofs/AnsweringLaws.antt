@@ -5,18 +5,18 @@ use mathlib.Core.List.{List, _++_}
 use Prim.Native.Nat.{ℕ, _-_, _≤_, _<_}
 use native.Mathlib.Omega.{arith}
 use lib.ListN.{length, replicate}
-use Rattle.syntax.specs.Reading.{readOf}
-use Rattle.syntax.specs.Tree.{Document}
-use Rattle.syntax.specs.Decode.{treeOf}
-use Rattle.syntax.specs.declared.Reading.the-variants.{Readable, Refused as Unreadable}
-use Rattle.typing.specs.Areas.{findingOf, dictionaryAfter, Checked}
-use Rattle.typing.specs.Check.{Answer, accepted, refused, paragraphsOf, checkOf}
-use Rattle.typing.specs.Dictionary.{blank, dictionaryWords, dictionaryLength}
-use Rattle.typing.specs.Items.{Any}
-use Rattle.typing.specs.Verdicts.{AnswersTree, Answers}
-use Rattle.typing.specs.declared.Finding.{Finding}
-use Rattle.typing.specs.declared.Finding.the-variants.{Accepted, Refused}
-use Rattle.typing.proofs.CheckRight.{check-right}
+use Rattle.reader_rules.specs.Reading.{readOf}
+use Rattle.reader_rules.specs.Tree.{Document}
+use Rattle.reader_rules.specs.Decode.{treeOf}
+use Rattle.reader_rules.specs.declared.Reading.the-variants.{Readable, Refused as Unreadable}
+use Rattle.checker_rules.specs.Areas.{findingOf, dictionaryAfter, Checked}
+use Rattle.checker_rules.specs.Check.{Answer, accepted, refused, paragraphsOf, checkOf}
+use Rattle.checker_rules.specs.Dictionary.{blank, dictionaryWords, dictionaryLength}
+use Rattle.checker_rules.specs.Items.{Any}
+use Rattle.checker_rules.specs.Verdicts.{AnswersTree, Answers}
+use Rattle.checker_rules.specs.declared.Finding.{Finding}
+use Rattle.checker_rules.specs.declared.Finding.the-variants.{Accepted, Refused}
+use Rattle.checker_rules.proofs.CheckRight.{check-right}
 use Rattle.checker.specs.Answering.{Told, Answered, TreeAnswered}
 
 -- A refusal's area holds no dictionary yet.

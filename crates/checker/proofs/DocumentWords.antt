@@ -6,9 +6,9 @@ use native.Mathlib.Omega.{arith}
 use lib.ListN.{length}
 use Rattle.layout.specs.Layout.{count, part}
 use Rattle.layout.proofs.Laws.{part-length}
-use Rattle.syntax.specs.Reading.{readOf}
-use Rattle.syntax.proofs.Accepted.{readable, some-words}
-use Rattle.syntax.specs.declared.Reading.the-variants.{Readable}
+use Rattle.reader_rules.specs.Reading.{readOf}
+use Rattle.reader_rules.proofs.Accepted.{readable, some-words}
+use Rattle.reader_rules.specs.declared.Reading.the-variants.{Readable}
 
 -- One word for its kind at least, and no more than the document has.
 module _ (doc : List ℕ) (r : readOf doc ≡ Readable) where

@@ -5,20 +5,20 @@ use Prim.Native.Nat.{ℕ, _-_, _≤_}
 use native.Mathlib.Omega.{arith}
 use lib.ListN.{length, replicate, getD-replicate, length-replicate}
 use Rattle.layout.specs.Layout.{count, part}
-use Rattle.syntax.specs.Reading.{readOf}
-use Rattle.syntax.specs.Tree.{Paragraph}
-use Rattle.syntax.specs.Decode.{paragraphsFrom, treeOf}
-use Rattle.syntax.proofs.TreeParagraph.{document-law}
-use Rattle.syntax.specs.declared.Reading.the-variants.{Readable}
-use Rattle.typing.specs.Check.{paragraphsOf}
-use Rattle.typing.specs.Dictionary.{blank, entries, entryPairs, allWords, laidOutWords, dictionaryWords, dictionaryLength}
-use Rattle.typing.specs.Items.{Any}
-use Rattle.typing.specs.Verdicts.{AnswersFrom}
-use Rattle.typing.specs.WellFormed.{FormedDictionary}
-use Rattle.typing.specs.declared.Finding.{Finding}
-use Rattle.dictionary.specs.Holds.{Holds}
-use Rattle.instances.specs.Clean.{Clean}
-use Rattle.names.specs.Scoped.{DictionaryHeld, Limited}
+use Rattle.reader_rules.specs.Reading.{readOf}
+use Rattle.reader_rules.specs.Tree.{Paragraph}
+use Rattle.reader_rules.specs.Decode.{paragraphsFrom, treeOf}
+use Rattle.reader_rules.proofs.TreeParagraph.{document-law}
+use Rattle.reader_rules.specs.declared.Reading.the-variants.{Readable}
+use Rattle.checker_rules.specs.Check.{paragraphsOf}
+use Rattle.checker_rules.specs.Dictionary.{blank, entries, entryPairs, allWords, laidOutWords, dictionaryWords, dictionaryLength}
+use Rattle.checker_rules.specs.Items.{Any}
+use Rattle.checker_rules.specs.Verdicts.{AnswersFrom}
+use Rattle.checker_rules.specs.WellFormed.{FormedDictionary}
+use Rattle.checker_rules.specs.declared.Finding.{Finding}
+use Rattle.checker_dictionary.specs.Holds.{Holds}
+use Rattle.types_instances.specs.Clean.{Clean}
+use Rattle.checker_lookup.specs.Scoped.{DictionaryHeld, Limited}
 use Rattle.checker.specs.Answering.{ParagraphsAsk, Answered}
 use Rattle.checker.proofs.DocumentWords.{words-some}
 

@@ -7,21 +7,21 @@ use native.Mathlib.Omega.{arith}
 use native.Mathlib.Numerals.{add-one}
 use lib.ListN.{length}
 use Rattle.layout.specs.Layout.{count}
-use Rattle.syntax.specs.Nodes.{operandAt}
-use Rattle.syntax.specs.Tree.{Paragraph}
-use Rattle.syntax.specs.Decode.{gather, paragraphAt, paragraphsFrom}
-use Rattle.typing.specs.Areas.{findingOf}
-use Rattle.typing.specs.Check.{Answer, accepted, refused}
-use Rattle.typing.specs.Dictionary.{Dictionary}
-use Rattle.typing.specs.Entries.{extend}
-use Rattle.typing.specs.Items.{Any}
-use Rattle.typing.specs.Verdicts.{Accepts, RefusesAt, AnswersFrom}
-use Rattle.typing.specs.declared.Finding.{Finding}
-use Rattle.typing.specs.declared.Finding.the-variants.{Accepted, Refused}
-use Rattle.dictionary.specs.Holds.{Holds}
-use Rattle.instances.proofs.CleanLaws.{clean-lower}
-use Rattle.names.specs.Scoped.{DictionaryHeld}
-use Rattle.extension.specs.Entering.{Listed, Grown, Entered}
+use Rattle.reader_rules.specs.Nodes.{operandAt}
+use Rattle.reader_rules.specs.Tree.{Paragraph}
+use Rattle.reader_rules.specs.Decode.{gather, paragraphAt, paragraphsFrom}
+use Rattle.checker_rules.specs.Areas.{findingOf}
+use Rattle.checker_rules.specs.Check.{Answer, accepted, refused}
+use Rattle.checker_rules.specs.Dictionary.{Dictionary}
+use Rattle.checker_rules.specs.Entries.{extend}
+use Rattle.checker_rules.specs.Items.{Any}
+use Rattle.checker_rules.specs.Verdicts.{Accepts, RefusesAt, AnswersFrom}
+use Rattle.checker_rules.specs.declared.Finding.{Finding}
+use Rattle.checker_rules.specs.declared.Finding.the-variants.{Accepted, Refused}
+use Rattle.checker_dictionary.specs.Holds.{Holds}
+use Rattle.types_instances.proofs.CleanLaws.{clean-lower}
+use Rattle.checker_lookup.specs.Scoped.{DictionaryHeld}
+use Rattle.checker_extension.specs.Entering.{Listed, Grown, Entered}
 use Rattle.checker.specs.Answering.{ParagraphsAsk, Answered}
 use Rattle.checker.proofs.AnsweringLaws.{told-refused}
 use Rattle.checker.proofs.DocumentWords.{words-few}

@@ -4,17 +4,17 @@ use mathlib.Core.List.{List}
 use Prim.Native.Nat.{ℕ, _+_, _*_, _≤_}
 use lib.ListN.{length}
 use Rattle.layout.specs.Layout.{count, part}
-use Rattle.syntax.specs.Reading.{readOf}
-use Rattle.syntax.specs.Tree.{Paragraph, Document}
-use Rattle.syntax.specs.declared.Reading.the-variants.{Readable}
-use Rattle.typing.specs.Areas.{findingOf}
-use Rattle.typing.specs.Check.{Answer, accepted, checkOf}
-use Rattle.typing.specs.Dictionary.{Dictionary, dictionaryLength}
-use Rattle.typing.specs.Items.{Any}
-use Rattle.typing.specs.Verdicts.{AnswersFrom, AnswersTree}
-use Rattle.typing.specs.declared.Finding.{Finding}
-use Rattle.dictionary.specs.Holds.{Holds}
-use Rattle.extension.specs.Entering.{Ready}
+use Rattle.reader_rules.specs.Reading.{readOf}
+use Rattle.reader_rules.specs.Tree.{Paragraph, Document}
+use Rattle.reader_rules.specs.declared.Reading.the-variants.{Readable}
+use Rattle.checker_rules.specs.Areas.{findingOf}
+use Rattle.checker_rules.specs.Check.{Answer, accepted, checkOf}
+use Rattle.checker_rules.specs.Dictionary.{Dictionary, dictionaryLength}
+use Rattle.checker_rules.specs.Items.{Any}
+use Rattle.checker_rules.specs.Verdicts.{AnswersFrom, AnswersTree}
+use Rattle.checker_rules.specs.declared.Finding.{Finding}
+use Rattle.checker_dictionary.specs.Holds.{Holds}
+use Rattle.checker_extension.specs.Entering.{Ready}
 
 -- The m operands of the Document from i on are left. Each paragraph before them has added 16,384 words to the dictionary at most.
 pub record ParagraphsAsk (doc s d w : List ℕ) (i m : ℕ) : Type 0 where

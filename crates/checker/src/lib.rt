@@ -1,26 +1,26 @@
-// The check call: a document's finding, and the dictionary of an accepted one. The definitions are in the crate `typing`, specs/Areas and specs/Check.
+// The check call: a document's finding, and the dictionary of an accepted one. The definitions are in the crate `checker_rules`, specs/Areas and specs/Check.
+use checker_dictionary::growth::begin;
+use checker_extension::enter;
+use checker_rules::Finding;
 use codes::findings;
 use codes::limits;
-use dictionary::growth::begin;
-use extension::enter;
 use layout::part;
-use node_forms::nodes::operand;
 use reader::read;
-use syntax::Reading;
-use typing::Finding;
+use reader_nodes::nodes::operand;
+use reader_rules::Reading;
 use words::clear;
 use words::word;
 ghost use mathlib.Core.Path.{_≡_};
 ghost use Prim.Native.Nat.{_≤_, _<_};
 ghost use lib.ListN.{length};
 ghost use Rattle.layout.specs.Layout.{count};
-ghost use Rattle.syntax.specs.Decode.{treeOf, paragraphsFrom};
-ghost use Rattle.syntax.specs.Reading.{readOf};
-ghost use Rattle.syntax.specs.declared.Reading.the-variants.{Readable};
-ghost use Rattle.typing.specs.Areas.{Checked};
-ghost use Rattle.typing.specs.Check.{paragraphsOf};
-ghost use Rattle.typing.specs.Dictionary.{Dictionary, blank};
-ghost use Rattle.names.specs.Scoped.{DictionaryHeld};
+ghost use Rattle.reader_rules.specs.Decode.{treeOf, paragraphsFrom};
+ghost use Rattle.reader_rules.specs.Reading.{readOf};
+ghost use Rattle.reader_rules.specs.declared.Reading.the-variants.{Readable};
+ghost use Rattle.checker_rules.specs.Areas.{Checked};
+ghost use Rattle.checker_rules.specs.Check.{paragraphsOf};
+ghost use Rattle.checker_rules.specs.Dictionary.{Dictionary, blank};
+ghost use Rattle.checker_lookup.specs.Scoped.{DictionaryHeld};
 ghost use Rattle.checker.specs.Answering.{ParagraphsAsk, Answered, TreeAnswered, Answering};
 
 // The m paragraphs from operand i of the Document on.
@@ -55,7 +55,7 @@ fn check_paragraphs(doc: &[u32], dict: &mut [u32], work: &mut [u32]) -> Finding
     requires { ⌜ (readOf (now doc) ≡ Readable) × (16384 ≤ length (now work)) × (0 < length (now dict)) ⌝ }
     ensures { λ r. ⌜ Answered (paragraphsOf (treeOf (now (doc .entry)))) blank (length (now (dict .entry))) (now (dict .exit)) r ⌝ }
 {
-    let mut a = [0u32; cells::area::AREA];
+    let mut a = [0u32; types_cells::area::AREA];
     begin(dict);
     let n = word(doc, 0);
     let m = part(doc, n).len() - 1;

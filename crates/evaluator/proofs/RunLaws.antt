@@ -6,23 +6,23 @@ use Prim.Native.Nat.{ℕ, _-_}
 use native.Mathlib.Omega.{arith}
 use lib.ListN.{length}
 use Rattle.layout.specs.Layout.{count, part}
-use Rattle.syntax.specs.Reading.{readOf}
-use Rattle.syntax.specs.declared.Reading.the-variants.{Readable}
-use Rattle.syntax.specs.Decode.{paragraphsFrom, treeOf}
-use Rattle.syntax.proofs.TreeParagraph.{document-law}
-use Rattle.state_words.specs.Names.{namesOf}
-use Rattle.state_words.specs.States.{State}
+use Rattle.reader_rules.specs.Reading.{readOf}
+use Rattle.reader_rules.specs.declared.Reading.the-variants.{Readable}
+use Rattle.reader_rules.specs.Decode.{paragraphsFrom, treeOf}
+use Rattle.reader_rules.proofs.TreeParagraph.{document-law}
+use Rattle.states_rules.specs.Names.{namesOf}
+use Rattle.states_rules.specs.States.{State}
 use Rattle.states.proofs.NameLaws.{document-names}
-use Rattle.evaluation.specs.Outcomes.{Outcome}
-use Rattle.evaluation.specs.Scope.{empty}
-use Rattle.evaluation.specs.Paragraphs.{Step, onward, failed, runParagraphs, runDocument}
-use Rattle.operations.specs.declared.worked.Worked.{Worked}
-use Rattle.evaluation.specs.declared.Finding.{Finding}
-use Rattle.evaluation.specs.declared.Finding.the-variants.{Holds, Fails, Refused}
-use Rattle.operations.specs.Worked.{Told, fine, ceased}
-use Rattle.evaluation.specs.Run.{ending}
-use Rattle.blocks.specs.Named.{Declares}
-use Rattle.running.specs.Paragraphs.{Stepped}
+use Rattle.evaluator_rules.specs.Outcomes.{Outcome}
+use Rattle.evaluator_rules.specs.Scope.{empty}
+use Rattle.evaluator_rules.specs.Paragraphs.{Step, onward, failed, runParagraphs, runDocument}
+use Rattle.evaluator_operations.specs.declared.worked.Worked.{Worked}
+use Rattle.evaluator_rules.specs.declared.Finding.{Finding}
+use Rattle.evaluator_rules.specs.declared.Finding.the-variants.{Holds, Fails, Refused}
+use Rattle.evaluator_operations.specs.Worked.{Told, fine, ceased}
+use Rattle.evaluator_rules.specs.Run.{ending}
+use Rattle.evaluator_scope.specs.Named.{Declares}
+use Rattle.evaluator_paragraphs.specs.Paragraphs.{Stepped}
 
 module _ {y : Worked} where
   pub refused-finding : {o : Outcome Step} → Told (Stepped (λ s. Unit {0})) y o → (y .number ≡ 0 → ⊥) → Refused (y .number) (y .place) ≡ ending o .finding

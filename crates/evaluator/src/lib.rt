@@ -1,26 +1,26 @@
-// The run call. The definitions are in the crate `evaluation`, the paragraphs in `running`; nothing here looks at the checker.
+// The run call. The definitions are in the crate `evaluator_rules`, the paragraphs in `evaluator_paragraphs`; nothing here looks at the checker.
 use codes::findings;
 use codes::limits;
-use evaluation::Finding;
+use evaluator_operations::worked::Worked;
+use evaluator_rules::Finding;
 use layout::part;
-use operations::worked::Worked;
-use syntax::Reading;
+use reader_rules::Reading;
 use words::clear;
 use words::word;
 ghost use mathlib.Core.Path.{_≡_};
 ghost use Prim.Native.Nat.{_≤_};
 ghost use lib.ListN.{length};
-ghost use Rattle.syntax.specs.Reading.{readOf};
-ghost use Rattle.syntax.specs.Decode.{treeOf};
-ghost use Rattle.syntax.specs.declared.Reading.the-variants.{Readable};
-ghost use Rattle.state_words.specs.Names.{documentNames};
-ghost use Rattle.state_words.specs.States.{stateOf};
-ghost use Rattle.evaluation.specs.Outcomes.{Outcome};
-ghost use Rattle.evaluation.specs.Paragraphs.{Step, runDocument};
-ghost use Rattle.evaluation.specs.Run.{ending, runState, runOf};
-ghost use Rattle.operations.specs.Worked.{Told};
-ghost use Rattle.blocks.specs.Named.{said};
-ghost use Rattle.running.specs.Paragraphs.{Stepped};
+ghost use Rattle.reader_rules.specs.Reading.{readOf};
+ghost use Rattle.reader_rules.specs.Decode.{treeOf};
+ghost use Rattle.reader_rules.specs.declared.Reading.the-variants.{Readable};
+ghost use Rattle.states_rules.specs.Names.{documentNames};
+ghost use Rattle.states_rules.specs.States.{stateOf};
+ghost use Rattle.evaluator_rules.specs.Outcomes.{Outcome};
+ghost use Rattle.evaluator_rules.specs.Paragraphs.{Step, runDocument};
+ghost use Rattle.evaluator_rules.specs.Run.{ending, runState, runOf};
+ghost use Rattle.evaluator_operations.specs.Worked.{Told};
+ghost use Rattle.evaluator_scope.specs.Named.{said};
+ghost use Rattle.evaluator_paragraphs.specs.Paragraphs.{Stepped};
 ghost use Rattle.evaluator.specs.RunCall.{RunCall};
 
 // What a result of the paragraphs says of the run.
@@ -46,7 +46,15 @@ fn run_paragraphs(doc: &[u32], state: &[u32], work: &mut [u32]) -> Finding
 {
     let mut table = [0u32; states::names::TABLE_WORDS];
     states::names::put_names(doc, state, &mut table);
-    finding_of(running::run_from(doc, state, &table, work, 0, part(doc, word(doc, 0)), 1))
+    finding_of(evaluator_paragraphs::run_from(
+        doc,
+        state,
+        &table,
+        work,
+        0,
+        part(doc, word(doc, 0)),
+        1,
+    ))
 }
 
 // A readable document, with a work area that is large enough: 41, then the paragraphs.

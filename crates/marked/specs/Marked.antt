@@ -2,11 +2,11 @@
 use mathlib.Core.Path.{_≡_}
 use mathlib.Core.List.{List, [], _∷_}
 use Prim.Native.Nat.{ℕ}
-use Rattle.typing.specs.Check.{checkOf}
-use Rattle.printing.specs.Print.{printedOf}
-use Rattle.evaluation.specs.Run.{runOf}
-use Rattle.evaluation.specs.declared.Finding.{Finding}
-use Rattle.evaluation.specs.declared.Finding.the-variants.{Holds, Refused}
+use Rattle.checker_rules.specs.Check.{checkOf}
+use Rattle.printer_rules.specs.Print.{printedOf}
+use Rattle.evaluator_rules.specs.Run.{runOf}
+use Rattle.evaluator_rules.specs.declared.Finding.{Finding}
+use Rattle.evaluator_rules.specs.declared.Finding.the-variants.{Holds, Refused}
 use Rattle.marked.specs.Coded.{coded, keeping, numbersTo, integersFrom}
 use Rattle.marked.specs.Seen.{Checked, accepts, refuses, ofCheck, Shown, ofRun}
 

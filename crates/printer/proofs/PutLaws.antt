@@ -8,7 +8,7 @@ use lib.Dec.{ltb}
 use lib.ListN.{length, set, drop, replicate, length-append, length-replicate}
 use lib.Seq.{sets, length-sets, set-out, sets-eq}
 use borrow.Author.Tests.{ltb-true, ltb-false, lt-ltb, le-ltb}
-use Rattle.printing.specs.Buffer.{printedBytes, printedLength, Printed}
+use Rattle.printer_rules.specs.Buffer.{printedBytes, printedLength, Printed}
 use Rattle.printer.specs.Buffer.{Put}
 
 sets-out : (l vs : List ℕ) (i : ℕ) → length l ≤ i → sets l i vs ≡ l

@@ -1,15 +1,15 @@
-// The printed finding: lines of bytes for a check's finding and its dictionary. The definitions are in the crate `printing`.
+// The printed finding: lines of bytes for a check's finding and its dictionary. The definitions are in the crate `printer_rules`.
 mod buffer;
 mod lines;
 mod numbers;
 
 use buffer::clear;
+use checker_rules::Finding;
 use lines::put_accepted;
 use lines::put_refused;
-use typing::Finding;
 ghost use lib.ListN.{length};
-ghost use Rattle.printing.specs.Print.{printOf};
-ghost use Rattle.printing.specs.Buffer.{Printed};
+ghost use Rattle.printer_rules.specs.Print.{printOf};
+ghost use Rattle.printer_rules.specs.Buffer.{Printed};
 ghost use Rattle.printer.specs.Buffer.{Put};
 
 // The lines of a finding, put into the buffer from `at` on.

@@ -10,7 +10,7 @@ use words::span;
 use words::word;
 ghost use mathlib.Core.Path.{_≡_};
 ghost use Prim.Native.Nat.{_<_, _^_};
-ghost use Rattle.printing.specs.Lines.{entryLine, dictionarySize, entryLines, acceptedLines, refusedLine};
+ghost use Rattle.printer_rules.specs.Lines.{entryLine, dictionarySize, entryLines, acceptedLines, refusedLine};
 ghost use Rattle.printer.specs.Buffer.{Put};
 
 // The words of an entry before its type: class, identifier, parameter count.

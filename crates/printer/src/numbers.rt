@@ -3,8 +3,8 @@ use crate::buffer::put_byte;
 use crate::buffer::within;
 use words::word;
 ghost use mathlib.Core.List.{[], _∷_};
-ghost use Rattle.printing.specs.Decimal.{decimal};
-ghost use Rattle.printing.specs.Lines.{spaced, numbers};
+ghost use Rattle.printer_rules.specs.Decimal.{decimal};
+ghost use Rattle.printer_rules.specs.Lines.{spaced, numbers};
 ghost use Rattle.printer.specs.Buffer.{Put};
 
 // The digits of n: those of its tenth, then the last.

@@ -1,6 +1,6 @@
 // Documents and what reading them must find: stdout holds the findings, a line each. At each limit there is a document on either side.
 use libc::STDOUT_FILENO;
-use syntax::Reading;
+use reader_rules::Reading;
 use words::store;
 ghost use Prim.Native.Nat.{_<_, _^_};
 

@@ -13,13 +13,13 @@ use Rattle.words.specs.Loops.{total, has}
 use Rattle.words.proofs.Lists.{same-test, total-upto}
 use Rattle.layout.specs.Layout.{count, part}
 use Rattle.layout.proofs.Laws.{part-length}
-use Rattle.syntax.specs.Nodes.{kindAt, parent, above, ancestors}
-use Rattle.syntax.specs.Repeats.{declared, declaredIn, firstOperand, isAxiomDecl, globals}
-use Rattle.syntax.specs.Limits.{tooDeep, isClosing, belowUpTo, anyCrowded, tooCrowded, declaredUpTo, tooNested, tooWide, tooMany, globalsUpTo, limitNumber}
-use Rattle.syntax.proofs.Accepted.{Nodes}
-use Rattle.syntax.proofs.Parents.{parent-most, parent-rises}
-use Rattle.repeats.specs.Parents.{places, Parents, Linked}
-use Rattle.repeats.proofs.ParentLaws.{nodes-of}
+use Rattle.reader_rules.specs.Nodes.{kindAt, parent, above, ancestors}
+use Rattle.reader_rules.specs.Repeats.{declared, declaredIn, firstOperand, isAxiomDecl, globals}
+use Rattle.reader_rules.specs.Limits.{tooDeep, isClosing, belowUpTo, anyCrowded, tooCrowded, declaredUpTo, tooNested, tooWide, tooMany, globalsUpTo, limitNumber}
+use Rattle.reader_rules.proofs.Accepted.{Nodes}
+use Rattle.reader_rules.proofs.Parents.{parent-most, parent-rises}
+use Rattle.reader_repeats.specs.Parents.{places, Parents, Linked}
+use Rattle.reader_repeats.proofs.ParentLaws.{nodes-of}
 use Rattle.reader.specs.Counts.{reaches, counted, over, Below, Declared, Counted, pastTree}
 
 -- the table's word at k is the parent, and is in the table too

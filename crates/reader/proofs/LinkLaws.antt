@@ -12,9 +12,9 @@ use borrow.Author.Tests.{eq-eqb, ne-eqb}
 use Rattle.words.specs.Loops.{run, joined, has, occurrences}
 use Rattle.words.proofs.Lists.{occurrences-append, run-last}
 use Rattle.layout.specs.Layout.{count, part}
-use Rattle.syntax.specs.Kinds.{sortAt, isNodeSort}
-use Rattle.syntax.specs.Nodes.{nodesAmong, children, uses, parentAmong, parent}
-use Rattle.repeats.specs.Parents.{places, Parents}
+use Rattle.reader_rules.specs.Kinds.{sortAt, isNodeSort}
+use Rattle.reader_rules.specs.Nodes.{nodesAmong, children, uses, parentAmong, parent}
+use Rattle.reader_repeats.specs.Parents.{places, Parents}
 use Rattle.reader.specs.Links.{capped, bump, tallyAt, tallyNode, tallyOf, tally, linkAt, linkOf, link, Used}
 
 -- a number of uses is 1 exactly where the table says so

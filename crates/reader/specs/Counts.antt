@@ -5,9 +5,9 @@ use mathlib.Core.Bool.{Bool, true, false, _||_, cond}
 use Prim.Native.Nat.{ℕ, zero, suc, _+_, _<_}
 use lib.ListN.{length, getD, set}
 use lib.Dec.{ltb, eqb}
-use Rattle.syntax.specs.Nodes.{kindAt, parent}
-use Rattle.syntax.specs.Limits.{isClosing, belowUpTo, declaredUpTo, tooDeep, tooNested, tooWide, tooCrowded}
-use Rattle.repeats.specs.Parents.{places}
+use Rattle.reader_rules.specs.Nodes.{kindAt, parent}
+use Rattle.reader_rules.specs.Limits.{isClosing, belowUpTo, declaredUpTo, tooDeep, tooNested, tooWide, tooCrowded}
+use Rattle.reader_repeats.specs.Parents.{places}
 
 -- there are at least n nodes above k
 unfoldable pub reaches : List ℕ → ℕ → ℕ → Bool

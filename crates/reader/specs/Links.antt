@@ -1,4 +1,4 @@
--- The tables of uses and parents: how the code fills them, and what the first then says (the second: `repeats`, specs/Parents).
+-- The tables of uses and parents: how the code fills them, and what the first then says (the second: `reader_repeats`, specs/Parents).
 use mathlib.Core.Path.{_≡_}
 use mathlib.Core.List.{List}
 use mathlib.Core.Bool.{cond}
@@ -7,9 +7,9 @@ use lib.ListN.{length, getD, set}
 use lib.Dec.{eqb}
 use Rattle.words.specs.Loops.{run}
 use Rattle.layout.specs.Layout.{count, part}
-use Rattle.syntax.specs.Kinds.{sortAt, isNodeSort}
-use Rattle.syntax.specs.Nodes.{uses}
-use Rattle.repeats.specs.Parents.{places}
+use Rattle.reader_rules.specs.Kinds.{sortAt, isNodeSort}
+use Rattle.reader_rules.specs.Nodes.{uses}
+use Rattle.reader_repeats.specs.Parents.{places}
 
 -- a number of uses as far as it matters: 0, 1, or 2 for more
 abbrev pub capped : ℕ → ℕ

@@ -3,9 +3,9 @@ use codes::findings;
 use codes::limits::NODES;
 use codes::limits::WORDS;
 use layout::Form;
-use node_forms::nodes::check_nodes;
-use repeats::first_repeat;
-use syntax::Reading;
+use reader_nodes::nodes::check_nodes;
+use reader_repeats::first_repeat;
+use reader_rules::Reading;
 
 mod limits;
 mod links;
@@ -13,14 +13,14 @@ mod links;
 ghost use mathlib.Core.Path.{_≡_};
 ghost use mathlib.Core.Bool.{true};
 ghost use Rattle.layout.specs.Layout.{laidOut};
-ghost use Rattle.syntax.specs.Nodes.{documentForm};
-ghost use Rattle.syntax.specs.Findings.{nodeNumber, useNumber};
-ghost use Rattle.syntax.specs.Repeats.{repeatNumber};
-ghost use Rattle.syntax.specs.Limits.{limitNumber};
-ghost use Rattle.syntax.specs.Findings.{andThen};
-ghost use Rattle.syntax.specs.Reading.{lowest, readOf};
-ghost use Rattle.syntax.specs.declared.Reading.the-variants.{Readable};
-ghost use Rattle.repeats.specs.Parents.{Linked};
+ghost use Rattle.reader_rules.specs.Nodes.{documentForm};
+ghost use Rattle.reader_rules.specs.Findings.{nodeNumber, useNumber};
+ghost use Rattle.reader_rules.specs.Repeats.{repeatNumber};
+ghost use Rattle.reader_rules.specs.Limits.{limitNumber};
+ghost use Rattle.reader_rules.specs.Findings.{andThen};
+ghost use Rattle.reader_rules.specs.Reading.{lowest, readOf};
+ghost use Rattle.reader_rules.specs.declared.Reading.the-variants.{Readable};
+ghost use Rattle.reader_repeats.specs.Parents.{Linked};
 
 // The places of a table of nodes, which are numbered from 1.
 const PLACES: usize = NODES + 1;

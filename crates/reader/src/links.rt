@@ -2,19 +2,19 @@
 use codes::findings;
 use codes::kinds;
 use layout::part;
-use node_forms::kinds::operand_count;
-use node_forms::kinds::sort_at;
-use node_forms::nodes::kind_at;
-use node_forms::sorts;
-use syntax::Reading;
+use reader_nodes::kinds::operand_count;
+use reader_nodes::kinds::sort_at;
+use reader_nodes::nodes::kind_at;
+use reader_nodes::sorts;
+use reader_rules::Reading;
 use words::store;
 use words::word;
 ghost use mathlib.Core.Path.{_≡_};
 ghost use Prim.Native.Nat.{_≤_, _<_, _^_};
 ghost use Rattle.layout.specs.Layout.{count};
-ghost use Rattle.syntax.specs.Findings.{useNumber};
-ghost use Rattle.syntax.specs.Reading.{lowest};
-ghost use Rattle.repeats.specs.Parents.{places};
+ghost use Rattle.reader_rules.specs.Findings.{useNumber};
+ghost use Rattle.reader_rules.specs.Reading.{lowest};
+ghost use Rattle.reader_repeats.specs.Parents.{places};
 ghost use Rattle.reader.specs.Links.{bump, tallyAt, tallyNode, tally, linkAt, linkNode, link, Used};
 
 // One more use of node v, as far as it matters.

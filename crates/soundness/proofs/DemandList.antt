@@ -2,8 +2,8 @@
 use mathlib.Core.Path.{sym}
 use mathlib.Core.List.{List}
 use Prim.Native.Nat.{ℕ}
-use Rattle.evaluation.specs.Run.{runOf}
-use Rattle.evaluation.proofs.WholeList.{run-lists, lists-run}
+use Rattle.evaluator_rules.specs.Run.{runOf}
+use Rattle.evaluator_rules.proofs.WholeList.{run-lists, lists-run}
 use Rattle.soundness.specs.Demand.{Sound}
 use Rattle.soundness.specs.DemandList.{SoundRun, SoundRuns}
 use Rattle.soundness.proofs.Demand.{demand-three, fit-sound}

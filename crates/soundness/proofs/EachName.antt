@@ -3,7 +3,7 @@ use mathlib.Core.List.{List, [], _∷_, _++_}
 use Prim.Native.Nat.{ℕ, zero, suc, _<_}
 use native.Mathlib.Omega.{arith}
 use lib.ListN.{length, getD}
-use Rattle.state_words.specs.Names.{Name, nobody}
+use Rattle.states_rules.specs.Names.{Name, nobody}
 
 pub data Every (P : Name → Type 0) : List Name → Type 0 where
   none : Every P []

@@ -8,26 +8,26 @@ use native.Mathlib.Omega.{arith}
 use native.Mathlib.Decide.{decLt}
 use lib.ListN.{length}
 use Rattle.layout.specs.Layout.{part}
-use Rattle.syntax.specs.Decode.{treeOf}
-use Rattle.syntax.specs.declared.Reading.the-variants.{Readable, Refused}
+use Rattle.reader_rules.specs.Decode.{treeOf}
+use Rattle.reader_rules.specs.declared.Reading.the-variants.{Readable, Refused}
 use Rattle.values.specs.Typed.{isOf}
-use Rattle.types.specs.Types.{Ty}
-use Rattle.typing.specs.Dictionary.{Dictionary, ofGlobal, nameIn}
-use Rattle.typing.specs.Check.{Answer, accepted, refused, checkOf}
-use Rattle.typing.specs.WellFormed.{FormedDictionary, FormedAnswer}
-use Rattle.typing.proofs.CheckRight.{accepted-says}
-use Rattle.typing.proofs.FormedCheck.{check-formed}
-use Rattle.typing.proofs.CheckNumbers.{same-number, check-numbers}
-use Rattle.state_words.specs.Names.{Name, documentNames}
-use Rattle.state_words.specs.Decode.{valueOf}
-use Rattle.state_words.specs.States.{nameAt, sizesIn}
-use Rattle.evaluation.specs.Claims.{WellFormed}
-use Rattle.evaluation.proofs.StatePlace.{state-ill, state-well}
-use Rattle.fit.specs.HasType.{Has}
-use Rattle.fit.specs.Fit.{recordedWords, typeNumber}
-use Rattle.fit.specs.Recorded.{EntryFits, StateFits}
-use Rattle.fit.specs.Claims.{Finds, unchecked, illFormed, mistyped, fits}
-use Rattle.fit.proofs.FitFindings.{fit-finds, number-right}
+use Rattle.types_rules.specs.Types.{Ty}
+use Rattle.checker_rules.specs.Dictionary.{Dictionary, ofGlobal, nameIn}
+use Rattle.checker_rules.specs.Check.{Answer, accepted, refused, checkOf}
+use Rattle.checker_rules.specs.WellFormed.{FormedDictionary, FormedAnswer}
+use Rattle.checker_rules.proofs.CheckRight.{accepted-says}
+use Rattle.checker_rules.proofs.FormedCheck.{check-formed}
+use Rattle.checker_rules.proofs.CheckNumbers.{same-number, check-numbers}
+use Rattle.states_rules.specs.Names.{Name, documentNames}
+use Rattle.states_rules.specs.Decode.{valueOf}
+use Rattle.states_rules.specs.States.{nameAt, sizesIn}
+use Rattle.evaluator_rules.specs.Claims.{WellFormed}
+use Rattle.evaluator_rules.proofs.StatePlace.{state-ill, state-well}
+use Rattle.fitter_rules.specs.HasType.{Has}
+use Rattle.fitter_rules.specs.Fit.{recordedWords, typeNumber}
+use Rattle.fitter_rules.specs.Recorded.{EntryFits, StateFits}
+use Rattle.fitter_rules.specs.Claims.{Finds, unchecked, illFormed, mistyped, fits}
+use Rattle.fitter_rules.proofs.FitFindings.{fit-finds, number-right}
 use Rattle.soundness.specs.FitTypes.{FirstUnfit, FitByTypes}
 use Rattle.soundness.proofs.EachName.{every-at}
 use Rattle.soundness.proofs.RecordedNames.{RecordedAs, formed-in, document-recorded}

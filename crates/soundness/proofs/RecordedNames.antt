@@ -6,23 +6,23 @@ use mathlib.Core.Option.{Option, some}
 use Prim.Native.Nat.{ℕ, _≤_}
 use native.Mathlib.Omega.{arith}
 use lib.Dec.{eqb}
-use Rattle.syntax.specs.Tree.{Lines, end, declaration, inclusion, Paragraph, given, axiomatic, schema, abbreviation, constraint, text, Document, document}
-use Rattle.types.specs.Former as Former
-use Rattle.types.specs.Types.{Ty, Term, under, size}
-use Rattle.types.specs.Formed.{WellFormed}
-use Rattle.typing.specs.Unknowns.{Table, unknownAt, givenSet}
-use Rattle.typing.specs.Items.{Any, Meets}
-use Rattle.typing.specs.Dictionary.{Dictionary, blank, _▸_, nameEntry, schemaEntry, Named, ofGlobal, nameIn}
-use Rattle.typing.specs.Conditions.{mergeDeclared}
-use Rattle.typing.specs.Entries.{addGivens, extend}
-use Rattle.typing.specs.Signatures.{Signature, noNames, insertName, termIn, declare}
-use Rattle.typing.specs.Scopes.{Scope, globals, linesSignature, textSignature}
-use Rattle.typing.specs.Rules.{textItems, linesItems, paragraphItems}
-use Rattle.typing.specs.Verdicts.{Accepts}
-use Rattle.typing.specs.WellFormed.{FormedDictionary}
-use Rattle.typing.specs.Check.{paragraphsOf}
+use Rattle.reader_rules.specs.Tree.{Lines, end, declaration, inclusion, Paragraph, given, axiomatic, schema, abbreviation, constraint, text, Document, document}
+use Rattle.types_rules.specs.Former as Former
+use Rattle.types_rules.specs.Types.{Ty, Term, under, size}
+use Rattle.types_rules.specs.Formed.{WellFormed}
+use Rattle.checker_rules.specs.Unknowns.{Table, unknownAt, givenSet}
+use Rattle.checker_rules.specs.Items.{Any, Meets}
+use Rattle.checker_rules.specs.Dictionary.{Dictionary, blank, _▸_, nameEntry, schemaEntry, Named, ofGlobal, nameIn}
+use Rattle.checker_rules.specs.Conditions.{mergeDeclared}
+use Rattle.checker_rules.specs.Entries.{addGivens, extend}
+use Rattle.checker_rules.specs.Signatures.{Signature, noNames, insertName, termIn, declare}
+use Rattle.checker_rules.specs.Scopes.{Scope, globals, linesSignature, textSignature}
+use Rattle.checker_rules.specs.Rules.{textItems, linesItems, paragraphItems}
+use Rattle.checker_rules.specs.Verdicts.{Accepts}
+use Rattle.checker_rules.specs.WellFormed.{FormedDictionary}
+use Rattle.checker_rules.specs.Check.{paragraphsOf}
 use Rattle.soundness.proofs.EachName.{Every, none, also, every-append}
-use Rattle.state_words.specs.Names.{Name, namesAs, lineNames, paragraphNames, namesOf, documentNames}
+use Rattle.states_rules.specs.Names.{Name, namesAs, lineNames, paragraphNames, namesOf, documentNames}
 use Rattle.soundness.proofs.Scopes.{overRecorded, name-added, names-stay, lines-stay, merge-fits, merges-next, added}
 use Rattle.soundness.proofs.Kept.{kept, given-recorded}
 

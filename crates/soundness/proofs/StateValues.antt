@@ -11,15 +11,15 @@ use borrow.Author.Tests.{eqb-true, eqb-false}
 use Rattle.layout.specs.Layout.{part}
 use Rattle.values.specs.Value.{Value}
 use Rattle.values.specs.Givens.{elementsFrom, elements}
-use Rattle.types.specs.Former as Former
-use Rattle.types.specs.Types.{Ty, node, tnil}
-use Rattle.typing.specs.Unknowns.{givenSet}
-use Rattle.typing.specs.Dictionary.{Dictionary, ofGlobal, nameIn}
-use Rattle.fit.specs.HasType.{Has, isElement, isSet, MembersHave, noMember, aMember}
-use Rattle.fit.specs.Recorded.{StateFits}
-use Rattle.state_words.specs.Names.{Name, nobody}
-use Rattle.state_words.specs.Decode.{valueOf}
-use Rattle.state_words.specs.States.{State, nameAt, sizesIn, entryFrom, entryValue, valueIn}
+use Rattle.types_rules.specs.Former as Former
+use Rattle.types_rules.specs.Types.{Ty, node, tnil}
+use Rattle.checker_rules.specs.Unknowns.{givenSet}
+use Rattle.checker_rules.specs.Dictionary.{Dictionary, ofGlobal, nameIn}
+use Rattle.fitter_rules.specs.HasType.{Has, isElement, isSet, MembersHave, noMember, aMember}
+use Rattle.fitter_rules.specs.Recorded.{StateFits}
+use Rattle.states_rules.specs.Names.{Name, nobody}
+use Rattle.states_rules.specs.Decode.{valueOf}
+use Rattle.states_rules.specs.States.{State, nameAt, sizesIn, entryFrom, entryValue, valueIn}
 use Rattle.soundness.proofs.EachName.{Every, none, also}
 use Rattle.soundness.proofs.RecordedNames.{RecordedAs, Recording}
 

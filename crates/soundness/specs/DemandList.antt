@@ -2,14 +2,14 @@
 use mathlib.Core.Path.{_≡_}
 use mathlib.Core.List.{List}
 use Prim.Native.Nat.{ℕ}
-use Rattle.syntax.specs.Decode.{treeOf}
-use Rattle.typing.specs.Dictionary.{Dictionary}
-use Rattle.typing.specs.Check.{accepted, checkOf}
-use Rattle.state_words.specs.Names.{documentNames}
-use Rattle.evaluation.specs.Run.{Ran}
-use Rattle.evaluation.specs.ListingRun.{Lists}
-use Rattle.fit.specs.Recorded.{StateFits}
-use Rattle.fit.specs.Fit.{fitOf}
+use Rattle.reader_rules.specs.Decode.{treeOf}
+use Rattle.checker_rules.specs.Dictionary.{Dictionary}
+use Rattle.checker_rules.specs.Check.{accepted, checkOf}
+use Rattle.states_rules.specs.Names.{documentNames}
+use Rattle.evaluator_rules.specs.Run.{Ran}
+use Rattle.evaluator_rules.specs.ListingRun.{Lists}
+use Rattle.fitter_rules.specs.Recorded.{StateFits}
+use Rattle.fitter_rules.specs.Fit.{fitOf}
 use Rattle.soundness.specs.Demand.{Sound}
 
 -- The rules give a finding and a list, and no other; the finding is not 51 at any node, and every entry of the list has its node's type.

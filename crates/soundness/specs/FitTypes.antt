@@ -5,16 +5,16 @@ use mathlib.Core.List.{List}
 use mathlib.Core.Bool.{false}
 use Prim.Native.Nat.{ℕ, _≤_, _<_}
 use lib.ListN.{length}
-use Rattle.syntax.specs.Decode.{treeOf}
-use Rattle.types.specs.Types.{Ty}
-use Rattle.typing.specs.Dictionary.{Dictionary, ofGlobal, nameIn}
-use Rattle.typing.specs.Check.{accepted, refused, checkOf}
-use Rattle.state_words.specs.Names.{Name, documentNames}
-use Rattle.state_words.specs.States.{nameAt}
-use Rattle.evaluation.specs.Claims.{WellFormed}
-use Rattle.fit.specs.HasType.{Has}
-use Rattle.fit.specs.Recorded.{entryAt, EntryFits, StateFits}
-use Rattle.fit.specs.Fit.{fitOf}
+use Rattle.reader_rules.specs.Decode.{treeOf}
+use Rattle.types_rules.specs.Types.{Ty}
+use Rattle.checker_rules.specs.Dictionary.{Dictionary, ofGlobal, nameIn}
+use Rattle.checker_rules.specs.Check.{accepted, refused, checkOf}
+use Rattle.states_rules.specs.Names.{Name, documentNames}
+use Rattle.states_rules.specs.States.{nameAt}
+use Rattle.evaluator_rules.specs.Claims.{WellFormed}
+use Rattle.fitter_rules.specs.HasType.{Has}
+use Rattle.fitter_rules.specs.Recorded.{entryAt, EntryFits, StateFits}
+use Rattle.fitter_rules.specs.Fit.{fitOf}
 
 -- Entry k is the first whose value is not of its recorded type.
 pub record FirstUnfit (E : Dictionary) (ns : List Name) (state : List ℕ) (k : ℕ) : Type 0 where

@@ -12,19 +12,19 @@ use borrow.Author.Tests.{ltb-true}
 use Rattle.words.proofs.Loops.{and-left, and-right}
 use Rattle.words.proofs.Lists.{drop-next, drop-done}
 use Rattle.layout.specs.Layout.{count, part}
-use Rattle.syntax.specs.Kinds.{cell, countRow, texts, lines, paragraphs}
-use Rattle.syntax.specs.Nodes.{kindAt, operandAt}
-use Rattle.syntax.specs.Promise.{At, Lower}
-use Rattle.syntax.specs.Reading.{readOf}
-use Rattle.syntax.specs.declared.Reading.the-variants.{Readable}
-use Rattle.syntax.specs.Tree.{Lines, end, declaration, inclusion, Paragraph, document}
-use Rattle.syntax.specs.Decode.{exprAt, lineAt, textAt, linesFrom, paragraphAt, paragraphsFrom, treeOf}
-use Rattle.syntax.proofs.Accepted.{readable, last-document, some-words}
-use Rattle.syntax.proofs.TreeCounts.{at-least, at-most}
-use Rattle.syntax.proofs.TreeText.{line-range, line-declaration, line-inclusion, text-kind, text-law}
-use Rattle.syntax.proofs.TreeParagraph.{paragraph-range, paragraph-given, paragraph-axiomatic, paragraph-schema, paragraph-abbreviation, paragraph-constraint, document-law}
-use Rattle.syntax.proofs.TreeLists.{lines-go, lines-end, paragraphs-go, paragraphs-end}
-use Rattle.state_words.specs.Names.{Name, namesAs, lineNames, paragraphNames, namesOf, documentNames}
+use Rattle.reader_rules.specs.Kinds.{cell, countRow, texts, lines, paragraphs}
+use Rattle.reader_rules.specs.Nodes.{kindAt, operandAt}
+use Rattle.reader_rules.specs.Promise.{At, Lower}
+use Rattle.reader_rules.specs.Reading.{readOf}
+use Rattle.reader_rules.specs.declared.Reading.the-variants.{Readable}
+use Rattle.reader_rules.specs.Tree.{Lines, end, declaration, inclusion, Paragraph, document}
+use Rattle.reader_rules.specs.Decode.{exprAt, lineAt, textAt, linesFrom, paragraphAt, paragraphsFrom, treeOf}
+use Rattle.reader_rules.proofs.Accepted.{readable, last-document, some-words}
+use Rattle.reader_rules.proofs.TreeCounts.{at-least, at-most}
+use Rattle.reader_rules.proofs.TreeText.{line-range, line-declaration, line-inclusion, text-kind, text-law}
+use Rattle.reader_rules.proofs.TreeParagraph.{paragraph-range, paragraph-given, paragraph-axiomatic, paragraph-schema, paragraph-abbreviation, paragraph-constraint, document-law}
+use Rattle.reader_rules.proofs.TreeLists.{lines-go, lines-end, paragraphs-go, paragraphs-end}
+use Rattle.states_rules.specs.Names.{Name, namesAs, lineNames, paragraphNames, namesOf, documentNames}
 use Rattle.states.specs.Table.{putPair, putNames, lineCount}
 
 pub as-length : (b : Bool) (xs : List ℕ) → length (namesAs b xs) ≡ length xs

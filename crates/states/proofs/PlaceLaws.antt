@@ -12,17 +12,17 @@ use lib.ListN.{length, getD, drop, length-drop}
 use borrow.Author.Tests.{eq-eqb, ne-eqb}
 use Rattle.words.proofs.Lists.{drop-next, drop-done}
 use Rattle.layout.specs.Layout.{count, part}
-use Rattle.syntax.specs.Kinds.{texts, lines, paragraphs}
-use Rattle.syntax.specs.Nodes.{kindAt, operandAt}
-use Rattle.syntax.specs.Promise.{At}
-use Rattle.syntax.specs.Reading.{readOf}
-use Rattle.syntax.specs.declared.Reading.the-variants.{Readable}
-use Rattle.syntax.specs.Tree.{Lines}
-use Rattle.syntax.specs.Decode.{lineAt, linesFrom, paragraphAt, paragraphsFrom}
-use Rattle.syntax.proofs.TreeText.{line-range, line-declaration, line-inclusion}
-use Rattle.syntax.proofs.TreeLists.{lines-go, lines-end}
-use Rattle.state_words.specs.Names.{Name, namesAs, lineNames, paragraphNames, namesOf}
-use Rattle.state_words.specs.States.{entryFrom}
+use Rattle.reader_rules.specs.Kinds.{texts, lines, paragraphs}
+use Rattle.reader_rules.specs.Nodes.{kindAt, operandAt}
+use Rattle.reader_rules.specs.Promise.{At}
+use Rattle.reader_rules.specs.Reading.{readOf}
+use Rattle.reader_rules.specs.declared.Reading.the-variants.{Readable}
+use Rattle.reader_rules.specs.Tree.{Lines}
+use Rattle.reader_rules.specs.Decode.{lineAt, linesFrom, paragraphAt, paragraphsFrom}
+use Rattle.reader_rules.proofs.TreeText.{line-range, line-declaration, line-inclusion}
+use Rattle.reader_rules.proofs.TreeLists.{lines-go, lines-end}
+use Rattle.states_rules.specs.Names.{Name, namesAs, lineNames, paragraphNames, namesOf}
+use Rattle.states_rules.specs.States.{entryFrom}
 use Rattle.states.specs.Table.{lineCount, linePlace}
 use Rattle.states.proofs.NameLaws.{as-length, text-line, document-go, document-end}
 

@@ -14,24 +14,24 @@ use borrow.Author.Tests.{eq-eqb, ne-eqb, eqb-true, leb-true}
 use Rattle.words.proofs.Loops.{and-left, and-right}
 use Rattle.layout.specs.Layout.{count, laidOut, part}
 use Rattle.layout.proofs.Laws.{laid}
-use Rattle.syntax.specs.Identifiers.{nameOf, isIdentifier}
-use Rattle.syntax.specs.Kinds.{cell, sortAt, sortIn, plainOk, identifiers, paragraphs}
-use Rattle.syntax.specs.Nodes.{kindAt, operandAt}
-use Rattle.syntax.specs.Findings.{found, scan, andThen}
-use Rattle.syntax.specs.Promise.{At}
-use Rattle.syntax.specs.Reading.{readOf}
-use Rattle.syntax.specs.declared.Reading.{Reading}
-use Rattle.syntax.specs.declared.Reading.the-variants.{Readable, Refused}
-use Rattle.syntax.specs.Tree.{Lines, end, declaration, inclusion}
-use Rattle.syntax.specs.Decode.{gather, paragraphAt, paragraphsFrom, treeOf}
-use Rattle.syntax.proofs.Operands.{cond-same, sort-row}
-use Rattle.syntax.proofs.TreeCounts.{plain-word}
-use Rattle.syntax.proofs.TreeParagraph.{paragraph-range, document-law}
+use Rattle.reader_rules.specs.Identifiers.{nameOf, isIdentifier}
+use Rattle.reader_rules.specs.Kinds.{cell, sortAt, sortIn, plainOk, identifiers, paragraphs}
+use Rattle.reader_rules.specs.Nodes.{kindAt, operandAt}
+use Rattle.reader_rules.specs.Findings.{found, scan, andThen}
+use Rattle.reader_rules.specs.Promise.{At}
+use Rattle.reader_rules.specs.Reading.{readOf}
+use Rattle.reader_rules.specs.declared.Reading.{Reading}
+use Rattle.reader_rules.specs.declared.Reading.the-variants.{Readable, Refused}
+use Rattle.reader_rules.specs.Tree.{Lines, end, declaration, inclusion}
+use Rattle.reader_rules.specs.Decode.{gather, paragraphAt, paragraphsFrom, treeOf}
+use Rattle.reader_rules.proofs.Operands.{cond-same, sort-row}
+use Rattle.reader_rules.proofs.TreeCounts.{plain-word}
+use Rattle.reader_rules.proofs.TreeParagraph.{paragraph-range, document-law}
 use Rattle.values.specs.Form.{isValue}
 use Rattle.values.specs.Givens.{smallSize, sizeFrom, sizeOf}
-use Rattle.state_words.specs.Names.{Name, nobody, namesAs, lineNames, paragraphNames, namesOf, documentNames}
-use Rattle.state_words.specs.States.{stateForm, nameAt, sizeTable, sizesIn, isSize, givenNumber, valueNumber, isPaired, entriesOf, stateIf, stateOf}
-use Rattle.state_words.proofs.GivenSizes.{size-cons}
+use Rattle.states_rules.specs.Names.{Name, nobody, namesAs, lineNames, paragraphNames, namesOf, documentNames}
+use Rattle.states_rules.specs.States.{stateForm, nameAt, sizeTable, sizesIn, isSize, givenNumber, valueNumber, isPaired, entriesOf, stateIf, stateOf}
+use Rattle.states_rules.proofs.GivenSizes.{size-cons}
 use Rattle.states.specs.Table.{putPair, putNames, givenBy, valueBy}
 use Rattle.states.proofs.NameLaws.{given-names, axiom-names, other-names, document-names}
 

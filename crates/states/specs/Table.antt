@@ -5,11 +5,11 @@ use Prim.Native.Nat.{ℕ, _+_, _*_, _-_}
 use lib.Dec.{eqb}
 use lib.ListN.{length, getD, set, drop}
 use Rattle.layout.specs.Layout.{part}
-use Rattle.syntax.specs.Nodes.{kindAt}
+use Rattle.reader_rules.specs.Nodes.{kindAt}
 use Rattle.values.specs.Form.{isValue}
 use Rattle.values.specs.Givens.{sizeOf}
-use Rattle.state_words.specs.Names.{Name, namesAs}
-use Rattle.state_words.specs.States.{isSize, entryFrom}
+use Rattle.states_rules.specs.Names.{Name, namesAs}
+use Rattle.states_rules.specs.States.{isSize, entryFrom}
 
 -- a given's pair
 unfoldable pub putPair : ℕ → List ℕ → ℕ → List ℕ → List ℕ

@@ -1,14 +1,14 @@
 // The entries of a state, by the table of the names: all Given entries, then the others.
 use codes::findings;
 use codes::limits;
-use forms::form::is_value;
 use layout::part;
-use syntax::Reading;
+use reader_rules::Reading;
+use values_forms::form::is_value;
 use words::word;
 ghost use mathlib.Core.Path.{_≡_};
 ghost use Prim.Native.Nat.{_≤_, _<_, _^_};
-ghost use Rattle.syntax.specs.Findings.{scan, andThen};
-ghost use Rattle.state_words.specs.States.{isSize};
+ghost use Rattle.reader_rules.specs.Findings.{scan, andThen};
+ghost use Rattle.states_rules.specs.States.{isSize};
 ghost use Rattle.states.specs.Table.{givenBy, valueBy, numberBy};
 
 // A given's entry: one word, its size 0 to 20.

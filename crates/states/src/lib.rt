@@ -1,8 +1,8 @@
-// States on words: how many names of a document a state gives values to, and finding 41 with its place. The definitions are in the crate `state_words`.
+// States on words: how many names of a document a state gives values to, and finding 41 with its place. The definitions are in the crate `states_rules`.
 use codes::findings;
 use codes::limits;
 use layout::Form;
-use syntax::Reading;
+use reader_rules::Reading;
 use words::word;
 
 mod entries;
@@ -10,11 +10,11 @@ pub mod names;
 pub mod places;
 
 ghost use mathlib.Core.Path.{_≡_};
-ghost use Rattle.syntax.specs.Reading.{readOf};
-ghost use Rattle.syntax.specs.Decode.{treeOf};
-ghost use Rattle.syntax.specs.declared.Reading.the-variants.{Readable};
-ghost use Rattle.state_words.specs.Names.{documentNames};
-ghost use Rattle.state_words.specs.States.{stateOf, stateCheckOf};
+ghost use Rattle.reader_rules.specs.Reading.{readOf};
+ghost use Rattle.reader_rules.specs.Decode.{treeOf};
+ghost use Rattle.reader_rules.specs.declared.Reading.the-variants.{Readable};
+ghost use Rattle.states_rules.specs.Names.{documentNames};
+ghost use Rattle.states_rules.specs.States.{stateOf, stateCheckOf};
 
 // Finding 41 of a state for a readable document. A state has at most 1,024 entries, so where there are more names their pairs are not needed.
 pub fn first_ill_formed(doc: &[u32], state: &[u32]) -> Reading

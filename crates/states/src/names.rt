@@ -2,8 +2,8 @@
 use codes::kinds;
 use codes::limits;
 use layout::part;
-use node_forms::nodes::kind_at;
-use node_forms::nodes::operand;
+use reader_nodes::nodes::kind_at;
+use reader_nodes::nodes::operand;
 use words::store;
 use words::word;
 ghost use mathlib.Core.Path.{_≡_};
@@ -11,12 +11,12 @@ ghost use Prim.Native.Nat.{_+_, _-_, _*_, _≤_, _<_, _^_};
 ghost use lib.ListN.{length, getD, drop};
 ghost use mathlib.Core.Bool.{true};
 ghost use Rattle.layout.specs.Layout.{part};
-ghost use Rattle.syntax.specs.Kinds.{texts, lines, paragraphs};
-ghost use Rattle.syntax.specs.Promise.{At};
-ghost use Rattle.syntax.specs.Reading.{readOf};
-ghost use Rattle.syntax.specs.Decode.{linesFrom, paragraphAt, treeOf};
-ghost use Rattle.syntax.specs.declared.Reading.the-variants.{Readable};
-ghost use Rattle.state_words.specs.Names.{namesAs, lineNames, paragraphNames, documentNames};
+ghost use Rattle.reader_rules.specs.Kinds.{texts, lines, paragraphs};
+ghost use Rattle.reader_rules.specs.Promise.{At};
+ghost use Rattle.reader_rules.specs.Reading.{readOf};
+ghost use Rattle.reader_rules.specs.Decode.{linesFrom, paragraphAt, treeOf};
+ghost use Rattle.reader_rules.specs.declared.Reading.the-variants.{Readable};
+ghost use Rattle.states_rules.specs.Names.{namesAs, lineNames, paragraphNames, documentNames};
 ghost use Rattle.states.specs.Table.{putPair, putNames, lineCount};
 
 // The words of the table of names: for each entry of a state, from 1 on, its given and the size of that; a pair of zeros where the name is no given.

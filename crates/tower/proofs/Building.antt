@@ -7,15 +7,15 @@ use Prim.Native.Nat.{ℕ, zero, suc, _+_, _*_, _-_, _≤_, _<_, _^_}
 use native.Mathlib.Omega.{arith}
 use native.Mathlib.Nat.{eq-or-lt-of-le, suc-mul, zero-mul}
 use lib.ListN.{length, getD}
-use Rattle.types.specs.Equations.{end}
-use Rattle.cells.specs.Store.{frozen, load, run}
-use Rattle.cells.specs.Calls.{Above, Adding, Added, Making, Made}
-use Rattle.unifier.specs.Merging.{Asking, Merged}
-use Rattle.solver.specs.Sizes.{markAt, Sized, Tested, Measuring}
-use Rattle.solver.proofs.Accepted.{start, same-pinned}
-use Rattle.cells.proofs.Words.{run-at, run-length, frozen-length, in-getD}
-use Rattle.cells.proofs.Growing.{made-load, made-above}
-use Rattle.solver.proofs.Extending.{added-builds, added-load, added-other, added-here, made-grows}
+use Rattle.types_rules.specs.Equations.{end}
+use Rattle.types_cells.specs.Store.{frozen, load, run}
+use Rattle.types_cells.specs.Calls.{Above, Adding, Added, Making, Made}
+use Rattle.types_unifier.specs.Merging.{Asking, Merged}
+use Rattle.types_solver.specs.Sizes.{markAt, Sized, Tested, Measuring}
+use Rattle.types_solver.proofs.Accepted.{start, same-pinned}
+use Rattle.types_cells.proofs.Words.{run-at, run-length, frozen-length, in-getD}
+use Rattle.types_cells.proofs.Growing.{made-load, made-above}
+use Rattle.types_solver.proofs.Extending.{added-builds, added-load, added-other, added-here, made-grows}
 use Rattle.tower.specs.Ready.{Ready, Row, Rowing, Rowed, Room, Built, Forming, Applying, Applied, Towering, Towered}
 
 -- An area with no cells.

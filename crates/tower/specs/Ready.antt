@@ -4,10 +4,10 @@ use mathlib.Core.Bool.{Bool, true}
 use mathlib.Core.List.{List}
 use Prim.Native.Nat.{ℕ, _+_, _*_, _-_, _≤_, _<_, _^_}
 use lib.ListN.{length, getD}
-use Rattle.types.specs.Equations.{Pairs}
-use Rattle.cells.specs.Store.{frozen, load, Solved}
-use Rattle.cells.specs.Calls.{Above}
-use Rattle.cells.specs.Settled.{Pinned}
+use Rattle.types_rules.specs.Equations.{Pairs}
+use Rattle.types_cells.specs.Store.{frozen, load, Solved}
+use Rattle.types_cells.specs.Calls.{Above}
+use Rattle.types_cells.specs.Settled.{Pinned}
 
 -- The store s of n cells, whose runs end at `top`: the last k words of the runs are cells, the parts of the next one.
 pub record Ready (s d : List ℕ) (n top k : ℕ) : Type 0 where

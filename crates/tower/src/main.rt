@@ -1,10 +1,10 @@
 // The tower f (f (.. (f 1))) of applications of a generic f : ℙ (X × T), where T has 24 copies of X in a size of 32: nine levels, as deep as a document may be.
 // The tree of its type has more than 24⁹ parts, over 10¹²; the store has 100 cells. stdout holds the outcomes: one level, nine, and nine tied to their own number.
-use cells::area::AREA;
-use cells::area::FIRST_RUN;
 use codes::type_tags;
 use libc::STDOUT_FILENO;
-use solver::sizes::OVER;
+use types_cells::area::AREA;
+use types_cells::area::FIRST_RUN;
+use types_solver::sizes::OVER;
 ghost use Prim.Native.Nat.{_<_};
 ghost use Rattle.tower.specs.Ready.{Rowing, Rowed, Room, Built, Forming, Applying, Applied, Towering, Towered, Asked};
 
@@ -30,7 +30,7 @@ const LAST_GENERIC: usize = GENERIC - 1;
 
 const LAST_APPLIED: usize = CELLS - 1;
 
-const UNKNOWN: u32 = cells::area::UNKNOWN as u32;
+const UNKNOWN: u32 = types_cells::area::UNKNOWN as u32;
 
 const INTEGERS: u32 = type_tags::INTEGERS as u32;
 
@@ -52,7 +52,7 @@ fn row(a: &mut [u32], n: usize, top: usize, first: usize, step: usize, m: usize)
     let mut x = first;
     let mut j = 0;
     while j < m {
-        cells::growth::add_word(a, n, top + j, x as u32);
+        types_cells::growth::add_word(a, n, top + j, x as u32);
         x += step;
         j += 1;
     }
@@ -73,7 +73,7 @@ fn former(
     ensures { λ _. ⌜ Built (now (a .entry)) (now (a .exit)) n top 1 m ⌝ }
 {
     row(a, n, top, first, step, m);
-    cells::growth::new_cell(a, n, tag, arg, top as u32, m as u32);
+    types_cells::growth::new_cell(a, n, tag, arg, top as u32, m as u32);
 }
 
 // The type ℙ (X × (X⁶ × X⁶ × X⁶ × X⁶)) of f: X is cell n.
@@ -108,15 +108,15 @@ fn level(a: &mut [u32], d: &[u32], n: usize, top: usize, x: usize) -> bool
 {
     generic(a, n, top);
     applied(a, n + GENERIC, top + GENERIC_PARTS, x);
-    unifier::unification::merge(a, d, n + LAST_GENERIC, n + LAST_APPLIED)
+    types_unifier::unification::merge(a, d, n + LAST_GENERIC, n + LAST_APPLIED)
 }
 
 // What the solver says of cell x of the n cells.
 fn ask(a: &mut [u32], d: &[u32], n: usize, x: usize) -> Outcome
     requires { ⌜ Asked (now a) (now d) n x ⌝ }
 {
-    if solver::acyclicity::finite(a, n) {
-        let size = solver::sizes::cell_size(a, d, x);
+    if types_solver::acyclicity::finite(a, n) {
+        let size = types_solver::sizes::cell_size(a, d, x);
         return Outcome::Solved { size: size };
     }
     Outcome::Cycle
@@ -153,7 +153,7 @@ fn tower(a: &mut [u32], d: &[u32], start: u32, levels: usize, tie: bool) -> Outc
         let n = 1 + CELLS * levels;
         let x = n - APPLIED;
         if tie {
-            if unifier::unification::merge(a, d, 0, x) {
+            if types_unifier::unification::merge(a, d, 0, x) {
                 return ask(a, d, n, x);
             }
             return Outcome::Clash;

@@ -13,7 +13,7 @@ use borrow.Author.Tests.{ltb-true, le-ltb}
 use Rattle.values.specs.declared.order.Order.{Order}
 use Rattle.values.specs.declared.order.Order.the-variants.{Less, Same, Greater}
 use Rattle.values.specs.declared.sets.Place.the-variants.{At, Already}
-use Rattle.integers.specs.Integer.{signed}
+use Rattle.values_integers.specs.Integer.{signed}
 use Rattle.values.specs.Order.{compareWord, orElse, compare, isLess}
 use Rattle.values.specs.Value.{Value, int, element, set, tuple, Values, nil, cons, count, encode, encodes}
 use Rattle.values.specs.Sets.{among, isMember, choose, placeFrom, place, insertAt, insert}

@@ -5,7 +5,7 @@ use lib.IntN.{ℤ}
 use mir.Syntax.{w32}
 use mir.ValLaws.{toZ-ofZ}
 use Rattle.values.specs.declared.numbers.Number.the-variants.{Integer}
-use Rattle.integers.specs.Integer.{signed, wordOf, in32}
+use Rattle.values_integers.specs.Integer.{signed, wordOf, in32}
 use Rattle.values.specs.Numbers.{numberOf}
 use Rattle.values.specs.Value.{int, encode}
 use Rattle.values.proofs.Unique.{fits32}

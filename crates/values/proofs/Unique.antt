@@ -10,7 +10,7 @@ use borrow.Author.Tests.{ltb-true}
 use mir.Syntax.{w32}
 use mir.Val.{SFits, toZ}
 use mir.ValLaws.{toZ-ofZ}
-use Rattle.integers.specs.Integer.{wordOf, in32}
+use Rattle.values_integers.specs.Integer.{wordOf, in32}
 use Rattle.words.proofs.Loops.{and-left, and-right}
 use Rattle.values.specs.Value.{Value, int, element, set, tuple, Values, nil, cons, count, encode, encodes}
 use Rattle.values.specs.WellFormed.{wellFormed, allWellFormed}

@@ -1,4 +1,4 @@
--- What the contracts of `values` and `forms` cite. Laws about these definitions stand in their proofs/.
+-- What the contracts of `values` and `values_forms` cite. Laws about these definitions stand in their proofs/.
 pub mod Value
 pub mod Order
 pub mod Span

@@ -2,7 +2,7 @@
 use mathlib.Core.List.{List, [], _∷_, _++_}
 use Prim.Native.Nat.{ℕ, suc}
 use lib.IntN.{ℤ}
-use Rattle.integers.specs.Integer.{wordOf}
+use Rattle.values_integers.specs.Integer.{wordOf}
 
 mutual
   pub data Value : Type 0 where

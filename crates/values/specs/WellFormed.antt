@@ -1,10 +1,10 @@
--- Which values are well formed, as document 01 says it of states. The laws of forms/proofs/Decoding.antt and Reading.antt say that `isValue`
+-- Which values are well formed, as document 01 says it of states. The laws of values_forms/proofs/Decoding.antt and Reading.antt say that `isValue`
 -- of specs/Form.antt tests exactly this on words, and those of proofs/Unique.antt that such words are one value's and no other's.
 use mathlib.Core.List.{List, []}
 use mathlib.Core.Bool.{Bool, true, _&&_}
 use Prim.Native.Nat.{ℕ}
 use lib.Dec.{leb, ltb}
-use Rattle.integers.specs.Integer.{in32}
+use Rattle.values_integers.specs.Integer.{in32}
 use Rattle.values.specs.Order.{compare, isLess}
 use Rattle.values.specs.Value.{Value, int, element, set, tuple, Values, nil, cons, count, encode}
 

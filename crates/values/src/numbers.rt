@@ -2,8 +2,8 @@
 use super::held::Held;
 use super::held::hold;
 use codes::value_tags;
-use integers::integer::signed;
-use integers::integer::word_of;
+use values_integers::integer::signed;
+use values_integers::integer::word_of;
 use words::word;
 ghost use mathlib.Core.Path.{_≡_};
 ghost use Rattle.values.specs.Held.{keep};

@@ -1,5 +1,5 @@
 // The order of values, by signed word sequence, and their equality.
-use integers::integer::signed;
+use values_integers::integer::signed;
 ghost use mathlib.Core.Path.{_≡_};
 ghost use Rattle.values.specs.Order.{compareWord, compare, isSame, isLess, same};
 

@@ -1,4 +1,4 @@
-// What the words of values and types begin with, as the definitions of specs/ tell it apart and the crate `forms` computes it.
+// What the words of values and types begin with, as the definitions of specs/ tell it apart and the crate `values_forms` computes it.
 
 // What begins somewhere: a value without parts, with its words, or a set or a tuple, with its count.
 pub enum Shape {

@@ -8,16 +8,16 @@ use lib.ListN.{length, getD, take, drop, replicate, length-take, length-append, 
 use lib.Seq.{take-at, take-all}
 use lib.Dec.{eqb, leb}
 use borrow.Author.Tests.{lt-ltb, lt-leb, leb-true, leb-false}
-use Rattle.typing.specs.Check.{checkOf}
-use Rattle.typing.specs.Areas.{Checked}
-use Rattle.typing.specs.declared.Finding.{Finding}
-use Rattle.typing.specs.declared.Finding.the-variants.{Refused}
-use Rattle.printing.specs.Print.{printOf, printedAnswer, printedOf}
-use Rattle.printing.specs.Buffer.{Printed, printedBytes, printedLength}
-use Rattle.printing.specs.Bounds.{Words, none, word, OfWords}
-use Rattle.printing.specs.Lines.{refusedLine, refusedBytes, atBytes, spaced}
-use Rattle.printing.specs.Decimal.{decimal, digits}
-use Rattle.printing.proofs.Lengths.{print-length}
+use Rattle.checker_rules.specs.Check.{checkOf}
+use Rattle.checker_rules.specs.Areas.{Checked}
+use Rattle.checker_rules.specs.declared.Finding.{Finding}
+use Rattle.checker_rules.specs.declared.Finding.the-variants.{Refused}
+use Rattle.printer_rules.specs.Print.{printOf, printedAnswer, printedOf}
+use Rattle.printer_rules.specs.Buffer.{Printed, printedBytes, printedLength}
+use Rattle.printer_rules.specs.Bounds.{Words, none, word, OfWords}
+use Rattle.printer_rules.specs.Lines.{refusedLine, refusedBytes, atBytes, spaced}
+use Rattle.printer_rules.specs.Decimal.{decimal, digits}
+use Rattle.printer_rules.proofs.Lengths.{print-length}
 use Rattle.input.specs.Input.{areWords, wordsOf, firstWords, wordsAfter}
 use Rattle.input.proofs.Laws.{first-length, words-room, words-taken}
 use Rattle.zcheck.specs.Report.{reportOf, Prints, Areas}

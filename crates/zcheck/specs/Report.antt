@@ -5,8 +5,8 @@ use mathlib.Core.Bool.{cond}
 use mathlib.Core.List.{List, []}
 use Prim.Native.Nat.{ℕ}
 use lib.ListN.{length, take}
-use Rattle.typing.specs.declared.Finding.the-variants.{Refused}
-use Rattle.printing.specs.Print.{printOf, printedOf}
+use Rattle.checker_rules.specs.declared.Finding.the-variants.{Refused}
+use Rattle.printer_rules.specs.Print.{printOf, printedOf}
 use Rattle.input.specs.Input.{areWords, wordsOf}
 
 unfoldable pub reportOf : List ℕ → List ℕ

@@ -1,16 +1,16 @@
 // The program of document 01, "The printed finding": a document from standard input, its finding to standard output.
 // No contract can say which bytes C's read and write move; `report` says what is written for the bytes that were read.
+use checker_rules::Finding;
 use codes::WORD_BYTES;
 use codes::findings;
 use codes::limits;
 use libc::STDIN_FILENO;
 use libc::STDOUT_FILENO;
-use typing::Finding;
 ghost use mathlib.Core.Path.{_≡_};
 ghost use mathlib.Core.List.{[]};
 ghost use lib.ListN.{length};
-ghost use Rattle.typing.specs.declared.Finding.the-variants.{Refused};
-ghost use Rattle.printing.specs.Print.{printedOf, printOf};
+ghost use Rattle.checker_rules.specs.declared.Finding.the-variants.{Refused};
+ghost use Rattle.printer_rules.specs.Print.{printedOf, printOf};
 ghost use Rattle.zcheck.specs.Report.{reportOf, Prints, Areas};
 
 // Words of each area, as many as a document may have.
@@ -19,7 +19,7 @@ const AREA: usize = limits::WORDS;
 // One byte more than an area has, so that a longer input shows.
 const INPUT: usize = WORD_BYTES * AREA + 1;
 
-// Bytes that always suffice for the printed finding: `enough` in printing/specs/Bounds.antt.
+// Bytes that always suffice for the printed finding: `enough` in printer_rules/specs/Bounds.antt.
 const OUTPUT: usize = 11 * AREA + 34;
 
 // The printed finding of a document's words: its length.

@@ -2,11 +2,11 @@
 use mathlib.Core.Path.{_≡_, refl, ap₂}
 use Prim.Native.Nat.{ℕ}
 use native.Mathlib.Omega.{arith}
-use Rattle.typing.specs.Check.{Answer, accepted, refused}
-use Rattle.typing.specs.Areas.{findingOf}
-use Rattle.typing.specs.declared.Finding.the-variants.{Accepted, Refused as Rejected}
-use Rattle.evaluation.specs.Run.{Ran}
-use Rattle.evaluation.specs.declared.Finding.the-variants.{Refused}
+use Rattle.checker_rules.specs.Check.{Answer, accepted, refused}
+use Rattle.checker_rules.specs.Areas.{findingOf}
+use Rattle.checker_rules.specs.declared.Finding.the-variants.{Accepted, Refused as Rejected}
+use Rattle.evaluator_rules.specs.Run.{Ran}
+use Rattle.evaluator_rules.specs.declared.Finding.the-variants.{Refused}
 use Rattle.zrun.specs.Judge.{judgeOf}
 
 pub run-counts : (a : Answer) (r : Ran) → Accepted ≡ findingOf a → r .finding ≡ judgeOf a r

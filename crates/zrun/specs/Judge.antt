@@ -1,8 +1,8 @@
 -- What the program finds of a document and a state: the fit call's refusal, else the run's finding.
-use Rattle.typing.specs.Check.{Answer, accepted, refused}
-use Rattle.evaluation.specs.Run.{Ran}
-use Rattle.evaluation.specs.declared.Finding.{Finding}
-use Rattle.evaluation.specs.declared.Finding.the-variants.{Refused}
+use Rattle.checker_rules.specs.Check.{Answer, accepted, refused}
+use Rattle.evaluator_rules.specs.Run.{Ran}
+use Rattle.evaluator_rules.specs.declared.Finding.{Finding}
+use Rattle.evaluator_rules.specs.declared.Finding.the-variants.{Refused}
 
 unfoldable pub judgeOf : Answer → Ran → Finding
 judgeOf (accepted E) r = r .finding

@@ -3,13 +3,13 @@
 // a document of no words is 11 at 0, a state 41 at 0.
 use codes::WORD_BYTES;
 use codes::limits;
-use evaluation::Finding;
+use evaluator_rules::Finding;
 use libc::STDOUT_FILENO;
 ghost use mathlib.Core.Path.{_≡_};
 ghost use Prim.Native.Nat.{_≤_};
 ghost use lib.ListN.{length};
-ghost use Rattle.fit.specs.Fit.{fitOf};
-ghost use Rattle.evaluation.specs.Run.{runOf};
+ghost use Rattle.fitter_rules.specs.Fit.{fitOf};
+ghost use Rattle.evaluator_rules.specs.Run.{runOf};
 ghost use Rattle.zrun.specs.Judge.{judgeOf};
 
 // Words of each area, as many as a document may have.
@@ -84,10 +84,10 @@ fn load(i: usize, area: &mut [u32]) -> Input
 fn judge(doc: &[u32], state: &[u32], dict: &mut [u32], work: &mut [u32]) -> Finding
     ensures { λ r. ⌜ r ≡ judgeOf (fitOf (now (doc .entry)) (now (state .entry)) (length (now (dict .entry))) (length (now (work .entry)))) (runOf (now (doc .entry)) (now (state .entry)) (length (now (work .entry)))) ⌝ }
 {
-    let fitted = fitting::fit(doc, state, dict, work);
+    let fitted = fitter::fit(doc, state, dict, work);
     match fitted {
-        typing::Finding::Accepted => evaluator::run(doc, state, work),
-        typing::Finding::Refused { number, place } => Finding::Refused {
+        checker_rules::Finding::Accepted => evaluator::run(doc, state, work),
+        checker_rules::Finding::Refused { number, place } => Finding::Refused {
             number: number,
             place: place,
         },

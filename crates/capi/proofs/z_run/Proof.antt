@@ -1,5 +1,5 @@
 use mathlib.Core.Path.{ap, _∙_}
-use Rattle.finding_codes.specs.Code.{runCode}
+use Rattle.capi_codes.specs.Code.{runCode}
 use borrow.Author.Needs.{needs}
 use Rattle.capi.proofs.z_run.Statement.{statement}
 use Rattle.capi.proofs.z_run.Tie as tie

@@ -3,7 +3,7 @@ use Rattle.capi.proofs.z_state.Statement.{statement}
 use Rattle.capi.proofs.z_state.Tie as tie
 use Rattle.capi.proofs.z_state.Reads as reads
 use Rattle.capi.proofs.z_state.Lts as lts
-use Rattle.finding_codes.proofs.code_of.Reads as code-of-reads
+use Rattle.capi_codes.proofs.code_of.Reads as code-of-reads
 use Rattle.states.proofs.check_state.Reads as check-state-reads
 
 check-state-requires : tie.Need-check-state-requires

@@ -7,8 +7,8 @@ use borrow.Fn.PlainCycle.{Measures, is, falls, and}
 use Rattle.checker.proofs.paragraphs_from.Reads as paragraphs-from
 use Rattle.checker.proofs.paragraphs_from.Kinds as paragraphs-from-kinds
 use Rattle.checker.proofs.+paragraphs_from.Lts-paragraphs_from as paragraphs-from-lts
-use Rattle.extension.proofs.enter.Reads as enter-reads
-use Rattle.node_forms.proofs.nodes.operand.Reads as operand-reads
+use Rattle.checker_extension.proofs.enter.Reads as enter-reads
+use Rattle.reader_nodes.proofs.nodes.operand.Reads as operand-reads
 use Rattle.words.proofs.word.Reads as word-reads
 use Rattle.checker.proofs.+paragraphs_from.{statement}
 use Rattle.checker.proofs.+paragraphs_from.Tie.{close}

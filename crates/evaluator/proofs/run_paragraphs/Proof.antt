@@ -1,10 +1,10 @@
 use lib.ListN.{length}
 use Rattle.layout.specs.Layout.{part}
-use Rattle.syntax.proofs.NameCounts.{globals-counted}
+use Rattle.reader_rules.proofs.NameCounts.{globals-counted}
 use Rattle.states.proofs.NameLaws.{document-words}
-use Rattle.evaluation.specs.Scope as Scope
-use Rattle.blocks.specs.Blocks as Blocks
-use Rattle.blocks.specs.Named.{said}
+use Rattle.evaluator_rules.specs.Scope as Scope
+use Rattle.evaluator_scope.specs.Blocks as Blocks
+use Rattle.evaluator_scope.specs.Named.{said}
 use Rattle.evaluator.proofs.RunLaws.{all-declared, run-ending}
 use mathlib.Core.Path.{_≡_, refl, sym, ap, subst, _∙_}
 use mathlib.Core.Bool.{true, false}

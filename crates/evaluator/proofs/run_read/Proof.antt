@@ -1,6 +1,6 @@
 use lib.ListN.{length}
 use borrow.Author.Tests.{lt-leb, le-leb}
-use Rattle.evaluation.specs.Run.{runOf, runRead, runWork}
+use Rattle.evaluator_rules.specs.Run.{runOf, runRead, runWork}
 use mathlib.Core.Path.{_≡_, refl, sym, ap, subst, _∙_}
 use mathlib.Core.Bool.{true, false}
 use mathlib.Core.List.{List}

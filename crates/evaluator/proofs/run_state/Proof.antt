@@ -1,4 +1,4 @@
-use Rattle.evaluation.specs.Run.{runState}
+use Rattle.evaluator_rules.specs.Run.{runState}
 use mathlib.Core.Path.{_≡_, refl, sym, ap, subst, _∙_}
 use mathlib.Core.Bool.{true, false}
 use mathlib.Core.List.{List}

@@ -1,5 +1,5 @@
 use mathlib.Core.Path.{sym, ap}
-use Rattle.printing.specs.Print.{printOf}
+use Rattle.printer_rules.specs.Print.{printOf}
 use Rattle.printer.proofs.PutLaws.{put-text}
 use borrow.Author.Needs.{needs}
 use Rattle.printer.proofs.put_finding.Statement.{statement}

@@ -1,5 +1,5 @@
 use Rattle.reader.proofs.LinkLaws.{tallied, linked}
-use Rattle.syntax.specs.Nodes.{documentForm}
+use Rattle.reader_rules.specs.Nodes.{documentForm}
 use Rattle.layout.proofs.Laws.{laid}
 use native.Mathlib.Omega.{arith}
 use mathlib.Core.Path.{sym, _∙_}

@@ -1,4 +1,4 @@
-use Rattle.syntax.specs.Reading.{readOf}
+use Rattle.reader_rules.specs.Reading.{readOf}
 use mathlib.Core.Path.{sym, _∙_}
 use borrow.Author.Needs.{needs}
 use Rattle.reader.proofs.read.Statement.{statement}

@@ -1,5 +1,5 @@
 use mathlib.Core.Path.{_≡_, sym, _∙_}
-use Rattle.state_words.specs.States.{stateCheckOf}
+use Rattle.states_rules.specs.States.{stateCheckOf}
 use borrow.Author.Needs.{needs}
 use Rattle.states.proofs.check_state.Statement.{statement}
 use Rattle.states.proofs.check_state.Tie as tie

@@ -1,9 +1,9 @@
 use mathlib.Core.Path.{_≡_, sym, _∙_}
 use native.Mathlib.Omega.{arith}
 use Rattle.layout.proofs.Laws.{laid}
-use Rattle.syntax.specs.Decode.{treeOf}
-use Rattle.state_words.specs.States.{stateForm}
-use Rattle.state_words.specs.Names.{documentNames}
+use Rattle.reader_rules.specs.Decode.{treeOf}
+use Rattle.states_rules.specs.States.{stateForm}
+use Rattle.states_rules.specs.Names.{documentNames}
 use Rattle.states.proofs.TableLaws.{positive-document, by-table, not-laid, not-counted}
 use Rattle.states.proofs.NameLaws.{document-words}
 use borrow.Author.Needs.{needs}

@@ -4,8 +4,8 @@ use Rattle.tower.proofs.ask.Statement.{statement}
 use Rattle.tower.proofs.ask.Tie as tie
 use Rattle.tower.proofs.ask.Reads as reads
 use Rattle.tower.proofs.ask.Lts as lts
-use Rattle.solver.proofs.sizes.cell_size.Reads as cell-size-reads
-use Rattle.solver.proofs.acyclicity.finite.Reads as finite-reads
+use Rattle.types_solver.proofs.sizes.cell_size.Reads as cell-size-reads
+use Rattle.types_solver.proofs.acyclicity.finite.Reads as finite-reads
 
 -- src/main.rt:104:8
 finite-requires : tie.Need-finite-requires

@@ -2,7 +2,7 @@ use mathlib.Core.Path.{refl}
 use mathlib.Core.Bool.{true, false}
 use Prim.Native.Nat.{_≤_, _-_}
 use native.Mathlib.Omega.{arith}
-use Rattle.types.proofs.Terms.{bool-no}
+use Rattle.types_rules.proofs.Terms.{bool-no}
 use Rattle.tower.proofs.Building.{form-plain, ready-start, Levels, levels-start, levels-applying, levels-step, levels-end}
 use borrow.Author.Needs.{needs}
 use Rattle.tower.proofs.build.Statement.{statement}

@@ -5,7 +5,7 @@ use Rattle.tower.proofs.former.Statement.{statement}
 use Rattle.tower.proofs.former.Tie as tie
 use Rattle.tower.proofs.former.Reads as reads
 use Rattle.tower.proofs.former.Lts as lts
-use Rattle.cells.proofs.growth.new_cell.Reads as new-cell-reads
+use Rattle.types_cells.proofs.growth.new_cell.Reads as new-cell-reads
 use Rattle.tower.proofs.row.Reads as row-reads
 
 -- src/main.rt:61:5

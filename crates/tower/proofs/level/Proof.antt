@@ -5,7 +5,7 @@ use Rattle.tower.proofs.level.Statement.{statement}
 use Rattle.tower.proofs.level.Tie as tie
 use Rattle.tower.proofs.level.Reads as reads
 use Rattle.tower.proofs.level.Lts as lts
-use Rattle.unifier.proofs.unification.merge.Reads as merge-reads
+use Rattle.types_unifier.proofs.unification.merge.Reads as merge-reads
 use Rattle.tower.proofs.applied.Reads as applied-reads
 use Rattle.tower.proofs.generic.Reads as generic-reads
 

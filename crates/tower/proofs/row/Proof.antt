@@ -5,7 +5,7 @@ use Rattle.tower.proofs.row.Statement.{statement}
 use Rattle.tower.proofs.row.Tie as tie
 use Rattle.tower.proofs.row.Reads as reads
 use Rattle.tower.proofs.row.Lts as lts
-use Rattle.cells.proofs.growth.add_word.Reads as add-word-reads
+use Rattle.types_cells.proofs.growth.add_word.Reads as add-word-reads
 
 abbrev Inv-loop : tie.InvT-loop
 Inv-loop a₀ n top first step m x₀ j₀ a x j = (j ≤ m) × RowTo a₀ a n top first step x j

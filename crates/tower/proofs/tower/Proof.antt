@@ -6,7 +6,7 @@ use Rattle.tower.proofs.tower.Statement.{statement}
 use Rattle.tower.proofs.tower.Tie as tie
 use Rattle.tower.proofs.tower.Reads as reads
 use Rattle.tower.proofs.tower.Lts as lts
-use Rattle.unifier.proofs.unification.merge.Reads as merge-reads
+use Rattle.types_unifier.proofs.unification.merge.Reads as merge-reads
 use Rattle.tower.proofs.ask.Reads as ask-reads
 use Rattle.tower.proofs.build.Reads as build-reads
 

@@ -1,8 +1,8 @@
 use mathlib.Core.Path.{sym, subst}
 use Prim.Native.Nat.{ℕ}
-use Rattle.typing.specs.declared.Finding.the-variants.{Refused}
-use Rattle.printing.specs.Print.{printOf}
-use Rattle.printing.specs.Buffer.{Printed}
+use Rattle.checker_rules.specs.declared.Finding.the-variants.{Refused}
+use Rattle.printer_rules.specs.Print.{printOf}
+use Rattle.printer_rules.specs.Buffer.{Printed}
 use borrow.Author.Needs.{needs}
 use Rattle.zcheck.proofs.Reports.{broken-prints}
 use Rattle.zcheck.proofs.print_broken.Statement.{statement}

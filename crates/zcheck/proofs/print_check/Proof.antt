@@ -1,8 +1,8 @@
 use native.Mathlib.Omega.{arith}
 use contract.Lifetimes.{Lfts}
-use Rattle.typing.specs.declared.Finding.{Finding}
-use Rattle.typing.specs.declared.Finding.the-variants.{Accepted, Refused}
-use Rattle.printing.specs.Bounds.{OfWords, noPlace, placed}
+use Rattle.checker_rules.specs.declared.Finding.{Finding}
+use Rattle.checker_rules.specs.declared.Finding.the-variants.{Accepted, Refused}
+use Rattle.printer_rules.specs.Bounds.{OfWords, noPlace, placed}
 use borrow.Author.Needs.{needs}
 use Rattle.zcheck.proofs.Reports.{check-prints}
 use Rattle.zcheck.proofs.print_check.Statement.{statement}

@@ -1,8 +1,8 @@
 use mathlib.Core.Path.{sym, ap, _∙_}
 use Prim.Native.Nat.{ℕ}
 use lib.ListN.{length}
-use Rattle.fit.specs.Fit.{fitOf}
-use Rattle.evaluation.specs.Run.{runOf}
+use Rattle.fitter_rules.specs.Fit.{fitOf}
+use Rattle.evaluator_rules.specs.Run.{runOf}
 use Rattle.zrun.proofs.Judging.{run-counts, refusal-counts}
 use borrow.Author.Needs.{needs}
 use Rattle.zrun.proofs.judge.Statement.{statement}

@@ -1,7 +1,7 @@
 use borrow.Author.Tests.{ne-eqb}
 use borrow.Author.Needs.{needs}
 use Rattle.words.proofs.Loops.{tests}
-use Rattle.printing.specs.Lines.{dictionarySize}
+use Rattle.printer_rules.specs.Lines.{dictionarySize}
 use Rattle.printer.proofs.lines.dictionary_size.Statement.{statement}
 use Rattle.printer.proofs.lines.dictionary_size.Tie as tie
 

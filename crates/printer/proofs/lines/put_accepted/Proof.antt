@@ -1,8 +1,8 @@
 use mathlib.Core.Path.{ap}
 use mathlib.Core.List.{List, [], _∷_}
 use Prim.Native.Nat.{ℕ}
-use Rattle.printing.specs.Lines.{acceptedBytes, spaced}
-use Rattle.printing.proofs.LineLaws.{accepted-parts}
+use Rattle.printer_rules.specs.Lines.{acceptedBytes, spaced}
+use Rattle.printer_rules.proofs.LineLaws.{accepted-parts}
 use Rattle.printer.proofs.PutLaws.{put-then, put-text}
 use borrow.Author.Needs.{needs}
 use Rattle.printer.proofs.lines.put_accepted.Statement.{statement}

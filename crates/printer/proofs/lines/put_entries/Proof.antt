@@ -3,8 +3,8 @@ use Prim.Native.Nat.{ℕ, _+_, _-_, _≤_}
 use native.Mathlib.Omega.{arith}
 use Rattle.words.specs.Loops.{joined}
 use Rattle.layout.specs.Layout.{count}
-use Rattle.printing.specs.Lines.{entryLine, entryLines}
-use Rattle.printing.proofs.LineLaws.{linesBefore, lines-next, lines-rest, lines-end}
+use Rattle.printer_rules.specs.Lines.{entryLine, entryLines}
+use Rattle.printer_rules.proofs.LineLaws.{linesBefore, lines-next, lines-rest, lines-end}
 use Rattle.printer.specs.Buffer.{Put}
 use Rattle.printer.proofs.PutLaws.{put-none, put-length, put-then, put-full, put-text}
 use borrow.Author.Needs.{needs}

@@ -1,6 +1,6 @@
 use mathlib.Core.Path.{ap, _∙_}
 use Rattle.words.proofs.Lists.{take-rest}
-use Rattle.printing.specs.Lines.{numbers, spaced, entryLine}
+use Rattle.printer_rules.specs.Lines.{numbers, spaced, entryLine}
 use Rattle.printer.proofs.PutLaws.{put-then, put-text}
 use borrow.Author.Needs.{needs}
 use Rattle.printer.proofs.lines.put_entry.Statement.{statement}

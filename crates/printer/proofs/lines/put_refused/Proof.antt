@@ -1,4 +1,4 @@
-use Rattle.printing.specs.Lines.{refusedBytes, atBytes, refusedLine}
+use Rattle.printer_rules.specs.Lines.{refusedBytes, atBytes, refusedLine}
 use Rattle.printer.proofs.PutLaws.{put-then}
 use borrow.Author.Needs.{needs}
 use Rattle.printer.proofs.lines.put_refused.Statement.{statement}

@@ -5,7 +5,7 @@ use borrow.Author.Needs.{needs}
 use Prim.Native.Nat.{ℕ, _<_, _/_, _%_}
 use borrow.Fn.Kinds.{In}
 use borrow.Fn.PlainCycle.{Measures, is, falls, and}
-use Rattle.printing.proofs.Decimal.{decimal-one, decimal-more}
+use Rattle.printer_rules.proofs.Decimal.{decimal-one, decimal-more}
 use Rattle.printer.proofs.PutLaws.{put-then, put-text}
 use Rattle.printer.proofs.numbers.put_number.Reads as put-number
 use Rattle.printer.proofs.numbers.put_number.Kinds as put-number-kinds

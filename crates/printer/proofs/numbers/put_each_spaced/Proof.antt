@@ -4,8 +4,8 @@ use Prim.Native.Nat.{_-_, _≤_}
 use native.Mathlib.Omega.{arith}
 use lib.ListN.{length, take}
 use lib.Seq.{take-all}
-use Rattle.printing.specs.Lines.{spaced}
-use Rattle.printing.proofs.LineLaws.{spaced-next}
+use Rattle.printer_rules.specs.Lines.{spaced}
+use Rattle.printer_rules.proofs.LineLaws.{spaced-next}
 use Rattle.printer.specs.Buffer.{Put}
 use Rattle.printer.proofs.PutLaws.{put-none, put-length, put-then, put-text}
 use borrow.Author.Needs.{needs}

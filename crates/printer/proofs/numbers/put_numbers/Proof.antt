@@ -3,9 +3,9 @@ use Prim.Native.Nat.{_-_}
 use native.Mathlib.Omega.{arith}
 use lib.ListN.{length, drop, length-drop}
 use lib.Seq.{take-all}
-use Rattle.printing.specs.Decimal.{decimal}
-use Rattle.printing.specs.Lines.{spaced}
-use Rattle.printing.proofs.LineLaws.{numbers-none, numbers-some}
+use Rattle.printer_rules.specs.Decimal.{decimal}
+use Rattle.printer_rules.specs.Lines.{spaced}
+use Rattle.printer_rules.proofs.LineLaws.{numbers-none, numbers-some}
 use Rattle.printer.proofs.PutLaws.{put-none, put-then, put-text}
 use borrow.Author.Needs.{needs}
 use Rattle.printer.proofs.numbers.put_numbers.Statement.{statement}

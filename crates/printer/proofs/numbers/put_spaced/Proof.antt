@@ -1,4 +1,4 @@
-use Rattle.printing.proofs.LineLaws.{spaced-one}
+use Rattle.printer_rules.proofs.LineLaws.{spaced-one}
 use Rattle.printer.proofs.PutLaws.{put-then, put-text}
 use borrow.Author.Needs.{needs}
 use Rattle.printer.proofs.numbers.put_spaced.Statement.{statement}

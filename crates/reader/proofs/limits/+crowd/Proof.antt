@@ -1,6 +1,6 @@
 use Rattle.reader.proofs.CountLaws.{table-parent, table-place, above-top, above-up}
 use Rattle.reader.specs.Counts.{over, counted}
-use Rattle.syntax.specs.Nodes.{parent, above}
+use Rattle.reader_rules.specs.Nodes.{parent, above}
 use borrow.Author.Tests.{lt-ltb, le-ltb}
 use native.Mathlib.Omega.{arith}
 use mathlib.Core.Bool.{true, false, false≢true}
@@ -13,7 +13,7 @@ use Rattle.reader.proofs.limits.crowd.Reads as crowd
 use Rattle.reader.proofs.limits.crowd.Kinds as crowd-kinds
 use Rattle.reader.proofs.limits.+crowd.Lts-crowd as crowd-lts
 use Rattle.reader.proofs.limits.is_closing.Reads as is-closing-reads
-use Rattle.node_forms.proofs.nodes.kind_at.Reads as kind-at-reads
+use Rattle.reader_nodes.proofs.nodes.kind_at.Reads as kind-at-reads
 use Rattle.words.proofs.store.Reads as store-reads
 use Rattle.words.proofs.word.Reads as word-reads
 use Rattle.reader.proofs.limits.+crowd.{statement}

@@ -1,6 +1,6 @@
 use Rattle.reader.proofs.CountLaws.{table-parent, table-place, reaches-top, reaches-up}
 use Rattle.reader.specs.Counts.{reaches}
-use Rattle.syntax.specs.Nodes.{parent}
+use Rattle.reader_rules.specs.Nodes.{parent}
 use native.Mathlib.Omega.{arith}
 use mathlib.Core.Path.{_≡_, sym, _∙_}
 use borrow.Author.Needs.{needs}

@@ -1,6 +1,6 @@
 use Rattle.reader.proofs.CountLaws.{table-parent, table-place, above-top, above-up}
-use Rattle.syntax.specs.Limits.{textsAmong}
-use Rattle.syntax.specs.Nodes.{parent, above}
+use Rattle.reader_rules.specs.Limits.{textsAmong}
+use Rattle.reader_rules.specs.Nodes.{parent, above}
 use borrow.Author.Tests.{eq-eqb, ne-eqb}
 use native.Mathlib.Omega.{arith}
 use mathlib.Core.Path.{_≡_, sym, _∙_}
@@ -11,7 +11,7 @@ use borrow.Fn.PlainCycle.{Measures, is, falls, and}
 use Rattle.reader.proofs.limits.texts_above.Reads as texts-above
 use Rattle.reader.proofs.limits.texts_above.Kinds as texts-above-kinds
 use Rattle.reader.proofs.limits.+texts_above.Lts-texts_above as texts-above-lts
-use Rattle.node_forms.proofs.nodes.kind_at.Reads as kind-at-reads
+use Rattle.reader_nodes.proofs.nodes.kind_at.Reads as kind-at-reads
 use Rattle.words.proofs.word.Reads as word-reads
 use Rattle.reader.proofs.limits.+texts_above.{statement}
 use Rattle.reader.proofs.limits.+texts_above.Tie.{close}

@@ -1,10 +1,10 @@
 use Rattle.reader.proofs.CountLaws.{limit-eq, globals-few, globals-next, counted-none}
 use Rattle.reader.specs.Counts.{Counted}
-use Rattle.syntax.proofs.Scan.{scan-hit, scan-go, scan-end}
-use Rattle.syntax.specs.declared.Reading.the-variants.{Refused}
-use Rattle.syntax.specs.Reading.{lowest}
-use Rattle.syntax.specs.Limits.{globalsUpTo, limitNumber}
-use Rattle.syntax.specs.Findings.{scan}
+use Rattle.reader_rules.proofs.Scan.{scan-hit, scan-go, scan-end}
+use Rattle.reader_rules.specs.declared.Reading.the-variants.{Refused}
+use Rattle.reader_rules.specs.Reading.{lowest}
+use Rattle.reader_rules.specs.Limits.{globalsUpTo, limitNumber}
+use Rattle.reader_rules.specs.Findings.{scan}
 use Rattle.words.specs.Loops.{total}
 use borrow.Author.Tests.{lt-ltb, le-ltb}
 use native.Mathlib.Omega.{arith}

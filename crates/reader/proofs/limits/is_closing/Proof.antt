@@ -1,4 +1,4 @@
-use Rattle.syntax.specs.Limits.{isClosing}
+use Rattle.reader_rules.specs.Limits.{isClosing}
 use borrow.Author.Tests.{ne-eqb}
 use Rattle.words.proofs.Loops.{tests}
 use borrow.Author.Needs.{needs}

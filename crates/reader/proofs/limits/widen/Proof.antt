@@ -1,7 +1,7 @@
 use Rattle.reader.proofs.CountLaws.{table-parent, table-place, wide-count, declared-on, declared-same}
-use Rattle.repeats.specs.Parents.{places}
-use Rattle.syntax.specs.Repeats.{declared}
-use Rattle.syntax.specs.Nodes.{kindAt}
+use Rattle.reader_repeats.specs.Parents.{places}
+use Rattle.reader_rules.specs.Repeats.{declared}
+use Rattle.reader_rules.specs.Nodes.{kindAt}
 use borrow.Author.Tests.{eq-eqb, ne-eqb, lt-ltb, le-ltb}
 use lib.ListN.{length, getD}
 use native.Mathlib.Omega.{arith}

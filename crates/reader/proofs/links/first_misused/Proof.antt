@@ -1,6 +1,6 @@
-use Rattle.syntax.proofs.Scan.{scan-hit, scan-go, scan-end}
-use Rattle.syntax.specs.Reading.{lowest}
-use Rattle.syntax.specs.Findings.{scan, useNumber}
+use Rattle.reader_rules.proofs.Scan.{scan-hit, scan-go, scan-end}
+use Rattle.reader_rules.specs.Reading.{lowest}
+use Rattle.reader_rules.specs.Findings.{scan, useNumber}
 use native.Mathlib.Omega.{arith}
 use native.Mathlib.Nat.{add-sub-cancel}
 use Prim.Native.Nat.{_+_, _-_, _≤_}

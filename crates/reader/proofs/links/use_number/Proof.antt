@@ -1,5 +1,5 @@
 use Rattle.reader.proofs.LinkLaws.{used-one}
-use Rattle.syntax.specs.Findings.{useNumber}
+use Rattle.reader_rules.specs.Findings.{useNumber}
 use Rattle.words.proofs.Loops.{tests}
 use borrow.Author.Needs.{needs}
 use Rattle.reader.proofs.links.use_number.Statement.{statement}

@@ -3,8 +3,8 @@ use Prim.Native.Nat.{_+_, _-_, _≤_}
 use native.Mathlib.Nat.{add-sub-cancel}
 use native.Mathlib.Omega.{arith}
 use Rattle.states.specs.Table.{numberBy}
-use Rattle.syntax.specs.Findings.{scan}
-use Rattle.syntax.proofs.Scan.{scan-hit, scan-go, scan-end}
+use Rattle.reader_rules.specs.Findings.{scan}
+use Rattle.reader_rules.proofs.Scan.{scan-hit, scan-go, scan-end}
 use borrow.Author.Needs.{needs}
 use Rattle.states.proofs.entries.first_ill.Statement.{statement}
 use Rattle.states.proofs.entries.first_ill.Tie as tie

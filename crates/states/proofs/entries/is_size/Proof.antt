@@ -1,5 +1,5 @@
 use Rattle.words.proofs.Loops.{tests}
-use Rattle.state_words.specs.States.{isSize}
+use Rattle.states_rules.specs.States.{isSize}
 use borrow.Author.Needs.{needs}
 use Rattle.states.proofs.entries.is_size.Statement.{statement}
 use Rattle.states.proofs.entries.is_size.Tie as tie

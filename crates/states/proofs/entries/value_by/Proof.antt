@@ -7,7 +7,7 @@ use Rattle.states.proofs.entries.value_by.Tie as tie
 use Rattle.states.proofs.entries.value_by.Reads as reads
 use Rattle.states.proofs.entries.value_by.Lts as lts
 use Rattle.layout.proofs.part.Reads as part-reads
-use Rattle.forms.proofs.form.is_value.Reads as is-value-reads
+use Rattle.values_forms.proofs.form.is_value.Reads as is-value-reads
 use Rattle.words.proofs.word.Reads as word-reads
 
 mul-word : tie.Need-mul-word

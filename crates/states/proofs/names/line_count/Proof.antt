@@ -10,7 +10,7 @@ use Rattle.states.proofs.names.line_count.Tie as tie
 use Rattle.states.proofs.names.line_count.Reads as reads
 use Rattle.states.proofs.names.line_count.Lts as lts
 use Rattle.layout.proofs.part.Reads as part-reads
-use Rattle.node_forms.proofs.nodes.kind_at.Reads as kind-at-reads
+use Rattle.reader_nodes.proofs.nodes.kind_at.Reads as kind-at-reads
 
 kind-at-requires : tie.Need-kind-at-requires
 kind-at-requires c κs = search needs

@@ -8,8 +8,8 @@ use Rattle.states.proofs.names.paragraph_count.Tie as tie
 use Rattle.states.proofs.names.paragraph_count.Reads as reads
 use Rattle.states.proofs.names.paragraph_count.Lts as lts
 use Rattle.layout.proofs.part.Reads as part-reads
-use Rattle.node_forms.proofs.nodes.kind_at.Reads as kind-at-reads
-use Rattle.node_forms.proofs.nodes.operand.Reads as operand-reads
+use Rattle.reader_nodes.proofs.nodes.kind_at.Reads as kind-at-reads
+use Rattle.reader_nodes.proofs.nodes.operand.Reads as operand-reads
 use Rattle.states.proofs.names.text_count.Reads as text-count-reads
 
 kind-at-requires : tie.Need-kind-at-requires

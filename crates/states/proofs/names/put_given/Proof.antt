@@ -4,7 +4,7 @@ use native.Mathlib.Omega.{arith}
 use mathlib.Core.Bool.{true}
 use lib.ListN.{length, drop}
 use Rattle.states.specs.Table.{putPair, putNames}
-use Rattle.state_words.specs.Names.{namesAs}
+use Rattle.states_rules.specs.Names.{namesAs}
 use Rattle.states.proofs.NameLaws.{put-go, put-end}
 use borrow.Author.Needs.{needs}
 use Rattle.states.proofs.names.put_given.Statement.{statement}

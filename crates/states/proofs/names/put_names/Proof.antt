@@ -4,10 +4,10 @@ use Prim.Native.Nat.{ℕ, _+_, _-_, _≤_, _<_, _*_}
 use native.Mathlib.Omega.{arith}
 use lib.ListN.{length}
 use Rattle.layout.specs.Layout.{count, part}
-use Rattle.syntax.specs.Decode.{paragraphsFrom, treeOf}
-use Rattle.syntax.specs.Nodes.{operandAt}
+use Rattle.reader_rules.specs.Decode.{paragraphsFrom, treeOf}
+use Rattle.reader_rules.specs.Nodes.{operandAt}
 use Rattle.states.specs.Table.{putNames}
-use Rattle.state_words.specs.Names.{Name, namesOf, documentNames}
+use Rattle.states_rules.specs.Names.{Name, namesOf, documentNames}
 use Rattle.states.proofs.NameLaws.{document-words, document-names, document-paragraph, document-count, document-put, document-end}
 use borrow.Author.Needs.{needs}
 use Rattle.states.proofs.names.put_names.Statement.{statement}
@@ -15,7 +15,7 @@ use Rattle.states.proofs.names.put_names.Tie as tie
 use Rattle.states.proofs.names.put_names.Reads as reads
 use Rattle.states.proofs.names.put_names.Lts as lts
 use Rattle.layout.proofs.part.Reads as part-reads
-use Rattle.node_forms.proofs.nodes.operand.Reads as operand-reads
+use Rattle.reader_nodes.proofs.nodes.operand.Reads as operand-reads
 use Rattle.states.proofs.names.put_paragraph.Reads as put-paragraph-reads
 use Rattle.words.proofs.word.Reads as word-reads
 

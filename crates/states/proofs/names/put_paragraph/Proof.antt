@@ -9,8 +9,8 @@ use Rattle.states.proofs.names.put_paragraph.Tie as tie
 use Rattle.states.proofs.names.put_paragraph.Reads as reads
 use Rattle.states.proofs.names.put_paragraph.Lts as lts
 use Rattle.layout.proofs.part.Reads as part-reads
-use Rattle.node_forms.proofs.nodes.kind_at.Reads as kind-at-reads
-use Rattle.node_forms.proofs.nodes.operand.Reads as operand-reads
+use Rattle.reader_nodes.proofs.nodes.kind_at.Reads as kind-at-reads
+use Rattle.reader_nodes.proofs.nodes.operand.Reads as operand-reads
 use Rattle.states.proofs.names.put_given.Reads as put-given-reads
 use Rattle.states.proofs.names.text_count.Reads as text-count-reads
 

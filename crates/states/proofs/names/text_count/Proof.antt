@@ -4,8 +4,8 @@ use Prim.Native.Nat.{_+_, _-_, _≤_, _*_}
 use native.Mathlib.Omega.{arith}
 use lib.ListN.{length}
 use Rattle.layout.specs.Layout.{part}
-use Rattle.syntax.specs.Decode.{linesFrom}
-use Rattle.state_words.specs.Names.{lineNames}
+use Rattle.reader_rules.specs.Decode.{linesFrom}
+use Rattle.states_rules.specs.Names.{lineNames}
 use Rattle.states.proofs.NameLaws.{text-words, text-line, text-go, text-end}
 use borrow.Author.Needs.{needs}
 use Rattle.states.proofs.names.text_count.Statement.{statement}
@@ -13,7 +13,7 @@ use Rattle.states.proofs.names.text_count.Tie as tie
 use Rattle.states.proofs.names.text_count.Reads as reads
 use Rattle.states.proofs.names.text_count.Lts as lts
 use Rattle.layout.proofs.part.Reads as part-reads
-use Rattle.node_forms.proofs.nodes.operand.Reads as operand-reads
+use Rattle.reader_nodes.proofs.nodes.operand.Reads as operand-reads
 use Rattle.states.proofs.names.line_count.Reads as line-count-reads
 
 abbrev Inv-loop : tie.InvT-loop

@@ -3,8 +3,8 @@ use mathlib.Core.Bool.{true}
 use Prim.Native.Nat.{_+_, _-_, _≤_}
 use native.Mathlib.Omega.{arith}
 use lib.ListN.{length, drop}
-use Rattle.state_words.specs.States.{entryFrom}
-use Rattle.state_words.specs.Names.{namesAs}
+use Rattle.states_rules.specs.States.{entryFrom}
+use Rattle.states_rules.specs.Names.{namesAs}
 use Rattle.states.proofs.PlaceLaws.{entry-here, entry-go, entry-end}
 use borrow.Author.Needs.{needs}
 use Rattle.states.proofs.places.place_in.Statement.{statement}

@@ -10,7 +10,7 @@ use Rattle.states.proofs.places.place_in_line.Tie as tie
 use Rattle.states.proofs.places.place_in_line.Reads as reads
 use Rattle.states.proofs.places.place_in_line.Lts as lts
 use Rattle.layout.proofs.part.Reads as part-reads
-use Rattle.node_forms.proofs.nodes.kind_at.Reads as kind-at-reads
+use Rattle.reader_nodes.proofs.nodes.kind_at.Reads as kind-at-reads
 use Rattle.states.proofs.places.place_in.Reads as place-in-reads
 
 kind-at-requires : tie.Need-kind-at-requires

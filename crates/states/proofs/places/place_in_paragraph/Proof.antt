@@ -1,7 +1,7 @@
 use mathlib.Core.Path.{_≡_, refl, sym, ap, _∙_}
 use native.Mathlib.Omega.{arith}
 use lib.ListN.{length}
-use Rattle.state_words.specs.States.{entryFrom}
+use Rattle.states_rules.specs.States.{entryFrom}
 use Rattle.states.proofs.NameLaws.{given-words, given-names, axiom-names, other-names}
 use borrow.Author.Needs.{needs}
 use Rattle.states.proofs.places.place_in_paragraph.Statement.{statement}
@@ -9,8 +9,8 @@ use Rattle.states.proofs.places.place_in_paragraph.Tie as tie
 use Rattle.states.proofs.places.place_in_paragraph.Reads as reads
 use Rattle.states.proofs.places.place_in_paragraph.Lts as lts
 use Rattle.layout.proofs.part.Reads as part-reads
-use Rattle.node_forms.proofs.nodes.kind_at.Reads as kind-at-reads
-use Rattle.node_forms.proofs.nodes.operand.Reads as operand-reads
+use Rattle.reader_nodes.proofs.nodes.kind_at.Reads as kind-at-reads
+use Rattle.reader_nodes.proofs.nodes.operand.Reads as operand-reads
 use Rattle.states.proofs.places.place_in.Reads as place-in-reads
 use Rattle.states.proofs.places.place_in_text.Reads as place-in-text-reads
 

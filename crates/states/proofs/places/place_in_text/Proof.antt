@@ -3,9 +3,9 @@ use Prim.Native.Nat.{_+_, _-_, _≤_, _<_, _*_}
 use native.Mathlib.Omega.{arith}
 use lib.ListN.{length}
 use Rattle.layout.specs.Layout.{part}
-use Rattle.syntax.specs.Decode.{linesFrom}
-use Rattle.state_words.specs.States.{entryFrom}
-use Rattle.state_words.specs.Names.{lineNames}
+use Rattle.reader_rules.specs.Decode.{linesFrom}
+use Rattle.states_rules.specs.States.{entryFrom}
+use Rattle.states_rules.specs.Names.{lineNames}
 use Rattle.states.proofs.PlaceLaws.{text-hit, text-miss, text-none}
 use Rattle.states.proofs.NameLaws.{text-words, text-line}
 use borrow.Author.Needs.{needs}
@@ -14,7 +14,7 @@ use Rattle.states.proofs.places.place_in_text.Tie as tie
 use Rattle.states.proofs.places.place_in_text.Reads as reads
 use Rattle.states.proofs.places.place_in_text.Lts as lts
 use Rattle.layout.proofs.part.Reads as part-reads
-use Rattle.node_forms.proofs.nodes.operand.Reads as operand-reads
+use Rattle.reader_nodes.proofs.nodes.operand.Reads as operand-reads
 use Rattle.states.proofs.names.line_count.Reads as line-count-reads
 use Rattle.states.proofs.places.place_in_line.Reads as place-in-line-reads
 

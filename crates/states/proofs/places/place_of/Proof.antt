@@ -4,10 +4,10 @@ use Prim.Native.Nat.{ℕ, _+_, _-_, _≤_, _<_, _*_}
 use native.Mathlib.Omega.{arith}
 use lib.ListN.{length}
 use Rattle.layout.specs.Layout.{count, part}
-use Rattle.syntax.specs.Decode.{paragraphsFrom, treeOf}
-use Rattle.syntax.specs.Nodes.{operandAt}
-use Rattle.state_words.specs.States.{entryFrom}
-use Rattle.state_words.specs.Names.{Name, namesOf, documentNames}
+use Rattle.reader_rules.specs.Decode.{paragraphsFrom, treeOf}
+use Rattle.reader_rules.specs.Nodes.{operandAt}
+use Rattle.states_rules.specs.States.{entryFrom}
+use Rattle.states_rules.specs.Names.{Name, namesOf, documentNames}
 use Rattle.states.proofs.PlaceLaws.{document-hit, document-miss, document-none}
 use Rattle.states.proofs.NameLaws.{document-words, document-names, document-paragraph}
 use borrow.Author.Needs.{needs}
@@ -16,7 +16,7 @@ use Rattle.states.proofs.places.place_of.Tie as tie
 use Rattle.states.proofs.places.place_of.Reads as reads
 use Rattle.states.proofs.places.place_of.Lts as lts
 use Rattle.layout.proofs.part.Reads as part-reads
-use Rattle.node_forms.proofs.nodes.operand.Reads as operand-reads
+use Rattle.reader_nodes.proofs.nodes.operand.Reads as operand-reads
 use Rattle.states.proofs.names.paragraph_count.Reads as paragraph-count-reads
 use Rattle.states.proofs.places.place_in_paragraph.Reads as place-in-paragraph-reads
 use Rattle.words.proofs.word.Reads as word-reads

@@ -1,0 +1,142 @@
+-- An Include as a schema expression, or of a SchemaSet: 38 after its own findings; its types are written out.
+use mathlib.Core.Path.{_≡_, refl}
+use mathlib.Core.Bool.{true, false}
+use mathlib.Core.List.{List}
+use mathlib.Core.Logic.{inl}
+use Prim.Native.Nat.{ℕ, _+_, _≤_}
+use native.Mathlib.Omega.{arith}
+use lib.ListN.{length, take}
+use Rattle.reader_rules.specs.Decode.{pairsFrom}
+use Rattle.reader_rules.specs.Tree.{Include}
+use Rattle.reader_rules.specs.TreeNumbers.{includeNumbers}
+use Rattle.checker_rules.specs.Conditions.{smallTypes, mergeNames, sameType}
+use Rattle.checker_rules.specs.Dictionary.{Dictionary}
+use Rattle.checker_rules.specs.Items.{Items, _⨾_, Meets, Refuses}
+use Rattle.checker_rules.specs.Rules.{includeItems}
+use Rattle.checker_rules.specs.Scopes.{Scope, includeNode, includeSignature}
+use Rattle.checker_rules.specs.Signatures.{Signature, noNames, naming, termIn}
+use Rattle.checker_rules.specs.Unknowns.{Table}
+use Rattle.checker_signatures.specs.Rows.{rows}
+use Rattle.checker_signatures.specs.Carried.{Carries}
+use Rattle.checker_pieces.specs.Piece.{Steady}
+use Rattle.checker_pieces.proofs.Between.{walked-then, walked-mine, refuses-first, refuses-second}
+use Rattle.checker_lookup.specs.Scoped.{Scoped}
+use Rattle.checker_includes.specs.Filling.{SmallTold}
+use Rattle.checker_includes.specs.Storing.{KeepAsk, RowsKept}
+use Rattle.checker_includes.proofs.FillsLaws.{components-fill}
+use Rattle.checker_includes.proofs.NewRowLaws.{rows-few}
+use Rattle.checker_contracts.specs.Includes.{actualCount, IncludeAsk, IncludeDone, BringsAsk, BringsDone}
+use Rattle.checker_contracts.specs.Visits.{Owned, Fresh, idle, Spared}
+use Rattle.checker_contracts.proofs.Brought.{stored-again, stored-gap, actuals-more, brought-ask}
+use Rattle.checker_contracts.proofs.Scopes.{spared-on}
+
+-- Nothing to merge with.
+merge-none : (n : ℕ) (q : Signature) (τ : Table) → Meets (mergeNames n q noNames) τ
+unfolding mergeNames sameType termIn Meets
+merge-none n noNames τ = tt
+merge-none n (naming i t q) τ = (tt, merge-none n q τ)
+
+module _ (s d w : List ℕ) (stack at free : ℕ) (i : Include) (A : BringsAsk s d w stack at free i) (places : List ℕ) where
+  abbrev n : ℕ
+  n = includeNode i
+
+  pub brings-ask : length places ≡ 4 → IncludeAsk s d w stack at free i places
+  brings-ask z = record { height = A .height; texts = A .texts; limited = A .limited; walking = A .walking; row = z }
+
+  abbrev smalls : Scope → Items
+  smalls Γ = smallTypes n (includeSignature i Γ)
+
+  module _ (s₁ w₁ places₁ : List ℕ) (number place m at₁ : ℕ) (I : IncludeDone s s₁ d w w₁ stack at free i places places₁ number place m at₁) where
+    stopped : (s′ w′ : List ℕ) (f k m′ at′ : ℕ) → (f ≡ 0 → ⊥) → Spared w w′ stack free →
+        ((H : Items) (U : List ℕ) → Steady H U → (Γ : Scope) (D : Dictionary) → Scoped s d w stack (idle H U) Γ D → Fresh (includeNumbers i) U →
+        Refuses (includeItems i Γ ⨾ smalls Γ) (Meets H) f k) → BringsDone s s′ d w w′ stack at free i f k m′ at′
+    stopped s′ w′ f k m′ at′ ne S r = record {
+      spared = S;
+      stored = λ e. absurd (ne e);
+      short = λ e. absurd (ne e);
+      few = λ e. absurd (ne e);
+      goes = λ e. absurd (ne e);
+      stops = λ e. r;
+    }
+
+    -- the Include's own finding
+    pub brings-refused : (number ≡ 0 → ⊥) → (m′ at′ : ℕ) → BringsDone s s₁ d w w₁ stack at free i number place m′ at′
+    brings-refused ne m′ at′ =
+        stopped s₁ w₁ number place m′ at′ ne (I .spared)
+        (λ H U S Γ D C F. refuses-first H (includeItems i Γ) (smalls Γ) number place (I .stops ne H U S Γ D C F))
+
+    module _ (fine : number ≡ 0) where
+      abbrev actuals : List ℕ
+      actuals = take (actualCount i) places₁
+
+      -- 38
+      pub brings-large : SmallTold s₁ d w₁ free m actuals false → (m′ at′ : ℕ) → BringsDone s s₁ d w w₁ stack at free i 38 n m′ at′
+      brings-large T m′ at′ =
+          stopped s₁ w₁ 38 n m′ at′ (λ e. omega arith) (I .spared)
+          (λ H U S Γ D C F.
+          let B = I .goes fine H U S Γ D C F in
+          let a = includeItems i Γ in
+          refuses-second H a (smalls Γ) 38 n (B .walked .goes)
+          (T .stops refl (H ⨾ a) (B .unknowns) n n (actualCount i) (includeSignature i Γ) (B .walked .steady) (B .actuals) (B .components)))
+
+      module _ (T : SmallTold s₁ d w₁ free m actuals true) (few-actuals : actualCount i ≤ 4) where
+        pub brings-keep : KeepAsk s₁ d w₁ free 0 free m actuals at at₁ (free + 64)
+        brings-keep =
+            let Q = brought-ask s s₁ d w w₁ stack at free (A .height) i places places₁ number place m at₁ (A .walking) I fine in
+            let R = A .walking .room in
+            let o = R .some in
+            let p = R .pool in
+            let f = R .frames in
+            let v = R .wide in
+            let x = I .short fine in
+            let y = I .few fine in
+            let z = I .spared .size in
+            record {
+              actuals = Q .actuals;
+              rows = Q .table;
+              sizes = T .sizes refl;
+              table = record { inside = omega arith; readable = λ j l. absurd (omega arith) };
+              below = λ j l. absurd (omega arith);
+              many = y;
+              clean = I .stored fine .after;
+              gap = stored-gap s s₁ at at₁ (omega arith) (A .walking .clean) (I .stored fine);
+              some = o;
+              before = I .stored fine .more;
+              room = omega arith;
+              scratch = omega arith;
+              near = omega arith;
+              beside = (omega arith, omega arith);
+              apart = inl (omega arith);
+            }
+
+        module _ (s₂ w₂ : List ℕ) (at₂ : ℕ) (E : RowsKept s₁ s₂ d w₁ w₂ free 0 free m actuals at at₁ (free + 64) at₂) where
+          pub brings-done : (place′ : ℕ) → BringsDone s s₂ d w w₂ stack at free i 0 place′ m at₂
+          unfolding Meets Carries pairsFrom
+          brings-done place′ =
+              let t = A .walking .room .stack in
+              let o = A .walking .room .low in
+              let y = I .few fine in
+              record {
+                spared = spared-on w w₁ w₂ stack free (I .spared)
+                    (record { size = E .size; scope = λ j l. E .words j (omega arith) (λ x u v. omega arith); frames = λ j x l. E .words j (omega arith) (λ x u v. omega arith) });
+                stored = λ e. stored-again s s₁ s₂ at at₁ at₂ (I .stored fine) (E .stored);
+                short = λ e. let x = E .new in let z = rows-few w₁ free m (rows w₁ free 0) in omega arith;
+                few = λ e. y;
+                goes = λ e H U S Γ D C F.
+                    let B = I .goes fine H U S Γ D C F in
+                    let a = includeItems i Γ in
+                    let q = includeSignature i Γ in
+                    let N = T .goes refl (H ⨾ a) (B .unknowns) n n (actualCount i) q (B .walked .steady) (B .actuals) (B .components) in
+                    let W = walked-then H a (smalls Γ) U (B .unknowns) (B .unknowns) (Owned (includeNumbers i)) S (B .walked)
+                    (walked-mine (H ⨾ a) (smalls Γ) (B .unknowns) (B .unknowns) (λ x. ⊥) (Owned (includeNumbers i)) (λ x b. absurd b) N) in
+                    let X = actuals-more s₁ d (H ⨾ a) (H ⨾ (a ⨾ smalls Γ)) (B .unknowns) n (actualCount i) actuals (λ τ h. (h .0, h .1 .0)) (B .actuals) in
+                    record {
+                      unknowns = B .unknowns;
+                      walked = W;
+                      signature =
+                          E .placed (H ⨾ (a ⨾ smalls Γ)) (B .unknowns) n q noNames (X .shown) (X .types) (X .stand) (X .alike)
+                          (components-fill s₁ d (H ⨾ (a ⨾ smalls Γ)) (B .unknowns) n (actualCount i) actuals X q _ (B .components))
+                          tt (λ τ h. merge-none n q τ) (λ τ h. h .1 .1) (W .steady);
+                    };
+                stops = λ e. absurd (e refl);
+              }

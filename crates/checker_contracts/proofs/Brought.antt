@@ -1,0 +1,52 @@
+-- What an Include brought, as the functions on its rows ask for it: the rows' types can be read, the actuals stand at their places.
+use mathlib.Core.Path.{_≡_, _∙_}
+use mathlib.Core.List.{List}
+use Prim.Native.Nat.{ℕ, suc, _≤_}
+use native.Mathlib.Omega.{arith}
+use lib.ListN.{length, getD, take}
+use Rattle.reader_rules.specs.Tree.{Include}
+use Rattle.reader_rules.specs.TreeNumbers.{includeNumbers}
+use Rattle.checker_rules.specs.Items.{Items, Meets}
+use Rattle.checker_rules.specs.Unknowns.{Table, row}
+use Rattle.checker_rules.specs.Scopes.{includeNode, includeSignature}
+use Rattle.types_instances.specs.Clean.{Clean}
+use Rattle.checker_includes.specs.Components.{ActualTypes}
+use Rattle.checker_includes.specs.Filling.{RowsAsk}
+use Rattle.checker_includes.specs.Storing.{Stored}
+use Rattle.checker_contracts.specs.Includes.{actualCount, Brought, IncludeDone}
+use Rattle.checker_contracts.specs.Predicates.{Walking}
+use Rattle.checker_contracts.proofs.Carrying.{component-rows}
+
+-- Written twice from the same place on: what was written first is gone.
+pub stored-again : (s s′ s″ : List ℕ) (at at′ at″ : ℕ) → Stored s s′ at at′ → Stored s′ s″ at at″ → Stored s s″ at at″
+stored-again s s′ s″ at at′ at″ A B = record { size = B .size ∙ A .size; before = λ i l. B .before i l ∙ A .before i l; after = B .after; more = B .more }
+
+-- The word before stays 0.
+pub stored-gap : (s s′ : List ℕ) (at at′ : ℕ) → at ≤ 39936 → Clean s at → Stored s s′ at at′ → (i : ℕ) → suc i ≡ at → getD s′ i 0 ≡ 0
+stored-gap s s′ at at′ r C A i e = A .before i (omega arith) ∙ C i (omega arith) (omega arith)
+
+-- Items that say more.
+pub actuals-more : (s d : List ℕ) (H H′ : Items) (U : List ℕ) (k q : ℕ) (places : List ℕ) → ((τ : Table) → Meets H′ τ → Meets H τ) → ActualTypes s d H U k q places → ActualTypes s d H′ U k q places
+actuals-more s d H H′ U k q places says A =
+    record { types = A .types; settled = λ τ m. A .settled τ (says τ m); shown = A .shown; stand = A .stand; alike = A .alike; over = A .over }
+
+module _ (s s₁ d w w₁ : List ℕ) (stack at free h : ℕ) (i : Include) (places places₁ : List ℕ) (number place m at₁ : ℕ) (K : Walking s d w stack at free h (includeNumbers i))
+    (I : IncludeDone s s₁ d w w₁ stack at free i places places₁ number place m at₁) (fine : number ≡ 0) where
+  brought : Brought s₁ d w₁ m free (K .before) (K .known) (K .scope) i places₁
+  brought = I .goes fine (K .before) (K .known) (K .steady) (K .scope) (K .dictionary) (K .scoped) (K .fresh)
+
+  pub brought-size : length s₁ ≡ 52224
+  brought-size = I .stored fine .size ∙ K .size
+
+  pub brought-ask : RowsAsk s₁ d w₁ free m (take (actualCount i) places₁)
+  brought-ask =
+      let T = brought .actuals in
+      let f = K .few in
+      let z = I .spared .size in
+      let a = I .few fine in
+      let b = K .room .frames in
+      let c = K .room .wide in
+      record {
+        actuals = record { areas = record { size = brought-size; few = omega arith }; types = T .shown; stand = T .stand };
+        table = component-rows s₁ d w₁ free m (omega arith) (includeSignature i (K .scope)) (row (includeNode i) 1 (actualCount i)) (brought .components);
+      }

@@ -1,0 +1,309 @@
+-- LINES IN A ROW: none; a line, then others.
+use mathlib.Core.Path.{_≡_, refl, sym, ap, subst, _∙_}
+use mathlib.Core.Logic.{_⊎_}
+use mathlib.Core.Bool.{Bool}
+use mathlib.Core.List.{List, [], _∷_, _++_}
+use Prim.Native.Nat.{ℕ, _+_, _*_, _-_, _≤_, _<_}
+use native.Mathlib.Omega.{arith}
+use lib.ListN.{length, length-append}
+use Rattle.reader_rules.specs.Limited.{LimitedLines}
+use Rattle.reader_rules.specs.Tree.{Expr, Lines, end, declaration, inclusion, Include}
+use Rattle.reader_rules.specs.TreeNumbers.{exprNumbers, linesNumbers, includeNumbers}
+use Rattle.checker_rules.specs.Conditions.{mergeDeclared, mergeNames, newNames, smallTypes, fewNames, isPower}
+use Rattle.checker_rules.specs.Dictionary.{Dictionary}
+use Rattle.checker_rules.specs.Items.{Items, skip, _⨾_, small, piece, Meets, Passes, Refuses}
+use Rattle.checker_rules.specs.Rules.{exprItems, linesItems, includeItems}
+use Rattle.checker_rules.specs.Scopes.{Scope, linesSignature, includeSignature, includeNode}
+use Rattle.checker_rules.specs.Signatures.{Signature, namesOf, declare, merge}
+use Rattle.checker_rules.specs.Unknowns.{unknownAt}
+use Rattle.checker_signatures.specs.Rows.{rows}
+use Rattle.checker_signatures.specs.Carried.{Carries}
+use Rattle.checker_pieces.specs.Piece.{Steady, Walked}
+use Rattle.checker_pieces.proofs.Between.{walked-skip, walked-mine}
+use Rattle.checker_lookup.specs.Scoped.{Scoped}
+use Rattle.checker_includes.specs.Components.{Placed}
+use Rattle.checker_includes.specs.Storing.{Stored}
+use Rattle.checker_contracts.specs.Visits.{Owned, Fresh, EachOnce, idle, Spared, globalsIf}
+use Rattle.checker_contracts.specs.Predicates.{Walking}
+use Rattle.checker_contracts.specs.Texts.{LinesAsk, LinesWent, LinesDone}
+use Rattle.checker_contracts.proofs.Nodes.{once-left, once-right, owned-left, owned-right, fresh-left, fresh-after}
+use Rattle.checker_contracts.proofs.Rooms.{crowd-part}
+use Rattle.checker_contracts.proofs.Scopes.{spared-refl, spared-on, stored-on, scoped-stored, scoped-spared, scoped-walked, carries-later}
+use Rattle.checker_contracts.proofs.LineItems.{lineItems, line-stopped, line-then-stopped, line-then, whole-line}
+
+-- NO LINE.
+pub lines-none : (s d w : List ℕ) (stack base m at free place : ℕ) (global : Bool) → LinesAsk s d w stack base m at free end →
+    LinesDone s s d w w stack base m at free end global 0 place m at
+unfolding linesItems linesSignature Meets
+lines-none s d w stack base m at free place global Q = record {
+  spared = spared-refl w stack base;
+  stored = λ e. record { size = refl; before = λ i l. refl; after = Q .walking .clean; more = omega arith };
+  more = λ e. omega arith;
+  short = λ e. omega arith;
+  few = λ e. Q .few;
+  goes = λ e H U S Γ D C F r J. record {
+    unknowns = U;
+    walked = walked-skip H U (Owned (linesNumbers end)) S;
+    signature = carries-later s d H (H ⨾ skip) U U (λ x i. i) (λ τ h. h .0) r (rows w base m) J;
+  };
+  stops = λ e. absurd (e refl);
+}
+
+-- A LINE ALONE, and before the lines ls.
+pub record Before (one whole ls : Lines) : Type 0 where
+  pub own : Scope → Dictionary → Signature → Items
+  pub agree : Scope → Dictionary → Signature → Items
+  pub new : Scope → Dictionary → Signature → Items
+  pub sizes : Scope → Dictionary → Signature → Items
+  pub count : Scope → Dictionary → Signature → Items
+  pub after : Scope → Signature → Signature
+  pub numbers : linesNumbers whole ≡ linesNumbers one ++ linesNumbers ls
+  pub limited : (h t : ℕ) → LimitedLines h t whole → LimitedLines h t one × LimitedLines h t ls
+  pub one-items : (Γ : Scope) (G : Dictionary) (r : Signature) → linesItems one Γ G r ≡ lineItems (own Γ G r) (agree Γ G r) (new Γ G r) (sizes Γ G r) (count Γ G r) skip
+  pub whole-items : (Γ : Scope) (G : Dictionary) (r : Signature) →
+      linesItems whole Γ G r ≡ lineItems (own Γ G r) (agree Γ G r) (new Γ G r) (sizes Γ G r) (count Γ G r) (linesItems ls Γ G (after Γ r))
+  pub one-signature : (Γ : Scope) (r : Signature) → linesSignature one Γ r ≡ after Γ r
+  pub whole-signature : (Γ : Scope) (r : Signature) → linesSignature whole Γ r ≡ linesSignature ls Γ (after Γ r)
+
+nothing-after : (l m : List ℕ) → l ++ m ≡ (l ++ []) ++ m
+nothing-after [] m = refl
+nothing-after (x ∷ l) m = ap (_∷_ x) (nothing-after l m)
+
+pub decl-before : (n : ℕ) (a : Expr) (is : List ℕ) (ls : Lines) → Before (declaration n a is end) (declaration n a is ls) ls
+unfolding linesItems linesSignature linesNumbers LimitedLines
+decl-before n a is ls = record {
+  own = λ Γ G r. piece n (exprItems a Γ ⨾ isPower n 0 a);
+  agree = λ Γ G r. mergeDeclared n is (unknownAt n 0) r;
+  new = λ Γ G r. newNames n is G;
+  sizes = λ Γ G r. small n (unknownAt n 0);
+  count = λ Γ G r. fewNames n (declare is (unknownAt n 0) r);
+  after = λ Γ r. declare is (unknownAt n 0) r;
+  numbers = nothing-after (exprNumbers a ++ (n ∷ [])) (linesNumbers ls);
+  limited = λ h t L. ((L .0, L .1, L .2, tt), L .3);
+  one-items = λ Γ G r. refl;
+  whole-items = λ Γ G r. refl;
+  one-signature = λ Γ r. refl;
+  whole-signature = λ Γ r. refl;
+}
+
+pub incl-before : (i : Include) (ls : Lines) → Before (inclusion i end) (inclusion i ls) ls
+unfolding linesItems linesSignature linesNumbers LimitedLines
+incl-before i ls = record {
+  own = λ Γ G r. includeItems i Γ;
+  agree = λ Γ G r. mergeNames (includeNode i) (includeSignature i Γ) r;
+  new = λ Γ G r. newNames (includeNode i) (namesOf (includeSignature i Γ)) G;
+  sizes = λ Γ G r. smallTypes (includeNode i) (includeSignature i Γ);
+  count = λ Γ G r. fewNames (includeNode i) (merge (includeSignature i Γ) r);
+  after = λ Γ r. merge (includeSignature i Γ) r;
+  numbers = nothing-after (includeNumbers i) (linesNumbers ls);
+  limited = λ h t L. ((L .0, tt), L .1);
+  one-items = λ Γ G r. refl;
+  whole-items = λ Γ G r. refl;
+  one-signature = λ Γ r. refl;
+  whole-signature = λ Γ r. refl;
+}
+
+module _ (s d w : List ℕ) (stack base m at free : ℕ) (one whole ls : Lines) (X : Before one whole ls) (Q : LinesAsk s d w stack base m at free whole) where
+  abbrev l : List ℕ
+  l = linesNumbers one
+
+  abbrev k : List ℕ
+  k = linesNumbers ls
+
+  abbrev K : Walking s d w stack at free (Q .height) (linesNumbers whole)
+  K = Q .walking
+
+  abbrev parts : Walking s d w stack at free (Q .height) (l ++ k)
+  parts = record {
+    before = K .before;
+    known = K .known;
+    steady = K .steady;
+    scope = K .scope;
+    dictionary = K .dictionary;
+    scoped = K .scoped;
+    fresh = subst (λ z. Fresh z (K .known)) (X .numbers) (K .fresh);
+    once = subst EachOnce (X .numbers) (K .once);
+    size = K .size;
+    few = K .few;
+    clean = K .clean;
+    bound = K .bound;
+    crowd = subst (λ z. (24 ≤ K .bound) ⊎ (length z ≤ K .bound)) (X .numbers) (K .crowd);
+    room = K .room;
+  }
+
+  -- the line
+  pub line-ask : LinesAsk s d w stack base m at free one
+  line-ask = record {
+    height = Q .height;
+    texts = Q .texts;
+    limited = X .limited (Q .height) (Q .texts) (Q .limited) .0;
+    walking = record {
+      before = K .before;
+      known = K .known;
+      steady = K .steady;
+      scope = K .scope;
+      dictionary = K .dictionary;
+      scoped = K .scoped;
+      fresh = fresh-left l k (K .known) (parts .fresh);
+      once = once-left l k (parts .once);
+      size = K .size;
+      few = K .few;
+      clean = K .clean;
+      bound = K .bound;
+      crowd = crowd-part (K .bound) (l ++ k) l (parts .crowd) (let e = length-append l k in omega arith);
+      room = K .room;
+    };
+    signature = Q .signature;
+    carried = Q .carried;
+    few = Q .few;
+    low = Q .low;
+    beside = Q .beside;
+    pool = Q .pool;
+  }
+
+  module _ (global : Bool) (s₁ w₁ : List ℕ) (number place m₁ at₁ : ℕ) (A : LinesDone s s₁ d w w₁ stack base m at free one global number place m₁ at₁) where
+    abbrev items : Scope → Dictionary → Signature → Items
+    items Γ G r = lineItems (X .own Γ G r) (X .agree Γ G r) (X .new Γ G r) (X .sizes Γ G r) (X .count Γ G r) skip
+
+    first-fresh : (U : List ℕ) → Fresh (linesNumbers whole) U → Fresh (l ++ k) U
+    first-fresh U F = subst (λ z. Fresh z U) (X .numbers) F
+
+    -- its finding
+    pub line-refused : (number ≡ 0 → ⊥) → (m′ at′ : ℕ) → LinesDone s s₁ d w w₁ stack base m at free whole global number place m′ at′
+    line-refused e m′ at′ = record {
+      spared = A .spared;
+      stored = λ z. absurd (e z);
+      more = λ z. absurd (e z);
+      short = λ z. absurd (e z);
+      few = λ z. absurd (e z);
+      goes = λ z. absurd (e z);
+      stops = λ z H U S Γ D C F r J.
+          let G = globalsIf global D in
+          subst (λ c. Refuses c (Meets H) number place) (sym (X .whole-items Γ G r))
+          (line-stopped H (X .own Γ G r) (X .agree Γ G r) (X .new Γ G r) (X .sizes Γ G r) (X .count Γ G r) (linesItems ls Γ G (X .after Γ r)) number place
+          (subst (λ c. Refuses c (Meets H) number place) (X .one-items Γ G r) (A .stops z H U S Γ D C (fresh-left l k U (first-fresh U F)) r J)));
+    }
+
+    -- it passes
+    module _ (fine : number ≡ 0) where
+      module _ (H : Items) (U : List ℕ) (S : Steady H U) (Γ : Scope) (D : Dictionary) (C : Scoped s d w stack (idle H U) Γ D) (F : Fresh (l ++ k) U) (r : Signature)
+          (J : Carries (Placed s d H U) r (rows w base m)) where
+        abbrev G : Dictionary
+        G = globalsIf global D
+
+        abbrev W : LinesWent s₁ d w₁ base m₁ H U Γ G r one
+        W = A .goes fine H U S Γ D C (fresh-left l k U F) r J
+
+        abbrev c : Items
+        c = items Γ G r
+
+        walked₁ : Walked H c U (W .unknowns) (Owned l)
+        walked₁ = subst (λ z. Walked H z U (W .unknowns) (Owned l)) (X .one-items Γ G r) (W .walked)
+
+        scoped₁ : Scoped s₁ d w₁ stack (idle (H ⨾ c) (W .unknowns)) Γ D
+        scoped₁ =
+            let p = K .room .pool in
+            scoped-walked s₁ d w₁ stack Γ D H c U (W .unknowns) (Owned l) walked₁
+            (scoped-spared s₁ d w w₁ stack base (idle H U) Γ D (A .spared)
+            (scoped-stored s s₁ d at at₁ (K .size) (K .clean) (K .room .some) (omega arith) (A .stored fine) w stack (idle H U) Γ D C))
+
+        fresh₁ : Fresh k (W .unknowns)
+        fresh₁ = fresh-after l k U (W .unknowns) (subst EachOnce (X .numbers) (Q .walking .once)) F (W .walked .new)
+
+        signature₁ : Carries (Placed s₁ d (H ⨾ c) (W .unknowns)) (X .after Γ r) (rows w₁ base m₁)
+        signature₁ =
+            subst (λ z. Carries (Placed s₁ d (H ⨾ z) (W .unknowns)) (X .after Γ r) (rows w₁ base m₁)) (X .one-items Γ G r)
+            (subst (λ z. Carries (Placed s₁ d (H ⨾ linesItems one Γ G r) (W .unknowns)) z (rows w₁ base m₁)) (X .one-signature Γ r) (W .signature))
+
+      -- the lines after it
+      pub lines-ask : LinesAsk s₁ d w₁ stack base m₁ at₁ free ls
+      lines-ask =
+          let F = first-fresh (K .known) (K .fresh) in
+          let L = length-append l k in
+          let a₀ = A .stored fine .more in
+          let a₁ = A .more fine in
+          let a₂ = A .short fine in
+          let a₃ = A .few fine in
+          let b₀ = Q .pool in
+          let b₁ = K .room .wide in
+          let b₂ = A .spared .size in
+          let b₃ = K .room .some in
+          record {
+            height = Q .height;
+            texts = Q .texts;
+            limited = X .limited (Q .height) (Q .texts) (Q .limited) .1;
+            walking = record {
+              before = K .before ⨾ c (K .before) (K .known) (K .steady) (K .scope) (K .dictionary) (K .scoped) F (Q .signature) (Q .carried);
+              known = W (K .before) (K .known) (K .steady) (K .scope) (K .dictionary) (K .scoped) F (Q .signature) (Q .carried) .unknowns;
+              steady = walked₁ (K .before) (K .known) (K .steady) (K .scope) (K .dictionary) (K .scoped) F (Q .signature) (Q .carried) .steady;
+              scope = K .scope;
+              dictionary = K .dictionary;
+              scoped = scoped₁ (K .before) (K .known) (K .steady) (K .scope) (K .dictionary) (K .scoped) F (Q .signature) (Q .carried);
+              fresh = fresh₁ (K .before) (K .known) (K .steady) (K .scope) (K .dictionary) (K .scoped) F (Q .signature) (Q .carried);
+              once = once-right l k (subst EachOnce (X .numbers) (K .once));
+              size = A .stored fine .size ∙ K .size;
+              few = K .few;
+              clean = A .stored fine .after;
+              bound = K .bound;
+              crowd = crowd-part (K .bound) (l ++ k) k (subst (λ z. (24 ≤ K .bound) ⊎ (length z ≤ K .bound)) (X .numbers) (K .crowd)) (omega arith);
+              room = record {
+                wide = omega arith;
+                stack = K .room .stack;
+                low = K .room .low;
+                frames = K .room .frames;
+                some = omega arith;
+                pool = omega arith;
+                few = K .room .few;
+              };
+            };
+            signature = X .after (K .scope) (Q .signature);
+            carried = signature₁ (K .before) (K .known) (K .steady) (K .scope) (K .dictionary) (K .scoped) F (Q .signature) (Q .carried);
+            few = a₃;
+            low = Q .low;
+            beside = Q .beside;
+            pool = omega arith;
+          }
+
+      pub lines-then : (s₂ w₂ : List ℕ) (number′ place′ m₂ at₂ : ℕ) → LinesDone s₁ s₂ d w₁ w₂ stack base m₁ at₁ free ls global number′ place′ m₂ at₂ →
+          LinesDone s s₂ d w w₂ stack base m at free whole global number′ place′ m₂ at₂
+      lines-then s₂ w₂ number′ place′ m₂ at₂ B = record {
+        spared = spared-on w w₁ w₂ stack base (A .spared) (B .spared);
+        stored = λ e. stored-on s s₁ s₂ at at₁ at₂ (A .stored fine) (B .stored e);
+        more = λ e. let x = A .more fine in let y = B .more e in omega arith;
+        short = λ e. let x = A .more fine in let y = B .more e in let u = A .short fine in let v = B .short e in omega arith;
+        few = λ e. B .few e;
+        goes = λ e H U S Γ D C F r J.
+            let F₁ = first-fresh U F in
+            let D₁ = globalsIf global D in
+            let rest = linesItems ls Γ D₁ (X .after Γ r) in
+            let W₁ = W H U S Γ D C F₁ r J in
+            let W₂ = B .goes e (H ⨾ items Γ D₁ r) (W₁ .unknowns) (walked₁ H U S Γ D C F₁ r J .steady) Γ D (scoped₁ H U S Γ D C F₁ r J) (fresh₁ H U S Γ D C F₁ r J) (X .after Γ r)
+            (signature₁ H U S Γ D C F₁ r J) in
+            let M = Owned (l ++ k) in
+            let all = line-then H (X .own Γ D₁ r) (X .agree Γ D₁ r) (X .new Γ D₁ r) (X .sizes Γ D₁ r) (X .count Γ D₁ r) rest U (W₁ .unknowns) (W₂ .unknowns) M
+            (walked-mine H (items Γ D₁ r) U (W₁ .unknowns) (Owned l) M (owned-left l k) (walked₁ H U S Γ D C F₁ r J))
+            (walked-mine (H ⨾ items Γ D₁ r) rest (W₁ .unknowns) (W₂ .unknowns) (Owned k) M (owned-right l k) (W₂ .walked)) in
+            record {
+              unknowns = W₂ .unknowns;
+              walked =
+                  subst (λ z. Walked H z U (W₂ .unknowns) (Owned (linesNumbers whole))) (sym (X .whole-items Γ D₁ r))
+                  (subst (λ z. Walked H (lineItems (X .own Γ D₁ r) (X .agree Γ D₁ r) (X .new Γ D₁ r) (X .sizes Γ D₁ r) (X .count Γ D₁ r) rest) U (W₂ .unknowns) (Owned z)) (sym (X .numbers)) all);
+              signature =
+                  subst (λ z. Carries (Placed s₂ d (H ⨾ z) (W₂ .unknowns)) (linesSignature whole Γ r) (rows w₂ base m₂)) (sym (X .whole-items Γ D₁ r))
+                  (subst (λ z. Carries (Placed s₂ d (H ⨾ lineItems (X .own Γ D₁ r) (X .agree Γ D₁ r) (X .new Γ D₁ r) (X .sizes Γ D₁ r) (X .count Γ D₁ r) rest) (W₂ .unknowns)) z (rows w₂ base m₂))
+                  (sym (X .whole-signature Γ r))
+                  (carries-later s₂ d ((H ⨾ items Γ D₁ r) ⨾ rest) (H ⨾ lineItems (X .own Γ D₁ r) (X .agree Γ D₁ r) (X .new Γ D₁ r) (X .sizes Γ D₁ r) (X .count Γ D₁ r) rest)
+                  (W₂ .unknowns) (W₂ .unknowns) (λ x i. i)
+                  (λ τ h. whole-line H (X .own Γ D₁ r) (X .agree Γ D₁ r) (X .new Γ D₁ r) (X .sizes Γ D₁ r) (X .count Γ D₁ r) rest τ .1 h)
+                  (linesSignature ls Γ (X .after Γ r)) (rows w₂ base m₂) (W₂ .signature)));
+            };
+        stops = λ e H U S Γ D C F r J.
+            let F₁ = first-fresh U F in
+            let D₁ = globalsIf global D in
+            let rest = linesItems ls Γ D₁ (X .after Γ r) in
+            let W₁ = W H U S Γ D C F₁ r J in
+            subst (λ z. Refuses z (Meets H) number′ place′) (sym (X .whole-items Γ D₁ r))
+            (line-then-stopped H (X .own Γ D₁ r) (X .agree Γ D₁ r) (X .new Γ D₁ r) (X .sizes Γ D₁ r) (X .count Γ D₁ r) rest number′ place′ (walked₁ H U S Γ D C F₁ r J .goes)
+            (B .stops e (H ⨾ items Γ D₁ r) (W₁ .unknowns) (walked₁ H U S Γ D C F₁ r J .steady) Γ D (scoped₁ H U S Γ D C F₁ r J) (fresh₁ H U S Γ D C F₁ r J) (X .after Γ r)
+            (signature₁ H U S Γ D C F₁ r J)));
+      }

@@ -1,0 +1,144 @@
+-- Room, from node to node.
+use mathlib.Core.Path.{_≡_}
+use mathlib.Core.List.{List}
+use mathlib.Core.Logic.{inl, inr, ⊎-elim}
+use Prim.Native.Nat.{ℕ, suc, _+_, _*_, _-_, _≤_}
+use native.Mathlib.Omega.{arith}
+use lib.ListN.{length}
+use Rattle.types_cells.specs.Store.{load}
+use Rattle.checker_pieces.specs.Stage.{Room, Uses}
+use Rattle.checker_pieces.proofs.Stages.{room-less}
+use Rattle.checker_contracts.specs.Room.{Between, Crowd, Inside}
+
+-- INSIDE A PIECE: fewer nodes, on a shorter path.
+pub inside-part : (s w : List ℕ) (rows n top at free h h′ x y : ℕ) → Inside s w rows n top at free h y → h′ ≤ h → x ≤ y → Inside s w rows n top at free h′ x
+inside-part s w rows n top at free h h′ x y I p q =
+    let e = I .enough in
+    let a = I .stack in
+    let b = I .frames in
+    let c = I .pool in
+    record {
+      visited = I .visited;
+      left = I .left;
+      enough = omega arith;
+      few = I .few;
+      wide = I .wide;
+      stack = omega arith;
+      low = I .low;
+      frames = omega arith;
+      some = I .some;
+      pool = omega arith;
+      store = I .store;
+    }
+
+-- After x nodes.
+pub inside-next : (s s′ w w′ : List ℕ) (rows n top n′ top′ at at′ free h x y : ℕ) → Inside s w rows n top at free h (x + y) → Uses s s′ n top n′ top′ (40 * x) →
+    at ≤ at′ → at′ ≤ at + 768 * x → length w′ ≡ length w → Inside s′ w′ rows n′ top′ at′ free h y
+inside-next s s′ w w′ rows n top n′ top′ at at′ free h x y I U p q r =
+    let e = I .enough in
+    let f = I .few in
+    let v = I .wide in
+    let b = I .frames in
+    let o = I .some in
+    let c = I .pool in
+    record {
+      visited = I .visited + x;
+      left = I .left - x;
+      enough = omega arith;
+      few = omega arith;
+      wide = omega arith;
+      stack = I .stack;
+      low = I .low;
+      frames = omega arith;
+      some = omega arith;
+      pool = omega arith;
+      store = U (40 * (24 - (I .visited + x)) + 40) (room-less s n top (40 * x + (40 * (24 - (I .visited + x)) + 40)) (40 * (24 - I .visited) + 40) (omega arith) (I .store));
+    }
+
+-- With more rows in the scope, as many as a node of the path may bring.
+pub inside-rows : (s w : List ℕ) (rows m n top at free h x : ℕ) → Inside s w rows n top at free (suc h) x → m ≤ 16 → Inside s w (rows + m) n top at free h x
+inside-rows s w rows m n top at free h x I p =
+    let a = I .stack in
+    let b = I .frames in
+    let c = I .pool in
+    record {
+      visited = I .visited;
+      left = I .left;
+      enough = I .enough;
+      few = I .few;
+      wide = I .wide;
+      stack = omega arith;
+      low = I .low;
+      frames = omega arith;
+      some = I .some;
+      pool = omega arith;
+      store = I .store;
+    }
+
+-- The rule of one node has room for 40 cells, and more.
+pub inside-room : (s w : List ℕ) (rows n top at free h y r : ℕ) → Inside s w rows n top at free h (suc y) → r ≤ 80 → Room s n top r
+inside-room s w rows n top at free h y r I p =
+    let e = I .enough in
+    let f = I .few in
+    room-less s n top r (40 * (24 - I .visited) + 40) (omega arith) (I .store)
+
+-- BETWEEN PIECES: fewer nodes, on a shorter path, with rows of the scope, words of the frames and of the pool that were used since.
+pub between-part : (w w′ : List ℕ) (rows rows′ at at′ free free′ h h′ b b′ : ℕ) → Between w rows at free h b → length w′ ≡ length w → h′ ≤ h → b′ ≤ b → 1 ≤ at′ →
+    512 ≤ free′ → rows′ + 16 * h′ ≤ rows + 16 * h → at′ + 1536 * h′ ≤ at + 1536 * h → free′ + 128 * h′ ≤ free + 128 * h → Between w′ rows′ at′ free′ h′ b′
+between-part w w′ rows rows′ at at′ free free′ h h′ b b′ B e p q o l x y z =
+    let a = B .wide in
+    let c = B .stack in
+    let f = B .frames in
+    let g = B .pool in
+    let k = B .few in
+    record { wide = omega arith; stack = omega arith; low = l; frames = omega arith; some = o; pool = omega arith; few = omega arith }
+
+-- Beside a Text, one node lower: its rows are in the scope, its types in the pool, its table among the frames.
+pub between-next : (w w′ : List ℕ) (rows m at at′ free free′ h b b′ : ℕ) → Between w rows at free (suc h) b → length w′ ≡ length w → b′ ≤ b → m ≤ 16 →
+    at ≤ at′ → at′ ≤ at + 1536 → free ≤ free′ → free′ ≤ free + 128 → Between w′ (rows + m) at′ free′ h b′
+between-next w w′ rows m at at′ free free′ h b b′ B e q p x y u v =
+    let o = B .some in
+    let l = B .low in
+    between-part w w′ rows (rows + m) at at′ free free′ (suc h) h b b′ B e (omega arith) q (omega arith) (omega arith) (omega arith) (omega arith) (omega arith)
+
+-- A PIECE BEGINS, in a store without cells.
+pub begin-inside : (s w : List ℕ) (rows at free h b nodes : ℕ) → Between w rows at free h b → nodes ≤ b → Inside s w rows 0 4096 at free h nodes
+unfolding load
+begin-inside s w rows at free h b nodes B q =
+    let f = B .few in
+    let g = B .frames in
+    record {
+      visited = 0;
+      left = b;
+      enough = q;
+      few = omega arith;
+      wide = B .wide;
+      stack = B .stack;
+      low = B .low;
+      frames = omega arith;
+      some = B .some;
+      pool = B .pool;
+      store = record { cells = omega arith; words = omega arith; fit = omega arith };
+    }
+
+-- A PIECE IS SUSPENDED at a node with x nodes below: its store is saved at `free`, and pieces of at most b nodes may come.
+pub suspended-room : (s w : List ℕ) (rows n top at free h x : ℕ) → 4096 ≤ top → Inside s w rows n top at free (suc h) (suc x) →
+    (b : ℕ) × (x ≤ b) × Between w rows at (free + (5 * n + (top - 4096))) h b
+suspended-room s w rows n top at free h x t I =
+    let e = I .enough in
+    let f = I .few in
+    let a = I .stack in
+    let l = I .low in
+    let b = I .frames in
+    let c = I .pool in
+    let u = I .store .cells in
+    let v = I .store .words in
+    (I .left - 1, omega arith, record { wide = I .wide; stack = omega arith; low = omega arith; frames = omega arith; some = I .some; pool = omega arith; few = omega arith })
+
+-- The saved words have their place in the work area.
+pub saved-room : (s w : List ℕ) (rows n top at free h x : ℕ) → 4096 ≤ top → Inside s w rows n top at free (suc h) (suc x) → free + (5 * n + (top - 4096)) ≤ 14000
+saved-room s w rows n top at free h x t I = let B = suspended-room s w rows n top at free h x t I in let f = B .2 .frames in omega arith
+
+-- CROWDS of parts.
+pub crowd-part : (b : ℕ) (l m : List ℕ) → Crowd b l → length m ≤ length l → Crowd b m
+crowd-part b l m C p = ⊎-elim inl (λ (z : length l ≤ b). inr (omega arith)) C

@@ -1,0 +1,48 @@
+-- Paragraphs: their items over the dictionary of the paragraphs before, and the entries that wait in the work area for their end (22 comes after all else).
+use mathlib.Core.Path.{_≡_}
+use mathlib.Core.List.{List}
+use Prim.Native.Nat.{ℕ, _≤_, _<_, _^_}
+use lib.ListN.{length}
+use Rattle.reader_rules.specs.Limited.{FewParameters, LimitedParagraph}
+use Rattle.reader_rules.specs.Tree.{Paragraph}
+use Rattle.reader_rules.specs.TreeNumbers.{paragraphNumbers}
+use Rattle.checker_rules.specs.Dictionary.{Entry, Dictionary}
+use Rattle.checker_rules.specs.Entries.{extend}
+use Rattle.checker_rules.specs.Items.{Meets, Any, Passes, Refuses}
+use Rattle.checker_rules.specs.Rules.{paragraphItems}
+use Rattle.checker_rules.specs.Unknowns.{Table}
+use Rattle.types_cells.specs.Settled.{lower}
+use Rattle.checker_dictionary.specs.Waiting.{withEntries, waiting, Waits}
+use Rattle.types_instances.specs.Clean.{Clean}
+use Rattle.checker_lookup.specs.Scoped.{DictionaryHeld}
+use Rattle.checker_contracts.specs.Visits.{EachOnce}
+
+-- The pool is empty.
+pub record ParagraphAsk (s d w : List ℕ) (p : Paragraph) : Type 0 where
+  pub dictionary : Dictionary
+  pub recorded : DictionaryHeld dictionary d
+  pub size : length s ≡ 52224
+  pub few : length d < 2 ^ 31
+  pub wide : 16384 ≤ length w
+  pub clean : Clean s 1
+  pub limited : LimitedParagraph 11 4 p
+  pub once : EachOnce (paragraphNumbers p)
+  pub parameters : FewParameters p
+
+-- The entries of the paragraph p over the dictionary D wait at the place `at` of w, `count` of them.
+pub record Extended (w : List ℕ) (p : Paragraph) (D : Dictionary) (at count : ℕ) : Type 0 where
+  pub passes : Passes (paragraphItems p D) Any
+  pub table : Table
+  pub meets : Meets (paragraphItems p D) table
+  pub entries : List Entry
+  pub counted : length entries ≡ count
+  pub waits : Waits entries w at
+  pub short : length (waiting entries) ≤ 8192
+  pub extends : extend p D table ≡ withEntries entries D
+
+-- Number 0: the items pass, and the pool is empty again; otherwise they refuse with this number at the place.
+pub record ParagraphDone (s s′ d w w′ : List ℕ) (p : Paragraph) (number place at count : ℕ) : Type 0 where
+  pub size : length w′ ≡ length w
+  pub low : number ≡ 0 → lower s′ ≡ lower s
+  pub goes : number ≡ 0 → (D : Dictionary) → DictionaryHeld D d → Extended w′ p D at count
+  pub stops : (number ≡ 0 → ⊥) → (D : Dictionary) → DictionaryHeld D d → Refuses (paragraphItems p D) Any number place

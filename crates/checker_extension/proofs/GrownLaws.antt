@@ -1,0 +1,63 @@
+-- The dictionary after a paragraph that passes: well formed, within its limits, and few words more.
+use mathlib.Core.Path.{_≡_, subst}
+use mathlib.Core.List.{List, [], _∷_}
+use Prim.Native.Nat.{ℕ, _+_, _≤_}
+use native.Mathlib.Omega.{arith}
+use lib.ListN.{length, length-append}
+use Rattle.reader_rules.specs.Tree.{Paragraph}
+use Rattle.types_rules.specs.Types.{ℤ}
+use Rattle.types_rules.specs.Substitution.{empty}
+use Rattle.types_rules.specs.Formed.{Arity}
+use Rattle.types_rules.proofs.Formed.{sol-fit}
+use Rattle.checker_rules.specs.Dictionary.{Entry, entryWords, Dictionary, _▸_, dictionaryLength}
+use Rattle.checker_rules.specs.Entries.{extend}
+use Rattle.checker_rules.specs.Items.{Items, Meets, Any, Passes}
+use Rattle.checker_rules.specs.Rules.{paragraphItems}
+use Rattle.checker_rules.specs.Solving.{Solved, pass, refuse, unknowns, solve, tableOf}
+use Rattle.checker_rules.specs.Unknowns.{Table}
+use Rattle.checker_rules.specs.WellFormed.{FormedDictionary}
+use Rattle.checker_rules.proofs.FormedCheck.{FormedSolved, solve-formed, extend-formed, integer-formed}
+use Rattle.checker_rules.proofs.FormedItems.{formedParagraph}
+use Rattle.checker_rules.proofs.ItemLaws.{not-both}
+use Rattle.checker_rules.proofs.OneType.{extend-same}
+use Rattle.reader_rules.proofs.Sized.{SizedParagraph}
+use Rattle.checker_rules.proofs.SolvingRight.{Verdict, solve-right}
+use Rattle.checker_dictionary.specs.Holds.{Holds}
+use Rattle.checker_dictionary.specs.Waiting.{withEntries, waiting}
+use Rattle.checker_dictionary.proofs.Monotone.{length-more}
+use Rattle.reader_rules.specs.Limited.{FewParameters}
+use Rattle.checker_lookup.specs.Scoped.{DictionaryHeld}
+use Rattle.checker_lookup.proofs.LimitedKept.{limited-extend}
+
+-- Any table that meets the items gives the entries that the solver's own table gives, and that table is well formed.
+module _ (p : Paragraph) (D : Dictionary) (τ : Table) (P : Passes (paragraphItems p D) Any) (M : Meets (paragraphItems p D) τ) where
+  pub extended-formed : SizedParagraph p → FormedDictionary D → FormedDictionary (extend p D τ)
+  unfolding solve tableOf
+  extended-formed z f = go (solve t) (solve-right t) (solve-formed t (unknowns t []) empty (formedParagraph p D z f) tt)
+    where
+      t : Items
+      t = paragraphItems p D
+
+      go : (r : Solved) → Verdict Any t r → FormedSolved r → FormedDictionary (extend p D τ)
+      go (pass vs s) v k =
+          subst FormedDictionary (extend-same p D P (tableOf s) τ (v .1) M)
+          (extend-formed (tableOf s) (λ x. sol-fit Arity s k (λ y. ℤ) (λ y. integer-formed) x) p D f)
+      go (refuse g m) v k = absurd (not-both t Any g m P v)
+
+  pub extended-recorded : SizedParagraph p → FewParameters p → (d d′ : List ℕ) → DictionaryHeld D d → Holds (extend p D τ) d′ → DictionaryHeld (extend p D τ) d′
+  extended-recorded z f d d′ R H = record { holds = H; formed = extended-formed z (R .formed); limited = limited-extend p D τ f (R .limited) M }
+
+-- An entry that waits takes one word more in the dictionary, for its offset.
+pub entries-length : (es : List Entry) (D : Dictionary) → dictionaryLength (withEntries es D) ≡ dictionaryLength D + length (waiting es) + length es
+unfolding withEntries waiting
+entries-length [] D = omega arith
+entries-length (e ∷ es) D =
+    let h = entries-length es (D ▸ e) in
+    let l = length-more D e in
+    let w = length-append (entryWords e) (waiting es) in
+    omega arith
+
+pub entries-few : (es : List Entry) → length es ≤ length (waiting es)
+unfolding waiting
+entries-few [] = omega arith
+entries-few (e ∷ es) = let h = entries-few es in let w = length-append (entryWords e) (waiting es) in omega arith

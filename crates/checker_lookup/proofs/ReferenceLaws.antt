@@ -1,0 +1,172 @@
+-- References without actuals: a local name's settled type, a recorded type with an unknown for each parameter.
+use mathlib.Core.Path.{_≡_, sym, subst, _∙_}
+use mathlib.Core.List.{List}
+use mathlib.Core.Logic.{_⊎_, inl, inr, ⊎-elim}
+use Prim.Native.Nat.{ℕ, suc, _+_, _<_}
+use native.Mathlib.Omega.{arith}
+use Rattle.types_rules.specs.Equations.{In}
+use Rattle.types_rules.specs.Instance.{instance}
+use Rattle.types_rules.specs.Types.{Ty, Term}
+use Rattle.checker_rules.specs.Conditions.{freshRow, typed}
+use Rattle.checker_rules.specs.Items.{Items, _⨾_}
+use Rattle.checker_rules.specs.Unknowns.{slot, unknownAt, row}
+use Rattle.types_cells.specs.Settled.{heap, Reads, Entering, Entered}
+use Rattle.types_cells.proofs.SettlingLaws.{heap-kept}
+use Rattle.checker_pieces.specs.Stage.{Ghost, Stands, Cell, Uses, Unvisited, SlotOf, Advanced}
+use Rattle.checker_pieces.specs.Building.{Introduced}
+use Rattle.checker_pieces.proofs.Walks.{later-on}
+use Rattle.checker_pieces.proofs.Stages.{next, next-stands, placed-cell, introduce-then, introduced-typed, room-less}
+use Rattle.checker_lookup.specs.Enlarged.{Enlarged}
+use Rattle.checker_lookup.specs.References.{RowAsked, RowOf, RowMade, InstanceAsked, InstanceOf, TypedAt, RecordedAt, Generic}
+use Rattle.checker_lookup.proofs.Standing.{settled-enlarged}
+
+-- Cells more before the items.
+pub introduced-enlarged : (r s s′ d : List ℕ) (m bottom n top n′ top′ z : ℕ) (G : Ghost) (own : Items) (M : ℕ → Type 0) (x c : ℕ) → Enlarged r s d m bottom n top z → Stands r d m bottom G →
+    Introduced s s′ d n top n′ top′ G own M x c → Introduced r s′ d m bottom n′ top′ G own M x c
+introduced-enlarged r s s′ d m bottom n top n′ top′ z G own M x c E S I =
+    let A = I .advanced in
+    record {
+      advanced = record {
+        equations = A .equations;
+        mentioned = A .mentioned;
+        cells = A .cells;
+        wide = let u = A .wide in let v = E .wide in omega arith;
+        goes = A .goes;
+        piece = A .piece;
+        above = A .above;
+        later =
+            later-on r s s′ d m n n′ (G .equations) (G .equations) (A .equations) (G .before) (G .items) (G .items) (G .items ⨾ own) (G .cells) (G .cells) (A .cells)
+            (E .later G S) (A .later);
+        wider = A .wider;
+        new = A .new;
+      };
+      placed = I .placed;
+    }
+
+introduced-mine : (s s′ d : List ℕ) (n top n′ top′ : ℕ) (G : Ghost) (own : Items) (M N : ℕ → Type 0) (x c : ℕ) → ((y : ℕ) → M y → N y) → Introduced s s′ d n top n′ top′ G own M x c →
+    Introduced s s′ d n top n′ top′ G own N x c
+introduced-mine s s′ d n top n′ top′ G own M N x c f I =
+    let A = I .advanced in
+    record {
+      advanced = record {
+        equations = A .equations;
+        mentioned = A .mentioned;
+        cells = A .cells;
+        wide = A .wide;
+        goes = A .goes;
+        piece = A .piece;
+        above = A .above;
+        later = A .later;
+        wider = A .wider;
+        new = λ y i. ⊎-elim inl (λ j. inr (f y j)) (A .new y i);
+      };
+      placed = I .placed;
+    }
+
+-- THE TYPE OF NODE k is that of a cell.
+pub new-typing : (s d : List ℕ) (n top : ℕ) (G : Ghost) → Stands s d n top G → (c : ℕ) (t : Term) → Cell s d n G c t → (k : ℕ) → (In (slot k 0) (G .mentioned) → ⊥) →
+    Introduced s s d n top n top G (typed k t) (SlotOf k) (slot k 0) c
+new-typing s d n top G S c t C k new =
+    introduced-mine s s d n top n top G (typed k t) (λ y. y ≡ slot k 0) (SlotOf k) (slot k 0) c (λ y e. (0, omega arith, e)) (introduced-typed s d n top G S c t C k new)
+
+-- A SETTLED TYPE.
+module _ (s s′ d : List ℕ) (n top p : ℕ) (A : Entering s d n p) (N : Entered s s′ d n p) where
+  pub typed-at : TypedAt s s′ d n top p n (n + 1) top
+  typed-at =
+      let E = settled-enlarged s s′ d n p A N top in
+      let z : suc n ≡ n + 1 = omega arith in
+      subst (λ (m : ℕ). TypedAt s s′ d n top p n m top) z
+      (record {
+        low = E .low;
+        uses = E .uses;
+        typed = λ G S t T k U.
+            introduced-enlarged s s′ s′ d n top (suc n) top (suc n) top 1 G (typed k t) (SlotOf k) (slot k 0) n E S
+            (new-typing s′ d (suc n) top G (E .stands G S) n t
+            (record {
+              made = omega arith;
+              denotes = λ τ h σ X q. N .type (T .type) (T .reads) σ (X .obeys) ∙ sym (T .means τ h);
+              over = T .over;
+            })
+            k (U 0 (omega arith)));
+      })
+
+-- A RECORDED TYPE.
+module _ (s d : List ℕ) (n top p m : ℕ) (B : RecordedAt s d n top p m) where
+  pub row-asked : RowAsked s n m
+  row-asked =
+      let a = B .room .cells in
+      let b = B .room .fit in
+      let c = B .few in
+      record { P₀ = B .ghost .equations; L = B .stands .piece .L; solved = B .stands .piece .solved; room = omega arith; fit = omega arith }
+
+  module _ (s₁ : List ℕ) (R : RowMade s s₁ n m) where
+    pub row-uses : Uses s s₁ n top (n + m) top m
+    row-uses y Q =
+        let a = Q .cells in
+        let b = Q .words in
+        let c = Q .fit in
+        let e = R .fit in
+        record { cells = omega arith; words = omega arith; fit = omega arith }
+
+    pub fewer : m < 8
+    fewer = let z = B .few in omega arith
+
+    module _ (G : Ghost) (S : Stands s d n top G) (k : ℕ) (U : Unvisited k G) where
+      abbrev pub row-of : RowOf s s₁ d n top (n + m) m k G
+      row-of = R .row d top k G S U fewer
+
+      -- the same, as a part of the node's rule
+      abbrev pub A : Advanced s s₁ d n top (n + m) top G (freshRow k 1 m) (SlotOf k)
+      A = record {
+        equations = row-of .advanced .equations;
+        mentioned = row-of .advanced .mentioned;
+        cells = row-of .advanced .cells;
+        wide = row-of .advanced .wide;
+        goes = row-of .advanced .goes;
+        piece = row-of .advanced .piece;
+        above = row-of .advanced .above;
+        later = row-of .advanced .later;
+        wider = row-of .advanced .wider;
+        new = λ y i. ⊎-elim inl (λ q. inr (q .0, let a = q .2 in let z = fewer in omega arith, q .3)) (row-of .advanced .new y i);
+      }
+
+      abbrev pub G₁ : Ghost
+      G₁ = next s s₁ d n top (n + m) top G (freshRow k 1 m) (SlotOf k) A
+
+      pub row-stands : Stands s₁ d (n + m) top G₁
+      row-stands = next-stands s s₁ d n top (n + m) top G (freshRow k 1 m) (SlotOf k) A (S .few)
+
+      pub row-cell : (i : ℕ) → i < m → Cell s₁ d (n + m) G₁ (n + i) (unknownAt k (suc i))
+      row-cell i l = placed-cell s s₁ d n top (n + m) top G (freshRow k 1 m) (SlotOf k) A (slot k (suc i)) (n + i) (row-of .placed i l)
+
+      pub row-unvisited : In (slot k 0) (G₁ .mentioned) → ⊥
+      unfolding slot
+      row-unvisited i = ⊎-elim (U 0 (omega arith)) (λ q. let a = q .1 in let b = q .3 in omega arith) (row-of .advanced .new (slot k 0) i)
+
+    pub kept : (g : Ty) → Reads (heap s d) p g → Reads (heap s₁ d) p g
+    kept g Q = subst (λ (h : List ℕ). Reads h p g) (sym (heap-kept s s₁ d (R .low))) Q
+
+    pub instance-asked : InstanceAsked s₁ d (n + m) top p n m
+    instance-asked = record {
+      ghost = G₁ (B .ghost) (B .stands) (B .node) (B .unvisited);
+      stands = row-stands (B .ghost) (B .stands) (B .node) (B .unvisited);
+      type = B .type;
+      reads = kept (B .type) (B .reads);
+      small = B .small;
+      made = omega arith;
+      room = row-uses 32 (room-less s n top (m + 32) 40 (let z = B .few in omega arith) (B .room));
+    }
+
+    pub generic : (s₂ : List ℕ) (cell n′ top′ : ℕ) → InstanceOf s₁ s₂ d (n + m) top p n m cell n′ top′ → Generic s s₂ d n top p m cell n′ top′
+    generic s₂ cell n′ top′ I = record {
+      low = I .enlarged .low ∙ R .low;
+      uses = λ y Q. I .enlarged .uses y (row-uses (32 + y) (room-less s n top (m + (32 + y)) (36 + y) (let z = B .few in omega arith) Q));
+      typed = λ G S g Q k U.
+          let E = I .enlarged in
+          let H = G₁ G S k U in
+          let T = row-stands G S k U in
+          let t = instance (row k 1 m) g in
+          introduce-then s s₁ d n top (n + m) top G (freshRow k 1 m) (SlotOf k) (A G S k U) (typed k t) s₂ n′ top′ (slot k 0) cell
+          (introduced-enlarged s₁ s₂ s₂ d (n + m) top n′ top′ n′ top′ 32 H (typed k t) (SlotOf k) (slot k 0) cell E T
+          (new-typing s₂ d n′ top′ H (E .stands H T) cell t (I .denoted H T g (kept g Q) k (row-cell G S k U)) k (row-unvisited G S k U)));
+    }

@@ -1,0 +1,254 @@
+// References: a name's type, with an unknown for each parameter.
+use checker_dictionary::lookup::entry_of_name;
+use checker_dictionary::lookup::parameters_of;
+use checker_dictionary::lookup::type_place;
+use checker_signatures::tables::find;
+use codes::findings;
+use types_cells::area::DICTIONARY;
+use types_solver::entering::Grown;
+use words::word;
+ghost use Rattle.checker_lookup.specs.References.{RowAsked, RowMade, InstanceAsked, InstanceOf, TypedAt, RecordedAt, Generic, Consulted, Global, Referring, Refers, EquatingActuals, ActualsEquated, ApplyingAt, AppliedAt, ConsultedWith, GlobalApplied, ReferringWith, RefersWith};
+ghost use Rattle.types_cells.specs.Settled.{Entering};
+
+// A node's rule: number 0, and the cell has the node's type; or a finding at the node. The number of cells, and where their runs end.
+pub struct Ruling {
+    pub number: u32,
+    pub cell: usize,
+    pub cells: usize,
+    pub top: usize,
+}
+
+// p unknowns one after another: cells n, n + 1, ..
+fn fresh_row(a: &mut [u32], n: usize, p: usize)
+    requires { ⌜ RowAsked (now a) n p ⌝ }
+    ensures { λ _. ⌜ RowMade (now (a .entry)) (now (a .exit)) n p ⌝ }
+{
+    let mut j = 0;
+    while j < p {
+        types_cells::growth::new_unknown(a, n + j);
+        j += 1;
+    }
+}
+
+// The type at p enters as a cell, with the m cells from `first` on for its parameters. The cells are n, and their runs end at `top`.
+fn instance(
+    a: &mut [u32],
+    d: &[u32],
+    n: usize,
+    top: usize,
+    p: usize,
+    first: usize,
+    m: usize,
+) -> Grown
+    requires { ⌜ InstanceAsked (now a) (now d) n top p first m ⌝ }
+    ensures { λ r. ⌜ InstanceOf (now (a .entry)) (now (a .exit)) (now (d .entry)) n top p first m (r .cell) (r .cells) (r .top) ⌝ }
+{
+    if m == 0 {
+        types_cells::growth::new_settled(a, d, n, p);
+        return Grown {
+            cell: n,
+            cells: n + 1,
+            top: top,
+        };
+    }
+    types_solver::entering::enter(a, d, n, top, p, first, m)
+}
+
+// The type at p, settled, as the type of a node.
+fn settled(a: &mut [u32], d: &[u32], n: usize, top: usize, p: usize) -> Grown
+    requires { ⌜ Entering (now a) (now d) n p ⌝ }
+    ensures { λ r. ⌜ TypedAt (now (a .entry)) (now (a .exit)) (now (d .entry)) n top p (r .cell) (r .cells) (r .top) ⌝ }
+{
+    types_cells::growth::new_settled(a, d, n, p);
+    Grown {
+        cell: n,
+        cells: n + 1,
+        top: top,
+    }
+}
+
+// The recorded type at p, with an unknown for each of its m parameters, as the type of a node.
+fn generic(a: &mut [u32], d: &[u32], n: usize, top: usize, p: usize, m: usize) -> Grown
+    requires { ⌜ RecordedAt (now a) (now d) n top p m ⌝ }
+    ensures { λ r. ⌜ Generic (now (a .entry)) (now (a .exit)) (now (d .entry)) n top p m (r .cell) (r .cells) (r .top) ⌝ }
+{
+    fresh_row(a, n, m);
+    instance(a, d, n + m, top, p, n, m)
+}
+
+// A recorded name, without actuals.
+fn global(a: &mut [u32], d: &[u32], n: usize, top: usize, id: usize) -> Ruling
+    requires { ⌜ Consulted (now a) (now d) n top ⌝ }
+    ensures { λ r. ⌜ Global (now (a .entry)) (now (a .exit)) (now (d .entry)) n top id (r .number) (r .cell) (r .cells) (r .top) ⌝ }
+{
+    let e = entry_of_name(d, id);
+    if e == 0 {
+        return Ruling {
+            number: findings::UNKNOWN_NAME,
+            cell: 0,
+            cells: n,
+            top: top,
+        };
+    }
+    let m = parameters_of(d, e);
+    let p = DICTIONARY + type_place(d, e);
+    let g = generic(a, d, n, top, p, m);
+    Ruling {
+        number: 0,
+        cell: g.cell,
+        cells: g.cells,
+        top: g.top,
+    }
+}
+
+// A name in scope, without actuals: the rows of its stack stand in w.
+pub fn reference(
+    a: &mut [u32],
+    d: &[u32],
+    w: &[u32],
+    n: usize,
+    top: usize,
+    rows: usize,
+    id: usize,
+) -> Ruling
+    requires { ⌜ Referring (now a) (now d) (now w) n top rows ⌝ }
+    ensures { λ r. ⌜ Refers (now (a .entry)) (now (a .exit)) (now (d .entry)) (now (w .entry)) n top rows id (r .number) (r .cell) (r .cells) (r .top) ⌝ }
+{
+    let r = find(w, 0, rows, id);
+    if r < rows {
+        let g = settled(a, d, n, top, word(w, 2 * r + 1));
+        return Ruling {
+            number: 0,
+            cell: g.cell,
+            cells: g.cells,
+            top: g.top,
+        };
+    }
+    global(a, d, n, top, id)
+}
+
+// The actuals from number i of m on, whose cells stand in `parts`, are powers of the unknowns that have the cells from `first` on.
+fn equate_actuals(
+    a: &mut [u32],
+    d: &[u32],
+    n: usize,
+    top: usize,
+    first: usize,
+    parts: &[u32],
+    i: usize,
+    m: usize,
+) -> Ruling
+    requires { ⌜ EquatingActuals (now a) (now d) n top first (now parts) i m ⌝ }
+    ensures { λ r. ⌜ ActualsEquated (now (a .entry)) (now (a .exit)) (now (d .entry)) n top first (now (parts .entry)) i m (r .number) (r .cells) (r .top) ⌝ }
+{
+    if m <= i {
+        return Ruling {
+            number: 0,
+            cell: 0,
+            cells: n,
+            top: top,
+        };
+    }
+    checker_pieces::formers::power(a, n, top, first);
+    if checker_pieces::equal(a, d, n + 1, word(parts, i), n) {
+        return equate_actuals(a, d, n + 1, top + 1, first + 1, parts, i + 1, m);
+    }
+    Ruling {
+        number: findings::UNEQUAL,
+        cell: 0,
+        cells: n + 1,
+        top: top + 1,
+    }
+}
+
+// The recorded type at p with m actuals, whose cells stand in `parts`, as the type of a node.
+fn applied(
+    a: &mut [u32],
+    d: &[u32],
+    n: usize,
+    top: usize,
+    p: usize,
+    m: usize,
+    parts: &[u32],
+) -> Ruling
+    requires { ⌜ ApplyingAt (now a) (now d) n top p m (now parts) ⌝ }
+    ensures { λ r. ⌜ AppliedAt (now (a .entry)) (now (a .exit)) (now (d .entry)) n top p m (now (parts .entry)) (r .number) (r .cell) (r .cells) (r .top) ⌝ }
+{
+    fresh_row(a, n, m);
+    let q = equate_actuals(a, d, n + m, top, n, parts, 0, m);
+    let number = q.number;
+    if number != 0 {
+        return q;
+    }
+    let g = instance(a, d, q.cells, q.top, p, n, m);
+    Ruling {
+        number: 0,
+        cell: g.cell,
+        cells: g.cells,
+        top: g.top,
+    }
+}
+
+// A recorded name with m actuals, one at least.
+fn global_applied(
+    a: &mut [u32],
+    d: &[u32],
+    n: usize,
+    top: usize,
+    id: usize,
+    parts: &[u32],
+    m: usize,
+) -> Ruling
+    requires { ⌜ ConsultedWith (now a) (now d) n top (now parts) m ⌝ }
+    ensures { λ r. ⌜ GlobalApplied (now (a .entry)) (now (a .exit)) (now (d .entry)) n top id (now (parts .entry)) m (r .number) (r .cell) (r .cells) (r .top) ⌝ }
+{
+    let e = entry_of_name(d, id);
+    if e == 0 {
+        return Ruling {
+            number: findings::UNKNOWN_NAME,
+            cell: 0,
+            cells: n,
+            top: top,
+        };
+    }
+    if parameters_of(d, e) != m {
+        return Ruling {
+            number: findings::WRONG_COUNT,
+            cell: 0,
+            cells: n,
+            top: top,
+        };
+    }
+    let p = DICTIONARY + type_place(d, e);
+    applied(a, d, n, top, p, m, parts)
+}
+
+// A name in scope with m actuals, whose cells stand in `parts`: the rows of the scope's stack stand in w.
+pub fn ref_rule(
+    a: &mut [u32],
+    d: &[u32],
+    w: &[u32],
+    n: usize,
+    top: usize,
+    rows: usize,
+    id: usize,
+    parts: &[u32],
+    m: usize,
+) -> Ruling
+    requires { ⌜ ReferringWith (now a) (now d) (now w) n top rows (now parts) m ⌝ }
+    ensures { λ r. ⌜ RefersWith (now (a .entry)) (now (a .exit)) (now (d .entry)) (now (w .entry)) n top rows id (now (parts .entry)) m (r .number) (r .cell) (r .cells) (r .top) ⌝ }
+{
+    if m == 0 {
+        return reference(a, d, w, n, top, rows, id);
+    }
+    let r = find(w, 0, rows, id);
+    if r < rows {
+        return Ruling {
+            number: findings::WRONG_COUNT,
+            cell: 0,
+            cells: n,
+            top: top,
+        };
+    }
+    global_applied(a, d, n, top, id, parts, m)
+}

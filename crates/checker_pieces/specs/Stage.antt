@@ -1,0 +1,95 @@
+-- What the functions of a piece ask and promise. The ghost values are those of any reading of the store: a function asks that there is one, and promises
+-- for each.
+use mathlib.Core.Path.{_≡_}
+use mathlib.Core.Bool.{Bool, true, false}
+use mathlib.Core.List.{List}
+use mathlib.Core.Logic.{_⊎_}
+use Prim.Native.Nat.{ℕ, _+_, _*_, _≤_, _<_, _^_}
+use lib.ListN.{length}
+use Rattle.types_rules.specs.Equations.{In, InP, Pairs, pair}
+use Rattle.types_rules.specs.Types.{Ty, Term, Each}
+use Rattle.checker_rules.specs.Unknowns.{slot}
+use Rattle.checker_rules.specs.Items.{Items, _⨾_, equate}
+use Rattle.types_cells.specs.Store.{frozen, load}
+use Rattle.types_cells.specs.Settled.{lower}
+use Rattle.types_cells.specs.Calls.{Above}
+use Rattle.checker_pieces.specs.Piece.{Piece, Denotes, Later, Goes, Stops}
+
+pub record Ghost : Type 0 where
+  pub equations : Pairs ℕ
+  pub before : Items
+  pub items : Items
+  pub known : List ℕ
+  pub mentioned : List ℕ
+  pub cells : Pairs ℕ
+
+-- The piece G stands in the store s of n cells, whose runs end at `top`.
+pub record Stands (s d : List ℕ) (n top : ℕ) (G : Ghost) : Type 0 where
+  pub piece : Piece s d n (G .equations) (G .before) (G .items) (G .known) (G .mentioned) (G .cells)
+  pub above : Above (frozen s) n top
+  pub few : length d < 2 ^ 31
+
+pub record Ready (s d : List ℕ) (n top : ℕ) : Type 0 where
+  pub ghost : Ghost
+  pub stands : Stands s d n top ghost
+
+-- The same where the function does not look at the runs, nor at x and y beyond their being cells.
+pub record Comparing (s d : List ℕ) (n x y : ℕ) : Type 0 where
+  pub top : ℕ
+  pub ready : Ready s d n top
+  pub left : x < n
+  pub right : y < n
+
+-- Room for x cells more, of two words each.
+pub record Room (s : List ℕ) (n top x : ℕ) : Type 0 where
+  pub cells : n + x ≤ 1024
+  pub words : top + 2 * x ≤ 6144
+  pub fit : load (frozen s) n + 2 * x < 2048
+
+-- The term a is the type of the cell c, which is one of the n.
+pub record Cell (s d : List ℕ) (n : ℕ) (G : Ghost) (c : ℕ) (a : Term) : Type 0 where
+  pub made : c < n
+  pub denotes : Denotes s d n (G .equations) (G .before) (G .items) (G .cells) c a
+  pub over : Each (λ x. In x (G .mentioned)) a
+
+-- No unknown of node k is mentioned yet.
+abbrev pub Unvisited : ℕ → Ghost → Type 0
+Unvisited k G = (j : ℕ) → j < 8 → In (slot k j) (G .mentioned) → ⊥
+
+-- The piece with the items `own` more.
+pub record Advanced (s s′ d : List ℕ) (n top n′ top′ : ℕ) (G : Ghost) (own : Items) (Mine : ℕ → Type 0) : Type 0 where
+  pub equations : Pairs ℕ
+  pub mentioned : List ℕ
+  pub cells : Pairs ℕ
+  pub wide : n ≤ n′
+  pub goes : Goes (G .before) (G .items) own
+  pub piece : Piece s′ d n′ equations (G .before) (G .items ⨾ own) (G .known) mentioned cells
+  pub above : Above (frozen s′) n′ top′
+  pub later : Later s s′ d n n′ (G .equations) equations (G .before) (G .items) (G .items ⨾ own) (G .cells) cells
+  pub wider : (x : ℕ) → In x (G .mentioned) → In x mentioned
+  pub new : (x : ℕ) → In x mentioned → In x (G .mentioned) ⊎ Mine x
+
+-- The unknowns of node k.
+abbrev pub SlotOf : ℕ → ℕ → Type 0
+SlotOf k x = (j : ℕ) × (j < 8) × (x ≡ slot k j)
+
+-- The room that is left when x cells were used.
+abbrev pub Uses : List ℕ → List ℕ → ℕ → ℕ → ℕ → ℕ → ℕ → Type 0
+Uses s s′ n top n′ top′ x = (y : ℕ) → Room s n top (x + y) → Room s′ n′ top′ y
+
+-- A NODE'S RULE: number 0, the items `own` pass, and the cell has the type of node k; otherwise they stop with this number at k.
+pub record Ruled (s s′ d : List ℕ) (n top k number cell n′ top′ : ℕ) (G : Ghost) (own : Items) : Type 0 where
+  pub stops : (number ≡ 0 → ⊥) → Stops (G .before) (G .items) own number k
+  pub goes : number ≡ 0 → Advanced s s′ d n top n′ top′ G own (SlotOf k)
+  pub typed : (e : number ≡ 0) → InP (slot k 0) cell (goes e .cells)
+
+-- EQUAL: the equation between two cells.
+pub record Equated (s s′ d : List ℕ) (n x y : ℕ) (fine : Bool) : Type 0 where
+  pub low : lower s′ ≡ lower s
+  pub still : frozen s′ ≡ frozen s
+  pub goes : fine ≡ true → (top : ℕ) (G : Ghost) → Stands s d n top G → (a b : Term) → Cell s d n G x a → Cell s d n G y b → (f m : ℕ) →
+      Goes (G .before) (G .items) (equate f m a b)
+      × Piece s′ d n (pair x y (G .equations)) (G .before) (G .items ⨾ equate f m a b) (G .known) (G .mentioned) (G .cells)
+      × Later s s′ d n n (G .equations) (pair x y (G .equations)) (G .before) (G .items) (G .items ⨾ equate f m a b) (G .cells) (G .cells)
+  pub stops : fine ≡ false → (top : ℕ) (G : Ghost) → Stands s d n top G → (a b : Term) → Cell s d n G x a → Cell s d n G y b → (f m : ℕ) →
+      Stops (G .before) (G .items) (equate f m a b) f m

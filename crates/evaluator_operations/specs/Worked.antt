@@ -1,0 +1,66 @@
+-- What the code's functions give by value, and how it tells the outcome of the evaluation rules. The list of values is no part of it.
+use mathlib.Core.Path.{_≡_}
+use mathlib.Core.List.{List, _++_}
+use mathlib.Core.Bool.{Bool, true, false, _&&_}
+use Prim.Native.Nat.{ℕ, _≤_}
+use lib.ListN.{length}
+use Rattle.values_integers.specs.Integer.{in32}
+use Rattle.values.specs.Value.{Value, int, element, set, tuple, Values, nil, cons, count, encode, encodes}
+use Rattle.values.specs.Held.{keep}
+use Rattle.values.specs.declared.held.Held.{Held}
+use Rattle.evaluator_rules.specs.Outcomes.{Event, Outcome, done, stopped}
+use Rattle.evaluator_rules.specs.Assignments.{Flow, go, halt}
+use Rattle.evaluator_operations.specs.declared.worked.Worked.{Worked}
+
+-- the integers of a value are of 32 bits signed
+unfoldable mutual
+  pub narrow : Value → Bool
+  narrow (int z) = in32 z
+  narrow (element g k) = true
+  narrow (set vs) = allNarrow vs
+  narrow (tuple vs) = allNarrow vs
+
+  pub allNarrow : Values → Bool
+  allNarrow nil = true
+  allNarrow (cons v vs) = narrow v && allNarrow vs
+
+-- a value by value
+pub record Holds (h : Held) (v : Value) : Type 0 where
+  pub words : h ≡ keep (encode v)
+  pub short : length (encode v) ≤ 64
+  pub narrow : narrow v ≡ true
+
+-- number and place of a finding that stops; number 0 where it goes on with what R says
+pub data Told {A : Type 0} (R : Worked → A → Type 0) (r : Worked) : Outcome A → Type 0 where
+  fine : {t : List Event} {a : A} → r .number ≡ 0 → R r a → Told R r (done t a)
+  ceased : {t : List Event} {number node : ℕ} → r .number ≡ number → r .place ≡ node → (number ≡ 0 → ⊥) → Told R r (stopped t number node)
+
+-- a value, a truth value, what an assignment leaves, a set's members
+pub record Valued (r : Worked) (v : Value) : Type 0 where
+  pub held : Holds (r .held) v
+
+pub record Judged (r : Worked) (b : Bool) : Type 0 where
+  pub flag : r .flag ≡ b
+
+abbrev pub Flowed : Worked → Flow → Type 0
+Flowed r (go vs) = (r .flag ≡ false) × Holds (r .held) (set vs)
+Flowed r halt = r .flag ≡ true
+
+pub record Gathered (r : Worked) (vs : Values) : Type 0 where
+  pub held : Holds (r .held) (set vs)
+
+-- n values, one after the other, behind the words ws; perhaps over 64 words
+pub record Joined (ws : List ℕ) (n : ℕ) (r : Worked) (vs : Values) : Type 0 where
+  pub counted : count vs ≡ n
+  pub words : r .held ≡ keep (ws ++ encodes vs)
+  pub narrow : allNarrow vs ≡ true
+
+-- a stop, and what goes on
+pub record Stops (r : Worked) (n k : ℕ) : Type 0 where
+  pub number : r .number ≡ n
+  pub place : r .place ≡ k
+
+pub record Plain (r : Worked) (h : Held) (b : Bool) : Type 0 where
+  pub number : r .number ≡ 0
+  pub held : r .held ≡ h
+  pub flag : r .flag ≡ b

@@ -1,0 +1,1 @@
+// The fit call, defined; the code is in `fitter`.

@@ -1,4 +1,0 @@
-// The form of a single node: its kind, the number and sorts of its operands, and findings 12 to 14. The definitions are in the crate `syntax`.
-pub mod kinds;
-pub mod nodes;
-pub mod sorts;

@@ -1,5 +1,0 @@
-// What the operations of a run do with values. The definitions are in the crate `evaluation`.
-pub mod collections;
-pub mod logic;
-pub mod numbers;
-pub mod worked;

@@ -1,0 +1,53 @@
+-- Words moved into the caller's part of the area, and stores that are alike.
+use mathlib.Core.Path.{_≡_}
+use mathlib.Core.List.{List, _++_}
+use mathlib.Core.Logic.{_⊎_}
+use Prim.Native.Nat.{ℕ, _+_, _*_, _-_, _≤_, _<_}
+use lib.ListN.{length, getD}
+use lib.Seq.{sets}
+use Rattle.types_rules.specs.Types.{Ty}
+use Rattle.types_rules.specs.Words.{words}
+use Rattle.types_rules.specs.Equations.{Pairs}
+use Rattle.types_cells.specs.Store.{frozen, fieldAt, run, Solved}
+use Rattle.types_cells.specs.Calls.{Above}
+use Rattle.types_cells.specs.Settled.{heap, wordAt, Reads, Pinned, Obeys}
+use Rattle.types_solver.specs.Answers.{SolutionOf}
+
+-- The words of g at p lie below `at`, or in the dictionary.
+abbrev pub Below : ℕ → ℕ → Ty → Type 0
+Below at p g = (p + length (words g) ≤ at) ⊎ (39936 ≤ p)
+
+-- So do those of each settled cell's type.
+abbrev pub AllBelow : List ℕ → List ℕ → ℕ → ℕ → Type 0
+AllBelow s d n at = (i : ℕ) → i < n → 1025 ≤ wordAt s i → (g : Ty) → Reads (heap s d) (wordAt s i - 1025) g → Below at (wordAt s i - 1025) g
+
+-- The words of each settled cell's type of s are still read in s′.
+abbrev pub StillRead : List ℕ → List ℕ → List ℕ → ℕ → Type 0
+StillRead s s′ d n = (i : ℕ) → i < n → 1025 ≤ wordAt s i → (g : Ty) → Reads (heap s d) (wordAt s i - 1025) g → Reads (heap s′ d) (wordAt s i - 1025) g
+
+-- s′ has the first n cells of s, with their link words, and its runs below `top`.
+pub record Alike (s s′ : List ℕ) (n top : ℕ) : Type 0 where
+  pub size : length s′ ≡ length s
+  pub links : (i : ℕ) → i < n → wordAt s′ i ≡ wordAt s i
+  pub fields : (i j : ℕ) → i < n → j < 4 → fieldAt (frozen s′) i j ≡ fieldAt (frozen s) i j
+  pub runs : (p : ℕ) → 4096 ≤ p → p < top → getD (frozen s′) p 0 ≡ getD (frozen s) p 0
+
+-- The words of a store of n cells whose runs end at `top`: link words, cells, runs.
+unfoldable pub saved : List ℕ → ℕ → ℕ → List ℕ
+saved s n top = run s 39936 n ++ (run s 46080 (4 * n) ++ run s 50176 (top - 4096))
+
+-- The area s with the store whose words stand in `from` at `at`.
+unfoldable pub restored : List ℕ → ℕ → ℕ → List ℕ → ℕ → List ℕ
+restored s n top from at = sets (sets (sets s 39936 (run from at n)) 46080 (run from (at + n) (4 * n))) 50176 (run from (at + n + 4 * n) (top - 4096))
+
+-- The store s is taken up again in s′, with the same cells, equations and solutions; its settled types lie below `base` or in the dictionary.
+pub record Resumed (s s′ d : List ℕ) (n top base : ℕ) : Type 0 where
+  pub alike : Alike s s′ n top
+  pub solved : (P₀ L : Pairs ℕ) → Solved s n P₀ L → Solved s′ n P₀ L
+  pub above : Above (frozen s′) n top
+  pub pinned : Pinned s d n → Pinned s′ d n
+  pub below : Pinned s d n → AllBelow s′ d n base
+  pub obeys : (σ : ℕ → Ty) → Pinned s d n → Obeys s d n σ → Obeys s′ d n σ
+  pub obeyed : (σ : ℕ → Ty) → Obeys s′ d n σ → Obeys s d n σ
+  pub solutions : (P₀ L : Pairs ℕ) → Solved s n P₀ L → Pinned s d n → SolutionOf s d n P₀ → SolutionOf s′ d n P₀
+  pub solved-before : (P₀ L : Pairs ℕ) → Solved s n P₀ L → SolutionOf s′ d n P₀ → SolutionOf s d n P₀
