@@ -1,7 +1,7 @@
 // The dictionary extended by one paragraph of the Document: its finding, then 22, else its entries.
+use checker_closing::results::Lined;
 use checker_dictionary::growth::size;
 use checker_dictionary::waiting::append_all;
-use checker_nodes::results::Lined;
 use checker_paragraphs::paragraphs::paragraph;
 use checker_rules::Finding;
 use codes::findings;

@@ -20,8 +20,8 @@ use Rattle.checker_contracts.specs.Expressions.{ExprAsk, ExprDone}
 use Rattle.checker_contracts.specs.Includes.{ActualsAsk, ActualsDone}
 use Rattle.checker_contracts.proofs.Actuals.{actuals-none, actual-ask, actual-stopped, actual-working, actual-unequal, actual-closing, actual-several, actual-sizing, actual-size, actual-clean}
 use Rattle.checker_contracts.proofs.Actuals.{actual-gap, actual-room, actuals-ask, actuals-then}
-use Rattle.checker_nodes.specs.Nodes.{Node, LinedAt}
-use Rattle.checker_nodes.specs.declared.results.Lined.{Lined}
+use Rattle.checker_closing.specs.Nodes.{Node, LinedAt}
+use Rattle.checker_closing.specs.declared.results.Lined.{Lined}
 use Rattle.checker_nodes.proofs.LineNodes.{word-of}
 use Rattle.checker_nodes.proofs.SizedNodes.{expr-sized}
 

@@ -16,8 +16,8 @@ use Rattle.checker_contracts.specs.Includes.{actualCount, BringsAsk, BringsDone
 use Rattle.checker_contracts.proofs.Bringing.{brings-large, brings-keep, brings-done}
 use Rattle.checker_contracts.proofs.Brought.{brought-ask}
 use Rattle.checker_contracts.proofs.IncludeNodes.{included-node, included-count}
-use Rattle.checker_nodes.specs.Nodes.{LinedAt}
-use Rattle.checker_nodes.specs.declared.results.Lined.{Lined}
+use Rattle.checker_closing.specs.Nodes.{LinedAt}
+use Rattle.checker_closing.specs.declared.results.Lined.{Lined}
 
 few-actuals : (doc : List ℕ) (k : ℕ) → At doc includes k → actualCount (includeAt doc k) ≤ 4
 few-actuals doc k N = let z = included-count doc k N in let x = z .0 in let y = z .1 in omega arith

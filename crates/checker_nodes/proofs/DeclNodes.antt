@@ -35,9 +35,9 @@ use Rattle.checker_contracts.proofs.TableRows.{rows-ready}
 use Rattle.checker_contracts.proofs.Elements.{ElementNew, element-done}
 use Rattle.checker_contracts.proofs.Declaring.{decl-ask, decl-stopped, decl-working, decl-unequal, decl-closing, decl-several, decl-sizing, decl-size, decl-clean, decl-gap, decl-room}
 use Rattle.checker_contracts.proofs.Declaring.{decl-clash, decl-global, decl-large, decl-many, decl-done, decl-kept}
-use Rattle.checker_nodes.specs.Leaves.{FitsTold, NewIfTold}
-use Rattle.checker_nodes.specs.Nodes.{Node, LinedAt}
-use Rattle.checker_nodes.specs.declared.results.Lined.{Lined}
+use Rattle.checker_closing.specs.Leaves.{FitsTold, NewIfTold}
+use Rattle.checker_closing.specs.Nodes.{Node, LinedAt}
+use Rattle.checker_closing.specs.declared.results.Lined.{Lined}
 use Rattle.checker_nodes.proofs.LineNodes.{lines-told, word-of}
 use Rattle.checker_nodes.proofs.SizedNodes.{expr-sized}
 

@@ -22,8 +22,8 @@ use Rattle.checker_contracts.specs.Expressions.{ExprAsk, ExprDone}
 use Rattle.checker_contracts.specs.Shapes.{Over, Joining}
 use Rattle.checker_contracts.proofs.Shapes.{power-over, select-over, apply-joining, arithmetic-joining}
 use Rattle.checker_contracts.proofs.Expressions.{over-ask, over-stops, over-working, over-done, joining-ask, joining-stops, joining-then-ask, joining-then-stops, joining-working, joining-done}
-use Rattle.checker_nodes.specs.Nodes.{Node, VisitAt}
-use Rattle.checker_nodes.specs.declared.results.Visit.{Visit}
+use Rattle.checker_closing.specs.Nodes.{Node, VisitAt}
+use Rattle.checker_closing.specs.declared.results.Visit.{Visit}
 
 -- An answer by its fields.
 pub visit-done : {s s′ d w w′ : List ℕ} {rows n top at free : ℕ} {e : Expr} {number place cell n′ top′ at′ : ℕ} {r : Visit} → VisitAt r number place cell n′ top′ at′ →

@@ -21,9 +21,9 @@ use Rattle.checker_contracts.specs.Includes.{actualCount, IncludeAsk, IncludeDo
 use Rattle.checker_contracts.specs.Texts.{LinesAsk, LinesDone}
 use Rattle.checker_contracts.proofs.Inclusions.{inclusion-ask, inclusion-refused, inclusion-agree, inclusion-inside, inclusion-clash, inclusion-known, inclusion-large, inclusion-keep, inclusion-merge}
 use Rattle.checker_contracts.proofs.Inclusions.{inclusion-many, inclusion-done}
-use Rattle.checker_nodes.specs.Leaves.{NewIfTold}
-use Rattle.checker_nodes.specs.Nodes.{Node, LinedAt}
-use Rattle.checker_nodes.specs.declared.results.Lined.{Lined}
+use Rattle.checker_closing.specs.Leaves.{NewIfTold}
+use Rattle.checker_closing.specs.Nodes.{Node, LinedAt}
+use Rattle.checker_closing.specs.declared.results.Lined.{Lined}
 use Rattle.checker_nodes.proofs.LineNodes.{lines-told, word-of}
 
 module _ {doc p s d w : List ℕ} {stack base m at free k : ℕ} (N : Node doc p lines k) (q : kindAt doc k ≡ 12) (K : LinesAsk s d w stack base m at free (lineAt doc k end)) (global : Bool) where

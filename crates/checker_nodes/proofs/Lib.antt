@@ -1,7 +1,6 @@
 pub mod ExprNodes
 pub mod ListNodes
 pub mod WaitingNodes
-pub mod LeafLaws
 pub mod PredLaws
 pub mod RelLaws
 pub mod QuantLaws

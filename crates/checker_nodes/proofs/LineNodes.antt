@@ -18,8 +18,8 @@ use Rattle.reader_rules.proofs.TreeText.{text-kind, line-range, line-declaratio
 use Rattle.types_cells.proofs.Growing.{lt-or-ge}
 use Rattle.checker_contracts.specs.Texts.{LinesAsk, LinesDone}
 use Rattle.checker_contracts.proofs.Lining.{Before, lines-none, decl-before, incl-before, line-ask, line-refused, lines-ask, lines-then}
-use Rattle.checker_nodes.specs.Nodes.{Node, LinedAt}
-use Rattle.checker_nodes.specs.declared.results.Lined.{Lined}
+use Rattle.checker_closing.specs.Nodes.{Node, LinedAt}
+use Rattle.checker_closing.specs.declared.results.Lined.{Lined}
 
 -- The promise in the words of the result.
 pub lines-told : {s s′ d w w′ : List ℕ} {stack base m at free number place count end′ : ℕ} {ls : Lines} {global : Bool} {r : Lined} → LinedAt r number place count end′ →

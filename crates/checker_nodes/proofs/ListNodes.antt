@@ -31,8 +31,8 @@ use Rattle.checker_contracts.specs.Shapes.{Listing}
 use Rattle.checker_contracts.proofs.Shapes.{set-listing, tuple-listing, product-listing, reference-listing}
 use Rattle.checker_contracts.proofs.Lists.{exprs-none, more-ask, more-stops, more-made, more-few, more-then-ask, more-done}
 use Rattle.checker_contracts.proofs.Listing.{listing-ask, listing-stops, listing-fit, listing-operating, listing-building, listing-done, listing-referring, listing-refers}
-use Rattle.checker_nodes.specs.Nodes.{Node, VisitAt}
-use Rattle.checker_nodes.specs.declared.results.Visit.{Visit}
+use Rattle.checker_closing.specs.Nodes.{Node, VisitAt}
+use Rattle.checker_closing.specs.declared.results.Visit.{Visit}
 use Rattle.checker_nodes.proofs.ExprNodes.{visit-done, node-word}
 
 -- A node has at most 256 words.

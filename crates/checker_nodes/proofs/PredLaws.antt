@@ -16,8 +16,8 @@ use Rattle.reader_rules.proofs.TreeShape.{One, Two}
 use Rattle.types_cells.proofs.Growing.{lt-or-ge}
 use Rattle.checker_contracts.specs.Predicates.{PredAsk, PredDone}
 use Rattle.checker_contracts.proofs.Connecting.{truth-done, not-part, not-done, connected-first, connected-stopped, connected-second, connected-done}
-use Rattle.checker_nodes.specs.Nodes.{Node, Found}
-use Rattle.checker_nodes.specs.declared.results.Verdict.{Verdict}
+use Rattle.checker_closing.specs.Nodes.{Node, Found}
+use Rattle.checker_closing.specs.declared.results.Verdict.{Verdict}
 
 pub node-of : {doc p : List ℕ} {q k : ℕ} → At doc q k → p ≡ part doc k → Node doc p q k
 node-of h e = record { at = h; words = e }

@@ -15,7 +15,7 @@ use Rattle.reader_rules.proofs.TreeShape.{Two}
 use Rattle.checker_contracts.specs.Predicates.{PredAsk, PredDone}
 use Rattle.checker_contracts.specs.Texts.{TextAsk, TextDone}
 use Rattle.checker_contracts.proofs.Quantifying.{quantified-text, quantified-stopped, quantified-body, quantified-refused, quantified-done}
-use Rattle.checker_nodes.specs.Nodes.{Node}
+use Rattle.checker_closing.specs.Nodes.{Node}
 use Rattle.checker_nodes.proofs.PredLaws.{word-at}
 
 module _ {doc p : List ℕ} {k : ℕ} (B : Node doc p predicates k) {s d w : List ℕ} {rows at free : ℕ} (A : PredAsk s d w rows at free (predAt doc k))

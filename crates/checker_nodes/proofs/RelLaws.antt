@@ -22,8 +22,8 @@ use Rattle.checker_contracts.specs.Expressions.{ExprAsk, ExprDone}
 use Rattle.checker_contracts.specs.Predicates.{PredAsk, PredDone}
 use Rattle.checker_contracts.proofs.Relations.{Relation, equal-relation, member-relation, atMost-relation, relation-sides, relation-left, relation-right, relation-own, relation-34, relation-done}
 use Rattle.checker_contracts.proofs.Sides.{Sides, left-ask, right-ask, sides-ask, sides-low, close-ask}
-use Rattle.checker_nodes.specs.Leaves.{relationItems}
-use Rattle.checker_nodes.specs.Nodes.{Node}
+use Rattle.checker_closing.specs.Leaves.{relationItems}
+use Rattle.checker_closing.specs.Nodes.{Node}
 use Rattle.checker_nodes.proofs.PredLaws.{word-at}
 
 relation-of : (q k : ℕ) (a b : Expr) → 21 ≤ q → q ≤ 23 → Relation (relationOf q k a b) k a b (relationItems q)

@@ -15,8 +15,8 @@ use Rattle.checker_signatures.specs.Tables.{Beside, Pushed}
 use Rattle.checker_contracts.specs.Predicates.{PredAsk, PredDone}
 use Rattle.checker_contracts.specs.Texts.{TextAsk, TextDone, LinesAsk, LinesDone}
 use Rattle.checker_contracts.proofs.Bodies.{text-lines, text-stopped, push-ask, text-body, text-refused, text-done}
-use Rattle.checker_nodes.specs.Nodes.{LinedAt}
-use Rattle.checker_nodes.specs.declared.results.Lined.{Lined}
+use Rattle.checker_closing.specs.Nodes.{LinedAt}
+use Rattle.checker_closing.specs.declared.results.Lined.{Lined}
 
 -- The promise in the words of the result.
 pub text-told : {s s′ d w w′ : List ℕ} {stack at free number place count end : ℕ} {t : Text} {global : Bool} {r : Lined} → LinedAt r number place count end →

@@ -27,8 +27,8 @@ use Rattle.checker_contracts.proofs.Expressions.{alone-visiting, alone-building
 use Rattle.checker_contracts.proofs.Listing.{node-theta}
 use Rattle.checker_contracts.proofs.Comprehensions.{compr-save-asked, compr-text-ask, compr-text-stops, compr-restore-asked, compr-body-ask, compr-body-stops, compr-building, compr-done}
 use Rattle.checker_contracts.proofs.SchemaSets.{sset-save-asked, sset-include-ask, sset-include-stops, sset-restore-asked, sset-asked, sset-done}
-use Rattle.checker_nodes.specs.Nodes.{Node, VisitAt}
-use Rattle.checker_nodes.specs.declared.results.Visit.{Visit}
+use Rattle.checker_closing.specs.Nodes.{Node, VisitAt}
+use Rattle.checker_closing.specs.declared.results.Visit.{Visit}
 use Rattle.checker_nodes.proofs.ExprNodes.{visit-done, node-word}
 
 -- COMPREHENSION: the Text at node t, the body at node b.

@@ -1,18 +1,18 @@
 // The typing rules: functions over nodes that call each other in a cycle, the node number falling. The solver's store and the pool of type words are
 // in a; d is the dictionary's area, w the work area with the scope's rows at its beginning. A function over a kind's node takes its words p.
-use crate::leaves::declared_fits;
-use crate::leaves::new_if;
-use crate::leaves::related;
-use crate::leaves::rows_new_if;
-use crate::results::Lined;
-use crate::results::Verdict;
-use crate::results::Visit;
-use crate::results::found;
-use crate::results::lined_at;
-use crate::results::unlined;
-use crate::results::unvisited;
-use crate::results::verdict_at;
-use crate::results::visit_at;
+use checker_closing::leaves::declared_fits;
+use checker_closing::leaves::new_if;
+use checker_closing::leaves::related;
+use checker_closing::leaves::rows_new_if;
+use checker_closing::results::Lined;
+use checker_closing::results::Verdict;
+use checker_closing::results::Visit;
+use checker_closing::results::found;
+use checker_closing::results::lined_at;
+use checker_closing::results::unlined;
+use checker_closing::results::unvisited;
+use checker_closing::results::verdict_at;
+use checker_closing::results::visit_at;
 use checker_dictionary::lookup::entry_of_schema;
 use checker_dictionary::lookup::parameters_of;
 use checker_dictionary::lookup::type_place;
@@ -68,7 +68,7 @@ ghost use Rattle.checker_contracts.specs.Expressions.{ExprAsk, ExprDone, ExprsA
 ghost use Rattle.checker_contracts.specs.Predicates.{PredAsk, PredDone};
 ghost use Rattle.checker_contracts.specs.Texts.{TextAsk, TextDone, LinesAsk, LinesDone};
 ghost use Rattle.checker_contracts.specs.Includes.{IncludeAsk, IncludeDone, BringsAsk, BringsDone, ActualsAsk, ActualsDone};
-ghost use Rattle.checker_nodes.specs.Nodes.{Node};
+ghost use Rattle.checker_closing.specs.Nodes.{Node};
 
 // The words of an Include before its actuals.
 const FIRST_ACTUAL: usize = 4;

@@ -22,8 +22,8 @@ use Rattle.checker_contracts.specs.Paragraphs.{ParagraphAsk, ParagraphDone}
 use Rattle.checker_entries.specs.Parameters.{ParametersAsk, ParametersPushed}
 use Rattle.checker_entries.proofs.Writing.{small-words}
 use Rattle.checker_entries.proofs.Abbreviation.{expr-asked, expr-stopped, closing-asked, low-end, several, sizing, clash, too-large, wording, abbreviation-done}
-use Rattle.checker_nodes.specs.Nodes.{Node, LinedAt}
-use Rattle.checker_nodes.specs.declared.results.Lined.{Lined}
+use Rattle.checker_closing.specs.Nodes.{Node, LinedAt}
+use Rattle.checker_closing.specs.declared.results.Lined.{Lined}
 use Rattle.checker_paragraphs.proofs.ParagraphNodes.{paragraph-told}
 use Rattle.checker_paragraphs.proofs.Defined.{anywhere}
 

@@ -28,8 +28,8 @@ use Rattle.checker_entries.specs.Entries.{TypesAt, schemaOf, entryWaits, TableA
 use Rattle.checker_entries.specs.Parameters.{ParametersAsk, ParametersPushed}
 use Rattle.checker_entries.proofs.SchemaParagraph.{schema-asked, schema-stopped, schema-table, schema-done}
 use Rattle.checker_entries.proofs.Abbreviation.{expr-asked, expr-stopped, closing-asked, several, sizing, clash, too-large, wording, abbreviation-done}
-use Rattle.checker_nodes.specs.Nodes.{Node, LinedAt}
-use Rattle.checker_nodes.specs.declared.results.Lined.{Lined}
+use Rattle.checker_closing.specs.Nodes.{Node, LinedAt}
+use Rattle.checker_closing.specs.declared.results.Lined.{Lined}
 use Rattle.checker_paragraphs.proofs.ParagraphNodes.{paragraph-told}
 
 -- The finding-free promise does not depend on the place.

@@ -29,8 +29,8 @@ use Rattle.checker_entries.specs.Parameters.{ParametersPushed}
 use Rattle.checker_entries.proofs.Constraint.{constraint-asked, constraint-done}
 use Rattle.checker_entries.proofs.Given.{given-clash, given-done}
 use Rattle.checker_entries.proofs.Axiomatic.{axiom-asked, axiom-stopped, axiom-table, axiom-done}
-use Rattle.checker_nodes.specs.Nodes.{Node, LinedAt}
-use Rattle.checker_nodes.specs.declared.results.Lined.{Lined}
+use Rattle.checker_closing.specs.Nodes.{Node, LinedAt}
+use Rattle.checker_closing.specs.declared.results.Lined.{Lined}
 
 -- The promise in the words of the result.
 pub paragraph-told : {s s′ d w w′ : List ℕ} {p : Paragraph} {f x c e : ℕ} {r : Lined} → LinedAt r f x c e → ParagraphDone s s′ d w w′ p f x e c →

@@ -25,8 +25,8 @@ use Rattle.checker_contracts.specs.Includes.{BringsAsk, BringsDone}
 use Rattle.checker_contracts.proofs.SchemaKinds.{text-asked, text-schema, include-asked, include-schema}
 use Rattle.checker_contracts.proofs.Conjoining.{both-first, both-first-stops, both-second, both-second-stops}
 use Rattle.checker_contracts.proofs.Keeping.{join-asked, both-joined}
-use Rattle.checker_nodes.specs.Nodes.{LinedAt}
-use Rattle.checker_nodes.specs.declared.results.Lined.{Lined}
+use Rattle.checker_closing.specs.Nodes.{LinedAt}
+use Rattle.checker_closing.specs.declared.results.Lined.{Lined}
 
 -- A CONJUNCTION'S ROWS.
 module _ (s d w : List ℕ) (free m n at end k : ℕ) where

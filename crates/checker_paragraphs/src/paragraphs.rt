@@ -1,5 +1,8 @@
 // Paragraphs: their findings, and the entries that wait for their end. The pool is empty before and after.
 use crate::schemas::schema;
+use checker_closing::results::Lined;
+use checker_closing::results::lined_at;
+use checker_closing::results::unlined;
 use checker_entries::HEAD;
 use checker_entries::given_entries;
 use checker_entries::name_entries;
@@ -12,9 +15,6 @@ use checker_merging::names_new;
 use checker_nodes::nodes::expr;
 use checker_nodes::nodes::pred;
 use checker_nodes::nodes::text;
-use checker_nodes::results::Lined;
-use checker_nodes::results::lined_at;
-use checker_nodes::results::unlined;
 use checker_pieces::closing::close;
 use checker_pieces::closing::settled_size;
 use checker_pieces::closing::settled_words;
@@ -33,7 +33,7 @@ ghost use Rattle.reader_rules.specs.Nodes.{kindAt};
 ghost use Rattle.reader_rules.specs.Promise.{At};
 ghost use Rattle.reader_rules.specs.Decode.{paragraphAt};
 ghost use Rattle.checker_contracts.specs.Paragraphs.{ParagraphAsk, ParagraphDone};
-ghost use Rattle.checker_nodes.specs.Nodes.{Node};
+ghost use Rattle.checker_closing.specs.Nodes.{Node};
 
 // The work area: rows of the scope, then tables and frames.
 const FRAMES: usize = 512;

@@ -1,10 +1,10 @@
 // Schema expressions: a Text, an Include, a Conjunction. What one declares is a table at `free`.
+use checker_closing::results::Lined;
+use checker_closing::results::lined_at;
 use checker_includes::storing::keep_rows;
 use checker_merging::rows_agree;
 use checker_nodes::nodes::brings;
 use checker_nodes::nodes::text;
-use checker_nodes::results::Lined;
-use checker_nodes::results::lined_at;
 use checker_signatures::tables::TABLE;
 use checker_signatures::tables::merge;
 use codes::findings;

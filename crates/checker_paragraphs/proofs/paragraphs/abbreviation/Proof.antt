@@ -8,8 +8,8 @@ use Rattle.checker_paragraphs.proofs.paragraphs.abbreviation.Tie as tie
 use Rattle.checker_paragraphs.proofs.paragraphs.abbreviation.Reads as reads
 use Rattle.checker_paragraphs.proofs.paragraphs.abbreviation.Lts as lts
 use Rattle.checker_nodes.proofs.nodes.expr.Reads as expr-reads
-use Rattle.checker_nodes.proofs.results.lined_at.Reads as lined-at-reads
-use Rattle.checker_nodes.proofs.results.unlined.Reads as unlined-reads
+use Rattle.checker_closing.proofs.results.lined_at.Reads as lined-at-reads
+use Rattle.checker_closing.proofs.results.unlined.Reads as unlined-reads
 use Rattle.checker_entries.proofs.parameters.push_parameters.Reads as push-parameters-reads
 use Rattle.checker_entries.proofs.put_head.Reads as put-head-reads
 use Rattle.types_instances.proofs.wipe.Reads as wipe-reads

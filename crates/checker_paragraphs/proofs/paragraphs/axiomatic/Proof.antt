@@ -7,7 +7,7 @@ use Rattle.checker_paragraphs.proofs.paragraphs.axiomatic.Tie as tie
 use Rattle.checker_paragraphs.proofs.paragraphs.axiomatic.Reads as reads
 use Rattle.checker_paragraphs.proofs.paragraphs.axiomatic.Lts as lts
 use Rattle.checker_nodes.proofs.nodes.text.Reads as text-reads
-use Rattle.checker_nodes.proofs.results.lined_at.Reads as lined-at-reads
+use Rattle.checker_closing.proofs.results.lined_at.Reads as lined-at-reads
 use Rattle.checker_entries.proofs.name_entries.Reads as name-entries-reads
 use Rattle.types_instances.proofs.wipe.Reads as wipe-reads
 use Rattle.words.proofs.word.Reads as word-reads

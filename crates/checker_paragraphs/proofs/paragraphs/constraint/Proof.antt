@@ -7,7 +7,7 @@ use Rattle.checker_paragraphs.proofs.paragraphs.constraint.Tie as tie
 use Rattle.checker_paragraphs.proofs.paragraphs.constraint.Reads as reads
 use Rattle.checker_paragraphs.proofs.paragraphs.constraint.Lts as lts
 use Rattle.checker_nodes.proofs.nodes.pred.Reads as pred-reads
-use Rattle.checker_nodes.proofs.results.unlined.Reads as unlined-reads
+use Rattle.checker_closing.proofs.results.unlined.Reads as unlined-reads
 use Rattle.words.proofs.word.Reads as word-reads
 
 -- src/paragraphs.rt:154:46

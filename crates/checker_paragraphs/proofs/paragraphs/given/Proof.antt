@@ -6,7 +6,7 @@ use Rattle.checker_paragraphs.proofs.paragraphs.given.Statement.{statem
 use Rattle.checker_paragraphs.proofs.paragraphs.given.Tie as tie
 use Rattle.checker_paragraphs.proofs.paragraphs.given.Reads as reads
 use Rattle.checker_paragraphs.proofs.paragraphs.given.Lts as lts
-use Rattle.checker_nodes.proofs.results.lined_at.Reads as lined-at-reads
+use Rattle.checker_closing.proofs.results.lined_at.Reads as lined-at-reads
 use Rattle.checker_entries.proofs.given_entries.Reads as given-entries-reads
 use Rattle.checker_merging.proofs.names_new.Reads as names-new-reads
 

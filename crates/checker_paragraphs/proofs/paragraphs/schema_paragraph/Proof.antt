@@ -7,7 +7,7 @@ use Rattle.checker_paragraphs.proofs.paragraphs.schema_paragraph.Statem
 use Rattle.checker_paragraphs.proofs.paragraphs.schema_paragraph.Tie as tie
 use Rattle.checker_paragraphs.proofs.paragraphs.schema_paragraph.Reads as reads
 use Rattle.checker_paragraphs.proofs.paragraphs.schema_paragraph.Lts as lts
-use Rattle.checker_nodes.proofs.results.lined_at.Reads as lined-at-reads
+use Rattle.checker_closing.proofs.results.lined_at.Reads as lined-at-reads
 use Rattle.checker_paragraphs.proofs.schemas.schema.Reads as schema-reads
 use Rattle.checker_entries.proofs.parameters.push_parameters.Reads as push-parameters-reads
 use Rattle.checker_entries.proofs.schema_entry.Reads as schema-entry-reads

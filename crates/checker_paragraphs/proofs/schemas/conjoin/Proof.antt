@@ -7,7 +7,7 @@ use Rattle.checker_paragraphs.proofs.schemas.conjoin.Statement.{stateme
 use Rattle.checker_paragraphs.proofs.schemas.conjoin.Tie as tie
 use Rattle.checker_paragraphs.proofs.schemas.conjoin.Reads as reads
 use Rattle.checker_paragraphs.proofs.schemas.conjoin.Lts as lts
-use Rattle.checker_nodes.proofs.results.lined_at.Reads as lined-at-reads
+use Rattle.checker_closing.proofs.results.lined_at.Reads as lined-at-reads
 use Rattle.checker_includes.proofs.storing.keep_rows.Reads as keep-rows-reads
 use Rattle.checker_merging.proofs.rows_agree.Reads as rows-agree-reads
 use Rattle.checker_signatures.proofs.tables.merge.Reads as merge-reads

@@ -5,9 +5,9 @@ use Prim.Native.Nat.{ℕ, _≤_, _<_}
 use lib.ListN.{length}
 use Rattle.layout.specs.Layout.{part}
 use Rattle.reader_rules.specs.Promise.{At}
-use Rattle.checker_nodes.specs.declared.results.Visit.{Visit}
-use Rattle.checker_nodes.specs.declared.results.Verdict.{Verdict}
-use Rattle.checker_nodes.specs.declared.results.Lined.{Lined}
+use Rattle.checker_closing.specs.declared.results.Visit.{Visit}
+use Rattle.checker_closing.specs.declared.results.Verdict.{Verdict}
+use Rattle.checker_closing.specs.declared.results.Lined.{Lined}
 
 -- p are the words of node k, of sort s.
 pub record Node (doc p : List ℕ) (s k : ℕ) : Type 0 where

@@ -1,9 +1,9 @@
-use Rattle.checker_nodes.proofs.LeafLaws.{new-global, new-local}
+use Rattle.checker_closing.proofs.LeafLaws.{new-global, new-local}
 use borrow.Author.Needs.{needs}
-use Rattle.checker_nodes.proofs.leaves.rows_new_if.Statement.{statement}
-use Rattle.checker_nodes.proofs.leaves.rows_new_if.Tie as tie
-use Rattle.checker_nodes.proofs.leaves.rows_new_if.Reads as reads
-use Rattle.checker_nodes.proofs.leaves.rows_new_if.Lts as lts
+use Rattle.checker_closing.proofs.leaves.rows_new_if.Statement.{statement}
+use Rattle.checker_closing.proofs.leaves.rows_new_if.Tie as tie
+use Rattle.checker_closing.proofs.leaves.rows_new_if.Reads as reads
+use Rattle.checker_closing.proofs.leaves.rows_new_if.Lts as lts
 use Rattle.checker_merging.proofs.rows_new.Reads as rows-new-reads
 
 rows-new-requires : tie.Need-rows-new-requires

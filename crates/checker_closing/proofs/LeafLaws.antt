@@ -28,7 +28,7 @@ use Rattle.checker_kinds.specs.Equations.{Related, equalityItems, membershipIte
 use Rattle.checker_includes.specs.Components.{Placed}
 use Rattle.checker_includes.specs.Storing.{OverlapTold}
 use Rattle.checker_contracts.specs.Visits.{globalsIf}
-use Rattle.checker_nodes.specs.Leaves.{relationItems, FitsTold, NewIfTold}
+use Rattle.checker_closing.specs.Leaves.{relationItems, FitsTold, NewIfTold}
 
 -- RELATIONS, by kind.
 pub comparing : (s d : List ℕ) (n top x y : ℕ) → Working s d n top 1 (x ∷ y ∷ []) → Comparing s d n x y

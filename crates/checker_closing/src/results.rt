@@ -1,7 +1,7 @@
 // What the functions over nodes return. Number 0: no finding; otherwise it is the finding's number, at the node `place`.
 ghost use mathlib.Core.Path.{_≡_};
 ghost use Prim.Native.Nat.{_<_, _^_};
-ghost use Rattle.checker_nodes.specs.Nodes.{VisitAt, Found, LinedAt};
+ghost use Rattle.checker_closing.specs.Nodes.{VisitAt, Found, LinedAt};
 
 // An expression: the cell of its type, the number of cells, where their runs end, and from where on the pool is clean.
 pub struct Visit {

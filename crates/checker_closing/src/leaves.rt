@@ -16,7 +16,7 @@ ghost use Rattle.checker_signatures.specs.Rows.{rows, identifiersOf};
 ghost use Rattle.checker_merging.specs.Merging.{DeclaredAsk};
 ghost use Rattle.checker_pieces.specs.Building.{Working};
 ghost use Rattle.checker_kinds.specs.Equations.{Related};
-ghost use Rattle.checker_nodes.specs.Leaves.{relationItems, FitsTold, NewIfTold};
+ghost use Rattle.checker_closing.specs.Leaves.{relationItems, FitsTold, NewIfTold};
 
 // The rule of a relation of kind q, between the cells x and y of n.
 pub fn related(

@@ -1,9 +1,9 @@
-use Rattle.checker_nodes.proofs.LeafLaws.{comparing, as-equality, as-membership, as-comparison}
+use Rattle.checker_closing.proofs.LeafLaws.{comparing, as-equality, as-membership, as-comparison}
 use borrow.Author.Needs.{needs}
-use Rattle.checker_nodes.proofs.leaves.related.Statement.{statement}
-use Rattle.checker_nodes.proofs.leaves.related.Tie as tie
-use Rattle.checker_nodes.proofs.leaves.related.Reads as reads
-use Rattle.checker_nodes.proofs.leaves.related.Lts as lts
+use Rattle.checker_closing.proofs.leaves.related.Statement.{statement}
+use Rattle.checker_closing.proofs.leaves.related.Tie as tie
+use Rattle.checker_closing.proofs.leaves.related.Reads as reads
+use Rattle.checker_closing.proofs.leaves.related.Lts as lts
 use Rattle.checker_kinds.proofs.equations.comparison.Reads as comparison-reads
 use Rattle.checker_kinds.proofs.equations.equality.Reads as equality-reads
 use Rattle.checker_kinds.proofs.equations.membership.Reads as membership-reads

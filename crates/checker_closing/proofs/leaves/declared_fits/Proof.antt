@@ -1,9 +1,9 @@
-use Rattle.checker_nodes.proofs.LeafLaws.{fits-small, fits-large}
+use Rattle.checker_closing.proofs.LeafLaws.{fits-small, fits-large}
 use borrow.Author.Needs.{needs}
-use Rattle.checker_nodes.proofs.leaves.declared_fits.Statement.{statement}
-use Rattle.checker_nodes.proofs.leaves.declared_fits.Tie as tie
-use Rattle.checker_nodes.proofs.leaves.declared_fits.Reads as reads
-use Rattle.checker_nodes.proofs.leaves.declared_fits.Lts as lts
+use Rattle.checker_closing.proofs.leaves.declared_fits.Statement.{statement}
+use Rattle.checker_closing.proofs.leaves.declared_fits.Tie as tie
+use Rattle.checker_closing.proofs.leaves.declared_fits.Reads as reads
+use Rattle.checker_closing.proofs.leaves.declared_fits.Lts as lts
 use Rattle.checker_includes.proofs.storing.none_declared.Reads as none-declared-reads
 use Rattle.checker_merging.proofs.declared_agree.Reads as declared-agree-reads
 
