@@ -29,7 +29,8 @@ use Rattle.checker_contracts.specs.Texts.{LinesAsk, LinesWent, LinesDone
 use Rattle.checker_contracts.proofs.Nodes.{once-left, once-right, owned-left, owned-right, fresh-left, fresh-after}
 use Rattle.checker_contracts.proofs.Rooms.{crowd-part}
 use Rattle.checker_contracts.proofs.Scopes.{spared-refl, spared-on, stored-on, scoped-stored, scoped-spared, scoped-walked, carries-later}
-use Rattle.checker_contracts.proofs.LineItems.{lineItems, line-stopped, line-then-stopped, line-then, whole-line}
+use Rattle.checker_contracts.proofs.ItemOrder.{Order, nothing, only, grouped, listed, first-refuses, then-refuses, then-walked, then-tables}
+use Rattle.checker_contracts.proofs.LineItems.{lineOrder}
 
 -- NO LINE.
 pub lines-none : (s d w : List ℕ) (stack base m at free place : ℕ) (global : Bool) → LinesAsk s d w stack base m at free end →
@@ -51,17 +52,13 @@ lines-none s d w stack base m at free place global Q = record {
 
 -- A LINE ALONE, and before the lines ls.
 pub record Before (one whole ls : Lines) : Type 0 where
-  pub own : Scope → Dictionary → Signature → Items
-  pub agree : Scope → Dictionary → Signature → Items
-  pub new : Scope → Dictionary → Signature → Items
-  pub sizes : Scope → Dictionary → Signature → Items
-  pub count : Scope → Dictionary → Signature → Items
+  pub order : Scope → Dictionary → Signature → Order → Order
   pub after : Scope → Signature → Signature
   pub numbers : linesNumbers whole ≡ linesNumbers one ++ linesNumbers ls
   pub limited : (h t : ℕ) → LimitedLines h t whole → LimitedLines h t one × LimitedLines h t ls
-  pub one-items : (Γ : Scope) (G : Dictionary) (r : Signature) → linesItems one Γ G r ≡ lineItems (own Γ G r) (agree Γ G r) (new Γ G r) (sizes Γ G r) (count Γ G r) skip
-  pub whole-items : (Γ : Scope) (G : Dictionary) (r : Signature) →
-      linesItems whole Γ G r ≡ lineItems (own Γ G r) (agree Γ G r) (new Γ G r) (sizes Γ G r) (count Γ G r) (linesItems ls Γ G (after Γ r))
+  pub one-items : (Γ : Scope) (G : Dictionary) (r : Signature) → linesItems one Γ G r ≡ grouped (order Γ G r nothing)
+  pub whole-items : (Γ : Scope) (G : Dictionary) (r : Signature) → linesItems whole Γ G r ≡ grouped (order Γ G r (only (linesItems ls Γ G (after Γ r))))
+  pub in-turn : (Γ : Scope) (G : Dictionary) (r : Signature) (c : Items) → listed (order Γ G r (only c)) ≡ listed (order Γ G r nothing) ++ (c ∷ [])
   pub one-signature : (Γ : Scope) (r : Signature) → linesSignature one Γ r ≡ after Γ r
   pub whole-signature : (Γ : Scope) (r : Signature) → linesSignature whole Γ r ≡ linesSignature ls Γ (after Γ r)
 
@@ -70,35 +67,31 @@ nothing-after [] m = refl
 nothing-after (x ∷ l) m = ap (_∷_ x) (nothing-after l m)
 
 pub decl-before : (n : ℕ) (a : Expr) (is : List ℕ) (ls : Lines) → Before (declaration n a is end) (declaration n a is ls) ls
-unfolding linesItems linesSignature linesNumbers LimitedLines
+unfolding linesItems linesSignature linesNumbers LimitedLines grouped listed
 decl-before n a is ls = record {
-  own = λ Γ G r. piece n (exprItems a Γ ⨾ isPower n 0 a);
-  agree = λ Γ G r. mergeDeclared n is (unknownAt n 0) r;
-  new = λ Γ G r. newNames n is G;
-  sizes = λ Γ G r. small n (unknownAt n 0);
-  count = λ Γ G r. fewNames n (declare is (unknownAt n 0) r);
+  order = λ Γ G r. lineOrder (piece n (exprItems a Γ ⨾ isPower n 0 a)) (mergeDeclared n is (unknownAt n 0) r) (newNames n is G) (small n (unknownAt n 0)) (fewNames n (declare is (unknownAt n 0) r));
   after = λ Γ r. declare is (unknownAt n 0) r;
   numbers = nothing-after (exprNumbers a ++ (n ∷ [])) (linesNumbers ls);
   limited = λ h t L. ((L .0, L .1, L .2, tt), L .3);
   one-items = λ Γ G r. refl;
   whole-items = λ Γ G r. refl;
+  in-turn = λ Γ G r c. refl;
   one-signature = λ Γ r. refl;
   whole-signature = λ Γ r. refl;
 }
 
 pub incl-before : (i : Include) (ls : Lines) → Before (inclusion i end) (inclusion i ls) ls
-unfolding linesItems linesSignature linesNumbers LimitedLines
+unfolding linesItems linesSignature linesNumbers LimitedLines grouped listed
 incl-before i ls = record {
-  own = λ Γ G r. includeItems i Γ;
-  agree = λ Γ G r. mergeNames (includeNode i) (includeSignature i Γ) r;
-  new = λ Γ G r. newNames (includeNode i) (namesOf (includeSignature i Γ)) G;
-  sizes = λ Γ G r. smallTypes (includeNode i) (includeSignature i Γ);
-  count = λ Γ G r. fewNames (includeNode i) (merge (includeSignature i Γ) r);
+  order = λ Γ G r.
+      lineOrder (includeItems i Γ) (mergeNames (includeNode i) (includeSignature i Γ) r) (newNames (includeNode i) (namesOf (includeSignature i Γ)) G)
+      (smallTypes (includeNode i) (includeSignature i Γ)) (fewNames (includeNode i) (merge (includeSignature i Γ) r));
   after = λ Γ r. merge (includeSignature i Γ) r;
   numbers = nothing-after (includeNumbers i) (linesNumbers ls);
   limited = λ h t L. ((L .0, tt), L .1);
   one-items = λ Γ G r. refl;
   whole-items = λ Γ G r. refl;
+  in-turn = λ Γ G r c. refl;
   one-signature = λ Γ r. refl;
   whole-signature = λ Γ r. refl;
 }
@@ -162,8 +155,18 @@ module _ (s d w : List ℕ) (stack base m at free : ℕ) (one whole ls : Lines) 
   }
 
   module _ (global : Bool) (s₁ w₁ : List ℕ) (number place m₁ at₁ : ℕ) (A : LinesDone s s₁ d w w₁ stack base m at free one global number place m₁ at₁) where
+    abbrev alone : Scope → Dictionary → Signature → Order
+    alone Γ G r = X .order Γ G r nothing
+
     abbrev items : Scope → Dictionary → Signature → Items
-    items Γ G r = lineItems (X .own Γ G r) (X .agree Γ G r) (X .new Γ G r) (X .sizes Γ G r) (X .count Γ G r) skip
+    items Γ G r = grouped (alone Γ G r)
+
+    -- the items of the lines after it, and all
+    abbrev rest : Scope → Dictionary → Signature → Items
+    rest Γ G r = linesItems ls Γ G (X .after Γ r)
+
+    abbrev all : Scope → Dictionary → Signature → Order
+    all Γ G r = X .order Γ G r (only (rest Γ G r))
 
     first-fresh : (U : List ℕ) → Fresh (linesNumbers whole) U → Fresh (l ++ k) U
     first-fresh U F = subst (λ z. Fresh z U) (X .numbers) F
@@ -180,7 +183,7 @@ module _ (s d w : List ℕ) (stack base m at free : ℕ) (one whole ls : Lines) 
       stops = λ z H U S Γ D C F r J.
           let G = globalsIf global D in
           subst (λ c. Refuses c (Meets H) number place) (sym (X .whole-items Γ G r))
-          (line-stopped H (X .own Γ G r) (X .agree Γ G r) (X .new Γ G r) (X .sizes Γ G r) (X .count Γ G r) (linesItems ls Γ G (X .after Γ r)) number place
+          (first-refuses (alone Γ G r) (all Γ G r) (rest Γ G r) (X .in-turn Γ G r (rest Γ G r)) H number place
           (subst (λ c. Refuses c (Meets H) number place) (X .one-items Γ G r) (A .stops z H U S Γ D C (fresh-left l k U (first-fresh U F)) r J)));
     }
 
@@ -275,35 +278,36 @@ module _ (s d w : List ℕ) (stack base m at free : ℕ) (one whole ls : Lines) 
         goes = λ e H U S Γ D C F r J.
             let F₁ = first-fresh U F in
             let D₁ = globalsIf global D in
-            let rest = linesItems ls Γ D₁ (X .after Γ r) in
+            let c₁ = rest Γ D₁ r in
+            let turn = X .in-turn Γ D₁ r c₁ in
             let W₁ = W H U S Γ D C F₁ r J in
             let W₂ = B .goes e (H ⨾ items Γ D₁ r) (W₁ .unknowns) (walked₁ H U S Γ D C F₁ r J .steady) Γ D (scoped₁ H U S Γ D C F₁ r J) (fresh₁ H U S Γ D C F₁ r J) (X .after Γ r)
             (signature₁ H U S Γ D C F₁ r J) in
             let M = Owned (l ++ k) in
-            let all = line-then H (X .own Γ D₁ r) (X .agree Γ D₁ r) (X .new Γ D₁ r) (X .sizes Γ D₁ r) (X .count Γ D₁ r) rest U (W₁ .unknowns) (W₂ .unknowns) M
+            let both = then-walked (alone Γ D₁ r) (all Γ D₁ r) c₁ turn H U (W₁ .unknowns) (W₂ .unknowns) M S
             (walked-mine H (items Γ D₁ r) U (W₁ .unknowns) (Owned l) M (owned-left l k) (walked₁ H U S Γ D C F₁ r J))
-            (walked-mine (H ⨾ items Γ D₁ r) rest (W₁ .unknowns) (W₂ .unknowns) (Owned k) M (owned-right l k) (W₂ .walked)) in
+            (walked-mine (H ⨾ items Γ D₁ r) c₁ (W₁ .unknowns) (W₂ .unknowns) (Owned k) M (owned-right l k) (W₂ .walked)) in
             record {
               unknowns = W₂ .unknowns;
               walked =
                   subst (λ z. Walked H z U (W₂ .unknowns) (Owned (linesNumbers whole))) (sym (X .whole-items Γ D₁ r))
-                  (subst (λ z. Walked H (lineItems (X .own Γ D₁ r) (X .agree Γ D₁ r) (X .new Γ D₁ r) (X .sizes Γ D₁ r) (X .count Γ D₁ r) rest) U (W₂ .unknowns) (Owned z)) (sym (X .numbers)) all);
+                  (subst (λ z. Walked H (grouped (all Γ D₁ r)) U (W₂ .unknowns) (Owned z)) (sym (X .numbers)) both);
               signature =
                   subst (λ z. Carries (Placed s₂ d (H ⨾ z) (W₂ .unknowns)) (linesSignature whole Γ r) (rows w₂ base m₂)) (sym (X .whole-items Γ D₁ r))
-                  (subst (λ z. Carries (Placed s₂ d (H ⨾ lineItems (X .own Γ D₁ r) (X .agree Γ D₁ r) (X .new Γ D₁ r) (X .sizes Γ D₁ r) (X .count Γ D₁ r) rest) (W₂ .unknowns)) z (rows w₂ base m₂))
+                  (subst (λ z. Carries (Placed s₂ d (H ⨾ grouped (all Γ D₁ r)) (W₂ .unknowns)) z (rows w₂ base m₂))
                   (sym (X .whole-signature Γ r))
-                  (carries-later s₂ d ((H ⨾ items Γ D₁ r) ⨾ rest) (H ⨾ lineItems (X .own Γ D₁ r) (X .agree Γ D₁ r) (X .new Γ D₁ r) (X .sizes Γ D₁ r) (X .count Γ D₁ r) rest)
+                  (carries-later s₂ d ((H ⨾ items Γ D₁ r) ⨾ c₁) (H ⨾ grouped (all Γ D₁ r))
                   (W₂ .unknowns) (W₂ .unknowns) (λ x i. i)
-                  (λ τ h. whole-line H (X .own Γ D₁ r) (X .agree Γ D₁ r) (X .new Γ D₁ r) (X .sizes Γ D₁ r) (X .count Γ D₁ r) rest τ .1 h)
+                  (λ τ h. then-tables (alone Γ D₁ r) (all Γ D₁ r) c₁ turn H τ .1 h)
                   (linesSignature ls Γ (X .after Γ r)) (rows w₂ base m₂) (W₂ .signature)));
             };
         stops = λ e H U S Γ D C F r J.
             let F₁ = first-fresh U F in
             let D₁ = globalsIf global D in
-            let rest = linesItems ls Γ D₁ (X .after Γ r) in
+            let c₁ = rest Γ D₁ r in
             let W₁ = W H U S Γ D C F₁ r J in
             subst (λ z. Refuses z (Meets H) number′ place′) (sym (X .whole-items Γ D₁ r))
-            (line-then-stopped H (X .own Γ D₁ r) (X .agree Γ D₁ r) (X .new Γ D₁ r) (X .sizes Γ D₁ r) (X .count Γ D₁ r) rest number′ place′ (walked₁ H U S Γ D C F₁ r J .goes)
+            (then-refuses (alone Γ D₁ r) (all Γ D₁ r) c₁ (X .in-turn Γ D₁ r c₁) H number′ place′ (walked₁ H U S Γ D C F₁ r J .goes)
             (B .stops e (H ⨾ items Γ D₁ r) (W₁ .unknowns) (walked₁ H U S Γ D C F₁ r J .steady) Γ D (scoped₁ H U S Γ D C F₁ r J) (fresh₁ H U S Γ D C F₁ r J) (X .after Γ r)
             (signature₁ H U S Γ D C F₁ r J)));
       }
