@@ -58,6 +58,7 @@ use Rattle.checker_contracts.proofs.Elements.{element-sizing, element-d
 use Rattle.checker_contracts.proofs.ItemOrder.{Order, nothing, grouped, listed, after, AllPass, AllWalked, refuses-at, all-walked}
 use Rattle.checker_contracts.proofs.LineItems.{lineOrder}
 use Rattle.checker_contracts.proofs.Counting.{declare-grows, declare-same, declare-kept, few-noted, few-refused}
+use Rattle.checker_contracts.proofs.Refused.{done-refused}
 
 -- Words stored and wiped.
 pub stored-wiped : (s s′ : List ℕ) (at e : ℕ) → length s ≡ 52224 → Clean s at → 1 ≤ at → e < 39936 → Stored s s′ at e → Stored s (sets s′ at (replicate (e - at) 0)) at at
@@ -155,15 +156,7 @@ module _ (s d w : List ℕ) (stack base m at free n : ℕ) (a : Expr) (is : List
   refuses : (s′ w′ : List ℕ) (number place m′ at′ : ℕ) → Spared w w′ stack base → (number ≡ 0 → ⊥) → Refused number place →
       LinesDone s s′ d w w′ stack base m at free line global number place m′ at′
   unfolding linesItems grouped
-  refuses s′ w′ number place m′ at′ P e R = record {
-    spared = P;
-    stored = λ z. absurd (e z);
-    more = λ z. absurd (e z);
-    short = λ z. absurd (e z);
-    few = λ z. absurd (e z);
-    goes = λ z. absurd (e z);
-    stops = λ z H U S Γ D C F r J. R Γ D H U S C (decl-new U F) r J;
-  }
+  refuses s′ w′ number place m′ at′ P e R = record { done = done-refused P e (λ H U S Γ D C r I. let F = I .0 in let J = I .1 in R Γ D H U S C (decl-new U F) r J) }
 
   module _ (s₁ w₁ : List ℕ) (number place cell c₁ top₁ at₁ : ℕ) (A : ExprDone s s₁ d w w₁ stack 0 4096 at free a number place cell c₁ top₁ at₁) where
     spared₁ : Spared w w₁ stack base
@@ -464,49 +457,57 @@ module _ (s d w : List ℕ) (stack base m at free n : ℕ) (a : Expr) (is : List
                       pub decl-done : (place′ : ℕ) → count ≤ 16 → (count ≡ m → ⊥) → LinesDone s s₄ d w w₃ stack base m at free line global 0 place′ count e
                       unfolding linesItems linesSignature Meets grouped
                       decl-done place′ q ne = record {
-                        spared = spared₃;
-                        stored = λ z. stored₄;
-                        more = λ z. grows;
-                        short = λ z. let x = grows in let y : 1 ≤ count - m = omega arith in omega arith;
-                        few = λ z. q;
-                        goes = λ z H U S Γ D C G r J.
-                            let F = decl-new U G in
-                            record {
-                              unknowns = E Γ D H U S C F r J .unknowns;
-                              walked = went Γ D H U S C F r J q;
-                              signature =
-                                  subst (Carries (Placed s₄ d (H ⨾ declItems Γ (globalsIf global D) r) (E Γ D H U S C F r J .unknowns)) (declare is t r)) (sym rows₃)
-                                  (carries-later s₄ d (H₁ Γ D H U S C F r J) (H ⨾ declItems Γ (globalsIf global D) r) (E Γ D H U S C F r J .unknowns) (E Γ D H U S C F r J .unknowns)
-                                  (λ y i. i) (λ τ h. (h .0, h .1 .0)) (declare is t r) (declareRows is at (rows w₂ base m)) (declared Γ D H U S C F r J));
-                            };
-                        stops = λ z. absurd (z refl);
+                        done = record {
+                          still = spared₃;
+                          areas = λ z. record {
+                            stored = stored₄;
+                            more = grows;
+                            short = let x = grows in let y : 1 ≤ count - m = omega arith in omega arith;
+                            few = q;
+                          };
+                          goes = λ z H U S Γ D C r I. let G = I .0 in let J = I .1 in
+                              let F = decl-new U G in
+                              record {
+                                unknowns = E Γ D H U S C F r J .unknowns;
+                                walked = went Γ D H U S C F r J q;
+                                signature =
+                                    subst (Carries (Placed s₄ d (H ⨾ declItems Γ (globalsIf global D) r) (E Γ D H U S C F r J .unknowns)) (declare is t r)) (sym rows₃)
+                                    (carries-later s₄ d (H₁ Γ D H U S C F r J) (H ⨾ declItems Γ (globalsIf global D) r) (E Γ D H U S C F r J .unknowns) (E Γ D H U S C F r J .unknowns)
+                                    (λ y i. i) (λ τ h. (h .0, h .1 .0)) (declare is t r) (declareRows is at (rows w₂ base m)) (declared Γ D H U S C F r J));
+                              };
+                          stops = λ z. absurd (z refl);
+                        };
                       }
 
                       -- NONE IS NEW: the type is not kept.
                       pub decl-kept : (place′ : ℕ) (s₅ : List ℕ) → m ≤ 16 → count ≡ m → s₅ ≡ sets s₄ at (replicate (e - at) 0) → LinesDone s s₅ d w w₃ stack base m at free line global 0 place′ m at
                       unfolding linesItems linesSignature Meets grouped
                       decl-kept place′ s₅ q same wiped = record {
-                        spared = spared₃;
-                        stored = λ z. stored₅;
-                        more = λ z. omega arith;
-                        short = λ z. omega arith;
-                        few = λ z. q;
-                        goes = λ z H U S Γ D C G r J.
-                            let F = decl-new U G in
-                            let N = names Γ D H U S C F r J in
-                            let I = carries-count (Placed s₄ d (H₁ Γ D H U S C F r J) (E Γ D H U S C F r J .unknowns)) r (rows w₂ base m) (J₁ Γ D H U S C F r J) in
-                            let rl = rows-length w₂ base m in
-                            record {
-                              unknowns = E Γ D H U S C F r J .unknowns;
-                              walked = went Γ D H U S C F r J (omega arith);
-                              signature =
-                                  subst (λ z. Carries (Placed s₅ d (H ⨾ declItems Γ (globalsIf global D) r) (E Γ D H U S C F r J .unknowns)) z (rows w₃ base m))
-                                  (sym (declare-kept is t r (omega arith)))
-                                  (subst (Carries (Placed s₅ d (H ⨾ declItems Γ (globalsIf global D) r) (E Γ D H U S C F r J .unknowns)) r) (sym rows-same)
-                                  (carries-later s₅ d H (H ⨾ declItems Γ (globalsIf global D) r) U (E Γ D H U S C F r J .unknowns) (E Γ D H U S C F r J .walked .wider) (λ τ h. h .0) r (rows w base m)
-                                  (carries-stored s s₅ d at at (K .size) (K .clean) (K .room .some) (decl-low .0) stored₅ H U r (rows w base m) J)));
-                            };
-                        stops = λ z. absurd (z refl);
+                        done = record {
+                          still = spared₃;
+                          areas = λ z. record {
+                            stored = stored₅;
+                            more = omega arith;
+                            short = omega arith;
+                            few = q;
+                          };
+                          goes = λ z H U S Γ D C r I. let G = I .0 in let J = I .1 in
+                              let F = decl-new U G in
+                              let N = names Γ D H U S C F r J in
+                              let I = carries-count (Placed s₄ d (H₁ Γ D H U S C F r J) (E Γ D H U S C F r J .unknowns)) r (rows w₂ base m) (J₁ Γ D H U S C F r J) in
+                              let rl = rows-length w₂ base m in
+                              record {
+                                unknowns = E Γ D H U S C F r J .unknowns;
+                                walked = went Γ D H U S C F r J (omega arith);
+                                signature =
+                                    subst (λ z. Carries (Placed s₅ d (H ⨾ declItems Γ (globalsIf global D) r) (E Γ D H U S C F r J .unknowns)) z (rows w₃ base m))
+                                    (sym (declare-kept is t r (omega arith)))
+                                    (subst (Carries (Placed s₅ d (H ⨾ declItems Γ (globalsIf global D) r) (E Γ D H U S C F r J .unknowns)) r) (sym rows-same)
+                                    (carries-later s₅ d H (H ⨾ declItems Γ (globalsIf global D) r) U (E Γ D H U S C F r J .unknowns) (E Γ D H U S C F r J .walked .wider) (λ τ h. h .0) r (rows w base m)
+                                    (carries-stored s s₅ d at at (K .size) (K .clean) (K .room .some) (decl-low .0) stored₅ H U r (rows w base m) J)));
+                              };
+                          stops = λ z. absurd (z refl);
+                        };
                       }
                         where
                           rows-same : rows w₃ base m ≡ rows w base m

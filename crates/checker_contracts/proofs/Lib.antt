@@ -26,6 +26,7 @@ pub mod Carrying
 pub mod ActualTypes
 pub mod Including
 pub mod Elements
+pub mod Refused
 pub mod ItemOrder
 pub mod LineItems
 pub mod SchemaKinds
