@@ -1,10 +1,11 @@
 #!/usr/bin/env python3
 """The places before each need of a function, nearest first, with the number of `.before` that leads to each.
 
-    tools/paths.py CRATE FUNCTION [NEED..] [--kept]       as: tools/paths.py checker_nodes apply returns-2
+    tools/paths.py CRATE FUNCTION [NEED..] [--all] [--kept]       as: tools/paths.py checker_nodes apply returns-2
 
 `3:loop(u,i,inv)` is `c .before .before .before .loop`, with the fields u, i and inv; setp.py writes it `c ^3 .loop`. The last place is the
-function's entry, with `.args` and `.pre`. --kept takes the modules that the last call wrote.
+function's entry, with `.args` and `.pre`. Places that answers seldom name (`slice-known`, `expr-arg`, ..) are counted and, without --all, not
+shown. --kept takes the modules that the last call wrote.
 """
 import re
 import sys
@@ -13,6 +14,7 @@ import proofs
 
 OWN = re.compile(r"pub record (\S+)·own\b[^\n]*\n((?: +pub [^\n]*\n(?: {12,}[^\n]*\n)*)*)")
 PLACE = re.compile(r"pub record (\S+) : Type 0 where\n\s+pub before : (\S+)[^\n]*\n\s+pub (\S+) : ")
+SELDOM = re.compile(r"(?:(?:shared-)?slice|struct|row)-known\d*|\S+-arg\d*")
 NEED = re.compile(r"(Need-\S+) =\n?\s*\(c : (\S+?)\)")
 
 
@@ -24,7 +26,7 @@ def modules(folder, crate, function):
             if p.parent == base / function or p.parent.name == last or p.stem in (f"Lts-{last}", f"Lts-{last.replace('_', '-')}")]
 
 
-def chains(text, wanted):
+def chains(text, wanted, everything):
     own = {m.group(1): re.findall(r"pub (\S+) :", m.group(2)) for m in OWN.finditer(text)}
     own.update((name, ["result", "ensures", "last", "kept"]) for name in re.findall(r"(\S+)·own =\s+Called\.", text))
     place = {m.group(1): (m.group(2), m.group(3)) for m in PLACE.finditer(text)}
@@ -34,14 +36,15 @@ def chains(text, wanted):
             continue
         while record in place:
             before, thing = place[record]
-            out.append(f"{depth}:{thing}({','.join(own.get(record, []))})")
+            if everything or not SELDOM.fullmatch(thing):
+                out.append(f"{depth}:{thing}({','.join(own.get(record, []))})")
             record, depth = before, depth + 1
         out.append(f"{depth}:{record}(args,pre,..)")
         print(need, "  ", "  ".join(out))
 
 
 proofs.usage(__doc__)
-words = [w for w in sys.argv[1:] if w != "--kept"]
+words = [w for w in sys.argv[1:] if w not in ("--all", "--kept")]
 if len(words) < 2:
     proofs.fail("CRATE FUNCTION [NEED..]")
 crate, function, needs = words[0], words[1], words[2:]
@@ -51,4 +54,4 @@ if not found:
     proofs.fail(f"{function} has no module Lts in {folder}")
 for path in found:
     print("==", path.relative_to(folder / f"Rattle.{crate}.proofs" / "proofs").parent.as_posix()[:80], path.name)
-    chains(path.read_text(), needs)
+    chains(path.read_text(), needs, "--all" in sys.argv)
