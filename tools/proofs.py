@@ -81,3 +81,32 @@ def proof_file(crate, function):
     if len(found) != 1:
         fail(f"{len(found)} proof files of {function} in {crate}" + "".join(f"\n  {p.relative_to(base)}" for p in found))
     return found[0]
+
+
+def derivations(folder, crate, function):
+    """The generated modules `Lts` of a function, or of it as a member of a cycle."""
+    base = folder / f"Rattle.{crate}.proofs" / "proofs"
+    last = Path(function).name
+    return [p for p in sorted(base.rglob("Lts*.antt"))
+            if p.parent == base / function or p.parent.name == last or p.stem in (f"Lts-{last}", f"Lts-{last.replace('_', '-')}")]
+
+
+OWN = re.compile(r"pub record (\S+)·own\b[^\n]*\n((?: +pub [^\n]*\n(?: {12,}[^\n]*\n)*)*)")
+PLACE = re.compile(r"pub record (\S+) : Type 0 where\n\s+pub before : (\S+)[^\n]*\n\s+pub (\S+) : ")
+NEED = re.compile(r"Need-(\S+) =\n?\s*\(c : (\S+?)\)")
+
+
+def needs(text):
+    """The needs of a module `Lts` in order, each with the places before it, nearest first: thing and fields. The last is the entry, `Start`."""
+    own = {m.group(1): re.findall(r"pub (\S+) :", m.group(2)) for m in OWN.finditer(text)}
+    own.update((name, ["result", "ensures", "last", "kept"]) for name in re.findall(r"(\S+)·own =\s+Called\.", text))
+    place = {m.group(1): (m.group(2), m.group(3)) for m in PLACE.finditer(text)}
+    found = {}
+    for m in NEED.finditer(text):
+        record, chain = m.group(2).rstrip(")"), []
+        while record in place:
+            before, thing = place[record]
+            chain.append((thing, own.get(record, [])))
+            record = before
+        found[m.group(1)] = chain + [(record, ["args", "pre", ".."])]
+    return found
