@@ -24,19 +24,19 @@ module _ {d : List ℕ} {id name e : ℕ} (F : Newest d id e) (is : id ≡ name)
     schema-miscounted ne = miscounted refl e newest some (λ z. ne (counts ∙ z ∙ sym asks))
 
     pub schema-there : v ≡ u → {at : ℕ} → at ≡ typeAt d e → at < 2 ^ 33 → SchemaLooked d name q 0 at
-    schema-there same = there refl e newest some (sym counts ∙ same ∙ asks)
+    schema-there same is-at near = there refl (record { entry = e; newest = newest; some = some; count = sym counts ∙ same ∙ asks; at-is = is-at; near = near })
 
 -- 37.
 module _ {w w′ : List ℕ} (p : List ℕ) {free m stroke q count : ℕ} {b : Bool} (B : Brings w w′ (free + 32) m free stroke (renames p (q + 4)) b count) (stroked : stroke ≡ getD p 2 0)
-    (counted : q ≡ getD p 3 0) where
+    (counted : q ≡ getD p 3 0) (size : length w′ ≡ length w) where
   brings : {b′ : Bool} → b ≡ b′ → Brings w w′ (free + 32) m free (getD p 2 0) (renames p (getD p 3 0 + 4)) b′ count
   brings {b′} e =
       subst (λ z. Brings w w′ (free + 32) m free z (renames p (getD p 3 0 + 4)) b′ count) stroked
       (subst (λ z. Brings w w′ (free + 32) m free stroke (renames p (z + 4)) b′ count) counted (subst (λ z. Brings w w′ (free + 32) m free stroke (renames p (q + 4)) z count) e B))
 
   pub renamed-wrong : {k end : ℕ} {r : Lined} → b ≡ true → LinedAt r 37 k 0 0 → RowsRenamed w w′ free m p k end (r .number) (r .place) (r .count) (r .at)
-  renamed-wrong e L = wrong (L .number-is) (L .place-is) count (brings e)
+  renamed-wrong e L = wrong (L .number-is) (L .place-is) (L .count-is) (L .at-is) size count (brings e)
 
   pub renamed-right : {k end : ℕ} {r : Lined} → b ≡ false → LinedAt r 0 k count end → RowsRenamed w w′ free m p k end (r .number) (r .place) (r .count) (r .at)
   renamed-right e L =
-      right (L .number-is) (L .place-is) (L .at-is) (subst (Brings w w′ (free + 32) m free (getD p 2 0) (renames p (getD p 3 0 + 4)) false) (sym (L .count-is)) (brings e))
+      right (L .number-is) (L .place-is) (L .at-is) size (subst (Brings w w′ (free + 32) m free (getD p 2 0) (renames p (getD p 3 0 + 4)) false) (sym (L .count-is)) (brings e))
