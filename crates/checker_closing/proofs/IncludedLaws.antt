@@ -2,15 +2,15 @@
 use mathlib.Core.Path.{_≡_, refl, sym, ap, subst, _∙_}
 use mathlib.Core.Bool.{Bool, true, false}
 use mathlib.Core.List.{List}
-use Prim.Native.Nat.{ℕ, _+_, _≤_, _<_, _^_}
+use Prim.Native.Nat.{ℕ, _+_, _≤_, _<_}
 use native.Mathlib.Omega.{arith}
-use lib.ListN.{length, take, drop}
+use lib.ListN.{take, drop}
 use Rattle.checker_signatures.specs.Rows.{rows, identifiersOf, mergeRows}
 use Rattle.checker_signatures.specs.Tables.{Table}
 use Rattle.checker_includes.specs.Filling.{AgreeTold, SmallTold}
 use Rattle.checker_includes.specs.Storing.{KeepAsk, RowsKept}
-use Rattle.checker_closing.specs.Included.{RowsFine, RowsFound, clash, known, large, none, many, few, RowsUnited, LineAsk, RowsLined, refused, united, IncludedTold, unvisited, lined}
-use Rattle.checker_closing.specs.Included.{ShowAsk, RowsShown, oversized, kept, BroughtTold, unbrought, shown}
+use Rattle.checker_closing.specs.Included.{RowsFine, RowsFound, clash, known, large, none, many, few, RowsUnited, LineAsk, RowsLined, refused, IncludedTold, lined}
+use Rattle.checker_closing.specs.Included.{ShowAsk, RowsShown, oversized, kept, BroughtTold, shown}
 use Rattle.checker_closing.specs.Leaves.{NewIfTold}
 use Rattle.checker_closing.specs.Nodes.{LinedAt}
 use Rattle.checker_closing.specs.declared.results.Lined.{Lined}

@@ -1,8 +1,8 @@
 -- An Include's schema, from what the functions on the dictionary and on rows tell.
-use mathlib.Core.Path.{_≡_, refl, sym, ap, subst, _∙_}
+use mathlib.Core.Path.{_≡_, refl, sym, subst, _∙_}
 use mathlib.Core.Bool.{Bool, true, false}
 use mathlib.Core.List.{List}
-use Prim.Native.Nat.{ℕ, _+_, _≤_, _<_, _^_}
+use Prim.Native.Nat.{ℕ, _+_, _<_, _^_}
 use lib.ListN.{length, getD}
 use Rattle.checker_dictionary.specs.Lookup.{parametersAt, typeAt}
 use Rattle.checker_signatures.specs.Rows.{renames}

@@ -10,8 +10,8 @@ use checker_signatures::tables::HALF;
 use codes::findings;
 use types_cells::area::DICTIONARY;
 use words::word;
-ghost use Prim.Native.Nat.{_+_, _≤_, _<_, _^_};
-ghost use lib.ListN.{length, getD};
+ghost use Prim.Native.Nat.{_+_, _<_, _^_};
+ghost use lib.ListN.{getD};
 ghost use Rattle.checker_closing.specs.Schemas.{SchemaLooked, RenameAsk, RowsRenamed, NamedAsk, NamedTold};
 
 // The words of an Include before its actuals.

@@ -3,17 +3,16 @@ use mathlib.Core.Path.{_≡_, refl, sym, subst}
 use mathlib.Core.List.{List}
 use Prim.Native.Nat.{ℕ, _+_, _-_, _≤_, _<_, _^_}
 use native.Mathlib.Omega.{arith}
-use lib.ListN.{length, getD}
+use lib.ListN.{getD}
 use Rattle.reader_rules.specs.Decode.{includeAt, exprsFrom}
 use Rattle.reader_rules.specs.Kinds.{includes, expressions}
 use Rattle.reader_rules.specs.Promise.{Lower}
 use Rattle.reader_rules.specs.Tree.{Include}
-use Rattle.checker_dictionary.specs.Lookup.{parametersAt}
 use Rattle.checker_contracts.specs.Includes.{IncludeAsk, IncludeDone, ActualsAsk, ActualsDone}
 use Rattle.checker_contracts.proofs.IncludeNodes.{node-include-few, node-include-stroke, node-include-first, node-include-lower, node-include-absent, node-include-count, node-include-actuals}
 use Rattle.checker_contracts.proofs.IncludeNodes.{node-include-refused, node-include-components, node-include-bring, node-include-wrong, node-include-done}
 use Rattle.checker_closing.specs.Nodes.{Node, LinedAt}
-use Rattle.checker_closing.specs.Schemas.{SchemaThere, SchemaLooked, absent, miscounted, there, RowsRenamed, wrong, right, NamedAsk, NamedTold, refused, components}
+use Rattle.checker_closing.specs.Schemas.{SchemaThere, SchemaLooked, absent, miscounted, there, wrong, right, NamedAsk, NamedTold, refused, components}
 use Rattle.checker_closing.specs.declared.results.Lined.{Lined}
 
 -- The promise in the words of the result.
