@@ -1,1 +1,3 @@
 pub mod LeafLaws
+pub mod IncludedLaws
+pub mod SchemaLaws

@@ -1,2 +1,4 @@
 pub mod Nodes
 pub mod Leaves
+pub mod Included
+pub mod Schemas

@@ -1,85 +1,70 @@
 -- An Include as a schema expression, by the words of its node.
-use mathlib.Core.Path.{_≡_, refl, sym, ap, subst, _∙_}
-use mathlib.Core.Bool.{Bool, true, false}
+use mathlib.Core.Path.{_≡_, sym, ap, subst, _∙_}
+use mathlib.Core.Bool.{Bool}
 use mathlib.Core.List.{List}
-use Prim.Native.Nat.{ℕ, _+_, _-_, _≤_}
+use Prim.Native.Nat.{ℕ, _+_, _≤_, _<_, _^_}
 use native.Mathlib.Omega.{arith}
-use lib.ListN.{length, getD, take, drop}
+use lib.ListN.{getD, take, drop}
 use Rattle.layout.specs.Layout.{part}
-use Rattle.reader_rules.specs.Decode.{includeAt, exprsFrom}
+use Rattle.reader_rules.specs.Decode.{includeAt}
 use Rattle.reader_rules.specs.Kinds.{includes}
 use Rattle.reader_rules.specs.Promise.{At}
-use Rattle.reader_rules.specs.Tree.{Include}
 use Rattle.checker_includes.specs.Filling.{RowsAsk, SmallTold}
 use Rattle.checker_includes.specs.Storing.{KeepAsk, RowsKept}
-use Rattle.checker_contracts.specs.Includes.{actualCount, BringsAsk, BringsDone, IncludeDone, ActualsAsk, ActualsDone}
-use Rattle.checker_contracts.proofs.Bringing.{brings-large, brings-keep, brings-done}
+use Rattle.checker_contracts.specs.Includes.{actualCount, BringsAsk, BringsDone, IncludeDone}
+use Rattle.checker_contracts.proofs.Bringing.{brings-refused, brings-large, brings-keep, brings-done}
 use Rattle.checker_contracts.proofs.Brought.{brought-ask}
 use Rattle.checker_contracts.proofs.IncludeNodes.{included-node, included-count}
-use Rattle.checker_closing.specs.Nodes.{LinedAt}
-use Rattle.checker_closing.specs.declared.results.Lined.{Lined}
+use Rattle.checker_closing.specs.Included.{RowsShown, oversized, kept, BroughtAsk, BroughtTold, unbrought, shown}
 
-few-actuals : (doc : List ℕ) (k : ℕ) → At doc includes k → actualCount (includeAt doc k) ≤ 4
-few-actuals doc k N = let z = included-count doc k N in let x = z .0 in let y = z .1 in omega arith
+module _ {doc p s d w places s₁ w₁ places₁ : List ℕ} {stack at free k number place m at₁ : ℕ} (N : At doc includes k) (words : p ≡ part doc k) (A : BringsAsk s d w stack at free (includeAt doc k))
+    (I : IncludeDone s s₁ d w w₁ stack at free (includeAt doc k) places places₁ number place m at₁) where
+  -- the places of its actuals' types
+  abbrev row : List ℕ
+  row = take (getD p 3 0) (drop 0 places₁)
 
-module _ {doc : List ℕ} {k : ℕ} (N : At doc includes k) where
-  -- the actuals' places are the words that a span names
-  pub row-is : {p row : List ℕ} (places : List ℕ) {q : ℕ} → p ≡ part doc k → q ≡ getD p 3 0 → row ≡ take q (drop 0 places) → row ≡ take (actualCount (includeAt doc k)) places
-  row-is places e f g = g ∙ ap (λ z. take z places) (f ∙ ap (λ z. getD z 3 0) e ∙ sym (included-count doc k N .0))
+  few-actuals : actualCount (includeAt doc k) ≤ 4
+  few-actuals = let z = included-count doc k N in let x = z .0 in let y = z .1 in omega arith
 
--- All actuals of an Include: those from number 0 on.
-pub all-ask : (doc : List ℕ) (q : ℕ) {s d w places : List ℕ} {stack at free k : ℕ} → ActualsAsk s d w stack at free k 0 (exprsFrom doc k 4 q) places →
-    ActualsAsk s d w stack at free k 0 (exprsFrom doc k (0 + 4) (q - 0)) places
-all-ask doc q {s} {d} {w} {places} {stack} {at} {free} {k} A =
-    let e : q ≡ q - 0 = omega arith in subst (λ z. ActualsAsk s d w stack at free k 0 (exprsFrom doc k 4 z) places) e A
+  row-is : row ≡ take (actualCount (includeAt doc k)) places₁
+  row-is = ap (λ z. take z places₁) (ap (λ (l : List ℕ). getD l 3 0) words ∙ sym (included-count doc k N .0))
 
-pub all-done : (doc : List ℕ) (q : ℕ) {s s₁ d w w₁ places places₁ : List ℕ} {stack at free k number place at₁ : ℕ} →
-    ActualsDone s s₁ d w w₁ stack at free k 0 (exprsFrom doc k (0 + 4) (q - 0)) places places₁ number place at₁ →
-    ActualsDone s s₁ d w w₁ stack at free k 0 (exprsFrom doc k 4 q) places places₁ number place at₁
-all-done doc q {s} {s₁} {d} {w} {w₁} {places} {places₁} {stack} {at} {free} {k} {number} {place} {at₁} A =
-    let e : q - 0 ≡ q = omega arith in subst (λ z. ActualsDone s s₁ d w w₁ stack at free k 0 (exprsFrom doc k 4 z) places places₁ number place at₁) e A
+  sized : {b : Bool} → SmallTold s₁ d w₁ free m row b → SmallTold s₁ d w₁ free m (take (actualCount (includeAt doc k)) places₁) b
+  sized {b} = subst (λ l. SmallTold s₁ d w₁ free m l b) row-is
 
--- The promises in the words of the result.
-pub include-told : {s s′ d w w′ places places′ : List ℕ} {stack at free number place count end′ : ℕ} {i : Include} {r : Lined} → LinedAt r number place count end′ →
-    IncludeDone s s′ d w w′ stack at free i places places′ number place count end′ → IncludeDone s s′ d w w′ stack at free i places places′ (r .number) (r .place) (r .count) (r .at)
-include-told {s} {s′} {d} {w} {w′} {places} {places′} {stack} {at} {free} {number} {place} {count} {end′} {i} {r} L T =
-    subst (λ z. IncludeDone s s′ d w w′ stack at free i places places′ z (r .place) (r .count) (r .at)) (sym (L .number-is))
-    (subst (λ z. IncludeDone s s′ d w w′ stack at free i places places′ number z (r .count) (r .at)) (sym (L .place-is))
-    (subst (λ z. IncludeDone s s′ d w w′ stack at free i places places′ number place z (r .at)) (sym (L .count-is))
-    (subst (λ z. IncludeDone s s′ d w w′ stack at free i places places′ number place count z) (sym (L .at-is)) T)))
+  abbrev Done : List ℕ → List ℕ → ℕ → ℕ → ℕ → ℕ → Type 0
+  Done s′ w′ f x c e = BringsDone s s′ d w w′ stack at free (includeAt doc k) f x c e
 
-brings-told : {s s′ d w w′ : List ℕ} {stack at free number place count end′ : ℕ} {i : Include} {r : Lined} → LinedAt r number place count end′ →
-    BringsDone s s′ d w w′ stack at free i number place count end′ → BringsDone s s′ d w w′ stack at free i (r .number) (r .place) (r .count) (r .at)
-brings-told {s} {s′} {d} {w} {w′} {stack} {at} {free} {number} {place} {count} {end′} {i} {r} L T =
-    subst (λ z. BringsDone s s′ d w w′ stack at free i z (r .place) (r .count) (r .at)) (sym (L .number-is))
-    (subst (λ z. BringsDone s s′ d w w′ stack at free i number z (r .count) (r .at)) (sym (L .place-is))
-    (subst (λ z. BringsDone s s′ d w w′ stack at free i number place z (r .at)) (sym (L .count-is))
-    (subst (λ z. BringsDone s s′ d w w′ stack at free i number place count z) (sym (L .at-is)) T)))
+  pub node-brings-brought : (k < 2 ^ 32) × (free < 2 ^ 32) × BroughtAsk s₁ d w₁ at free (take (getD p 3 0) (drop 0 places₁)) number m at₁
+  node-brings-brought =
+      let z = N .small in
+      let y = A .walking .room .frames in (
+        omega arith,
+        omega arith,
+        record {
+          rows = λ fine. record {
+            rows = subst (RowsAsk s₁ d w₁ free m) (sym row-is) (brought-ask s s₁ d w w₁ stack at free (A .height) (includeAt doc k) places places₁ number place m at₁ (A .walking) I fine);
+            keep = λ S.
+                subst (λ l. KeepAsk s₁ d w₁ free 0 free m l at at₁ (free + 64)) (sym row-is)
+                (brings-keep s d w stack at free (includeAt doc k) A places s₁ w₁ places₁ number place m at₁ I fine (sized S) few-actuals);
+          };
+        },
+      )
 
-module _ {doc s d w places s₁ w₁ places₁ row : List ℕ} {stack at free k number place m at₁ : ℕ} (N : At doc includes k) (A : BringsAsk s d w stack at free (includeAt doc k))
-    (I : IncludeDone s s₁ d w w₁ stack at free (includeAt doc k) places places₁ number place m at₁) (fine : number ≡ 0) (R : row ≡ take (actualCount (includeAt doc k)) places₁) where
-  pub node-brings-rows : RowsAsk s₁ d w₁ free m row
-  node-brings-rows = subst (RowsAsk s₁ d w₁ free m) (sym R) (brought-ask s s₁ d w w₁ stack at free (A .height) (includeAt doc k) places places₁ number place m at₁ (A .walking) I fine)
+  rows-shown : number ≡ 0 → {s₂ w₂ : List ℕ} {f x c e : ℕ} → RowsShown s₁ s₂ d w₁ w₂ free m row at at₁ (free + 64) k f x c e → Done s₂ w₂ f x c e
+  rows-shown fine {s₂} {w₂} {f} {x} {c} {e} (oversized y z S h j) =
+      subst (λ l. Done l w₂ f x c e) (sym h) (subst (λ l. Done s₁ l f x c e) (sym j)
+      (subst (λ l. Done s₁ w₁ l x c e) (sym y) (subst (λ l. Done s₁ w₁ 38 l c e) (included-node doc k N ∙ sym z)
+      (brings-large s d w stack at free (includeAt doc k) A places s₁ w₁ places₁ number place m at₁ I fine (sized S) c e))))
+  rows-shown fine {s₂} {w₂} {f} {x} {c} {e} (kept y z n S E) =
+      subst (λ l. Done s₂ w₂ l x c e) (sym y) (subst (λ l. Done s₂ w₂ 0 x l e) (sym n)
+      (brings-done s d w stack at free (includeAt doc k) A places s₁ w₁ places₁ number place m at₁ I fine (sized S) few-actuals s₂ w₂ e
+      (subst (λ l. RowsKept s₁ s₂ d w₁ w₂ free 0 free m l at at₁ (free + 64) e) row-is E) x))
 
-  pub node-brings-large : {b : Bool} → SmallTold s₁ d w₁ free m row b → b ≡ false → {r : Lined} → LinedAt r 38 k 0 0 →
-      BringsDone s s₁ d w w₁ stack at free (includeAt doc k) (r .number) (r .place) (r .count) (r .at)
-  node-brings-large T e L =
-      brings-told L (subst (λ z. BringsDone s s₁ d w w₁ stack at free (includeAt doc k) 38 z 0 0) (included-node doc k N)
-      (brings-large s d w stack at free (includeAt doc k) A places s₁ w₁ places₁ number place m at₁ I fine
-      (subst (λ z. SmallTold s₁ d w₁ free m z false) R (subst (SmallTold s₁ d w₁ free m row) e T)) 0 0))
-
-  module _ {b : Bool} (T : SmallTold s₁ d w₁ free m row b) (e : b ≡ true) where
-    told : SmallTold s₁ d w₁ free m (take (actualCount (includeAt doc k)) places₁) true
-    told = subst (λ z. SmallTold s₁ d w₁ free m z true) R (subst (SmallTold s₁ d w₁ free m row) e T)
-
-    pub node-brings-keep : KeepAsk s₁ d w₁ free 0 free m row at at₁ (free + 64)
-    node-brings-keep =
-        subst (λ z. KeepAsk s₁ d w₁ free 0 free m z at at₁ (free + 64)) (sym R)
-        (brings-keep s d w stack at free (includeAt doc k) A places s₁ w₁ places₁ number place m at₁ I fine told (few-actuals doc k N))
-
-    pub node-brings-done : {s₂ w₂ : List ℕ} {at₂ : ℕ} → RowsKept s₁ s₂ d w₁ w₂ free 0 free m row at at₁ (free + 64) at₂ → {r : Lined} → LinedAt r 0 k m at₂ →
-        BringsDone s s₂ d w w₂ stack at free (includeAt doc k) (r .number) (r .place) (r .count) (r .at)
-    node-brings-done {s₂} {w₂} {at₂} E L =
-        brings-told L
-        (brings-done s d w stack at free (includeAt doc k) A places s₁ w₁ places₁ number place m at₁ I fine told (few-actuals doc k N) s₂ w₂ at₂
-        (subst (λ z. RowsKept s₁ s₂ d w₁ w₂ free 0 free m z at at₁ (free + 64) at₂) R E) k)
+  pub node-brings-told : {s₂ w₂ : List ℕ} {f x c e : ℕ} → BroughtTold s₁ s₂ d w₁ w₂ at free (take (getD p 3 0) (drop 0 places₁)) k number place m at₁ f x c e →
+      BringsDone s s₂ d w w₂ stack at free (includeAt doc k) f x c e
+  node-brings-told {s₂} {w₂} {f} {x} {c} {e} (unbrought ne y z h j) =
+      subst (λ l. Done l w₂ f x c e) (sym h) (subst (λ l. Done s₁ l f x c e) (sym j)
+      (subst (λ l. Done s₁ w₁ l x c e) (sym y) (subst (λ l. Done s₁ w₁ number l c e) (sym z)
+      (brings-refused s d w stack at free (includeAt doc k) A places s₁ w₁ places₁ number place m at₁ I ne c e))))
+  node-brings-told (shown fine R) = rows-shown fine R

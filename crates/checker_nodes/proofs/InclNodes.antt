@@ -1,8 +1,8 @@
 -- An Include as a line by the words of its node.
 use mathlib.Core.Path.{_≡_, refl, sym, ap, subst, _∙_}
-use mathlib.Core.Bool.{Bool, true, false}
+use mathlib.Core.Bool.{Bool}
 use mathlib.Core.List.{List}
-use Prim.Native.Nat.{ℕ, _+_, _*_, _≤_, _<_}
+use Prim.Native.Nat.{ℕ, _+_, _≤_, _<_, _^_}
 use native.Mathlib.Omega.{arith}
 use lib.ListN.{length, getD, take, drop}
 use Rattle.reader_rules.specs.Decode.{lineAt, includeAt}
@@ -10,21 +10,17 @@ use Rattle.reader_rules.specs.Kinds.{lines, includes}
 use Rattle.reader_rules.specs.Nodes.{kindAt}
 use Rattle.reader_rules.specs.Promise.{At}
 use Rattle.reader_rules.specs.Tree.{Include, end, inclusion}
-use Rattle.reader_rules.proofs.TreeLists.{exprs-length}
-use Rattle.reader_rules.proofs.TreeText.{as-include, include-law, line-inclusion}
+use Rattle.reader_rules.proofs.TreeText.{as-include, line-inclusion}
 use Rattle.checker_rules.specs.Scopes.{includeNode}
-use Rattle.checker_signatures.specs.Rows.{rows, identifiersOf, mergeRows}
-use Rattle.checker_signatures.specs.Tables.{Table, Beside}
-use Rattle.checker_includes.specs.Filling.{RowsAsk, AgreeAsk, AgreeTold, SmallTold}
+use Rattle.checker_includes.specs.Filling.{AgreeAsk, AgreeTold, SmallTold}
 use Rattle.checker_includes.specs.Storing.{KeepAsk, RowsKept}
 use Rattle.checker_contracts.specs.Includes.{actualCount, IncludeAsk, IncludeDone}
 use Rattle.checker_contracts.specs.Texts.{LinesAsk, LinesDone}
-use Rattle.checker_contracts.proofs.Inclusions.{inclusion-ask, inclusion-refused, inclusion-agree, inclusion-inside, inclusion-clash, inclusion-known, inclusion-large, inclusion-keep, inclusion-merge}
+use Rattle.checker_contracts.proofs.Inclusions.{inclusion-ask, inclusion-refused, inclusion-agree, inclusion-clash, inclusion-known, inclusion-large, inclusion-keep, inclusion-merge}
 use Rattle.checker_contracts.proofs.Inclusions.{inclusion-many, inclusion-done}
-use Rattle.checker_closing.specs.Leaves.{NewIfTold}
-use Rattle.checker_closing.specs.Nodes.{Node, LinedAt}
-use Rattle.checker_closing.specs.declared.results.Lined.{Lined}
-use Rattle.checker_nodes.proofs.LineNodes.{lines-told, word-of}
+use Rattle.checker_contracts.proofs.IncludeNodes.{included-node, included-count}
+use Rattle.checker_closing.specs.Included.{RowsFine, RowsFound, clash, known, large, none, Total, many, few, UniteAsk, RowsUnited, LineAsk, RowsLined, refused, united, IncludedAsk, IncludedTold, unvisited, lined}
+use Rattle.checker_closing.specs.Nodes.{Node}
 
 module _ {doc p s d w : List ℕ} {stack base m at free k : ℕ} (N : Node doc p lines k) (q : kindAt doc k ≡ 12) (K : LinesAsk s d w stack base m at free (lineAt doc k end)) (global : Bool) where
   abbrev own : Include
@@ -36,100 +32,105 @@ module _ {doc p s d w : List ℕ} {stack base m at free k : ℕ} (N : Node doc p
   abbrev Q : LinesAsk s d w stack base m at free (inclusion own end)
   Q = subst (LinesAsk s d w stack base m at free) tree K
 
-  node-is : includeNode own ≡ k
-  unfolding includeNode
-  node-is = ap includeNode (include-law doc lines k (N .at) q _ refl .tree)
-
-  back : (s′ w′ : List ℕ) (number place m′ at′ : ℕ) → LinesDone s s′ d w w′ stack base m at free (inclusion own end) global number place m′ at′ →
-      LinesDone s s′ d w w′ stack base m at free (lineAt doc k end) global number place m′ at′
-  back s′ w′ number place m′ at′ = subst (λ z. LinesDone s s′ d w w′ stack base m at free z global number place m′ at′) (sym tree)
-
-  -- a finding at the Include's node
-  found-here : (s′ w′ : List ℕ) (number : ℕ) → LinesDone s s′ d w w′ stack base m at free (inclusion own end) global number (includeNode own) 0 0 →
-      {r : Lined} → LinedAt r number k 0 0 → LinesDone s s′ d w w′ stack base m at free (lineAt doc k end) global (r .number) (r .place) (r .count) (r .at)
-  found-here s′ w′ number T {r} L =
-      lines-told L (back s′ w′ number k 0 0 (subst (λ z. LinesDone s s′ d w w′ stack base m at free (inclusion own end) global number z 0 0) node-is T))
-
   pub node-incl-at : At doc includes k
   node-incl-at = as-include doc lines k (N .at) q
 
   pub node-incl-ask : (places : List ℕ) → length places ≡ 4 → IncludeAsk s d w stack at free (includeAt doc k) places
   node-incl-ask = inclusion-ask s d w stack base m at free own global Q
 
+  abbrev Done : List ℕ → List ℕ → ℕ → ℕ → ℕ → ℕ → Type 0
+  Done s′ w′ number place m′ at′ = LinesDone s s′ d w w′ stack base m at free (lineAt doc k end) global number place m′ at′
+
+  -- a finding at the Include's node
+  found-here : {s′ w′ : List ℕ} {f number place m′ at′ : ℕ} → number ≡ f → place ≡ k → LinesDone s s′ d w w′ stack base m at free (inclusion own end) global f (includeNode own) m′ at′ →
+      Done s′ w′ number place m′ at′
+  found-here {s′} {w′} {f} {number} {place} {m′} {at′} e x T =
+      subst (λ z. LinesDone s s′ d w w′ stack base m at free z global number place m′ at′) (sym tree)
+      (subst (λ z. LinesDone s s′ d w w′ stack base m at free (inclusion own end) global z place m′ at′) (sym e)
+      (subst (λ z. LinesDone s s′ d w w′ stack base m at free (inclusion own end) global f z m′ at′) (included-node doc k node-incl-at ∙ sym x) T))
+
+  -- in the areas that a finding leaves as they were
+  still : {s₁ s₂ w₁ w₂ : List ℕ} {number place m′ at′ : ℕ} → s₂ ≡ s₁ → w₂ ≡ w₁ → Done s₁ w₁ number place m′ at′ → Done s₂ w₂ number place m′ at′
+  still {s₁} {s₂} {w₁} {w₂} {number} {place} {m′} {at′} a b T =
+      subst (λ z. Done z w₂ number place m′ at′) (sym a) (subst (λ z. Done s₁ z number place m′ at′) (sym b) T)
+
   module _ {places s₁ w₁ places₁ : List ℕ} {number place c at₁ : ℕ} (I : IncludeDone s s₁ d w w₁ stack at free (includeAt doc k) places places₁ number place c at₁) where
-    pub node-incl-refused : (number ≡ 0 → ⊥) → LinesDone s s₁ d w w₁ stack base m at free (lineAt doc k end) global number place c at₁
-    node-incl-refused ne = back s₁ w₁ number place c at₁ (inclusion-refused s d w stack base m at free own global Q places s₁ w₁ places₁ number place c at₁ I ne c at₁)
+    -- the places of its actuals' types
+    abbrev row : List ℕ
+    row = take (getD p 3 0) (drop 0 places₁)
+
+    abbrev actuals : List ℕ
+    actuals = take (actualCount own) places₁
+
+    few-actuals : actualCount own ≤ 4
+    few-actuals = let z = included-count doc k node-incl-at in let x = z .0 in let y = z .1 in omega arith
+
+    row-is : row ≡ actuals
+    row-is = ap (λ z. take z places₁) (ap (λ (l : List ℕ). getD l 3 0) (N .words) ∙ sym (included-count doc k node-incl-at .0))
 
     module _ (fine : number ≡ 0) where
-      pub node-incl-inside : free + 2 * c ≤ length w₁
-      node-incl-inside = inclusion-inside s d w stack base m at free own global Q places s₁ w₁ places₁ number place c at₁ I fine
+      agreed : {b : Bool} → AgreeTold s₁ d w₁ base m free c row b → AgreeTold s₁ d w₁ base m free c actuals b
+      agreed {b} = subst (λ l. AgreeTold s₁ d w₁ base m free c l b) row-is
 
-      -- `row` are the places of the z actuals.
-      module _ (z : ℕ) (word : z ≡ getD p 3 0) {row : List ℕ} (R : row ≡ take z (drop 0 places₁)) where
-        abbrev actuals : List ℕ
-        actuals = take (actualCount own) places₁
+      sized : {b : Bool} → SmallTold s₁ d w₁ free c row b → SmallTold s₁ d w₁ free c actuals b
+      sized {b} = subst (λ l. SmallTold s₁ d w₁ free c l b) row-is
 
-        count-is : actualCount own ≡ z
-        unfolding actualCount
-        count-is = ap actualCount (include-law doc lines k (N .at) q z (word-of N 3 z word) .tree) ∙ exprs-length doc k 4 z
+      kept : {s₂ w₂ : List ℕ} {last : ℕ} → RowsKept s₁ s₂ d w₁ w₂ base m free c row at at₁ (free + 64) last → RowsKept s₁ s₂ d w₁ w₂ base m free c actuals at at₁ (free + 64) last
+      kept {s₂} {w₂} {last} = subst (λ l. RowsKept s₁ s₂ d w₁ w₂ base m free c l at at₁ (free + 64) last) row-is
 
-        few : actualCount own ≤ 4
-        few = let e = count-is in let l = include-law doc lines k (N .at) q z (word-of N 3 z word) .words .few in omega arith
+      uniting : RowsFine s₁ d w₁ base m free c row global → UniteAsk s₁ d w₁ base m free c row at at₁ (free + 64)
+      uniting F = record {
+        keep = subst (λ l. KeepAsk s₁ d w₁ base m free c l at at₁ (free + 64)) (sym row-is)
+            (inclusion-keep s d w stack base m at free own global Q places s₁ w₁ places₁ number place c at₁ I fine (agreed (F .agree)) (F .new .goes refl) (sized (F .small)) few-actuals);
+        merge = λ s₂ w₂ last E.
+            inclusion-merge s d w stack base m at free own global Q places s₁ w₁ places₁ number place c at₁ I fine (agreed (F .agree)) (F .new .goes refl) (sized (F .small)) few-actuals s₂ w₂ last (kept E);
+      }
 
-        row-is : row ≡ actuals
-        row-is = R ∙ ap (λ x. take x places₁) (sym count-is)
+      ready : LineAsk s₁ d w₁ base m free c row at at₁ (free + 64) global
+      ready = record {
+        agree = subst (AgreeAsk s₁ d w₁ base m free c) (sym row-is) (inclusion-agree s d w stack base m at free own global Q places s₁ w₁ places₁ number place c at₁ I fine);
+        unite = uniting;
+      }
 
-        ready : AgreeAsk s₁ d w₁ base m free c actuals
-        ready = inclusion-agree s d w stack base m at free own global Q places s₁ w₁ places₁ number place c at₁ I fine
+      -- 36 and 38 of what it brings
+      module _ {f x m′ at′ : ℕ} (p′ : x ≡ k) where
+        rows-found : (f ≡ 0 → ⊥) → RowsFound s₁ d w₁ base m free c row global f → Done s₁ w₁ f x m′ at′
+        rows-found ne (clash e A) =
+            found-here e p′ (inclusion-clash s d w stack base m at free own global Q places s₁ w₁ places₁ number place c at₁ I fine (agreed A) m′ at′)
+        rows-found ne (known e A G) =
+            found-here e p′ (inclusion-known s d w stack base m at free own global Q places s₁ w₁ places₁ number place c at₁ I fine (agreed A) (G .stops refl) m′ at′)
+        rows-found ne (large e A G S) =
+            found-here e p′ (inclusion-large s d w stack base m at free own global Q places s₁ w₁ places₁ number place c at₁ I fine (agreed A) (G .goes refl) (sized S) m′ at′)
+        rows-found ne (none e F) = absurd (ne e)
 
-        pub node-incl-agree : AgreeAsk s₁ d w₁ base m free c row
-        node-incl-agree = subst (AgreeAsk s₁ d w₁ base m free c) (sym row-is) ready
+      -- 38 of the signature, or its rows
+      module _ {s₂ w₂ : List ℕ} {f x m′ at′ : ℕ} (F : RowsFine s₁ d w₁ base m free c row global) (U : RowsUnited s₁ s₂ d w₁ w₂ base m free c row at at₁ (free + 64) k f x m′ at′) where
+        rows-united : Total (U .total) (U .last) f m′ at′ → Done s₂ w₂ f x m′ at′
+        rows-united (many e l) =
+            found-here e (U .place-is)
+            (inclusion-many s d w stack base m at free own global Q places s₁ w₁ places₁ number place c at₁ I fine (agreed (F .agree)) (F .new .goes refl) (sized (F .small)) few-actuals
+            s₂ (U .between) (U .last) (kept (U .kept)) w₂ (U .total) (U .merged) l m′ at′)
+        rows-united (few e l n y) =
+            subst (λ z. LinesDone s s₂ d w w₂ stack base m at free z global f x m′ at′) (sym tree)
+            (subst (λ z. LinesDone s s₂ d w w₂ stack base m at free (inclusion own end) global z x m′ at′) (sym e)
+            (subst (λ z. LinesDone s s₂ d w w₂ stack base m at free (inclusion own end) global 0 x z at′) (sym n)
+            (subst (λ z. LinesDone s s₂ d w w₂ stack base m at free (inclusion own end) global 0 x (U .total) z) (sym y)
+            (inclusion-done s d w stack base m at free own global Q places s₁ w₁ places₁ number place c at₁ I fine (agreed (F .agree)) (F .new .goes refl) (sized (F .small)) few-actuals
+            s₂ (U .between) (U .last) (kept (U .kept)) w₂ (U .total) (U .merged) x l))))
 
-        pub node-incl-rows : RowsAsk s₁ d w₁ free c row
-        node-incl-rows = node-incl-agree .brought
+      rows-lined : {s₂ w₂ : List ℕ} {f x m′ at′ : ℕ} → RowsLined s₁ s₂ d w₁ w₂ base m free c row at at₁ (free + 64) global k f x m′ at′ → Done s₂ w₂ f x m′ at′
+      rows-lined (refused ne F y a b) = still a b (rows-found y ne F)
+      rows-lined (united F U) = rows-united F U (U .outcome)
 
-        module _ {b₁ : Bool} (A : AgreeTold s₁ d w₁ base m free c row b₁) where
-          agreed : {b : Bool} → b₁ ≡ b → AgreeTold s₁ d w₁ base m free c actuals b
-          agreed e = subst (AgreeTold s₁ d w₁ base m free c actuals) e (subst (λ l. AgreeTold s₁ d w₁ base m free c l b₁) row-is A)
+    pub node-incl-included : (k < 2 ^ 32) × (free < 2 ^ 32) × IncludedAsk s₁ d w₁ base m at free (take (getD p 3 0) (drop 0 places₁)) global number c at₁
+    node-incl-included = let z = N .at .small in let y = K .walking .room .frames in (omega arith, omega arith, record { rows = ready })
 
-          pub node-incl-clash : b₁ ≡ false → {r : Lined} → LinedAt r 36 k 0 0 → LinesDone s s₁ d w w₁ stack base m at free (lineAt doc k end) global (r .number) (r .place) (r .count) (r .at)
-          node-incl-clash nay = found-here s₁ w₁ 36 (inclusion-clash s d w stack base m at free own global Q places s₁ w₁ places₁ number place c at₁ I fine (agreed nay) 0 0)
-
-          module _ (agree : b₁ ≡ true) {b₂ : Bool} (G : NewIfTold global d (identifiersOf (rows w₁ free c)) b₂) where
-            pub node-incl-known : b₂ ≡ false → {r : Lined} → LinedAt r 36 k 0 0 → LinesDone s s₁ d w w₁ stack base m at free (lineAt doc k end) global (r .number) (r .place) (r .count) (r .at)
-            node-incl-known nay =
-                found-here s₁ w₁ 36 (inclusion-known s d w stack base m at free own global Q places s₁ w₁ places₁ number place c at₁ I fine (agreed agree) (G .stops nay) 0 0)
-
-            module _ (new : b₂ ≡ true) {b₃ : Bool} (S : SmallTold s₁ d w₁ free c row b₃) where
-              sized : {b : Bool} → b₃ ≡ b → SmallTold s₁ d w₁ free c actuals b
-              sized e = subst (SmallTold s₁ d w₁ free c actuals) e (subst (λ l. SmallTold s₁ d w₁ free c l b₃) row-is S)
-
-              pub node-incl-large : b₃ ≡ false → {r : Lined} → LinedAt r 38 k 0 0 → LinesDone s s₁ d w w₁ stack base m at free (lineAt doc k end) global (r .number) (r .place) (r .count) (r .at)
-              node-incl-large nay =
-                  found-here s₁ w₁ 38 (inclusion-large s d w stack base m at free own global Q places s₁ w₁ places₁ number place c at₁ I fine (agreed agree) (G .goes new) (sized nay) 0 0)
-
-              module _ (small : b₃ ≡ true) where
-                pub node-incl-keep : KeepAsk s₁ d w₁ base m free c row at at₁ (free + 64)
-                node-incl-keep = subst (λ l. KeepAsk s₁ d w₁ base m free c l at at₁ (free + 64)) (sym row-is)
-                    (inclusion-keep s d w stack base m at free own global Q places s₁ w₁ places₁ number place c at₁ I fine (agreed agree) (G .goes new) (sized small) few)
-
-                module _ {s₂ w₂ : List ℕ} {at₂ : ℕ} (E : RowsKept s₁ s₂ d w₁ w₂ base m free c row at at₁ (free + 64) at₂) where
-                  kept : RowsKept s₁ s₂ d w₁ w₂ base m free c actuals at at₁ (free + 64) at₂
-                  kept = subst (λ l. RowsKept s₁ s₂ d w₁ w₂ base m free c l at at₁ (free + 64) at₂) row-is E
-
-                  pub node-incl-merge : Beside (length w₂) base (m + c) free c
-                  node-incl-merge =
-                      inclusion-merge s d w stack base m at free own global Q places s₁ w₁ places₁ number place c at₁ I fine (agreed agree) (G .goes new) (sized small) few s₂ w₂ at₂ kept
-
-                  module _ {w₃ : List ℕ} {count : ℕ} (M : Table w₂ w₃ base (mergeRows (rows w₂ free c) (rows w₂ base m)) count) where
-                    pub node-incl-many : 16 < count → {r : Lined} → LinedAt r 38 k 0 0 →
-                        LinesDone s s₂ d w w₃ stack base m at free (lineAt doc k end) global (r .number) (r .place) (r .count) (r .at)
-                    node-incl-many l =
-                        found-here s₂ w₃ 38
-                        (inclusion-many s d w stack base m at free own global Q places s₁ w₁ places₁ number place c at₁ I fine (agreed agree) (G .goes new) (sized small) few s₂ w₂ at₂ kept w₃ count M l 0 0)
-
-                    pub node-incl-done : count ≤ 16 → {r : Lined} → LinedAt r 0 k count at₂ →
-                        LinesDone s s₂ d w w₃ stack base m at free (lineAt doc k end) global (r .number) (r .place) (r .count) (r .at)
-                    node-incl-done l {r} L =
-                        lines-told L (back s₂ w₃ 0 k count at₂
-                        (inclusion-done s d w stack base m at free own global Q places s₁ w₁ places₁ number place c at₁ I fine (agreed agree) (G .goes new) (sized small) few s₂ w₂ at₂ kept w₃ count M k l))
+    pub node-incl-told : {s₂ w₂ : List ℕ} {f x m′ at′ : ℕ} → IncludedTold s₁ s₂ d w₁ w₂ base m at free (take (getD p 3 0) (drop 0 places₁)) global k number place c at₁ f x m′ at′ →
+        LinesDone s s₂ d w w₂ stack base m at free (lineAt doc k end) global f x m′ at′
+    node-incl-told {s₂} {w₂} {f} {x} {m′} {at′} (unvisited ne e y a b) =
+        still a b
+        (subst (λ z. Done s₁ w₁ z x m′ at′) (sym e)
+        (subst (λ z. Done s₁ w₁ number z m′ at′) (sym y)
+        (subst (λ z. LinesDone s s₁ d w w₁ stack base m at free z global number place m′ at′) (sym tree)
+        (inclusion-refused s d w stack base m at free own global Q places s₁ w₁ places₁ number place c at₁ I ne m′ at′))))
+    node-incl-told (lined fine R) = rows-lined fine R

@@ -11,3 +11,4 @@ pub mod DeclNodes
 pub mod ActualNodes
 pub mod BringsNodes
 pub mod InclNodes
+pub mod NamedNodes

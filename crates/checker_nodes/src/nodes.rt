@@ -1,9 +1,13 @@
 // The typing rules: functions over nodes that call each other in a cycle, the node number falling. The solver's store and the pool of type words are
 // in a; d is the dictionary's area, w the work area with the scope's rows at its beginning. A function over a kind's node takes its words p.
+use checker_closing::included::brought;
+use checker_closing::included::included;
+use checker_closing::includes::FIRST_ACTUAL;
+use checker_closing::includes::named;
+use checker_closing::includes::schema_of;
 use checker_closing::leaves::declared_fits;
 use checker_closing::leaves::new_if;
 use checker_closing::leaves::related;
-use checker_closing::leaves::rows_new_if;
 use checker_closing::results::Lined;
 use checker_closing::results::Verdict;
 use checker_closing::results::Visit;
@@ -13,12 +17,6 @@ use checker_closing::results::unlined;
 use checker_closing::results::unvisited;
 use checker_closing::results::verdict_at;
 use checker_closing::results::visit_at;
-use checker_dictionary::lookup::entry_of_schema;
-use checker_dictionary::lookup::parameters_of;
-use checker_dictionary::lookup::type_place;
-use checker_includes::filling::rows_agree;
-use checker_includes::filling::rows_small;
-use checker_includes::storing::keep_rows;
 use checker_includes::storing::store_type;
 use checker_kinds::building::comprehension_rule;
 use checker_kinds::building::integers_rule;
@@ -31,33 +29,26 @@ use checker_kinds::equations::apply_rule;
 use checker_kinds::equations::arithmetic_rule;
 use checker_kinds::equations::select_rule;
 use checker_lookup::bindings::schema_set;
-use checker_lookup::components::component_rows;
 use checker_lookup::references::ref_rule;
 use checker_lookup::thetas::theta_rule;
 use checker_pieces::closing::close;
 use checker_pieces::closing::settled_size;
 use checker_pieces::powers::is_power;
-use checker_signatures::includes::bring;
 use checker_signatures::scopes::push;
-use checker_signatures::tables::HALF;
 use checker_signatures::tables::TABLE;
 use checker_signatures::tables::declare;
-use checker_signatures::tables::merge;
 use codes::findings;
 use codes::kinds;
 use codes::limits;
 use layout::part;
-use types_cells::area::DICTIONARY;
 use types_cells::area::FIRST_RUN;
 use types_instances::restore;
 use types_instances::save;
 use types_instances::wipe;
-use words::span;
 use words::store;
 use words::word;
 ghost use mathlib.Core.Path.{_≡_};
-ghost use mathlib.Core.List.{List, []};
-ghost use Prim.Native.Nat.{ℕ, _+_, _*_, _-_, _≤_, _<_, _^_};
+ghost use Prim.Native.Nat.{ℕ, _+_, _-_, _≤_, _<_};
 ghost use lib.ListN.{length, getD};
 ghost use Rattle.reader_rules.specs.Kinds.{expressions, predicates, texts, lines, includes};
 ghost use Rattle.reader_rules.specs.Nodes.{kindAt};
@@ -69,9 +60,6 @@ ghost use Rattle.checker_contracts.specs.Predicates.{PredAsk, PredDone};
 ghost use Rattle.checker_contracts.specs.Texts.{TextAsk, TextDone, LinesAsk, LinesDone};
 ghost use Rattle.checker_contracts.specs.Includes.{IncludeAsk, IncludeDone, BringsAsk, BringsDone, ActualsAsk, ActualsDone};
 ghost use Rattle.checker_closing.specs.Nodes.{Node};
-
-// The words of an Include before its actuals.
-const FIRST_ACTUAL: usize = 4;
 
 // The operands from word i of node k's part on, one after another: their cells go to the words of `parts` from j on.
 fn opers(
@@ -686,25 +674,7 @@ fn incl(
 {
     let mut places = [0u32; limits::PARAMETERS];
     let i = include(doc, a, d, w, rows, at, free, k, p, &mut places);
-    if i.number != 0 {
-        return i;
-    }
-    let row = span(&places, 0, word(p, 3));
-    if !rows_agree(a, d, w, base, m, free, i.count, row) {
-        return lined_at(findings::CLASH, k, 0, 0);
-    }
-    if !rows_new_if(global, d, w, free, i.count) {
-        return lined_at(findings::CLASH, k, 0, 0);
-    }
-    if !rows_small(a, d, w, free, i.count, row) {
-        return lined_at(findings::TOO_LARGE, k, 0, 0);
-    }
-    let e = keep_rows(a, d, w, base, m, free, i.count, row, at, i.at, free + TABLE);
-    let r = merge(w, free, i.count, base, m);
-    if limits::SIGNATURE < r {
-        return lined_at(findings::TOO_LARGE, k, 0, 0);
-    }
-    lined_at(0, k, r, e)
+    included(a, d, w, base, m, at, free, k, p, global, &places, i)
 }
 
 // 12 Include, as a schema expression: 38. What it brings is a table at free.
@@ -724,15 +694,7 @@ pub fn brings(
     let p = part(doc, k);
     let mut places = [0u32; limits::PARAMETERS];
     let i = include(doc, a, d, w, rows, at, free, k, p, &mut places);
-    if i.number != 0 {
-        return i;
-    }
-    let row = span(&places, 0, word(p, 3));
-    if !rows_small(a, d, w, free, i.count, row) {
-        return lined_at(findings::TOO_LARGE, k, 0, 0);
-    }
-    let e = keep_rows(a, d, w, free, 0, free, i.count, row, at, i.at, free + TABLE);
-    lined_at(0, k, i.count, e)
+    brought(a, d, w, at, free, k, p, &places, i)
 }
 
 // An Include: name, count, actuals, stroke and renames. What it brings is a table at free, with the places of the recorded types.
@@ -751,24 +713,12 @@ fn include(
     requires { ⌜ Node (now doc) (now p) includes k × IncludeAsk (now a) (now d) (now w) rows at free (includeAt (now doc) k) (now places) ⌝ }
     ensures { λ r. ⌜ IncludeDone (now (a .entry)) (now (a .exit)) (now (d .entry)) (now (w .entry)) (now (w .exit)) rows at free (includeAt (now (doc .entry)) k) (now (places .entry)) (now (places .exit)) (r .number) (r .place) (r .count) (r .at) ⌝ }
 {
-    let q = word(p, 3);
-    let e = entry_of_schema(d, word(p, 1));
-    if e == 0 {
-        return lined_at(findings::UNKNOWN_NAME, k, 0, 0);
+    let s = schema_of(d, p);
+    if s.number != 0 {
+        return lined_at(s.number, k, 0, 0);
     }
-    if parameters_of(d, e) != q {
-        return lined_at(findings::WRONG_COUNT, k, 0, 0);
-    }
-    let x = actuals(doc, a, d, w, rows, at, free, k, p, 0, q, places);
-    if x.number != 0 {
-        return x;
-    }
-    let m = component_rows(a, d, w, DICTIONARY + type_place(d, e), free + HALF);
-    let b = bring(w, free + HALF, m, free, word(p, 2), p, q + FIRST_ACTUAL);
-    if b.wrong {
-        return lined_at(findings::BAD_RENAME, k, 0, 0);
-    }
-    lined_at(0, k, b.count, x.at)
+    let x = actuals(doc, a, d, w, rows, at, free, k, p, 0, word(p, 3), places);
+    named(a, d, w, free, k, p, s.at, x)
 }
 
 // The actuals of an Include from number j of q on: each is a closed piece, and a power. The places of their element types go to `places`.

@@ -1,4 +1,5 @@
 pub mod SchemaNodes
 pub mod ParagraphNodes
 pub mod Defined
+pub mod AbbreviationLaws
 pub mod AbbreviationNodes

@@ -1,31 +1,25 @@
 // Paragraphs: their findings, and the entries that wait for their end. The pool is empty before and after.
+use crate::ENTRIES;
+use crate::abbreviations::abbreviated;
 use crate::schemas::schema;
 use checker_closing::results::Lined;
 use checker_closing::results::lined_at;
 use checker_closing::results::unlined;
-use checker_entries::HEAD;
 use checker_entries::given_entries;
 use checker_entries::name_entries;
 use checker_entries::parameters::FIRST_PARAMETER;
 use checker_entries::parameters::POOL_START;
 use checker_entries::parameters::push_parameters;
-use checker_entries::put_head;
 use checker_entries::schema_entry;
 use checker_merging::names_new;
 use checker_nodes::nodes::expr;
 use checker_nodes::nodes::pred;
 use checker_nodes::nodes::text;
-use checker_pieces::closing::close;
-use checker_pieces::closing::settled_size;
-use checker_pieces::closing::settled_words;
-use codes::classes;
 use codes::findings;
 use codes::kinds;
-use codes::limits;
 use layout::part;
 use types_cells::area::FIRST_RUN;
 use types_instances::wipe;
-use words::span;
 use words::word;
 ghost use mathlib.Core.Path.{_≡_};
 ghost use Rattle.reader_rules.specs.Kinds.{paragraphs};
@@ -37,9 +31,6 @@ ghost use Rattle.checker_closing.specs.Nodes.{Node};
 
 // The work area: rows of the scope, then tables and frames.
 const FRAMES: usize = 512;
-
-// Where the entries wait in it.
-const ENTRIES: usize = 1024;
 
 // 2 Given: 36, and entries as written.
 fn given(doc: &[u32], a: &[u32], d: &[u32], w: &mut [u32], k: usize, p: &[u32]) -> Lined
@@ -90,7 +81,7 @@ fn schema_paragraph(
     lined_at(0, k, 1, ENTRIES)
 }
 
-// 5 Abbreviation: parameters, a closed piece, 36, 38, one entry.
+// 5 Abbreviation: parameters, its expression as a closed piece, one entry.
 fn abbreviation(doc: &[u32], a: &mut [u32], d: &[u32], w: &mut [u32], k: usize, p: &[u32]) -> Lined
     requires { ⌜ Node (now doc) (now p) paragraphs k × (kindAt (now doc) k ≡ 5) × ParagraphAsk (now a) (now d) (now w) (paragraphAt (now doc) k) ⌝ }
     ensures { λ r. ⌜ ParagraphDone (now (a .entry)) (now (a .exit)) (now (d .entry)) (now (w .entry)) (now (w .exit)) (paragraphAt (now (doc .entry)) k) (r .number) (r .place) (r .at) (r .count) ⌝ }
@@ -109,22 +100,7 @@ fn abbreviation(doc: &[u32], a: &mut [u32], d: &[u32], w: &mut [u32], k: usize, 
         FRAMES,
         word(p, n + FIRST_PARAMETER),
     );
-    if x.number != 0 {
-        return unlined(x.number, x.place);
-    }
-    if !close(a, d, x.cells) {
-        return lined_at(findings::SEVERAL, k, 0, 0);
-    }
-    if !names_new(d, span(p, 1, 1), 0) {
-        return lined_at(findings::CLASH, k, 0, 0);
-    }
-    if limits::SIZE < settled_size(a, d, x.cells, x.cell) {
-        return lined_at(findings::TOO_LARGE, k, 0, 0);
-    }
-    let e = settled_words(a, d, x.cells, x.cell, w, ENTRIES + HEAD);
-    put_head(w, ENTRIES, e - ENTRIES - 1, classes::NAME, word(p, 1), n);
-    wipe(a, POOL_START, x.at);
-    lined_at(0, k, 1, ENTRIES)
+    abbreviated(a, d, w, k, p, n, x)
 }
 
 // 6 Constraint: no entry.

@@ -72,26 +72,22 @@ use Rattle.checker_nodes.proofs.nodes.+actuals+apply+arith+brings+compr
 use Rattle.checker_closing.proofs.leaves.declared_fits.Reads as declared-fits-reads
 use Rattle.checker_closing.proofs.leaves.new_if.Reads as new-if-reads
 use Rattle.checker_closing.proofs.leaves.related.Reads as related-reads
-use Rattle.checker_closing.proofs.leaves.rows_new_if.Reads as rows-new-if-reads
+use Rattle.checker_closing.proofs.included.brought.Reads as brought-reads
+use Rattle.checker_closing.proofs.included.included.Reads as included-reads
+use Rattle.checker_closing.proofs.includes.named.Reads as named-reads
+use Rattle.checker_closing.proofs.includes.schema_of.Reads as schema-of-reads
 use Rattle.checker_closing.proofs.results.found.Reads as found-reads
 use Rattle.checker_closing.proofs.results.lined_at.Reads as lined-at-reads
 use Rattle.checker_closing.proofs.results.unlined.Reads as unlined-reads
 use Rattle.checker_closing.proofs.results.unvisited.Reads as unvisited-reads
 use Rattle.checker_closing.proofs.results.verdict_at.Reads as verdict-at-reads
 use Rattle.checker_closing.proofs.results.visit_at.Reads as visit-at-reads
-use Rattle.checker_dictionary.proofs.lookup.entry_of_schema.Reads as entry-of-schema-reads
-use Rattle.checker_dictionary.proofs.lookup.parameters_of.Reads as parameters-of-reads
-use Rattle.checker_dictionary.proofs.lookup.type_place.Reads as type-place-reads
-use Rattle.checker_includes.proofs.filling.rows_agree.Reads as rows-agree-reads
-use Rattle.checker_includes.proofs.filling.rows_small.Reads as rows-small-reads
-use Rattle.checker_includes.proofs.storing.keep_rows.Reads as keep-rows-reads
 use Rattle.checker_includes.proofs.storing.store_type.Reads as store-type-reads
 use Rattle.types_instances.proofs.restore.Reads as restore-reads
 use Rattle.types_instances.proofs.save.Reads as save-reads
 use Rattle.types_instances.proofs.wipe.Reads as wipe-reads
 use Rattle.layout.proofs.part.Reads as part-reads
 use Rattle.checker_lookup.proofs.bindings.schema_set.Reads as schema-set-reads
-use Rattle.checker_lookup.proofs.components.component_rows.Reads as component-rows-reads
 use Rattle.checker_lookup.proofs.references.ref_rule.Reads as ref-rule-reads
 use Rattle.checker_lookup.proofs.thetas.theta_rule.Reads as theta-rule-reads
 use Rattle.checker_pieces.proofs.closing.close.Reads as close-reads
@@ -107,11 +103,8 @@ use Rattle.checker_kinds.proofs.building.tuple_rule.Reads as tuple-rule-reads
 use Rattle.checker_kinds.proofs.equations.apply_rule.Reads as apply-rule-reads
 use Rattle.checker_kinds.proofs.equations.arithmetic_rule.Reads as arithmetic-rule-reads
 use Rattle.checker_kinds.proofs.equations.select_rule.Reads as select-rule-reads
-use Rattle.checker_signatures.proofs.includes.bring.Reads as bring-reads
 use Rattle.checker_signatures.proofs.scopes.push.Reads as push-reads
 use Rattle.checker_signatures.proofs.tables.declare.Reads as declare-reads
-use Rattle.checker_signatures.proofs.tables.merge.Reads as merge-reads
-use Rattle.words.proofs.span.Reads as span-reads
 use Rattle.words.proofs.store.Reads as store-reads
 use Rattle.words.proofs.word.Reads as word-reads
 
@@ -323,7 +316,7 @@ abbrev pub arith-calls : ℕ → arith-lts.Claims
 arith-calls t = (word-reads.Asked, word-reads.Learnt, expr-below t, expr.Post, arithmetic-rule-reads.Asked, arithmetic-rule-reads.Learnt, visit-at-reads.Asked, visit-at-reads.Learnt)
 
 abbrev pub brings-calls : ℕ → brings-lts.Claims
-brings-calls t = (part-reads.Asked, part-reads.Learnt, include-below t, include.Post, word-reads.Asked, word-reads.Learnt, span-reads.Asked, span-reads.Learnt, rows-small-reads.Asked, rows-small-reads.Learnt, lined-at-reads.Asked, lined-at-reads.Learnt, keep-rows-reads.Asked, keep-rows-reads.Learnt)
+brings-calls t = (part-reads.Asked, part-reads.Learnt, include-below t, include.Post, brought-reads.Asked, brought-reads.Learnt)
 
 abbrev pub compr-calls : ℕ → compr-lts.Claims
 compr-calls t = (save-reads.Asked, save-reads.Learnt, word-reads.Asked, word-reads.Learnt, text-below t, text.Post, unvisited-reads.Asked, unvisited-reads.Learnt, restore-reads.Asked, restore-reads.Learnt, expr-below t, expr.Post, comprehension-rule-reads.Asked, comprehension-rule-reads.Learnt, visit-at-reads.Asked, visit-at-reads.Learnt)
@@ -341,10 +334,10 @@ abbrev pub group-calls : ℕ → group-lts.Claims
 group-calls t = (opers-below t, opers.Post, word-reads.Asked, word-reads.Learnt, set-rule-reads.Asked, set-rule-reads.Learnt, visit-at-reads.Asked, visit-at-reads.Learnt, tuple-rule-reads.Asked, tuple-rule-reads.Learnt, product-rule-reads.Asked, product-rule-reads.Learnt)
 
 abbrev pub incl-calls : ℕ → incl-lts.Claims
-incl-calls t = (include-below t, include.Post, word-reads.Asked, word-reads.Learnt, span-reads.Asked, span-reads.Learnt, rows-agree-reads.Asked, rows-agree-reads.Learnt, lined-at-reads.Asked, lined-at-reads.Learnt, rows-new-if-reads.Asked, rows-new-if-reads.Learnt, rows-small-reads.Asked, rows-small-reads.Learnt, keep-rows-reads.Asked, keep-rows-reads.Learnt, merge-reads.Asked, merge-reads.Learnt)
+incl-calls t = (include-below t, include.Post, included-reads.Asked, included-reads.Learnt)
 
 abbrev pub include-calls : ℕ → include-lts.Claims
-include-calls t = (word-reads.Asked, word-reads.Learnt, entry-of-schema-reads.Asked, entry-of-schema-reads.Learnt, lined-at-reads.Asked, lined-at-reads.Learnt, parameters-of-reads.Asked, parameters-of-reads.Learnt, actuals-below t, actuals.Post, type-place-reads.Asked, type-place-reads.Learnt, component-rows-reads.Asked, component-rows-reads.Learnt, bring-reads.Asked, bring-reads.Learnt)
+include-calls t = (schema-of-reads.Asked, schema-of-reads.Learnt, lined-at-reads.Asked, lined-at-reads.Learnt, word-reads.Asked, word-reads.Learnt, actuals-below t, actuals.Post, named-reads.Asked, named-reads.Learnt)
 
 abbrev pub line-calls : ℕ → line-lts.Claims
 line-calls t = (part-reads.Asked, part-reads.Learnt, word-reads.Asked, word-reads.Learnt, decl-below t, decl.Post, incl-below t, incl.Post)
