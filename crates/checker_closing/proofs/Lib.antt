@@ -1,1 +1,4 @@
 pub mod LeafLaws
+pub mod ElementLaws
+pub mod DeclarationLaws
+pub mod RelationLaws
