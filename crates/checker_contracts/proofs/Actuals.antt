@@ -42,23 +42,26 @@ use Rattle.checker_contracts.proofs.Scopes.{spared-refl, spared-on, sto
 use Rattle.checker_contracts.proofs.Elements.{Element, ElementOwned, ElementNew, elementItems, element-stopped, element-working, element-unequal, element-closing, element-several}
 use Rattle.checker_contracts.proofs.Elements.{element-sizing, element-done, element-clean, element-gap, element-stored, element-spared, element-size}
 use Rattle.checker_contracts.proofs.Declaring.{begin-ask, after-room}
+use Rattle.checker_contracts.proofs.Refused.{done-refused}
 
 -- NO ACTUAL.
 pub actuals-none : (s d w : List ℕ) (stack at free k j place : ℕ) (places : List ℕ) → ActualsAsk s d w stack at free k j none places →
     ActualsDone s s d w w stack at free k j none places places 0 place at
 unfolding actualItems exprsLength
 actuals-none s d w stack at free k j place places Q = record {
-  spared = spared-refl w stack free;
-  row = refl;
-  earlier = λ i l. refl;
-  stored = λ e. record { size = refl; before = λ i l. refl; after = Q .walking .clean; more = omega arith };
-  short = λ e. omega arith;
-  goes = λ e H U S Γ D C F. record {
-    unknowns = U;
-    walked = walked-skip H U (ActualOwned k j (exprsNumbers none)) S;
-    each = λ i p q. absurd (omega arith);
+  done = record {
+    still = record { spared = spared-refl w stack free; row = refl; earlier = λ i l. refl };
+    areas = λ e. record {
+      stored = record { size = refl; before = λ i l. refl; after = Q .walking .clean; more = omega arith };
+      short = omega arith;
+    };
+    goes = λ e H U S Γ D C u F. record {
+      unknowns = U;
+      walked = walked-skip H U (ActualOwned k j (exprsNumbers none)) S;
+      each = λ i p q. absurd (omega arith);
+    };
+    stops = λ e. absurd (e refl);
   };
-  stops = λ e. absurd (e refl);
 }
 
 -- AN ACTUAL, and others.
@@ -113,15 +116,7 @@ module _ (s d w : List ℕ) (stack at free k j : ℕ) (a : Expr) (xs : Exprs) (p
       ((Γ : Scope) (D : Dictionary) (H : Items) (U : List ℕ) → Steady H U → Scoped s d w stack (idle H U) Γ D → ElementNew a k n U → Refuses (own Γ) (Meets H) number place) →
       ActualsDone s s′ d w w′ stack at free k j (more a xs) places places′ number place at′
   unfolding actualItems
-  refuses s′ w′ places′ number place at′ P p e R = record {
-    spared = P;
-    row = ap length p;
-    earlier = λ i q. ap (λ z. getD z i 0) p;
-    stored = λ z. absurd (e z);
-    short = λ z. absurd (e z);
-    goes = λ z. absurd (e z);
-    stops = λ z H U S Γ D C F. refuses-first H (own Γ) (actualItems xs k (suc n) Γ) number place (R Γ D H U S C (fresh U F));
-  }
+  refuses s′ w′ places′ number place at′ P p e R = record { done = done-refused (record { spared = P; row = ap length p; earlier = λ i q. ap (λ z. getD z i 0) p }) e (λ H U S Γ D C u F. refuses-first H (own Γ) (actualItems xs k (suc n) Γ) number place (R Γ D H U S C (fresh U F))) }
 
   module _ (s₁ w₁ : List ℕ) (number place cell c₁ top₁ at₁ : ℕ) (A : ExprDone s s₁ d w w₁ stack 0 4096 at free a number place cell c₁ top₁ at₁) where
     pub actual-stopped : (number ≡ 0 → ⊥) → (at′ : ℕ) → ActualsDone s s₁ d w w₁ stack at free k j (more a xs) places places number place at′
@@ -282,45 +277,47 @@ module _ (s d w : List ℕ) (stack at free k j : ℕ) (a : Expr) (xs : Exprs) (p
                     ActualsDone s s₅ d w w₃ stack at free k j (more a xs) places places₂ number′ place′ at₂
                 unfolding actualItems exprsNumbers exprsLength Meets
                 actuals-then s₅ w₃ places₂ number′ place′ at₂ B = record {
-                  spared = spared-on w w₂ w₃ stack free spared₂ (B .spared);
-                  row = B .row ∙ long;
-                  earlier = λ i q. B .earlier i (omega arith) ∙ others i q;
-                  stored = λ z. stored-on s s₄ s₅ at e at₂ stored₄ (B .stored z);
-                  short = λ z. let x = B .short z in omega arith;
-                  goes = λ z H U S Γ D C F.
-                      let N = fresh U F in
-                      let T = E Γ D H U S C N in
-                      let R = B .goes z (H ⨾ own Γ) (T .unknowns) (T .walked .steady) Γ D (scoped₁ Γ D H U S C N) (later U F Γ D H S C) in
-                      let M = ActualOwned k j (l ++ ls) in
-                      let rest = actualItems xs k (suc n) Γ in
-                      record {
-                        unknowns = R .unknowns;
-                        walked =
-                            walked-then H (own Γ) rest U (T .unknowns) (R .unknowns) M S
-                            (walked-mine H (own Γ) U (T .unknowns) (ElementOwned a k n) M (λ x y. ⊎-elim (λ v. inl (owned-left l ls x v)) (λ v. inr (n, omega arith, numbered, v)) y) (T .walked))
-                            (walked-mine (H ⨾ own Γ) rest (T .unknowns) (R .unknowns) (ActualOwned k n ls) M
-                            (λ x y. ⊎-elim (λ v. inl (owned-right l ls x v)) (λ v. inr (v .0, (let q = v .1 in omega arith), v .2, v .3)) y) (R .walked));
-                        each = λ i p q.
-                            ⊎-elim
-                            (λ (g : suc j ≤ i). regrouped Γ H (own Γ) rest (R .unknowns) i (R .each i g (omega arith)))
-                            (λ (g : i ≡ j).
-                            subst (λ y. ActualAt s₅ d (H ⨾ (own Γ ⨾ rest)) (R .unknowns) k y (getD places₂ y 0)) (sym g)
-                            (subst (ActualAt s₅ d (H ⨾ (own Γ ⨾ rest)) (R .unknowns) k j) (sym (B .earlier j (omega arith) ∙ here))
-                            (record {
-                              type = T .type;
-                              settled = λ τ h. T .settled τ (h .0, h .1 .0);
-                              shown = T .shown;
-                              reads = reads-later z at (T .shown) (T .reads);
-                              alike = T .alike;
-                              over = R .walked .wider (slot k n) (T .over);
-                            })))
-                            (above i p);
-                      };
-                  stops = λ z H U S Γ D C F.
-                      let N = fresh U F in
-                      let T = E Γ D H U S C N in
-                      refuses-second H (own Γ) (actualItems xs k (suc n) Γ) number′ place′ (T .walked .goes)
-                      (B .stops z (H ⨾ own Γ) (T .unknowns) (T .walked .steady) Γ D (scoped₁ Γ D H U S C N) (later U F Γ D H S C));
+                  done = record {
+                    still = record { spared = spared-on w w₂ w₃ stack free spared₂ (B .done .still .spared); row = B .done .still .row ∙ long; earlier = λ i q. B .done .still .earlier i (omega arith) ∙ others i q };
+                    areas = λ z. record {
+                      stored = stored-on s s₄ s₅ at e at₂ stored₄ (B .done .areas z .stored);
+                      short = let x = B .done .areas z .short in omega arith;
+                    };
+                    goes = λ z H U S Γ D C u F.
+                        let N = fresh U F in
+                        let T = E Γ D H U S C N in
+                        let R = B .done .goes z (H ⨾ own Γ) (T .unknowns) (T .walked .steady) Γ D (scoped₁ Γ D H U S C N) tt (later U F Γ D H S C) in
+                        let M = ActualOwned k j (l ++ ls) in
+                        let rest = actualItems xs k (suc n) Γ in
+                        record {
+                          unknowns = R .unknowns;
+                          walked =
+                              walked-then H (own Γ) rest U (T .unknowns) (R .unknowns) M S
+                              (walked-mine H (own Γ) U (T .unknowns) (ElementOwned a k n) M (λ x y. ⊎-elim (λ v. inl (owned-left l ls x v)) (λ v. inr (n, omega arith, numbered, v)) y) (T .walked))
+                              (walked-mine (H ⨾ own Γ) rest (T .unknowns) (R .unknowns) (ActualOwned k n ls) M
+                              (λ x y. ⊎-elim (λ v. inl (owned-right l ls x v)) (λ v. inr (v .0, (let q = v .1 in omega arith), v .2, v .3)) y) (R .walked));
+                          each = λ i p q.
+                              ⊎-elim
+                              (λ (g : suc j ≤ i). regrouped Γ H (own Γ) rest (R .unknowns) i (R .each i g (omega arith)))
+                              (λ (g : i ≡ j).
+                              subst (λ y. ActualAt s₅ d (H ⨾ (own Γ ⨾ rest)) (R .unknowns) k y (getD places₂ y 0)) (sym g)
+                              (subst (ActualAt s₅ d (H ⨾ (own Γ ⨾ rest)) (R .unknowns) k j) (sym (B .done .still .earlier j (omega arith) ∙ here))
+                              (record {
+                                type = T .type;
+                                settled = λ τ h. T .settled τ (h .0, h .1 .0);
+                                shown = T .shown;
+                                reads = reads-later z at (T .shown) (T .reads);
+                                alike = T .alike;
+                                over = R .walked .wider (slot k n) (T .over);
+                              })))
+                              (above i p);
+                        };
+                    stops = λ z H U S Γ D C u F.
+                        let N = fresh U F in
+                        let T = E Γ D H U S C N in
+                        refuses-second H (own Γ) (actualItems xs k (suc n) Γ) number′ place′ (T .walked .goes)
+                        (B .done .stops z (H ⨾ own Γ) (T .unknowns) (T .walked .steady) Γ D (scoped₁ Γ D H U S C N) tt (later U F Γ D H S C));
+                  };
                 }
                   where
                     above : (i : ℕ) → j ≤ i → (suc j ≤ i) ⊎ (i ≡ j)
@@ -336,7 +333,7 @@ module _ (s d w : List ℕ) (stack at free k j : ℕ) (a : Expr) (xs : Exprs) (p
                         let o = K .room .some in
                         let p = K .room .pool in
                         let q = stored .more in
-                        stored-reads s₄ s₅ d e at₂ (stored₄ .size ∙ K .size) (stored₄ .after) (omega arith) (omega arith) (B .stored z)
+                        stored-reads s₄ s₅ d e at₂ (stored₄ .size ∙ K .size) (stored₄ .after) (omega arith) (omega arith) (B .done .areas z .stored)
 
                     regrouped : (Γ : Scope) (H x rest : Items) (U : List ℕ) (i : ℕ) → ActualAt s₅ d ((H ⨾ x) ⨾ rest) U k i (getD places₂ i 0) →
                         ActualAt s₅ d (H ⨾ (x ⨾ rest)) U k i (getD places₂ i 0)

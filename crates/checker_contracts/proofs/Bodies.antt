@@ -31,6 +31,7 @@ use Rattle.checker_contracts.proofs.Pushing.{pushed-spared, pushed-scop
 use Rattle.checker_contracts.proofs.Rooms.{between-part, crowd-part}
 use Rattle.checker_contracts.proofs.Scopes.{scoped-stored, scoped-spared, scoped-walked, scoped-later, carries-stored, carries-spared, carries-later, stored-low, spared-on, spared-less}
 use Rattle.checker_contracts.proofs.Wiping.{stored-kept}
+use Rattle.checker_contracts.proofs.Refused.{done-refused}
 
 module _ (s d w : List ℕ) (stack at free k : ℕ) (p : Pred) (ls : Lines) (A : TextAsk s d w stack at free (text k p ls)) where
   abbrev K : Walking s d w stack at free (A .height) (textNumbers (text k p ls))
@@ -102,14 +103,9 @@ module _ (s d w : List ℕ) (stack at free k : ℕ) (p : Pred) (ls : Lines) (A :
     pub text-stopped : (number ≡ 0 → ⊥) → (count end : ℕ) → TextDone s s₁ d w w₁ stack at free (text k p ls) global number place count end
     unfolding textItems
     text-stopped e count end = record {
-      spared = L .spared;
-      stored = λ z. absurd (e z);
-      short = λ z. absurd (e z);
-      few = λ z. absurd (e z);
-      goes = λ z. absurd (e z);
-      stops = λ z H U S Γ D C F.
+      done = done-refused (L .done .still) e (λ H U S Γ D C u F.
           refuses-first H (linesItems ls Γ (globalsIf global D) noNames) (predItems p (inside (text k p ls) Γ)) number place
-          (L .stops e H U S Γ D C (fresh-right (predNumbers p) (linesNumbers ls) U (fresh-both U F)) noNames (no-rows H U w));
+          (L .done .stops e H U S Γ D C noNames ((fresh-right (predNumbers p) (linesNumbers ls) U (fresh-both U F)), (no-rows H U w))));
     }
 
     module _ (fine : number ≡ 0) where
@@ -121,17 +117,17 @@ module _ (s d w : List ℕ) (stack at free k : ℕ) (p : Pred) (ls : Lines) (A :
           let f = B .frames in
           let l = B .low in
           let h = tall in
-          let e = L .spared .size in
-          let q = L .few fine in
+          let e = L .done .still .size in
+          let q = L .done .areas fine .few in
           record { room = omega arith; inside = omega arith; apart = inl (omega arith) }
 
       few-rows : stack + m ≤ 250
-      few-rows = let b = K .room .stack in let h = tall in let q = L .few fine in omega arith
+      few-rows = let b = K .room .stack in let h = tall in let q = L .done .areas fine .few in omega arith
 
       -- any items before
       module _ (H : Items) (U : List ℕ) (S : Steady H U) (Γ : Scope) (D : Dictionary) (C : Scoped s d w stack (idle H U) Γ D) (F : Fresh N U) where
         lined : LinesWent s₁ d w₁ free m H U Γ (globalsIf global D) noNames ls
-        lined = L .goes fine H U S Γ D C (fresh-right (predNumbers p) (linesNumbers ls) U F) noNames (no-rows H U w)
+        lined = L .done .goes fine H U S Γ D C noNames ((fresh-right (predNumbers p) (linesNumbers ls) U F), (no-rows H U w))
 
         fresh : Fresh (predNumbers p) (lined .unknowns)
         fresh x q i =
@@ -141,8 +137,8 @@ module _ (s d w : List ℕ) (stack at free k : ℕ) (p : Pred) (ls : Lines) (A :
         scoped =
             let pool = K .room .pool in
             let G = idle (H ⨾ linesItems ls Γ (globalsIf global D) noNames) (lined .unknowns) in
-            scoped-spared s₁ d w w₁ stack free G Γ D (L .spared)
-            (scoped-stored s s₁ d at at₁ (K .size) (K .clean) (K .room .some) (omega arith) (L .stored fine) w stack G Γ D
+            scoped-spared s₁ d w w₁ stack free G Γ D (L .done .still)
+            (scoped-stored s s₁ d at at₁ (K .size) (K .clean) (K .room .some) (omega arith) (L .done .areas fine .stored) w stack G Γ D
             (scoped-walked s d w stack Γ D H (linesItems ls Γ (globalsIf global D) noNames) U (lined .unknowns) (Owned (linesNumbers ls)) (lined .walked) C))
 
       -- THE ROWS WERE PUSHED.
@@ -156,7 +152,7 @@ module _ (s d w : List ℕ) (stack at free k : ℕ) (p : Pred) (ls : Lines) (A :
           within =
               let f = few-rows in
               let a = K .room .wide in
-              let e = L .spared .size in
+              let e = L .done .still .size in
               pushed-scoped w₁ w₂ stack free m r P s₁ d (H ⨾ linesItems ls Γ (globalsIf global D) noNames) (lined H U S Γ D C F .unknowns) Γ D (linesSignature ls Γ noNames) (omega arith)
               (lined H U S Γ D C F .signature) (scoped H U S Γ D C F)
 
@@ -166,12 +162,12 @@ module _ (s d w : List ℕ) (stack at free k : ℕ) (p : Pred) (ls : Lines) (A :
             let F = fresh-both (K .known) (K .fresh) in
             let X = lined (K .before) (K .known) (K .steady) (K .scope) (K .dictionary) (K .scoped) F in
             let B = K .room in
-            let e = L .short fine in
-            let f = L .few fine in
+            let e = L .done .areas fine .short in
+            let f = L .done .areas fine .few in
             let h = tall in
             let x = B .some in
             let l = B .low in
-            let y = L .stored fine .more in
+            let y = L .done .areas fine .stored .more in
             record {
               height = A .height - 1;
               texts = A .texts - 1;
@@ -185,13 +181,13 @@ module _ (s d w : List ℕ) (stack at free k : ℕ) (p : Pred) (ls : Lines) (A :
                 scoped = within (K .before) (K .known) (K .steady) (K .scope) (K .dictionary) (K .scoped) F;
                 fresh = fresh (K .before) (K .known) (K .steady) (K .scope) (K .dictionary) (K .scoped) F;
                 once = once-left (predNumbers p) (linesNumbers ls) once;
-                size = L .stored fine .size ∙ K .size;
+                size = L .done .areas fine .stored .size ∙ K .size;
                 few = K .few;
-                clean = L .stored fine .after;
+                clean = L .done .areas fine .stored .after;
                 bound = K .bound;
                 crowd = crowd-part (K .bound) (textNumbers (text k p ls)) (predNumbers p) (K .crowd) (shorter .0);
                 room =
-                    between-part w w₂ stack (stack + m) at at₁ free (free + 64) (A .height) (A .height - 1) (K .bound) (K .bound) B (spared₂ free .size ∙ L .spared .size) (omega arith)
+                    between-part w w₂ stack (stack + m) at at₁ free (free + 64) (A .height) (A .height - 1) (K .bound) (K .bound) B (spared₂ free .size ∙ L .done .still .size) (omega arith)
                     (omega arith) (omega arith) (omega arith) (omega arith) (omega arith) (omega arith);
               };
             }
@@ -200,22 +196,17 @@ module _ (s d w : List ℕ) (stack at free k : ℕ) (p : Pred) (ls : Lines) (A :
         module _ (s₂ w₃ : List ℕ) (number₂ place₂ : ℕ) (Q : PredDone s₁ s₂ d w₂ w₃ (stack + m) at₁ (free + 64) p number₂ place₂) where
           spared : Spared w w₃ stack free
           spared =
-              spared-on w w₁ w₃ stack free (L .spared)
-              (spared-on w₁ w₂ w₃ stack free (spared₂ free) (spared-less w₂ w₃ (stack + m) stack (free + 64) free (omega arith) (omega arith) (Q .spared)))
+              spared-on w w₁ w₃ stack free (L .done .still)
+              (spared-on w₁ w₂ w₃ stack free (spared₂ free) (spared-less w₂ w₃ (stack + m) stack (free + 64) free (omega arith) (omega arith) (Q .done .still)))
 
           pub text-refused : (number₂ ≡ 0 → ⊥) → (count end : ℕ) → TextDone s s₂ d w w₃ stack at free (text k p ls) global number₂ place₂ count end
           unfolding textItems
           text-refused e count end = record {
-            spared = spared;
-            stored = λ z. absurd (e z);
-            short = λ z. absurd (e z);
-            few = λ z. absurd (e z);
-            goes = λ z. absurd (e z);
-            stops = λ z H U S Γ D C F.
+            done = done-refused spared e (λ H U S Γ D C u F.
                 let F′ = fresh-both U F in
                 let X = lined H U S Γ D C F′ in
                 refuses-second H (linesItems ls Γ (globalsIf global D) noNames) (predItems p (inside (text k p ls) Γ)) number₂ place₂ (X .walked .goes)
-                (Q .stops e (H ⨾ linesItems ls Γ (globalsIf global D) noNames) (X .unknowns) (X .walked .steady) (inside (text k p ls) Γ) D (within H U S Γ D C F′) (fresh H U S Γ D C F′));
+                (Q .done .stops e (H ⨾ linesItems ls Γ (globalsIf global D) noNames) (X .unknowns) (X .walked .steady) (inside (text k p ls) Γ) D (within H U S Γ D C F′) tt (fresh H U S Γ D C F′)));
           }
 
           module _ (fine₂ : number₂ ≡ 0) (same : length s₂ ≡ length s₁) where
@@ -230,7 +221,7 @@ module _ (s d w : List ℕ) (stack at free k : ℕ) (p : Pred) (ls : Lines) (A :
               X = lined H U S Γ D C F
 
               body : Went (H ⨾ a) b (X .unknowns) (predNumbers p)
-              body = Q .goes fine₂ (H ⨾ a) (X .unknowns) (X .walked .steady) (inside (text k p ls) Γ) D (within H U S Γ D C F) (fresh H U S Γ D C F)
+              body = Q .done .goes fine₂ (H ⨾ a) (X .unknowns) (X .walked .steady) (inside (text k p ls) Γ) D (within H U S Γ D C F) tt (fresh H U S Γ D C F)
 
               walked : Walked H (a ⨾ b) U (body .unknowns) (Owned (N ++ (k ∷ [])))
               walked =
@@ -244,20 +235,20 @@ module _ (s d w : List ℕ) (stack at free k : ℕ) (p : Pred) (ls : Lines) (A :
               unfolding Meets
               table =
                   let l = K .room .low in
-                  let f = L .few fine in
+                  let f = L .done .areas fine .few in
                   let h = tall in
                   let pool = K .room .pool in
-                  let short = L .short fine in
+                  let short = L .done .areas fine .short in
                   let o = K .room .some in
-                  let y = L .stored fine .more in
+                  let y = L .done .areas fine .stored .more in
                   let R = Placed s₂ d (H ⨾ (a ⨾ b)) (body .unknowns) in
                   let q = linesSignature ls Γ noNames in
-                  let size = L .stored fine .size ∙ K .size in
-                  carries-spared w₂ w₃ (stack + m) (free + 64) free m R q (Q .spared) l (omega arith)
+                  let size = L .done .areas fine .stored .size ∙ K .size in
+                  carries-spared w₂ w₃ (stack + m) (free + 64) free m R q (Q .done .still) l (omega arith)
                   (carries-spared w₁ w₂ stack (free + 64) free m R q (spared₂ (free + 64)) l (omega arith)
                   (carries-later s₂ d (H ⨾ a) (H ⨾ (a ⨾ b)) (X .unknowns) (body .unknowns) (body .walked .wider) (λ τ t. (t .0, t .1 .0)) q (rows w₁ free m)
-                  (carries-stored s₁ s₂ d at₁ at₁ size (L .stored fine .after) (omega arith) (omega arith)
-                  (stored-low s₁ s₂ at₁ same (omega arith) (L .stored fine .after) (Q .low fine₂)) (H ⨾ a) (X .unknowns) q (rows w₁ free m) (X .signature))))
+                  (carries-stored s₁ s₂ d at₁ at₁ size (L .done .areas fine .stored .after) (omega arith) (omega arith)
+                  (stored-low s₁ s₂ at₁ same (omega arith) (L .done .areas fine .stored .after) (Q .done .areas fine₂)) (H ⨾ a) (X .unknowns) q (rows w₁ free m) (X .signature))))
 
               -- and the scope inside the Text
               within-after : Scoped s₂ d w₃ (stack + m) (idle (H ⨾ (a ⨾ b)) (body .unknowns)) (inside (text k p ls) Γ) D
@@ -266,22 +257,26 @@ module _ (s d w : List ℕ) (stack at free k : ℕ) (p : Pred) (ls : Lines) (A :
                   scoped-later s₂ d w₃ (stack + m) (inside (text k p ls) Γ) D (idle ((H ⨾ a) ⨾ b) (body .unknowns)) (idle (H ⨾ (a ⨾ b)) (body .unknowns)) (λ x i. i)
                   (λ τ t. (((t .0 .0, t .0 .1 .0), t .0 .1 .1), tt))
                   (scoped-after s₁ s₂ d w₂ w₃ (stack + m) (free + 64) (inside (text k p ls) Γ) D (H ⨾ a) b (X .unknowns) (body .unknowns) (Owned (predNumbers p)) (body .walked)
-                  (Q .low fine₂) (Q .spared) (within H U S Γ D C F))
+                  (Q .done .areas fine₂) (Q .done .still) (within H U S Γ D C F))
 
             pub text-done : TextDone s s₂ d w w₃ stack at free (text k p ls) global number place m at₁
             unfolding textItems textNumbers textSignature
             text-done = record {
-              spared = spared;
-              stored = λ z. let pool = K .room .pool in stored-kept s s₁ s₂ at at₁ (omega arith) (L .stored fine) same (Q .low fine₂);
-              short = λ z. let e = L .short fine in omega arith;
-              few = λ z. L .few fine;
-              goes = λ z H U S Γ D C F.
-                  let F′ = fresh-both U F in
-                  record {
-                    unknowns = body H U S Γ D C F′ .unknowns;
-                    walked = walked H U S Γ D C F′;
-                    signature = table H U S Γ D C F′;
-                    within = within-after H U S Γ D C F′;
-                  };
-              stops = λ e. absurd (e fine);
+              done = record {
+                still = spared;
+                areas = λ z. record {
+                  stored = let pool = K .room .pool in stored-kept s s₁ s₂ at at₁ (omega arith) (L .done .areas fine .stored) same (Q .done .areas fine₂);
+                  short = let e = L .done .areas fine .short in omega arith;
+                  few = L .done .areas fine .few;
+                };
+                goes = λ z H U S Γ D C u F.
+                    let F′ = fresh-both U F in
+                    record {
+                      unknowns = body H U S Γ D C F′ .unknowns;
+                      walked = walked H U S Γ D C F′;
+                      signature = table H U S Γ D C F′;
+                      within = within-after H U S Γ D C F′;
+                    };
+                stops = λ e. absurd (e fine);
+              };
             }

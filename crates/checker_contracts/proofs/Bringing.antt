@@ -29,6 +29,7 @@ use Rattle.checker_contracts.specs.Includes.{actualCount, IncludeAsk, In
 use Rattle.checker_contracts.specs.Visits.{Owned, Fresh, idle, Spared}
 use Rattle.checker_contracts.proofs.Brought.{stored-again, stored-gap, actuals-more, brought-ask}
 use Rattle.checker_contracts.proofs.Scopes.{spared-on}
+use Rattle.checker_contracts.proofs.Refused.{done-refused}
 
 -- Nothing to merge with.
 merge-none : (n : ℕ) (q : Signature) (τ : Table) → Meets (mergeNames n q noNames) τ
@@ -48,22 +49,15 @@ module _ (s d w : List ℕ) (stack at free : ℕ) (i : Include) (A : BringsAsk s
 
   module _ (s₁ w₁ places₁ : List ℕ) (number place m at₁ : ℕ) (I : IncludeDone s s₁ d w w₁ stack at free i places places₁ number place m at₁) where
     stopped : (s′ w′ : List ℕ) (f k m′ at′ : ℕ) → (f ≡ 0 → ⊥) → Spared w w′ stack free →
-        ((H : Items) (U : List ℕ) → Steady H U → (Γ : Scope) (D : Dictionary) → Scoped s d w stack (idle H U) Γ D → Fresh (includeNumbers i) U →
+        ((H : Items) (U : List ℕ) → Steady H U → (Γ : Scope) (D : Dictionary) → Scoped s d w stack (idle H U) Γ D → (u : Unit {0}) → Fresh (includeNumbers i) U →
         Refuses (includeItems i Γ ⨾ smalls Γ) (Meets H) f k) → BringsDone s s′ d w w′ stack at free i f k m′ at′
-    stopped s′ w′ f k m′ at′ ne S r = record {
-      spared = S;
-      stored = λ e. absurd (ne e);
-      short = λ e. absurd (ne e);
-      few = λ e. absurd (ne e);
-      goes = λ e. absurd (ne e);
-      stops = λ e. r;
-    }
+    stopped s′ w′ f k m′ at′ ne S r = record { done = done-refused S ne r }
 
     -- the Include's own finding
     pub brings-refused : (number ≡ 0 → ⊥) → (m′ at′ : ℕ) → BringsDone s s₁ d w w₁ stack at free i number place m′ at′
     brings-refused ne m′ at′ =
-        stopped s₁ w₁ number place m′ at′ ne (I .spared)
-        (λ H U S Γ D C F. refuses-first H (includeItems i Γ) (smalls Γ) number place (I .stops ne H U S Γ D C F))
+        stopped s₁ w₁ number place m′ at′ ne (I .done .still .spared)
+        (λ H U S Γ D C u F. refuses-first H (includeItems i Γ) (smalls Γ) number place (I .done .stops ne H U S Γ D C tt F))
 
     module _ (fine : number ≡ 0) where
       abbrev actuals : List ℕ
@@ -72,9 +66,9 @@ module _ (s d w : List ℕ) (stack at free : ℕ) (i : Include) (A : BringsAsk s
       -- 38
       pub brings-large : SmallTold s₁ d w₁ free m actuals false → (m′ at′ : ℕ) → BringsDone s s₁ d w w₁ stack at free i 38 n m′ at′
       brings-large T m′ at′ =
-          stopped s₁ w₁ 38 n m′ at′ (λ e. omega arith) (I .spared)
-          (λ H U S Γ D C F.
-          let B = I .goes fine H U S Γ D C F in
+          stopped s₁ w₁ 38 n m′ at′ (λ e. omega arith) (I .done .still .spared)
+          (λ H U S Γ D C u F.
+          let B = I .done .goes fine H U S Γ D C tt F in
           let a = includeItems i Γ in
           refuses-second H a (smalls Γ) 38 n (B .walked .goes)
           (T .stops refl (H ⨾ a) (B .unknowns) n n (actualCount i) (includeSignature i Γ) (B .walked .steady) (B .actuals) (B .components)))
@@ -88,9 +82,9 @@ module _ (s d w : List ℕ) (stack at free : ℕ) (i : Include) (A : BringsAsk s
             let p = R .pool in
             let f = R .frames in
             let v = R .wide in
-            let x = I .short fine in
-            let y = I .few fine in
-            let z = I .spared .size in
+            let x = I .done .areas fine .short in
+            let y = I .done .areas fine .few in
+            let z = I .done .still .spared .size in
             record {
               actuals = Q .actuals;
               rows = Q .table;
@@ -98,10 +92,10 @@ module _ (s d w : List ℕ) (stack at free : ℕ) (i : Include) (A : BringsAsk s
               table = record { inside = omega arith; readable = λ j l. absurd (omega arith) };
               below = λ j l. absurd (omega arith);
               many = y;
-              clean = I .stored fine .after;
-              gap = stored-gap s s₁ at at₁ (omega arith) (A .walking .clean) (I .stored fine);
+              clean = I .done .areas fine .stored .after;
+              gap = stored-gap s s₁ at at₁ (omega arith) (A .walking .clean) (I .done .areas fine .stored);
               some = o;
-              before = I .stored fine .more;
+              before = I .done .areas fine .stored .more;
               room = omega arith;
               scratch = omega arith;
               near = omega arith;
@@ -115,28 +109,32 @@ module _ (s d w : List ℕ) (stack at free : ℕ) (i : Include) (A : BringsAsk s
           brings-done place′ =
               let t = A .walking .room .stack in
               let o = A .walking .room .low in
-              let y = I .few fine in
+              let y = I .done .areas fine .few in
               record {
-                spared = spared-on w w₁ w₂ stack free (I .spared)
-                    (record { size = E .size; scope = λ j l. E .words j (omega arith) (λ x u v. omega arith); frames = λ j x l. E .words j (omega arith) (λ x u v. omega arith) });
-                stored = λ e. stored-again s s₁ s₂ at at₁ at₂ (I .stored fine) (E .stored);
-                short = λ e. let x = E .new in let z = rows-few w₁ free m (rows w₁ free 0) in omega arith;
-                few = λ e. y;
-                goes = λ e H U S Γ D C F.
-                    let B = I .goes fine H U S Γ D C F in
-                    let a = includeItems i Γ in
-                    let q = includeSignature i Γ in
-                    let N = T .goes refl (H ⨾ a) (B .unknowns) n n (actualCount i) q (B .walked .steady) (B .actuals) (B .components) in
-                    let W = walked-then H a (smalls Γ) U (B .unknowns) (B .unknowns) (Owned (includeNumbers i)) S (B .walked)
-                    (walked-mine (H ⨾ a) (smalls Γ) (B .unknowns) (B .unknowns) (λ x. ⊥) (Owned (includeNumbers i)) (λ x b. absurd b) N) in
-                    let X = actuals-more s₁ d (H ⨾ a) (H ⨾ (a ⨾ smalls Γ)) (B .unknowns) n (actualCount i) actuals (λ τ h. (h .0, h .1 .0)) (B .actuals) in
-                    record {
-                      unknowns = B .unknowns;
-                      walked = W;
-                      signature =
-                          E .placed (H ⨾ (a ⨾ smalls Γ)) (B .unknowns) n q noNames (X .shown) (X .types) (X .stand) (X .alike)
-                          (components-fill s₁ d (H ⨾ (a ⨾ smalls Γ)) (B .unknowns) n (actualCount i) actuals X q _ (B .components))
-                          tt (λ τ h. merge-none n q τ) (λ τ h. h .1 .1) (W .steady);
-                    };
-                stops = λ e. absurd (e refl);
+                done = record {
+                  still = spared-on w w₁ w₂ stack free (I .done .still .spared)
+                      (record { size = E .size; scope = λ j l. E .words j (omega arith) (λ x u v. omega arith); frames = λ j x l. E .words j (omega arith) (λ x u v. omega arith) });
+                  areas = λ e. record {
+                    stored = stored-again s s₁ s₂ at at₁ at₂ (I .done .areas fine .stored) (E .stored);
+                    short = let x = E .new in let z = rows-few w₁ free m (rows w₁ free 0) in omega arith;
+                    few = y;
+                  };
+                  goes = λ e H U S Γ D C u F.
+                      let B = I .done .goes fine H U S Γ D C tt F in
+                      let a = includeItems i Γ in
+                      let q = includeSignature i Γ in
+                      let N = T .goes refl (H ⨾ a) (B .unknowns) n n (actualCount i) q (B .walked .steady) (B .actuals) (B .components) in
+                      let W = walked-then H a (smalls Γ) U (B .unknowns) (B .unknowns) (Owned (includeNumbers i)) S (B .walked)
+                      (walked-mine (H ⨾ a) (smalls Γ) (B .unknowns) (B .unknowns) (λ x. ⊥) (Owned (includeNumbers i)) (λ x b. absurd b) N) in
+                      let X = actuals-more s₁ d (H ⨾ a) (H ⨾ (a ⨾ smalls Γ)) (B .unknowns) n (actualCount i) actuals (λ τ h. (h .0, h .1 .0)) (B .actuals) in
+                      record {
+                        unknowns = B .unknowns;
+                        walked = W;
+                        signature =
+                            E .placed (H ⨾ (a ⨾ smalls Γ)) (B .unknowns) n q noNames (X .shown) (X .types) (X .stand) (X .alike)
+                            (components-fill s₁ d (H ⨾ (a ⨾ smalls Γ)) (B .unknowns) n (actualCount i) actuals X q _ (B .components))
+                            tt (λ τ h. merge-none n q τ) (λ τ h. h .1 .1) (W .steady);
+                      };
+                  stops = λ e. absurd (e refl);
+                };
               }

@@ -33,17 +33,17 @@ actuals-more s d H H′ U k q places says A =
 module _ (s s₁ d w w₁ : List ℕ) (stack at free h : ℕ) (i : Include) (places places₁ : List ℕ) (number place m at₁ : ℕ) (K : Walking s d w stack at free h (includeNumbers i))
     (I : IncludeDone s s₁ d w w₁ stack at free i places places₁ number place m at₁) (fine : number ≡ 0) where
   brought : Brought s₁ d w₁ m free (K .before) (K .known) (K .scope) i places₁
-  brought = I .goes fine (K .before) (K .known) (K .steady) (K .scope) (K .dictionary) (K .scoped) (K .fresh)
+  brought = I .done .goes fine (K .before) (K .known) (K .steady) (K .scope) (K .dictionary) (K .scoped) tt (K .fresh)
 
   pub brought-size : length s₁ ≡ 52224
-  brought-size = I .stored fine .size ∙ K .size
+  brought-size = I .done .areas fine .stored .size ∙ K .size
 
   pub brought-ask : RowsAsk s₁ d w₁ free m (take (actualCount i) places₁)
   brought-ask =
       let T = brought .actuals in
       let f = K .few in
-      let z = I .spared .size in
-      let a = I .few fine in
+      let z = I .done .still .spared .size in
+      let a = I .done .areas fine .few in
       let b = K .room .frames in
       let c = K .room .wide in
       record {

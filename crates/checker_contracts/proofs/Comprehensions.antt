@@ -121,14 +121,14 @@ module _ (s d w : List ℕ) (rows n top at free : ℕ) (k : ℕ) (t : Text) (a :
       compr-text-stops ne cell n′ top′ at′ =
           done s₁ w₂ number place cell n′ top′ at′
           (part-stops s s₁ d w w₂ rows n top at free (λ Γ. textItems t Γ blank) bodyItems l rest nothing 0 (slot k 0) number place 0 cell n′ top′ at′ ne
-          (waiting-stops s d w w₁ rows n top at free (K .height) e l rest compr-visiting some deep S w₂ (T .spared) (λ Γ. textItems t Γ blank) s₁ 0 number place 0 n′ top′ at′ ne (λ H U Z Γ D C f. T .stops ne H U Z Γ D C f)))
+          (waiting-stops s d w w₁ rows n top at free (K .height) e l rest compr-visiting some deep S w₂ (T .done .still) (λ Γ. textItems t Γ blank) s₁ 0 number place 0 n′ top′ at′ ne (λ H U Z Γ D C f. T .done .stops ne H U Z Γ D C tt f)))
 
       module _ (z : number ≡ 0) where
         pub compr-restore-asked : (n ≤ 1024) × (4096 ≤ top) × (top ≤ 6144) × (free < 2 ^ 39) × (free + (5 * n + (top - 4096)) ≤ length w₂)
-        compr-restore-asked = restore-asked s d w w₁ rows n top at free (K .height) e l rest compr-visiting some deep S w₂ (T .spared)
+        compr-restore-asked = restore-asked s d w w₁ rows n top at free (K .height) e l rest compr-visiting some deep S w₂ (T .done .still)
 
         reach : at₁ < 39936
-        reach = let p = compr-visiting .room .pool in let q = T .short z in let r = T .few z in let h = deep in omega arith
+        reach = let p = compr-visiting .room .pool in let q = T .done .areas z .short in let r = T .done .areas z .few in let h = deep in omega arith
 
         module _ (s₂ : List ℕ) (R : s₂ ≡ restored s₁ n top w₂ free) where
           abbrev After : Fact
@@ -137,21 +137,21 @@ module _ (s d w : List ℕ) (rows n top at free : ℕ) (k : ℕ) (t : Text) (a :
           First : Part s s₂ d w w₂ rows n top n top at at₁ free (λ Γ. textItems t Γ blank) l nothing After
           unfolding globalsIf
           First =
-              let X = waiting-step s d w w₁ rows n top at free (K .height) e l rest compr-visiting some deep S w₂ (T .spared) s₁ s₂ at₁ (T .stored z) R (λ Γ. textItems t Γ blank)
+              let X = waiting-step s d w w₁ rows n top at free (K .height) e l rest compr-visiting some deep S w₂ (T .done .still) s₁ s₂ at₁ (T .done .areas z .stored) R (λ Γ. textItems t Γ blank)
               (λ Γ. text-agrees t Γ blank) (λ Γ D G. Scoped s₁ d w₂ (rows + m) G (inside t Γ) D) After reach
-              (λ H U Z Γ D C f. let q = T .goes z H U Z Γ D C f in (q .unknowns, q .walked, q .within))
+              (λ H U Z Γ D C f. let q = T .done .goes z H U Z Γ D C tt f in (q .unknowns, q .walked, q .within))
               (λ Γ D G G′ wider says C. scoped-low s₁ s₂ d w₂ (rows + m) G′ (inside t Γ) D low (scoped-later s₁ d w₂ (rows + m) (inside t Γ) D G G′ wider says C)) in
               record {
                 step = X;
                 areas = record {
                   stored = X .stored;
-                  short = let q = T .short z in let r = T .few z in let o = text-two t in omega arith;
-                  uses = taken-uses s d w w₁ rows n top at free (K .height) e l rest compr-visiting some deep S w₂ (T .spared) s₁ s₂ at₁ (T .stored z) R (40 * length l);
+                  short = let q = T .done .areas z .short in let r = T .done .areas z .few in let o = text-two t in omega arith;
+                  uses = taken-uses s d w w₁ rows n top at free (K .height) e l rest compr-visiting some deep S w₂ (T .done .still) s₁ s₂ at₁ (T .done .areas z .stored) R (40 * length l);
                 };
               }
             where
               low : lower s₂ ≡ lower s₁
-              low = taken-low s d w w₁ rows n top at free (K .height) e l rest compr-visiting some deep S w₂ (T .spared) s₁ s₂ at₁ (T .stored z) R
+              low = taken-low s d w w₁ rows n top at free (K .height) e l rest compr-visiting some deep S w₂ (T .done .still) s₁ s₂ at₁ (T .done .areas z .stored) R
 
           abbrev M : Visiting s₂ d w₂ rows n top at₁ free (K .height) rest
           M = part-next s s₂ d w w₂ rows n top n top at at₁ free (K .height) (λ Γ. textItems t Γ blank) l rest nothing After compr-visiting First tt
@@ -177,7 +177,7 @@ module _ (s d w : List ℕ) (rows n top at free : ℕ) (k : ℕ) (t : Text) (a :
               size = M .size;
               clean = M .clean;
               room = inside-rows s₂ w₂ rows m n top at₁ free (K .height - 1) (length la)
-                  (inside-part s₂ w₂ rows n top at₁ free (K .height) (suc (K .height - 1)) (length la) (length rest) (M .room) (let h = deep in omega arith) (omega (arith, length-append la (k ∷ [])))) (T .few z);
+                  (inside-part s₂ w₂ rows n top at₁ free (K .height) (suc (K .height - 1)) (length la) (length rest) (M .room) (let h = deep in omega arith) (omega (arith, length-append la (k ∷ [])))) (T .done .areas z .few);
             };
           }
 

@@ -28,7 +28,7 @@ use Rattle.checker_signatures.proofs.CarryLaws.{carries-other, carries-merge, c
 use Rattle.checker_merging.specs.Merging.{TypedAt, RowsTold}
 use Rattle.types_instances.specs.Clean.{Clean}
 use Rattle.checker_pieces.specs.Piece.{Steady, Walked}
-use Rattle.checker_pieces.proofs.Between.{walked-then, walked-mine, walked-skip, refuses-first, refuses-second, refused}
+use Rattle.checker_pieces.proofs.Between.{walked-mine}
 use Rattle.checker_lookup.specs.Scoped.{Scoped}
 use Rattle.checker_includes.specs.Components.{Placed}
 use Rattle.checker_includes.specs.Storing.{Stored}
@@ -39,6 +39,9 @@ use Rattle.checker_contracts.proofs.Nodes.{fresh-left, fresh-after, onc
 use Rattle.checker_contracts.proofs.Passing.{walking-first}
 use Rattle.checker_contracts.proofs.Rooms.{between-part, crowd-part}
 use Rattle.checker_contracts.proofs.Scopes.{scoped-stored, scoped-spared, scoped-walked, carries-stored, carries-spared, carries-walked, carries-later, spared-on, spared-less, stored-on}
+use Rattle.checker_contracts.proofs.Counting.{few-noted, few-refused}
+use Rattle.checker_contracts.proofs.ItemOrder.{Order, only, _then_, grouped, listed, after, AllPass, AllWalked, refuses-at, all-walked}
+use Rattle.checker_contracts.proofs.Refused.{done-refused}
 
 -- What holds of both sides, before anything is merged.
 abbrev pub Sides : Items → Schema → Schema → Scope → Items
@@ -69,14 +72,10 @@ pub noted : (H c : Items) (U : List ℕ) (M : ℕ → Type 0) → Walked H c U U
 unfolding Meets
 noted H c U M W τ m = let x = W .extends τ m in W .steady .local (x .0) τ (x .2) (x .1) .1
 
--- 38: sixteen identifiers.
-pub few-refused : (H : Items) (k : ℕ) (q : Signature) → 16 < countNames q → Refuses (fewNames k q) (Meets H) 38 k
-unfolding fewNames refuseIf
-few-refused H k q l = rw (lt-ltb 16 (countNames q) l) (refused H 38 k)
-
-pub few-noted : (H : Items) (U : List ℕ) (M : ℕ → Type 0) (k : ℕ) (q : Signature) → Steady H U → countNames q ≤ 16 → Walked H (fewNames k q) U U M
-unfolding fewNames refuseIf
-few-noted H U M k q S l = rw (le-ltb 16 (countNames q) l) (walked-skip H U M S)
+-- The items of a Conjunction in order: those of its sides, 36, 38 (checker_rules/specs/Rules, schemaItems).
+abbrev sideOrder : ℕ → Schema → Schema → Scope → Order
+sideOrder k a b Γ =
+    only (schemaItems a Γ) then (only (schemaItems b Γ) then (only (mergeNames k (schemaSignature b Γ) (schemaSignature a Γ)) then only (fewNames k (merge (schemaSignature b Γ) (schemaSignature a Γ)))))
 
 module _ (s d w : List ℕ) (stack at free k : ℕ) (a b : Schema) (A : SchemaAsk s d w stack at free (both k a b)) where
   abbrev na : List ℕ
@@ -118,38 +117,31 @@ module _ (s d w : List ℕ) (stack at free k : ℕ) (a b : Schema) (A : SchemaAs
   module _ (s₁ w₁ : List ℕ) (number place m at₁ : ℕ) (P : SchemaDone s s₁ d w w₁ stack at free a number place m at₁) where
     -- the finding of the left side
     pub both-first-stops : (number ≡ 0 → ⊥) → SchemaDone s s₁ d w w₁ stack at free (both k a b) number place m at₁
-    unfolding schemaItems
-    both-first-stops z = record {
-      spared = P .spared;
-      stored = λ e. absurd (z e);
-      short = λ e. absurd (z e);
-      few = λ e. absurd (z e);
-      goes = λ e. absurd (z e);
-      stops = λ e H U S Γ D C F. refuses-first H (schemaItems a Γ) _ number place (P .stops e H U S Γ D C (fresh-first U F));
-    }
+    unfolding schemaItems grouped listed after AllPass
+    both-first-stops z = record { done = done-refused (P .done .still) z (λ H U S Γ D C u F. refuses-at (sideOrder k a b Γ) H 0 number place tt (P .done .stops z H U S Γ D C tt (fresh-first U F))) }
 
     module _ (fine : number ≡ 0) where
       stored : Stored s s₁ at at₁
-      stored = P .stored fine
+      stored = P .done .areas fine .stored
 
       size₁ : length s₁ ≡ 52224
       size₁ = stored .size ∙ A .walking .size
 
       -- the pool's words so far
       pub low-enough : at₁ + 3072 ≤ 39072
-      low-enough = let p = A .walking .room .pool in let q = P .short fine in let l = P .few fine in let o = high in omega arith
+      low-enough = let p = A .walking .room .pool in let q = P .done .areas fine .short in let l = P .done .areas fine .few in let o = high in omega arith
 
       pub some₁ : 1 ≤ at₁
       some₁ = let p = A .walking .room .some in let q = stored .more in omega arith
 
       went : (H : Items) (U : List ℕ) → Steady H U → (Γ : Scope) (D : Dictionary) → Scoped s d w stack (idle H U) Γ D → Fresh (schemaNumbers (both k a b)) U → SchemaWent s₁ d w₁ m free H U Γ a
-      went H U S Γ D C F = P .goes fine H U S Γ D C (fresh-first U F)
+      went H U S Γ D C F = P .done .goes fine H U S Γ D C tt (fresh-first U F)
 
-      after : (H : Items) (U : List ℕ) (Γ : Scope) (D : Dictionary) → Scoped s d w stack (idle H U) Γ D → (X : SchemaWent s₁ d w₁ m free H U Γ a) →
+      scoped-left : (H : Items) (U : List ℕ) (Γ : Scope) (D : Dictionary) → Scoped s d w stack (idle H U) Γ D → (X : SchemaWent s₁ d w₁ m free H U Γ a) →
           Scoped s₁ d w₁ stack (idle (H ⨾ schemaItems a Γ) (X .unknowns)) Γ D
-      after H U Γ D C X =
+      scoped-left H U Γ D C X =
           let p = A .walking .room .pool in
-          scoped-spared s₁ d w w₁ stack free (idle (H ⨾ schemaItems a Γ) (X .unknowns)) Γ D (P .spared)
+          scoped-spared s₁ d w w₁ stack free (idle (H ⨾ schemaItems a Γ) (X .unknowns)) Γ D (P .done .still)
           (scoped-walked s₁ d w stack Γ D H (schemaItems a Γ) U (X .unknowns) (Owned na) (X .walked)
           (scoped-stored s s₁ d at at₁ (A .walking .size) (A .walking .clean) (A .walking .room .some) (omega arith) stored w stack (idle H U) Γ D C))
 
@@ -159,8 +151,8 @@ module _ (s d w : List ℕ) (stack at free k : ℕ) (a b : Schema) (A : SchemaAs
           let K = A .walking in
           let X = went (K .before) (K .known) (K .steady) (K .scope) (K .dictionary) (K .scoped) (K .fresh) in
           let o = high in
-          let q = P .short fine in
-          let l = P .few fine in
+          let q = P .done .areas fine .short in
+          let l = P .done .areas fine .few in
           let f = K .room .low in
           let e = length-append (na ++ nb) last in
           let e′ = length-append na nb in
@@ -175,7 +167,7 @@ module _ (s d w : List ℕ) (stack at free k : ℕ) (a b : Schema) (A : SchemaAs
               steady = X .walked .steady;
               scope = K .scope;
               dictionary = K .dictionary;
-              scoped = after (K .before) (K .known) (K .scope) (K .dictionary) (K .scoped) X;
+              scoped = scoped-left (K .before) (K .known) (K .scope) (K .dictionary) (K .scoped) X;
               fresh = fresh-second (K .known) (X .unknowns) (K .before) (schemaItems a (K .scope)) (X .walked) (K .fresh);
               once = once-right na nb once;
               size = size₁;
@@ -183,40 +175,34 @@ module _ (s d w : List ℕ) (stack at free k : ℕ) (a b : Schema) (A : SchemaAs
               clean = stored .after;
               bound = K .bound;
               crowd = crowd-part (K .bound) ((na ++ nb) ++ last) nb (K .crowd) (omega arith);
-              room = between-part w w₁ stack stack at at₁ free (free + 64) (A .height) (A .height - 1) (K .bound) (K .bound) (K .room) (P .spared .size) (omega arith) (omega arith)
+              room = between-part w w₁ stack stack at at₁ free (free + 64) (A .height) (A .height - 1) (K .bound) (K .bound) (K .room) (P .done .still .size) (omega arith) (omega arith)
                   c (omega arith) (omega arith) (omega arith) (omega arith);
             };
           }
 
       module _ (s₂ w₂ : List ℕ) (number′ place′ n at₂ : ℕ) (Q : SchemaDone s₁ s₂ d w₁ w₂ stack at₁ (free + 64) b number′ place′ n at₂) where
         pub both-spared : Spared w w₂ stack free
-        both-spared = spared-on w w₁ w₂ stack free (P .spared) (spared-less w₁ w₂ stack stack (free + 64) free (omega arith) (omega arith) (Q .spared))
+        both-spared = spared-on w w₁ w₂ stack free (P .done .still) (spared-less w₁ w₂ stack stack (free + 64) free (omega arith) (omega arith) (Q .done .still))
 
         -- the finding of the right side
         pub both-second-stops : (number′ ≡ 0 → ⊥) → SchemaDone s s₂ d w w₂ stack at free (both k a b) number′ place′ n at₂
-        unfolding schemaItems
+        unfolding schemaItems grouped listed after AllPass
         both-second-stops z = record {
-          spared = both-spared;
-          stored = λ e. absurd (z e);
-          short = λ e. absurd (z e);
-          few = λ e. absurd (z e);
-          goes = λ e. absurd (z e);
-          stops = λ e H U S Γ D C F.
+          done = done-refused both-spared z (λ H U S Γ D C u F.
               let X = went H U S Γ D C F in
-              refuses-second H (schemaItems a Γ) _ number′ place′ (X .walked .goes)
-              (refuses-first (H ⨾ schemaItems a Γ) (schemaItems b Γ) _ number′ place′
-              (Q .stops e (H ⨾ schemaItems a Γ) (X .unknowns) (X .walked .steady) Γ D (after H U Γ D C X) (fresh-second U (X .unknowns) H (schemaItems a Γ) (X .walked) F)));
+              refuses-at (sideOrder k a b Γ) H 1 number′ place′ (X .walked .goes, tt)
+              (Q .done .stops z (H ⨾ schemaItems a Γ) (X .unknowns) (X .walked .steady) Γ D (scoped-left H U Γ D C X) tt (fresh-second U (X .unknowns) H (schemaItems a Γ) (X .walked) F)));
         }
 
         module _ (fine′ : number′ ≡ 0) where
           stored′ : Stored s₁ s₂ at₁ at₂
-          stored′ = Q .stored fine′
+          stored′ = Q .done .areas fine′ .stored
 
           pub both-paired : (H : Items) (U : List ℕ) → Steady H U → (Γ : Scope) (D : Dictionary) → Scoped s d w stack (idle H U) Γ D → Fresh (schemaNumbers (both k a b)) U →
               Paired s₁ s₂ d w₁ w₂ m n free H U Γ a b
           both-paired H U S Γ D C F =
               let X = went H U S Γ D C F in
-              let Y = Q .goes fine′ (H ⨾ schemaItems a Γ) (X .unknowns) (X .walked .steady) Γ D (after H U Γ D C X) (fresh-second U (X .unknowns) H (schemaItems a Γ) (X .walked) F) in
+              let Y = Q .done .goes fine′ (H ⨾ schemaItems a Γ) (X .unknowns) (X .walked .steady) Γ D (scoped-left H U Γ D C X) tt (fresh-second U (X .unknowns) H (schemaItems a Γ) (X .walked) F) in
               record {
                 middle = X .unknowns;
                 first = X .walked;
@@ -230,36 +216,25 @@ module _ (s d w : List ℕ) (stack at free k : ℕ) (a b : Schema) (A : SchemaAs
           pub left-later : (s₃ w₃ : List ℕ) (at₃ : ℕ) → Stored s₁ s₃ at₁ at₃ → Spared w₁ w₃ stack (free + 64) → (H : Items) (U : List ℕ) (Γ : Scope) (Z : Paired s₁ s₂ d w₁ w₂ m n free H U Γ a b) →
               Carries (Placed s₃ d (Sides H a b Γ) (Z .unknowns)) (schemaSignature a Γ) (rows w₃ free m)
           left-later s₃ w₃ at₃ T E H U Γ Z =
-              let l = P .few fine in
+              let l = P .done .areas fine .few in
               let o = low-enough in
               carries-spared w₁ w₃ stack (free + 64) free m (Placed s₃ d (Sides H a b Γ) (Z .unknowns)) (schemaSignature a Γ) E (A .walking .room .low) (omega arith)
               (carries-stored s₁ s₃ d at₁ at₃ size₁ (stored .after) some₁ (omega arith) T (Sides H a b Γ) (Z .unknowns) (schemaSignature a Γ) (rows w₁ free m) (Z .left))
 
           module _ (H : Items) (U : List ℕ) (Γ : Scope) (Z : Paired s₁ s₂ d w₁ w₂ m n free H U Γ a b) where
             pub left-now : Carries (TypedAt s₂ d (Sides H a b Γ) (Z .unknowns)) (schemaSignature a Γ) (rows w₂ free m)
-            left-now = typed-rows s₂ d (Sides H a b Γ) (Z .unknowns) (schemaSignature a Γ) (rows w₂ free m) (left-later s₂ w₂ at₂ stored′ (Q .spared) H U Γ Z)
+            left-now = typed-rows s₂ d (Sides H a b Γ) (Z .unknowns) (schemaSignature a Γ) (rows w₂ free m) (left-later s₂ w₂ at₂ stored′ (Q .done .still) H U Γ Z)
 
             pub right-now : Carries (TypedAt s₂ d (Sides H a b Γ) (Z .unknowns)) (schemaSignature b Γ) (rows w₂ (free + 64) n)
             right-now = typed-rows s₂ d (Sides H a b Γ) (Z .unknowns) (schemaSignature b Γ) (rows w₂ (free + 64) n) (Z .right)
 
-            both-refused : (f : ℕ) (c x : Items) → Refuses (c ⨾ x) (Meets (Sides H a b Γ)) f k → Refuses (schemaItems a Γ ⨾ (schemaItems b Γ ⨾ (c ⨾ x))) (Meets H) f k
-            both-refused f c x R =
-                refuses-second H (schemaItems a Γ) (schemaItems b Γ ⨾ (c ⨾ x)) f k (Z .first .goes)
-                (refuses-second (H ⨾ schemaItems a Γ) (schemaItems b Γ) (c ⨾ x) f k (Z .second .goes) R)
-
           -- 36
           pub both-clash : RowsTold s₂ d w₂ free m (free + 64) n false → (m′ at′ : ℕ) → SchemaDone s s₂ d w w₂ stack at free (both k a b) 36 k m′ at′
-          unfolding schemaItems
+          unfolding schemaItems grouped listed after AllPass
           both-clash T m′ at′ = record {
-            spared = both-spared;
-            stored = λ e. absurd (omega arith);
-            short = λ e. absurd (omega arith);
-            few = λ e. absurd (omega arith);
-            goes = λ e. absurd (omega arith);
-            stops = λ e H U S Γ D C F.
+            done = done-refused both-spared (λ e. omega arith) (λ H U S Γ D C u F.
                 let Z = both-paired H U S Γ D C F in
-                both-refused H U Γ Z 36 (mergeNames k (schemaSignature b Γ) (schemaSignature a Γ)) (fewNames k (merge (schemaSignature b Γ) (schemaSignature a Γ)))
-                (refuses-first (Sides H a b Γ) (mergeNames k (schemaSignature b Γ) (schemaSignature a Γ)) (fewNames k (merge (schemaSignature b Γ) (schemaSignature a Γ))) 36 k
+                refuses-at (sideOrder k a b Γ) H 2 36 k (Z .first .goes, (Z .second .goes, tt))
                 (T .stops refl (Sides H a b Γ) (Z .unknowns) k (schemaSignature b Γ) (schemaSignature a Γ) (Z .second .steady) (right-now H U Γ Z) (left-now H U Γ Z)));
           }
 
@@ -273,7 +248,7 @@ module _ (s d w : List ℕ) (stack at free k : ℕ) (a b : Schema) (A : SchemaAs
             spared₄ =
                 let f = A .walking .room .low in
                 let q = A .walking .room .stack in
-                spared-on w w₁ w₄ stack free (P .spared)
+                spared-on w w₁ w₄ stack free (P .done .still)
                 (spared-on w₁ w₃ w₄ stack free (spared-less w₁ w₃ stack stack (free + 64) free (omega arith) (omega arith) E)
                 (spared-table w₃ w₄ stack free (mergeRows (rows w₃ (free + 64) n) (rows w₃ free m)) r (omega arith) W))
 
@@ -297,54 +272,62 @@ module _ (s d w : List ℕ) (stack at free k : ℕ) (a b : Schema) (A : SchemaAs
 
             -- 38
             pub both-many : 16 < r → (m′ at′ : ℕ) → SchemaDone s s₃ d w w₄ stack at free (both k a b) 38 k m′ at′
-            unfolding schemaItems
+            unfolding schemaItems grouped listed after AllPass
             both-many l m′ at′ = record {
-              spared = spared₄;
-              stored = λ x. absurd (omega arith);
-              short = λ x. absurd (omega arith);
-              few = λ x. absurd (omega arith);
-              goes = λ x. absurd (omega arith);
-              stops = λ x H U S Γ D C F.
+              done = done-refused spared₄ (λ x. omega arith) (λ H U S Γ D C u F.
                   let Z = both-paired H U S Γ D C F in
                   let G = agreed H U Γ Z in
                   let c = counted H U Γ Z in
-                  both-refused H U Γ Z 38 (met H U Γ Z) (fewNames k (joined H U Γ Z))
-                  (refuses-second (Sides H a b Γ) (met H U Γ Z) (fewNames k (joined H U Γ Z)) 38 k (G .goes) (few-refused (Sides H a b Γ ⨾ met H U Γ Z) k (joined H U Γ Z) (omega arith)));
+                  refuses-at (sideOrder k a b Γ) H 3 38 k (Z .first .goes, (Z .second .goes, (G .goes, tt))) (few-refused (Sides H a b Γ ⨾ met H U Γ Z) k (joined H U Γ Z) (omega arith)));
             }
 
             pub both-done : r ≤ 16 → m ≤ r → e ≤ at₁ + 96 * (r - m) → SchemaDone s s₃ d w w₄ stack at free (both k a b) 0 k r e
-            unfolding schemaItems schemaSignature schemaNumbers Meets
+            unfolding schemaItems schemaSignature schemaNumbers Meets grouped listed AllWalked
             both-done l q h = record {
-              spared = spared₄;
-              stored = λ x. stored-on s s₁ s₃ at at₁ e stored B;
-              short = λ x. let y = P .short fine in omega arith;
-              few = λ x. l;
-              goes = λ x H U S Γ D C F.
-                  let Z = both-paired H U S Γ D C F in
-                  let G = agreed H U Γ Z in
-                  let c = counted H U Γ Z in
-                  let N = (na ++ nb) ++ last in
-                  let sa = schemaItems a Γ in
-                  let sb = schemaItems b Γ in
-                  let M = met H U Γ Z in
-                  let O = fewNames k (joined H U Γ Z) in
-                  let y = P .spared .size in
-                  let z = E .size in
-                  let g = A .walking .room .frames in
-                  let u = A .walking .room .wide in
-                  record {
-                    unknowns = Z .unknowns;
-                    walked =
-                        walked-then H sa (sb ⨾ (M ⨾ O)) U (Z .middle) (Z .unknowns) (Owned N) S
-                        (walked-mine H sa U (Z .middle) (Owned na) (Owned N) (λ i o. owned-left (na ++ nb) last i (owned-left na nb i o)) (Z .first))
-                        (walked-then (H ⨾ sa) sb (M ⨾ O) (Z .middle) (Z .unknowns) (Z .unknowns) (Owned N) (Z .first .steady)
-                        (walked-mine (H ⨾ sa) sb (Z .middle) (Z .unknowns) (Owned nb) (Owned N) (λ i o. owned-left (na ++ nb) last i (owned-right na nb i o)) (Z .second))
-                        (walked-then (Sides H a b Γ) M O (Z .unknowns) (Z .unknowns) (Z .unknowns) (Owned N) (Z .second .steady)
-                        (walked-mine (Sides H a b Γ) M (Z .unknowns) (Z .unknowns) (λ i. ⊥) (Owned N) (λ i o. absurd o) G)
-                        (few-noted (Sides H a b Γ ⨾ M) (Z .unknowns) (Owned N) k (joined H U Γ Z) (G .steady) (omega arith))));
-                    signature =
-                        carries-later s₃ d (Sides H a b Γ) (H ⨾ (sa ⨾ (sb ⨾ (M ⨾ O)))) (Z .unknowns) (Z .unknowns) (λ i j. j) (λ τ j. ((j .0, j .1 .0), j .1 .1 .0)) (joined H U Γ Z) (rows w₄ free r)
-                        (carried (Placed s₃ d (Sides H a b Γ) (Z .unknowns)) w₃ w₄ free (mergeRows (rows w₃ (free + 64) n) (rows w₃ free m)) r (joined H U Γ Z) W (omega arith) (merged H U Γ Z));
-                  };
-              stops = λ x. absurd (x refl);
+              done = record {
+                still = spared₄;
+                areas = λ x. record {
+                  stored = stored-on s s₁ s₃ at at₁ e stored B;
+                  short = let y = P .done .areas fine .short in omega arith;
+                  few = l;
+                };
+                goes = λ x H U S Γ D C u F.
+                    let Z = both-paired H U S Γ D C F in
+                    let G = agreed H U Γ Z in
+                    let c = counted H U Γ Z in
+                    let N = (na ++ nb) ++ last in
+                    let sa = schemaItems a Γ in
+                    let sb = schemaItems b Γ in
+                    let M = met H U Γ Z in
+                    let O = fewNames k (joined H U Γ Z) in
+                    let y = P .done .still .size in
+                    let z = E .size in
+                    let g = A .walking .room .frames in
+                    let u = A .walking .room .wide in
+                    record {
+                      unknowns = Z .unknowns;
+                      walked =
+                          all-walked (sideOrder k a b Γ) H U (Z .unknowns) (Owned N) S (
+                            Z .middle,
+                            walked-mine H sa U (Z .middle) (Owned na) (Owned N) (λ i o. owned-left (na ++ nb) last i (owned-left na nb i o)) (Z .first),
+                            (
+                              Z .unknowns,
+                              walked-mine (H ⨾ sa) sb (Z .middle) (Z .unknowns) (Owned nb) (Owned N) (λ i o. owned-left (na ++ nb) last i (owned-right na nb i o)) (Z .second),
+                              (
+                                Z .unknowns,
+                                walked-mine (Sides H a b Γ) M (Z .unknowns) (Z .unknowns) (λ i. ⊥) (Owned N) (λ i o. absurd o) G,
+                                (
+                                  Z .unknowns,
+                                  few-noted (Sides H a b Γ ⨾ M) (Z .unknowns) (Owned N) k (joined H U Γ Z) (G .steady) (omega arith),
+                                  refl,
+                                ),
+                              ),
+                            ),
+                          );
+                      signature =
+                          carries-later s₃ d (Sides H a b Γ) (H ⨾ (sa ⨾ (sb ⨾ (M ⨾ O)))) (Z .unknowns) (Z .unknowns) (λ i j. j) (λ τ j. ((j .0, j .1 .0), j .1 .1 .0)) (joined H U Γ Z) (rows w₄ free r)
+                          (carried (Placed s₃ d (Sides H a b Γ) (Z .unknowns)) w₃ w₄ free (mergeRows (rows w₃ (free + 64) n) (rows w₃ free m)) r (joined H U Γ Z) W (omega arith) (merged H U Γ Z));
+                    };
+                stops = λ x. absurd (x refl);
+              };
             }

@@ -40,7 +40,7 @@ use Rattle.checker_pieces.specs.Stage.{Ghost, Room, Uses}
 use Rattle.checker_pieces.proofs.Stages.{room-less}
 use Rattle.checker_pieces.specs.Building.{Powered, Working}
 use Rattle.checker_pieces.specs.Closed.{Closing, Closed, Shut, Sizing, SizeIs}
-use Rattle.checker_pieces.proofs.Between.{walked-mine, walked-then, settled-later, small-noted, small-refused}
+use Rattle.checker_pieces.proofs.Between.{walked-mine, settled-later, small-noted, small-refused}
 use Rattle.checker_lookup.specs.Scoped.{Scoped}
 use Rattle.checker_includes.specs.Components.{Placed, StandsFor}
 use Rattle.checker_includes.specs.Storing.{Stored, Scratch}
@@ -55,8 +55,10 @@ use Rattle.checker_contracts.proofs.Scopes.{spared-less, carries-stored
 use Rattle.checker_contracts.proofs.Opening.{opened}
 use Rattle.checker_contracts.proofs.Elements.{Element, ElementOwned, ElementNew, elementItems, element-stopped, element-working, element-unequal, element-closing, element-several}
 use Rattle.checker_contracts.proofs.Elements.{element-sizing, element-done, element-clean, element-gap, element-stored, element-spared, element-size}
-use Rattle.checker_contracts.proofs.LineItems.{lineItems, line-first, line-second, line-third, line-fourth, line-fifth, line-walked}
+use Rattle.checker_contracts.proofs.ItemOrder.{Order, nothing, grouped, listed, after, AllPass, AllWalked, refuses-at, all-walked}
+use Rattle.checker_contracts.proofs.LineItems.{lineOrder}
 use Rattle.checker_contracts.proofs.Counting.{declare-grows, declare-same, declare-kept, few-noted, few-refused}
+use Rattle.checker_contracts.proofs.Refused.{done-refused}
 
 -- Words stored and wiped.
 pub stored-wiped : (s s′ : List ℕ) (at e : ℕ) → length s ≡ 52224 → Clean s at → 1 ≤ at → e < 39936 → Stored s s′ at e → Stored s (sets s′ at (replicate (e - at) 0)) at at
@@ -140,8 +142,11 @@ module _ (s d w : List ℕ) (stack base m at free n : ℕ) (a : Expr) (is : List
   decl-low : (at < 39936) × (2 * stack ≤ 512)
   decl-low = let p = K .room .pool in let q = K .room .stack in (omega arith, omega arith)
 
+  abbrev order : Scope → Dictionary → Signature → Order
+  order Γ G r = lineOrder (piece n (elementItems a n 0 Γ)) (mergeDeclared n is t r) (newNames n is G) (small n t) (fewNames n (declare is t r)) nothing
+
   abbrev declItems : Scope → Dictionary → Signature → Items
-  declItems Γ G r = lineItems (piece n (elementItems a n 0 Γ)) (mergeDeclared n is t r) (newNames n is G) (small n t) (fewNames n (declare is t r)) skip
+  declItems Γ G r = grouped (order Γ G r)
 
   -- A FINDING.
   abbrev Refused : ℕ → ℕ → Type 0
@@ -150,26 +155,19 @@ module _ (s d w : List ℕ) (stack base m at free n : ℕ) (a : Expr) (is : List
 
   refuses : (s′ w′ : List ℕ) (number place m′ at′ : ℕ) → Spared w w′ stack base → (number ≡ 0 → ⊥) → Refused number place →
       LinesDone s s′ d w w′ stack base m at free line global number place m′ at′
-  unfolding linesItems
-  refuses s′ w′ number place m′ at′ P e R = record {
-    spared = P;
-    stored = λ z. absurd (e z);
-    more = λ z. absurd (e z);
-    short = λ z. absurd (e z);
-    few = λ z. absurd (e z);
-    goes = λ z. absurd (e z);
-    stops = λ z H U S Γ D C F r J. R Γ D H U S C (decl-new U F) r J;
-  }
+  unfolding linesItems grouped
+  refuses s′ w′ number place m′ at′ P e R = record { done = done-refused P e (λ H U S Γ D C r I. let F = I .0 in let J = I .1 in R Γ D H U S C (decl-new U F) r J) }
 
   module _ (s₁ w₁ : List ℕ) (number place cell c₁ top₁ at₁ : ℕ) (A : ExprDone s s₁ d w w₁ stack 0 4096 at free a number place cell c₁ top₁ at₁) where
     spared₁ : Spared w w₁ stack base
     spared₁ = let b = Q .beside in spared-less w w₁ stack stack free base (omega arith) (omega arith) (A .spared)
 
     pub decl-stopped : (number ≡ 0 → ⊥) → (m′ at′ : ℕ) → LinesDone s s₁ d w w₁ stack base m at free line global number place m′ at′
+    unfolding listed after AllPass
     decl-stopped e m′ at′ =
         refuses s₁ w₁ number place m′ at′ spared₁ e
         (λ Γ D H U S C F r J.
-        line-first H (piece n (elementItems a n 0 Γ)) (mergeDeclared n is t r) (newNames n is (globalsIf global D)) (small n t) (fewNames n (declare is t r)) skip number place
+        refuses-at (order Γ (globalsIf global D) r) H 0 number place tt
         (element-stopped s d w stack at free a n 0 (K .size) (K .few) decl-apart (omega arith) s₁ w₁ number place cell c₁ top₁ at₁ A Γ D H U S C F e))
 
     module _ (fine : number ≡ 0) where
@@ -183,10 +181,11 @@ module _ (s d w : List ℕ) (stack base m at free n : ℕ) (a : Expr) (is : List
 
       module _ (s₂ : List ℕ) (b : Bool) (P : Powered s₁ s₂ d c₁ top₁ cell b) where
         pub decl-unequal : b ≡ false → (m′ at′ : ℕ) → LinesDone s s₂ d w w₁ stack base m at free line global 33 n m′ at′
+        unfolding listed after AllPass
         decl-unequal e m′ at′ =
             refuses s₂ w₁ 33 n m′ at′ spared₁ (λ z. omega arith)
             (λ Γ D H U S C F r J.
-            line-first H (piece n (elementItems a n 0 Γ)) (mergeDeclared n is t r) (newNames n is (globalsIf global D)) (small n t) (fewNames n (declare is t r)) skip 33 n
+            refuses-at (order Γ (globalsIf global D) r) H 0 33 n tt
             (element-unequal s d w stack at free a n 0 (K .size) (K .few) decl-apart (omega arith) s₁ w₁ number place cell c₁ top₁ at₁ A Γ D H U S C F fine s₂ b P e))
 
         module _ (yes : b ≡ true) where
@@ -197,10 +196,11 @@ module _ (s d w : List ℕ) (stack base m at free n : ℕ) (a : Expr) (is : List
 
           module _ (s₃ : List ℕ) where
             pub decl-several : Closed s₂ s₃ d (c₁ + 2) false → (m′ at′ : ℕ) → LinesDone s s₃ d w w₁ stack base m at free line global 34 n m′ at′
+            unfolding listed after AllPass
             decl-several Z m′ at′ =
                 refuses s₃ w₁ 34 n m′ at′ spared₁ (λ z. omega arith)
                 (λ Γ D H U S C F r J.
-                line-first H (piece n (elementItems a n 0 Γ)) (mergeDeclared n is t r) (newNames n is (globalsIf global D)) (small n t) (fewNames n (declare is t r)) skip 34 n
+                refuses-at (order Γ (globalsIf global D) r) H 0 34 n tt
                 (element-several s d w stack at free a n 0 (K .size) (K .few) decl-apart (omega arith) s₁ w₁ number place cell c₁ top₁ at₁ A Γ D H U S C F fine s₂ b P yes s₃ Z))
 
             module _ (Z : Closed s₂ s₃ d (c₁ + 2) true) where
@@ -297,11 +297,12 @@ module _ (s d w : List ℕ) (stack base m at free n : ℕ) (a : Expr) (is : List
                 pub decl-clash : ((H : Items) (U : List ℕ) (n : ℕ) (u : Term) (g : Ty) (r : Signature) → Steady H U → Settled H u g → Each (λ x. In x U) u → v ≡ cap (size g) →
                     (size g ≤ 32 → Reads (heap s₄ d) at g) → Carries (Placed s₄ d H U) r (rows w₂ base m) → Refuses (mergeDeclared n is u r) (Meets H) 36 n) → (m′ at′ : ℕ) →
                     LinesDone s s₄ d w w₂ stack base m at free line global 36 n m′ at′
+                unfolding listed after AllPass
                 decl-clash X m′ at′ =
                     refuses s₄ w₂ 36 n m′ at′ spared₂-base (λ z. omega arith)
                     (λ Γ D H U S C F r J.
                     let T = E Γ D H U S C F r J in
-                    line-second H (c Γ D H U S C F r J) (mergeDeclared n is t r) (newNames n is (globalsIf global D)) (small n t) (fewNames n (declare is t r)) skip 36 n (T .walked .goes)
+                    refuses-at (order Γ (globalsIf global D) r) H 1 36 n (T .walked .goes, tt)
                     (X (H ⨾ c Γ D H U S C F r J) (T .unknowns) n t (T .type) r (T .walked .steady) (T .settled) (over Γ D H U S C F r J) (T .sized) (reads Γ D H U S C F r J)
                     (J₁ Γ D H U S C F r J)))
 
@@ -322,13 +323,14 @@ module _ (s d w : List ℕ) (stack base m at free n : ℕ) (a : Expr) (is : List
                   -- 36: global already.
                   pub decl-global : ((D : Dictionary) (H : Items) (U : List ℕ) (n : ℕ) → Holds D d → Steady H U → Refuses (newNames n is (globalsIf global D)) (Meets H) 36 n) →
                       (m′ at′ : ℕ) → LinesDone s s₄ d w w₂ stack base m at free line global 36 n m′ at′
+                  unfolding listed after AllPass
                   decl-global X m′ at′ =
                       refuses s₄ w₂ 36 n m′ at′ spared₂-base (λ z. omega arith)
                       (λ Γ D H U S C F r J.
                       let T = T₁ Γ D H U S C F r J in
                       let W = W₂ Γ D H U S C F r J in
-                      line-third H (c Γ D H U S C F r J) (mergeDeclared n is t r) (newNames n is (globalsIf global D)) (small n t) (fewNames n (declare is t r)) skip 36 n (T .walked .goes)
-                      (W .goes) (X D (H₁ Γ D H U S C F r J ⨾ mergeDeclared n is t r) (T .unknowns) n (C .recorded .holds) (W .steady)))
+                      refuses-at (order Γ (globalsIf global D) r) H 2 36 n (T .walked .goes, (W .goes, tt))
+                      (X D (H₁ Γ D H U S C F r J ⨾ mergeDeclared n is t r) (T .unknowns) n (C .recorded .holds) (W .steady)))
 
                   module _ (new : (D : Dictionary) (H : Items) (U : List ℕ) (n : ℕ) → Holds D d → Steady H U → Walked H (newNames n is (globalsIf global D)) U U (λ x. ⊥)) where
                     module _ (Γ : Scope) (D : Dictionary) (H : Items) (U : List ℕ) (S : Steady H U) (C : Scoped s d w stack (idle H U) Γ D) (F : ElementNew a n 0 U) (r : Signature)
@@ -338,27 +340,24 @@ module _ (s d w : List ℕ) (stack base m at free n : ℕ) (a : Expr) (is : List
                           new D (H₁ Γ D H U S C F r J ⨾ mergeDeclared n is t r) (E Γ D H U S C F r J .unknowns) n (C .recorded .holds) (W₂ Γ D H U S C F r J .steady)
 
                       abbrev H₃ : Items
-                      H₃ = H₁ Γ D H U S C F r J ⨾ (mergeDeclared n is t r ⨾ newNames n is (globalsIf global D))
-
-                      steady₃ : Steady H₃ (E Γ D H U S C F r J .unknowns)
-                      steady₃ =
-                          walked-then (H₁ Γ D H U S C F r J) (mergeDeclared n is t r) (newNames n is (globalsIf global D)) (E Γ D H U S C F r J .unknowns) (E Γ D H U S C F r J .unknowns)
-                          (E Γ D H U S C F r J .unknowns) (λ x. ⊥) (E Γ D H U S C F r J .walked .steady) (W₂ Γ D H U S C F r J) W₃ .steady
+                      H₃ = (H₁ Γ D H U S C F r J ⨾ mergeDeclared n is t r) ⨾ newNames n is (globalsIf global D)
 
                       settled₃ : Settled H₃ t (E Γ D H U S C F r J .type)
-                      settled₃ = settled-later (H₁ Γ D H U S C F r J) (mergeDeclared n is t r ⨾ newNames n is (globalsIf global D)) t (E Γ D H U S C F r J .type) (E Γ D H U S C F r J .settled)
+                      settled₃ =
+                          settled-later (H₁ Γ D H U S C F r J ⨾ mergeDeclared n is t r) (newNames n is (globalsIf global D)) t (E Γ D H U S C F r J .type)
+                          (settled-later (H₁ Γ D H U S C F r J) (mergeDeclared n is t r) t (E Γ D H U S C F r J .type) (E Γ D H U S C F r J .settled))
 
                     -- 38: the type.
                     pub decl-large : 32 < v → (m′ at′ : ℕ) → LinesDone s s₄ d w w₂ stack base m at free line global 38 n m′ at′
+                    unfolding listed after AllPass
                     decl-large q m′ at′ =
                         refuses s₄ w₂ 38 n m′ at′ spared₂-base (λ z. omega arith)
                         (λ Γ D H U S C F r J.
                         let T = T₁ Γ D H U S C F r J in
                         let x = T .sized in
                         let o : 32 < size (T .type) = cap-cases (size (T .type)) _ (λ i j. omega arith) (λ i j. omega arith) in
-                        line-fourth H (c Γ D H U S C F r J) (mergeDeclared n is t r) (newNames n is (globalsIf global D)) (small n t) (fewNames n (declare is t r)) skip 38 n (T .walked .goes)
-                        (W₂ Γ D H U S C F r J .goes) (W₃ Γ D H U S C F r J .goes)
-                        (small-refused (H₃ Γ D H U S C F r J) (T .unknowns) n t (T .type) (steady₃ Γ D H U S C F r J) (settled₃ Γ D H U S C F r J) o))
+                        refuses-at (order Γ (globalsIf global D) r) H 3 38 n (T .walked .goes, (W₂ Γ D H U S C F r J .goes, (W₃ Γ D H U S C F r J .goes, tt)))
+                        (small-refused (H₃ Γ D H U S C F r J) (T .unknowns) n t (T .type) (W₃ Γ D H U S C F r J .steady) (settled₃ Γ D H U S C F r J) o))
 
                     -- THE TABLE with the identifiers.
                     module _ (light : v ≤ 32) (w₃ : List ℕ) (count : ℕ) (Tb : Table w₂ w₃ base (declareRows is at (rows w₂ base m)) count) (fit : base + 2 * (m + length is) ≤ length w₂) where
@@ -409,10 +408,11 @@ module _ (s d w : List ℕ) (stack base m at free n : ℕ) (a : Expr) (is : List
 
                         W₄ : Walked (H₃ Γ D H U S C F r J) (small n t) (T₃ .unknowns) (T₃ .unknowns) (λ x. ⊥)
                         W₄ =
-                            small-noted (H₃ Γ D H U S C F r J) (T₃ .unknowns) (λ x. ⊥) n t (T₃ .type) (steady₃ Γ D H U S C F r J) (settled₃ Γ D H U S C F r J) small₃
+                            small-noted (H₃ Γ D H U S C F r J) (T₃ .unknowns) (λ x. ⊥) n t (T₃ .type) (W₃ Γ D H U S C F r J .steady) (settled₃ Γ D H U S C F r J) small₃
 
                         -- all pass
                         went : count ≤ 16 → Walked H (declItems Γ (globalsIf global D) r) U (T₃ .unknowns) (Owned (linesNumbers line))
+                        unfolding listed AllWalked
                         went q =
                             let M = Owned (linesNumbers line) in
                             let X = T₃ .unknowns in
@@ -420,71 +420,94 @@ module _ (s d w : List ℕ) (stack base m at free n : ℕ) (a : Expr) (is : List
                             let no : (y : ℕ) → ⊥ → M y = λ y z. absurd z in
                             let B = mergeDeclared n is t r in
                             let N = newNames n is (globalsIf global D) in
-                            line-walked H (c Γ D H U S C F r J) B N (small n t) (fewNames n (declare is t r)) U X M S
-                            (walked-mine H (c Γ D H U S C F r J) U X (ElementOwned a n 0) M decl-owned (T₃ .walked))
-                            (walked-mine (H₁ Γ D H U S C F r J) B X X (λ y. ⊥) M no (W₂ Γ D H U S C F r J))
-                            (walked-mine (H₁ Γ D H U S C F r J ⨾ B) N X X (λ y. ⊥) M no (W₃ Γ D H U S C F r J))
-                            (walked-mine (H₃ Γ D H U S C F r J) (small n t) X X (λ y. ⊥) M no W₄)
-                            (few-noted (H₃ Γ D H U S C F r J ⨾ small n t) X M n (declare is t r) (W₄ .steady) (omega arith))
+                            all-walked (order Γ (globalsIf global D) r) H U X M S (
+                              X,
+                              walked-mine H (c Γ D H U S C F r J) U X (ElementOwned a n 0) M decl-owned (T₃ .walked),
+                              (
+                                X,
+                                walked-mine (H₁ Γ D H U S C F r J) B X X (λ y. ⊥) M no (W₂ Γ D H U S C F r J),
+                                (
+                                  X,
+                                  walked-mine (H₁ Γ D H U S C F r J ⨾ B) N X X (λ y. ⊥) M no (W₃ Γ D H U S C F r J),
+                                  (
+                                    X,
+                                    walked-mine (H₃ Γ D H U S C F r J) (small n t) X X (λ y. ⊥) M no W₄,
+                                    (
+                                      X,
+                                      few-noted (H₃ Γ D H U S C F r J ⨾ small n t) X M n (declare is t r) (W₄ .steady) (omega arith),
+                                      refl,
+                                    ),
+                                  ),
+                                ),
+                              ),
+                            )
 
                       -- 38: the signature.
                       pub decl-many : 16 < count → (m′ at′ : ℕ) → LinesDone s s₄ d w w₃ stack base m at free line global 38 n m′ at′
+                      unfolding listed after AllPass
                       decl-many q m′ at′ =
                           refuses s₄ w₃ 38 n m′ at′ spared₃ (λ z. omega arith)
                           (λ Γ D H U S C F r J.
                           let T = T₁ Γ D H U S C F r J in
                           let x = names Γ D H U S C F r J in
-                          line-fifth H (c Γ D H U S C F r J) (mergeDeclared n is t r) (newNames n is (globalsIf global D)) (small n t) (fewNames n (declare is t r)) skip 38 n (T .walked .goes)
-                          (W₂ Γ D H U S C F r J .goes) (W₃ Γ D H U S C F r J .goes) (W₄ Γ D H U S C F r J .goes)
+                          refuses-at (order Γ (globalsIf global D) r) H 4 38 n (T .walked .goes, (W₂ Γ D H U S C F r J .goes, (W₃ Γ D H U S C F r J .goes, (W₄ Γ D H U S C F r J .goes, tt))))
                           (few-refused (H₃ Γ D H U S C F r J ⨾ small n t) n (declare is t r) (omega arith)))
 
                       -- IDENTIFIERS ARE NEW.
                       pub decl-done : (place′ : ℕ) → count ≤ 16 → (count ≡ m → ⊥) → LinesDone s s₄ d w w₃ stack base m at free line global 0 place′ count e
-                      unfolding linesItems linesSignature Meets
+                      unfolding linesItems linesSignature Meets grouped
                       decl-done place′ q ne = record {
-                        spared = spared₃;
-                        stored = λ z. stored₄;
-                        more = λ z. grows;
-                        short = λ z. let x = grows in let y : 1 ≤ count - m = omega arith in omega arith;
-                        few = λ z. q;
-                        goes = λ z H U S Γ D C G r J.
-                            let F = decl-new U G in
-                            record {
-                              unknowns = E Γ D H U S C F r J .unknowns;
-                              walked = went Γ D H U S C F r J q;
-                              signature =
-                                  subst (Carries (Placed s₄ d (H ⨾ declItems Γ (globalsIf global D) r) (E Γ D H U S C F r J .unknowns)) (declare is t r)) (sym rows₃)
-                                  (carries-later s₄ d (H₁ Γ D H U S C F r J) (H ⨾ declItems Γ (globalsIf global D) r) (E Γ D H U S C F r J .unknowns) (E Γ D H U S C F r J .unknowns)
-                                  (λ y i. i) (λ τ h. (h .0, h .1 .0)) (declare is t r) (declareRows is at (rows w₂ base m)) (declared Γ D H U S C F r J));
-                            };
-                        stops = λ z. absurd (z refl);
+                        done = record {
+                          still = spared₃;
+                          areas = λ z. record {
+                            stored = stored₄;
+                            more = grows;
+                            short = let x = grows in let y : 1 ≤ count - m = omega arith in omega arith;
+                            few = q;
+                          };
+                          goes = λ z H U S Γ D C r I. let G = I .0 in let J = I .1 in
+                              let F = decl-new U G in
+                              record {
+                                unknowns = E Γ D H U S C F r J .unknowns;
+                                walked = went Γ D H U S C F r J q;
+                                signature =
+                                    subst (Carries (Placed s₄ d (H ⨾ declItems Γ (globalsIf global D) r) (E Γ D H U S C F r J .unknowns)) (declare is t r)) (sym rows₃)
+                                    (carries-later s₄ d (H₁ Γ D H U S C F r J) (H ⨾ declItems Γ (globalsIf global D) r) (E Γ D H U S C F r J .unknowns) (E Γ D H U S C F r J .unknowns)
+                                    (λ y i. i) (λ τ h. (h .0, h .1 .0)) (declare is t r) (declareRows is at (rows w₂ base m)) (declared Γ D H U S C F r J));
+                              };
+                          stops = λ z. absurd (z refl);
+                        };
                       }
 
                       -- NONE IS NEW: the type is not kept.
                       pub decl-kept : (place′ : ℕ) (s₅ : List ℕ) → m ≤ 16 → count ≡ m → s₅ ≡ sets s₄ at (replicate (e - at) 0) → LinesDone s s₅ d w w₃ stack base m at free line global 0 place′ m at
-                      unfolding linesItems linesSignature Meets
+                      unfolding linesItems linesSignature Meets grouped
                       decl-kept place′ s₅ q same wiped = record {
-                        spared = spared₃;
-                        stored = λ z. stored₅;
-                        more = λ z. omega arith;
-                        short = λ z. omega arith;
-                        few = λ z. q;
-                        goes = λ z H U S Γ D C G r J.
-                            let F = decl-new U G in
-                            let N = names Γ D H U S C F r J in
-                            let I = carries-count (Placed s₄ d (H₁ Γ D H U S C F r J) (E Γ D H U S C F r J .unknowns)) r (rows w₂ base m) (J₁ Γ D H U S C F r J) in
-                            let rl = rows-length w₂ base m in
-                            record {
-                              unknowns = E Γ D H U S C F r J .unknowns;
-                              walked = went Γ D H U S C F r J (omega arith);
-                              signature =
-                                  subst (λ z. Carries (Placed s₅ d (H ⨾ declItems Γ (globalsIf global D) r) (E Γ D H U S C F r J .unknowns)) z (rows w₃ base m))
-                                  (sym (declare-kept is t r (omega arith)))
-                                  (subst (Carries (Placed s₅ d (H ⨾ declItems Γ (globalsIf global D) r) (E Γ D H U S C F r J .unknowns)) r) (sym rows-same)
-                                  (carries-later s₅ d H (H ⨾ declItems Γ (globalsIf global D) r) U (E Γ D H U S C F r J .unknowns) (E Γ D H U S C F r J .walked .wider) (λ τ h. h .0) r (rows w base m)
-                                  (carries-stored s s₅ d at at (K .size) (K .clean) (K .room .some) (decl-low .0) stored₅ H U r (rows w base m) J)));
-                            };
-                        stops = λ z. absurd (z refl);
+                        done = record {
+                          still = spared₃;
+                          areas = λ z. record {
+                            stored = stored₅;
+                            more = omega arith;
+                            short = omega arith;
+                            few = q;
+                          };
+                          goes = λ z H U S Γ D C r I. let G = I .0 in let J = I .1 in
+                              let F = decl-new U G in
+                              let N = names Γ D H U S C F r J in
+                              let I = carries-count (Placed s₄ d (H₁ Γ D H U S C F r J) (E Γ D H U S C F r J .unknowns)) r (rows w₂ base m) (J₁ Γ D H U S C F r J) in
+                              let rl = rows-length w₂ base m in
+                              record {
+                                unknowns = E Γ D H U S C F r J .unknowns;
+                                walked = went Γ D H U S C F r J (omega arith);
+                                signature =
+                                    subst (λ z. Carries (Placed s₅ d (H ⨾ declItems Γ (globalsIf global D) r) (E Γ D H U S C F r J .unknowns)) z (rows w₃ base m))
+                                    (sym (declare-kept is t r (omega arith)))
+                                    (subst (Carries (Placed s₅ d (H ⨾ declItems Γ (globalsIf global D) r) (E Γ D H U S C F r J .unknowns)) r) (sym rows-same)
+                                    (carries-later s₅ d H (H ⨾ declItems Γ (globalsIf global D) r) U (E Γ D H U S C F r J .unknowns) (E Γ D H U S C F r J .walked .wider) (λ τ h. h .0) r (rows w base m)
+                                    (carries-stored s s₅ d at at (K .size) (K .clean) (K .room .some) (decl-low .0) stored₅ H U r (rows w base m) J)));
+                              };
+                          stops = λ z. absurd (z refl);
+                        };
                       }
                         where
                           rows-same : rows w₃ base m ≡ rows w base m

@@ -58,11 +58,11 @@ module _ {doc p s d w : List ℕ} {stack at free k : ℕ} {places : List ℕ} (N
   abbrev A : IncludeAsk s d w stack at free (include k id h (exprsFrom doc k 4 q) (renames p (q + 4))) places
   A = subst (λ i. IncludeAsk s d w stack at free i places) tree K
 
-  abbrev Done : List ℕ → List ℕ → List ℕ → ℕ → ℕ → ℕ → ℕ → Type 0
-  Done s′ w′ places′ number place m at′ = IncludeDone s s′ d w w′ stack at free (includeAt doc k) places places′ number place m at′
+  abbrev Told : List ℕ → List ℕ → List ℕ → ℕ → ℕ → ℕ → ℕ → Type 0
+  Told s′ w′ places′ number place m at′ = IncludeDone s s′ d w w′ stack at free (includeAt doc k) places places′ number place m at′
 
   back : (s′ w′ places′ : List ℕ) (number place m at′ : ℕ) →
-      IncludeDone s s′ d w w′ stack at free (include k id h (exprsFrom doc k 4 q) (renames p (q + 4))) places places′ number place m at′ → Done s′ w′ places′ number place m at′
+      IncludeDone s s′ d w w′ stack at free (include k id h (exprsFrom doc k 4 q) (renames p (q + 4))) places places′ number place m at′ → Told s′ w′ places′ number place m at′
   back s′ w′ places′ number place m at′ = subst (λ i. IncludeDone s s′ d w w′ stack at free i places places′ number place m at′) (sym tree)
 
   pub node-include-few : q ≤ 4
@@ -81,11 +81,11 @@ module _ {doc p s d w : List ℕ} {stack at free k : ℕ} {places : List ℕ} (N
   count = exprs-length doc k 4 q
 
   module _ {e : ℕ} (found : (D : Dictionary) → Holds D d → SchemaFound D d id e) where
-    pub node-include-absent : e ≡ 0 → Done s w places 31 k 0 0
+    pub node-include-absent : e ≡ 0 → Told s w places 31 k 0 0
     node-include-absent z = back s w places 31 k 0 0 (include-absent s d w stack at free k id h (exprsFrom doc k 4 q) (renames p (q + 4)) places A e found z 0 0)
 
     module _ (some : e ≡ 0 → ⊥) {v : ℕ} (ev : v ≡ parametersAt d e) where
-      pub node-include-count : (v ≡ q → ⊥) → Done s w places 32 k 0 0
+      pub node-include-count : (v ≡ q → ⊥) → Told s w places 32 k 0 0
       node-include-count ne =
           back s w places 32 k 0 0
           (include-count s d w stack at free k id h (exprsFrom doc k 4 q) (renames p (q + 4)) places A e found some v ev (λ z. ne (z ∙ count)) 0 0)
@@ -101,7 +101,7 @@ module _ {doc p s d w : List ℕ} {stack at free k : ℕ} {places : List ℕ} (N
         node-include-actuals = actuals-ask s d w stack at free k id h (exprsFrom doc k 4 q) (renames p (q + 4)) places A e found some ep few
 
         module _ {s₁ w₁ places₁ : List ℕ} {number place at₁ : ℕ} (P : ActualsDone s s₁ d w w₁ stack at free k 0 (exprsFrom doc k 4 q) places places₁ number place at₁) where
-          pub node-include-refused : (number ≡ 0 → ⊥) → (m at′ : ℕ) → Done s₁ w₁ places₁ number place m at′
+          pub node-include-refused : (number ≡ 0 → ⊥) → (m at′ : ℕ) → Told s₁ w₁ places₁ number place m at′
           node-include-refused ne m at′ =
               back s₁ w₁ places₁ number place m at′
               (include-refused s d w stack at free k id h (exprsFrom doc k 4 q) (renames p (q + 4)) places A e found some ep few s₁ w₁ places₁ number place at₁ P ne m at′)
@@ -117,12 +117,12 @@ module _ {doc p s d w : List ℕ} {stack at free k : ℕ} {places : List ℕ} (N
                   bring-ask s d w stack at free k id h (exprsFrom doc k 4 q) (renames p (q + 4)) places A e found some ep few s₁ w₁ places₁ number place at₁ P fine b eb w₂ c R
 
               module _ {w₃ : List ℕ} {wrong : Bool} {m : ℕ} (B : Brings w₂ w₃ (free + 32) c free h (renames p (q + 4)) wrong m) (z : length w₃ ≡ length w₂) where
-                pub node-include-wrong : wrong ≡ true → Done s₁ w₃ places₁ 37 k 0 0
+                pub node-include-wrong : wrong ≡ true → Told s₁ w₃ places₁ 37 k 0 0
                 node-include-wrong y =
                     back s₁ w₃ places₁ 37 k 0 0
                     (include-wrong s d w stack at free k id h (exprsFrom doc k 4 q) (renames p (q + 4)) places A e found some ep few s₁ w₁ places₁ number place at₁ P fine b eb w₂ c R w₃ wrong m B z y 0 0)
 
-                pub node-include-done : wrong ≡ false → Done s₁ w₃ places₁ 0 k m at₁
+                pub node-include-done : wrong ≡ false → Told s₁ w₃ places₁ 0 k m at₁
                 node-include-done y =
                     back s₁ w₃ places₁ 0 k m at₁
                     (include-done s d w stack at free k id h (exprsFrom doc k 4 q) (renames p (q + 4)) places A e found some ep few s₁ w₁ places₁ number place at₁ P fine b eb w₂ c R w₃ wrong m B z y k)

@@ -50,6 +50,7 @@ use Rattle.checker_contracts.proofs.TableRows.{carries-row}
 use Rattle.checker_contracts.proofs.Nodes.{once-apart}
 use Rattle.checker_contracts.proofs.Passing.{walking-first}
 use Rattle.checker_contracts.proofs.Scopes.{spared-refl, spared-on}
+use Rattle.checker_contracts.proofs.Refused.{done-refused}
 
 -- A refusal that its flag decides.
 refuse-none : (b : Bool) (f n : ℕ) → b ≡ false → refuseIf b f n ≡ skip
@@ -91,21 +92,11 @@ module _ (s d w : List ℕ) (stack at free n id k : ℕ) (xs : Exprs) (rs : List
 
   -- What comes after any items.
   abbrev After : (Items → List ℕ → Scope → Type 0) → Type 0
-  After P = (H : Items) (U : List ℕ) → Steady H U → (Γ : Scope) (D : Dictionary) → Scoped s d w stack (idle H U) Γ D → Fresh (includeNumbers i) U → P H U Γ
+  After P = (H : Items) (U : List ℕ) → Steady H U → (Γ : Scope) (D : Dictionary) → Scoped s d w stack (idle H U) Γ D → (u : Unit {0}) → Fresh (includeNumbers i) U → P H U Γ
 
   stopped : (s′ w′ places′ : List ℕ) (number place m at′ : ℕ) → (number ≡ 0 → ⊥) → Spared w w′ stack free → length places′ ≡ length places →
       After (λ H U Γ. Refuses (includeItems i Γ) (Meets H) number place) → IncludeDone s s′ d w w′ stack at free i places places′ number place m at′
-  stopped s′ w′ places′ number place m at′ ne S z r = record {
-    spared = S;
-    row = z;
-    stored = λ e. absurd (ne e);
-    short = λ e. absurd (ne e);
-    few = λ e. absurd (ne e);
-    recorded = λ e. absurd (ne e);
-    ascending = λ e. absurd (ne e);
-    goes = λ e. absurd (ne e);
-    stops = λ e. r;
-  }
+  stopped s′ w′ places′ number place m at′ ne S z r = record { done = done-refused (record { spared = S; row = z }) ne r }
 
   module _ (e : ℕ) (found : (D : Dictionary) → Holds D d → SchemaFound D d id e) where
     in-dictionary : (H : Items) (U : List ℕ) (Γ : Scope) (D : Dictionary) → Scoped s d w stack (idle H U) Γ D → schemaNamed id Γ ≡ schemaIn id D
@@ -115,7 +106,7 @@ module _ (s d w : List ℕ) (stack at free n id k : ℕ) (xs : Exprs) (rs : List
     pub include-absent : e ≡ 0 → (m at′ : ℕ) → IncludeDone s s d w w stack at free i places places 31 n m at′
     include-absent z m at′ =
         stopped s w places 31 n m at′ (λ q. omega arith) (spared-refl w stack free) refl
-        (λ H U S Γ D C F.
+        (λ H U S Γ D C u F.
         subst (λ c. Refuses c (Meets H) 31 n) (sym (items-absent n id k xs rs Γ (in-dictionary H U Γ D C ∙ found D (C .recorded .holds) .absent z))) (refused H 31 n))
 
     module _ (some : e ≡ 0 → ⊥) where
@@ -126,7 +117,7 @@ module _ (s d w : List ℕ) (stack at free n id k : ℕ) (xs : Exprs) (rs : List
       pub include-count : (p : ℕ) → p ≡ parametersAt d e → (p ≡ exprsLength xs → ⊥) → (m at′ : ℕ) → IncludeDone s s d w w stack at free i places places 32 n m at′
       include-count p ep ne m at′ =
           stopped s w places 32 n m at′ (λ q. omega arith) (spared-refl w stack free) refl
-          (λ H U S Γ D C F.
+          (λ H U S Γ D C u F.
           let E = entry D (C .recorded) in
           subst (λ c. Refuses c (Meets H) 32 n)
           (sym (items-count n id k xs rs Γ (E .parameters) (E .type) (in-dictionary H U Γ D C ∙ E .means) (λ q. ne (ep ∙ E .counted ∙ sym q)))) (refused H 32 n))
@@ -165,15 +156,15 @@ module _ (s d w : List ℕ) (stack at free n id k : ℕ) (xs : Exprs) (rs : List
           -- 33 or 34 of an actual, or the finding of a node below
           pub include-refused : (number ≡ 0 → ⊥) → (m at′ : ℕ) → IncludeDone s s₁ d w w₁ stack at free i places places₁ number place m at′
           include-refused ne m at′ =
-              stopped s₁ w₁ places₁ number place m at′ ne (P .spared) (P .row)
-              (λ H U S Γ D C F.
+              stopped s₁ w₁ places₁ number place m at′ ne (P .done .still .spared) (P .done .still .row)
+              (λ H U S Γ D C u F.
               subst (λ c. Refuses c (Meets H) number place) (sym (items-are H U Γ D C))
-              (refuses-first H (actualItems xs n 1 Γ) _ number place (P .stops ne H U S Γ D C (fresh U F))))
+              (refuses-first H (actualItems xs n 1 Γ) _ number place (P .done .stops ne H U S Γ D C tt (fresh U F))))
 
           -- THE COMPONENTS, of the binding at q in the dictionary.
           module _ (fine : number ≡ 0) (q : ℕ) (eq : q ≡ typeAt d e) where
             size : length s₁ ≡ 52224
-            size = P .stored fine .size ∙ A .walking .size
+            size = P .done .areas fine .stored .size ∙ A .walking .size
 
             module _ (D : Dictionary) (R : DictionaryHeld D d) where
               limits : SchemaType (entry D R .type)
@@ -203,7 +194,7 @@ module _ (s d w : List ℕ) (stack at free n id k : ℕ) (xs : Exprs) (rs : List
                 let b = A .walking .room .frames in
                 let c = A .walking .room .wide in
                 let f = A .walking .few in
-                let z = P .spared .size in
+                let z = P .done .still .spared .size in
                 record {
                   areas = record { size = size; few = omega arith };
                   few = f;
@@ -224,7 +215,7 @@ module _ (s d w : List ℕ) (stack at free n id k : ℕ) (xs : Exprs) (rs : List
               few-rows = let a = few-ids (A .walking .dictionary) (A .walking .scoped .recorded) in let b = own-rows .count in omega arith
 
               size₂ : length w₂ ≡ length w
-              size₂ = table-length w₁ (free + 32) w₂ _ c (own-rows .table) ∙ P .spared .size
+              size₂ = table-length w₁ (free + 32) w₂ _ c (own-rows .table) ∙ P .done .still .spared .size
 
               pub bring-ask : Beside (length w₂) free c (free + 32) c
               bring-ask =
@@ -243,7 +234,7 @@ module _ (s d w : List ℕ) (stack at free n id k : ℕ) (xs : Exprs) (rs : List
                 spared =
                     let t = A .walking .room .stack in
                     let o = A .walking .room .low in
-                    spared-on w w₁ w₃ stack free (P .spared)
+                    spared-on w w₁ w₃ stack free (P .done .still .spared)
                     (record { size = z ∙ table-length w₁ (free + 32) w₂ _ c (own-rows .table); scope = λ j y. below j (omega arith); frames = λ j x y. below j y })
 
                 -- what is wrong with the names
@@ -255,9 +246,9 @@ module _ (s d w : List ℕ) (stack at free n id k : ℕ) (xs : Exprs) (rs : List
                 -- 37
                 pub include-wrong : wrong ≡ true → (m′ at′ : ℕ) → IncludeDone s s₁ d w w₃ stack at free i places places₁ 37 n m′ at′
                 include-wrong b m′ at′ =
-                    stopped s₁ w₃ places₁ 37 n m′ at′ (λ x. omega arith) spared (P .row)
-                    (λ H U S Γ D C F.
-                    let W = P .goes fine H U S Γ D C (fresh U F) in
+                    stopped s₁ w₃ places₁ 37 n m′ at′ (λ x. omega arith) spared (P .done .still .row)
+                    (λ H U S Γ D C u F.
+                    let W = P .done .goes fine H U S Γ D C tt (fresh U F) in
                     let c = actualItems xs n 1 Γ in
                     subst (λ c. Refuses c (Meets H) 37 n) (sym (items-are H U Γ D C))
                     (refuses-second H c _ 37 n (W .walked .goes)
@@ -335,23 +326,26 @@ module _ (s d w : List ℕ) (stack at free n id k : ℕ) (xs : Exprs) (rs : List
                   pub include-done : (place′ : ℕ) → IncludeDone s s₁ d w w₃ stack at free i places places₁ 0 place′ m at₁
                   unfolding actualCount includeNode
                   include-done place′ = record {
-                    spared = spared;
-                    row = P .row;
-                    stored = λ x. P .stored fine;
-                    short = λ x. P .short fine;
-                    few = λ x. few-brought;
-                    recorded = λ x. high;
-                    ascending = λ x. ascends;
-                    goes = λ x H U S Γ D C F.
-                        let W = P .goes fine H U S Γ D C (fresh U F) in
-                        let v = walked H U S Γ D C W in
-                        let o = A .row in
-                        let p = P .row in
-                        record {
-                          unknowns = W .unknowns;
-                          walked = v;
-                          actuals = actual-types s₁ d (H ⨾ includeItems i Γ) (W .unknowns) n (exprsLength xs) places₁ (omega arith) (λ j y. actual-later H U Γ D C W j (W .each j (omega arith) (omega arith)));
-                          components = components H U Γ D C;
-                        };
-                    stops = λ x. absurd (x refl);
+                    done = record {
+                      still = record { spared = spared; row = P .done .still .row };
+                      areas = λ x. record {
+                        stored = P .done .areas fine .stored;
+                        short = P .done .areas fine .short;
+                        few = few-brought;
+                        recorded = high;
+                        ascending = ascends;
+                      };
+                      goes = λ x H U S Γ D C u F.
+                          let W = P .done .goes fine H U S Γ D C tt (fresh U F) in
+                          let v = walked H U S Γ D C W in
+                          let o = A .row in
+                          let p = P .done .still .row in
+                          record {
+                            unknowns = W .unknowns;
+                            walked = v;
+                            actuals = actual-types s₁ d (H ⨾ includeItems i Γ) (W .unknowns) n (exprsLength xs) places₁ (omega arith) (λ j y. actual-later H U Γ D C W j (W .each j (omega arith) (omega arith)));
+                            components = components H U Γ D C;
+                          };
+                      stops = λ x. absurd (x refl);
+                    };
                   }

@@ -69,16 +69,16 @@ module _ (s d w : List ℕ) (stack at free k : ℕ) (a b : Schema) (A : SchemaAs
     (s₁ w₁ : List ℕ) (number place m at₁ : ℕ) (P : SchemaDone s s₁ d w w₁ stack at free a number place m at₁) (fine : number ≡ 0)
     (s₂ w₂ : List ℕ) (number′ place′ n at₂ : ℕ) (Q : SchemaDone s₁ s₂ d w₁ w₂ stack at₁ (free + 64) b number′ place′ n at₂) (fine′ : number′ ≡ 0) where
   stored : Stored s₁ s₂ at₁ at₂
-  stored = Q .stored fine′
+  stored = Q .done .areas fine′ .stored
 
   size₁ : length s₁ ≡ 52224
-  size₁ = P .stored fine .size ∙ A .walking .size
+  size₁ = P .done .areas fine .stored .size ∙ A .walking .size
 
   size₂ : length s₂ ≡ 52224
   size₂ = stored .size ∙ size₁
 
   wide : 16384 ≤ length w₂
-  wide = let x = A .walking .room .wide in let y = P .spared .size in let z = Q .spared .size in omega arith
+  wide = let x = A .walking .room .wide in let y = P .done .still .size in let z = Q .done .still .size in omega arith
 
   high : 1 ≤ A .height
   unfolding LimitedSchema
@@ -102,14 +102,14 @@ module _ (s d w : List ℕ) (stack at free k : ℕ) (a b : Schema) (A : SchemaAs
     R₂ = Placed s₂ d (Sides H a b Γ) (Z .unknowns)
 
     left₂ : Carries R₂ (schemaSignature a Γ) (rows w₂ free m)
-    left₂ = left-later s d w stack at free k a b A s₁ w₁ number place m at₁ P fine s₂ w₂ number′ place′ n at₂ Q fine′ s₂ w₂ at₂ stored (Q .spared) H U Γ Z
+    left₂ = left-later s d w stack at free k a b A s₁ w₁ number place m at₁ P fine s₂ w₂ number′ place′ n at₂ Q fine′ s₂ w₂ at₂ stored (Q .done .still) H U Γ Z
 
     agree-asked : RowsAsk s₂ d w₂ free m (free + 64) n
     agree-asked =
         let x = wide in
         let y = frames in
-        let l = P .few fine in
-        let r = Q .few fine′ in
+        let l = P .done .areas fine .few in
+        let r = Q .done .areas fine′ .few in
         let z = A .walking .few in
         record {
           areas = record { size = size₂; few = omega arith };
@@ -126,12 +126,12 @@ module _ (s d w : List ℕ) (stack at free k : ℕ) (a b : Schema) (A : SchemaAs
     below : (j : ℕ) → j < m → (g : Ty) → Reads (heap s₂ d) (getD w₂ (free + 2 * j + 1) 0) g → Below at₁ (getD w₂ (free + 2 * j + 1) 0) g
     below j l g R =
         let o = low in
-        let c = P .few fine in
+        let c = P .done .areas fine .few in
         let f = A .walking .room .low in
         let X = carries-row (Placed s₁ d (Sides H a b Γ) (Z .unknowns)) (schemaSignature a Γ) w₁ free m j (Z .left) l in
-        let e = Q .spared .frames (free + 2 * j + 1) (omega arith) (omega arith) in
-        let B₁ = clean-below s₁ d at₁ (getD w₁ (free + 2 * j + 1) 0) (X .1 .typed .type) size₁ one (omega arith) (P .stored fine .after) (X .1 .typed .reads) in
-        let R₁ = stored-reads s₁ s₂ d at₁ at₂ size₁ (P .stored fine .after) one (omega arith) stored (getD w₁ (free + 2 * j + 1) 0) (X .1 .typed .type) (X .1 .typed .reads) in
+        let e = Q .done .still .frames (free + 2 * j + 1) (omega arith) (omega arith) in
+        let B₁ = clean-below s₁ d at₁ (getD w₁ (free + 2 * j + 1) 0) (X .1 .typed .type) size₁ one (omega arith) (P .done .areas fine .stored .after) (X .1 .typed .reads) in
+        let R₁ = stored-reads s₁ s₂ d at₁ at₂ size₁ (P .done .areas fine .stored .after) one (omega arith) stored (getD w₁ (free + 2 * j + 1) 0) (X .1 .typed .type) (X .1 .typed .reads) in
         let same = reads-one (heap s₂ d) (getD w₂ (free + 2 * j + 1) 0) (X .1 .typed .type) g (subst (λ z. Reads (heap s₂ d) z (X .1 .typed .type)) (sym e) R₁) R in
         subst (Below at₁ (getD w₂ (free + 2 * j + 1) 0)) same (subst (λ z. Below at₁ z (X .1 .typed .type)) (sym e) B₁)
 
@@ -139,9 +139,9 @@ module _ (s d w : List ℕ) (stack at free k : ℕ) (a b : Schema) (A : SchemaAs
     keep-asked =
         let x = wide in
         let y = frames in
-        let l = P .few fine in
-        let r = Q .few fine′ in
-        let q = Q .short fine′ in
+        let l = P .done .areas fine .few in
+        let r = Q .done .areas fine′ .few in
+        let q = Q .done .areas fine′ .short in
         let o = low in
         record {
           actuals = record { areas = agree-asked .areas; types = tnil; stand = tt };
@@ -151,7 +151,7 @@ module _ (s d w : List ℕ) (stack at free k : ℕ) (a b : Schema) (A : SchemaAs
           below = below;
           many = r;
           clean = stored .after;
-          gap = λ i e. stored .before i (omega arith) ∙ P .stored fine .after i (omega arith) (omega arith);
+          gap = λ i e. stored .before i (omega arith) ∙ P .done .areas fine .stored .after i (omega arith) (omega arith);
           some = one;
           before = stored .more;
           room = omega arith;
@@ -165,7 +165,7 @@ module _ (s d w : List ℕ) (stack at free k : ℕ) (a b : Schema) (A : SchemaAs
   join-asked =
       let K = A .walking in
       let Z = paired (K .before) (K .known) (K .steady) (K .scope) (K .dictionary) (K .scoped) (K .fresh) in
-      record { few = P .few fine; agree = agree-asked (K .before) (K .known) (K .scope) Z; keep = keep-asked (K .before) (K .known) (K .scope) Z }
+      record { few = P .done .areas fine .few; agree = agree-asked (K .before) (K .known) (K .scope) Z; keep = keep-asked (K .before) (K .known) (K .scope) Z }
 
   -- The right side's rows once their types are kept.
   module _ (s₃ w₃ : List ℕ) (last : ℕ) (T : RowsKept s₂ s₃ d w₂ w₃ free m (free + 64) n [] at₁ at₂ (free + 128) last) where
@@ -173,7 +173,7 @@ module _ (s d w : List ℕ) (stack at free k : ℕ) (a b : Schema) (A : SchemaAs
     spared₃ =
         let q = A .walking .room .stack in
         let f = A .walking .room .low in
-        spared-on w₁ w₂ w₃ stack (free + 64) (Q .spared)
+        spared-on w₁ w₂ w₃ stack (free + 64) (Q .done .still)
         (record {
           size = T .size;
           scope = λ i l. T .words i (omega arith) (λ j o e. omega arith);
@@ -189,7 +189,7 @@ module _ (s d w : List ℕ) (stack at free k : ℕ) (a b : Schema) (A : SchemaAs
     }
 
     rows₃ : rows w₃ free m ≡ rows w₂ free m
-    rows₃ = let l = P .few fine in rows-kept w₂ w₃ free m (λ i x y. T .words i (omega arith) (λ j o e. omega arith))
+    rows₃ = let l = P .done .areas fine .few in rows-kept w₂ w₃ free m (λ i x y. T .words i (omega arith) (λ j o e. omega arith))
 
     kept : (H : Items) (U : List ℕ) (Γ : Scope) (Z : Paired s₁ s₂ d w₁ w₂ m n free H U Γ a b) →
         ((τ : Table) → Meets (Sides H a b Γ) τ → Meets (mergeNames k (schemaSignature b Γ) (schemaSignature a Γ)) τ) →

@@ -26,6 +26,8 @@ pub mod Carrying
 pub mod ActualTypes
 pub mod Including
 pub mod Elements
+pub mod Refused
+pub mod ItemOrder
 pub mod LineItems
 pub mod SchemaKinds
 pub mod Conjoining

@@ -24,6 +24,7 @@ use Rattle.checker_contracts.proofs.Passing.{walking-first, went-then}
 use Rattle.checker_contracts.proofs.Rooms.{between-part, crowd-part}
 use Rattle.checker_contracts.proofs.Scopes.{spared-on, spared-less}
 use Rattle.checker_contracts.proofs.Wiping.{stored-kept, wiped-low}
+use Rattle.checker_contracts.proofs.Refused.{done-refused}
 
 module _ (s d w : List ℕ) (rows at free k : ℕ) (o : Quantifier) (t : Text) (p : Pred) (A : PredAsk s d w rows at free (quantified k o t p)) where
   abbrev N : List ℕ
@@ -58,19 +59,16 @@ module _ (s d w : List ℕ) (rows at free k : ℕ) (o : Quantifier) (t : Text) (
     pub quantified-stopped : (number ≡ 0 → ⊥) → PredDone s s₁ d w w₁ rows at free (quantified k o t p) number place
     unfolding predNumbers predItems globalsIf
     quantified-stopped e = record {
-      spared = T .spared;
-      low = λ z. absurd (e z);
-      goes = λ z. absurd (e z);
-      stops = λ z H U S Γ D C F.
+      done = done-refused (T .done .still) e (λ H U S Γ D C u F.
           refuses-first H (textItems t Γ blank) (predItems p (inside t Γ)) number place
-          (T .stops e H U S Γ D C (fresh-left (textNumbers t) (predNumbers p) U (fresh-left N (k ∷ []) U F)));
+          (T .done .stops e H U S Γ D C tt (fresh-left (textNumbers t) (predNumbers p) U (fresh-left N (k ∷ []) U F))));
     }
 
     module _ (fine : number ≡ 0) where
       -- any items before
       module _ (H : Items) (U : List ℕ) (S : Steady H U) (Γ : Scope) (D : Dictionary) (C : Scoped s d w rows (idle H U) Γ D) (F : Fresh N U) where
         declared : Declared s₁ d w₁ rows m free H U Γ D false t
-        declared = T .goes fine H U S Γ D C (fresh-left (textNumbers t) (predNumbers p) U F)
+        declared = T .done .goes fine H U S Γ D C tt (fresh-left (textNumbers t) (predNumbers p) U F)
 
         abbrev went : Went H (textItems t Γ (globalsIf false D)) U (textNumbers t)
         went = record { unknowns = declared .unknowns; walked = declared .walked }
@@ -84,12 +82,12 @@ module _ (s d w : List ℕ) (rows at free k : ℕ) (o : Quantifier) (t : Text) (
           let K = both in
           let X = declared (K .before) (K .known) (K .steady) (K .scope) (K .dictionary) (K .scoped) (K .fresh) in
           let B = A .walking .room in
-          let e = T .short fine in
-          let f = T .few fine in
+          let e = T .done .areas fine .short in
+          let f = T .done .areas fine .few in
           let h = tall in
           let n = length-append (textNumbers t) (predNumbers p) in
           let x = A .walking .room .some in
-          let y = T .stored fine .more in
+          let y = T .done .areas fine .stored .more in
           record {
             height = A .height - 1;
             texts = A .texts;
@@ -103,13 +101,13 @@ module _ (s d w : List ℕ) (rows at free k : ℕ) (o : Quantifier) (t : Text) (
               scoped = X .within;
               fresh = fresh (K .before) (K .known) (K .steady) (K .scope) (K .dictionary) (K .scoped) (K .fresh);
               once = once-right (textNumbers t) (predNumbers p) once;
-              size = T .stored fine .size ∙ K .size;
+              size = T .done .areas fine .stored .size ∙ K .size;
               few = K .few;
-              clean = T .stored fine .after;
+              clean = T .done .areas fine .stored .after;
               bound = A .walking .bound;
               crowd = crowd-part (A .walking .bound) (predNumbers (quantified k o t p)) (predNumbers p) (A .walking .crowd) shorter;
               room =
-                  between-part w w₁ rows (rows + m) at at₁ free free (A .height) (A .height - 1) (A .walking .bound) (A .walking .bound) B (T .spared .size) (omega arith) (omega arith)
+                  between-part w w₁ rows (rows + m) at at₁ free free (A .height) (A .height - 1) (A .walking .bound) (A .walking .bound) B (T .done .still .size) (omega arith) (omega arith)
                   (omega arith) (B .low) (omega arith) (omega arith) (omega arith);
             };
           }
@@ -117,36 +115,35 @@ module _ (s d w : List ℕ) (rows at free k : ℕ) (o : Quantifier) (t : Text) (
       -- THE BODY WAS VISITED.
       module _ (s₂ w₂ : List ℕ) (number₂ place₂ : ℕ) (P : PredDone s₁ s₂ d w₁ w₂ (rows + m) at₁ free p number₂ place₂) where
         spared : Spared w w₂ rows free
-        spared = spared-on w w₁ w₂ rows free (T .spared) (spared-less w₁ w₂ (rows + m) rows free free (omega arith) (omega arith) (P .spared))
+        spared = spared-on w w₁ w₂ rows free (T .done .still) (spared-less w₁ w₂ (rows + m) rows free free (omega arith) (omega arith) (P .done .still))
 
         pub quantified-refused : (number₂ ≡ 0 → ⊥) → PredDone s s₂ d w w₂ rows at free (quantified k o t p) number₂ place₂
         unfolding predNumbers predItems globalsIf
         quantified-refused e = record {
-          spared = spared;
-          low = λ z. absurd (e z);
-          goes = λ z. absurd (e z);
-          stops = λ z H U S Γ D C F.
+          done = done-refused spared e (λ H U S Γ D C u F.
               let F′ = fresh-left N (k ∷ []) U F in
               let X = declared H U S Γ D C F′ in
               refuses-second H (textItems t Γ blank) (predItems p (inside t Γ)) number₂ place₂ (X .walked .goes)
-              (P .stops e (H ⨾ textItems t Γ blank) (X .unknowns) (X .walked .steady) (inside t Γ) D (X .within) (fresh H U S Γ D C F′));
+              (P .done .stops e (H ⨾ textItems t Γ blank) (X .unknowns) (X .walked .steady) (inside t Γ) D (X .within) tt (fresh H U S Γ D C F′)));
         }
 
         pub quantified-done : number₂ ≡ 0 → length s₂ ≡ length s₁ → PredDone s (sets s₂ at (replicate (at₁ - at) 0)) d w w₂ rows at free (quantified k o t p) number₂ place₂
         unfolding predNumbers predItems globalsIf
         quantified-done fine₂ z = record {
-          spared = spared;
-          low = λ e.
-              let pool = A .walking .room .pool in
-              let h = tall in
-              let x = T .short fine in
-              let y = T .few fine in
-              wiped-low s s₂ at at₁ (A .walking .size) (A .walking .clean) (A .walking .room .some) (omega arith)
-              (stored-kept s s₁ s₂ at at₁ (omega arith) (T .stored fine) z (P .low fine₂));
-          goes = λ e H U S Γ D C F.
-              let F′ = fresh-left N (k ∷ []) U F in
-              let X = declared H U S Γ D C F′ in
-              went-then H (textItems t Γ blank) (predItems p (inside t Γ)) U (textNumbers t) (predNumbers p) k S (went H U S Γ D C F′)
-              (P .goes fine₂ (H ⨾ textItems t Γ blank) (X .unknowns) (X .walked .steady) (inside t Γ) D (X .within) (fresh H U S Γ D C F′));
-          stops = λ e. absurd (e fine₂);
+          done = record {
+            still = spared;
+            areas = λ e.
+                let pool = A .walking .room .pool in
+                let h = tall in
+                let x = T .done .areas fine .short in
+                let y = T .done .areas fine .few in
+                wiped-low s s₂ at at₁ (A .walking .size) (A .walking .clean) (A .walking .room .some) (omega arith)
+                (stored-kept s s₁ s₂ at at₁ (omega arith) (T .done .areas fine .stored) z (P .done .areas fine₂));
+            goes = λ e H U S Γ D C u F.
+                let F′ = fresh-left N (k ∷ []) U F in
+                let X = declared H U S Γ D C F′ in
+                went-then H (textItems t Γ blank) (predItems p (inside t Γ)) U (textNumbers t) (predNumbers p) k S (went H U S Γ D C F′)
+                (P .done .goes fine₂ (H ⨾ textItems t Γ blank) (X .unknowns) (X .walked .steady) (inside t Γ) D (X .within) tt (fresh H U S Γ D C F′));
+            stops = λ e. absurd (e fine₂);
+          };
         }

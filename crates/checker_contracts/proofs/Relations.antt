@@ -27,6 +27,7 @@ use Rattle.checker_contracts.proofs.Nodes.{fresh-left}
 use Rattle.checker_contracts.proofs.Passing.{walking-first}
 use Rattle.checker_contracts.proofs.Sides.{Sides, left-refused, right-refused, sides-spared, sides-stored, sides-low, own-refused, relation-went, relation-several}
 use Rattle.checker_contracts.proofs.Wiping.{stored-kept, wiped-low}
+use Rattle.checker_contracts.proofs.Refused.{done-refused}
 
 -- The predicate p relates a and b at node k, by the items `own`.
 pub record Relation (p : Pred) (k : ℕ) (a b : Expr) (own : ℕ → Term → Term → Items) : Type 0 where
@@ -74,11 +75,8 @@ module _ (s d w : List ℕ) (rows at free : ℕ) (p : Pred) (k : ℕ) (a b : Exp
       ((H : Items) (U : List ℕ) → Steady H U → (Γ : Scope) (D : Dictionary) → Scoped s d w rows (idle H U) Γ D → Fresh N U → Refuses (relation Γ) (Meets H) number place) →
       PredDone s s′ d w w′ rows at free p number place
   refused s′ w′ number place e P r = record {
-    spared = P;
-    low = λ z. absurd (e z);
-    goes = λ z. absurd (e z);
-    stops = λ z H U S Γ D C F.
-        subst (λ t. Refuses t (Meets H) number place) (sym (T .items Γ)) (r H U S Γ D C (fresh-left N (k ∷ []) U (subst (λ l. Fresh l U) (T .numbers) F)));
+    done = done-refused P e (λ H U S Γ D C u F.
+        subst (λ t. Refuses t (Meets H) number place) (sym (T .items Γ)) (r H U S Γ D C (fresh-left N (k ∷ []) U (subst (λ l. Fresh l U) (T .numbers) F))));
   }
 
   module _ (s₁ w₁ : List ℕ) (number place cell n top at₁ : ℕ) (A : ExprDone s s₁ d w w₁ rows 0 4096 at free a number place cell n top at₁) where
@@ -113,16 +111,18 @@ module _ (s d w : List ℕ) (rows at free : ℕ) (p : Pred) (k : ℕ) (a b : Exp
           -- No finding: the words of both sides are wiped.
           pub relation-done : Closed s₃ s₄ d n₃ true → length s₄ ≡ length s₂ → PredDone s (sets s₄ at (replicate (at₂ - at) 0)) d w w₂ rows at free p 0 k
           relation-done Z z = record {
-            spared = spared;
-            low = λ e.
-                let K = sides .walking in
-                let pool = K .room .pool in
-                let stored = sides-stored s d w rows at free a b sides k own s₁ w₁ number place cell n top at₁ A fine s₂ w₂ number₂ place₂ cell₂ n₂ top₂ at₂ B fine₂ in
-                let low = sides-low s d w rows at free a b sides k own s₁ w₁ number place cell n top at₁ A fine s₂ w₂ number₂ place₂ cell₂ n₂ top₂ at₂ B fine₂ in
-                wiped-low s s₄ at at₂ (K .size) (K .clean) (K .room .some) low (stored-kept s s₂ s₄ at at₂ (omega arith) stored z (Z .low ∙ R .low));
-            goes = λ e H U S Γ D C F.
-                let W = relation-went s d w rows at free a b sides k own s₁ w₁ number place cell n top at₁ A fine s₂ w₂ number₂ place₂ cell₂ n₂ top₂ at₂ B fine₂ s₃ number₃ n₃ R fine₃ H U S Γ D C
-                (fresh-left N (k ∷ []) U (subst (λ l. Fresh l U) (T .numbers) F)) s₄ Z in
-                subst (λ t. Went H t U (predNumbers p)) (sym (T .items Γ)) (subst (λ l. Went H (relation Γ) U l) (sym (T .numbers)) W);
-            stops = λ e. absurd (e refl);
+            done = record {
+              still = spared;
+              areas = λ e.
+                  let K = sides .walking in
+                  let pool = K .room .pool in
+                  let stored = sides-stored s d w rows at free a b sides k own s₁ w₁ number place cell n top at₁ A fine s₂ w₂ number₂ place₂ cell₂ n₂ top₂ at₂ B fine₂ in
+                  let low = sides-low s d w rows at free a b sides k own s₁ w₁ number place cell n top at₁ A fine s₂ w₂ number₂ place₂ cell₂ n₂ top₂ at₂ B fine₂ in
+                  wiped-low s s₄ at at₂ (K .size) (K .clean) (K .room .some) low (stored-kept s s₂ s₄ at at₂ (omega arith) stored z (Z .low ∙ R .low));
+              goes = λ e H U S Γ D C u F.
+                  let W = relation-went s d w rows at free a b sides k own s₁ w₁ number place cell n top at₁ A fine s₂ w₂ number₂ place₂ cell₂ n₂ top₂ at₂ B fine₂ s₃ number₃ n₃ R fine₃ H U S Γ D C
+                  (fresh-left N (k ∷ []) U (subst (λ l. Fresh l U) (T .numbers) F)) s₄ Z in
+                  subst (λ t. Went H t U (predNumbers p)) (sym (T .items Γ)) (subst (λ l. Went H (relation Γ) U l) (sym (T .numbers)) W);
+              stops = λ e. absurd (e refl);
+            };
           }

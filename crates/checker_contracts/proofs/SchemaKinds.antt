@@ -27,12 +27,12 @@ module _ (s d w : List ℕ) (stack at free : ℕ) (x : Schema) where
       where
         done : SchemaDone s s′ d w w′ stack at free (plain t) number place m at′
         done = record {
-          spared = T .spared;
-          stored = T .stored;
-          short = T .short;
-          few = T .few;
-          goes = λ z H U S Γ D C F. let G = T .goes z H U S Γ D C F in record { unknowns = G .unknowns; walked = G .walked; signature = G .signature };
-          stops = T .stops;
+          done = record {
+            still = T .done .still;
+            areas = T .done .areas;
+            goes = λ z H U S Γ D C u F. let G = T .done .goes z H U S Γ D C u F in record { unknowns = G .unknowns; walked = G .walked; signature = G .signature };
+            stops = T .done .stops;
+          };
         }
 
   -- An Include.
@@ -48,10 +48,10 @@ module _ (s d w : List ℕ) (stack at free : ℕ) (x : Schema) where
       where
         done : SchemaDone s s′ d w w′ stack at free (from i) number place m at′
         done = record {
-          spared = T .spared;
-          stored = T .stored;
-          short = T .short;
-          few = T .few;
-          goes = λ z H U S Γ D C F. let G = T .goes z H U S Γ D C F in record { unknowns = G .unknowns; walked = G .walked; signature = G .signature };
-          stops = T .stops;
+          done = record {
+            still = T .done .still;
+            areas = T .done .areas;
+            goes = λ z H U S Γ D C u F. let G = T .done .goes z H U S Γ D C u F in record { unknowns = G .unknowns; walked = G .walked; signature = G .signature };
+            stops = T .done .stops;
+          };
         }

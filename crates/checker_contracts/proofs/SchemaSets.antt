@@ -154,28 +154,28 @@ module _ (s d w : List ℕ) (rows n top at free : ℕ) (k : ℕ) (i : Include) (
       sset-include-stops ne cell n′ top′ at′ =
           done s₁ w₂ number place cell n′ top′ at′
           (part-stops s s₁ d w w₂ rows n top at free inner own l (k ∷ []) nothing 0 (slot k 0) number place 0 cell n′ top′ at′ ne
-          (waiting-stops s d w w₁ rows n top at free (K .height) e l (k ∷ []) sset-visiting (omega arith) deep S w₂ (T .spared) inner s₁ 0 number place 0 n′ top′ at′ ne (λ H U Z Γ D C f. T .stops ne H U Z Γ D C f)))
+          (waiting-stops s d w w₁ rows n top at free (K .height) e l (k ∷ []) sset-visiting (omega arith) deep S w₂ (T .done .still) inner s₁ 0 number place 0 n′ top′ at′ ne (λ H U Z Γ D C f. T .done .stops ne H U Z Γ D C tt f)))
 
       module _ (z : number ≡ 0) where
         pub sset-restore-asked : (n ≤ 1024) × (4096 ≤ top) × (top ≤ 6144) × (free < 2 ^ 39) × (free + (5 * n + (top - 4096)) ≤ length w₂)
-        sset-restore-asked = restore-asked s d w w₁ rows n top at free (K .height) e l (k ∷ []) sset-visiting (omega arith) deep S w₂ (T .spared)
+        sset-restore-asked = restore-asked s d w w₁ rows n top at free (K .height) e l (k ∷ []) sset-visiting (omega arith) deep S w₂ (T .done .still)
 
         reach : at₁ < 39936
-        reach = let p = sset-visiting .room .pool in let q = T .short z in let r = T .few z in let h = deep in omega arith
+        reach = let p = sset-visiting .room .pool in let q = T .done .areas z .short in let r = T .done .areas z .few in let h = deep in omega arith
 
         module _ (s₂ : List ℕ) (R : s₂ ≡ restored s₁ n top w₂ free) where
           abbrev After : Fact
           After Γ D G = Carries (SettledAt s₂ d G) (includeSignature i Γ) (rowsOf w₂ e m)
 
           low₂ : lower s₂ ≡ lower s₁
-          low₂ = taken-low s d w w₁ rows n top at free (K .height) e l (k ∷ []) sset-visiting (omega arith) deep S w₂ (T .spared) s₁ s₂ at₁ (T .stored z) R
+          low₂ = taken-low s d w w₁ rows n top at free (K .height) e l (k ∷ []) sset-visiting (omega arith) deep S w₂ (T .done .still) s₁ s₂ at₁ (T .done .areas z .stored) R
 
           First : Step s s₂ d w w₂ rows n top n top at at₁ free inner l nothing After
           unfolding schemaItems
           First =
-              waiting-step s d w w₁ rows n top at free (K .height) e l (k ∷ []) sset-visiting (omega arith) deep S w₂ (T .spared) s₁ s₂ at₁ (T .stored z) R inner
+              waiting-step s d w w₁ rows n top at free (K .height) e l (k ∷ []) sset-visiting (omega arith) deep S w₂ (T .done .still) s₁ s₂ at₁ (T .done .areas z .stored) R inner
               (λ Γ. schema-agrees (from i) Γ) (λ Γ D G. Carries (SettledAt s₁ d G) (includeSignature i Γ) (rowsOf w₂ e m)) After reach
-              (λ H U Z Γ D C f. let q = T .goes z H U Z Γ D C f in (q .unknowns, q .walked, carries-settled s₁ d (H ⨾ inner Γ) (q .unknowns) (includeSignature i Γ) (rowsOf w₂ e m) (q .signature)))
+              (λ H U Z Γ D C f. let q = T .done .goes z H U Z Γ D C tt f in (q .unknowns, q .walked, carries-settled s₁ d (H ⨾ inner Γ) (q .unknowns) (includeSignature i Γ) (rowsOf w₂ e m) (q .signature)))
               (λ Γ D G G′ wider says C. carries-moved s₁ s₂ d G G′ low₂ wider says (includeSignature i Γ) (rowsOf w₂ e m) C)
 
           -- the piece that stands again
@@ -189,7 +189,7 @@ module _ (s d w : List ℕ) (rows n top at free : ℕ) (k : ℕ) (i : Include) (
               let b = a .enough in
               let c = a .few in
               let g = include-some i in
-              taken-uses s d w w₁ rows n top at free (K .height) e l (k ∷ []) sset-visiting (omega arith) deep S w₂ (T .spared) s₁ s₂ at₁ (T .stored z) R 0 r
+              taken-uses s d w w₁ rows n top at free (K .height) e l (k ∷ []) sset-visiting (omega arith) deep S w₂ (T .done .still) s₁ s₂ at₁ (T .done .areas z .stored) R 0 r
               (room-less s n top (0 + r) (40 * (24 - a .visited) + 40) (omega (arith, length-append l (k ∷ []))) (a .store))
 
           table : e + 2 * m ≤ length w₂
@@ -197,15 +197,15 @@ module _ (s d w : List ℕ) (rows n top at free : ℕ) (k : ℕ) (i : Include) (
               let W = waiting s d w w₁ rows n top at free (K .height) e l (k ∷ []) sset-visiting (omega arith) deep S in
               let a = W .room .frames in
               let b = W .room .wide in
-              let c = T .few z in
-              let g = T .spared .size in
+              let c = T .done .areas z .few in
+              let g = T .done .still .size in
               omega arith
 
           pub sset-asked : SchemaSetAsked s₂ d w₂ e m n top
           sset-asked =
               let L = sset-visiting in
               let q = Q (L .ghost) (L .stands) (L .scope) (L .dictionary) (L .scoped) (L .fresh) in
-              let few = T .few z in
+              let few = T .done .areas z .few in
               record {
                 binding = record {
                   ghost = next s s₂ d n top n top (L .ghost) (inner (L .scope)) (Owned l) (q .advanced);
@@ -222,7 +222,7 @@ module _ (s d w : List ℕ) (rows n top at free : ℕ) (k : ℕ) (i : Include) (
               ExprDone s s₃ d w w₂ rows n top at free (schemaSet k i) 0 k cell n₃ top₃ at₁
           sset-done s₃ cell n₃ top₃ size Y =
               let L = sset-visiting in
-              let few = T .few z in
+              let few = T .done .areas z .few in
               let F =
               rule-ending s₂ s₃ d w₂ w₂ rows n top n₃ top₃ at₁ free k 0 cell (suc m + 1) own After (spared-refl w₂ rows free) size (Y .low) (let q = reach in omega arith) (First .stored .after) (omega arith) (λ y. Y .uses)
               (λ G St Γ D C u b. rule-goes s₂ s₃ d n top k 0 cell n₃ top₃ G (own Γ) refl (Y .typed G St (includeSignature i Γ) b k u)) in
@@ -232,14 +232,14 @@ module _ (s d w : List ℕ) (rows n top at free : ℕ) (k : ℕ) (i : Include) (
             where
               visited : Ending s₂ s₃ d w₂ w₂ rows n top at₁ free own (k ∷ []) After (slot k 0) 0 k cell n₃ top₃ at₁ → Visited s s₃ n top n₃ top₃ at at₁ (l ++ (k ∷ []))
               visited F =
-                  let q = T .short z in
-                  let r = T .few z in
+                  let q = T .done .areas z .short in
+                  let r = T .done .areas z .few in
                   let g = include-some i in
                   let X = F .areas refl in
                   record {
                     stored = stored-on s s₂ s₃ at at₁ at₁ (First .stored) (X .stored);
                     short = omega (arith, length-append l (k ∷ []));
                     uses = λ v B.
-                        X .uses v (taken-uses s d w w₁ rows n top at free (K .height) e l (k ∷ []) sset-visiting (omega arith) deep S w₂ (T .spared) s₁ s₂ at₁ (T .stored z) R 0 (40 * length (k ∷ []) + v)
+                        X .uses v (taken-uses s d w w₁ rows n top at free (K .height) e l (k ∷ []) sset-visiting (omega arith) deep S w₂ (T .done .still) s₁ s₂ at₁ (T .done .areas z .stored) R 0 (40 * length (k ∷ []) + v)
                         (room-less s n top (0 + (40 * length (k ∷ []) + v)) (40 * length (l ++ (k ∷ [])) + v) (omega (arith, length-append l (k ∷ []))) B));
                   }

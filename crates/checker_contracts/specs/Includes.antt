@@ -13,7 +13,7 @@ use Rattle.types_rules.specs.Formed.{Ascending}
 use Rattle.types_rules.specs.Types.{Ty}
 use Rattle.checker_rules.specs.Conditions.{smallTypes}
 use Rattle.checker_rules.specs.Dictionary.{Dictionary}
-use Rattle.checker_rules.specs.Items.{Items, _⨾_, Meets, Refuses}
+use Rattle.checker_rules.specs.Items.{Items, _⨾_}
 use Rattle.checker_rules.specs.Rules.{includeItems, actualItems}
 use Rattle.checker_rules.specs.Scopes.{Scope, includeSignature, includeNode}
 use Rattle.checker_rules.specs.Unknowns.{slot, unknownAt, row}
@@ -28,6 +28,7 @@ use Rattle.checker_includes.specs.Components.{Placed, StandsFor, ActualTypes}
 use Rattle.checker_includes.specs.Storing.{Stored}
 use Rattle.checker_contracts.specs.Visits.{Owned, Fresh, idle, Spared}
 use Rattle.checker_contracts.specs.Predicates.{Walking}
+use Rattle.checker_contracts.specs.Done.{Done, Signed}
 
 -- the number of an Include's actuals
 unfoldable pub actualCount : Include → ℕ
@@ -47,18 +48,21 @@ pub record Brought (s d w : List ℕ) (m free : ℕ) (H : Items) (U : List ℕ) 
   pub actuals : ActualTypes s d (H ⨾ includeItems i Γ) unknowns (includeNode i) (actualCount i) (take (actualCount i) places)
   pub components : Carries (Component s d (row (includeNode i) 1 (actualCount i))) (includeSignature i Γ) (rows w free m)
 
-pub record IncludeDone (s s′ d w w′ : List ℕ) (stack at free : ℕ) (i : Include) (places places′ : List ℕ) (number place m at′ : ℕ) : Type 0 where
+-- What stays in any case, places being the row for the actuals; and what is left of the areas: the m rows refer to recorded types.
+pub record IncludeKept (w w′ : List ℕ) (stack free : ℕ) (places places′ : List ℕ) : Type 0 where
   pub spared : Spared w w′ stack free
   pub row : length places′ ≡ length places
-  pub stored : number ≡ 0 → Stored s s′ at at′
-  pub short : number ≡ 0 → at′ ≤ at + 96 * actualCount i
-  pub few : number ≡ 0 → m ≤ 16
-  pub recorded : number ≡ 0 → (j : ℕ) → j < m → 39936 ≤ getD w′ (free + 2 * j + 1) 0
-  pub ascending : number ≡ 0 → Ascending (identifiersOf (rows w′ free m))
-  pub goes : number ≡ 0 → (H : Items) (U : List ℕ) → Steady H U → (Γ : Scope) (D : Dictionary) → Scoped s d w stack (idle H U) Γ D → Fresh (includeNumbers i) U →
-      Brought s′ d w′ m free H U Γ i places′
-  pub stops : (number ≡ 0 → ⊥) → (H : Items) (U : List ℕ) → Steady H U → (Γ : Scope) (D : Dictionary) → Scoped s d w stack (idle H U) Γ D → Fresh (includeNumbers i) U →
-      Refuses (includeItems i Γ) (Meets H) number place
+
+pub record IncludeLeft (s s′ w′ : List ℕ) (at at′ free m count : ℕ) : Type 0 where
+  pub stored : Stored s s′ at at′
+  pub short : at′ ≤ at + 96 * count
+  pub few : m ≤ 16
+  pub recorded : (j : ℕ) → j < m → 39936 ≤ getD w′ (free + 2 * j + 1) 0
+  pub ascending : Ascending (identifiersOf (rows w′ free m))
+
+pub record IncludeDone (s s′ d w w′ : List ℕ) (stack at free : ℕ) (i : Include) (places places′ : List ℕ) (number place m at′ : ℕ) : Type 0 where
+  pub done : Done s d w stack (IncludeKept w w′ stack free places places′) (IncludeLeft s s′ w′ at at′ free m (actualCount i)) (Unit {0}) (λ x H U. Fresh (includeNumbers i) U)
+      (λ x Γ D. includeItems i Γ) (λ x H U Γ D. Brought s′ d w′ m free H U Γ i places′) number place
 
 -- ACTUALS of the Include at node k, from number j on (counted from 0): each a closed piece. Unknown j + 1 of node k and those after it are theirs.
 abbrev pub ActualOwned : ℕ → ℕ → List ℕ → ℕ → Type 0
@@ -93,16 +97,19 @@ pub record ActualsWent (s d : List ℕ) (H : Items) (U : List ℕ) (Γ : Scope) 
   pub walked : Walked H (actualItems xs k (suc j) Γ) U unknowns (ActualOwned k j (exprsNumbers xs))
   pub each : (i : ℕ) → j ≤ i → i < j + exprsLength xs → ActualAt s d (H ⨾ actualItems xs k (suc j) Γ) unknowns k i (getD places i 0)
 
-pub record ActualsDone (s s′ d w w′ : List ℕ) (stack at free k j : ℕ) (xs : Exprs) (places places′ : List ℕ) (number place at′ : ℕ) : Type 0 where
+-- The places of earlier actuals stay in any case.
+pub record ActualsKept (w w′ : List ℕ) (stack free j : ℕ) (places places′ : List ℕ) : Type 0 where
   pub spared : Spared w w′ stack free
   pub row : length places′ ≡ length places
   pub earlier : (i : ℕ) → i < j → getD places′ i 0 ≡ getD places i 0
-  pub stored : number ≡ 0 → Stored s s′ at at′
-  pub short : number ≡ 0 → at′ ≤ at + 96 * exprsLength xs
-  pub goes : number ≡ 0 → (H : Items) (U : List ℕ) → Steady H U → (Γ : Scope) (D : Dictionary) → Scoped s d w stack (idle H U) Γ D → ActualFresh k j (exprsNumbers xs) U →
-      ActualsWent s′ d H U Γ k j xs places′
-  pub stops : (number ≡ 0 → ⊥) → (H : Items) (U : List ℕ) → Steady H U → (Γ : Scope) (D : Dictionary) → Scoped s d w stack (idle H U) Γ D → ActualFresh k j (exprsNumbers xs) U →
-      Refuses (actualItems xs k (suc j) Γ) (Meets H) number place
+
+pub record ActualsLeft (s s′ : List ℕ) (at at′ count : ℕ) : Type 0 where
+  pub stored : Stored s s′ at at′
+  pub short : at′ ≤ at + 96 * count
+
+pub record ActualsDone (s s′ d w w′ : List ℕ) (stack at free k j : ℕ) (xs : Exprs) (places places′ : List ℕ) (number place at′ : ℕ) : Type 0 where
+  pub done : Done s d w stack (ActualsKept w w′ stack free j places places′) (ActualsLeft s s′ at at′ (exprsLength xs)) (Unit {0}) (λ x H U. ActualFresh k j (exprsNumbers xs) U)
+      (λ x Γ D. actualItems xs k (suc j) Γ) (λ x H U Γ D. ActualsWent s′ d H U Γ k j xs places′) number place
 
 -- AN INCLUDE AS A SCHEMA EXPRESSION, or of a SchemaSet: 38 too, and its types written out.
 pub record BringsAsk (s d w : List ℕ) (stack at free : ℕ) (i : Include) : Type 0 where
@@ -117,11 +124,5 @@ pub record Shown (s d w : List ℕ) (m free : ℕ) (H : Items) (U : List ℕ) (�
   pub signature : Carries (Placed s d (H ⨾ (includeItems i Γ ⨾ smallTypes (includeNode i) (includeSignature i Γ))) unknowns) (includeSignature i Γ) (rows w free m)
 
 pub record BringsDone (s s′ d w w′ : List ℕ) (stack at free : ℕ) (i : Include) (number place m at′ : ℕ) : Type 0 where
-  pub spared : Spared w w′ stack free
-  pub stored : number ≡ 0 → Stored s s′ at at′
-  pub short : number ≡ 0 → at′ ≤ at + 96 * m
-  pub few : number ≡ 0 → m ≤ 16
-  pub goes : number ≡ 0 → (H : Items) (U : List ℕ) → Steady H U → (Γ : Scope) (D : Dictionary) → Scoped s d w stack (idle H U) Γ D → Fresh (includeNumbers i) U →
-      Shown s′ d w′ m free H U Γ i
-  pub stops : (number ≡ 0 → ⊥) → (H : Items) (U : List ℕ) → Steady H U → (Γ : Scope) (D : Dictionary) → Scoped s d w stack (idle H U) Γ D → Fresh (includeNumbers i) U →
-      Refuses (includeItems i Γ ⨾ smallTypes (includeNode i) (includeSignature i Γ)) (Meets H) number place
+  pub done : Done s d w stack (Spared w w′ stack free) (Signed s s′ at at′ m) (Unit {0}) (λ x H U. Fresh (includeNumbers i) U)
+      (λ x Γ D. includeItems i Γ ⨾ smallTypes (includeNode i) (includeSignature i Γ)) (λ x H U Γ D. Shown s′ d w′ m free H U Γ i) number place

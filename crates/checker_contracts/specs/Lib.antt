@@ -1,4 +1,5 @@
 pub mod Visits
+pub mod Done
 pub mod Room
 pub mod Expressions
 pub mod Predicates

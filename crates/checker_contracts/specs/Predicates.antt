@@ -7,7 +7,7 @@ use Rattle.reader_rules.specs.Limited.{LimitedPred}
 use Rattle.reader_rules.specs.Tree.{Pred}
 use Rattle.reader_rules.specs.TreeNumbers.{predNumbers}
 use Rattle.checker_rules.specs.Dictionary.{Dictionary}
-use Rattle.checker_rules.specs.Items.{Items, Meets, Refuses}
+use Rattle.checker_rules.specs.Items.{Items}
 use Rattle.checker_rules.specs.Rules.{predItems}
 use Rattle.checker_rules.specs.Scopes.{Scope}
 use Rattle.types_cells.specs.Settled.{lower}
@@ -16,6 +16,7 @@ use Rattle.checker_pieces.specs.Piece.{Steady}
 use Rattle.checker_lookup.specs.Scoped.{Scoped}
 use Rattle.checker_contracts.specs.Visits.{Fresh, EachOnce, idle, Spared, Went}
 use Rattle.checker_contracts.specs.Room.{Between, Crowd}
+use Rattle.checker_contracts.specs.Done.{Done}
 
 -- What holds between pieces, at a part of the tree whose nodes are l.
 pub record Walking (s d w : List ℕ) (rows at free h : ℕ) (l : List ℕ) : Type 0 where
@@ -42,9 +43,4 @@ pub record PredAsk (s d w : List ℕ) (rows at free : ℕ) (p : Pred) : Type 0 w
 
 -- Number 0: the items of the predicate pass, and the pool is as it was; otherwise they refuse with this number at the place.
 pub record PredDone (s s′ d w w′ : List ℕ) (rows at free : ℕ) (p : Pred) (number place : ℕ) : Type 0 where
-  pub spared : Spared w w′ rows free
-  pub low : number ≡ 0 → lower s′ ≡ lower s
-  pub goes : number ≡ 0 → (H : Items) (U : List ℕ) → Steady H U → (Γ : Scope) (D : Dictionary) → Scoped s d w rows (idle H U) Γ D → Fresh (predNumbers p) U →
-      Went H (predItems p Γ) U (predNumbers p)
-  pub stops : (number ≡ 0 → ⊥) → (H : Items) (U : List ℕ) → Steady H U → (Γ : Scope) (D : Dictionary) → Scoped s d w rows (idle H U) Γ D → Fresh (predNumbers p) U →
-      Refuses (predItems p Γ) (Meets H) number place
+  pub done : Done s d w rows (Spared w w′ rows free) (lower s′ ≡ lower s) (Unit {0}) (λ x H U. Fresh (predNumbers p) U) (λ x Γ D. predItems p Γ) (λ x H U Γ D. Went H (predItems p Γ) U (predNumbers p)) number place

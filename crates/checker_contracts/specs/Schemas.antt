@@ -6,7 +6,7 @@ use Rattle.reader_rules.specs.Limited.{LimitedSchema}
 use Rattle.reader_rules.specs.Tree.{Schema}
 use Rattle.reader_rules.specs.TreeNumbers.{schemaNumbers}
 use Rattle.checker_rules.specs.Dictionary.{Dictionary}
-use Rattle.checker_rules.specs.Items.{Items, _⨾_, Meets, Refuses}
+use Rattle.checker_rules.specs.Items.{Items, _⨾_}
 use Rattle.checker_rules.specs.Rules.{schemaItems}
 use Rattle.checker_rules.specs.Scopes.{Scope, schemaSignature}
 use Rattle.checker_signatures.specs.Rows.{rows}
@@ -17,6 +17,7 @@ use Rattle.checker_includes.specs.Components.{Placed}
 use Rattle.checker_includes.specs.Storing.{Stored}
 use Rattle.checker_contracts.specs.Visits.{Owned, Fresh, idle, Spared}
 use Rattle.checker_contracts.specs.Predicates.{Walking}
+use Rattle.checker_contracts.specs.Done.{Done, Signed}
 
 pub record SchemaAsk (s d w : List ℕ) (stack at free : ℕ) (x : Schema) : Type 0 where
   pub height : ℕ
@@ -30,11 +31,5 @@ pub record SchemaWent (s d w : List ℕ) (m free : ℕ) (H : Items) (U : List �
   pub signature : Carries (Placed s d (H ⨾ schemaItems x Γ) unknowns) (schemaSignature x Γ) (rows w free m)
 
 pub record SchemaDone (s s′ d w w′ : List ℕ) (stack at free : ℕ) (x : Schema) (number place m at′ : ℕ) : Type 0 where
-  pub spared : Spared w w′ stack free
-  pub stored : number ≡ 0 → Stored s s′ at at′
-  pub short : number ≡ 0 → at′ ≤ at + 96 * m
-  pub few : number ≡ 0 → m ≤ 16
-  pub goes : number ≡ 0 → (H : Items) (U : List ℕ) → Steady H U → (Γ : Scope) (D : Dictionary) → Scoped s d w stack (idle H U) Γ D → Fresh (schemaNumbers x) U →
-      SchemaWent s′ d w′ m free H U Γ x
-  pub stops : (number ≡ 0 → ⊥) → (H : Items) (U : List ℕ) → Steady H U → (Γ : Scope) (D : Dictionary) → Scoped s d w stack (idle H U) Γ D → Fresh (schemaNumbers x) U →
-      Refuses (schemaItems x Γ) (Meets H) number place
+  pub done : Done s d w stack (Spared w w′ stack free) (Signed s s′ at at′ m) (Unit {0}) (λ y H U. Fresh (schemaNumbers x) U) (λ y Γ D. schemaItems x Γ)
+      (λ y H U Γ D. SchemaWent s′ d w′ m free H U Γ x) number place

@@ -8,7 +8,7 @@ use Rattle.reader_rules.specs.Limited.{LimitedText, LimitedLines}
 use Rattle.reader_rules.specs.Tree.{Text, Lines}
 use Rattle.reader_rules.specs.TreeNumbers.{textNumbers, linesNumbers}
 use Rattle.checker_rules.specs.Dictionary.{Dictionary}
-use Rattle.checker_rules.specs.Items.{Items, _⨾_, Meets, Refuses}
+use Rattle.checker_rules.specs.Items.{Items, _⨾_}
 use Rattle.checker_rules.specs.Rules.{textItems, linesItems}
 use Rattle.checker_rules.specs.Scopes.{Scope, textSignature, linesSignature, inside}
 use Rattle.checker_rules.specs.Signatures.{Signature}
@@ -20,6 +20,7 @@ use Rattle.checker_includes.specs.Components.{Placed}
 use Rattle.checker_includes.specs.Storing.{Stored}
 use Rattle.checker_contracts.specs.Visits.{Owned, Fresh, idle, Spared, globalsIf}
 use Rattle.checker_contracts.specs.Predicates.{Walking}
+use Rattle.checker_contracts.specs.Done.{Done, Signed}
 
 pub record TextAsk (s d w : List ℕ) (rows at free : ℕ) (t : Text) : Type 0 where
   pub height : ℕ
@@ -35,14 +36,8 @@ pub record Declared (s d w : List ℕ) (stack m free : ℕ) (H : Items) (U : Lis
   pub within : Scoped s d w (stack + m) (idle (H ⨾ textItems t Γ (globalsIf global D)) unknowns) (inside t Γ) D
 
 pub record TextDone (s s′ d w w′ : List ℕ) (stack at free : ℕ) (t : Text) (global : Bool) (number place m at′ : ℕ) : Type 0 where
-  pub spared : Spared w w′ stack free
-  pub stored : number ≡ 0 → Stored s s′ at at′
-  pub short : number ≡ 0 → at′ ≤ at + 96 * m
-  pub few : number ≡ 0 → m ≤ 16
-  pub goes : number ≡ 0 → (H : Items) (U : List ℕ) → Steady H U → (Γ : Scope) (D : Dictionary) → Scoped s d w stack (idle H U) Γ D → Fresh (textNumbers t) U →
-      Declared s′ d w′ stack m free H U Γ D global t
-  pub stops : (number ≡ 0 → ⊥) → (H : Items) (U : List ℕ) → Steady H U → (Γ : Scope) (D : Dictionary) → Scoped s d w stack (idle H U) Γ D → Fresh (textNumbers t) U →
-      Refuses (textItems t Γ (globalsIf global D)) (Meets H) number place
+  pub done : Done s d w stack (Spared w w′ stack free) (Signed s s′ at at′ m) (Unit {0}) (λ x H U. Fresh (textNumbers t) U) (λ x Γ D. textItems t Γ (globalsIf global D))
+      (λ x H U Γ D. Declared s′ d w′ stack m free H U Γ D global t) number place
 
 -- LINES, the m rows of those before at `base`. A single line is one before `end`.
 pub record LinesAsk (s d w : List ℕ) (stack base m at free : ℕ) (ls : Lines) : Type 0 where
@@ -62,13 +57,14 @@ pub record LinesWent (s d w : List ℕ) (base m : ℕ) (H : Items) (U : List ℕ
   pub walked : Walked H (linesItems ls Γ G r) U unknowns (Owned (linesNumbers ls))
   pub signature : Carries (Placed s d (H ⨾ linesItems ls Γ G r) unknowns) (linesSignature ls Γ r) (rows w base m)
 
+-- What is left of the areas: rows more, each with its type.
+pub record LinesLeft (s s′ : List ℕ) (m m′ at at′ : ℕ) : Type 0 where
+  pub stored : Stored s s′ at at′
+  pub more : m ≤ m′
+  pub short : at′ ≤ at + 96 * (m′ - m)
+  pub few : m′ ≤ 16
+
+-- r is the signature of the lines before.
 pub record LinesDone (s s′ d w w′ : List ℕ) (stack base m at free : ℕ) (ls : Lines) (global : Bool) (number place m′ at′ : ℕ) : Type 0 where
-  pub spared : Spared w w′ stack base
-  pub stored : number ≡ 0 → Stored s s′ at at′
-  pub more : number ≡ 0 → m ≤ m′
-  pub short : number ≡ 0 → at′ ≤ at + 96 * (m′ - m)
-  pub few : number ≡ 0 → m′ ≤ 16
-  pub goes : number ≡ 0 → (H : Items) (U : List ℕ) → Steady H U → (Γ : Scope) (D : Dictionary) → Scoped s d w stack (idle H U) Γ D → Fresh (linesNumbers ls) U →
-      (r : Signature) → Carries (Placed s d H U) r (rows w base m) → LinesWent s′ d w′ base m′ H U Γ (globalsIf global D) r ls
-  pub stops : (number ≡ 0 → ⊥) → (H : Items) (U : List ℕ) → Steady H U → (Γ : Scope) (D : Dictionary) → Scoped s d w stack (idle H U) Γ D → Fresh (linesNumbers ls) U →
-      (r : Signature) → Carries (Placed s d H U) r (rows w base m) → Refuses (linesItems ls Γ (globalsIf global D) r) (Meets H) number place
+  pub done : Done s d w stack (Spared w w′ stack base) (LinesLeft s s′ m m′ at at′) Signature (λ r H U. Fresh (linesNumbers ls) U × Carries (Placed s d H U) r (rows w base m))
+      (λ r Γ D. linesItems ls Γ (globalsIf global D) r) (λ r H U Γ D. LinesWent s′ d w′ base m′ H U Γ (globalsIf global D) r ls) number place

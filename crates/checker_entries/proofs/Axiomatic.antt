@@ -49,15 +49,15 @@ module _ (s d w : List ℕ) (p : Paragraph) (k : ℕ) (t : Text) (e : p ≡ axio
     pub axiom-stopped : (number ≡ 0 → ⊥) → (at count : ℕ) → ParagraphDone s s′ d w w′ p number place at count
     unfolding paragraphItems globalsIf
     axiom-stopped z at count = subst (λ x. ParagraphDone s s′ d w w′ x number place at count) (sym e) (record {
-      size = T .spared .size;
+      size = T .done .still .size;
       low = λ y. absurd (z y);
       goes = λ y. absurd (z y);
-      stops = λ y D R. refuses-any (textItems t (globals D) D) number place (T .stops y skip [] nothing-before (globals D) D (no-rows s d w D R) (nothing-known (textNumbers t)));
+      stops = λ y D R. refuses-any (textItems t (globals D) D) number place (T .done .stops y skip [] nothing-before (globals D) D (no-rows s d w D R) tt (nothing-known (textNumbers t)));
     })
 
     module _ (A : ParagraphAsk s d w p) (fine : number ≡ 0) where
       went : (D : Dictionary) → DictionaryHeld D d → Declared s′ d w′ 0 m 512 skip [] (globals D) D true t
-      went D R = T .goes fine skip [] nothing-before (globals D) D (no-rows s d w D R) (nothing-known (textNumbers t))
+      went D R = T .done .goes fine skip [] nothing-before (globals D) D (no-rows s d w D R) tt (nothing-known (textNumbers t))
 
       own : (D : Dictionary) → DictionaryHeld D d → TypesOf s′ d (skip ⨾ textItems t (globals D) (globalsIf true D)) (textSignature t (globals D)) (rows w′ 512 m)
       own D R =
@@ -68,9 +68,9 @@ module _ (s d w : List ℕ) (p : Paragraph) (k : ℕ) (t : Text) (e : p ≡ axio
       axiom-table =
           let O = own (A .dictionary) (A .recorded) in
           let z = A .few in
-          let l = T .few fine in
+          let l = T .done .areas fine .few in
           record {
-            areas = record { size = T .stored fine .size ∙ A .size; few = omega arith };
+            areas = record { size = T .done .areas fine .stored .size ∙ A .size; few = omega arith };
             types = O .types;
             stand = O .stand;
             small = O .small;
@@ -82,20 +82,20 @@ module _ (s d w : List ℕ) (p : Paragraph) (k : ℕ) (t : Text) (e : p ≡ axio
           ((gs : Tys) → TypesAt (heap s′ d) (rows w′ 512 m) gs → Wrote w′ w″ 1024 end (waiting (nameEntries (rows w′ 512 m) gs))) → ParagraphDone s s″ d w w″ p 0 place 1024 m
       unfolding paragraphItems extend globalsIf Meets
       axiom-done s″ w″ end h W = subst (λ x. ParagraphDone s s″ d w w″ x 0 place 1024 m) (sym e) (record {
-        size = let O = own (A .dictionary) (A .recorded) in ap length (W (O .types) (O .stand) .area) ∙ length-sets w′ 1024 (waiting (nameEntries (rows w′ 512 m) (O .types))) ∙ T .spared .size;
+        size = let O = own (A .dictionary) (A .recorded) in ap length (W (O .types) (O .stand) .area) ∙ length-sets w′ 1024 (waiting (nameEntries (rows w′ 512 m) (O .types))) ∙ T .done .still .size;
         low = λ z.
-            let q = T .short fine in
-            let l = T .few fine in
-            ap lower h ∙ wiped-low s s′ 1 at′ (A .size) (A .clean) (omega arith) (omega arith) (T .stored fine);
+            let q = T .done .areas fine .short in
+            let l = T .done .areas fine .few in
+            ap lower h ∙ wiped-low s s′ 1 at′ (A .size) (A .clean) (omega arith) (omega arith) (T .done .areas fine .stored);
         goes = λ z D R.
             let X = went D R in
             let O = own D R in
             let S = X .walked .steady .some in
             let f = names-few (rows w′ 512 m) (O .types) (O .small) in
             let r = rows-length w′ 512 m in
-            let l = T .few fine in
+            let l = T .done .areas fine .few in
             let v = A .wide in
-            let y = T .spared .size in
+            let y = T .done .still .size in
             record {
               passes = passes-any (textItems t (globals D) D) (X .walked .goes);
               table = S .0;

@@ -34,10 +34,10 @@ module _ (s d w : List ℕ) (p : Paragraph) (k : ℕ) (q : Pred) (e : p ≡ cons
   pub constraint-done : (s′ w′ : List ℕ) (number place at : ℕ) → PredDone s s′ d w w′ 0 1 512 q number place → ParagraphDone s s′ d w w′ p number place at 0
   unfolding paragraphItems extend withEntries waiting Meets
   constraint-done s′ w′ number place at P = subst (λ x. ParagraphDone s s′ d w w′ x number place at 0) (sym e) (record {
-    size = P .spared .size;
-    low = P .low;
+    size = P .done .still .size;
+    low = P .done .areas;
     goes = λ z D R.
-        let X = P .goes z skip [] nothing-before (globals D) D (no-rows s d w D R) (nothing-known (predNumbers q)) in
+        let X = P .done .goes z skip [] nothing-before (globals D) D (no-rows s d w D R) tt (nothing-known (predNumbers q)) in
         let S = X .walked .steady .some in
         record {
           passes = passes-any (predItems q (globals D)) (X .walked .goes);
@@ -49,5 +49,5 @@ module _ (s d w : List ℕ) (p : Paragraph) (k : ℕ) (q : Pred) (e : p ≡ cons
           short = omega arith;
           extends = refl;
         };
-    stops = λ z D R. refuses-any (predItems q (globals D)) number place (P .stops z skip [] nothing-before (globals D) D (no-rows s d w D R) (nothing-known (predNumbers q)));
+    stops = λ z D R. refuses-any (predItems q (globals D)) number place (P .done .stops z skip [] nothing-before (globals D) D (no-rows s d w D R) tt (nothing-known (predNumbers q)));
   })

@@ -63,27 +63,27 @@ module _ (s d w : List ℕ) (p : Paragraph) (k name : ℕ) (ps : List ℕ) (x : 
     pub schema-stopped : (number ≡ 0 → ⊥) → (at count : ℕ) → ParagraphDone s s₂ d w w₂ p number place at count
     unfolding paragraphItems
     schema-stopped z at count = subst (λ y. ParagraphDone s s₂ d w w₂ y number place at count) (sym e) (record {
-      size = T .spared .size ∙ P .size;
+      size = T .done .still .size ∙ P .size;
       low = λ y. absurd (z y);
       goes = λ y. absurd (z y);
-      stops = λ y D R. refuses-any (schemaItems x (around D)) number place (T .stops y skip [] nothing-before (around D) D (begun D R) (nothing-known (schemaNumbers x)));
+      stops = λ y D R. refuses-any (schemaItems x (around D)) number place (T .done .stops y skip [] nothing-before (around D) D (begun D R) tt (nothing-known (schemaNumbers x)));
     })
 
     module _ (fine : number ≡ 0) where
       went : (D : Dictionary) → DictionaryHeld D d → SchemaWent s₂ d w₂ m 512 skip [] (around D) x
-      went D R = T .goes fine skip [] nothing-before (around D) D (begun D R) (nothing-known (schemaNumbers x))
+      went D R = T .done .goes fine skip [] nothing-before (around D) D (begun D R) tt (nothing-known (schemaNumbers x))
 
       own : (D : Dictionary) → DictionaryHeld D d → TypesOf s₂ d (skip ⨾ schemaItems x (around D)) (schemaSignature x (around D)) (rows w₂ 512 m)
       own D R = let X = went D R in types-of s₂ d (skip ⨾ schemaItems x (around D)) (X .unknowns) (schemaSignature x (around D)) (rows w₂ 512 m) (X .signature)
 
       stored : Stored s s₂ 1 at₂
-      stored = stored-on s s₁ s₂ 1 at₁ at₂ (P .stored) (T .stored fine)
+      stored = stored-on s s₁ s₂ 1 at₁ at₂ (P .stored) (T .done .areas fine .stored)
 
       pub schema-table : TableAsk s₂ d w₂ 512 m 1030
       schema-table =
           let O = own (A .dictionary) (A .recorded) in
           let z = A .few in
-          let l = T .few fine in
+          let l = T .done .areas fine .few in
           record {
             areas = record { size = stored .size ∙ A .size; few = omega arith };
             types = O .types;
@@ -97,11 +97,11 @@ module _ (s d w : List ℕ) (p : Paragraph) (k name : ℕ) (ps : List ℕ) (x : 
           ((gs : Tys) → TypesAt (heap s₂ d) (rows w₂ 512 m) gs → Wrote w₂ w₃ 1024 end (entryWaits (schemaOf name n (rows w₂ 512 m) gs))) → ParagraphDone s s₃ d w w₃ p 0 place 1024 1
       unfolding paragraphItems extend Meets withEntries waiting
       schema-done s₃ w₃ end c h W = subst (λ y. ParagraphDone s s₃ d w w₃ y 0 place 1024 1) (sym e) (record {
-        size = let O = own (A .dictionary) (A .recorded) in ap length (W (O .types) (O .stand) .area) ∙ length-sets w₂ 1024 (entryWaits (schemaOf name n (rows w₂ 512 m) (O .types))) ∙ T .spared .size ∙ P .size;
+        size = let O = own (A .dictionary) (A .recorded) in ap length (W (O .types) (O .stand) .area) ∙ length-sets w₂ 1024 (entryWaits (schemaOf name n (rows w₂ 512 m) (O .types))) ∙ T .done .still .size ∙ P .size;
         low = λ z.
             let o = P .place in
-            let q = T .short fine in
-            let l = T .few fine in
+            let q = T .done .areas fine .short in
+            let l = T .done .areas fine .few in
             ap lower h ∙ wiped-low s s₂ 1 at₂ (A .size) (A .clean) (omega arith) (omega arith) stored;
         goes = λ z D R.
             let X = went D R in
@@ -110,9 +110,9 @@ module _ (s d w : List ℕ) (p : Paragraph) (k name : ℕ) (ps : List ℕ) (x : 
             let E = schemaOf name (length ps) (rows w₂ 512 m) (O .types) in
             let f = schema-few (heap s₂ d) name (length ps) (rows w₂ 512 m) (O .types) (O .stand) (O .small) in
             let r = rows-length w₂ 512 m in
-            let l = T .few fine in
+            let l = T .done .areas fine .few in
             let v = A .wide in
-            let y = T .spared .size in
+            let y = T .done .still .size in
             let y′ = P .size in
             let a = length-append (entryWords E) [] in
             record {

@@ -64,7 +64,7 @@ module _ {doc s d w : List ℕ} {rows n top at free k t b : ℕ} (O : ComprNode 
 
         -- rows of the scope are few
         pub compr-rows : rows + m ≤ 512
-        compr-rows = let a = compr .visiting .room .stack in let c = T .few z in omega arith
+        compr-rows = let a = compr .visiting .room .stack in let c = T .done .areas z .few in omega arith
 
         module _ {s₂ : List ℕ} (R : s₂ ≡ restored s₁ n top w₂ free) where
           pub compr-body : ExprAsk s₂ d w₂ (rows + m) n top at₁ free (exprAt doc b)

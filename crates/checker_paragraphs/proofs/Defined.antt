@@ -86,10 +86,10 @@ module _ {doc p : List ℕ} {k : ℕ} (N : Node doc p paragraphs k) {s d w : Lis
             schema-rows = schema-table s d w (paragraphAt doc k) k name ps (schemaAt doc x) tree A s₁ w₁ n at₁ P (four .few) s₂ w₂ number place m at₂ T fine
 
             pub schema-low : m ≤ 16
-            schema-low = T .few fine
+            schema-low = T .done .areas fine .few
 
             pub schema-end : at₂ < 2 ^ 40
-            schema-end = let o = P .place in let f = four .few in let z = T .short fine in let y = T .few fine in omega arith
+            schema-end = let o = P .place in let f = four .few in let z = T .done .areas fine .short in let y = T .done .areas fine .few in omega arith
 
             pub schema-told : {s₃ w₃ : List ℕ} {end : ℕ} {r : Lined} → ((gs : Tys) → TypesAt (heap s₂ d) (rows w₂ 512 m) gs → Wrote w₂ w₃ 1024 end (entryWaits (schemaOf name n (rows w₂ 512 m) gs))) →
                 s₃ ≡ sets s₂ 1 (replicate (at₂ - 1) 0) → LinedAt r 0 k 1 1024 → ParagraphDone s s₃ d w w₃ (paragraphAt doc k) (r .number) (r .place) (r .at) (r .count)

@@ -101,7 +101,7 @@ module _ {doc p : List ℕ} {k : ℕ} (N : Node doc p paragraphs k) {s d w : Lis
         axiom-rows = axiom-table s d w (paragraphAt doc k) k (textAt doc x) (three .tree) s′ w′ number place m at′ T A fine
 
         pub axiom-end : at′ < 2 ^ 40
-        axiom-end = let z = T .short fine in let y = T .few fine in omega arith
+        axiom-end = let z = T .done .areas fine .short in let y = T .done .areas fine .few in omega arith
 
         pub axiom-told : {s″ w″ : List ℕ} {end : ℕ} {r : Lined} →
             ((gs : Tys) → TypesAt (heap s′ d) (rows w′ 512 m) gs → Wrote w′ w″ 1024 end (waiting (nameEntries (rows w′ 512 m) gs))) → s″ ≡ sets s′ 1 (replicate (at′ - 1) 0) →

@@ -38,7 +38,7 @@ brings-returns t c =
 
 brings-slice-aggregate-span : (t : ℕ) → brings-lts.Need-slice-aggregate-span (brings-calls t) (brings-at t) brings.Post
 brings-slice-aggregate-span t c =
-    sym (c .before .before .before .before .before .before .before .before .include .ensures .row)
+    sym (c .before .before .before .before .before .before .before .before .include .ensures .done .still .row)
 
 brings-word-requires : (t : ℕ) → brings-lts.Need-word-requires (brings-calls t) (brings-at t) brings.Post
 brings-word-requires t c κs = search needs

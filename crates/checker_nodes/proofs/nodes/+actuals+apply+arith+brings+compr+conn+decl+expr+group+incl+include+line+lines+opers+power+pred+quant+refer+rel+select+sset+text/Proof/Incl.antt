@@ -33,7 +33,7 @@ incl-returns t c =
 
 incl-slice-aggregate-span : (t : ℕ) → incl-lts.Need-slice-aggregate-span (incl-calls t) (incl-at t) incl.Post
 incl-slice-aggregate-span t c =
-    sym (c .before .before .before .before .before .before .before .before .include .ensures .row)
+    sym (c .before .before .before .before .before .before .before .before .include .ensures .done .still .row)
 
 incl-word-requires : (t : ℕ) → incl-lts.Need-word-requires (incl-calls t) (incl-at t) incl.Post
 incl-word-requires t c κs = search needs

@@ -28,7 +28,7 @@ quant-add-pred : (t : ℕ) → quant-lts.Need-add-pred (quant-calls t) (quant-at
 quant-add-pred t c =
     let s = c .before .before .before .before .before .before .before .before .before .before .before .before .before .before .before .before .before .before in
     let a = s .pre .1 .3 .walking .room .stack in
-    let b = c .before .before .before .before .before .before .before .before .before .text .ensures .few (c .before .before .before .if1 .left) in
+    let b = c .before .before .before .before .before .before .before .before .before .text .ensures .done .areas (c .before .before .before .if1 .left) .few in
     omega arith
 
 quant-pred-requires : (t : ℕ) → quant-lts.Need-pred-requires (quant-calls t) (quant-at t) quant.Post
@@ -49,8 +49,8 @@ quant-wipe-requires t c κs =
     let s = c .before .before .before .before .before .before .before .before .before .before .before .before .before .before .before .before .before .before .before .before .before .before .before .before .before .before .before in
     let T = c .before .before .before .before .before .before .before .before .before .before .before .before .before .before .before .before .before .before .text .ensures in
     let a = s .pre .1 .3 .walking .room .pool in
-    let b = T .few (c .before .before .before .before .before .before .before .before .before .before .before .before .if1 .left) in
-    let e = T .short (c .before .before .before .before .before .before .before .before .before .before .before .before .if1 .left) in
+    let b = T .done .areas (c .before .before .before .before .before .before .before .before .before .before .before .before .if1 .left) .few in
+    let e = T .done .areas (c .before .before .before .before .before .before .before .before .before .before .before .before .if1 .left) .short in
     omega arith
 
 quant-returns-3 : (t : ℕ) → quant-lts.Need-returns-3 (quant-calls t) (quant-at t) quant.Post

@@ -34,7 +34,7 @@ text-add-pred : (t : ℕ) → text-lts.Need-add-pred (text-calls t) (text-at t) 
 text-add-pred t c =
     let s = c .before .before .before .before .before .before .before .before .before .before .before .before .before .before .before .before .before .before .before .before .before in
     let a = s .pre .1 .1 .walking .room .stack in
-    let b = c .before .before .before .before .before .before .before .before .before .before .before .before .before .lines .ensures .few (c .before .before .before .before .before .before .before .if1 .left) in
+    let b = c .before .before .before .before .before .before .before .before .before .before .before .before .before .lines .ensures .done .areas (c .before .before .before .before .before .before .before .if1 .left) .few in
     omega arith
 
 text-add-pred-2 : (t : ℕ) → text-lts.Need-add-pred-2 (text-calls t) (text-at t) text.Post
