@@ -35,6 +35,9 @@ use Rattle.checker_contracts.proofs.TableRows.{rows-ready}
 use Rattle.checker_contracts.proofs.Elements.{ElementNew, element-done}
 use Rattle.checker_contracts.proofs.Declaring.{decl-ask, decl-stopped, decl-working, decl-unequal, decl-closing, decl-several, decl-sizing, decl-size, decl-clean, decl-gap, decl-room}
 use Rattle.checker_contracts.proofs.Declaring.{decl-clash, decl-global, decl-large, decl-many, decl-done, decl-kept}
+use Rattle.checker_closing.specs.Declarations.{OwnTold, clash, known, large, none, EnterAsk, EnterTold, many, none-new, some-new}
+use Rattle.checker_closing.specs.Declarations.{TypedAsk, TypedTold, untyped, refused, fits, SetAsk, SetTold, DeclAsk, DeclTold, stopped, went}
+use Rattle.checker_closing.specs.Elements.{TypeKept, ClosedTold, several, one, ElementTold, no-power, power}
 use Rattle.checker_closing.specs.Leaves.{FitsTold, NewIfTold}
 use Rattle.checker_closing.specs.Nodes.{Node, LinedAt}
 use Rattle.checker_closing.specs.declared.results.Lined.{Lined}
@@ -59,6 +62,9 @@ module _ {doc p s d w : List ℕ} {stack base m at free k : ℕ} (N : Node doc p
   sized : SizedExpr (exprAt doc a)
   sized = expr-sized doc a (O .first .at)
 
+  small : k < 2 ^ 32
+  small = let z = N .at .small in omega arith
+
   pub node-decl-lower : Lower doc k expressions a
   node-decl-lower = O .first
 
@@ -66,28 +72,25 @@ module _ {doc p s d w : List ℕ} {stack base m at free k : ℕ} (N : Node doc p
   node-decl-ask = decl-ask s d w stack base m at free k (exprAt doc a) (drop 2 p) global Q
 
   module _ {s₁ w₁ : List ℕ} {number place cell c₁ top₁ at₁ : ℕ} (A : ExprDone s s₁ d w w₁ stack 0 4096 at free (exprAt doc a) number place cell c₁ top₁ at₁) where
-    pub node-decl-stopped : (number ≡ 0 → ⊥) → {r : Lined} → LinedAt r number place 0 0 → LinesDone s s₁ d w w₁ stack base m at free (lineAt doc k end) global (r .number) (r .place) (r .count) (r .at)
+    node-decl-stopped : (number ≡ 0 → ⊥) → {r : Lined} → LinedAt r number place 0 0 → LinesDone s s₁ d w w₁ stack base m at free (lineAt doc k end) global (r .number) (r .place) (r .count) (r .at)
     node-decl-stopped ne {r} L = lines-told L (back s₁ w₁ number place 0 0
         (decl-stopped s d w stack base m at free k (exprAt doc a) (drop 2 p) global Q s₁ w₁ number place cell c₁ top₁ at₁ A ne 0 0))
 
     module _ (fine : number ≡ 0) where
-      pub node-decl-working : Working s₁ d c₁ top₁ 2 (cell ∷ [])
+      node-decl-working : Working s₁ d c₁ top₁ 2 (cell ∷ [])
       node-decl-working = decl-working s d w stack base m at free k (exprAt doc a) (drop 2 p) global Q s₁ w₁ number place cell c₁ top₁ at₁ A fine
 
-      pub node-decl-cells : c₁ + 2 ≤ 1024
-      node-decl-cells = node-decl-working .room .cells
-
       module _ {s₂ : List ℕ} {b : Bool} (P : Powered s₁ s₂ d c₁ top₁ cell b) where
-        pub node-decl-unequal : b ≡ false → {r : Lined} → LinedAt r 33 k 0 0 → LinesDone s s₂ d w w₁ stack base m at free (lineAt doc k end) global (r .number) (r .place) (r .count) (r .at)
+        node-decl-unequal : b ≡ false → {r : Lined} → LinedAt r 33 k 0 0 → LinesDone s s₂ d w w₁ stack base m at free (lineAt doc k end) global (r .number) (r .place) (r .count) (r .at)
         node-decl-unequal nay {r} L = lines-told L (back s₂ w₁ 33 k 0 0
             (decl-unequal s d w stack base m at free k (exprAt doc a) (drop 2 p) global Q s₁ w₁ number place cell c₁ top₁ at₁ A fine s₂ b P nay 0 0))
 
         module _ (yes : b ≡ true) where
-          pub node-decl-closing : Closing s₂ d (c₁ + 2)
+          node-decl-closing : Closing s₂ d (c₁ + 2)
           node-decl-closing = decl-closing s d w stack base m at free k (exprAt doc a) (drop 2 p) global Q s₁ w₁ number place cell c₁ top₁ at₁ A fine s₂ b P yes
 
           module _ {s₃ : List ℕ} {o : Bool} (Z : Closed s₂ s₃ d (c₁ + 2) o) where
-            pub node-decl-several : o ≡ false → {r : Lined} → LinedAt r 34 k 0 0 → LinesDone s s₃ d w w₁ stack base m at free (lineAt doc k end) global (r .number) (r .place) (r .count) (r .at)
+            node-decl-several : o ≡ false → {r : Lined} → LinedAt r 34 k 0 0 → LinesDone s s₃ d w w₁ stack base m at free (lineAt doc k end) global (r .number) (r .place) (r .count) (r .at)
             node-decl-several nay {r} L = lines-told L (back s₃ w₁ 34 k 0 0
                 (decl-several s d w stack base m at free k (exprAt doc a) (drop 2 p) global Q s₁ w₁ number place cell c₁ top₁ at₁ A fine s₂ b P yes s₃ (subst (Closed s₂ s₃ d (c₁ + 2)) nay Z) 0 0))
 
@@ -95,10 +98,10 @@ module _ {doc p s d w : List ℕ} {stack base m at free k : ℕ} (N : Node doc p
               Z₁ : Closed s₂ s₃ d (c₁ + 2) true
               Z₁ = subst (Closed s₂ s₃ d (c₁ + 2)) one Z
 
-              pub node-decl-sizing : Sizing s₃ d (c₁ + 2) c₁
+              node-decl-sizing : Sizing s₃ d (c₁ + 2) c₁
               node-decl-sizing = decl-sizing s d w stack base m at free k (exprAt doc a) (drop 2 p) global Q s₁ w₁ number place cell c₁ top₁ at₁ A fine s₂ b P yes s₃ Z₁
 
-              pub node-decl-store : StoreAsk s₃ d w₁ (c₁ + 2) c₁ at at₁ free
+              node-decl-store : StoreAsk s₃ d w₁ (c₁ + 2) c₁ at at₁ free
               node-decl-store =
                   let R = decl-room s d w stack base m at free k (exprAt doc a) (drop 2 p) global Q s₁ w₁ number place cell c₁ top₁ at₁ A fine s₂ b P yes s₃ Z₁ in
                   let x = R .2 in
@@ -124,11 +127,8 @@ module _ {doc p s d w : List ℕ} {stack base m at free k : ℕ} (N : Node doc p
                     let g = Q .beside in
                     (x ∙ y, T .short, omega arith, omega arith, Q .walking .room .wide)
 
-                pub node-decl-end : e < 2 ^ 32
-                node-decl-end = let x = long .1 in let y = long .2 in omega arith
-
                 -- the table and the type can be read
-                pub node-decl-declared : DeclaredAsk s₄ d w₂ base m at
+                node-decl-declared : DeclaredAsk s₄ d w₂ base m at
                 unfolding linesNumbers
                 node-decl-declared =
                     let W = Q .walking in
@@ -170,46 +170,128 @@ module _ {doc p s d w : List ℕ} {stack base m at free k : ℕ} (N : Node doc p
                       type = record { type = E .shown; reads = E .reads };
                     }
 
+                fit : base + 2 * (m + length (drop 2 p)) ≤ length w₂
+                unfolding cell
+                fit =
+                    let x = long in
+                    let x₀ = x .0 in
+                    let x₃ = x .3 in
+                    let x₄ = x .4 in
+                    let y = length-drop 2 p in
+                    let z = rw q at (at-most doc lines k (N .at)) in
+                    let n = ap length (N .words) in
+                    let g = Q .few in
+                    omega arith
+
+                node-decl-enter : EnterAsk w₂ base m p at e k
+                node-decl-enter =
+                    let x = fit in
+                    let y = length-drop 2 p in
+                    let z = long .2 in
+                    let u = long .1 in
+                    let h = N .at .small in
+                    record { near = omega arith; room = omega arith; place = omega arith; last = omega arith }
+
                 module _ {b₁ : Bool} (F : FitsTold s₄ d w₂ base m (drop 2 p) at v b₁) where
-                  pub node-decl-clash : b₁ ≡ false → {r : Lined} → LinedAt r 36 k 0 0 → LinesDone s s₄ d w w₂ stack base m at free (lineAt doc k end) global (r .number) (r .place) (r .count) (r .at)
+                  node-decl-clash : b₁ ≡ false → {r : Lined} → LinedAt r 36 k 0 0 → LinesDone s s₄ d w w₂ stack base m at free (lineAt doc k end) global (r .number) (r .place) (r .count) (r .at)
                   node-decl-clash nay {r} L = lines-told L (back s₄ w₂ 36 k 0 0
                       (decl-clash s d w stack base m at free k (exprAt doc a) (drop 2 p) global Q s₁ w₁ number place cell c₁ top₁ at₁ A fine s₂ b P yes s₃ Z₁ sized s₄ w₂ v e M (T .stored) (T .scratch) (T .short) (T .stands) (F .stops nay) 0 0))
 
-                  module _ (fits : b₁ ≡ true) {b₂ : Bool} (G : NewIfTold global d (drop 2 p) b₂) where
-                    pub node-decl-global : b₂ ≡ false → {r : Lined} → LinedAt r 36 k 0 0 → LinesDone s s₄ d w w₂ stack base m at free (lineAt doc k end) global (r .number) (r .place) (r .count) (r .at)
+                  module _ (agrees : b₁ ≡ true) {b₂ : Bool} (G : NewIfTold global d (drop 2 p) b₂) where
+                    node-decl-global : b₂ ≡ false → {r : Lined} → LinedAt r 36 k 0 0 → LinesDone s s₄ d w w₂ stack base m at free (lineAt doc k end) global (r .number) (r .place) (r .count) (r .at)
                     node-decl-global nay {r} L = lines-told L (back s₄ w₂ 36 k 0 0
-                        (decl-global s d w stack base m at free k (exprAt doc a) (drop 2 p) global Q s₁ w₁ number place cell c₁ top₁ at₁ A fine s₂ b P yes s₃ Z₁ sized s₄ w₂ v e M (T .stored) (T .scratch) (T .short) (T .stands) (F .goes fits) (G .stops nay) 0 0))
+                        (decl-global s d w stack base m at free k (exprAt doc a) (drop 2 p) global Q s₁ w₁ number place cell c₁ top₁ at₁ A fine s₂ b P yes s₃ Z₁ sized s₄ w₂ v e M (T .stored) (T .scratch) (T .short) (T .stands) (F .goes agrees) (G .stops nay) 0 0))
 
                     module _ (new : b₂ ≡ true) where
-                      pub node-decl-large : 32 < v → {r : Lined} → LinedAt r 38 k 0 0 → LinesDone s s₄ d w w₂ stack base m at free (lineAt doc k end) global (r .number) (r .place) (r .count) (r .at)
+                      node-decl-large : 32 < v → {r : Lined} → LinedAt r 38 k 0 0 → LinesDone s s₄ d w w₂ stack base m at free (lineAt doc k end) global (r .number) (r .place) (r .count) (r .at)
                       node-decl-large o₂ {r} L = lines-told L (back s₄ w₂ 38 k 0 0
-                          (decl-large s d w stack base m at free k (exprAt doc a) (drop 2 p) global Q s₁ w₁ number place cell c₁ top₁ at₁ A fine s₂ b P yes s₃ Z₁ sized s₄ w₂ v e M (T .stored) (T .scratch) (T .short) (T .stands) (F .goes fits) (G .goes new) o₂ 0 0))
-
-                      fit : base + 2 * (m + length (drop 2 p)) ≤ length w₂
-                      unfolding cell
-                      fit =
-                          let x = long in
-                          let x₀ = x .0 in
-                          let x₃ = x .3 in
-                          let x₄ = x .4 in
-                          let y = length-drop 2 p in
-                          let z = rw q at (at-most doc lines k (N .at)) in
-                          let n = ap length (N .words) in
-                          let g = Q .few in
-                          omega arith
-
-                      pub node-decl-declare : (base + 2 * (m + (length p - 2)) ≤ length w₂) × (at < 2 ^ 32)
-                      node-decl-declare = let x = fit in let y = length-drop 2 p in let z = long .2 in (omega arith, omega arith)
+                          (decl-large s d w stack base m at free k (exprAt doc a) (drop 2 p) global Q s₁ w₁ number place cell c₁ top₁ at₁ A fine s₂ b P yes s₃ Z₁ sized s₄ w₂ v e M (T .stored) (T .scratch) (T .short) (T .stands) (F .goes agrees) (G .goes new) o₂ 0 0))
 
                       module _ (light : v ≤ 32) {w₃ : List ℕ} {count : ℕ} (Tb : Table w₂ w₃ base (declareRows (drop 2 p) at (rows w₂ base m)) count) where
-                        pub node-decl-many : 16 < count → {r : Lined} → LinedAt r 38 k 0 0 → LinesDone s s₄ d w w₃ stack base m at free (lineAt doc k end) global (r .number) (r .place) (r .count) (r .at)
+                        node-decl-many : 16 < count → {r : Lined} → LinedAt r 38 k 0 0 → LinesDone s s₄ d w w₃ stack base m at free (lineAt doc k end) global (r .number) (r .place) (r .count) (r .at)
                         node-decl-many o₂ {r} L = lines-told L (back s₄ w₃ 38 k 0 0
-                            (decl-many s d w stack base m at free k (exprAt doc a) (drop 2 p) global Q s₁ w₁ number place cell c₁ top₁ at₁ A fine s₂ b P yes s₃ Z₁ sized s₄ w₂ v e M (T .stored) (T .scratch) (T .short) (T .stands) (F .goes fits) (G .goes new) light w₃ count Tb fit o₂ 0 0))
+                            (decl-many s d w stack base m at free k (exprAt doc a) (drop 2 p) global Q s₁ w₁ number place cell c₁ top₁ at₁ A fine s₂ b P yes s₃ Z₁ sized s₄ w₂ v e M (T .stored) (T .scratch) (T .short) (T .stands) (F .goes agrees) (G .goes new) light w₃ count Tb fit o₂ 0 0))
 
-                        pub node-decl-done : count ≤ 16 → (count ≡ m → ⊥) → {r : Lined} → LinedAt r 0 k count e → LinesDone s s₄ d w w₃ stack base m at free (lineAt doc k end) global (r .number) (r .place) (r .count) (r .at)
+                        node-decl-done : count ≤ 16 → (count ≡ m → ⊥) → {r : Lined} → LinedAt r 0 k count e → LinesDone s s₄ d w w₃ stack base m at free (lineAt doc k end) global (r .number) (r .place) (r .count) (r .at)
                         node-decl-done o₂ ne {r} L = lines-told L (back s₄ w₃ 0 k count e
-                            (decl-done s d w stack base m at free k (exprAt doc a) (drop 2 p) global Q s₁ w₁ number place cell c₁ top₁ at₁ A fine s₂ b P yes s₃ Z₁ sized s₄ w₂ v e M (T .stored) (T .scratch) (T .short) (T .stands) (F .goes fits) (G .goes new) light w₃ count Tb fit k o₂ ne))
+                            (decl-done s d w stack base m at free k (exprAt doc a) (drop 2 p) global Q s₁ w₁ number place cell c₁ top₁ at₁ A fine s₂ b P yes s₃ Z₁ sized s₄ w₂ v e M (T .stored) (T .scratch) (T .short) (T .stands) (F .goes agrees) (G .goes new) light w₃ count Tb fit k o₂ ne))
 
-                        pub node-decl-kept : {s₅ : List ℕ} → count ≡ m → s₅ ≡ sets s₄ at (replicate (e - at) 0) → {r : Lined} → LinedAt r 0 k m at → LinesDone s s₅ d w w₃ stack base m at free (lineAt doc k end) global (r .number) (r .place) (r .count) (r .at)
+                        node-decl-kept : {s₅ : List ℕ} → count ≡ m → s₅ ≡ sets s₄ at (replicate (e - at) 0) → {r : Lined} → LinedAt r 0 k m at → LinesDone s s₅ d w w₃ stack base m at free (lineAt doc k end) global (r .number) (r .place) (r .count) (r .at)
                         node-decl-kept {s₅} o₂ wiped {r} L = lines-told L (back s₅ w₃ 0 k m at
-                            (decl-kept s d w stack base m at free k (exprAt doc a) (drop 2 p) global Q s₁ w₁ number place cell c₁ top₁ at₁ A fine s₂ b P yes s₃ Z₁ sized s₄ w₂ v e M (T .stored) (T .scratch) (T .short) (T .stands) (F .goes fits) (G .goes new) light w₃ count Tb fit k s₅ (Q .few) o₂ wiped))
+                            (decl-kept s d w stack base m at free k (exprAt doc a) (drop 2 p) global Q s₁ w₁ number place cell c₁ top₁ at₁ A fine s₂ b P yes s₃ Z₁ sized s₄ w₂ v e M (T .stored) (T .scratch) (T .short) (T .stands) (F .goes agrees) (G .goes new) light w₃ count Tb fit k s₅ (Q .few) o₂ wiped))
+
+    -- WHAT THE DECL ASKS AND TELLS AFTER THE VISIT.
+    typing : number ≡ 0 → (s₄ w₂ : List ℕ) (v size e : ℕ) → ElementTold s₁ s₄ d w₁ w₂ c₁ top₁ cell at free v size e → TypedAsk s₄ d w₂ base m p at e k v
+    typing fine s₄ w₂ v size e (no-power q same P) = record { near = small; readable = λ z. absurd (omega arith); entering = λ z. absurd (omega arith) }
+    typing fine s₄ w₂ v size e (power s₂ P (several q same Z)) = record { near = small; readable = λ z. absurd (omega arith); entering = λ z. absurd (omega arith) }
+    typing fine s₄ w₂ v size e (power s₂ P (one s₃ Z T)) = record {
+      near = small;
+      readable = λ z. node-decl-declared fine P refl Z refl (T .measured) (T .stored);
+      entering = λ z. node-decl-enter fine P refl Z refl (T .measured) (T .stored);
+    }
+
+    pub node-decl-asked : DeclAsk s₁ d w₁ base m p at free k number cell c₁ top₁ at₁
+    node-decl-asked = record {
+      going = λ fine. record {
+        element = record {
+          working = node-decl-working fine;
+          closing = λ s₂ P. record { closing = node-decl-closing fine P refl; storing = λ s₃ Z. node-decl-store fine P refl Z refl };
+        };
+        typing = typing fine;
+      };
+    }
+
+    module _ (r : Lined) where
+      -- the Decl's promise, with these areas at the end
+      abbrev Promised : List ℕ → List ℕ → Type 0
+      Promised s′ w′ = LinesDone s s′ d w w′ stack base m at free (lineAt doc k end) global (r .number) (r .place) (r .count) (r .at)
+
+      still : {s₂ s′ w₂ w′ : List ℕ} → s′ ≡ s₂ → w′ ≡ w₂ → Promised s₂ w₂ → Promised s′ w′
+      still {s₂} {s′} {w₂} {w′} e q D = subst (λ z. Promised z w′) (sym e) (subst (Promised s₂) (sym q) D)
+
+      numbered : {f g place′ count′ end′ : ℕ} → f ≡ g → LinedAt r f place′ count′ end′ → LinedAt r g place′ count′ end′
+      numbered {f} {g} {place′} {count′} {end′} e L = subst (λ z. LinedAt r z place′ count′ end′) e L
+
+      module _ (fine : number ≡ 0) where
+        told-unequal : {s₄ w₂ s′ w′ : List ℕ} {v size e : ℕ} → v ≡ 33 → w₂ ≡ w₁ → Powered s₁ s₄ d c₁ top₁ cell false →
+            TypedTold s₄ s′ d w₂ w′ base m (drop 2 p) at k global v size e r → Promised s′ w′
+        told-unequal q same P (untyped n es ew L) = still es (ew ∙ same) (node-decl-unequal fine P refl (numbered q L))
+        told-unequal q same P (refused own z O n es ew L) = absurd (omega arith)
+        told-unequal q same P (fits z O E) = absurd (omega arith)
+
+        module _ {s₂ : List ℕ} (P : Powered s₁ s₂ d c₁ top₁ cell true) where
+          told-several : {s₄ w₂ s′ w′ : List ℕ} {v size e : ℕ} → v ≡ 34 → w₂ ≡ w₁ → Closed s₂ s₄ d (c₁ + 2) false →
+              TypedTold s₄ s′ d w₂ w′ base m (drop 2 p) at k global v size e r → Promised s′ w′
+          told-several q same Z (untyped n es ew L) = still es (ew ∙ same) (node-decl-several fine P refl Z refl (numbered q L))
+          told-several q same Z (refused own z O n es ew L) = absurd (omega arith)
+          told-several q same Z (fits z O E) = absurd (omega arith)
+
+          module _ {s₃ s₄ w₂ : List ℕ} {v size e : ℕ} (Z : Closed s₂ s₃ d (c₁ + 2) true) (T : TypeKept s₃ s₄ d w₁ w₂ (c₁ + 2) c₁ at free v size e) where
+            told-refused : {own : ℕ} → OwnTold s₄ d w₂ base m (drop 2 p) at size global own → (own ≡ 0 → ⊥) → LinedAt r own k 0 0 → Promised s₄ w₂
+            told-refused (clash q F) n L = node-decl-clash fine P refl Z refl (T .measured) (T .stored) F refl (numbered q L)
+            told-refused (known q F G) n L = node-decl-global fine P refl Z refl (T .measured) (T .stored) F refl G refl (numbered q L)
+            told-refused (large q F G l) n L = node-decl-large fine P refl Z refl (T .measured) (T .stored) F refl G refl l (numbered q L)
+            told-refused (none q F G l) n L = absurd (n q)
+
+            told-entered : {own : ℕ} → own ≡ 0 → OwnTold s₄ d w₂ base m (drop 2 p) at size global own → {s′ w′ : List ℕ} → EnterTold s₄ s′ w₂ w′ base m (drop 2 p) at e k r → Promised s′ w′
+            told-entered z (clash q F) E = absurd (omega arith)
+            told-entered z (known q F G) E = absurd (omega arith)
+            told-entered z (large q F G l) E = absurd (omega arith)
+            told-entered z (none q F G l) (many count Tb o es L) = still es refl (node-decl-many fine P refl Z refl (T .measured) (T .stored) F refl G refl l Tb o L)
+            told-entered z (none q F G l) (none-new count Tb o wiped L) = node-decl-kept fine P refl Z refl (T .measured) (T .stored) F refl G refl l Tb o wiped L
+            told-entered z (none q F G l) (some-new count Tb o ne es L) = still es refl (node-decl-done fine P refl Z refl (T .measured) (T .stored) F refl G refl l Tb o ne L)
+
+            told-typed : {s′ w′ : List ℕ} → TypedTold s₄ s′ d w₂ w′ base m (drop 2 p) at k global v size e r → Promised s′ w′
+            told-typed (untyped n es ew L) = absurd (n (T .number-is))
+            told-typed (refused own z O n es ew L) = still es ew (told-refused O n L)
+            told-typed (fits z O E) = told-entered refl O E
+
+        told-set : {s₄ w₂ s′ w′ : List ℕ} {v size e : ℕ} → ElementTold s₁ s₄ d w₁ w₂ c₁ top₁ cell at free v size e →
+            TypedTold s₄ s′ d w₂ w′ base m (drop 2 p) at k global v size e r → Promised s′ w′
+        told-set (no-power q same P) T = told-unequal q same P T
+        told-set (power s₂ P (several q same Z)) T = told-several P q same Z T
+        told-set (power s₂ P (one s₃ Z K)) T = told-typed P Z K T
+
+      pub node-decl-told : {s′ w′ : List ℕ} → DeclTold s₁ s′ d w₁ w′ base m (drop 2 p) at free k global number place cell c₁ top₁ r → Promised s′ w′
+      node-decl-told (stopped n es ew L) = still es ew (node-decl-stopped n L)
+      node-decl-told (went fine T) = told-set fine (T .element) (T .typed)

@@ -1,5 +1,5 @@
 -- Relations by the words of their node.
-use mathlib.Core.Path.{_≡_, refl, sym, subst}
+use mathlib.Core.Path.{_≡_, refl, sym, subst, _∙_}
 use mathlib.Core.Bool.{Bool, true, false}
 use mathlib.Core.List.{List, [], _∷_}
 use mathlib.Core.Logic.{_⊎_, ⊎-elim}
@@ -24,7 +24,9 @@ use Rattle.checker_contracts.proofs.Relations.{Relation, equal-relation, member
 use Rattle.checker_contracts.proofs.Sides.{Sides, left-ask, right-ask, sides-ask, sides-low, close-ask}
 use Rattle.checker_closing.specs.Leaves.{relationItems}
 use Rattle.checker_closing.specs.Nodes.{Node}
-use Rattle.checker_nodes.proofs.PredLaws.{word-at}
+use Rattle.checker_closing.specs.Relations.{RelationAsk, RelationTold, stopped, went, RuleTold, refused, fits, EndTold, several, one}
+use Rattle.checker_closing.specs.declared.results.Verdict.{Verdict}
+use Rattle.checker_nodes.proofs.PredLaws.{word-at, kind-at, pred-told}
 
 relation-of : (q k : ℕ) (a b : Expr) → 21 ≤ q → q ≤ 23 → Relation (relationOf q k a b) k a b (relationItems q)
 relation-of q k a b l m =
@@ -62,17 +64,17 @@ module _ {doc p : List ℕ} {k : ℕ} (B : Node doc p predicates k) {s d w : Lis
           (sides-at .right, right-ask s d w rows at free (exprAt doc x) (exprAt doc y) Q k (relationItems (kindAt doc k)) s₁ w₁ number place cell n top at₁ X fine)
 
       module _ {s₂ w₂ : List ℕ} {number₂ place₂ cell₂ n₂ top₂ at₂ : ℕ} (Y : ExprDone s₁ s₂ d w₁ w₂ rows n top at₁ free (exprAt doc y) number₂ place₂ cell₂ n₂ top₂ at₂) where
-        pub at-right-stopped : (number₂ ≡ 0 → ⊥) → PredDone s s₂ d w w₂ rows at free (predAt doc k) number₂ place₂
+        at-right-stopped : (number₂ ≡ 0 → ⊥) → PredDone s s₂ d w w₂ rows at free (predAt doc k) number₂ place₂
         at-right-stopped =
             relation-right s d w rows at free (predAt doc k) k (exprAt doc x) (exprAt doc y) (relationItems (kindAt doc k)) T A s₁ w₁ number place cell n top at₁ X fine s₂ w₂ number₂ place₂ cell₂ n₂ top₂ at₂ Y
 
         module _ (fine₂ : number₂ ≡ 0) where
-          pub at-related : Working s₂ d n₂ top₂ 1 (cell ∷ cell₂ ∷ [])
+          at-related : Working s₂ d n₂ top₂ 1 (cell ∷ cell₂ ∷ [])
           at-related =
               sides-ask s d w rows at free (exprAt doc x) (exprAt doc y) Q k (relationItems (kindAt doc k)) s₁ w₁ number place cell n top at₁ X fine s₂ w₂ number₂ place₂ cell₂ n₂ top₂ at₂ Y fine₂
 
           -- the words of both sides end in the pool
-          pub at-end : at₂ < 39936
+          at-end : at₂ < 39936
           at-end =
               sides-low s d w rows at free (exprAt doc x) (exprAt doc y) Q k (relationItems (kindAt doc k)) s₁ w₁ number place cell n top at₁ X fine s₂ w₂ number₂ place₂ cell₂ n₂ top₂ at₂ Y fine₂
 
@@ -81,24 +83,49 @@ module _ {doc p : List ℕ} {k : ℕ} (B : Node doc p predicates k) {s d w : Lis
             related : Related s₂ s₃ d n₂ top₂ cell cell₂ number₃ n₃ (relationItems (kindAt doc k))
             related = subst (λ z. Related s₂ s₃ d n₂ top₂ cell cell₂ number₃ n₃ (relationItems z)) (word-at B 0 q g) R
 
-            pub at-own-stopped : (number₃ ≡ 0 → ⊥) → PredDone s s₃ d w w₂ rows at free (predAt doc k) number₃ k
+            at-own-stopped : (number₃ ≡ 0 → ⊥) → PredDone s s₃ d w w₂ rows at free (predAt doc k) number₃ k
             at-own-stopped =
                 relation-own s d w rows at free (predAt doc k) k (exprAt doc x) (exprAt doc y) (relationItems (kindAt doc k)) T A s₁ w₁ number place cell n top at₁ X fine s₂ w₂ number₂ place₂ cell₂ n₂ top₂ at₂ Y fine₂ s₃ number₃ n₃
                 related
 
             module _ (fine₃ : number₃ ≡ 0) where
-              pub at-close : Closing s₃ d n₃
+              at-close : Closing s₃ d n₃
               at-close =
                   close-ask s d w rows at free (exprAt doc x) (exprAt doc y) Q k (relationItems (kindAt doc k)) s₁ w₁ number place cell n top at₁ X fine s₂ w₂ number₂ place₂ cell₂ n₂ top₂ at₂ Y fine₂ s₃ number₃ n₃ related fine₃
 
-              pub at-several : {s₄ : List ℕ} {one : Bool} → Closed s₃ s₄ d n₃ one → one ≡ false → PredDone s s₄ d w w₂ rows at free (predAt doc k) 34 k
+              at-several : {s₄ : List ℕ} {one : Bool} → Closed s₃ s₄ d n₃ one → one ≡ false → PredDone s s₄ d w w₂ rows at free (predAt doc k) 34 k
               at-several {s₄} Z o =
                   relation-34 s d w rows at free (predAt doc k) k (exprAt doc x) (exprAt doc y) (relationItems (kindAt doc k)) T A s₁ w₁ number place cell n top at₁ X fine s₂ w₂ number₂ place₂ cell₂ n₂ top₂ at₂ Y fine₂ s₃ number₃ n₃
                   related fine₃ s₄ (subst (Closed s₃ s₄ d n₃) o Z)
 
-              pub at-relation : {s₄ s₅ : List ℕ} {one : Bool} → Closed s₃ s₄ d n₃ one → one ≡ true → length s₄ ≡ length s₂ → s₅ ≡ sets s₄ at (replicate (at₂ - at) 0) →
+              at-relation : {s₄ s₅ : List ℕ} {one : Bool} → Closed s₃ s₄ d n₃ one → one ≡ true → length s₄ ≡ length s₂ → s₅ ≡ sets s₄ at (replicate (at₂ - at) 0) →
                   PredDone s s₅ d w w₂ rows at free (predAt doc k) 0 k
               at-relation {s₄} {s₅} Z o z v =
                   subst (λ u. PredDone s u d w w₂ rows at free (predAt doc k) 0 k) (sym v)
                   (relation-done s d w rows at free (predAt doc k) k (exprAt doc x) (exprAt doc y) (relationItems (kindAt doc k)) T A s₁ w₁ number place cell n top at₁ X fine s₂ w₂ number₂ place₂ cell₂ n₂ top₂ at₂ Y fine₂ s₃ number₃ n₃
                   related fine₃ s₄ (subst (Closed s₃ s₄ d n₃) o Z) z)
+
+        -- WHAT THE RELATION ASKS AND TELLS AFTER THE VISITS. Its kind is word 0.
+        module _ (q : ℕ) (g : q ≡ getD p 0 0) where
+          pub at-relation-asked : RelationAsk s₂ d k q cell number₂ cell₂ n₂ top₂ at₂
+          at-relation-asked =
+              let e = kind-at B q g in
+              let z = B .at .small in
+              record {
+                going = λ fine₂.
+                    let u = at-end fine₂ in
+                    record {
+                      near = omega arith;
+                      last = omega arith;
+                      least = omega arith;
+                      most = omega arith;
+                      working = at-related fine₂;
+                      closing = λ s₃ n₃ R. at-close fine₂ q g R refl;
+                    };
+              }
+
+          pub at-relation-told : {s′ : List ℕ} {r : Verdict} → RelationTold s₂ s′ d at k q cell number₂ place₂ cell₂ n₂ top₂ at₂ r → PredDone s s′ d w w₂ rows at free (predAt doc k) (r .number) (r .place)
+          at-relation-told {s′} {r} (stopped n es F) = pred-told F (subst (λ z. PredDone s z d w w₂ rows at free (predAt doc k) number₂ place₂) (sym es) (at-right-stopped n))
+          at-relation-told (went fine₂ (refused number₃ n₃ R n F)) = pred-told F (at-own-stopped fine₂ q g R n)
+          at-relation-told (went fine₂ (fits s₃ n₃ R z (several Z F))) = pred-told F (at-several fine₂ q g R refl Z refl)
+          at-relation-told (went fine₂ (fits s₃ n₃ R z (one s₄ Z z₂ wiped F))) = pred-told F (at-relation fine₂ q g R refl Z refl (z₂ ∙ z) wiped)

@@ -1,13 +1,13 @@
 // The typing rules: functions over nodes that call each other in a cycle, the node number falling. The solver's store and the pool of type words are
 // in a; d is the dictionary's area, w the work area with the scope's rows at its beginning. A function over a kind's node takes its words p.
+use checker_closing::actual::actual;
+use checker_closing::declared::declared;
 use checker_closing::included::brought;
 use checker_closing::included::included;
 use checker_closing::includes::FIRST_ACTUAL;
 use checker_closing::includes::named;
 use checker_closing::includes::schema_of;
-use checker_closing::leaves::declared_fits;
-use checker_closing::leaves::new_if;
-use checker_closing::leaves::related;
+use checker_closing::relation::relation;
 use checker_closing::results::Lined;
 use checker_closing::results::Verdict;
 use checker_closing::results::Visit;
@@ -17,7 +17,6 @@ use checker_closing::results::unlined;
 use checker_closing::results::unvisited;
 use checker_closing::results::verdict_at;
 use checker_closing::results::visit_at;
-use checker_includes::storing::store_type;
 use checker_kinds::building::comprehension_rule;
 use checker_kinds::building::integers_rule;
 use checker_kinds::building::number_rule;
@@ -31,12 +30,8 @@ use checker_kinds::equations::select_rule;
 use checker_lookup::bindings::schema_set;
 use checker_lookup::references::ref_rule;
 use checker_lookup::thetas::theta_rule;
-use checker_pieces::closing::close;
-use checker_pieces::closing::settled_size;
-use checker_pieces::powers::is_power;
 use checker_signatures::scopes::push;
 use checker_signatures::tables::TABLE;
-use checker_signatures::tables::declare;
 use codes::findings;
 use codes::kinds;
 use codes::limits;
@@ -407,18 +402,7 @@ fn rel(
         return found(x.number, x.place);
     }
     let y = expr(doc, a, d, w, rows, x.cells, x.top, x.at, free, word(p, 2));
-    if y.number != 0 {
-        return found(y.number, y.place);
-    }
-    let r = related(a, d, y.cells, y.top, word(p, 0), x.cell, y.cell);
-    if r.number != 0 {
-        return verdict_at(r.number, k);
-    }
-    if close(a, d, r.cells) {
-        wipe(a, at, y.at);
-        return verdict_at(0, k);
-    }
-    verdict_at(findings::SEVERAL, k)
+    relation(a, d, at, k, word(p, 0), x.cell, y)
 }
 
 // 25 to 27: and, or, implies.
@@ -623,35 +607,7 @@ fn decl(
     ensures { λ r. ⌜ LinesDone (now (a .entry)) (now (a .exit)) (now (d .entry)) (now (w .entry)) (now (w .exit)) rows base m at free (lineAt (now (doc .entry)) k end) global (r .number) (r .place) (r .count) (r .at) ⌝ }
 {
     let x = expr(doc, a, d, w, rows, 0, FIRST_RUN, at, free, word(p, 1));
-    if x.number != 0 {
-        return unlined(x.number, x.place);
-    }
-    if !is_power(a, d, x.cells, x.top, x.cell) {
-        return lined_at(findings::UNEQUAL, k, 0, 0);
-    }
-    if !close(a, d, x.cells + 2) {
-        return lined_at(findings::SEVERAL, k, 0, 0);
-    }
-    let size = settled_size(a, d, x.cells + 2, x.cells);
-    let e = store_type(a, d, w, x.cells + 2, x.cells, at, x.at, free);
-    if !declared_fits(a, d, w, base, m, p, at, size) {
-        return lined_at(findings::CLASH, k, 0, 0);
-    }
-    if !new_if(global, d, p) {
-        return lined_at(findings::CLASH, k, 0, 0);
-    }
-    if limits::SIZE < size {
-        return lined_at(findings::TOO_LARGE, k, 0, 0);
-    }
-    let count = declare(w, base, m, p, 2, at);
-    if limits::SIGNATURE < count {
-        return lined_at(findings::TOO_LARGE, k, 0, 0);
-    }
-    if count == m {
-        wipe(a, at, e);
-        return lined_at(0, k, m, at);
-    }
-    lined_at(0, k, count, e)
+    declared(a, d, w, base, m, p, at, free, k, global, x)
 }
 
 // 12 Include, as a line.
@@ -754,16 +710,9 @@ fn actuals(
         free,
         word(p, j + FIRST_ACTUAL),
     );
-    if x.number != 0 {
-        return unlined(x.number, x.place);
+    let r = actual(a, d, w, at, free, k, j, places, x);
+    if r.number != 0 {
+        return r;
     }
-    if !is_power(a, d, x.cells, x.top, x.cell) {
-        return lined_at(findings::UNEQUAL, k, 0, 0);
-    }
-    if !close(a, d, x.cells + 2) {
-        return lined_at(findings::SEVERAL, k, 0, 0);
-    }
-    let e = store_type(a, d, w, x.cells + 2, x.cells, at, x.at, free);
-    store(places, j, at as u32);
-    actuals(doc, a, d, w, rows, e, free, k, p, j + 1, q, places)
+    actuals(doc, a, d, w, rows, r.at, free, k, p, j + 1, q, places)
 }

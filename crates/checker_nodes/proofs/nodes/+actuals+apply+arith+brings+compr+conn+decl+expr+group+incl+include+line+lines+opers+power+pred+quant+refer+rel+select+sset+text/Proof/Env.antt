@@ -69,20 +69,19 @@ use Rattle.checker_nodes.proofs.nodes.+actuals+apply+arith+brings+compr
 use Rattle.checker_nodes.proofs.nodes.text.Reads as text
 use Rattle.checker_nodes.proofs.nodes.text.Kinds as text-kinds
 use Rattle.checker_nodes.proofs.nodes.+actuals+apply+arith+brings+compr+conn+decl+expr+group+incl+include+line+lines+opers+power+pred+quant+refer+rel+select+sset+text.Lts-text as text-lts
-use Rattle.checker_closing.proofs.leaves.declared_fits.Reads as declared-fits-reads
-use Rattle.checker_closing.proofs.leaves.new_if.Reads as new-if-reads
-use Rattle.checker_closing.proofs.leaves.related.Reads as related-reads
 use Rattle.checker_closing.proofs.included.brought.Reads as brought-reads
 use Rattle.checker_closing.proofs.included.included.Reads as included-reads
 use Rattle.checker_closing.proofs.includes.named.Reads as named-reads
 use Rattle.checker_closing.proofs.includes.schema_of.Reads as schema-of-reads
+use Rattle.checker_closing.proofs.actual.actual.Reads as actual-reads
+use Rattle.checker_closing.proofs.declared.declared.Reads as declared-reads
+use Rattle.checker_closing.proofs.relation.relation.Reads as relation-reads
 use Rattle.checker_closing.proofs.results.found.Reads as found-reads
 use Rattle.checker_closing.proofs.results.lined_at.Reads as lined-at-reads
 use Rattle.checker_closing.proofs.results.unlined.Reads as unlined-reads
 use Rattle.checker_closing.proofs.results.unvisited.Reads as unvisited-reads
 use Rattle.checker_closing.proofs.results.verdict_at.Reads as verdict-at-reads
 use Rattle.checker_closing.proofs.results.visit_at.Reads as visit-at-reads
-use Rattle.checker_includes.proofs.storing.store_type.Reads as store-type-reads
 use Rattle.types_instances.proofs.restore.Reads as restore-reads
 use Rattle.types_instances.proofs.save.Reads as save-reads
 use Rattle.types_instances.proofs.wipe.Reads as wipe-reads
@@ -90,9 +89,6 @@ use Rattle.layout.proofs.part.Reads as part-reads
 use Rattle.checker_lookup.proofs.bindings.schema_set.Reads as schema-set-reads
 use Rattle.checker_lookup.proofs.references.ref_rule.Reads as ref-rule-reads
 use Rattle.checker_lookup.proofs.thetas.theta_rule.Reads as theta-rule-reads
-use Rattle.checker_pieces.proofs.closing.close.Reads as close-reads
-use Rattle.checker_pieces.proofs.closing.settled_size.Reads as settled-size-reads
-use Rattle.checker_pieces.proofs.powers.is_power.Reads as is-power-reads
 use Rattle.checker_kinds.proofs.building.comprehension_rule.Reads as comprehension-rule-reads
 use Rattle.checker_kinds.proofs.building.integers_rule.Reads as integers-rule-reads
 use Rattle.checker_kinds.proofs.building.number_rule.Reads as number-rule-reads
@@ -104,7 +100,6 @@ use Rattle.checker_kinds.proofs.equations.apply_rule.Reads as apply-rule-reads
 use Rattle.checker_kinds.proofs.equations.arithmetic_rule.Reads as arithmetic-rule-reads
 use Rattle.checker_kinds.proofs.equations.select_rule.Reads as select-rule-reads
 use Rattle.checker_signatures.proofs.scopes.push.Reads as push-reads
-use Rattle.checker_signatures.proofs.tables.declare.Reads as declare-reads
 use Rattle.words.proofs.store.Reads as store-reads
 use Rattle.words.proofs.word.Reads as word-reads
 
@@ -307,7 +302,7 @@ abbrev pub text-below : ℕ → In 4 text-kinds.ps
 text-below t = and 4 text-kinds.ps (falls 4 text-kinds.ps _<_ μ-text t) text.Pre
 
 abbrev pub actuals-calls : ℕ → actuals-lts.Claims
-actuals-calls t = (lined-at-reads.Asked, lined-at-reads.Learnt, word-reads.Asked, word-reads.Learnt, expr-below t, expr.Post, unlined-reads.Asked, unlined-reads.Learnt, is-power-reads.Asked, is-power-reads.Learnt, close-reads.Asked, close-reads.Learnt, store-type-reads.Asked, store-type-reads.Learnt, store-reads.Asked, store-reads.Learnt, actuals-below t, actuals.Post)
+actuals-calls t = (lined-at-reads.Asked, lined-at-reads.Learnt, word-reads.Asked, word-reads.Learnt, expr-below t, expr.Post, actual-reads.Asked, actual-reads.Learnt, actuals-below t, actuals.Post)
 
 abbrev pub apply-calls : ℕ → apply-lts.Claims
 apply-calls t = (word-reads.Asked, word-reads.Learnt, expr-below t, expr.Post, apply-rule-reads.Asked, apply-rule-reads.Learnt, visit-at-reads.Asked, visit-at-reads.Learnt)
@@ -325,7 +320,7 @@ abbrev pub conn-calls : ℕ → conn-lts.Claims
 conn-calls t = (word-reads.Asked, word-reads.Learnt, pred-below t, pred.Post)
 
 abbrev pub decl-calls : ℕ → decl-lts.Claims
-decl-calls t = (word-reads.Asked, word-reads.Learnt, expr-below t, expr.Post, unlined-reads.Asked, unlined-reads.Learnt, is-power-reads.Asked, is-power-reads.Learnt, lined-at-reads.Asked, lined-at-reads.Learnt, close-reads.Asked, close-reads.Learnt, settled-size-reads.Asked, settled-size-reads.Learnt, store-type-reads.Asked, store-type-reads.Learnt, declared-fits-reads.Asked, declared-fits-reads.Learnt, new-if-reads.Asked, new-if-reads.Learnt, declare-reads.Asked, declare-reads.Learnt, wipe-reads.Asked, wipe-reads.Learnt)
+decl-calls t = (word-reads.Asked, word-reads.Learnt, expr-below t, expr.Post, declared-reads.Asked, declared-reads.Learnt)
 
 abbrev pub expr-calls : ℕ → expr-lts.Claims
 expr-calls t = (part-reads.Asked, part-reads.Learnt, word-reads.Asked, word-reads.Learnt, refer-below t, refer.Post, number-rule-reads.Asked, number-rule-reads.Learnt, visit-at-reads.Asked, visit-at-reads.Learnt, integers-rule-reads.Asked, integers-rule-reads.Learnt, power-below t, power.Post, apply-below t, apply.Post, select-below t, select.Post, theta-rule-reads.Asked, theta-rule-reads.Learnt, sset-below t, sset.Post, group-below t, group.Post, arith-below t, arith.Post, compr-below t, compr.Post)
@@ -361,7 +356,7 @@ abbrev pub refer-calls : ℕ → refer-lts.Claims
 refer-calls t = (opers-below t, opers.Post, word-reads.Asked, word-reads.Learnt, ref-rule-reads.Asked, ref-rule-reads.Learnt, visit-at-reads.Asked, visit-at-reads.Learnt)
 
 abbrev pub rel-calls : ℕ → rel-lts.Claims
-rel-calls t = (word-reads.Asked, word-reads.Learnt, expr-below t, expr.Post, found-reads.Asked, found-reads.Learnt, related-reads.Asked, related-reads.Learnt, verdict-at-reads.Asked, verdict-at-reads.Learnt, close-reads.Asked, close-reads.Learnt, wipe-reads.Asked, wipe-reads.Learnt)
+rel-calls t = (word-reads.Asked, word-reads.Learnt, expr-below t, expr.Post, found-reads.Asked, found-reads.Learnt, relation-reads.Asked, relation-reads.Learnt)
 
 abbrev pub select-calls : ℕ → select-lts.Claims
 select-calls t = (word-reads.Asked, word-reads.Learnt, expr-below t, expr.Post, select-rule-reads.Asked, select-rule-reads.Learnt, visit-at-reads.Asked, visit-at-reads.Learnt)
