@@ -13,10 +13,10 @@ use Rattle.types_rules.proofs.Rational.{Says, outer-says, rep-sat}
 use Rattle.types_rules.proofs.Solutions.{tcons-0, tcons-1, node-0, node-1}
 use Rattle.types_rules.proofs.Terms.{and-i, and-l, and-r, bool-no, former-refl, same-true}
 use Rattle.types_rules.specs.Classes.{rep}
-use Rattle.types_rules.specs.Classify.{Out, Right, Solvable, Verdict, apart, clashing, classify, endless, join, judge, mergeLevels, merged, sameTerm, sameTerms, solvable, spent, subs, subss, toList, univ, viewTerm}
+use Rattle.types_rules.specs.Classify.{Out, Right, Solvable, Verdict, apart, classify, endless, join, judge, mergeLevels, merged, sameTerm, sameTerms, solvable, spent, subs, subss, toList, univ, viewTerm}
 use Rattle.types_rules.specs.Equations.{AllP, In, Pairs, Solves, end, pair}
 use Rattle.types_rules.specs.Finite.{allb, bounded, fromList, typeOf}
-use Rattle.types_rules.specs.Follows.{Clash, shape}
+use Rattle.types_rules.specs.Follows.{shape}
 use Rattle.types_rules.specs.Former.{Former, int, sameFormer}
 use Rattle.types_rules.specs.Types.{Term, Terms, Ty, con, cons, nil, node, size, tcons, tnil, under, unders, unknown}
 
@@ -215,7 +215,3 @@ module _ (P : Pairs Term) where
 pub classify-right : (P : Pairs Term) → Right P (classify P)
 unfolding classify
 classify-right P = judge-right P _ refl
-
--- The verdict in the document's words.
-pub is-33 : (P : Pairs Term) → classify P ≡ clashing → Clash viewTerm P
-is-33 P e = subst (Right P) e (classify-right P) .0
