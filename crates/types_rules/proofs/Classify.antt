@@ -9,7 +9,7 @@ use mathlib.Core.Path.{_∙_, _≡_, ap, ap₂, refl, subst, sym}
 use native.Mathlib.Omega.{arith}
 use Rattle.types_rules.proofs.Finite.{all-at, all-of, depth, finite-bounded, solution, solution-sat}
 use Rattle.types_rules.proofs.Follows.{apart-clash, enough, links-in, merged-closed, merged-no-clash, rep-in}
-use Rattle.types_rules.proofs.Rational.{Says, outer-says, rep-sat}
+use Rattle.types_rules.proofs.Rational.{Says, outer-says, rep-sat, shape-1}
 use Rattle.types_rules.proofs.Solutions.{tcons-0, tcons-1, node-0, node-1}
 use Rattle.types_rules.proofs.Terms.{and-i, and-l, and-r, bool-no, former-refl, same-true}
 use Rattle.types_rules.specs.Classes.{rep}
@@ -76,9 +76,6 @@ unfolding toList subs
 kid-in c nil i = absurd i
 kid-in c (cons t ts) (inl e) = in-l c (subs t) (subss ts) (subst (λ z. In z (subs t)) (sym e) (self-in t))
 kid-in c (cons t ts) (inr i) = in-r c (subs t) (subss ts) (kid-in c ts i)
-
-shape-1 : (h k : Former) (cs ds : List Term) → shape h cs ≡ shape k ds → cs ≡ ds
-shape-1 h k cs ds q = cc
 
 abbrev Kids : List Term → Type 0
 Kids l = (n : Term) (h : Former) (cs : List Term) → In n l → viewTerm n ≡ shape h cs → (c : Term) → In c cs → In c l

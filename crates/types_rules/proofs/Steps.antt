@@ -5,7 +5,7 @@ use mathlib.Core.List.{List, map}
 use mathlib.Core.Path.{_∙_, _≡_, ap, refl, subst, sym}
 use native.Mathlib.Omega.{arith}
 use Rattle.types_rules.proofs.Finite.{all-at, map-same, solution-unknown}
-use Rattle.types_rules.proofs.Rational.{swap-cases, swap-miss}
+use Rattle.types_rules.proofs.Rational.{shape-0, shape-1, swap-cases, swap-miss}
 use Rattle.types_rules.proofs.Terms.{bool-no}
 use Rattle.types_rules.specs.Classes.{Closed, Shape, rep, swap}
 use Rattle.types_rules.specs.Equations.{AllP, Pairs, end, pair}
@@ -57,12 +57,6 @@ module _ (N : Type 0) (same : N → N → Bool) (same-eq : (a b : N) → same a 
       covers = C .covers;
     }
       where
-        shape-0 : (h k : Former) (cs ds : List N) → shape h cs ≡ shape k ds → h ≡ k
-        shape-0 h k cs ds q = cc
-
-        shape-1 : (h k : Former) (cs ds : List N) → shape h cs ≡ shape k ds → cs ≡ ds
-        shape-1 h k cs ds q = cc
-
         Sh : View N → Type 0
         Sh w = Shape w
 
