@@ -10,6 +10,7 @@ use lib.Dec.{ltb}
 use lib.ListN.{length, getD, set}
 use lib.Seq.{getD-set-other, getD-set-same, take-set-le}
 use borrow.Author.Tests.{lt-ltb, le-ltb}
+use Rattle.types_rules.proofs.Rational.{shape-1}
 use Rattle.types_rules.proofs.Finite.{map-same}
 use Rattle.types_rules.specs.Equations.{AllP, In, Pairs, Solves, end, pair}
 use Rattle.types_rules.specs.Finite.{fromList, typeOfView}
@@ -116,9 +117,6 @@ module _ (n : ℕ) (g : Ty) (σ : ℕ → Ty) where
   extended-new : extended n ≡ g
   unfolding extended
   extended-new = rw (extended, le-ltb n n (let z : n ≤ n = omega arith in z))
-
-shape-1 : (h k : Former) (cs ds : List ℕ) → shape h cs ≡ shape k ds → cs ≡ ds
-shape-1 h k cs ds q = cc
 
 no-shape : (h : Former) (cs : List ℕ) → _≡_ {A = View ℕ} unk (shape h cs) → ⊥
 no-shape h cs q = let z : _≡_ {A = ℕ} 0 1 = cc in omega arith
