@@ -1,16 +1,11 @@
 -- A coded finding is read back.
-use mathlib.Core.Path.{_≡_, refl, ap₂, _∙_}
+use mathlib.Core.Path.{_≡_, ap₂}
 use Prim.Native.Nat.{ℕ, _+_, _*_, _/_, _%_, _<_}
 use native.Mathlib.Omega.{arith}
 use native.Mathlib.Nat.{div-add-mod', mod-lt}
 use borrow.Author.Tests.{ne-eqb}
-use Rattle.checker_rules.specs.declared.Finding.{Finding}
-use Rattle.checker_rules.specs.declared.Finding.the-variants.{Accepted, Refused}
+use Rattle.checker_rules.specs.declared.Finding.the-variants.{Refused}
 use Rattle.capi_codes.specs.Code.{findingOf}
-
-pub accepted-back : findingOf 0 ≡ Accepted
-unfolding findingOf
-accepted-back = refl
 
 pub refused-back : (number place : ℕ) → 0 < number → place < 4294967296 → findingOf (number * 4294967296 + place) ≡ Refused number place
 unfolding findingOf

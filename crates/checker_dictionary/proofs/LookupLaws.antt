@@ -5,10 +5,10 @@ use mathlib.Core.List.{List, [], _∷_, _++_, append-assoc, append-nil}
 use Prim.Native.Nat.{ℕ, zero, suc, _+_, _-_, _≤_, _<_}
 use native.Mathlib.Omega.{arith}
 use lib.Dec.{eqb}
-use lib.ListN.{length, getD, drop, replicate, length-append, length-drop}
+use lib.ListN.{length, getD, drop, replicate}
 use lib.Seq.{getD-drop, drop-drop}
 use Rattle.layout.specs.Layout.{count, offsetAt}
-use Rattle.types_rules.specs.Types.{Ty, node}
+use Rattle.types_rules.specs.Types.{Ty}
 use Rattle.types_rules.specs.Words.{words}
 use Rattle.types_rules.specs.Formed.{WellFormed}
 use Rattle.checker_rules.specs.Dictionary.{Entry, nameEntry, schemaEntry, Dictionary, blank, _▸_, entryWords, entries, laidOutWords, dictionaryWords, dictionaryLength}
@@ -156,14 +156,3 @@ name-formed D i p g f e = subst FormedNamed e (nameIn-formed i D f)
 pub schema-formed : (D : Dictionary) (s p : ℕ) (g : Ty) → FormedDictionary D → schemaIn s D ≡ aSchema p g → WellFormed g
 unfolding FormedFound
 schema-formed D s p g f e = subst FormedFound e (schemaIn-formed s D f)
-
--- a type that stands at a place ends in the area
-has-words : (g : Ty) → 1 ≤ length (words g)
-unfolding words
-has-words (node h gs) = omega arith
-
-pub type-inside : (d : List ℕ) (p : ℕ) (g : Ty) (after : List ℕ) → drop p d ≡ words g ++ after → p + length (words g) ≤ length d
-type-inside d p g after q =
-    let l = sym (length-drop p d) ∙ ap length q ∙ length-append (words g) after in
-    let w = has-words g in
-    omega (arith, l, w)

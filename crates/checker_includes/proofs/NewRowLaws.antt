@@ -145,12 +145,6 @@ merged-length (x ∷ xs) rs a h =
     go true = refl
     go false = omega arith
 
--- Rows in order.
-pub merged-ascending : (xs rs : List (ℕ × ℕ)) → Ascending (identifiersOf rs) → Ascending (identifiersOf (mergeRows xs rs))
-unfolding mergeRows
-merged-ascending [] rs h = h
-merged-ascending (x ∷ xs) rs h = merged-ascending xs (insertRow (x .0) (x .1) rs) (insert-ascending (x .0) (x .1) rs h)
-
 pub renamed-ascending : (ps rs : List (ℕ × ℕ)) → Ascending (identifiersOf (renameRows ps rs))
 unfolding renameRows identifiersOf
 renamed-ascending ps [] = tt

@@ -9,4 +9,3 @@ pub mod FormerLaws
 pub mod PowerRule
 pub mod SetRule
 pub mod ProductRule
-pub mod RuleItems

@@ -11,7 +11,6 @@ pub mod PowerItems
 pub mod ActualLaws
 pub mod AppliedLaws
 pub mod LookingUpApplied
-pub mod Carrying
 pub mod ComponentLaws
 pub mod ThetaLaws
 pub mod FewNames

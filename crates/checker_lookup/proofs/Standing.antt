@@ -9,8 +9,8 @@ use Rattle.types_cells.specs.Calls.{Above}
 use Rattle.types_solver.specs.Growth.{Builds}
 use Rattle.types_cells.specs.Settled.{lower, heap, Reads, Readable, Entering, Entered}
 use Rattle.types_cells.proofs.SettlingLaws.{heap-kept}
-use Rattle.checker_pieces.specs.Stage.{Ghost, Stands, Cell, Room, Uses}
-use Rattle.checker_pieces.proofs.Walks.{later-refl, later-on, denotes-later}
+use Rattle.checker_pieces.specs.Stage.{Ghost, Stands, Room, Uses}
+use Rattle.checker_pieces.proofs.Walks.{later-refl, later-on}
 use Rattle.checker_pieces.proofs.Stages.{room-less, plain-making}
 use Rattle.checker_pieces.proofs.Growing.{settled, settled-later, built, built-later}
 use Rattle.checker_lookup.specs.Scoped.{SettledAt}
@@ -34,14 +34,6 @@ enlarged-on s t u d n top m mid k last x y A B = record {
       later-on s t u d n m k (G .equations) (G .equations) (G .equations) (G .before) (G .items) (G .items) (G .items) (G .cells) (G .cells) (G .cells)
       (A .later G S) (B .later G (A .stands G S));
   uses = λ z R. B .uses z (A .uses (y + z) (room-less s n top (x + (y + z)) (x + y + z) (omega arith) R));
-}
-
--- A cell keeps its type.
-pub cell-kept : (s t d : List ℕ) (n top m mid x : ℕ) → Enlarged s t d n top m mid x → (G : Ghost) → Stands s d n top G → (c : ℕ) (a : Term) → Cell s d n G c a → Cell t d m G c a
-cell-kept s t d n top m mid x E G S c a C = record {
-  made = let l = E .wide in let k = C .made in omega arith;
-  denotes = denotes-later s t d n m (G .equations) (G .equations) (G .before) (G .items) (G .items) (G .cells) (G .cells) (E .later G S) c a (C .denotes);
-  over = C .over;
 }
 
 -- A settled term stays where it stands.

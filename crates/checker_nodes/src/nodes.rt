@@ -1,5 +1,6 @@
 // The typing rules: functions over nodes that call each other in a cycle, the node number falling. The solver's store and the pool of type words are
 // in a; d is the dictionary's area, w the work area with the scope's rows at its beginning. A function over a kind's node takes its words p.
+// Document 01, forms: "Expressions hold texts, texts hold predicates, and predicates hold expressions again".
 use checker_closing::actual::actual;
 use checker_closing::declared::declared;
 use checker_closing::included::brought;

@@ -1,27 +1,21 @@
 -- A new unknown whose type is that of a cell: the type of a node, the component of a Select (35). And items that the ones before settle.
 use mathlib.Core.Path.{_≡_, refl, sym, ap, subst, _∙_}
-use mathlib.Core.List.{List, [], _∷_}
+use mathlib.Core.List.{List, _∷_}
 use mathlib.Core.Logic.{_⊎_, _↔_, inl, inr, ⊎-elim}
-use mathlib.Core.Option.{Option, some, none as nothing}
-use Prim.Native.Nat.{ℕ, suc, _<_, _≤_}
-use native.Mathlib.Omega.{arith}
+use mathlib.Core.Option.{some, none as nothing}
+use Prim.Native.Nat.{ℕ, _<_}
 use Rattle.types_rules.specs.Component.{componentType}
-use Rattle.types_rules.specs.Equations.{AllP, In, InP, Pairs, pair}
-use Rattle.types_rules.specs.Types.{Ty, Term, unknown, under, size, Each}
+use Rattle.types_rules.specs.Equations.{AllP, In, Pairs, pair}
+use Rattle.types_rules.specs.Types.{Ty, Term, unknown, under, Each}
 use Rattle.checker_rules.specs.Unknowns.{Table}
-use Rattle.checker_rules.specs.Items.{Items, _⨾_, fresh, equate, select, small, Known, Meets, Agree, Passes, Refuses}
-use Rattle.types_solver.specs.Answers.{Looked, SolutionOf, Finite}
+use Rattle.checker_rules.specs.Items.{Items, _⨾_, fresh, equate, select, Known, Meets, Agree, Passes, Refuses}
 use Rattle.checker_pieces.specs.Piece.{Solution, Matches, SameOn, Local, Goes, Stops, Piece, Denotes, Later}
 use Rattle.checker_pieces.proofs.Updates.{put, put-hit, put-miss}
-use Rattle.checker_pieces.proofs.Walks.{items-earlier, goes-then, stops-right}
+use Rattle.checker_pieces.proofs.Walks.{items-earlier}
 use Rattle.checker_pieces.proofs.Growing.{all-zip, all-map}
 use Rattle.checker_pieces.proofs.Equating.{under-same}
 
 module _ (s d : List ℕ) (n : ℕ) (P₀ : Pairs ℕ) (H t : Items) (U₀ U : List ℕ) (ρ : Pairs ℕ) (Q : Piece s d n P₀ H t U₀ U ρ) where
-  -- A table that belongs to the piece.
-  pub a-table : (τ : Table) × Meets (H ⨾ t) τ
-  a-table = let q = Q .complete (Q .some .0) (Q .some .1) (Q .start .0) (Q .start .1) in (q .0, q .1)
-
   -- ITEMS THAT HOLD ANYWAY: 36 of equal types, 38 of small ones.
   pub noted : (c : Items) → ((τ : Table) → Meets (H ⨾ t) τ → Meets c τ) → ((τ τ′ : Table) → Agree c τ τ′) → Piece s d n P₀ H (t ⨾ c) U₀ U ρ
   unfolding Meets Agree

@@ -210,22 +210,6 @@ module _ (s s′ d : List ℕ) (n top n′ top′ : ℕ) (G : Ghost) (own : Item
   unfolding built-before
   introduced-before r m top₀ B St x c i = record { advanced = built-before r m top₀ B St; placed = i }
 
-  pub built-after : length d < 2 ^ 31 → (s″ : List ℕ) (n″ top″ : ℕ) → Builds s′ s″ d n′ n″ → Above (frozen s″) n″ top″ → Advanced s s″ d n top n″ top″ G own M
-  built-after few s″ n″ top″ B Ab = record {
-    equations = A .equations;
-    mentioned = A .mentioned;
-    cells = A .cells;
-    wide = let u = A .wide in let v = B .grows .wide in omega arith;
-    goes = A .goes;
-    piece = stands-built s′ s″ d n′ n″ top′ B next (next-stands few) top″ Ab .piece;
-    above = Ab;
-    later =
-        later-on s s′ s″ d n n′ n″ (G .equations) (A .equations) (A .equations) (G .before) (G .items) (G .items ⨾ own) (G .items ⨾ own) (G .cells) (A .cells) (A .cells)
-        (A .later) (later-built s′ s″ d n′ n″ top′ B next (next-stands few));
-    wider = A .wider;
-    new = A .new;
-  }
-
 -- ONE AFTER ANOTHER.
 module _ (s s′ d : List ℕ) (n top n′ top′ : ℕ) (G : Ghost) (a : Items) (M : ℕ → Type 0) (A : Advanced s s′ d n top n′ top′ G a M) (b : Items) where
   abbrev G′ : Ghost

@@ -1,7 +1,7 @@
 -- ACCEPTED TYPES BY TYPINGS ALONE: what `HasType` says by items, specs/AcceptedTypings says by the sentences of document 01.
 use mathlib.Core.Path.{_≡_}
 use mathlib.Core.List.{List, [], _∷_}
-use mathlib.Core.Logic.{_↔_, inl, inr}
+use mathlib.Core.Logic.{inl, inr}
 use Prim.Native.Nat.{ℕ}
 use Rattle.reader_rules.specs.Tree.{Paragraph}
 use Rattle.reader_rules.specs.Decode.{treeOf}
@@ -26,9 +26,6 @@ unfolding HasType HasTyping
 from-typing [] D m g t = absurd t
 from-typing (p ∷ ps) D m g (x, inl t) = ((x .0, paragraph-law (x .0) p D .1 (x .1)), inl (t .0, λ τ h. t .1 τ (paragraph-law τ p D .0 h)))
 from-typing (p ∷ ps) D m g (x, inr t) = ((x .0, paragraph-law (x .0) p D .1 (x .1)), inr (λ τ h. from-typing ps (extend p D τ) m g (t τ (paragraph-law τ p D .0 h))))
-
-pub has-typing : (ps : List Paragraph) (D : Dictionary) (m : ℕ) (g : Ty) → HasType ps D m g ↔ HasTyping ps D m g
-has-typing ps D m g = (to-typing ps D m g, from-typing ps D m g)
 
 -- EACH EXPRESSION OF AN ACCEPTED DOCUMENT HAS ONE TYPE IN ALL TYPINGS, a well-formed one, and no other.
 pub accepted-typing : (doc : List ℕ) (d w : ℕ) (E : Dictionary) → checkOf doc d w ≡ accepted E → (m : ℕ) → InParagraphs m (paragraphsOf (treeOf doc))

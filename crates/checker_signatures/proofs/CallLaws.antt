@@ -20,14 +20,6 @@ use Rattle.checker_signatures.proofs.IncludeLaws.{stroke-length}
 use Rattle.checker_signatures.proofs.CarryLaws.{Both, carries-term, both-some, both-none, carries-wrong, carries-stroke, carries-rename}
 use Rattle.checker_signatures.proofs.ScopeLaws.{Resolves, stacked-name, stacked-enter, newest-last, stack-push}
 
--- What bring and push write are tables, so that TableLaws say what stays: words below and above, and rows elsewhere.
-pub stroked-table : (w : List ℕ) (source m k : ℕ)
-    → Table w (sets w source (flat (strokeRows k (rows w source m)))) source (strokeRows k (rows w source m)) m
-stroked-table w source m k = record { words = refl; count = sym (stroke-length k (rows w source m) ∙ rows-length w source m) }
-
-pub pushed-table : (w v : List ℕ) (b n : ℕ) (rs : List (ℕ × ℕ)) (r : ℕ) → Pushed w v b n rs r → Table w v (b + 2 * n) rs (length rs)
-pushed-table w v b n rs r p = record { words = p .words; count = refl }
-
 module _ (R : Term → ℕ → Type 0) where
   -- a table that stands for a signature, read where it was written
   pub carried : (w v : List ℕ) (b : ℕ) (rs : List (ℕ × ℕ)) (n : ℕ) (s : Signature) → Table w v b rs n → b + 2 * n ≤ length w → Carries R s rs

@@ -10,10 +10,9 @@ use lib.ListN.{length, getD}
 use lib.Seq.{sets}
 use Rattle.reader_rules.specs.Decode.{pairsFrom}
 use Rattle.types_rules.specs.Types.{Term}
-use Rattle.checker_rules.specs.Unknowns.{powerOf, parameterOf}
 use Rattle.checker_rules.specs.Dictionary.{Dictionary, ofLocal, nameIn, schemaIn}
 use Rattle.checker_rules.specs.Signatures.{Signature, noNames, naming}
-use Rattle.checker_rules.specs.Scopes.{Scope, globals, local, nameAt, schemaNamed, enter, withParameters}
+use Rattle.checker_rules.specs.Scopes.{Scope, globals, local, nameAt, schemaNamed, enter}
 use Rattle.checker_signatures.specs.Rows.{rows, flat, placeIn, stack, newest, pushRows}
 use Rattle.checker_signatures.specs.Carried.{Carries, Stacked}
 use Rattle.checker_signatures.proofs.RowLaws.{rows-last, rows-written, rows-next, place-last, getD-below}
@@ -22,13 +21,6 @@ use Rattle.checker_signatures.proofs.RowLaws.{rows-last, rows-written, 
 unfoldable pub Resolves : (Term → ℕ → Type 0) → ℕ → Scope → Dictionary → Option ℕ → Type 0
 Resolves R i Γ D nothing = nameAt i Γ ≡ nameIn i D
 Resolves R i Γ D (some p) = (t : Term) × (nameAt i Γ ≡ ofLocal t) × R t p
-
--- parameters, the k-th from 1 on, with their rows
-unfoldable pub Parameters : (Term → ℕ → Type 0) → List ℕ → ℕ → List (ℕ × ℕ) → Type 0
-Parameters R [] k [] = Unit {0}
-Parameters R [] k (r ∷ rs) = ⊥
-Parameters R (i ∷ is) k [] = ⊥
-Parameters R (i ∷ is) k (r ∷ rs) = (i ≡ r .0) × R (powerOf (parameterOf k)) (r .1) × Parameters R is (suc k) rs
 
 module _ (R : Term → ℕ → Type 0) (D : Dictionary) where
   pub stacked-name : (i : ℕ) (Γ : Scope) (rs : List (ℕ × ℕ)) → Stacked R Γ rs D → Resolves R i Γ D (newest i rs)
@@ -59,14 +51,6 @@ module _ (R : Term → ℕ → Type 0) (D : Dictionary) where
   stacked-enter noNames Γ (r ∷ rs) st h k = absurd h
   stacked-enter (naming i t s) Γ [] st h k = absurd h
   stacked-enter (naming i t s) Γ (r ∷ rs) st h k = stacked-enter s (local i t Γ) rs (r ∷ st) (h .2) (h .0, h .1, k)
-
-  pub stacked-parameters : (is : List ℕ) (k : ℕ) (Γ : Scope) (rs st : List (ℕ × ℕ)) → Parameters R is k rs → Stacked R Γ st D
-      → Stacked R (withParameters is k Γ) (pushRows rs st) D
-  unfolding withParameters pushRows Parameters Stacked
-  stacked-parameters [] k Γ [] st h q = q
-  stacked-parameters [] k Γ (r ∷ rs) st h q = absurd h
-  stacked-parameters (i ∷ is) k Γ [] st h q = absurd h
-  stacked-parameters (i ∷ is) k Γ (r ∷ rs) st h q = stacked-parameters is (suc k) (local i (powerOf (parameterOf k)) Γ) rs (r ∷ st) (h .2) (h .0, h .1, q)
 
 pub stacked-other : (R Q : Term → ℕ → Type 0) (D : Dictionary) → ((t : Term) (p : ℕ) → R t p → Q t p) → (Γ : Scope) (rs : List (ℕ × ℕ))
     → Stacked R Γ rs D → Stacked Q Γ rs D

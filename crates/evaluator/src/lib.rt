@@ -1,4 +1,5 @@
 // The run call. The definitions are in the crate `evaluator_rules`, the paragraphs in `evaluator_paragraphs`; nothing here looks at the checker.
+// Document 01, forms: "the run rests on the reader's promise and on nothing inside the checker".
 use codes::findings;
 use codes::limits;
 use evaluator_operations::worked::Worked;

@@ -1,5 +1,6 @@
 // The evaluation rules: functions over nodes that call each other in a cycle, the node number falling. n is the number of blocks in the work area; a
 // function over a kind's node takes its words w.
+// Document 01, forms: "Expressions hold texts, texts hold predicates, and predicates hold expressions again".
 use codes::findings;
 use codes::kinds;
 use codes::limits;

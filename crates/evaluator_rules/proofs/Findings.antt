@@ -1,10 +1,9 @@
 -- The evaluation rules list only values of at most 64 words, and stop only with 51 to 55.
 use mathlib.Core.Path.{_≡_, refl}
-use mathlib.Core.List.{List, [], _∷_}
 use mathlib.Core.Bool.{Bool, true, false}
 use Prim.Native.Nat.{ℕ, _≤_}
 use native.Mathlib.Omega.{arith}
-use lib.Dec.{leb, eqb}
+use lib.Dec.{leb}
 use borrow.Author.Tests.{leb-true}
 use Rattle.values.specs.Value.{Value, int, element, Values, nil, cons}
 use Rattle.values.specs.Value as Value
@@ -16,19 +15,19 @@ use Rattle.reader_rules.specs.Tree.{declaration, inclusion, Include, include}
 use Rattle.reader_rules.specs.Tree as Tree
 use Rattle.values.specs.SetValues.{Image, found, misfit, undefined, applyValue}
 use Rattle.evaluator_rules.specs.WordCount.{wordCount}
-use Rattle.evaluator_rules.specs.Outcomes.{Outcome, _>>=_, pure, stop, keepIf, keep}
+use Rattle.evaluator_rules.specs.Outcomes.{Outcome, _>>=_, stop, keepIf, keep}
 use Rattle.evaluator_rules.specs.Scope.{Scope, Meaning, valued, generic, unknown, refer}
 use Rattle.evaluator_rules.specs.Operations.{asInteger, asSet, asTuple, addIf, add, image, findPair, keepInteger, connect, allPass, countIf, sameCount}
 use Rattle.evaluator_rules.specs.Assignments.{Domains, noMore, domain, Flow, go, halt, Body, next, each, assign}
 use Rattle.evaluator_rules.specs.Rules.{amongMembers, stopInclude, evalExpr, evalExprs, evalMembers, evalPred, overText, evalLines, testExpr, testExprs}
-use Rattle.evaluator_rules.specs.Claims.{Listed, empty, entry, Good, finished, ceased, Short, Trouble}
+use Rattle.evaluator_rules.specs.Claims.{empty, entry, Good, finished, Short, Trouble}
 use Rattle.evaluator_rules.proofs.Outcomes.{bind-good, pure-good, stop-good, choose-good}
 
 -- an outcome of which only this is said
 abbrev pub Fine : {A : Type 0} → Outcome A → Type 0
 Fine m = Good Short Trouble (λ a. Unit {0}) m
 
-bind-fine : {A B : Type 0} {m : Outcome A} {f : A → Outcome B} → Fine m → ((a : A) → Fine (f a)) → Fine (m >>= f)
+pub bind-fine : {A B : Type 0} {m : Outcome A} {f : A → Outcome B} → Fine m → ((a : A) → Fine (f a)) → Fine (m >>= f)
 bind-fine h k = bind-good h (λ a _. k a)
 
 trouble : {A : Type 0} {w n : ℕ} → 51 ≤ w → w ≤ 55 → Fine {A = A} (stop w n)

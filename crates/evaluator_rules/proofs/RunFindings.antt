@@ -1,31 +1,28 @@
 -- The findings of a run: reading's, then 21, then 41, then holds, fails or 51 to 55.
-use mathlib.Core.Path.{_≡_, refl, sym, ap, subst, _∙_}
+use mathlib.Core.Path.{_≡_, refl, sym, subst}
 use mathlib.Core.List.{List, [], _∷_}
 use mathlib.Core.Bool.{Bool, true, false}
-use Prim.Native.Nat.{ℕ, _≤_, _<_}
+use Prim.Native.Nat.{ℕ, _≤_}
 use lib.Dec.{leb}
 use borrow.Author.Tests.{leb-true, leb-false}
 use Rattle.values.specs.Value.{Value}
-use Rattle.reader_rules.specs.Tree.{Text, text, Lines, end, declaration, inclusion, Paragraph, schema, abbreviation, constraint, axiomatic, Document, document}
+use Rattle.reader_rules.specs.Tree.{text, Lines, end, declaration, inclusion, Paragraph, schema, abbreviation, constraint, axiomatic, Document, document}
 use Rattle.reader_rules.specs.Tree as Tree
 use Rattle.reader_rules.specs.Reading.{readOf}
 use Rattle.reader_rules.specs.Decode.{treeOf}
 use Rattle.reader_rules.specs.declared.Reading.{Reading}
 use Rattle.reader_rules.specs.declared.Reading.the-variants.{Readable, Refused as Unreadable}
-use Rattle.evaluator_rules.specs.Outcomes.{Outcome, _>>=_}
+use Rattle.evaluator_rules.specs.Outcomes.{Outcome}
 use Rattle.evaluator_rules.specs.Scope.{Scope}
 use Rattle.states_rules.specs.Names.{documentNames}
-use Rattle.states_rules.specs.States.{State, stateOf, valueIn}
+use Rattle.states_rules.specs.States.{State, stateOf}
 use Rattle.evaluator_rules.specs.Paragraphs.{Step, onward, failed, then, testNames, testLines, runParagraph, runParagraphs, runDocument}
-use Rattle.evaluator_rules.specs.Run.{Ran, ran, ending, runState, runWork, runRead, runOf}
+use Rattle.evaluator_rules.specs.Run.{ran, ending, runState, runWork, runRead, runOf}
 use Rattle.evaluator_rules.specs.declared.Finding.the-variants.{Refused}
-use Rattle.evaluator_rules.specs.Claims.{Good, finished, ceased, Short, Trouble, Finds, unreadable, noRoom, illFormed, holds, fails, troubled, WellFormed}
-use Rattle.evaluator_rules.proofs.Outcomes.{bind-good, pure-good, choose-good}
-use Rattle.evaluator_rules.proofs.Findings.{Fine, include-fine, expr-fine, pred-fine, test-fine}
+use Rattle.evaluator_rules.specs.Claims.{finished, ceased, Finds, unreadable, noRoom, illFormed, holds, fails, troubled, WellFormed}
+use Rattle.evaluator_rules.proofs.Outcomes.{pure-good, choose-good}
+use Rattle.evaluator_rules.proofs.Findings.{Fine, bind-fine, include-fine, expr-fine, pred-fine, test-fine}
 use Rattle.evaluator_rules.proofs.StatePlace.{state-ill, state-well}
-
-bind-fine : {A B : Type 0} {m : Outcome A} {f : A → Outcome B} → Fine m → ((a : A) → Fine (f a)) → Fine (m >>= f)
-bind-fine h k = bind-good h (λ a _. k a)
 
 then-fine : (k : Scope → Outcome Step) (s : Step) → ((scope : Scope) → Fine (k scope)) → Fine (then k s)
 unfolding then

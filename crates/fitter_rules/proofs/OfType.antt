@@ -1,22 +1,21 @@
 -- 42's test on type words says what document 01 says of values and types.
 use mathlib.Core.Path.{_≡_, refl, ap, sym, subst, _∙_}
 use mathlib.Core.Bool.{Bool, true, false, _&&_, false≢true}
-use mathlib.Core.List.{List, [], _∷_, _++_, append-assoc, append-nil}
+use mathlib.Core.List.{List, [], _++_, append-assoc, append-nil}
 use mathlib.Core.Logic.{_↔_}
 use Prim.Native.Nat.{ℕ, suc, _+_, _≤_}
 use native.Mathlib.Omega.{arith}
 use lib.Dec.{eqb}
-use lib.ListN.{length, getD, drop}
+use lib.ListN.{drop}
 use lib.Seq.{drop-append-seam}
 use borrow.Author.Tests.{eqb-true, eq-eqb}
 use Rattle.words.proofs.Loops.{and-left, and-right}
-use Rattle.types_rules.specs.Former.{Former, int, given, parameter, power, product, binding, tag, identifiers}
+use Rattle.types_rules.specs.Former.{int, given, parameter, power, product, binding, tag, identifiers}
 use Rattle.types_rules.specs.Types.{Ty, Tys, node, tnil, tcons, size, sizes}
 use Rattle.types_rules.specs.Formed.{partCountType, FormedType, FormedTypes, Arity, WellFormed}
 use Rattle.types_rules.specs.Words.{second, words, partWords}
 use Rattle.values.specs.Value.{Value, element, set, tuple, Values, nil, cons, count}
 use Rattle.values.specs.Value as Value
-use Rattle.values.specs.TypeWords.{typeLength}
 use Rattle.values.specs.Typed.{typeStep, isOf, areOf}
 use Rattle.fitter_rules.specs.HasType.{Has, isInteger, isElement, isSet, isTuple, MembersHave, noMember, aMember, PartsHave, noPart, aPart}
 use Rattle.fitter_rules.proofs.TypeLengths.{type-reaches}
@@ -28,11 +27,6 @@ no e = absurd (false≢true e)
 step-over : (g : Ty) → WellFormed g → size g ≤ 32 → (r : List ℕ) → drop (typeStep true (words g ++ r)) (words g ++ r) ≡ r
 unfolding typeStep
 step-over g w l r = ap (λ (n : ℕ). drop n (words g ++ r)) (type-reaches 32 g w l r) ∙ drop-append-seam (words g) r
-
-one-part : (gs : Tys) → partCountType gs ≡ 1 → (g : Ty) × (gs ≡ tcons g tnil)
-one-part tnil e = absurd (omega arith)
-one-part (tcons g tnil) e = (g, refl)
-one-part (tcons g (tcons h gs)) e = absurd (omega arith)
 
 mutual
   unfolding isOf words tag second identifiers FormedType size Arity typeStep count

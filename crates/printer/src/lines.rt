@@ -54,7 +54,7 @@ fn dictionary_size(dict: &[u32]) -> usize
     word(dict, 2 * n - 1) + word(dict, 2 * n)
 }
 
-// accepted, dictionary words, entries; then the entries.
+// accepted, dictionary words, entries; then the entries. Document 01, forms: "the first line is the word accepted".
 pub fn put_accepted(out: &mut [u8], at: usize, dict: &[u32]) -> usize
     ensures { λ r. ⌜ Put (acceptedLines (now (dict .entry))) (now (out .entry)) at (now (out .exit)) r ⌝ }
 {

@@ -1,5 +1,5 @@
 -- The decimal digits are right: they show the number, each is a digit, none leads with 0, and there are as few as the number is small.
-use mathlib.Core.Path.{_≡_, refl, sym, ap, subst, _∙_}
+use mathlib.Core.Path.{_≡_, refl, sym, ap, _∙_}
 use mathlib.Core.List.{List, [], _∷_, _++_}
 use mathlib.Core.Bool.{Bool, true, false}
 use Prim.Native.Nat.{ℕ, zero, suc, _+_, _*_, _-_, _/_, _%_, _^_, _≤_, _<_}
@@ -95,10 +95,6 @@ digits-lead (suc d) n h z = go (ltb n 10) refl z (λ l x. digits-lead d (n / 10)
 pub no-leading-zero : (n : ℕ) → getD (decimal n) 0 0 ≡ 48 → n ≡ 0
 unfolding decimal
 no-leading-zero n z = digits-lead (suc n) n (omega arith) z
-
-pub decimal-some : (n : ℕ) → 1 ≤ length (decimal n)
-unfolding decimal
-decimal-some n = digits-some (suc n) n (omega arith)
 
 -- below 10^k, k ≥ 1, there are at most k digits
 digits-few : (d n k : ℕ) → 1 ≤ k → n < 10 ^ k → length (digits d n) ≤ k

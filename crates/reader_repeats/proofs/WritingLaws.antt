@@ -31,11 +31,6 @@ all-below n [] (suc i) h = tt
 all-below n (x ∷ w) zero h = (h 0 (omega arith) (omega arith), all-below n w zero (λ j p q. h (suc j) (omega arith) (omega arith)))
 all-below n (x ∷ w) (suc i) h = all-below n w i (λ j p q. h (suc j) (omega arith) (omega arith))
 
-below-take : (n m : ℕ) (w : List ℕ) → AllBelow n w → AllBelow n (take m w)
-below-take n zero w h = tt
-below-take n (suc m) [] h = tt
-below-take n (suc m) (x ∷ w) h = (h .0, below-take n m w (h .1))
-
 first-below : (n : ℕ) (w : List ℕ) → getD w 1 0 < n → AllBelow n (take 1 (drop 1 w))
 first-below n [] h = tt
 first-below n (x ∷ []) h = tt

@@ -68,6 +68,3 @@ module _ (doc : List ℕ) (k s v : ℕ) (m : k ≤ count doc) (l : Lower doc k s
 -- the last node is the Document, and none lies above it
 pub ancestors-last : (doc : List ℕ) → readOf doc ≡ Readable → ancestors doc (count doc) ≡ []
 ancestors-last doc r = above-last doc (readable doc r .nodes) 1024 (count doc) (omega arith)
-
-pub depth-last : (doc : List ℕ) → readOf doc ≡ Readable → depth doc (count doc) ≡ 1
-depth-last doc r = rw (ancestors-last doc r)

@@ -9,6 +9,7 @@ use native.Mathlib.Nat.{one-mul}
 use lib.Dec.{leb, ltb, eqb}
 use lib.ListN.{length, getD}
 use borrow.Author.Tests.{leb-true, ltb-true, eq-eqb, ne-eqb, lt-ltb, le-leb, lt-leb}
+use Rattle.words.proofs.Lists.{occurrences-append}
 use Rattle.words.specs.Loops.{every, total, joined, occurrences}
 use Rattle.words.proofs.Loops.{and-left, and-right}
 use Rattle.layout.specs.Layout.{count, part}
@@ -18,7 +19,7 @@ use Rattle.reader_rules.specs.Findings.{lowerAt}
 use Rattle.reader_rules.specs.LowerNodes.{lower, meaning}
 use Rattle.reader_rules.proofs.LowerNodes.{meaning-eq}
 use Rattle.reader_rules.proofs.Accepted.{Sound, Document, used-once}
-use Rattle.reader_rules.proofs.Occurrences.{AllIn, all-in-joined, all-in-map, sumOf, flat, flat-same, occurrences-append, occurrences-flat}
+use Rattle.reader_rules.proofs.Occurrences.{AllIn, all-in-joined, all-in-map, sumOf, flat, flat-same, occurrences-flat}
 use Rattle.reader_rules.proofs.Occurrences.{sum-joined, total-same, total-add, total-last, total-none, total-one, sum-count}
 
 abbrev Below : ℕ → ℕ → Type 0

@@ -1,7 +1,7 @@
 -- Stores that are alike have the same solutions.
 use mathlib.Core.Path.{_≡_, sym, subst, _∙_}
 use mathlib.Core.List.{List}
-use mathlib.Core.Logic.{inl, inr, ⊎-elim}
+use mathlib.Core.Logic.{⊎-elim}
 use Prim.Native.Nat.{ℕ, _+_, _-_, _≤_, _<_}
 use native.Mathlib.Omega.{arith}
 use lib.ListN.{length, getD}
@@ -10,8 +10,7 @@ use borrow.Author.Tests.{le-ltb}
 use Rattle.types_rules.specs.Equations.{Pairs}
 use Rattle.types_rules.specs.Follows.{unk}
 use Rattle.types_rules.specs.Types.{Ty}
-use Rattle.types_rules.specs.Words.{words}
-use Rattle.types_cells.specs.Store.{frozen, linkAt, Cell, view, Held, Solved}
+use Rattle.types_cells.specs.Store.{frozen, linkAt, Cell, view, Solved}
 use Rattle.types_cells.specs.Calls.{Above}
 use Rattle.types_cells.specs.Settled.{heap, wordAt, Reads, Readable, Pinned, Obeys, Fits}
 use Rattle.types_solver.specs.Answers.{SolutionOf}
@@ -20,22 +19,6 @@ use Rattle.types_cells.proofs.Reading.{reads-one}
 use Rattle.types_cells.proofs.Growing.{Agree, cell-agree, view-agree, solved-grow, load-same, lt-or-ge}
 use Rattle.types_instances.specs.Moved.{Below, AllBelow, StillRead, Alike}
 use Rattle.types_instances.proofs.Moving.{below-reads, moved-alike, moved-reads}
-
-pub alike-back : (s s′ : List ℕ) (n top : ℕ) → Alike s s′ n top → Alike s′ s n top
-alike-back s s′ n top A = record {
-  size = sym (A .size);
-  links = λ i l. sym (A .links i l);
-  fields = λ i j l m. sym (A .fields i j l m);
-  runs = λ p l m. sym (A .runs p l m);
-}
-
-pub alike-on : (s t u : List ℕ) (n top : ℕ) → Alike s t n top → Alike t u n top → Alike s u n top
-alike-on s t u n top A B = record {
-  size = B .size ∙ A .size;
-  links = λ i l. B .links i l ∙ A .links i l;
-  fields = λ i j l m. B .fields i j l m ∙ A .fields i j l m;
-  runs = λ p l m. B .runs p l m ∙ A .runs p l m;
-}
 
 view-past : (w : List ℕ) (n i : ℕ) → n ≤ i → view w n i ≡ unk
 unfolding view
@@ -137,27 +120,8 @@ module _ (s s′ : List ℕ) (n top : ℕ) (A : Alike s s′ n top) where
 pub still-read : (s s′ d : List ℕ) (n at : ℕ) → length s ≡ 52224 → length s′ ≡ 52224 → at ≤ 39936 → ((i : ℕ) → i < at → getD s′ i 0 ≡ getD s i 0) → AllBelow s d n at → StillRead s s′ d n
 still-read s s′ d n at e e′ r h B i m v g G = below-reads s s′ d at (wordAt s i - 1025) g e e′ r h (B i m v g G) G
 
-pub below-wider : (at at′ p : ℕ) (g : Ty) → at ≤ at′ → Below at p g → Below at′ p g
-below-wider at at′ p g l b = ⊎-elim (λ q. inl (let z : p + length (words g) ≤ at′ = omega arith in z)) (λ q. inr q) b
-
-pub all-below-wider : (s d : List ℕ) (n at at′ : ℕ) → at ≤ at′ → AllBelow s d n at → AllBelow s d n at′
-all-below-wider s d n at at′ l B i m v g G = below-wider at at′ (wordAt s i - 1025) g l (B i m v g G)
-
--- All runs end at or below the end of the area.
-pub above-all : (s : List ℕ) (n : ℕ) (L : Pairs ℕ) → Held s n L → Above (frozen s) n 6144
-above-all s n L H =
-    let e = frozen-length s (H .size) in
-    record {
-      low = omega arith;
-      parts = λ i m. let z = H .cells i m .room in omega arith;
-      names = λ i m q. let z = H .cells i m .named q in omega arith;
-    }
-
 -- The words ws written over the caller's part: the solver's store is the same, and where every settled type lies below them, so are its solutions.
 module _ (s : List ℕ) (at : ℕ) (ws : List ℕ) (size : length s ≡ 52224) (room : at + length ws ≤ 39936) (n : ℕ) where
-  pub moved-solved : (P₀ L : Pairs ℕ) → Solved s n P₀ L → Solved (sets s at ws) n P₀ L
-  moved-solved P₀ L S = alike-solved s (sets s at ws) n 6144 (moved-alike s at ws size room n 6144) P₀ L (above-all s n L (S .held)) S
-
   pub moved-still : (d : List ℕ) → AllBelow s d n at → StillRead s (sets s at ws) d n
   moved-still d B i m v g G = moved-reads s at ws size room d (wordAt s i - 1025) g (B i m v g G) G
 

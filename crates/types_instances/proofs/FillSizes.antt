@@ -1,7 +1,7 @@
 -- The size of a type with actuals for its parameters, part by part.
 use mathlib.Core.Path.{_≡_, sym, ap, subst, _∙_}
 use mathlib.Core.List.{List}
-use Prim.Native.Nat.{ℕ, suc, _+_, _≤_, _<_, _^_}
+use Prim.Native.Nat.{ℕ, suc, _+_, _≤_, _<_}
 use native.Mathlib.Omega.{arith}
 use lib.ListN.{length, getD}
 use Rattle.types_rules.specs.Former.{tag, identifiers}
@@ -16,18 +16,11 @@ use Rattle.types_cells.proofs.Reading.{rest-start, part-next, parts-are, tag-at
 use Rattle.types_solver.proofs.Marking.{cap-cases}
 use Rattle.types_solver.proofs.Summing.{cap-step, cap-small}
 use Rattle.types_instances.specs.Fill.{fill, fills}
-use Rattle.types_instances.specs.Filled.{Filling, FilledSize, FillWriting}
 use Rattle.types_instances.proofs.FillLaws.{fill-node}
 
 -- A size up to 32 is exact, and means at most 95 words.
 pub size-few : (g : Ty) (v : ℕ) → v ≡ cap (size g) → v ≤ 32 → (v ≡ size g) × (length (words g) ≤ 95)
 size-few g v e l = cap-cases (size g) _ (λ m q. let w = words-few g in (omega arith, omega arith)) (λ m q. absurd (omega arith))
-
--- `write_filled` may be asked for what `filled_size` finds up to 32.
-pub may-fill : (s d : List ℕ) (p : ℕ) (row : List ℕ) (v at : ℕ) → Filling s d p row → FilledSize s d p row v → v ≤ 32 → at < 2 ^ 39 → FillWriting s d p row at
-may-fill s d p row v at F S l r =
-    let q = size-few _ v (S .is (F .type) (F .actuals .types) (F .reads) (F .actuals .stand)) l .1 in
-    record { filling = F; room = omega arith }
 
 -- n parts, j passed; sum with the sizes of the others, filled, is m, up to 33.
 pub record Totalling (H : List ℕ) (hs : Tys) (w at n j sum m : ℕ) : Type 0 where

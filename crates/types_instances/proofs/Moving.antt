@@ -4,18 +4,16 @@ use mathlib.Core.List.{List, [], _∷_, _++_}
 use mathlib.Core.Logic.{⊎-elim}
 use Prim.Native.Nat.{ℕ, zero, suc, _+_, _≤_, _<_}
 use native.Mathlib.Omega.{arith}
-use lib.ListN.{length, getD, set, take, drop, length-set, take-append-drop}
-use lib.Seq.{sets, length-sets, getD-set-same, getD-set-other, getD-take, ext-getD, take-at}
+use lib.ListN.{length, getD, set, drop, length-set, take-append-drop}
+use lib.Seq.{sets, length-sets, getD-set-same, getD-set-other, getD-take, ext-getD}
 use Rattle.types_rules.specs.Types.{Ty}
 use Rattle.types_rules.specs.Formed.{WellFormed}
 use Rattle.types_rules.specs.Words.{words}
-use Rattle.types_cells.specs.Store.{frozen, linkAt, fieldAt, run}
+use Rattle.types_cells.specs.Store.{frozen, fieldAt, run}
 use Rattle.types_cells.specs.Settled.{lower, heap, wordAt, Reads}
-use Rattle.types_solver.specs.Sizes.{markAt}
-use Rattle.types_solver.specs.Written.{Wrote}
-use Rattle.types_cells.proofs.Words.{run-at, run-length, link-same, frozen-length}
+use Rattle.types_cells.proofs.Words.{run-at, run-length, frozen-length}
 use Rattle.types_cells.proofs.Reading.{word-in, inside, heap-length, heap-low, heap-high}
-use Rattle.types_cells.proofs.Growing.{frozen-at, run-frame}
+use Rattle.types_cells.proofs.Growing.{frozen-at}
 use Rattle.types_instances.specs.Moved.{Below, Alike}
 
 -- Writing leaves what lies before and after.
@@ -43,12 +41,6 @@ sets-run l at ws r =
     let e = run-length (sets l at ws) at (length ws) (omega arith) in
     ext-getD 0 (run (sets l at ws) at (length ws)) ws e (λ j q. let y : j < length ws = omega arith in run-at (sets l at ws) at (length ws) j y ∙ sets-in l at ws j r y)
 
--- Words stay where later ones are written after them.
-pub run-before : (l : List ℕ) (at : ℕ) (ws : List ℕ) (p k : ℕ) → p + k ≤ at → p + k ≤ length l → run (sets l at ws) p k ≡ run l p k
-run-before l at ws p k b r =
-    let z = length-sets l at ws in
-    run-frame l (sets l at ws) p k r (omega arith) (λ i m q. sets-before l at ws i (omega arith))
-
 pub lower-at : (s : List ℕ) (i : ℕ) → i < 39936 → getD (lower s) i 0 ≡ getD s i 0
 unfolding lower
 lower-at s i l = getD-take 39936 s i 0 l
@@ -68,16 +60,6 @@ reads-at H p g w r h =
       after = drop (length (words g)) (drop p H);
       words-at = sym (take-append-drop (length (words g)) (drop p H)) ∙ ap (λ z. z ++ drop (length (words g)) (drop p H)) q;
     }
-
--- The words that are read.
-pub reads-run : (H : List ℕ) (p : ℕ) (g : Ty) → Reads H p g → run H p (length (words g)) ≡ words g
-unfolding run
-reads-run H p g R = ap (take (length (words g))) (R .words-at) ∙ take-at (words g) (R .after) (length (words g)) refl
-
-pub wrote-reads : (out out′ : List ℕ) (at e : ℕ) (g : Ty) → WellFormed g → at + length (words g) ≤ length out → Wrote out out′ at e (words g) → Reads out′ at g
-wrote-reads out out′ at e g w r W =
-    let z = ap length (W .area) ∙ length-sets out at (words g) in
-    reads-at out′ at g w (omega arith) (λ j l. ap (λ o. getD o (at + j) 0) (W .area) ∙ sets-in out at (words g) j r l)
 
 -- Two areas that have the same words below `at` read the same types there, and in the dictionary.
 pub below-reads : (s s′ d : List ℕ) (at p : ℕ) (g : Ty) → length s ≡ 52224 → length s′ ≡ 52224 → at ≤ 39936 → ((i : ℕ) → i < at → getD s′ i 0 ≡ getD s i 0) → Below at p g →
@@ -114,13 +96,6 @@ module _ (s : List ℕ) (at : ℕ) (ws : List ℕ) (size : length s ≡ 52224) (
   unfolding wordAt
   moved-word i = moved-high (39936 + i) (omega arith)
 
-  pub moved-link : (i : ℕ) → linkAt s′ i ≡ linkAt s i
-  moved-link i = link-same s s′ i i (moved-high (39936 + i) (omega arith))
-
-  pub moved-mark : (i : ℕ) → markAt s′ i ≡ markAt s i
-  unfolding markAt
-  moved-mark i = moved-high (40960 + i) (omega arith)
-
   pub moved-alike : (n top : ℕ) → Alike s s′ n top
   moved-alike n top = record {
     size = moved-size;
@@ -132,17 +107,6 @@ module _ (s : List ℕ) (at : ℕ) (ws : List ℕ) (size : length s ≡ 52224) (
   -- Types below `at`, and in the dictionary, are still read.
   pub moved-reads : (d : List ℕ) (p : ℕ) (g : Ty) → Below at p g → Reads (heap s d) p g → Reads (heap s′ d) p g
   moved-reads d p g b R = below-reads s s′ d at p g size (moved-size ∙ size) (omega arith) (λ i l. sets-before s at ws i l) b R
-
-  -- A type that stands in ws is read at its new place.
-  pub moved-part : (d : List ℕ) (o : ℕ) (g : Ty) → Reads ws o g → Reads (heap s′ d) (at + o) g
-  moved-part d o g R =
-      let i = inside ws o g R in
-      let e′ = moved-size ∙ size in
-      let z = heap-length s′ d e′ in
-      reads-at (heap s′ d) (at + o) g (R .formed) (omega arith)
-      (λ j l.
-      let e : at + o + j ≡ at + (o + j) = omega arith in
-      heap-low s′ d (at + o + j) e′ (omega arith) ∙ ap (λ k. getD s′ k 0) e ∙ sets-in s at ws (o + j) (omega arith) (omega arith) ∙ word-in ws o g R j l)
 
   pub moved-new : (d : List ℕ) (g : Ty) → WellFormed g → ws ≡ words g → Reads (heap s′ d) at g
   moved-new d g w e =

@@ -1,5 +1,5 @@
 -- A row of places, its types, and what a parameter becomes.
-use mathlib.Core.Path.{_≡_, refl, sym, ap, ap₂, subst, _∙_}
+use mathlib.Core.Path.{_≡_, refl, sym, ap, subst, _∙_}
 use mathlib.Core.List.{List, [], _∷_}
 use mathlib.Core.Option.{some, none}
 use Prim.Native.Nat.{ℕ, zero, suc, _+_, _≤_, _<_}
@@ -10,7 +10,7 @@ use Rattle.types_rules.specs.Types.{Ty, Tys, node, tnil, tcons, size}
 use Rattle.types_rules.specs.Formed.{partCountType, FormedType, FormedTypes, Arity, WellFormed}
 use Rattle.types_rules.specs.Words.{second, words, partWords}
 use Rattle.types_cells.specs.Settled.{Reads}
-use Rattle.types_cells.proofs.Reading.{reads-one, tag-at, second-at}
+use Rattle.types_cells.proofs.Reading.{tag-at, second-at}
 use Rattle.types_instances.specs.Fill.{nthType, actualType, fillFormer, fill, fills}
 use Rattle.types_instances.specs.Filled.{Row, placeOf}
 use Rattle.types_instances.proofs.FillLaws.{fill-formed}
@@ -38,15 +38,6 @@ row-some H (x ∷ row) tnil i q R e = absurd R
 row-some H (x ∷ row) (tcons h hs) zero q R e = absurd (omega arith)
 row-some H (x ∷ row) (tcons h hs) (suc zero) q R e = record { type = h; is = refl; reads = subst (λ z. Reads H z h) (let y : x ≡ q = omega arith in y) (R .0) }
 row-some H (x ∷ row) (tcons h hs) (suc (suc i)) q R e = let G = row-some H row hs (suc i) q (R .1) e in record { type = G .type; is = G .is; reads = G .reads }
-
--- The row's places fix its types, and these are well-formed.
-pub row-one : (H row : List ℕ) (hs ks : Tys) → Row H row hs → Row H row ks → hs ≡ ks
-row-one H [] tnil tnil R S = refl
-row-one H [] tnil (tcons k ks) R S = absurd S
-row-one H [] (tcons h hs) ks R S = absurd R
-row-one H (q ∷ row) tnil ks R S = absurd R
-row-one H (q ∷ row) (tcons h hs) tnil R S = absurd S
-row-one H (q ∷ row) (tcons h hs) (tcons k ks) R S = ap₂ tcons (reads-one H q h k (R .0) (S .0)) (row-one H row hs ks (R .1) (S .1))
 
 row-formed : (H row : List ℕ) (hs : Tys) → Row H row hs → FormedTypes Arity hs
 unfolding FormedType

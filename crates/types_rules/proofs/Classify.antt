@@ -9,14 +9,14 @@ use mathlib.Core.Path.{_∙_, _≡_, ap, ap₂, refl, subst, sym}
 use native.Mathlib.Omega.{arith}
 use Rattle.types_rules.proofs.Finite.{all-at, all-of, depth, finite-bounded, solution, solution-sat}
 use Rattle.types_rules.proofs.Follows.{apart-clash, enough, links-in, merged-closed, merged-no-clash, rep-in}
-use Rattle.types_rules.proofs.Rational.{Says, outer-says, rep-sat}
+use Rattle.types_rules.proofs.Rational.{Says, outer-says, rep-sat, shape-1}
 use Rattle.types_rules.proofs.Solutions.{tcons-0, tcons-1, node-0, node-1}
 use Rattle.types_rules.proofs.Terms.{and-i, and-l, and-r, bool-no, former-refl, same-true}
 use Rattle.types_rules.specs.Classes.{rep}
-use Rattle.types_rules.specs.Classify.{Out, Right, Solvable, Verdict, apart, clashing, classify, endless, join, judge, mergeLevels, merged, sameTerm, sameTerms, solvable, spent, subs, subss, toList, univ, viewTerm}
+use Rattle.types_rules.specs.Classify.{Out, Right, Solvable, Verdict, apart, classify, endless, join, judge, mergeLevels, merged, sameTerm, sameTerms, solvable, spent, subs, subss, toList, univ, viewTerm}
 use Rattle.types_rules.specs.Equations.{AllP, In, Pairs, Solves, end, pair}
 use Rattle.types_rules.specs.Finite.{allb, bounded, fromList, typeOf}
-use Rattle.types_rules.specs.Follows.{Clash, shape}
+use Rattle.types_rules.specs.Follows.{shape}
 use Rattle.types_rules.specs.Former.{Former, int, sameFormer}
 use Rattle.types_rules.specs.Types.{Term, Terms, Ty, con, cons, nil, node, size, tcons, tnil, under, unders, unknown}
 
@@ -76,9 +76,6 @@ unfolding toList subs
 kid-in c nil i = absurd i
 kid-in c (cons t ts) (inl e) = in-l c (subs t) (subss ts) (subst (λ z. In z (subs t)) (sym e) (self-in t))
 kid-in c (cons t ts) (inr i) = in-r c (subs t) (subss ts) (kid-in c ts i)
-
-shape-1 : (h k : Former) (cs ds : List Term) → shape h cs ≡ shape k ds → cs ≡ ds
-shape-1 h k cs ds q = cc
 
 abbrev Kids : List Term → Type 0
 Kids l = (n : Term) (h : Former) (cs : List Term) → In n l → viewTerm n ≡ shape h cs → (c : Term) → In c cs → In c l
@@ -215,7 +212,3 @@ module _ (P : Pairs Term) where
 pub classify-right : (P : Pairs Term) → Right P (classify P)
 unfolding classify
 classify-right P = judge-right P _ refl
-
--- The verdict in the document's words.
-pub is-33 : (P : Pairs Term) → classify P ≡ clashing → Clash viewTerm P
-is-33 P e = subst (Right P) e (classify-right P) .0

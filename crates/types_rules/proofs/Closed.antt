@@ -4,7 +4,7 @@ use mathlib.Core.Bool.{Bool, false, true}
 use mathlib.Core.List.{List, map}
 use mathlib.Core.Option.{Option, none, some}
 use mathlib.Core.Path.{_∙_, _≡_, ap, refl, subst, sym}
-use Rattle.types_rules.proofs.Rational.{ZipSpec, rep-sat, swap-cases, swap-hit, swap-miss, zip-spec}
+use Rattle.types_rules.proofs.Rational.{ZipSpec, rep-sat, shape-0, shape-1, swap-cases, swap-hit, swap-miss, zip-spec}
 use Rattle.types_rules.proofs.Terms.{same-true}
 use Rattle.types_rules.specs.Classes.{Closed, Shape, Wf, rep, swap, zipN}
 use Rattle.types_rules.specs.Classify.{Out, apart, both, meet, mergeLevel, mergeLevels, merged, spent, turn}
@@ -141,12 +141,6 @@ module _ (N : Type 0) (same : N → N → Bool) (same-eq : (a b : N) → same a 
     unfolding mergeLevels
     outer-fine zero L P C = inner-fine (λ L′ P′. spent) (λ L′ P′ C′. tt) L P C
     outer-fine (suc k) L P C = inner-fine (λ L′ P′. mergeLevels same view k L′ P′) (λ L′ P′ C′. outer-fine k L′ P′ C′) L P C
-
-    shape-0 : (h k : Former) (cs ds : List N) → shape h cs ≡ shape k ds → h ≡ k
-    shape-0 h k cs ds q = cc
-
-    shape-1 : (h k : Former) (cs ds : List N) → shape h cs ≡ shape k ds → cs ≡ ds
-    shape-1 h k cs ds q = cc
 
     pub closed-start : Closed same view P₀ end P₀
     unfolding rep

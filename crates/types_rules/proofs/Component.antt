@@ -1,15 +1,13 @@
 -- Laws of components.
-use Prim.Native.Nat.{ℕ, zero, suc}
+use Prim.Native.Nat.{ℕ}
 use lib.Dec.{eqb}
 use mathlib.Core.Bool.{Bool, true, false}
 use mathlib.Core.List.{List, [], _∷_}
 use mathlib.Core.Option.{Option, some, none}
-use mathlib.Core.Path.{_≡_, refl, ap, ap₂, _∙_, subst}
+use mathlib.Core.Path.{_≡_, refl, ap, subst}
 use native.Mathlib.Omega.{arith}
-use Rattle.types_rules.specs.Former.{Former, int, given, parameter, power, product, binding, identifiers}
-use Rattle.types_rules.specs.Types.{Ty, Tys, node, tnil, tcons, Term, Terms, unknown, con, nil, cons, under, unders, Each, Eachs, ℤ}
-use Rattle.types_rules.specs.Substitution.{Substitution, Respects, resolve}
-use Rattle.types_rules.proofs.Solutions.{resolve-eq}
+use Rattle.types_rules.specs.Former.{identifiers}
+use Rattle.types_rules.specs.Types.{Ty, Term, Terms, unknown, con, nil, cons, under, unders, Each, Eachs, ℤ}
 use Rattle.types_rules.specs.Component.{pick, pickType, component, componentType}
 
 some-inj : (a b : Term) → some a ≡ some b → a ≡ b
@@ -62,7 +60,3 @@ pub component-each : (P : ℕ → Type 0) (c : ℕ) (t u : Term) → Each P t �
 unfolding component Each
 component-each P c (unknown x) u h e = let z : _≡_ {A = ℕ} 0 1 = cc in absurd (omega arith)
 component-each P c (con k ts) u h e = pick-each P c (identifiers k) ts u h e
-
--- Select: in every solution the component of t has the type u that the resolved t gives.
-pub select-type : (s : Substitution) (t u : Term) (c : ℕ) → component c (resolve s t) ≡ some u → (σ : ℕ → Ty) → Respects σ s → componentType c (under σ t) ≡ some (under σ u)
-select-type s t u c e σ q = subst (λ g. componentType c g ≡ some (under σ u)) (resolve-eq σ s t q) (component-under σ c (resolve s t) u e)

@@ -1,16 +1,16 @@
 -- THE UNIFIER'S LAWS, as the checker and the solver use them. A state `State N vs s` has the unknowns N, of which vs are left open by the substitution s.
 use Prim.Native.Nat.{ℕ}
 use mathlib.Core.Bool.{Bool, true, false}
-use mathlib.Core.List.{List, [], _∷_}
+use mathlib.Core.List.{List}
 use mathlib.Core.Logic.{_↔_, _⊎_, inl, inr}
-use mathlib.Core.Path.{_≡_, refl, sym, subst, _∙_}
-use Rattle.types_rules.specs.Types.{Ty, Term, unknown, under, Each, ℤ}
+use mathlib.Core.Path.{_≡_, refl, subst}
+use Rattle.types_rules.specs.Types.{Ty, Term, under, Each, ℤ}
 use Rattle.types_rules.specs.Substitution.{Substitution, Respects, resolve, ground, sol, State}
 use Rattle.types_rules.specs.Unify.{Outcome, ok, clash, cycle, stuck, unify, Spec, Good}
 use Rattle.types_rules.specs.Component.{has, hasType}
 use Rattle.types_rules.proofs.Terms.{bool-no}
 use Rattle.types_rules.proofs.Solutions.{unify-spec}
-use Rattle.types_rules.proofs.States.{unify-state, sol-sat, unique, several, select-yes, select-no, none-open, some-open, member-head}
+use Rattle.types_rules.proofs.States.{unify-state, sol-sat, unique, several, select-yes, select-no}
 
 -- The solutions of a state, and those that also solve a = b.
 abbrev pub Both : Substitution → Term → Term → (ℕ → Ty) → Type 0
@@ -61,12 +61,3 @@ every-component N vs s t c h e = (λ q σ p. select-yes s t c q σ p, λ f. back
     back : (b : Bool) → has c (resolve s t) ≡ b → ((σ : ℕ → Ty) → Respects σ s → hasType c (under σ t) ≡ true) → b ≡ true
     back true q f = refl
     back false q f = let w = select-no N vs s t c h e q in absurd (bool-no (hasType c (under (w .0) t)) (f (w .0) (w .1)) (w .2))
-
--- All unknowns at once: some are open exactly where the state lists one.
-pub none-left : (N : ℕ → Type 0) (s : Substitution) (x : ℕ) → State N [] s → N x → (σ τ : ℕ → Ty) → Respects σ s → Respects τ s → σ x ≡ τ x
-unfolding under Each
-none-left N s x h n σ τ p q = unique s (unknown x) (none-open N s (unknown x) h n) σ τ p q
-
-pub some-left : (N : ℕ → Type 0) (y : ℕ) (vs : List ℕ) (s : Substitution) → State N (y ∷ vs) s → Several s (unknown y)
-unfolding Each
-some-left N y vs s h = open-several N (y ∷ vs) s (unknown y) h (h .sub y (member-head y vs)) .0 (some-open N y vs s h)

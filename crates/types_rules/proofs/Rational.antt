@@ -121,3 +121,10 @@ module _ (N : Type 0) (same : N → N → Bool) (same-eq : (a b : N) → same a 
     unfolding mergeLevels
     outer-says zero L P = inner-says (λ L′ P′. spent) (λ L′ P′. tt) L P
     outer-says (suc k) L P = inner-says (λ L′ P′. mergeLevels same view k L′ P′) (λ L′ P′. outer-says k L′ P′) L P
+
+-- The former and the parts of a shape are its own.
+pub shape-0 : {N : Type 0} (h k : Former) (cs ds : List N) → shape h cs ≡ shape k ds → h ≡ k
+shape-0 h k cs ds q = cc
+
+pub shape-1 : {N : Type 0} (h k : Former) (cs ds : List N) → shape h cs ≡ shape k ds → cs ≡ ds
+shape-1 h k cs ds q = cc

@@ -5,16 +5,15 @@ use lib.Dec.{eqb}
 use lib.ListN.{length}
 use mathlib.Core.Bool.{Bool, false, true}
 use mathlib.Core.List.{List, [], _∷_}
-use mathlib.Core.Logic.{_≢_}
 use mathlib.Core.Option.{Option, none, some}
 use mathlib.Core.Path.{_∙_, _≡_, ap, refl, subst, sym}
 use native.Mathlib.Omega.{arith}
 use Rattle.types_rules.proofs.Solutions.{resolve-eq, tcons-0, tcons-1, node-1}
-use Rattle.types_rules.proofs.Terms.{and-i, and-l, and-r, under-ext, bool-no, each-both, each-map, each-put, occurs-no, or-split, update-other, update-same}
+use Rattle.types_rules.proofs.Terms.{and-l, and-r, under-ext, bool-no, each-both, each-map, each-put, occurs-no, or-split, update-other, update-same}
 use Rattle.types_rules.specs.Component.{has, hasType}
 use Rattle.types_rules.specs.Equations.{Pairs, end, pair}
 use Rattle.types_rules.specs.Former.{and, identifiers, sameFormer}
-use Rattle.types_rules.specs.Substitution.{Base, Dom, Respects, State, Substitution, Tri, bind, empty, ground, grounds, member, occurs, occursAny, or, replace, resolve, sol, update, without}
+use Rattle.types_rules.specs.Substitution.{Base, Respects, State, Substitution, Tri, bind, empty, ground, grounds, member, occurs, occursAny, or, resolve, sol, update, without}
 use Rattle.types_rules.specs.Types.{Each, Eachs, Term, Terms, Ty, con, cons, nil, termSize, termSizes, under, unders, unknown, ℙℤ, ℤ}
 use Rattle.types_rules.specs.Unify.{EachE, Good, Next, Outcome, flex, isUnknown, replaceAll, rigid, stuck, unify, unifyLevel, unifyLevels, unifyStep, weight, zipTerms}
 
@@ -116,38 +115,6 @@ state-bind N vs s x t m e o h = record {
 
     from : (y : ℕ) → (eqb y x ≡ false → member y (without x vs) ≡ true) → member y vs ≡ true
     from y f = decide (eqb y x) _ (λ q. subst (λ z. member z vs ≡ true) (sym (eqb-true y x q)) m) (λ q. member-without x y vs (f q))
-
--- One more unknown.
-tri-more : (N F K : ℕ → Type 0) (s : Substitution) → Dom N s → ((y : ℕ) → F y → K y) → ((y : ℕ) → N y → K y → F y) → Tri F s → Tri K s
-tri-more N F K empty d f g h = tt
-tri-more N F K (bind x t s) d f g h =
-    (λ q. h .0 (g x (d .0) q), each-map F K f t (h .1), tri-more N _ _ s (d .1) (λ y q e. f y (q e)) (λ y n q e. g y n (q e)) (h .2))
-
-base-free : (F : ℕ → Type 0) (s : Substitution) (y : ℕ) → F y → Base F s y
-base-free F empty y f = f
-base-free F (bind x t s) y f = base-free _ s y (λ e. f)
-
-dom-map : (N M : ℕ → Type 0) (s : Substitution) → ((y : ℕ) → N y → M y) → Dom N s → Dom M s
-dom-map N M empty f d = tt
-dom-map N M (bind x t s) f d = (f x (d .0), dom-map N M s f (d .1))
-
-pub fresh : (n : ℕ) (vs : List ℕ) (s : Substitution) → State (λ y. y < n) vs s → State (λ y. y < suc n) (n ∷ vs) s
-unfolding member
-fresh n vs s h = record {
-  tri = tri-more (λ y. y < n) _ _ s (h .dom) (λ y q. or-true-r (eqb n y) (member y vs) q)
-      (λ y l q. or-split (eqb n y) (member y vs) q _ (λ e. absurd (omega (arith, eqb-true n y e))) (λ e. e)) (h .tri);
-  dom = dom-map _ _ s (λ y l. omega arith) (h .dom);
-  sub = λ y q. or-split (eqb n y) (member y vs) q _ (λ e. omega (arith, eqb-true n y e)) (λ e. omega (arith, h .sub y e));
-  all = λ y l. decide (eqb n y) _
-      (λ e. base-free _ s y (or-true-l (eqb n y) (member y vs) e))
-      (λ e. base-map _ _ s (λ z q. or-true-r (eqb n z) (member z vs) q) y (h .all y (below n y l (λ q. eqb-false n y e q))));
-}
-  where
-    below : (n y : ℕ) → y < suc n → (n ≡ y → ⊥) → y < n
-    below n y l q = omega (arith, sym-ne n y q)
-      where
-        sym-ne : (n y : ℕ) → (n ≡ y → ⊥) → y ≢ n
-        sym-ne n y q e = q (sym e)
 
 pub start : State (λ y. y < 0) [] empty
 start = record { tri = tt; dom = tt; sub = λ y q. absurd (unfold member in bool-no false q refl); all = λ y l. absurd (omega arith) }
@@ -356,35 +323,6 @@ pub select-no : (N : ℕ → Type 0) (vs : List ℕ) (s : Substitution) (t : Ter
 select-no N vs s t c h e g =
     let one : ℕ → Ty = λ y. ℤ in
     (sol one s, sol-sat N vs s h one, subst (λ z. hasType c z ≡ false) (sym (sol-at N vs s t h e one)) (has-no c (resolve s t) g))
-
--- All the unknowns at once: the solutions are one exactly where no unknown is free.
-mutual
-  unfolding ground Each
-
-  each-ground : (t : Term) → Each (λ y. ⊥) t → ground t ≡ true
-  each-ground (unknown x) e = absurd e
-  each-ground (con h ts) e = eachs-ground ts e
-
-  eachs-ground : (ts : Terms) → Eachs (λ y. ⊥) ts → grounds ts ≡ true
-  eachs-ground nil e = refl
-  eachs-ground (cons t ts) e = and-i (ground t) (grounds ts) (each-ground t (e .0)) (eachs-ground ts (e .1))
-
-pub none-open : (N : ℕ → Type 0) (s : Substitution) (t : Term) → State N [] s → Each N t → ground (resolve s t) ≡ true
-unfolding member
-none-open N s t h e = each-ground (resolve s t) (each-map _ _ (λ y q. bool-no false q refl) (resolve s t) (resolve-free N [] s t h e))
-
-replace-miss : (x : ℕ) (u : Term) (y : ℕ) → eqb y x ≡ false → replace x u (unknown y) ≡ unknown y
-unfolding replace
-replace-miss x u y e = ap (λ b. elim b as (λ c. Term) [ true ↦ u | false ↦ unknown y ]) e
-
-resolve-self : (F : ℕ → Type 0) (s : Substitution) (y : ℕ) → Tri F s → F y → resolve s (unknown y) ≡ unknown y
-unfolding resolve
-resolve-self F empty y h f = refl
-resolve-self F (bind x u s) y h f = ap (replace x u) (resolve-self _ s y (h .2) (λ e. f)) ∙ replace-miss x u y (ne-eqb y x (λ q. h .0 (subst F q f)))
-
-pub some-open : (N : ℕ → Type 0) (y : ℕ) (vs : List ℕ) (s : Substitution) → State N (y ∷ vs) s → ground (resolve s (unknown y)) ≡ false
-unfolding member ground
-some-open N y vs s h = ap ground (resolve-self _ s y (h .tri) (or-true-l (eqb y y) (member y vs) (eq-eqb y y refl)))
 
 pub member-head : (y : ℕ) (vs : List ℕ) → member y (y ∷ vs) ≡ true
 unfolding member

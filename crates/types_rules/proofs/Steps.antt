@@ -5,10 +5,10 @@ use mathlib.Core.List.{List, map}
 use mathlib.Core.Path.{_∙_, _≡_, ap, refl, subst, sym}
 use native.Mathlib.Omega.{arith}
 use Rattle.types_rules.proofs.Finite.{all-at, map-same, solution-unknown}
-use Rattle.types_rules.proofs.Rational.{swap-cases, swap-miss}
+use Rattle.types_rules.proofs.Rational.{shape-0, shape-1, swap-cases, swap-miss}
 use Rattle.types_rules.proofs.Terms.{bool-no}
 use Rattle.types_rules.specs.Classes.{Closed, Shape, rep, swap}
-use Rattle.types_rules.specs.Equations.{AllP, In, Pairs, end, pair}
+use Rattle.types_rules.specs.Equations.{AllP, Pairs, end, pair}
 use Rattle.types_rules.specs.Finite.{bounded, boundedView, fromList, typeOf}
 use Rattle.types_rules.specs.Follows.{View, shape, unk}
 use Rattle.types_rules.specs.Former.{Former, int, power}
@@ -57,12 +57,6 @@ module _ (N : Type 0) (same : N → N → Bool) (same-eq : (a b : N) → same a 
       covers = C .covers;
     }
       where
-        shape-0 : (h k : Former) (cs ds : List N) → shape h cs ≡ shape k ds → h ≡ k
-        shape-0 h k cs ds q = cc
-
-        shape-1 : (h k : Former) (cs ds : List N) → shape h cs ≡ shape k ds → cs ≡ ds
-        shape-1 h k cs ds q = cc
-
         Sh : View N → Type 0
         Sh w = Shape w
 
@@ -80,17 +74,6 @@ module _ (N : Type 0) (same : N → N → Bool) (same-eq : (a b : N) → same a 
             by false false e e′ = g (sym (new-rep L hl n e) ∙ q ∙ new-rep L hl m e′)
 
 module _ {N : Type 0} (r : N → N) (view : N → View N) where
-  -- Nodes that each have such a node below them have no bounded depth: what is left unmarked at the end is in no finite solution.
-  boundedView-no : (X : N → Type 0) (f : N → Bool) → ((c : N) → X c → f c ≡ true → ⊥) → (h : Former) (cs : List N) (c : N) → In c cs → X c → (v : View N) → v ≡ shape h cs → boundedView f v ≡ true → ⊥
-  unfolding boundedView
-  boundedView-no X f k h cs c i x unk e q = let z : _≡_ {A = ℕ} 0 1 = cc in omega arith
-  boundedView-no X f k h cs c i x (shape g ds) e q = let p : ds ≡ cs = cc in k c x (all-at f ds q c (subst (In c) (sym p) i))
-
-  pub stuck-no : (X : N → Type 0) → ((n : N) → X n → (h : Former) × (cs : List N) × (c : N) × (view (r n) ≡ shape h cs) × In c cs × X c) → (d : ℕ) (n : N) → X n → bounded r view d n ≡ true → ⊥
-  unfolding bounded
-  stuck-no X k zero n x q = bool-no false q refl
-  stuck-no X k (suc d) n x q = let w = k n x in boundedView-no X _ (λ c y e. stuck-no X k d c y e) (w .0) (w .1) (w .2) (w .4) (w .5) (view (r n)) (w .3) q
-
   -- Where no class is unknown, solutions are one.
   module _ (known : (n : N) → view (r n) ≡ unk → ⊥) (σ τ : N → Ty) (fσ : (n : N) (h : Former) (cs : List N) → view n ≡ shape h cs → σ n ≡ node h (fromList (map σ cs)))
       (fτ : (n : N) (h : Former) (cs : List N) → view n ≡ shape h cs → τ n ≡ node h (fromList (map τ cs))) (bσ : (n : N) → σ (r n) ≡ σ n) (bτ : (n : N) → τ (r n) ≡ τ n) where

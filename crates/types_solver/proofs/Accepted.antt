@@ -1,30 +1,25 @@
 -- How the calls fit together: an empty store, and an accepted one.
 use mathlib.Core.Path.{_≡_, refl, sym, ap, subst, _∙_}
-use mathlib.Core.Bool.{true, false}
-use mathlib.Core.List.{List, [], _∷_, _++_}
-use Prim.Native.Nat.{ℕ, zero, suc, _+_, _*_, _-_, _≤_, _<_, _^_}
+use mathlib.Core.Bool.{true}
+use mathlib.Core.List.{List}
+use Prim.Native.Nat.{ℕ, _-_, _≤_}
 use native.Mathlib.Omega.{arith}
-use mathlib.Core.Logic.{⊎-elim}
 use lib.Dec.{eqb}
 use lib.ListN.{length}
 use borrow.Author.Tests.{eqb-true, eqb-false}
 use Rattle.types_rules.proofs.Classify.{build}
 use Rattle.types_rules.proofs.Closed.{closed-start}
 use Rattle.types_rules.proofs.Transfer.{follows-holds}
-use Rattle.types_rules.specs.Classes.{rep}
 use Rattle.types_rules.specs.Equations.{Pairs, end}
 use Rattle.types_rules.specs.Types.{Ty, size}
-use Rattle.types_rules.specs.Words.{words}
-use Rattle.types_cells.specs.Store.{frozen, tagAt, linkAt, view, load, Held, Solved}
+use Rattle.types_cells.specs.Store.{frozen, tagAt, view, load, Held, Solved}
 use Rattle.types_cells.specs.Settled.{heap, wordAt, Reads, Readable, Pinned, Obeys, Fits}
-use Rattle.types_solver.specs.Sizes.{cap, markAt, Sized, Same, Tested, Model, Least, Measured}
-use Rattle.types_solver.specs.Answers.{SolutionOf, Left}
-use Rattle.types_solver.specs.Written.{Resolved, Writing}
+use Rattle.types_solver.specs.Sizes.{markAt, Sized, Same, Tested, Model, Least}
+use Rattle.types_solver.specs.Answers.{SolutionOf}
+use Rattle.types_solver.specs.Written.{Resolved}
 use Rattle.types_cells.proofs.LinkLaws.{stop-rep}
 use Rattle.types_cells.proofs.Solutions.{mk-c, sat-all}
 use Rattle.types_cells.proofs.SettlingLaws.{heap-kept}
-use Rattle.types_cells.proofs.Growing.{lt-or-ge}
-use Rattle.types_solver.proofs.Sizing.{high}
 
 -- Any area of 52,224 words is a store with no cells.
 pub start : (s : List ℕ) → length s ≡ 52224 → Solved s 0 end end
@@ -83,27 +78,3 @@ least s n L H R σ i l t k v =
     let q = stop-rep s n L H i l k in
     let z = R i l (ap (tagAt (frozen s)) q ∙ t) in
     let y : 1025 ≤ wordAt s i = subst (λ u. 1025 ≤ wordAt s u) q z in absurd (omega arith)
-
--- `finite` true, nothing left open: the size that `cell_size` gives is that of the cell's type in every solution (finding 38), and `write` may be asked for up to 32.
-module _ (s s′ d : List ℕ) (n : ℕ) (T : Tested s s′ n true) (Z : Left s′ n false) (P₀ L : Pairs ℕ) (S : Solved s n P₀ L) (P : Pinned s d n) (X : SolutionOf s d n P₀) where
-  abbrev M : Model s′ d n L (X .σ)
-  M = model s s′ d n T P₀ L S P X
-
-  pub resolved : Resolved s′ n L
-  resolved = Z .resolved refl L (T .grown P₀ L S .held)
-
-  pub measured : (i v : ℕ) → Measured s′ d i v → i < n → v ≡ cap (size (X .σ i))
-  measured i v K l = K .is n L (X .σ) M (least s′ n L (T .grown P₀ L S .held) resolved (X .σ)) l
-
-  pub may-write : (i v at : ℕ) → Measured s′ d i v → i < n → v ≤ 32 → length d < 2 ^ 31 → at + length (words (X .σ i)) < 2 ^ 40 → Writing s′ d at i
-  may-write i v at K l q f r = record {
-    n = n;
-    L = L;
-    σ = X .σ;
-    model = M;
-    resolved = resolved;
-    made = l;
-    few = f;
-    small = ⊎-elim (λ z. omega arith) (λ z. let a = high s′ d n L (X .σ) M i l (omega arith) in let b = measured i v K l in absurd (omega arith)) (lt-or-ge (markAt s′ i) 33);
-    room = r;
-  }

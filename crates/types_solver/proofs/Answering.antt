@@ -1,36 +1,21 @@
 -- Findings 34 and 35: what the scans say of solutions.
 use mathlib.Core.Path.{_≡_, sym, _∙_}
 use mathlib.Core.List.{List, map}
-use Prim.Native.Nat.{ℕ, _-_, _<_}
-use native.Mathlib.Omega.{arith}
+use Prim.Native.Nat.{ℕ, _<_}
 use lib.Dec.{eqb}
 use Rattle.types_rules.specs.Classes.{rep}
 use Rattle.types_rules.specs.Equations.{Pairs}
 use Rattle.types_rules.specs.Finite.{fromList}
-use Rattle.types_rules.specs.Follows.{View}
-use Rattle.types_rules.specs.Former.{Former, binding, int}
-use Rattle.types_rules.specs.Types.{Tys, node}
-use Rattle.types_cells.specs.Store.{frozen, tagAt, partsAt, formerAt, view, Solved}
+use Rattle.types_rules.specs.Types.{node}
+use Rattle.types_cells.specs.Store.{frozen, tagAt, partsAt, formerAt, Solved}
 use Rattle.types_solver.specs.Sizes.{Solution}
 use Rattle.types_cells.proofs.LinkLaws.{rep-below}
 use Rattle.types_cells.proofs.Heads.{view-shape}
 use Rattle.types_solver.proofs.Marking.{by-rep}
 
-node-inj : (h k : Former) (a b : Tys) → node h a ≡ node k b → h ≡ k
-node-inj h k a b q = cc
-
-int-no : (l : List ℕ) → int ≡ binding l → ⊥
-int-no l q = let z : _≡_ {A = ℕ} 0 1 = cc in omega arith
-
-binding-inj : (l m : List ℕ) → binding l ≡ binding m → l ≡ m
-binding-inj l m q = cc
-
 module _ (s : List ℕ) (n : ℕ) (P₀ L : Pairs ℕ) (S : Solved s n P₀ L) where
   abbrev w : List ℕ
   w = frozen s
-
-  abbrev Vw : ℕ → View ℕ
-  Vw = view (frozen s) n
 
   abbrev r : ℕ → ℕ
   r = rep eqb L

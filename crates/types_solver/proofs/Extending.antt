@@ -1,29 +1,28 @@
 -- Stores that grow. What fits and obeys the old store goes on in the new, and what fits and obeys the new does so with the old.
-use mathlib.Core.Path.{_≡_, refl, sym, ap, ap₂, subst, _∙_}
-use mathlib.Core.Bool.{Bool, true, false}
-use mathlib.Core.List.{List, [], _∷_, map}
+use mathlib.Core.Path.{_≡_, refl, sym, ap, subst, _∙_}
+use mathlib.Core.Bool.{true, false}
+use mathlib.Core.List.{List, map}
 use mathlib.Core.Logic.{⊎-elim}
-use Prim.Native.Nat.{ℕ, zero, suc, _+_, _*_, _-_, _≤_, _<_}
+use Prim.Native.Nat.{ℕ, zero, suc, _+_, _-_, _≤_, _<_}
 use native.Mathlib.Omega.{arith}
 use native.Mathlib.Nat.{eq-or-lt-of-le}
 use lib.Dec.{ltb}
 use lib.ListN.{length, getD, set}
 use lib.Seq.{getD-set-other, getD-set-same, take-set-le}
 use borrow.Author.Tests.{lt-ltb, le-ltb}
+use Rattle.types_rules.proofs.Rational.{shape-1}
 use Rattle.types_rules.proofs.Finite.{map-same}
 use Rattle.types_rules.specs.Equations.{AllP, In, Pairs, Solves, end, pair}
 use Rattle.types_rules.specs.Finite.{fromList, typeOfView}
 use Rattle.types_rules.specs.Follows.{View, shape, unk}
 use Rattle.types_rules.specs.Former.{Former, formerOf, int}
 use Rattle.types_rules.specs.Types.{Ty, node, tnil}
-use Rattle.types_cells.specs.Store.{frozen, tagAt, argAt, firstAt, countAt, fieldAt, partsAt, formerAt, run, view, viewOf, load, Both, Cell, Held, Solved}
-use Rattle.types_cells.specs.Calls.{put, Making, Made, Above, Adding, Added}
+use Rattle.types_cells.specs.Store.{frozen, tagAt, fieldAt, partsAt, formerAt, run, view, viewOf, load, Both, Cell, Solved}
+use Rattle.types_cells.specs.Calls.{Making, Made, Above, Adding, Added}
 use Rattle.types_cells.specs.Settled.{lower, heap, wordAt, Reads, Readable, Fits, Obeys, Pinned, Entering, Entered}
-use Rattle.types_solver.specs.Answers.{SolutionOf}
 use Rattle.types_solver.specs.Growth.{Extension, Grows, Builds}
 use Rattle.types_cells.proofs.Heads.{view-shape, view-unk}
 use Rattle.types_cells.proofs.Growing.{lt-or-ge, view-made, frozen-at, load-same, word-other, fields-same}
-use Rattle.types_cells.proofs.Reading.{reads-one}
 use Rattle.types_cells.proofs.Entering.{made-low, made-pinned, made-before, made-after}
 use Rattle.types_cells.proofs.SettlingLaws.{heap-kept}
 
@@ -48,15 +47,6 @@ restrict s s′ d n n′ G σ F O = (fits-old (frozen s) (frozen s′) n n′ (G
 -- EXTENSION keeps the equations between old cells solved.
 pub extends-solves : (s s′ d : List ℕ) (n n′ : ℕ) (σ : ℕ → Ty) (E : Extension s′ d n n′ σ) (P₀ L : Pairs ℕ) → Solved s n P₀ L → Solves σ P₀ → Solves (E .τ) P₀
 extends-solves s s′ d n n′ σ E P₀ L S = solves-same n σ (E .τ) (E .same) P₀ (S .asked)
-
--- Both for solutions, in their three parts.
-pub solution-restricts : (s s′ d : List ℕ) (n n′ : ℕ) (P₀ : Pairs ℕ) → Grows s s′ d n n′ → SolutionOf s′ d n′ P₀ → SolutionOf s d n P₀
-solution-restricts s s′ d n n′ P₀ G X = record { σ = X .σ; fits = fits-old (frozen s) (frozen s′) n n′ (G .old) (X .σ) (X .fits); sat = X .sat; obeys = G .before (X .σ) (X .obeys) }
-
-pub solution-extends : (s s′ d : List ℕ) (n n′ : ℕ) (P₀ L : Pairs ℕ) → Solved s n P₀ L → Grows s s′ d n n′ → (X : SolutionOf s d n P₀) → (Y : SolutionOf s′ d n′ P₀) × SameBelow n (Y .σ) (X .σ)
-solution-extends s s′ d n n′ P₀ L S G X =
-    let E = G .extends (X .σ) (X .fits) (X .obeys) in
-    (record { σ = E .τ; fits = E .fits; sat = extends-solves s s′ d n n′ (X .σ) E P₀ L S (X .sat); obeys = E .obeys }, E .same)
 
 pub grows-refl : (s d : List ℕ) (n : ℕ) → Grows s s d n n
 grows-refl s d n = record {
@@ -115,10 +105,6 @@ module _ (w : List ℕ) (n n′ : ℕ) (cells : (i : ℕ) → i < n′ → Cell 
   pub only : (i : ℕ) → i < n′ → σ i ≡ τ i
   only i m = only-c n′ i m m
 
-pub builds-only : (s s′ d : List ℕ) (n n′ : ℕ) (P₀ L : Pairs ℕ) → Solved s n P₀ L → Builds s s′ d n n′ → (σ τ : ℕ → Ty) → Fits (frozen s′) n′ σ → Fits (frozen s′) n′ τ → SameBelow n σ τ →
-    SameBelow n′ σ τ
-builds-only s s′ d n n′ P₀ L S B σ τ F G e = only (frozen s′) n n′ (B .grows .solved P₀ L S .held .cells) (B .shaped) σ τ F G e
-
 -- One cell more, n, and the type g there.
 module _ (n : ℕ) (g : Ty) (σ : ℕ → Ty) where
   extended : ℕ → Ty
@@ -131,12 +117,6 @@ module _ (n : ℕ) (g : Ty) (σ : ℕ → Ty) where
   extended-new : extended n ≡ g
   unfolding extended
   extended-new = rw (extended, le-ltb n n (let z : n ≤ n = omega arith in z))
-
-shape-0 : (h k : Former) (cs ds : List ℕ) → shape h cs ≡ shape k ds → h ≡ k
-shape-0 h k cs ds q = cc
-
-shape-1 : (h k : Former) (cs ds : List ℕ) → shape h cs ≡ shape k ds → cs ≡ ds
-shape-1 h k cs ds q = cc
 
 no-shape : (h : Former) (cs : List ℕ) → _≡_ {A = View ℕ} unk (shape h cs) → ⊥
 no-shape h cs q = let z : _≡_ {A = ℕ} 0 1 = cc in omega arith
@@ -225,9 +205,6 @@ module _ (s s′ d : List ℕ) (n t a f c : ℕ) (M : Making s n t a f c) (N : M
     after = after-m;
   }
 
-  pub extend-former : 0 < t → (σ : ℕ → Ty) → Fits (frozen s) n σ → Obeys s d n σ → Extension s′ d n (suc n) σ
-  extend-former p = extend-c (node int tnil)
-
   -- An unknown: any type.
   pub extend-unknown : t ≡ 0 → (g : Ty) (σ : ℕ → Ty) → Fits (frozen s) n σ → Obeys s d n σ → (E : Extension s′ d n (suc n) σ) × (E .τ n ≡ g)
   unfolding viewOf typeOfView extend-c one-more
@@ -246,10 +223,6 @@ module _ (s s′ d : List ℕ) (n p : ℕ) (E : Entering s d n p) (N : Entered s
       one-more s s′ d n (E .making .P₀) (E .making .L) (E .making .solved) (N .grown (E .making .P₀) (E .making .L) (E .making .solved)) (N .old) σ F y
       (λ h cs e. absurd (no-shape h cs (sym (N .new) ∙ e)))
       (N .after y (E .readable .reads) (extended n y σ) (obeys-same s d n σ (extended n y σ) (extended-old n y σ) O) (extended-new n y σ))
-
-  pub extend-settled : (g : Ty) → Reads (heap s d) p g → (σ : ℕ → Ty) → Fits (frozen s) n σ → Obeys s d n σ → (X : Extension s′ d n (suc n) σ) × (X .τ n ≡ g)
-  unfolding extend-s one-more
-  extend-settled g R σ F O = (extend-s σ F O, extended-new n y σ ∙ reads-one (heap s d) p y g (E .readable .reads) R)
 
   pub entered-grows : Grows s s′ d n (suc n)
   entered-grows = record {

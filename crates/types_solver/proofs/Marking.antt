@@ -13,7 +13,7 @@ use Rattle.types_cells.specs.Settled.{lower, wordAt}
 use borrow.Author.Tests.{eqb-true, eqb-false, lt-ltb, le-ltb}
 use Rattle.types_rules.proofs.Classify.{build}
 use Rattle.types_rules.proofs.Finite.{all-of, depth, solution, solution-sat, tree-by, tree-same}
-use Rattle.types_rules.proofs.Rational.{rep-sat}
+use Rattle.types_rules.proofs.Rational.{shape-1, rep-sat}
 use Rattle.types_rules.proofs.Transfer.{follows-holds}
 use Rattle.types_rules.specs.Classes.{Closed, rep}
 use Rattle.types_rules.specs.Equations.{AllP, In, Pairs, end}
@@ -78,9 +78,6 @@ module _ (s : List ℕ) (n : ℕ) (L : Pairs ℕ) (H : Held s n L) where
 
   kids : (x : ℕ) → x < n → (c : ℕ) → In c (partsAt w x) → c < n
   kids x l c i = let o = H .cells x l .older c i in omega arith
-
-  shape-1 : (h k : Former) (cs ds : List ℕ) → shape h cs ≡ shape k ds → cs ≡ ds
-  shape-1 h k cs ds q = cc
 
   no-unk : (h : Former) (cs : List ℕ) → _≡_ {A = View ℕ} unk (shape h cs) → ⊥
   no-unk h cs q = let z : _≡_ {A = ℕ} 0 1 = cc in omega arith

@@ -9,7 +9,7 @@ use lib.ListN.{length, take, drop, replicate, length-append, length-replicate}
 use lib.Seq.{sets, sets-eq, take-at, drop-append-add}
 use borrow.Author.Tests.{le-leb, lt-leb, leb-true, leb-false}
 use Rattle.values.specs.declared.held.Held.{Held}
-use Rattle.values.specs.Held.{over, keep, findingOf}
+use Rattle.values.specs.Held.{over, keep}
 
 pub keep-over : (ws : List ℕ) → 64 < length ws → keep ws ≡ over
 unfolding keep
@@ -63,11 +63,3 @@ appended ws w h =
 -- the words that are held, back as a list
 pub held-part : (v : Held) (ws : List ℕ) → v ≡ keep ws → length ws ≤ 64 → take (v .len) (v .words) ≡ ws
 held-part v ws e h = rw (held-len v ws e h, held-words v ws e h) (take-at ws (zeros (64 - length ws)) (length ws) refl)
-
-pub finding-none : (ws : List ℕ) → length ws ≤ 64 → findingOf (keep ws) ≡ 0
-unfolding findingOf
-finding-none ws h = rw (keep-fits ws h, le-leb (length ws) 64 h)
-
-pub finding-over : (ws : List ℕ) → 64 < length ws → findingOf (keep ws) ≡ 55
-unfolding findingOf over
-finding-over ws h = rw (keep-over ws h)

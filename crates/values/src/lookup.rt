@@ -1,4 +1,4 @@
-// A name's value is read from the state or from the work area.
+// Document 01, forms: "a name's value is read from the state or from the work area".
 use words::span;
 ghost use mathlib.Core.Path.{_≡_};
 ghost use Rattle.values.specs.Lookup.{valueAt};

@@ -6,4 +6,3 @@ pub mod Testing
 pub mod Decoding
 pub mod Reading
 pub mod TypedValues
-pub mod TypeReach

@@ -85,7 +85,8 @@ pub fn divide(a: i32, n: i32) -> Integer
     Integer::Whole(q)
 }
 
-// What that division leaves, 0 to n − 1: a negative remainder has n added.
+// What that division leaves: a negative remainder has n added. Document 01, forms: "a mod n lies in 0 to n − 1".
+// At zero and at both ends of the range: `ends-hold` in proofs/Division.
 pub fn modulo(a: i32, n: i32) -> Integer
     ensures { λ r. ⌜ r ≡ remainder a n ⌝ }
 {

@@ -44,12 +44,13 @@ fn print_broken(dict: &[u32], out: &mut [u8]) -> usize
 }
 
 // What the program writes for its input, at the beginning of the buffer: its length.
+// Document 01, forms: "with areas of 16,384 words".
 fn report(input: &[u8], out: &mut [u8; OUTPUT]) -> usize
     ensures { λ r. ⌜ Prints (reportOf (now (input .entry))) r (now (out .exit)) ⌝ }
 {
-    let mut doc = [0u32; AREA];
-    let mut dict = [0u32; AREA];
-    let mut work = [0u32; AREA];
+    let mut doc: [u32; AREA] = [0; AREA];
+    let mut dict: [u32; AREA] = [0; AREA];
+    let mut work: [u32; AREA] = [0; AREA];
     if input::take_words(input, &mut doc) {
         let n = input.len() / WORD_BYTES;
         return print_check(&doc[..n], &mut dict, &mut work, out);
