@@ -2,8 +2,12 @@
 use codes::limits;
 use libc::STDOUT_FILENO;
 
-// Words of each area.
-const AREA: usize = limits::WORDS;
+// Words of the areas.
+const DICTIONARY: usize = limits::DICTIONARY_AREA_WORDS;
+
+const CHECK_WORK: usize = limits::CHECK_WORK_WORDS;
+
+const RUN_WORK: usize = limits::RUN_WORK_WORDS;
 
 // Bytes of the buffer: enough for each of these findings.
 const OUTPUT: usize = 1024;
@@ -149,21 +153,21 @@ fn show_run(finding: evaluator_rules::Finding) {
 }
 
 fn check(doc: &[u32]) {
-    let mut dict = [0u32; AREA];
-    let mut work = [0u32; AREA];
+    let mut dict = [0u32; DICTIONARY];
+    let mut work = [0u32; CHECK_WORK];
     let finding = checker::check(doc, &mut dict, &mut work);
     show_finding(finding, &dict);
 }
 
 fn fit(doc: &[u32], state: &[u32]) {
-    let mut dict = [0u32; AREA];
-    let mut work = [0u32; AREA];
+    let mut dict = [0u32; DICTIONARY];
+    let mut work = [0u32; CHECK_WORK];
     let finding = fitter::fit(doc, state, &mut dict, &mut work);
     show_finding(finding, &dict);
 }
 
 fn run(doc: &[u32], state: &[u32]) {
-    let mut work = [0u32; AREA];
+    let mut work = [0u32; RUN_WORK];
     show_run(evaluator::run(doc, state, &mut work));
 }
 

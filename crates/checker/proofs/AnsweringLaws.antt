@@ -10,7 +10,7 @@ use Rattle.reader_rules.specs.Tree.{Document}
 use Rattle.reader_rules.specs.Decode.{treeOf}
 use Rattle.reader_rules.specs.declared.Reading.the-variants.{Readable, Refused as Unreadable}
 use Rattle.checker_rules.specs.Areas.{findingOf, dictionaryAfter, Checked}
-use Rattle.checker_rules.specs.Check.{Answer, accepted, refused, paragraphsOf, checkOf}
+use Rattle.checker_rules.specs.Check.{Answer, accepted, refused, paragraphsOf, checkOf, checkWorkWords}
 use Rattle.checker_rules.specs.Dictionary.{blank, dictionaryWords, dictionaryLength}
 use Rattle.checker_rules.specs.Items.{Any}
 use Rattle.checker_rules.specs.Verdicts.{AnswersTree, Answers}
@@ -26,15 +26,15 @@ told-refused f m d = record { finding = refl; held = λ E q. let z : _≡_ {A = 
 
 -- A readable document.
 module _ (t : Document) (d w : ℕ) (d′ : List ℕ) where
-  pub tree-21 : w < 16384 → TreeAnswered t d w d′ (Refused 21 0)
+  pub tree-21 : w < checkWorkWords → TreeAnswered t d w d′ (Refused 21 0)
   unfolding AnswersTree
   tree-21 l = record { answer = refused 21 0; answers = inl (l, refl); told = told-refused 21 0 d′ }
 
-  pub tree-22 : 16384 ≤ w → d ≡ 0 → TreeAnswered t d w d′ (Refused 22 0)
+  pub tree-22 : checkWorkWords ≤ w → d ≡ 0 → TreeAnswered t d w d′ (Refused 22 0)
   unfolding AnswersTree
   tree-22 l z = record { answer = refused 22 0; answers = inr (l, inl (z, refl)); told = told-refused 22 0 d′ }
 
-  pub tree-paragraphs : 16384 ≤ w → 0 < d → (r : Finding) → Answered (paragraphsOf t) blank d d′ r → TreeAnswered t d w d′ r
+  pub tree-paragraphs : checkWorkWords ≤ w → 0 < d → (r : Finding) → Answered (paragraphsOf t) blank d d′ r → TreeAnswered t d w d′ r
   unfolding AnswersTree
   tree-paragraphs l s r X = record { answer = X .answer; answers = inr (l, inr (s, X .answers)); told = X .told }
 

@@ -6,6 +6,7 @@ use native.Mathlib.Omega.{arith}
 use lib.ListN.{length}
 use Rattle.layout.specs.Layout.{count, part}
 use Rattle.layout.proofs.Laws.{part-length}
+use Rattle.reader_rules.specs.Nodes.{documentWords}
 use Rattle.reader_rules.specs.Reading.{readOf}
 use Rattle.reader_rules.proofs.Accepted.{readable, some-words}
 use Rattle.reader_rules.specs.declared.Reading.the-variants.{Readable}
@@ -15,7 +16,7 @@ module _ (doc : List ℕ) (r : readOf doc ≡ Readable) where
   pub words-some : 1 ≤ length (part doc (count doc))
   words-some = let l = readable doc r .nodes .laid in some-words doc (count doc) l (l .some) (omega arith)
 
-  pub words-few : length (part doc (count doc)) ≤ 16384
+  pub words-few : length (part doc (count doc)) ≤ documentWords
   words-few =
       let l = readable doc r .nodes .laid in
       let s = l .some in

@@ -10,7 +10,7 @@ use Rattle.reader_rules.specs.Tree.{Paragraph}
 use Rattle.reader_rules.specs.Decode.{paragraphsFrom, treeOf}
 use Rattle.reader_rules.proofs.TreeParagraph.{document-law}
 use Rattle.reader_rules.specs.declared.Reading.the-variants.{Readable}
-use Rattle.checker_rules.specs.Check.{paragraphsOf}
+use Rattle.checker_rules.specs.Check.{paragraphsOf, checkWorkWords}
 use Rattle.checker_rules.specs.Dictionary.{blank, entries, entryPairs, allWords, laidOutWords, dictionaryWords, dictionaryLength}
 use Rattle.checker_rules.specs.Items.{Any}
 use Rattle.checker_rules.specs.Verdicts.{AnswersFrom}
@@ -21,6 +21,7 @@ use Rattle.types_instances.specs.Clean.{Clean}
 use Rattle.checker_lookup.specs.Scoped.{DictionaryHeld, Limited}
 use Rattle.checker.specs.Answering.{ParagraphsAsk, Answered}
 use Rattle.checker.proofs.DocumentWords.{words-some}
+use Rattle.types_cells.specs.Layout.{areaSize, poolSize}
 
 -- The first paragraph: an area that is zero holds the empty dictionary.
 pub blank-recorded : (d : List ℕ) → Holds blank d → DictionaryHeld blank d
@@ -31,7 +32,7 @@ blank-length : dictionaryLength blank ≡ 1
 unfolding dictionaryWords laidOutWords entries entryPairs allWords
 blank-length = refl
 
-zeros-clean : (n : ℕ) → 39936 ≤ n → Clean (replicate n 0) 1
+zeros-clean : (n : ℕ) → poolSize ≤ n → Clean (replicate n 0) 1
 zeros-clean n h i a b = getD-replicate n i 0 0 (omega arith)
 
 all-paragraphs : (doc : List ℕ) → readOf doc ≡ Readable → paragraphsFrom doc (count doc) 1 (length (part doc (count doc)) - 1) ≡ paragraphsOf (treeOf doc)
@@ -47,7 +48,7 @@ module _ (doc : List ℕ) (r : readOf doc ≡ Readable) (c : ℕ) (e : c ≡ cou
   first-some = let a = words-some doc r in let z = ap length words-of in omega arith
 
   -- n is no numeral here, so that no list of that length is made
-  begun : (n : ℕ) → n ≡ 52224 → (d w : List ℕ) → 16384 ≤ length w → Holds blank d → ParagraphsAsk doc (replicate n 0) d w 1 (length l - 1)
+  begun : (n : ℕ) → n ≡ areaSize → (d w : List ℕ) → checkWorkWords ≤ length w → Holds blank d → ParagraphsAsk doc (replicate n 0) d w 1 (length l - 1)
   begun n y d w v H =
       let a = first-some in
       let b = ap length words-of in
@@ -67,8 +68,8 @@ module _ (doc : List ℕ) (r : readOf doc ≡ Readable) (c : ℕ) (e : c ≡ cou
         short = omega arith;
       }
 
-  pub first-ask : (d w : List ℕ) → 16384 ≤ length w → Holds blank d → ParagraphsAsk doc (replicate 52224 0) d w 1 (length l - 1)
-  first-ask = begun 52224 refl
+  pub first-ask : (d w : List ℕ) → checkWorkWords ≤ length w → Holds blank d → ParagraphsAsk doc (replicate areaSize 0) d w 1 (length l - 1)
+  first-ask = begun areaSize refl
 
   pub first-answered : (d d₁ d′ : List ℕ) (a : Finding) → length d₁ ≡ length d → Answered (paragraphsFrom doc (count doc) 1 (length l - 1)) blank (length d₁) d′ a
       → Answered (paragraphsOf (treeOf doc)) blank (length d) d′ a

@@ -7,7 +7,7 @@ use native.Mathlib.Omega.{arith}
 use native.Mathlib.Numerals.{add-one}
 use lib.ListN.{length}
 use Rattle.layout.specs.Layout.{count}
-use Rattle.reader_rules.specs.Nodes.{operandAt}
+use Rattle.reader_rules.specs.Nodes.{operandAt, documentWords}
 use Rattle.reader_rules.specs.Tree.{Paragraph}
 use Rattle.reader_rules.specs.Decode.{gather, paragraphAt, paragraphsFrom}
 use Rattle.checker_rules.specs.Areas.{findingOf}
@@ -83,7 +83,7 @@ module _ (doc s d w : List ℕ) (i m : ℕ) (A : ParagraphsAsk doc s d w i m) (s
   pub from-listed : (k : ℕ) → k ≡ operandAt doc (count doc) i → Listed doc k
   from-listed k e = let a = A .ends in record { read = A .read; place = i; some = A .some; most = omega arith; is = e }
 
-  pub from-small : i + 1 ≤ 16384
+  pub from-small : i + 1 ≤ documentWords
   from-small = let a = A .ends in let b = words-few doc (A .read) in omega arith
 
   pub from-ask : (s′ d′ w′ : List ℕ) (p : Paragraph) (r : Finding) → Entered s s′ d d′ p r → r ≡ Accepted → length s′ ≡ length s → length w′ ≡ length w

@@ -14,7 +14,7 @@ use Rattle.checker_rules.specs.Items.{Any}
 use Rattle.checker_rules.specs.Verdicts.{AnswersFrom, AnswersTree}
 use Rattle.checker_rules.specs.declared.Finding.{Finding}
 use Rattle.checker_dictionary.specs.Holds.{Holds}
-use Rattle.checker_extension.specs.Entering.{Ready}
+use Rattle.checker_extension.specs.Entering.{Ready, maxAdded}
 
 -- The m operands of the Document from i on are left. Each paragraph before them has added 16,384 words to the dictionary at most.
 pub record ParagraphsAsk (doc s d w : List ℕ) (i m : ℕ) : Type 0 where
@@ -22,7 +22,7 @@ pub record ParagraphsAsk (doc s d w : List ℕ) (i m : ℕ) : Type 0 where
   pub some : 1 ≤ i
   pub ends : i + m ≡ length (part doc (count doc))
   pub ready : Ready s d w
-  pub short : dictionaryLength (ready .dictionary) ≤ 16384 * i
+  pub short : dictionaryLength (ready .dictionary) ≤ maxAdded * i
 
 -- The finding is that of the answer, and the area d′ holds its dictionary.
 pub record Told (answer : Answer) (d′ : List ℕ) (r : Finding) : Type 0 where

@@ -18,7 +18,7 @@ ghost use Rattle.reader_rules.specs.Decode.{treeOf, paragraphsFrom};
 ghost use Rattle.reader_rules.specs.Reading.{readOf};
 ghost use Rattle.reader_rules.specs.declared.Reading.the-variants.{Readable};
 ghost use Rattle.checker_rules.specs.Areas.{Checked};
-ghost use Rattle.checker_rules.specs.Check.{paragraphsOf};
+ghost use Rattle.checker_rules.specs.Check.{paragraphsOf, checkWorkWords};
 ghost use Rattle.checker_rules.specs.Dictionary.{Dictionary, blank};
 ghost use Rattle.checker_lookup.specs.Scoped.{DictionaryHeld};
 ghost use Rattle.checker.specs.Answering.{ParagraphsAsk, Answered, TreeAnswered, Answering};
@@ -52,7 +52,7 @@ fn paragraphs_from(
 
 // The paragraphs of a readable document, with areas that have room for a dictionary and for the work.
 fn check_paragraphs(doc: &[u32], dict: &mut [u32], work: &mut [u32]) -> Finding
-    requires { ⌜ (readOf (now doc) ≡ Readable) × (16384 ≤ length (now work)) × (0 < length (now dict)) ⌝ }
+    requires { ⌜ (readOf (now doc) ≡ Readable) × (checkWorkWords ≤ length (now work)) × (0 < length (now dict)) ⌝ }
     ensures { λ r. ⌜ Answered (paragraphsOf (treeOf (now (doc .entry)))) blank (length (now (dict .entry))) (now (dict .exit)) r ⌝ }
 {
     let mut a = [0u32; types_cells::area::AREA];
@@ -67,7 +67,7 @@ fn check_tree(doc: &[u32], dict: &mut [u32], work: &mut [u32]) -> Finding
     requires { ⌜ readOf (now doc) ≡ Readable ⌝ }
     ensures { λ r. ⌜ TreeAnswered (treeOf (now (doc .entry))) (length (now (dict .entry))) (length (now (work .entry))) (now (dict .exit)) r ⌝ }
 {
-    if work.len() < limits::WORK {
+    if work.len() < limits::CHECK_WORK_WORDS {
         return Finding::Refused {
             number: findings::WORK_AREA,
             place: 0,

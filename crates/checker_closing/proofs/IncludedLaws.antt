@@ -6,7 +6,7 @@ use Prim.Native.Nat.{ℕ, _+_, _≤_, _<_}
 use native.Mathlib.Omega.{arith}
 use lib.ListN.{take, drop}
 use Rattle.checker_signatures.specs.Rows.{rows, identifiersOf, mergeRows}
-use Rattle.checker_signatures.specs.Tables.{Table}
+use Rattle.checker_signatures.specs.Tables.{Table, tableWords}
 use Rattle.checker_includes.specs.Filling.{AgreeTold, SmallTold}
 use Rattle.checker_includes.specs.Storing.{KeepAsk, RowsKept}
 use Rattle.checker_closing.specs.Included.{RowsFine, RowsFound, clash, known, large, none, many, few, RowsUnited, LineAsk, RowsLined, refused, IncludedTold, lined}
@@ -66,13 +66,13 @@ pub row-of : (places : List ℕ) {row : List ℕ} {q n : ℕ} → row ≡ take q
 row-of places e f = e ∙ ap (λ z. take z (drop 0 places)) f
 
 module _ {s d w row row′ : List ℕ} {base m free c at end : ℕ} {global : Bool} (e : row ≡ row′) where
-  pub line-asked : LineAsk s d w base m free c row′ at end (free + 64) global → LineAsk s d w base m free c row at end (free + 64) global
-  line-asked = subst (λ z. LineAsk s d w base m free c z at end (free + 64) global) (sym e)
+  pub line-asked : LineAsk s d w base m free c row′ at end (free + tableWords) global → LineAsk s d w base m free c row at end (free + tableWords) global
+  line-asked = subst (λ z. LineAsk s d w base m free c z at end (free + tableWords) global) (sym e)
 
-  pub included-rows : {s₁ w₁ : List ℕ} {k number₀ place₀ number place count at′ : ℕ} → number₀ ≡ 0 → RowsLined s s₁ d w w₁ base m free c row at end (free + 64) global k number place count at′ →
+  pub included-rows : {s₁ w₁ : List ℕ} {k number₀ place₀ number place count at′ : ℕ} → number₀ ≡ 0 → RowsLined s s₁ d w w₁ base m free c row at end (free + tableWords) global k number place count at′ →
       IncludedTold s s₁ d w w₁ base m at free row′ global k number₀ place₀ c end number place count at′
   included-rows {s₁} {w₁} {k} {number₀} {place₀} {number} {place} {count} {at′} z R =
-      lined z (subst (λ l. RowsLined s s₁ d w w₁ base m free c l at end (free + 64) global k number place count at′) e R)
+      lined z (subst (λ l. RowsLined s s₁ d w w₁ base m free c l at end (free + tableWords) global k number place count at′) e R)
 
 -- AS A SCHEMA EXPRESSION.
 module _ {s d w row : List ℕ} {source c at end free : ℕ} {b : Bool} (S : SmallTold s d w source c row b) where
@@ -90,10 +90,10 @@ module _ {s d w row : List ℕ} {source c at end free k : ℕ} {b : Bool} (S : S
       (subst (RowsKept s s₁ d w w₁ source 0 source c row at end free) (sym (L .at-is)) K)
 
 module _ {s d w row row′ : List ℕ} {free c at end : ℕ} (e : row ≡ row′) where
-  pub show-asked : ShowAsk s d w free c row′ at end (free + 64) → ShowAsk s d w free c row at end (free + 64)
-  show-asked = subst (λ z. ShowAsk s d w free c z at end (free + 64)) (sym e)
+  pub show-asked : ShowAsk s d w free c row′ at end (free + tableWords) → ShowAsk s d w free c row at end (free + tableWords)
+  show-asked = subst (λ z. ShowAsk s d w free c z at end (free + tableWords)) (sym e)
 
-  pub brought-rows : {s₁ w₁ : List ℕ} {k number₀ place₀ number place count at′ : ℕ} → number₀ ≡ 0 → RowsShown s s₁ d w w₁ free c row at end (free + 64) k number place count at′ →
+  pub brought-rows : {s₁ w₁ : List ℕ} {k number₀ place₀ number place count at′ : ℕ} → number₀ ≡ 0 → RowsShown s s₁ d w w₁ free c row at end (free + tableWords) k number place count at′ →
       BroughtTold s s₁ d w w₁ at free row′ k number₀ place₀ c end number place count at′
   brought-rows {s₁} {w₁} {k} {number₀} {place₀} {number} {place} {count} {at′} z R =
-      shown z (subst (λ l. RowsShown s s₁ d w w₁ free c l at end (free + 64) k number place count at′) e R)
+      shown z (subst (λ l. RowsShown s s₁ d w w₁ free c l at end (free + tableWords) k number place count at′) e R)

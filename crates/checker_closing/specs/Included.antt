@@ -6,7 +6,7 @@ use mathlib.Core.List.{List}
 use Prim.Native.Nat.{ℕ, _+_, _≤_, _<_}
 use lib.ListN.{length}
 use Rattle.checker_signatures.specs.Rows.{rows, identifiersOf, mergeRows}
-use Rattle.checker_signatures.specs.Tables.{Table, Beside}
+use Rattle.checker_signatures.specs.Tables.{Table, Beside, tableWords}
 use Rattle.checker_includes.specs.Filling.{RowsAsk, AgreeAsk, AgreeTold, SmallTold}
 use Rattle.checker_includes.specs.Storing.{KeepAsk, RowsKept}
 use Rattle.checker_closing.specs.Leaves.{NewIfTold}
@@ -55,11 +55,11 @@ pub data RowsLined (s s′ d w w′ : List ℕ) (base m source c : ℕ) (row : L
 
 -- The visit returned the finding number₀ at place₀, or c rows at free, the actuals' types ending at `end`.
 pub record IncludedAsk (s d w : List ℕ) (base m at free : ℕ) (row : List ℕ) (global : Bool) (number₀ c end : ℕ) : Type 0 where
-  pub rows : number₀ ≡ 0 → LineAsk s d w base m free c row at end (free + 64) global
+  pub rows : number₀ ≡ 0 → LineAsk s d w base m free c row at end (free + tableWords) global
 
 pub data IncludedTold (s s′ d w w′ : List ℕ) (base m at free : ℕ) (row : List ℕ) (global : Bool) (k number₀ place₀ c end number place count at′ : ℕ) : Type 0 where
   unvisited : (number₀ ≡ 0 → ⊥) → number ≡ number₀ → place ≡ place₀ → s′ ≡ s → w′ ≡ w → IncludedTold s s′ d w w′ base m at free row global k number₀ place₀ c end number place count at′
-  lined : number₀ ≡ 0 → RowsLined s s′ d w w′ base m free c row at end (free + 64) global k number place count at′ →
+  lined : number₀ ≡ 0 → RowsLined s s′ d w w′ base m free c row at end (free + tableWords) global k number place count at′ →
       IncludedTold s s′ d w w′ base m at free row global k number₀ place₀ c end number place count at′
 
 -- AS A SCHEMA EXPRESSION.
@@ -73,8 +73,8 @@ pub data RowsShown (s s′ d w w′ : List ℕ) (source c : ℕ) (row : List ℕ
       RowsShown s s′ d w w′ source c row at end free k number place count at′
 
 pub record BroughtAsk (s d w : List ℕ) (at free : ℕ) (row : List ℕ) (number₀ c end : ℕ) : Type 0 where
-  pub rows : number₀ ≡ 0 → ShowAsk s d w free c row at end (free + 64)
+  pub rows : number₀ ≡ 0 → ShowAsk s d w free c row at end (free + tableWords)
 
 pub data BroughtTold (s s′ d w w′ : List ℕ) (at free : ℕ) (row : List ℕ) (k number₀ place₀ c end number place count at′ : ℕ) : Type 0 where
   unbrought : (number₀ ≡ 0 → ⊥) → number ≡ number₀ → place ≡ place₀ → s′ ≡ s → w′ ≡ w → BroughtTold s s′ d w w′ at free row k number₀ place₀ c end number place count at′
-  shown : number₀ ≡ 0 → RowsShown s s′ d w w′ free c row at end (free + 64) k number place count at′ → BroughtTold s s′ d w w′ at free row k number₀ place₀ c end number place count at′
+  shown : number₀ ≡ 0 → RowsShown s s′ d w w′ free c row at end (free + tableWords) k number place count at′ → BroughtTold s s′ d w w′ at free row k number₀ place₀ c end number place count at′

@@ -20,6 +20,7 @@ use Rattle.checker_rules.specs.Scopes.{Scope}
 use Rattle.checker_rules.specs.Unknowns.{Table, slot, unknownAt}
 use Rattle.reader_rules.proofs.Sized.{SizedExpr}
 use Rattle.checker_rules.proofs.Slots.{slots-apart}
+use Rattle.types_cells.specs.Layout.{firstRun, areaSize, poolSize, typeWords}
 use Rattle.types_cells.specs.Settled.{heap, Reads}
 use Rattle.types_cells.proofs.Growing.{lt-or-ge}
 use Rattle.types_instances.specs.Clean.{Clean}
@@ -32,6 +33,7 @@ use Rattle.checker_pieces.proofs.Between.{walked-skip, walked-mine, walked-then
 use Rattle.checker_lookup.specs.Scoped.{Scoped}
 use Rattle.checker_includes.specs.Components.{StandsFor}
 use Rattle.checker_includes.specs.Storing.{Stored, Scratch}
+use Rattle.checker_contracts.specs.Room.{framesAt, nodeTypeWords}
 use Rattle.checker_contracts.specs.Visits.{Owned, Fresh, EachOnce, idle, Spared}
 use Rattle.checker_contracts.specs.Expressions.{ExprAsk, ExprDone}
 use Rattle.checker_contracts.specs.Predicates.{Walking}
@@ -98,14 +100,14 @@ module _ (s d w : List ℕ) (stack at free k j : ℕ) (a : Expr) (xs : Exprs) (p
   unfolding exprsNumbers
   fresh₀ = (fresh-left l ls (K .known) (K .fresh), Q .own (slot k n) (n, omega arith, numbered, refl))
 
-  pub actual-ask : ExprAsk s d w stack 0 4096 at free a
+  pub actual-ask : ExprAsk s d w stack 0 firstRun at free a
   unfolding exprsNumbers LimitedExprs
   actual-ask =
       let x = length-append l ls in
       let f = Q .few in
       begin-ask s d w stack at free (Q .height) (Q .height) (Q .texts) a (l ++ ls) K (omega arith) (Q .limited .0) (omega arith) (omega arith) (fresh₀ .0) (once-left l ls once)
 
-  low : (at < 39936) × (2 * stack ≤ 512)
+  low : (at < poolSize) × (2 * stack ≤ framesAt)
   low = let p = K .room .pool in let q = K .room .stack in (omega arith, omega arith)
 
   abbrev own : Scope → Items
@@ -118,7 +120,7 @@ module _ (s d w : List ℕ) (stack at free k j : ℕ) (a : Expr) (xs : Exprs) (p
   unfolding actualItems
   refuses s′ w′ places′ number place at′ P p e R = record { done = done-refused (record { spared = P; row = ap length p; earlier = λ i q. ap (λ z. getD z i 0) p }) e (λ H U S Γ D C u F. refuses-first H (own Γ) (actualItems xs k (suc n) Γ) number place (R Γ D H U S C (fresh U F))) }
 
-  module _ (s₁ w₁ : List ℕ) (number place cell c₁ top₁ at₁ : ℕ) (A : ExprDone s s₁ d w w₁ stack 0 4096 at free a number place cell c₁ top₁ at₁) where
+  module _ (s₁ w₁ : List ℕ) (number place cell c₁ top₁ at₁ : ℕ) (A : ExprDone s s₁ d w w₁ stack 0 firstRun at free a number place cell c₁ top₁ at₁) where
     pub actual-stopped : (number ≡ 0 → ⊥) → (at′ : ℕ) → ActualsDone s s₁ d w w₁ stack at free k j (more a xs) places places number place at′
     actual-stopped e at′ =
         refuses s₁ w₁ places number place at′ (A .spared) refl e
@@ -154,7 +156,7 @@ module _ (s d w : List ℕ) (stack at free k j : ℕ) (a : Expr) (xs : Exprs) (p
                   element-sizing s d w stack at free a k n (K .size) (K .few) apart numbered s₁ w₁ number place cell c₁ top₁ at₁ A (K .scope) (K .dictionary) (K .before) (K .known) (K .steady)
                   (K .scoped) fresh₀ fine s₂ b P yes s₃ Z
 
-              pub actual-size : length s₃ ≡ 52224
+              pub actual-size : length s₃ ≡ areaSize
               actual-size =
                   element-size s d w stack at free a k n (K .size) (K .few) apart numbered s₁ w₁ number place cell c₁ top₁ at₁ A (K .scope) (K .dictionary) (K .before) (K .known) (K .steady)
                   (K .scoped) fresh₀ fine s₂ b P yes s₃ Z
@@ -168,7 +170,7 @@ module _ (s d w : List ℕ) (stack at free k j : ℕ) (a : Expr) (xs : Exprs) (p
                   element-gap s d w stack at free a k n (K .size) (K .few) apart numbered s₁ w₁ number place cell c₁ top₁ at₁ A fine s₂ b P s₃ true Z (actual-size ∙ sym (K .size)) (low .0)
                   (K .clean)
 
-              pub actual-room : (1 ≤ at) × (at ≤ at₁) × (at₁ + 768 ≤ 38000) × (free + 96 ≤ length w₁) × (free < 2 ^ 32)
+              pub actual-room : (1 ≤ at) × (at ≤ at₁) × (at₁ + nodeTypeWords ≤ 38000) × (free + typeWords ≤ length w₁) × (free < 2 ^ 32)
               unfolding exprsNumbers
               actual-room =
                   let o = K .room .some in
@@ -186,7 +188,7 @@ module _ (s d w : List ℕ) (stack at free k j : ℕ) (a : Expr) (xs : Exprs) (p
                   (o, x, omega arith, omega arith, omega arith)
 
               -- THE TYPE IS STORED, its place written.
-              module _ (sized : SizedExpr a) (s₄ w₂ places₁ : List ℕ) (e : ℕ) (stored : Stored s₃ s₄ at e) (scratch : Scratch w₁ w₂ free) (short : e ≤ at + 96)
+              module _ (sized : SizedExpr a) (s₄ w₂ places₁ : List ℕ) (e : ℕ) (stored : Stored s₃ s₄ at e) (scratch : Scratch w₁ w₂ free) (short : e ≤ at + typeWords)
                   (stands : (G : Ghost) (S : Shut s₃ d (c₁ + 2) G) → WellFormed (S .type c₁) → (h : Ty) × Reads (heap s₄ d) at h × StandsFor h (S .type c₁))
                   (long : length places₁ ≡ length places) (here : getD places₁ j 0 ≡ at) (others : (i : ℕ) → i < j → getD places₁ i 0 ≡ getD places i 0) where
                 abbrev Any : Ty → Type 0

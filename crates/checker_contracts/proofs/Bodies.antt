@@ -17,11 +17,12 @@ use Rattle.checker_rules.specs.Scopes.{Scope, inside, textSignature, linesSigna
 use Rattle.checker_rules.specs.Signatures.{noNames}
 use Rattle.checker_signatures.specs.Carried.{Carries}
 use Rattle.checker_signatures.specs.Rows.{rows}
-use Rattle.checker_signatures.specs.Tables.{Beside, Pushed}
+use Rattle.checker_signatures.specs.Tables.{Beside, Pushed, tableWords}
 use Rattle.checker_pieces.specs.Piece.{Steady, Walked}
 use Rattle.checker_pieces.proofs.Between.{refuses-first, refuses-second, walked-then, walked-mine}
 use Rattle.checker_lookup.specs.Scoped.{Scoped}
 use Rattle.checker_includes.specs.Components.{Placed}
+use Rattle.checker_contracts.specs.Room.{maxRows}
 use Rattle.checker_contracts.specs.Predicates.{Walking, PredAsk, PredDone}
 use Rattle.checker_contracts.specs.Texts.{TextAsk, TextDone, LinesAsk, LinesDone, LinesWent}
 use Rattle.checker_contracts.specs.Visits.{Owned, Fresh, EachOnce, idle, Spared, Went, globalsIf}
@@ -60,7 +61,7 @@ module _ (s d w : List ℕ) (stack at free k : ℕ) (p : Pred) (ls : Lines) (A :
   unfolding Carries pairsFrom
   no-rows H U v = tt
 
-  pub text-lines : LinesAsk s d w stack free 0 at (free + 64) ls
+  pub text-lines : LinesAsk s d w stack free 0 at (free + tableWords) ls
   unfolding LimitedText
   text-lines =
       let B = K .room in
@@ -87,7 +88,7 @@ module _ (s d w : List ℕ) (stack at free k : ℕ) (p : Pred) (ls : Lines) (A :
           bound = K .bound;
           crowd = crowd-part (K .bound) (textNumbers (text k p ls)) (linesNumbers ls) (K .crowd) (shorter .1);
           room =
-              between-part w w stack stack at at free (free + 64) (A .height) (A .height - 1) (K .bound) (K .bound) B refl (omega arith) (omega arith) o (omega arith) (omega arith)
+              between-part w w stack stack at at free (free + tableWords) (A .height) (A .height - 1) (K .bound) (K .bound) B refl (omega arith) (omega arith) o (omega arith) (omega arith)
               (omega arith) (omega arith);
         };
         signature = noNames;
@@ -99,7 +100,7 @@ module _ (s d w : List ℕ) (stack at free k : ℕ) (p : Pred) (ls : Lines) (A :
       }
 
   -- THE LINES WERE VISITED.
-  module _ (global : Bool) (s₁ w₁ : List ℕ) (number place m at₁ : ℕ) (L : LinesDone s s₁ d w w₁ stack free 0 at (free + 64) ls global number place m at₁) where
+  module _ (global : Bool) (s₁ w₁ : List ℕ) (number place m at₁ : ℕ) (L : LinesDone s s₁ d w w₁ stack free 0 at (free + tableWords) ls global number place m at₁) where
     pub text-stopped : (number ≡ 0 → ⊥) → (count end : ℕ) → TextDone s s₁ d w w₁ stack at free (text k p ls) global number place count end
     unfolding textItems
     text-stopped e count end = record {
@@ -121,7 +122,7 @@ module _ (s d w : List ℕ) (stack at free k : ℕ) (p : Pred) (ls : Lines) (A :
           let q = L .done .areas fine .few in
           record { room = omega arith; inside = omega arith; apart = inl (omega arith) }
 
-      few-rows : stack + m ≤ 250
+      few-rows : stack + m ≤ maxRows
       few-rows = let b = K .room .stack in let h = tall in let q = L .done .areas fine .few in omega arith
 
       -- any items before
@@ -156,7 +157,7 @@ module _ (s d w : List ℕ) (stack at free k : ℕ) (p : Pred) (ls : Lines) (A :
               pushed-scoped w₁ w₂ stack free m r P s₁ d (H ⨾ linesItems ls Γ (globalsIf global D) noNames) (lined H U S Γ D C F .unknowns) Γ D (linesSignature ls Γ noNames) (omega arith)
               (lined H U S Γ D C F .signature) (scoped H U S Γ D C F)
 
-        pub text-body : PredAsk s₁ d w₂ (stack + m) at₁ (free + 64) p
+        pub text-body : PredAsk s₁ d w₂ (stack + m) at₁ (free + tableWords) p
         unfolding LimitedText
         text-body =
             let F = fresh-both (K .known) (K .fresh) in
@@ -187,17 +188,17 @@ module _ (s d w : List ℕ) (stack at free k : ℕ) (p : Pred) (ls : Lines) (A :
                 bound = K .bound;
                 crowd = crowd-part (K .bound) (textNumbers (text k p ls)) (predNumbers p) (K .crowd) (shorter .0);
                 room =
-                    between-part w w₂ stack (stack + m) at at₁ free (free + 64) (A .height) (A .height - 1) (K .bound) (K .bound) B (spared₂ free .size ∙ L .done .still .size) (omega arith)
+                    between-part w w₂ stack (stack + m) at at₁ free (free + tableWords) (A .height) (A .height - 1) (K .bound) (K .bound) B (spared₂ free .size ∙ L .done .still .size) (omega arith)
                     (omega arith) (omega arith) (omega arith) (omega arith) (omega arith) (omega arith);
               };
             }
 
         -- THE PREDICATE WAS VISITED.
-        module _ (s₂ w₃ : List ℕ) (number₂ place₂ : ℕ) (Q : PredDone s₁ s₂ d w₂ w₃ (stack + m) at₁ (free + 64) p number₂ place₂) where
+        module _ (s₂ w₃ : List ℕ) (number₂ place₂ : ℕ) (Q : PredDone s₁ s₂ d w₂ w₃ (stack + m) at₁ (free + tableWords) p number₂ place₂) where
           spared : Spared w w₃ stack free
           spared =
               spared-on w w₁ w₃ stack free (L .done .still)
-              (spared-on w₁ w₂ w₃ stack free (spared₂ free) (spared-less w₂ w₃ (stack + m) stack (free + 64) free (omega arith) (omega arith) (Q .done .still)))
+              (spared-on w₁ w₂ w₃ stack free (spared₂ free) (spared-less w₂ w₃ (stack + m) stack (free + tableWords) free (omega arith) (omega arith) (Q .done .still)))
 
           pub text-refused : (number₂ ≡ 0 → ⊥) → (count end : ℕ) → TextDone s s₂ d w w₃ stack at free (text k p ls) global number₂ place₂ count end
           unfolding textItems
@@ -244,8 +245,8 @@ module _ (s d w : List ℕ) (stack at free k : ℕ) (p : Pred) (ls : Lines) (A :
                   let R = Placed s₂ d (H ⨾ (a ⨾ b)) (body .unknowns) in
                   let q = linesSignature ls Γ noNames in
                   let size = L .done .areas fine .stored .size ∙ K .size in
-                  carries-spared w₂ w₃ (stack + m) (free + 64) free m R q (Q .done .still) l (omega arith)
-                  (carries-spared w₁ w₂ stack (free + 64) free m R q (spared₂ (free + 64)) l (omega arith)
+                  carries-spared w₂ w₃ (stack + m) (free + tableWords) free m R q (Q .done .still) l (omega arith)
+                  (carries-spared w₁ w₂ stack (free + tableWords) free m R q (spared₂ (free + tableWords)) l (omega arith)
                   (carries-later s₂ d (H ⨾ a) (H ⨾ (a ⨾ b)) (X .unknowns) (body .unknowns) (body .walked .wider) (λ τ t. (t .0, t .1 .0)) q (rows w₁ free m)
                   (carries-stored s₁ s₂ d at₁ at₁ size (L .done .areas fine .stored .after) (omega arith) (omega arith)
                   (stored-low s₁ s₂ at₁ same (omega arith) (L .done .areas fine .stored .after) (Q .done .areas fine₂)) (H ⨾ a) (X .unknowns) q (rows w₁ free m) (X .signature))))
@@ -256,7 +257,7 @@ module _ (s d w : List ℕ) (stack at free k : ℕ) (p : Pred) (ls : Lines) (A :
               within-after =
                   scoped-later s₂ d w₃ (stack + m) (inside (text k p ls) Γ) D (idle ((H ⨾ a) ⨾ b) (body .unknowns)) (idle (H ⨾ (a ⨾ b)) (body .unknowns)) (λ x i. i)
                   (λ τ t. (((t .0 .0, t .0 .1 .0), t .0 .1 .1), tt))
-                  (scoped-after s₁ s₂ d w₂ w₃ (stack + m) (free + 64) (inside (text k p ls) Γ) D (H ⨾ a) b (X .unknowns) (body .unknowns) (Owned (predNumbers p)) (body .walked)
+                  (scoped-after s₁ s₂ d w₂ w₃ (stack + m) (free + tableWords) (inside (text k p ls) Γ) D (H ⨾ a) b (X .unknowns) (body .unknowns) (Owned (predNumbers p)) (body .walked)
                   (Q .done .areas fine₂) (Q .done .still) (within H U S Γ D C F))
 
             pub text-done : TextDone s s₂ d w w₃ stack at free (text k p ls) global number place m at₁

@@ -16,6 +16,7 @@ use Rattle.checker_rules.specs.Rules.{includeItems}
 use Rattle.checker_rules.specs.Scopes.{Scope, includeNode, includeSignature}
 use Rattle.checker_rules.specs.Signatures.{Signature, noNames, naming, termIn}
 use Rattle.checker_rules.specs.Unknowns.{Table}
+use Rattle.checker_signatures.specs.Tables.{tableWords}
 use Rattle.checker_signatures.specs.Rows.{rows}
 use Rattle.checker_signatures.specs.Carried.{Carries}
 use Rattle.checker_pieces.specs.Piece.{Steady}
@@ -74,7 +75,7 @@ module _ (s d w : List ℕ) (stack at free : ℕ) (i : Include) (A : BringsAsk s
           (T .stops refl (H ⨾ a) (B .unknowns) n n (actualCount i) (includeSignature i Γ) (B .walked .steady) (B .actuals) (B .components)))
 
       module _ (T : SmallTold s₁ d w₁ free m actuals true) (few-actuals : actualCount i ≤ 4) where
-        pub brings-keep : KeepAsk s₁ d w₁ free 0 free m actuals at at₁ (free + 64)
+        pub brings-keep : KeepAsk s₁ d w₁ free 0 free m actuals at at₁ (free + tableWords)
         brings-keep =
             let Q = brought-ask s s₁ d w w₁ stack at free (A .height) i places places₁ number place m at₁ (A .walking) I fine in
             let R = A .walking .room in
@@ -103,7 +104,7 @@ module _ (s d w : List ℕ) (stack at free : ℕ) (i : Include) (A : BringsAsk s
               apart = inl (omega arith);
             }
 
-        module _ (s₂ w₂ : List ℕ) (at₂ : ℕ) (E : RowsKept s₁ s₂ d w₁ w₂ free 0 free m actuals at at₁ (free + 64) at₂) where
+        module _ (s₂ w₂ : List ℕ) (at₂ : ℕ) (E : RowsKept s₁ s₂ d w₁ w₂ free 0 free m actuals at at₁ (free + tableWords) at₂) where
           pub brings-done : (place′ : ℕ) → BringsDone s s₂ d w w₂ stack at free i 0 place′ m at₂
           unfolding Meets Carries pairsFrom
           brings-done place′ =

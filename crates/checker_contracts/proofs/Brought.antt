@@ -16,13 +16,14 @@ use Rattle.checker_includes.specs.Storing.{Stored}
 use Rattle.checker_contracts.specs.Includes.{actualCount, Brought, IncludeDone}
 use Rattle.checker_contracts.specs.Predicates.{Walking}
 use Rattle.checker_contracts.proofs.Carrying.{component-rows}
+use Rattle.types_cells.specs.Layout.{areaSize, poolSize}
 
 -- Written twice from the same place on: what was written first is gone.
 pub stored-again : (s s′ s″ : List ℕ) (at at′ at″ : ℕ) → Stored s s′ at at′ → Stored s′ s″ at at″ → Stored s s″ at at″
 stored-again s s′ s″ at at′ at″ A B = record { size = B .size ∙ A .size; before = λ i l. B .before i l ∙ A .before i l; after = B .after; more = B .more }
 
 -- The word before stays 0.
-pub stored-gap : (s s′ : List ℕ) (at at′ : ℕ) → at ≤ 39936 → Clean s at → Stored s s′ at at′ → (i : ℕ) → suc i ≡ at → getD s′ i 0 ≡ 0
+pub stored-gap : (s s′ : List ℕ) (at at′ : ℕ) → at ≤ poolSize → Clean s at → Stored s s′ at at′ → (i : ℕ) → suc i ≡ at → getD s′ i 0 ≡ 0
 stored-gap s s′ at at′ r C A i e = A .before i (omega arith) ∙ C i (omega arith) (omega arith)
 
 -- Items that say more.
@@ -35,7 +36,7 @@ module _ (s s₁ d w w₁ : List ℕ) (stack at free h : ℕ) (i : Include) (pla
   brought : Brought s₁ d w₁ m free (K .before) (K .known) (K .scope) i places₁
   brought = I .done .goes fine (K .before) (K .known) (K .steady) (K .scope) (K .dictionary) (K .scoped) tt (K .fresh)
 
-  pub brought-size : length s₁ ≡ 52224
+  pub brought-size : length s₁ ≡ areaSize
   brought-size = I .done .areas fine .stored .size ∙ K .size
 
   pub brought-ask : RowsAsk s₁ d w₁ free m (take (actualCount i) places₁)

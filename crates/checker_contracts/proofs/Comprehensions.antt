@@ -16,12 +16,13 @@ use Rattle.checker_rules.specs.Items.{Items, _⨾_}
 use Rattle.checker_rules.specs.Rules.{exprItems, textItems}
 use Rattle.checker_rules.specs.Scopes.{Scope, inside}
 use Rattle.checker_rules.specs.Unknowns.{slot}
+use Rattle.types_cells.specs.Layout.{firstRun, frozenSize, areaSize, poolSize, maxCells}
 use Rattle.types_cells.specs.Settled.{lower}
 use Rattle.types_solver.specs.Written.{Wrote}
 use Rattle.checker_signatures.specs.Rows.{stack}
 use Rattle.checker_signatures.proofs.ScopeLaws.{stacked-other}
 use Rattle.types_instances.specs.Moved.{saved, restored}
-use Rattle.checker_pieces.specs.Stage.{Ghost, Cell}
+use Rattle.checker_pieces.specs.Stage.{Ghost, Cell, nodeCells}
 use Rattle.checker_pieces.specs.Building.{Building}
 use Rattle.checker_pieces.proofs.Stages.{building, one-cell, placed-cell}
 use Rattle.checker_kinds.specs.Formers.{Derived, comprehensionItems}
@@ -102,7 +103,7 @@ module _ (s d w : List ℕ) (rows n top at free : ℕ) (k : ℕ) (t : Text) (a :
   done s′ w′ number place cell n′ top′ at′ E =
       expr-done s s′ d w w′ rows n top at free (comprehension k t a) k (λ Γ. textItems t Γ blank ⨾ bodyItems Γ) (l ++ rest) number place cell n′ top′ at′ items numbers node E
 
-  pub compr-save-asked : (length s ≡ 52224) × (n ≤ 1024) × (4096 ≤ top) × (top ≤ 6144) × (free < 2 ^ 39)
+  pub compr-save-asked : (length s ≡ areaSize) × (n ≤ maxCells) × (firstRun ≤ top) × (top ≤ frozenSize) × (free < 2 ^ 39)
   compr-save-asked = save-asked s d w w rows n top at free (K .height) free l rest compr-visiting some deep
 
   module _ (w₁ : List ℕ) (e : ℕ) (S : Wrote w w₁ free e (saved s n top)) where
@@ -124,10 +125,10 @@ module _ (s d w : List ℕ) (rows n top at free : ℕ) (k : ℕ) (t : Text) (a :
           (waiting-stops s d w w₁ rows n top at free (K .height) e l rest compr-visiting some deep S w₂ (T .done .still) (λ Γ. textItems t Γ blank) s₁ 0 number place 0 n′ top′ at′ ne (λ H U Z Γ D C f. T .done .stops ne H U Z Γ D C tt f)))
 
       module _ (z : number ≡ 0) where
-        pub compr-restore-asked : (n ≤ 1024) × (4096 ≤ top) × (top ≤ 6144) × (free < 2 ^ 39) × (free + (5 * n + (top - 4096)) ≤ length w₂)
+        pub compr-restore-asked : (n ≤ maxCells) × (firstRun ≤ top) × (top ≤ frozenSize) × (free < 2 ^ 39) × (free + (5 * n + (top - firstRun)) ≤ length w₂)
         compr-restore-asked = restore-asked s d w w₁ rows n top at free (K .height) e l rest compr-visiting some deep S w₂ (T .done .still)
 
-        reach : at₁ < 39936
+        reach : at₁ < poolSize
         reach = let p = compr-visiting .room .pool in let q = T .done .areas z .short in let r = T .done .areas z .few in let h = deep in omega arith
 
         module _ (s₂ : List ℕ) (R : s₂ ≡ restored s₁ n top w₂ free) where
@@ -146,7 +147,7 @@ module _ (s d w : List ℕ) (rows n top at free : ℕ) (k : ℕ) (t : Text) (a :
                 areas = record {
                   stored = X .stored;
                   short = let q = T .done .areas z .short in let r = T .done .areas z .few in let o = text-two t in omega arith;
-                  uses = taken-uses s d w w₁ rows n top at free (K .height) e l rest compr-visiting some deep S w₂ (T .done .still) s₁ s₂ at₁ (T .done .areas z .stored) R (40 * length l);
+                  uses = taken-uses s d w w₁ rows n top at free (K .height) e l rest compr-visiting some deep S w₂ (T .done .still) s₁ s₂ at₁ (T .done .areas z .stored) R (nodeCells * length l);
                 };
               }
             where
@@ -218,11 +219,11 @@ module _ (s d w : List ℕ) (rows n top at free : ℕ) (k : ℕ) (t : Text) (a :
               C₂ : Cell s₃ d n₃ (M₂ .ghost) x (typeOf a)
               C₂ = part-leaves s₂ s₃ d w₂ w₃ rows n top n₃ top₃ at₁ at₃ free (K .height) (λ Γ. exprItems a (inside t Γ)) la (k ∷ []) After (λ Γ D G. Cell s₃ d n₃ G x (typeOf a)) M Second within
 
-              pub compr-building : (r : ℕ) → r ≤ 80 → Building s₃ n₃ top₃ r (x ∷ [])
+              pub compr-building : (r : ℕ) → r ≤ 2 * nodeCells → Building s₃ n₃ top₃ r (x ∷ [])
               compr-building r p =
                   building s₃ d n₃ top₃ r (M₂ .ghost) (M₂ .stands) (node-room s₃ d w₃ rows n₃ top₃ at₃ free (K .height) k r M₂ p) (x ∷ []) (cons (typeOf a) nil) (one-cell s₃ d n₃ (M₂ .ghost) x (typeOf a) C₂)
 
-              pub compr-done : (s₄ : List ℕ) (answer cell n₄ top₄ used : ℕ) → used ≤ 40 → length s₄ ≡ length s₃ → Derived s₃ s₄ d n₃ top₃ x answer cell n₄ top₄ used comprehensionItems →
+              pub compr-done : (s₄ : List ℕ) (answer cell n₄ top₄ used : ℕ) → used ≤ nodeCells → length s₄ ≡ length s₃ → Derived s₃ s₄ d n₃ top₃ x answer cell n₄ top₄ used comprehensionItems →
                   ExprDone s s₄ d w w₃ rows n top at free (comprehension k t a) answer k cell n₄ top₄ at₃
               compr-done s₄ answer cell n₄ top₄ used few size D₄ =
                   let q₁ = visiting-low s₂ d w₂ rows n top at₁ free (K .height) rest M in

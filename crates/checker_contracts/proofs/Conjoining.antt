@@ -21,7 +21,7 @@ use Rattle.checker_rules.specs.Signatures.{Signature, countNames, merge}
 use Rattle.checker_rules.specs.Unknowns.{Table}
 use Rattle.checker_signatures.specs.Rows.{rows, flat, mergeRows}
 use Rattle.checker_signatures.specs.Carried.{Carries}
-use Rattle.checker_signatures.specs.Tables.{Table as Written}
+use Rattle.checker_signatures.specs.Tables.{Table as Written, tableWords}
 use Rattle.checker_signatures.proofs.CallLaws.{carried}
 use Rattle.checker_signatures.proofs.RowLaws.{getD-below}
 use Rattle.checker_signatures.proofs.CarryLaws.{carries-other, carries-merge, carries-count}
@@ -32,6 +32,7 @@ use Rattle.checker_pieces.proofs.Between.{walked-mine}
 use Rattle.checker_lookup.specs.Scoped.{Scoped}
 use Rattle.checker_includes.specs.Components.{Placed}
 use Rattle.checker_includes.specs.Storing.{Stored}
+use Rattle.checker_contracts.specs.Room.{pathTypeWords, poolEnd}
 use Rattle.checker_contracts.specs.Predicates.{Walking}
 use Rattle.checker_contracts.specs.Schemas.{SchemaAsk, SchemaWent, SchemaDone}
 use Rattle.checker_contracts.specs.Visits.{Owned, Fresh, EachOnce, idle, Spared}
@@ -42,6 +43,7 @@ use Rattle.checker_contracts.proofs.Scopes.{scoped-stored, scoped-spare
 use Rattle.checker_contracts.proofs.Counting.{few-noted, few-refused}
 use Rattle.checker_contracts.proofs.ItemOrder.{Order, only, _then_, grouped, listed, after, AllPass, AllWalked, refuses-at, all-walked}
 use Rattle.checker_contracts.proofs.Refused.{done-refused}
+use Rattle.types_cells.specs.Layout.{areaSize, typeWords}
 
 -- What holds of both sides, before anything is merged.
 abbrev pub Sides : Items → Schema → Schema → Scope → Items
@@ -54,7 +56,7 @@ pub record Paired (s s′ d w w′ : List ℕ) (m n free : ℕ) (H : Items) (U :
   pub unknowns : List ℕ
   pub second : Walked (H ⨾ schemaItems a Γ) (schemaItems b Γ) middle unknowns (Owned (schemaNumbers b))
   pub left : Carries (Placed s d (Sides H a b Γ) unknowns) (schemaSignature a Γ) (rows w free m)
-  pub right : Carries (Placed s′ d (Sides H a b Γ) unknowns) (schemaSignature b Γ) (rows w′ (free + 64) n)
+  pub right : Carries (Placed s′ d (Sides H a b Γ) unknowns) (schemaSignature b Γ) (rows w′ (free + tableWords) n)
 
 typed-rows : (s d : List ℕ) (H : Items) (U : List ℕ) (r : Signature) (rs : List (ℕ × ℕ)) → Carries (Placed s d H U) r rs → Carries (TypedAt s d H U) r rs
 typed-rows s d H U r rs C = carries-other (Placed s d H U) (TypedAt s d H U) (λ t p P. P .typed) r rs C
@@ -124,11 +126,11 @@ module _ (s d w : List ℕ) (stack at free k : ℕ) (a b : Schema) (A : SchemaAs
       stored : Stored s s₁ at at₁
       stored = P .done .areas fine .stored
 
-      size₁ : length s₁ ≡ 52224
+      size₁ : length s₁ ≡ areaSize
       size₁ = stored .size ∙ A .walking .size
 
       -- the pool's words so far
-      pub low-enough : at₁ + 3072 ≤ 39072
+      pub low-enough : at₁ + 2 * pathTypeWords ≤ poolEnd + 2 * pathTypeWords
       low-enough = let p = A .walking .room .pool in let q = P .done .areas fine .short in let l = P .done .areas fine .few in let o = high in omega arith
 
       pub some₁ : 1 ≤ at₁
@@ -145,7 +147,7 @@ module _ (s d w : List ℕ) (stack at free k : ℕ) (a b : Schema) (A : SchemaAs
           (scoped-walked s₁ d w stack Γ D H (schemaItems a Γ) U (X .unknowns) (Owned na) (X .walked)
           (scoped-stored s s₁ d at at₁ (A .walking .size) (A .walking .clean) (A .walking .room .some) (omega arith) stored w stack (idle H U) Γ D C))
 
-      pub both-second : SchemaAsk s₁ d w₁ stack at₁ (free + 64) b
+      pub both-second : SchemaAsk s₁ d w₁ stack at₁ (free + tableWords) b
       unfolding LimitedSchema schemaNumbers
       both-second =
           let K = A .walking in
@@ -175,14 +177,14 @@ module _ (s d w : List ℕ) (stack at free k : ℕ) (a b : Schema) (A : SchemaAs
               clean = stored .after;
               bound = K .bound;
               crowd = crowd-part (K .bound) ((na ++ nb) ++ last) nb (K .crowd) (omega arith);
-              room = between-part w w₁ stack stack at at₁ free (free + 64) (A .height) (A .height - 1) (K .bound) (K .bound) (K .room) (P .done .still .size) (omega arith) (omega arith)
+              room = between-part w w₁ stack stack at at₁ free (free + tableWords) (A .height) (A .height - 1) (K .bound) (K .bound) (K .room) (P .done .still .size) (omega arith) (omega arith)
                   c (omega arith) (omega arith) (omega arith) (omega arith);
             };
           }
 
-      module _ (s₂ w₂ : List ℕ) (number′ place′ n at₂ : ℕ) (Q : SchemaDone s₁ s₂ d w₁ w₂ stack at₁ (free + 64) b number′ place′ n at₂) where
+      module _ (s₂ w₂ : List ℕ) (number′ place′ n at₂ : ℕ) (Q : SchemaDone s₁ s₂ d w₁ w₂ stack at₁ (free + tableWords) b number′ place′ n at₂) where
         pub both-spared : Spared w w₂ stack free
-        both-spared = spared-on w w₁ w₂ stack free (P .done .still) (spared-less w₁ w₂ stack stack (free + 64) free (omega arith) (omega arith) (Q .done .still))
+        both-spared = spared-on w w₁ w₂ stack free (P .done .still) (spared-less w₁ w₂ stack stack (free + tableWords) free (omega arith) (omega arith) (Q .done .still))
 
         -- the finding of the right side
         pub both-second-stops : (number′ ≡ 0 → ⊥) → SchemaDone s s₂ d w w₂ stack at free (both k a b) number′ place′ n at₂
@@ -213,23 +215,23 @@ module _ (s d w : List ℕ) (stack at free k : ℕ) (a b : Schema) (A : SchemaAs
               }
 
           -- The left table in later areas, where the words below at₁ and the table's rows stay.
-          pub left-later : (s₃ w₃ : List ℕ) (at₃ : ℕ) → Stored s₁ s₃ at₁ at₃ → Spared w₁ w₃ stack (free + 64) → (H : Items) (U : List ℕ) (Γ : Scope) (Z : Paired s₁ s₂ d w₁ w₂ m n free H U Γ a b) →
+          pub left-later : (s₃ w₃ : List ℕ) (at₃ : ℕ) → Stored s₁ s₃ at₁ at₃ → Spared w₁ w₃ stack (free + tableWords) → (H : Items) (U : List ℕ) (Γ : Scope) (Z : Paired s₁ s₂ d w₁ w₂ m n free H U Γ a b) →
               Carries (Placed s₃ d (Sides H a b Γ) (Z .unknowns)) (schemaSignature a Γ) (rows w₃ free m)
           left-later s₃ w₃ at₃ T E H U Γ Z =
               let l = P .done .areas fine .few in
               let o = low-enough in
-              carries-spared w₁ w₃ stack (free + 64) free m (Placed s₃ d (Sides H a b Γ) (Z .unknowns)) (schemaSignature a Γ) E (A .walking .room .low) (omega arith)
+              carries-spared w₁ w₃ stack (free + tableWords) free m (Placed s₃ d (Sides H a b Γ) (Z .unknowns)) (schemaSignature a Γ) E (A .walking .room .low) (omega arith)
               (carries-stored s₁ s₃ d at₁ at₃ size₁ (stored .after) some₁ (omega arith) T (Sides H a b Γ) (Z .unknowns) (schemaSignature a Γ) (rows w₁ free m) (Z .left))
 
           module _ (H : Items) (U : List ℕ) (Γ : Scope) (Z : Paired s₁ s₂ d w₁ w₂ m n free H U Γ a b) where
             pub left-now : Carries (TypedAt s₂ d (Sides H a b Γ) (Z .unknowns)) (schemaSignature a Γ) (rows w₂ free m)
             left-now = typed-rows s₂ d (Sides H a b Γ) (Z .unknowns) (schemaSignature a Γ) (rows w₂ free m) (left-later s₂ w₂ at₂ stored′ (Q .done .still) H U Γ Z)
 
-            pub right-now : Carries (TypedAt s₂ d (Sides H a b Γ) (Z .unknowns)) (schemaSignature b Γ) (rows w₂ (free + 64) n)
-            right-now = typed-rows s₂ d (Sides H a b Γ) (Z .unknowns) (schemaSignature b Γ) (rows w₂ (free + 64) n) (Z .right)
+            pub right-now : Carries (TypedAt s₂ d (Sides H a b Γ) (Z .unknowns)) (schemaSignature b Γ) (rows w₂ (free + tableWords) n)
+            right-now = typed-rows s₂ d (Sides H a b Γ) (Z .unknowns) (schemaSignature b Γ) (rows w₂ (free + tableWords) n) (Z .right)
 
           -- 36
-          pub both-clash : RowsTold s₂ d w₂ free m (free + 64) n false → (m′ at′ : ℕ) → SchemaDone s s₂ d w w₂ stack at free (both k a b) 36 k m′ at′
+          pub both-clash : RowsTold s₂ d w₂ free m (free + tableWords) n false → (m′ at′ : ℕ) → SchemaDone s s₂ d w w₂ stack at free (both k a b) 36 k m′ at′
           unfolding schemaItems grouped listed after AllPass
           both-clash T m′ at′ = record {
             done = done-refused both-spared (λ e. omega arith) (λ H U S Γ D C u F.
@@ -239,18 +241,18 @@ module _ (s d w : List ℕ) (stack at free k : ℕ) (a b : Schema) (A : SchemaAs
           }
 
           -- AFTER 36. The right side's rows have their types in s₃, w₃, and both tables are merged in w₄.
-          module _ (T : RowsTold s₂ d w₂ free m (free + 64) n true) (s₃ w₃ w₄ : List ℕ) (r e : ℕ) (E : Spared w₁ w₃ stack (free + 64)) (B : Stored s₁ s₃ at₁ e)
+          module _ (T : RowsTold s₂ d w₂ free m (free + tableWords) n true) (s₃ w₃ w₄ : List ℕ) (r e : ℕ) (E : Spared w₁ w₃ stack (free + tableWords)) (B : Stored s₁ s₃ at₁ e)
               (kept : (H : Items) (U : List ℕ) (Γ : Scope) (Z : Paired s₁ s₂ d w₁ w₂ m n free H U Γ a b) →
               ((τ : Table) → Meets (Sides H a b Γ) τ → Meets (mergeNames k (schemaSignature b Γ) (schemaSignature a Γ)) τ) →
-              Carries (Placed s₃ d (Sides H a b Γ) (Z .unknowns)) (schemaSignature b Γ) (rows w₃ (free + 64) n))
-              (W : Written w₃ w₄ free (mergeRows (rows w₃ (free + 64) n) (rows w₃ free m)) r) where
+              Carries (Placed s₃ d (Sides H a b Γ) (Z .unknowns)) (schemaSignature b Γ) (rows w₃ (free + tableWords) n))
+              (W : Written w₃ w₄ free (mergeRows (rows w₃ (free + tableWords) n) (rows w₃ free m)) r) where
             spared₄ : Spared w w₄ stack free
             spared₄ =
                 let f = A .walking .room .low in
                 let q = A .walking .room .stack in
                 spared-on w w₁ w₄ stack free (P .done .still)
-                (spared-on w₁ w₃ w₄ stack free (spared-less w₁ w₃ stack stack (free + 64) free (omega arith) (omega arith) E)
-                (spared-table w₃ w₄ stack free (mergeRows (rows w₃ (free + 64) n) (rows w₃ free m)) r (omega arith) W))
+                (spared-on w₁ w₃ w₄ stack free (spared-less w₁ w₃ stack stack (free + tableWords) free (omega arith) (omega arith) E)
+                (spared-table w₃ w₄ stack free (mergeRows (rows w₃ (free + tableWords) n) (rows w₃ free m)) r (omega arith) W))
 
             module _ (H : Items) (U : List ℕ) (Γ : Scope) (Z : Paired s₁ s₂ d w₁ w₂ m n free H U Γ a b) where
               abbrev met : Items
@@ -262,13 +264,13 @@ module _ (s d w : List ℕ) (stack at free k : ℕ) (a b : Schema) (A : SchemaAs
               agreed : Walked (Sides H a b Γ) met (Z .unknowns) (Z .unknowns) (λ x. ⊥)
               agreed = T .goes refl (Sides H a b Γ) (Z .unknowns) k (schemaSignature b Γ) (schemaSignature a Γ) (Z .second .steady) (right-now H U Γ Z) (left-now H U Γ Z)
 
-              merged : Carries (Placed s₃ d (Sides H a b Γ) (Z .unknowns)) joined (mergeRows (rows w₃ (free + 64) n) (rows w₃ free m))
+              merged : Carries (Placed s₃ d (Sides H a b Γ) (Z .unknowns)) joined (mergeRows (rows w₃ (free + tableWords) n) (rows w₃ free m))
               merged =
-                  carries-merge (Placed s₃ d (Sides H a b Γ) (Z .unknowns)) (schemaSignature b Γ) (schemaSignature a Γ) (rows w₃ (free + 64) n) (rows w₃ free m)
+                  carries-merge (Placed s₃ d (Sides H a b Γ) (Z .unknowns)) (schemaSignature b Γ) (schemaSignature a Γ) (rows w₃ (free + tableWords) n) (rows w₃ free m)
                   (kept H U Γ Z (noted (Sides H a b Γ) met (Z .unknowns) (λ x. ⊥) agreed)) (left-later s₃ w₃ e B E H U Γ Z)
 
               counted : countNames joined ≡ r
-              counted = carries-count (Placed s₃ d (Sides H a b Γ) (Z .unknowns)) joined (mergeRows (rows w₃ (free + 64) n) (rows w₃ free m)) merged ∙ sym (W .count)
+              counted = carries-count (Placed s₃ d (Sides H a b Γ) (Z .unknowns)) joined (mergeRows (rows w₃ (free + tableWords) n) (rows w₃ free m)) merged ∙ sym (W .count)
 
             -- 38
             pub both-many : 16 < r → (m′ at′ : ℕ) → SchemaDone s s₃ d w w₄ stack at free (both k a b) 38 k m′ at′
@@ -281,7 +283,7 @@ module _ (s d w : List ℕ) (stack at free k : ℕ) (a b : Schema) (A : SchemaAs
                   refuses-at (sideOrder k a b Γ) H 3 38 k (Z .first .goes, (Z .second .goes, (G .goes, tt))) (few-refused (Sides H a b Γ ⨾ met H U Γ Z) k (joined H U Γ Z) (omega arith)));
             }
 
-            pub both-done : r ≤ 16 → m ≤ r → e ≤ at₁ + 96 * (r - m) → SchemaDone s s₃ d w w₄ stack at free (both k a b) 0 k r e
+            pub both-done : r ≤ 16 → m ≤ r → e ≤ at₁ + typeWords * (r - m) → SchemaDone s s₃ d w w₄ stack at free (both k a b) 0 k r e
             unfolding schemaItems schemaSignature schemaNumbers Meets grouped listed AllWalked
             both-done l q h = record {
               done = record {
@@ -326,7 +328,7 @@ module _ (s d w : List ℕ) (stack at free k : ℕ) (a b : Schema) (A : SchemaAs
                           );
                       signature =
                           carries-later s₃ d (Sides H a b Γ) (H ⨾ (sa ⨾ (sb ⨾ (M ⨾ O)))) (Z .unknowns) (Z .unknowns) (λ i j. j) (λ τ j. ((j .0, j .1 .0), j .1 .1 .0)) (joined H U Γ Z) (rows w₄ free r)
-                          (carried (Placed s₃ d (Sides H a b Γ) (Z .unknowns)) w₃ w₄ free (mergeRows (rows w₃ (free + 64) n) (rows w₃ free m)) r (joined H U Γ Z) W (omega arith) (merged H U Γ Z));
+                          (carried (Placed s₃ d (Sides H a b Γ) (Z .unknowns)) w₃ w₄ free (mergeRows (rows w₃ (free + tableWords) n) (rows w₃ free m)) r (joined H U Γ Z) W (omega arith) (merged H U Γ Z));
                     };
                 stops = λ x. absurd (x refl);
               };

@@ -21,6 +21,7 @@ use Rattle.checker_rules.specs.Scopes.{Scope, linesSignature}
 use Rattle.checker_rules.specs.Signatures.{Signature, countNames, declare}
 use Rattle.checker_rules.specs.Unknowns.{slot, unknownAt}
 use Rattle.reader_rules.proofs.Sized.{SizedExpr}
+use Rattle.types_cells.specs.Layout.{firstRun, areaSize, poolSize, typeWords}
 use Rattle.types_cells.specs.Settled.{lower, heap, Reads}
 use Rattle.types_solver.specs.Sizes.{cap}
 use Rattle.types_solver.proofs.Marking.{cap-cases}
@@ -36,7 +37,7 @@ use Rattle.types_instances.proofs.FillSizes.{size-few}
 use Rattle.types_instances.proofs.CleanLaws.{wiped-clean}
 use Rattle.types_instances.proofs.Moving.{sets-before}
 use Rattle.checker_pieces.specs.Piece.{Steady, Walked, Settled}
-use Rattle.checker_pieces.specs.Stage.{Ghost, Room, Uses}
+use Rattle.checker_pieces.specs.Stage.{Ghost, Room, Uses, nodeCells}
 use Rattle.checker_pieces.proofs.Stages.{room-less}
 use Rattle.checker_pieces.specs.Building.{Powered, Working}
 use Rattle.checker_pieces.specs.Closed.{Closing, Closed, Shut, Sizing, SizeIs}
@@ -45,7 +46,7 @@ use Rattle.checker_lookup.specs.Scoped.{Scoped}
 use Rattle.checker_includes.specs.Components.{Placed, StandsFor}
 use Rattle.checker_includes.specs.Storing.{Stored, Scratch}
 use Rattle.checker_contracts.specs.Visits.{Owned, Fresh, EachOnce, idle, Spared, globalsIf}
-use Rattle.checker_contracts.specs.Room.{Between, Inside}
+use Rattle.checker_contracts.specs.Room.{Between, Inside, framesAt, nodeTypeWords}
 use Rattle.checker_contracts.specs.Expressions.{ExprAsk, ExprDone}
 use Rattle.checker_contracts.specs.Predicates.{Walking}
 use Rattle.checker_contracts.specs.Texts.{LinesAsk, LinesWent, LinesDone}
@@ -61,7 +62,7 @@ use Rattle.checker_contracts.proofs.Counting.{declare-grows, declare-sa
 use Rattle.checker_contracts.proofs.Refused.{done-refused}
 
 -- Words stored and wiped.
-pub stored-wiped : (s s′ : List ℕ) (at e : ℕ) → length s ≡ 52224 → Clean s at → 1 ≤ at → e < 39936 → Stored s s′ at e → Stored s (sets s′ at (replicate (e - at) 0)) at at
+pub stored-wiped : (s s′ : List ℕ) (at e : ℕ) → length s ≡ areaSize → Clean s at → 1 ≤ at → e < poolSize → Stored s s′ at e → Stored s (sets s′ at (replicate (e - at) 0)) at at
 stored-wiped s s′ at e z C o r T =
     let x = T .size in
     let y = T .more in
@@ -73,15 +74,15 @@ stored-wiped s s′ at e z C o r T =
     }
 
 -- Room for a power after the expression.
-pub after-room : (s s′ w : List ℕ) (rows n top at free h x : ℕ) → Inside s w rows 0 4096 at free h x → Uses s s′ 0 4096 n top (40 * x) → Room s′ n top 2
+pub after-room : (s s′ w : List ℕ) (rows n top at free h x : ℕ) → Inside s w rows 0 firstRun at free h x → Uses s s′ 0 firstRun n top (nodeCells * x) → Room s′ n top 2
 after-room s s′ w rows n top at free h x I U =
     let e = I .enough in
     let f = I .few in
-    U 2 (room-less s 0 4096 (40 * x + 2) (40 * (24 - I .visited) + 40) (omega arith) (I .store))
+    U 2 (room-less s 0 firstRun (nodeCells * x + 2) (nodeCells * (24 - I .visited) + nodeCells) (omega arith) (I .store))
 
 -- A closed piece of one expression begins between pieces, where it has at most 24 nodes.
 pub begin-ask : (s d w : List ℕ) (rows at free h h′ t : ℕ) (a : Expr) (l : List ℕ) (K : Walking s d w rows at free h l) → h′ ≤ h → LimitedExpr h′ t a →
-    length (exprNumbers a) ≤ 24 → length (exprNumbers a) ≤ length l → Fresh (exprNumbers a) (K .known) → EachOnce (exprNumbers a) → ExprAsk s d w rows 0 4096 at free a
+    length (exprNumbers a) ≤ 24 → length (exprNumbers a) ≤ length l → Fresh (exprNumbers a) (K .known) → EachOnce (exprNumbers a) → ExprAsk s d w rows 0 firstRun at free a
 begin-ask s d w rows at free h h′ t a l K p L few part F o = record {
   height = h′;
   texts = t;
@@ -98,7 +99,7 @@ begin-ask s d w rows at free h h′ t a l K p L few part F o = record {
     clean = K .clean;
     room =
         let q = ⊎-elim (λ (z : 24 ≤ K .bound). let y : length (exprNumbers a) ≤ K .bound = omega arith in y) (λ (z : length l ≤ K .bound). let y : length (exprNumbers a) ≤ K .bound = omega arith in y) (K .crowd) in
-        inside-part s w rows 0 4096 at free h h′ (length (exprNumbers a)) (length (exprNumbers a)) (begin-inside s w rows at free h (K .bound) (length (exprNumbers a)) (K .room) q) p (omega arith);
+        inside-part s w rows 0 firstRun at free h h′ (length (exprNumbers a)) (length (exprNumbers a)) (begin-inside s w rows at free h (K .bound) (length (exprNumbers a)) (K .room) q) p (omega arith);
   };
 }
 
@@ -131,7 +132,7 @@ module _ (s d w : List ℕ) (stack base m at free n : ℕ) (a : Expr) (is : List
   decl-owned y (inl o) = owned-left (l ++ (n ∷ [])) [] y (owned-left l (n ∷ []) y o)
   decl-owned y (inr e) = owned-left (l ++ (n ∷ [])) [] y (owned-right l (n ∷ []) y (owned-node n y (0, omega arith, e)))
 
-  pub decl-ask : ExprAsk s d w stack 0 4096 at free a
+  pub decl-ask : ExprAsk s d w stack 0 firstRun at free a
   unfolding linesNumbers LimitedLines
   decl-ask =
       let x = length-append l (n ∷ []) in
@@ -139,7 +140,7 @@ module _ (s d w : List ℕ) (stack base m at free n : ℕ) (a : Expr) (is : List
       begin-ask s d w stack at free (Q .height) (Q .height - 1) (Q .texts) a ((l ++ (n ∷ [])) ++ []) K (omega arith) (Q .limited .2) (Q .limited .1) (omega arith)
       (decl-new (K .known) (K .fresh) .0) (once-left l (n ∷ []) decl-once)
 
-  decl-low : (at < 39936) × (2 * stack ≤ 512)
+  decl-low : (at < poolSize) × (2 * stack ≤ framesAt)
   decl-low = let p = K .room .pool in let q = K .room .stack in (omega arith, omega arith)
 
   abbrev order : Scope → Dictionary → Signature → Order
@@ -158,7 +159,7 @@ module _ (s d w : List ℕ) (stack base m at free n : ℕ) (a : Expr) (is : List
   unfolding linesItems grouped
   refuses s′ w′ number place m′ at′ P e R = record { done = done-refused P e (λ H U S Γ D C r I. let F = I .0 in let J = I .1 in R Γ D H U S C (decl-new U F) r J) }
 
-  module _ (s₁ w₁ : List ℕ) (number place cell c₁ top₁ at₁ : ℕ) (A : ExprDone s s₁ d w w₁ stack 0 4096 at free a number place cell c₁ top₁ at₁) where
+  module _ (s₁ w₁ : List ℕ) (number place cell c₁ top₁ at₁ : ℕ) (A : ExprDone s s₁ d w w₁ stack 0 firstRun at free a number place cell c₁ top₁ at₁) where
     spared₁ : Spared w w₁ stack base
     spared₁ = let b = Q .beside in spared-less w w₁ stack stack free base (omega arith) (omega arith) (A .spared)
 
@@ -209,7 +210,7 @@ module _ (s d w : List ℕ) (stack base m at free n : ℕ) (a : Expr) (is : List
                   element-sizing s d w stack at free a n 0 (K .size) (K .few) decl-apart (omega arith) s₁ w₁ number place cell c₁ top₁ at₁ A (K .scope) (K .dictionary) (K .before) (K .known)
                   (K .steady) (K .scoped) (decl-new (K .known) (K .fresh)) fine s₂ b P yes s₃ Z
 
-              pub decl-size : length s₃ ≡ 52224
+              pub decl-size : length s₃ ≡ areaSize
               decl-size =
                   element-size s d w stack at free a n 0 (K .size) (K .few) decl-apart (omega arith) s₁ w₁ number place cell c₁ top₁ at₁ A (K .scope) (K .dictionary) (K .before) (K .known)
                   (K .steady) (K .scoped) (decl-new (K .known) (K .fresh)) fine s₂ b P yes s₃ Z
@@ -225,7 +226,7 @@ module _ (s d w : List ℕ) (stack base m at free n : ℕ) (a : Expr) (is : List
                   (decl-size ∙ sym (K .size)) (decl-low .0) (K .clean)
 
               -- The pool stays within its part.
-              pub decl-room : (1 ≤ at) × (at ≤ at₁) × (at₁ + 768 ≤ 38000) × (free + 96 ≤ length w₁) × (free < 2 ^ 32)
+              pub decl-room : (1 ≤ at) × (at ≤ at₁) × (at₁ + nodeTypeWords ≤ 38000) × (free + typeWords ≤ length w₁) × (free < 2 ^ 32)
               unfolding linesNumbers LimitedLines
               decl-room =
                   let o = K .room .some in
@@ -246,7 +247,7 @@ module _ (s d w : List ℕ) (stack base m at free n : ℕ) (a : Expr) (is : List
 
               -- THE TYPE IS STORED.
               module _ (sized : SizedExpr a) (s₄ w₂ : List ℕ) (v e : ℕ) (measured : SizeIs s₃ d (c₁ + 2) c₁ v) (stored : Stored s₃ s₄ at e) (scratch : Scratch w₁ w₂ free)
-                  (short : e ≤ at + 96)
+                  (short : e ≤ at + typeWords)
                   (stands : (G : Ghost) (S : Shut s₃ d (c₁ + 2) G) → WellFormed (S .type c₁) → (h : Ty) × Reads (heap s₄ d) at h × StandsFor h (S .type c₁)) where
                 abbrev HasSize : Ty → Type 0
                 HasSize g = v ≡ cap (size g)

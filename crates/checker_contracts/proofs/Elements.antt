@@ -19,6 +19,7 @@ use Rattle.checker_rules.specs.Rules.{exprItems}
 use Rattle.checker_rules.specs.Scopes.{Scope}
 use Rattle.checker_rules.specs.Unknowns.{slot, unknownAt}
 use Rattle.reader_rules.proofs.Sized.{SizedExpr}
+use Rattle.types_cells.specs.Layout.{firstRun, areaSize, poolSize}
 use Rattle.types_cells.specs.Settled.{lower, heap, Reads}
 use Rattle.types_instances.specs.Clean.{Clean}
 use Rattle.types_instances.proofs.CleanLaws.{clean-lower}
@@ -61,8 +62,8 @@ ElementNew a n k U = Fresh (exprNumbers a) U × (In (slot n k) U → ⊥)
 abbrev pub elementItems : Expr → ℕ → ℕ → Scope → Items
 elementItems a n k Γ = exprItems a Γ ⨾ isPower n k a
 
-module _ (s d w : List ℕ) (rows at free : ℕ) (a : Expr) (n k : ℕ) (big : length s ≡ 52224) (few : length d < 2 ^ 31) (apart : In n (exprNumbers a) → ⊥) (slots : k < 8)
-    (s₁ w₁ : List ℕ) (number place cell c₁ top₁ at₁ : ℕ) (A : ExprDone s s₁ d w w₁ rows 0 4096 at free a number place cell c₁ top₁ at₁) where
+module _ (s d w : List ℕ) (rows at free : ℕ) (a : Expr) (n k : ℕ) (big : length s ≡ areaSize) (few : length d < 2 ^ 31) (apart : In n (exprNumbers a) → ⊥) (slots : k < 8)
+    (s₁ w₁ : List ℕ) (number place cell c₁ top₁ at₁ : ℕ) (A : ExprDone s s₁ d w w₁ rows 0 firstRun at free a number place cell c₁ top₁ at₁) where
   abbrev l : List ℕ
   l = exprNumbers a
 
@@ -81,21 +82,21 @@ module _ (s d w : List ℕ) (rows at free : ℕ) (a : Expr) (n k : ℕ) (big : l
         (stops-left H skip own (isPower n k a) number place (A .stops e (idle H U) (opened s d H U S big few) Γ D C (F .0)))
 
     module _ (fine : number ≡ 0) where
-      pub first : Introduced s s₁ d 0 4096 c₁ top₁ (idle H U) own (Owned l) (slot (exprNode a) 0) cell
+      pub first : Introduced s s₁ d 0 firstRun c₁ top₁ (idle H U) own (Owned l) (slot (exprNode a) 0) cell
       first = A .goes fine (idle H U) (opened s d H U S big few) Γ D C (F .0)
 
       abbrev G₁ : Ghost
-      G₁ = next s s₁ d 0 4096 c₁ top₁ (idle H U) own (Owned l) (first .advanced)
+      G₁ = next s s₁ d 0 firstRun c₁ top₁ (idle H U) own (Owned l) (first .advanced)
 
       stands₁ : Stands s₁ d c₁ top₁ G₁
-      stands₁ = next-stands s s₁ d 0 4096 c₁ top₁ (idle H U) own (Owned l) (first .advanced) few
+      stands₁ = next-stands s s₁ d 0 firstRun c₁ top₁ (idle H U) own (Owned l) (first .advanced) few
 
       cell₁ : Cell s₁ d c₁ G₁ cell (typeOf a)
-      cell₁ = placed-cell s s₁ d 0 4096 c₁ top₁ (idle H U) own (Owned l) (first .advanced) (slot (exprNode a) 0) cell (first .placed)
+      cell₁ = placed-cell s s₁ d 0 firstRun c₁ top₁ (idle H U) own (Owned l) (first .advanced) (slot (exprNode a) 0) cell (first .placed)
 
       new₁ : In (slot n k) (first .advanced .mentioned) → ⊥
       new₁ =
-          next-unvisited s s₁ d 0 4096 c₁ top₁ (idle H U) own (Owned l) (first .advanced) (slot n k) (F .1)
+          next-unvisited s s₁ d 0 firstRun c₁ top₁ (idle H U) own (Owned l) (first .advanced) (slot n k) (F .1)
           (λ o. apart (subst (λ z. In z l) (slots-same (o .0) n (slot n k) (o .2) (k, slots, refl)) (o .1)))
 
       -- what is_power asks
@@ -107,13 +108,13 @@ module _ (s d w : List ℕ) (rows at free : ℕ) (a : Expr) (n k : ℕ) (big : l
         pub element-unequal : b ≡ false → Refuses (piece n (elementItems a n k Γ)) (Meets H) 33 n
         element-unequal e =
             piece-refused H n (elementItems a n k Γ) 33 n
-            (stop-then s s₁ d 0 4096 c₁ top₁ (idle H U) own (Owned l) (first .advanced) (isPower n k a) 33 n (P .stops e G₁ stands₁ (slot n k) new₁ 33 n (typeOf a) cell₁))
+            (stop-then s s₁ d 0 firstRun c₁ top₁ (idle H U) own (Owned l) (first .advanced) (isPower n k a) 33 n (P .stops e G₁ stands₁ (slot n k) new₁ 33 n (typeOf a) cell₁))
 
         module _ (yes : b ≡ true) where
-          pub both : Introduced s s₂ d 0 4096 (c₁ + 2) (top₁ + 1) (idle H U) (elementItems a n k Γ) Mine (slot n k) c₁
+          pub both : Introduced s s₂ d 0 firstRun (c₁ + 2) (top₁ + 1) (idle H U) (elementItems a n k Γ) Mine (slot n k) c₁
           both =
               let Q = P .goes yes G₁ stands₁ (slot n k) new₁ 33 n (typeOf a) cell₁ in
-              introduce-then s s₁ d 0 4096 c₁ top₁ (idle H U) own Mine (wider-mine s s₁ d 0 4096 c₁ top₁ (idle H U) own (Owned l) (first .advanced) Mine (λ y o. inl o)) (isPower n k a) s₂
+              introduce-then s s₁ d 0 firstRun c₁ top₁ (idle H U) own Mine (wider-mine s s₁ d 0 firstRun c₁ top₁ (idle H U) own (Owned l) (first .advanced) Mine (λ y o. inl o)) (isPower n k a) s₂
               (c₁ + 2) (top₁ + 1) (slot n k) c₁
               (introduced-wider s₁ s₂ d c₁ top₁ (c₁ + 2) (top₁ + 1) G₁ (isPower n k a) (λ y. y ≡ slot n k) (Q .advanced) Mine (λ y o. inr o) (slot n k) c₁ (Q .placed))
 
@@ -122,8 +123,8 @@ module _ (s d w : List ℕ) (rows at free : ℕ) (a : Expr) (n k : ℕ) (big : l
           element-closing = record {
             top = top₁ + 1;
             ready = record {
-              ghost = next s s₂ d 0 4096 (c₁ + 2) (top₁ + 1) (idle H U) (elementItems a n k Γ) Mine (both .advanced);
-              stands = next-stands s s₂ d 0 4096 (c₁ + 2) (top₁ + 1) (idle H U) (elementItems a n k Γ) Mine (both .advanced) few;
+              ghost = next s s₂ d 0 firstRun (c₁ + 2) (top₁ + 1) (idle H U) (elementItems a n k Γ) Mine (both .advanced);
+              stands = next-stands s s₂ d 0 firstRun (c₁ + 2) (top₁ + 1) (idle H U) (elementItems a n k Γ) Mine (both .advanced) few;
             };
           }
 
@@ -146,7 +147,7 @@ module _ (s d w : List ℕ) (rows at free : ℕ) (a : Expr) (n k : ℕ) (big : l
               pub element-sizing : Sizing s₃ d (c₁ + 2) c₁
               element-sizing = record { ghost = G₃; shut = shut; made = omega arith }
 
-              pub element-size : length s₃ ≡ 52224
+              pub element-size : length s₃ ≡ areaSize
               element-size =
                   Z .stands (top₁ + 1) G₃ (whole-stands s s₂ s₃ d (c₁ + 2) (top₁ + 1) H U n (elementItems a n k Γ) Mine (both .advanced) few) .piece .solved .held .size
 
@@ -188,7 +189,7 @@ module _ (s d w : List ℕ) (rows at free : ℕ) (a : Expr) (n k : ℕ) (big : l
 
   -- THE AREAS: the pool is as it was below `at`; the piece left it clean from at₁ on.
   module _ (fine : number ≡ 0) (s₂ : List ℕ) (b : Bool) (P : Powered s₁ s₂ d c₁ top₁ cell b) (s₃ : List ℕ) (o : Bool) (Z : Closed s₂ s₃ d (c₁ + 2) o) (same : length s₃ ≡ length s)
-      (room : at < 39936) where
+      (room : at < poolSize) where
     low₃ : lower s₃ ≡ lower s₁
     low₃ = Z .low ∙ P .low
 

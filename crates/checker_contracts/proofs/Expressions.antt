@@ -1,7 +1,7 @@
 -- Expressions with no, one or two operands: what is asked of their operands and of their rules, and what follows.
 use mathlib.Core.Path.{_≡_, subst}
 use mathlib.Core.List.{List, [], _∷_, _++_}
-use Prim.Native.Nat.{ℕ, _+_, _-_, _≤_}
+use Prim.Native.Nat.{ℕ, _+_, _-_, _≤_, _*_}
 use native.Mathlib.Omega.{arith}
 use lib.ListN.{length}
 use Rattle.reader_rules.specs.Tree.{Expr, exprNode}
@@ -12,7 +12,7 @@ use Rattle.checker_rules.specs.Items.{Items, _⨾_}
 use Rattle.checker_rules.specs.Rules.{exprItems}
 use Rattle.checker_rules.specs.Scopes.{Scope}
 use Rattle.checker_rules.specs.Unknowns.{slot}
-use Rattle.checker_pieces.specs.Stage.{Room, Cell}
+use Rattle.checker_pieces.specs.Stage.{Room, Cell, nodeCells}
 use Rattle.checker_pieces.specs.Building.{Building, Working}
 use Rattle.checker_pieces.proofs.Stages.{building, no-cells, one-cell, two-cells}
 use Rattle.checker_kinds.specs.Equations.{Combined}
@@ -24,9 +24,10 @@ use Rattle.checker_contracts.proofs.Rooms.{inside-room}
 use Rattle.checker_contracts.proofs.Visiting.{visiting-part, visiting-low}
 use Rattle.checker_contracts.proofs.Parts.{part-then, part-stops, part-next, part-leaves}
 use Rattle.checker_contracts.proofs.Operands.{expr-part, expr-part-beside, expr-ending, expr-done, derived-ending, combined-ending}
+use Rattle.types_cells.specs.Layout.{poolSize}
 
 -- The rule of a node has room for 80 cells.
-pub node-room : (s d w : List ℕ) (rows n top at free h k r : ℕ) → Visiting s d w rows n top at free h (k ∷ []) → r ≤ 80 → Room s n top r
+pub node-room : (s d w : List ℕ) (rows n top at free h k r : ℕ) → Visiting s d w rows n top at free h (k ∷ []) → r ≤ 2 * nodeCells → Room s n top r
 node-room s d w rows n top at free h k r K p = inside-room s w rows n top at free h 0 r (K .room) p
 
 -- NO OPERAND.
@@ -34,12 +35,12 @@ module _ (s d w : List ℕ) (rows n top at free : ℕ) (e : Expr) (k : ℕ) (own
   unfoldable pub alone-visiting : Visiting s d w rows n top at free (K .height) (k ∷ [])
   alone-visiting = subst (Visiting s d w rows n top at free (K .height)) (S .numbers) (K .visiting)
 
-  pub alone-building : (r : ℕ) → r ≤ 80 → Building s n top r []
+  pub alone-building : (r : ℕ) → r ≤ 2 * nodeCells → Building s n top r []
   alone-building r p =
       let L = alone-visiting in
       building s d n top r (L .ghost) (L .stands) (node-room s d w rows n top at free (K .height) k r L p) [] nil (no-cells s d n (L .ghost))
 
-  pub alone-low : at ≤ 39936
+  pub alone-low : at ≤ poolSize
   alone-low = let l = visiting-low s d w rows n top at free (K .height) (k ∷ []) alone-visiting in omega arith
 
   pub alone-done : (s′ w′ : List ℕ) (number place cell n′ top′ at′ : ℕ) → Ending s s′ d w w′ rows n top at free own (k ∷ []) nothing (slot k 0) number place cell n′ top′ at′ →
@@ -79,7 +80,7 @@ module _ (s d w : List ℕ) (rows n top at free : ℕ) (e a : Expr) (k : ℕ) (o
       C : Cell s₁ d n₁ (L .ghost) x (typeOf a)
       C = part-leaves s s₁ d w w₁ rows n top n₁ top₁ at at₁ free (K .height) (exprItems a) l (k ∷ []) nothing (λ Γ D G. Cell s₁ d n₁ G x (typeOf a)) over-visiting P tt
 
-      pub over-working : (r : ℕ) → r ≤ 80 → Working s₁ d n₁ top₁ r (x ∷ [])
+      pub over-working : (r : ℕ) → r ≤ 2 * nodeCells → Working s₁ d n₁ top₁ r (x ∷ [])
       over-working r p = record {
         ghost = L .ghost;
         stands = L .stands;
@@ -88,7 +89,7 @@ module _ (s d w : List ℕ) (rows n top at free : ℕ) (e a : Expr) (k : ℕ) (o
         room = node-room s₁ d w₁ rows n₁ top₁ at₁ free (K .height) k r L p;
       }
 
-      pub over-done : (s₂ : List ℕ) (answer cell n₂ top₂ used : ℕ) → used ≤ 40 → length s₂ ≡ length s₁ → Derived s₁ s₂ d n₁ top₁ x answer cell n₂ top₂ used own →
+      pub over-done : (s₂ : List ℕ) (answer cell n₂ top₂ used : ℕ) → used ≤ nodeCells → length s₂ ≡ length s₁ → Derived s₁ s₂ d n₁ top₁ x answer cell n₂ top₂ used own →
           ExprDone s s₂ d w w₁ rows n top at free e answer k cell n₂ top₂ at₁
       over-done s₂ answer cell n₂ top₂ used few size R =
           let K′ = over-visiting in
@@ -179,7 +180,7 @@ module _ (s d w : List ℕ) (rows n top at free : ℕ) (e a b : Expr) (k : ℕ) 
           C₂ : Cell s₂ d n₂ (M₂ .ghost) x (typeOf a) × Cell s₂ d n₂ (M₂ .ghost) y (typeOf b)
           C₂ = part-leaves s₁ s₂ d w₁ w₂ rows n₁ top₁ n₂ top₂ at₁ at₂ free (K .height) (exprItems b) l₂ (k ∷ []) (λ Γ D G. Cell s₁ d n₁ G x (typeOf a)) (λ Γ D G. Cell s₂ d n₂ G x (typeOf a) × Cell s₂ d n₂ G y (typeOf b)) M₁ Second C₁
 
-          pub joining-working : (r : ℕ) → r ≤ 80 → Working s₂ d n₂ top₂ r (x ∷ y ∷ [])
+          pub joining-working : (r : ℕ) → r ≤ 2 * nodeCells → Working s₂ d n₂ top₂ r (x ∷ y ∷ [])
           joining-working r p = record {
             ghost = M₂ .ghost;
             stands = M₂ .stands;
@@ -188,7 +189,7 @@ module _ (s d w : List ℕ) (rows n top at free : ℕ) (e a b : Expr) (k : ℕ) 
             room = node-room s₂ d w₂ rows n₂ top₂ at₂ free (K .height) k r M₂ p;
           }
 
-          pub joining-done : (s₃ : List ℕ) (answer cell n₃ top₃ used : ℕ) → used ≤ 40 → length s₃ ≡ length s₂ → Combined s₂ s₃ d n₂ top₂ x y answer cell n₃ top₃ used own →
+          pub joining-done : (s₃ : List ℕ) (answer cell n₃ top₃ used : ℕ) → used ≤ nodeCells → length s₃ ≡ length s₂ → Combined s₂ s₃ d n₂ top₂ x y answer cell n₃ top₃ used own →
               ExprDone s s₃ d w w₂ rows n top at free e answer k cell n₃ top₃ at₂
           joining-done s₃ answer cell n₃ top₃ used few size R =
               let q₁ = visiting-low s₁ d w₁ rows n₁ top₁ at₁ free (K .height) rest M₁ in

@@ -20,10 +20,11 @@ use Rattle.checker_rules.specs.Scopes.{includeNode}
 use Rattle.checker_dictionary.specs.Holds.{Holds}
 use Rattle.checker_dictionary.specs.Lookup.{parametersAt, typeAt, SchemaFound}
 use Rattle.checker_signatures.specs.Rows.{renames}
-use Rattle.checker_signatures.specs.Tables.{Beside, Brings}
+use Rattle.checker_signatures.specs.Tables.{Beside, Brings, halfTable}
 use Rattle.checker_lookup.specs.Components.{ComponentsAsked, ComponentRows}
 use Rattle.checker_contracts.specs.Includes.{actualCount, IncludeAsk, IncludeDone, ActualsAsk, ActualsDone}
 use Rattle.checker_contracts.proofs.Including.{include-absent, include-count, actuals-ask, include-refused, components-ask, bring-ask, include-wrong, include-done}
+use Rattle.types_cells.specs.Layout.{dictionaryAt}
 
 -- An Include that is a line is one.
 pub line-include : (doc : List ℕ) (k : ℕ) → At doc lines k → kindAt doc k ≡ 12 → At doc includes k
@@ -107,16 +108,16 @@ module _ {doc p s d w : List ℕ} {stack at free k : ℕ} {places : List ℕ} (N
               (include-refused s d w stack at free k id h (exprsFrom doc k 4 q) (renames p (q + 4)) places A e found some ep few s₁ w₁ places₁ number place at₁ P ne m at′)
 
           module _ (fine : number ≡ 0) {b : ℕ} (eb : b ≡ typeAt d e) where
-            pub node-include-components : ComponentsAsked s₁ d w₁ (39936 + b) (free + 32)
+            pub node-include-components : ComponentsAsked s₁ d w₁ (dictionaryAt + b) (free + halfTable)
             node-include-components =
                 components-ask s d w stack at free k id h (exprsFrom doc k 4 q) (renames p (q + 4)) places A e found some ep few s₁ w₁ places₁ number place at₁ P fine b eb
 
-            module _ {w₂ : List ℕ} {c : ℕ} (R : ComponentRows s₁ d w₁ w₂ (39936 + b) (free + 32) c) where
-              pub node-include-bring : Beside (length w₂) free c (free + 32) c
+            module _ {w₂ : List ℕ} {c : ℕ} (R : ComponentRows s₁ d w₁ w₂ (dictionaryAt + b) (free + halfTable) c) where
+              pub node-include-bring : Beside (length w₂) free c (free + halfTable) c
               node-include-bring =
                   bring-ask s d w stack at free k id h (exprsFrom doc k 4 q) (renames p (q + 4)) places A e found some ep few s₁ w₁ places₁ number place at₁ P fine b eb w₂ c R
 
-              module _ {w₃ : List ℕ} {wrong : Bool} {m : ℕ} (B : Brings w₂ w₃ (free + 32) c free h (renames p (q + 4)) wrong m) (z : length w₃ ≡ length w₂) where
+              module _ {w₃ : List ℕ} {wrong : Bool} {m : ℕ} (B : Brings w₂ w₃ (free + halfTable) c free h (renames p (q + 4)) wrong m) (z : length w₃ ≡ length w₂) where
                 pub node-include-wrong : wrong ≡ true → Told s₁ w₃ places₁ 37 k 0 0
                 node-include-wrong y =
                     back s₁ w₃ places₁ 37 k 0 0

@@ -23,12 +23,13 @@ use Rattle.checker_rules.specs.Rules.{includeRule, includeItems, actualItems}
 use Rattle.checker_rules.specs.Scopes.{Scope, schemaNamed, brought, includeSignature, includeNode}
 use Rattle.checker_rules.specs.Signatures.{Signature, componentsOf, strokeAll, renameAll, wrongNames}
 use Rattle.checker_rules.specs.Unknowns.{row}
+use Rattle.types_cells.specs.Layout.{dictionaryAt, areaSize}
 use Rattle.types_cells.specs.Settled.{heap, Reads}
 use Rattle.checker_dictionary.specs.Holds.{Holds}
 use Rattle.checker_dictionary.specs.Lookup.{parametersAt, typeAt, SchemaFound, Recorded as Entry}
 use Rattle.checker_dictionary.proofs.LookupLaws.{schema-formed}
 use Rattle.checker_signatures.specs.Rows.{rows, stack as stackOf, flat, identifiersOf, strokeRows, renameRows}
-use Rattle.checker_signatures.specs.Tables.{Beside, Brings}
+use Rattle.checker_signatures.specs.Tables.{Beside, Brings, halfTable}
 use Rattle.checker_signatures.specs.Carried.{Carries}
 use Rattle.checker_signatures.proofs.CallLaws.{brought-wrong, brought-names}
 use Rattle.checker_signatures.proofs.RowLaws.{rows-length, getD-below}
@@ -163,7 +164,7 @@ module _ (s d w : List ℕ) (stack at free n id k : ℕ) (xs : Exprs) (rs : List
 
           -- THE COMPONENTS, of the binding at q in the dictionary.
           module _ (fine : number ≡ 0) (q : ℕ) (eq : q ≡ typeAt d e) where
-            size : length s₁ ≡ 52224
+            size : length s₁ ≡ areaSize
             size = P .done .areas fine .stored .size ∙ A .walking .size
 
             module _ (D : Dictionary) (R : DictionaryHeld D d) where
@@ -176,17 +177,17 @@ module _ (s d w : List ℕ) (stack at free n id k : ℕ) (xs : Exprs) (rs : List
               abbrev gs : Tys
               gs = limits .1 .1
 
-              binding-reads : Reads (heap s₁ d) (39936 + q) (node (binding ids) gs)
+              binding-reads : Reads (heap s₁ d) (dictionaryAt + q) (node (binding ids) gs)
               binding-reads =
                   let E = entry D R in
-                  subst (Reads (heap s₁ d) (39936 + q)) (limits .1 .2)
+                  subst (Reads (heap s₁ d) (dictionaryAt + q)) (limits .1 .2)
                   (dictionary-reads s₁ d q (E .type) (E .after) size (schema-formed D id (E .parameters) (E .type) (R .formed) (E .means)) (ap (λ x. drop x d) eq ∙ E .written))
 
               few-ids : length ids ≤ 16
               unfolding FormedType Arity
               few-ids = let a = binding-reads .formed .0 .0 in let b = subst (λ g. SchemaType g) (limits .1 .2) limits .0 in omega arith
 
-            pub components-ask : ComponentsAsked s₁ d w₁ (39936 + q) (free + 32)
+            pub components-ask : ComponentsAsked s₁ d w₁ (dictionaryAt + q) (free + halfTable)
             components-ask =
                 let D = A .walking .dictionary in
                 let R = A .walking .scoped .recorded in
@@ -204,20 +205,20 @@ module _ (s d w : List ℕ) (stack at free n id k : ℕ) (xs : Exprs) (rs : List
                   table = omega arith;
                 }
 
-            module _ (w₂ : List ℕ) (c : ℕ) (K : ComponentRows s₁ d w₁ w₂ (39936 + q) (free + 32) c) where
-              of : (D : Dictionary) (R : DictionaryHeld D d) → ComponentsOf s₁ d w₁ w₂ (39936 + q) (free + 32) c (ids D R) (gs D R)
+            module _ (w₂ : List ℕ) (c : ℕ) (K : ComponentRows s₁ d w₁ w₂ (dictionaryAt + q) (free + halfTable) c) where
+              of : (D : Dictionary) (R : DictionaryHeld D d) → ComponentsOf s₁ d w₁ w₂ (dictionaryAt + q) (free + halfTable) c (ids D R) (gs D R)
               of D R = K .of (ids D R) (gs D R) (binding-reads D R)
 
-              own-rows : ComponentsOf s₁ d w₁ w₂ (39936 + q) (free + 32) c (ids (A .walking .dictionary) (A .walking .scoped .recorded)) (gs (A .walking .dictionary) (A .walking .scoped .recorded))
+              own-rows : ComponentsOf s₁ d w₁ w₂ (dictionaryAt + q) (free + halfTable) c (ids (A .walking .dictionary) (A .walking .scoped .recorded)) (gs (A .walking .dictionary) (A .walking .scoped .recorded))
               own-rows = of (A .walking .dictionary) (A .walking .scoped .recorded)
 
               few-rows : c ≤ 16
               few-rows = let a = few-ids (A .walking .dictionary) (A .walking .scoped .recorded) in let b = own-rows .count in omega arith
 
               size₂ : length w₂ ≡ length w
-              size₂ = table-length w₁ (free + 32) w₂ _ c (own-rows .table) ∙ P .done .still .spared .size
+              size₂ = table-length w₁ (free + halfTable) w₂ _ c (own-rows .table) ∙ P .done .still .spared .size
 
-              pub bring-ask : Beside (length w₂) free c (free + 32) c
+              pub bring-ask : Beside (length w₂) free c (free + halfTable) c
               bring-ask =
                   let a = few-rows in
                   let z = size₂ in
@@ -225,22 +226,22 @@ module _ (s d w : List ℕ) (stack at free n id k : ℕ) (xs : Exprs) (rs : List
                   let v = A .walking .room .wide in
                   record { room = omega arith; inside = omega arith; apart = inl (omega arith) }
 
-              module _ (w₃ : List ℕ) (wrong : Bool) (m : ℕ) (B : Brings w₂ w₃ (free + 32) c free k rs wrong m) (z : length w₃ ≡ length w₂) where
+              module _ (w₃ : List ℕ) (wrong : Bool) (m : ℕ) (B : Brings w₂ w₃ (free + halfTable) c free k rs wrong m) (z : length w₃ ≡ length w₂) where
                 below : (j : ℕ) → j < free → getD w₃ j 0 ≡ getD w₁ j 0
                 below j y =
-                    B .below j (omega arith) y ∙ ap (λ v. getD v j 0) (own-rows .table .words) ∙ getD-below (flat _) w₁ (free + 32) j (omega arith)
+                    B .below j (omega arith) y ∙ ap (λ v. getD v j 0) (own-rows .table .words) ∙ getD-below (flat _) w₁ (free + halfTable) j (omega arith)
 
                 spared : Spared w w₃ stack free
                 spared =
                     let t = A .walking .room .stack in
                     let o = A .walking .room .low in
                     spared-on w w₁ w₃ stack free (P .done .still .spared)
-                    (record { size = z ∙ table-length w₁ (free + 32) w₂ _ c (own-rows .table); scope = λ j y. below j (omega arith); frames = λ j x y. below j y })
+                    (record { size = z ∙ table-length w₁ (free + halfTable) w₂ _ c (own-rows .table); scope = λ j y. below j (omega arith); frames = λ j x y. below j y })
 
                 -- what is wrong with the names
                 wrong-is : (D : Dictionary) (R : DictionaryHeld D d) → wrong ≡ wrongNames k rs (componentsOf (instance nil (entry D R .type)))
                 wrong-is D R =
-                    brought-wrong (Component s₁ d nil) w₂ w₃ (free + 32) c free k rs wrong m B (componentsOf (instance nil (node (binding (ids D R)) (gs D R)))) (of D R .carries nil)
+                    brought-wrong (Component s₁ d nil) w₂ w₃ (free + halfTable) c free k rs wrong m B (componentsOf (instance nil (node (binding (ids D R)) (gs D R)))) (of D R .carries nil)
                     ∙ ap (λ g. wrongNames k rs (componentsOf (instance nil g))) (sym (limits D R .1 .2))
 
                 -- 37
@@ -256,38 +257,38 @@ module _ (s d w : List ℕ) (stack at free n id k : ℕ) (xs : Exprs) (rs : List
 
                 module _ (right : wrong ≡ false) where
                   -- The rows that are brought, with any terms for the parameters.
-                  brought-rows : (R : Term → ℕ → Type 0) (q′ : Signature) → Carries R q′ (rows w₂ (free + 32) c) → Carries R (renameAll rs (strokeAll k q′)) (rows w₃ free m)
-                  brought-rows R q′ Q = brought-names R w₂ w₃ (free + 32) c free k rs wrong m B q′ Q right (let b = bring-ask .room in b)
+                  brought-rows : (R : Term → ℕ → Type 0) (q′ : Signature) → Carries R q′ (rows w₂ (free + halfTable) c) → Carries R (renameAll rs (strokeAll k q′)) (rows w₃ free m)
+                  brought-rows R q′ Q = brought-names R w₂ w₃ (free + halfTable) c free k rs wrong m B q′ Q right (let b = bring-ask .room in b)
 
                   few-brought : m ≤ 16
                   few-brought =
                       let a = B .words right .count in
-                      let b = rename-count rs (strokeRows k (rows w₂ (free + 32) c)) in
-                      let x = stroke-length k (rows w₂ (free + 32) c) in
-                      let y = rows-length w₂ (free + 32) c in
+                      let b = rename-count rs (strokeRows k (rows w₂ (free + halfTable) c)) in
+                      let x = stroke-length k (rows w₂ (free + halfTable) c) in
+                      let y = rows-length w₂ (free + halfTable) c in
                       let f = few-rows in
                       omega arith
 
                   abbrev High : Term → ℕ → Type 0
-                  High t p = Component s₁ d nil t p × (39936 ≤ p)
+                  High t p = Component s₁ d nil t p × (dictionaryAt ≤ p)
 
-                  high : (j : ℕ) → j < m → 39936 ≤ getD w₃ (free + 2 * j + 1) 0
+                  high : (j : ℕ) → j < m → dictionaryAt ≤ getD w₃ (free + 2 * j + 1) 0
                   high j y =
                       let D = A .walking .dictionary in
                       let R = A .walking .scoped .recorded in
                       carries-row High _ w₃ free m j
-                      (brought-rows High _ (components-high s₁ d w₁ w₂ (39936 + q) (free + 32) c (ids D R) (gs D R) own-rows (omega arith) nil)) y .1 .1
+                      (brought-rows High _ (components-high s₁ d w₁ w₂ (dictionaryAt + q) (free + halfTable) c (ids D R) (gs D R) own-rows (omega arith) nil)) y .1 .1
 
                   ascends : Ascending (identifiersOf (rows w₃ free m))
                   ascends =
                       let M = B .words right in
-                      let q′ = strokeRows k (rows w₂ (free + 32) c) in
+                      let q′ = strokeRows k (rows w₂ (free + halfTable) c) in
                       let x = few-brought in
-                      let y = length-sets w₂ (free + 32) (flat q′) in
+                      let y = length-sets w₂ (free + halfTable) (flat q′) in
                       let f = A .walking .room .frames in
                       let v = A .walking .room .wide in
                       let o = size₂ in
-                      subst (λ l. Ascending (identifiersOf l)) (sym (table-rows (sets w₂ (free + 32) (flat q′)) free w₃ (renameRows rs q′) m M (omega arith))) (renamed-ascending rs q′)
+                      subst (λ l. Ascending (identifiersOf l)) (sym (table-rows (sets w₂ (free + halfTable) (flat q′)) free w₃ (renameRows rs q′) m M (omega arith))) (renamed-ascending rs q′)
 
                   components : (H : Items) (U : List ℕ) (Γ : Scope) (D : Dictionary) → Scoped s d w stack (idle H U) Γ D →
                       Carries (Component s₁ d (row n 1 (exprsLength xs))) (includeSignature i Γ) (rows w₃ free m)

@@ -18,11 +18,12 @@ use Rattle.checker_rules.specs.Rules.{includeItems, linesItems}
 use Rattle.checker_rules.specs.Scopes.{Scope, includeNode, includeSignature, linesSignature}
 use Rattle.checker_rules.specs.Signatures.{Signature, namesOf, countNames, merge}
 use Rattle.checker_rules.specs.Unknowns.{Table as Typing, row}
+use Rattle.types_cells.specs.Layout.{poolSize}
 use Rattle.types_cells.specs.Settled.{heap, Reads}
 use Rattle.types_cells.proofs.Reading.{reads-one}
 use Rattle.checker_dictionary.specs.Holds.{Holds}
 use Rattle.checker_signatures.specs.Rows.{rows, flat, identifiersOf, mergeRows}
-use Rattle.checker_signatures.specs.Tables.{Table, Beside}
+use Rattle.checker_signatures.specs.Tables.{Table, Beside, tableWords}
 use Rattle.checker_signatures.specs.Carried.{Carries}
 use Rattle.checker_signatures.proofs.CallLaws.{carried}
 use Rattle.checker_signatures.proofs.CarryLaws.{carries-names, carries-merge, carries-count}
@@ -114,7 +115,7 @@ module _ (s d w : List ℕ) (stack base m at free : ℕ) (i : Include) (global :
       abbrev actuals : List ℕ
       actuals = take (actualCount i) places₁
 
-      low : at < 39936
+      low : at < poolSize
       low = let p = K .room .pool in omega arith
 
       -- The lines' table, in the areas after the Include.
@@ -245,7 +246,7 @@ module _ (s d w : List ℕ) (stack base m at free : ℕ) (i : Include) (global :
                 (reads-one (heap s₁ d) p (P .typed .type) g (stored-reads s s₁ d at at₁ (K .size) (K .clean) (K .room .some) low (I .done .areas fine .stored) p (P .typed .type) (P .typed .reads)) R)
                 (clean-below s d at p (P .typed .type) (K .size) (K .room .some) low (K .clean) (P .typed .reads))
 
-            pub inclusion-keep : KeepAsk s₁ d w₁ base m free c actuals at at₁ (free + 64)
+            pub inclusion-keep : KeepAsk s₁ d w₁ base m free c actuals at at₁ (free + tableWords)
             inclusion-keep =
                 let A = inclusion-agree in
                 let o = K .room .some in
@@ -276,7 +277,7 @@ module _ (s d w : List ℕ) (stack base m at free : ℕ) (i : Include) (global :
                 }
 
             -- KEPT AND MERGED.
-            module _ (s₂ w₂ : List ℕ) (at₂ : ℕ) (E : RowsKept s₁ s₂ d w₁ w₂ base m free c actuals at at₁ (free + 64) at₂) where
+            module _ (s₂ w₂ : List ℕ) (at₂ : ℕ) (E : RowsKept s₁ s₂ d w₁ w₂ base m free c actuals at at₁ (free + tableWords) at₂) where
               pub inclusion-merge : Beside (length w₂) base (m + c) free c
               inclusion-merge =
                   let z = E .size in

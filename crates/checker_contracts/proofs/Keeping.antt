@@ -11,6 +11,7 @@ use Rattle.reader_rules.specs.Tree.{Schema, both}
 use Rattle.reader_rules.specs.TreeNumbers.{schemaNumbers}
 use Rattle.types_rules.specs.Formed.{Ascending}
 use Rattle.types_rules.specs.Types.{Ty, Tys, tnil, tcons, Term, under, size}
+use Rattle.checker_rules.specs.Check.{checkWorkWords}
 use Rattle.checker_rules.specs.Conditions.{mergeNames, smallTypes}
 use Rattle.checker_rules.specs.Dictionary.{Dictionary}
 use Rattle.checker_rules.specs.Items.{Items, Meets}
@@ -18,8 +19,10 @@ use Rattle.checker_rules.specs.Scopes.{Scope, schemaSignature}
 use Rattle.checker_rules.specs.Signatures.{Signature, noNames, naming, namesOf}
 use Rattle.checker_rules.specs.Unknowns.{Table}
 use Rattle.checker_rules.proofs.FormedScopes.{schema-rising}
+use Rattle.types_cells.specs.Layout.{areaSize}
 use Rattle.types_cells.specs.Settled.{heap, Reads, Areas}
 use Rattle.types_cells.proofs.Reading.{reads-one}
+use Rattle.checker_signatures.specs.Tables.{tableWords}
 use Rattle.checker_signatures.specs.Rows.{rows, identifiersOf, mergeRows, hasRow}
 use Rattle.checker_signatures.specs.Carried.{Carries}
 use Rattle.checker_signatures.proofs.CarryLaws.{carries-names}
@@ -38,6 +41,7 @@ use Rattle.checker_includes.specs.NewRows.{newRows}
 use Rattle.checker_includes.specs.Storing.{Stored, KeepAsk, RowsKept}
 use Rattle.checker_includes.proofs.FillsLaws.{placed-fill}
 use Rattle.checker_includes.proofs.NewRowLaws.{merged-length}
+use Rattle.checker_contracts.specs.Room.{framesEnd, frameWords, pathTypeWords, poolEnd}
 use Rattle.checker_contracts.specs.Joining.{JoinAsk, Clashing, Uniting, Joined}
 use Rattle.checker_contracts.specs.Schemas.{SchemaAsk, SchemaDone}
 use Rattle.checker_contracts.specs.Visits.{Fresh, idle, Spared}
@@ -67,27 +71,27 @@ new-names (x ∷ xs) (y ∷ ys) rs e =
 
 module _ (s d w : List ℕ) (stack at free k : ℕ) (a b : Schema) (A : SchemaAsk s d w stack at free (both k a b))
     (s₁ w₁ : List ℕ) (number place m at₁ : ℕ) (P : SchemaDone s s₁ d w w₁ stack at free a number place m at₁) (fine : number ≡ 0)
-    (s₂ w₂ : List ℕ) (number′ place′ n at₂ : ℕ) (Q : SchemaDone s₁ s₂ d w₁ w₂ stack at₁ (free + 64) b number′ place′ n at₂) (fine′ : number′ ≡ 0) where
+    (s₂ w₂ : List ℕ) (number′ place′ n at₂ : ℕ) (Q : SchemaDone s₁ s₂ d w₁ w₂ stack at₁ (free + tableWords) b number′ place′ n at₂) (fine′ : number′ ≡ 0) where
   stored : Stored s₁ s₂ at₁ at₂
   stored = Q .done .areas fine′ .stored
 
-  size₁ : length s₁ ≡ 52224
+  size₁ : length s₁ ≡ areaSize
   size₁ = P .done .areas fine .stored .size ∙ A .walking .size
 
-  size₂ : length s₂ ≡ 52224
+  size₂ : length s₂ ≡ areaSize
   size₂ = stored .size ∙ size₁
 
-  wide : 16384 ≤ length w₂
+  wide : checkWorkWords ≤ length w₂
   wide = let x = A .walking .room .wide in let y = P .done .still .size in let z = Q .done .still .size in omega arith
 
   high : 1 ≤ A .height
   unfolding LimitedSchema
   high = A .limited .0
 
-  frames : free + 128 ≤ 14000
+  frames : free + frameWords ≤ framesEnd
   frames = let x = A .walking .room .frames in let z = high in omega arith
 
-  low : at₁ + 3072 ≤ 39072
+  low : at₁ + 2 * pathTypeWords ≤ poolEnd + 2 * pathTypeWords
   low = low-enough s d w stack at free k a b A s₁ w₁ number place m at₁ P fine
 
   one : 1 ≤ at₁
@@ -104,7 +108,7 @@ module _ (s d w : List ℕ) (stack at free k : ℕ) (a b : Schema) (A : SchemaAs
     left₂ : Carries R₂ (schemaSignature a Γ) (rows w₂ free m)
     left₂ = left-later s d w stack at free k a b A s₁ w₁ number place m at₁ P fine s₂ w₂ number′ place′ n at₂ Q fine′ s₂ w₂ at₂ stored (Q .done .still) H U Γ Z
 
-    agree-asked : RowsAsk s₂ d w₂ free m (free + 64) n
+    agree-asked : RowsAsk s₂ d w₂ free m (free + tableWords) n
     agree-asked =
         let x = wide in
         let y = frames in
@@ -114,13 +118,13 @@ module _ (s d w : List ℕ) (stack at free k : ℕ) (a b : Schema) (A : SchemaAs
         record {
           areas = record { size = size₂; few = omega arith };
           table = rows-ready s₂ d w₂ free m (Sides H a b Γ) (Z .unknowns) (schemaSignature a Γ) left₂ (omega arith);
-          others = rows-ready s₂ d w₂ (free + 64) n (Sides H a b Γ) (Z .unknowns) (schemaSignature b Γ) (Z .right) (omega arith);
+          others = rows-ready s₂ d w₂ (free + tableWords) n (Sides H a b Γ) (Z .unknowns) (schemaSignature b Γ) (Z .right) (omega arith);
         }
 
-    sizes : (j : ℕ) → j < n → (g : Ty) (hs : Tys) → Reads (heap s₂ d) (getD w₂ (free + 64 + 2 * j + 1) 0) g → Row (heap s₂ d) [] hs → size (fill hs g) ≤ 32
+    sizes : (j : ℕ) → j < n → (g : Ty) (hs : Tys) → Reads (heap s₂ d) (getD w₂ (free + tableWords + 2 * j + 1) 0) g → Row (heap s₂ d) [] hs → size (fill hs g) ≤ 32
     sizes j l g tnil R S =
-        let X = carries-row R₂ (schemaSignature b Γ) w₂ (free + 64) n j (Z .right) l in
-        subst (λ z. size z ≤ 32) (reads-one (heap s₂ d) (getD w₂ (free + 64 + 2 * j + 1) 0) (X .1 .typed .type) g (X .1 .typed .reads) R ∙ sym (fill-none g)) (X .1 .small)
+        let X = carries-row R₂ (schemaSignature b Γ) w₂ (free + tableWords) n j (Z .right) l in
+        subst (λ z. size z ≤ 32) (reads-one (heap s₂ d) (getD w₂ (free + tableWords + 2 * j + 1) 0) (X .1 .typed .type) g (X .1 .typed .reads) R ∙ sym (fill-none g)) (X .1 .small)
     sizes j l g (tcons h hs) R S = absurd S
 
     below : (j : ℕ) → j < m → (g : Ty) → Reads (heap s₂ d) (getD w₂ (free + 2 * j + 1) 0) g → Below at₁ (getD w₂ (free + 2 * j + 1) 0) g
@@ -135,7 +139,7 @@ module _ (s d w : List ℕ) (stack at free k : ℕ) (a b : Schema) (A : SchemaAs
         let same = reads-one (heap s₂ d) (getD w₂ (free + 2 * j + 1) 0) (X .1 .typed .type) g (subst (λ z. Reads (heap s₂ d) z (X .1 .typed .type)) (sym e) R₁) R in
         subst (Below at₁ (getD w₂ (free + 2 * j + 1) 0)) same (subst (λ z. Below at₁ z (X .1 .typed .type)) (sym e) B₁)
 
-    keep-asked : KeepAsk s₂ d w₂ free m (free + 64) n [] at₁ at₂ (free + 128)
+    keep-asked : KeepAsk s₂ d w₂ free m (free + tableWords) n [] at₁ at₂ (free + frameWords)
     keep-asked =
         let x = wide in
         let y = frames in
@@ -168,12 +172,12 @@ module _ (s d w : List ℕ) (stack at free k : ℕ) (a b : Schema) (A : SchemaAs
       record { few = P .done .areas fine .few; agree = agree-asked (K .before) (K .known) (K .scope) Z; keep = keep-asked (K .before) (K .known) (K .scope) Z }
 
   -- The right side's rows once their types are kept.
-  module _ (s₃ w₃ : List ℕ) (last : ℕ) (T : RowsKept s₂ s₃ d w₂ w₃ free m (free + 64) n [] at₁ at₂ (free + 128) last) where
-    spared₃ : Spared w₁ w₃ stack (free + 64)
+  module _ (s₃ w₃ : List ℕ) (last : ℕ) (T : RowsKept s₂ s₃ d w₂ w₃ free m (free + tableWords) n [] at₁ at₂ (free + frameWords) last) where
+    spared₃ : Spared w₁ w₃ stack (free + tableWords)
     spared₃ =
         let q = A .walking .room .stack in
         let f = A .walking .room .low in
-        spared-on w₁ w₂ w₃ stack (free + 64) (Q .done .still)
+        spared-on w₁ w₂ w₃ stack (free + tableWords) (Q .done .still)
         (record {
           size = T .size;
           scope = λ i l. T .words i (omega arith) (λ j o e. omega arith);
@@ -193,20 +197,20 @@ module _ (s d w : List ℕ) (stack at free k : ℕ) (a b : Schema) (A : SchemaAs
 
     kept : (H : Items) (U : List ℕ) (Γ : Scope) (Z : Paired s₁ s₂ d w₁ w₂ m n free H U Γ a b) →
         ((τ : Table) → Meets (Sides H a b Γ) τ → Meets (mergeNames k (schemaSignature b Γ) (schemaSignature a Γ)) τ) →
-        Carries (Placed s₃ d (Sides H a b Γ) (Z .unknowns)) (schemaSignature b Γ) (rows w₃ (free + 64) n)
+        Carries (Placed s₃ d (Sides H a b Γ) (Z .unknowns)) (schemaSignature b Γ) (rows w₃ (free + tableWords) n)
     unfolding AllStandFor
     kept H U Γ Z M =
         T .placed (Sides H a b Γ) (Z .unknowns) k (schemaSignature b Γ) (schemaSignature a Γ) tnil tnil tt tt
-        (placed-fill s₂ d (Sides H a b Γ) (Z .unknowns) (schemaSignature b Γ) (rows w₂ (free + 64) n) (Z .right)) (left₂ H U Γ Z) M
-        (placed-small s₂ d (Sides H a b Γ) (Z .unknowns) k (schemaSignature b Γ) (rows w₂ (free + 64) n) (Z .right)) (Z .second .steady)
+        (placed-fill s₂ d (Sides H a b Γ) (Z .unknowns) (schemaSignature b Γ) (rows w₂ (free + tableWords) n) (Z .right)) (left₂ H U Γ Z) M
+        (placed-small s₂ d (Sides H a b Γ) (Z .unknowns) k (schemaSignature b Γ) (rows w₂ (free + tableWords) n) (Z .right)) (Z .second .steady)
 
     module _ (H : Items) (U : List ℕ) (Γ : Scope) (Z : Paired s₁ s₂ d w₁ w₂ m n free H U Γ a b)
         (M : (τ : Table) → Meets (Sides H a b Γ) τ → Meets (mergeNames k (schemaSignature b Γ) (schemaSignature a Γ)) τ) where
-      names₂ : namesOf (schemaSignature b Γ) ≡ identifiersOf (rows w₂ (free + 64) n)
-      names₂ = carries-names (Placed s₂ d (Sides H a b Γ) (Z .unknowns)) (schemaSignature b Γ) (rows w₂ (free + 64) n) (Z .right)
+      names₂ : namesOf (schemaSignature b Γ) ≡ identifiersOf (rows w₂ (free + tableWords) n)
+      names₂ = carries-names (Placed s₂ d (Sides H a b Γ) (Z .unknowns)) (schemaSignature b Γ) (rows w₂ (free + tableWords) n) (Z .right)
 
-      names₃ : namesOf (schemaSignature b Γ) ≡ identifiersOf (rows w₃ (free + 64) n)
-      names₃ = carries-names (Placed s₃ d (Sides H a b Γ) (Z .unknowns)) (schemaSignature b Γ) (rows w₃ (free + 64) n) (kept H U Γ Z M)
+      names₃ : namesOf (schemaSignature b Γ) ≡ identifiersOf (rows w₃ (free + tableWords) n)
+      names₃ = carries-names (Placed s₃ d (Sides H a b Γ) (Z .unknowns)) (schemaSignature b Γ) (rows w₃ (free + tableWords) n) (kept H U Γ Z M)
 
       names-left : namesOf (schemaSignature a Γ) ≡ identifiersOf (rows w₂ free m)
       names-left = carries-names R₂′ (schemaSignature a Γ) (rows w₂ free m) (left₂ H U Γ Z)
@@ -214,12 +218,12 @@ module _ (s d w : List ℕ) (stack at free k : ℕ) (a b : Schema) (A : SchemaAs
           R₂′ : Term → ℕ → Type 0
           R₂′ = Placed s₂ d (Sides H a b Γ) (Z .unknowns)
 
-      grown : length (mergeRows (rows w₃ (free + 64) n) (rows w₃ free m)) ≡ m + newRows (rows w₂ (free + 64) n) (rows w₂ free m)
+      grown : length (mergeRows (rows w₃ (free + tableWords) n) (rows w₃ free m)) ≡ m + newRows (rows w₂ (free + tableWords) n) (rows w₂ free m)
       grown =
-          ap (λ l. length (mergeRows (rows w₃ (free + 64) n) l)) rows₃
-          ∙ merged-length (rows w₃ (free + 64) n) (rows w₂ free m) (subst Ascending names₃ (schema-rising b Γ)) (subst Ascending names-left (schema-rising a Γ))
-          ∙ ap (λ j. length (rows w₂ free m) + j) (new-names (rows w₃ (free + 64) n) (rows w₂ (free + 64) n) (rows w₂ free m) (sym names₃ ∙ names₂))
-          ∙ ap (λ j. j + newRows (rows w₂ (free + 64) n) (rows w₂ free m)) (rows-length w₂ free m)
+          ap (λ l. length (mergeRows (rows w₃ (free + tableWords) n) l)) rows₃
+          ∙ merged-length (rows w₃ (free + tableWords) n) (rows w₂ free m) (subst Ascending names₃ (schema-rising b Γ)) (subst Ascending names-left (schema-rising a Γ))
+          ∙ ap (λ j. length (rows w₂ free m) + j) (new-names (rows w₃ (free + tableWords) n) (rows w₂ (free + tableWords) n) (rows w₂ free m) (sym names₃ ∙ names₂))
+          ∙ ap (λ j. j + newRows (rows w₂ (free + tableWords) n) (rows w₂ free m)) (rows-length w₂ free m)
 
   pub both-joined : (s₃ w₃ : List ℕ) (f x c e : ℕ) → Joined s₂ s₃ d w₂ w₃ free m n at₁ at₂ k f x c e → SchemaDone s s₃ d w w₃ stack at free (both k a b) f x c e
   both-joined s₃ w₃ f x c e J = subst (λ z. SchemaDone s s₃ d w w₃ stack at free (both k a b) f z c e) (sym (J .place-is)) (⊎-elim clash unite (J .found))
@@ -240,7 +244,7 @@ module _ (s d w : List ℕ) (stack at free k : ℕ) (a b : Schema) (A : SchemaAs
               (both-many s d w stack at free k a b A s₁ w₁ number place m at₁ P fine s₂ w₂ number′ place′ n at₂ Q fine′ (B .told) s₃ (B .between) w₃ (B .total) (B .last)
               (spared₃ s₃ (B .between) (B .last) (B .kept)) (stored₃ s₃ (B .between) (B .last) (B .kept)) (kept s₃ (B .between) (B .last) (B .kept)) (B .merged) (o .1) c e)
 
-          counted : B .total ≡ m + newRows (rows w₂ (free + 64) n) (rows w₂ free m)
+          counted : B .total ≡ m + newRows (rows w₂ (free + tableWords) n) (rows w₂ free m)
           counted =
               let K = A .walking in
               let Z = paired (K .before) (K .known) (K .steady) (K .scope) (K .dictionary) (K .scoped) (K .fresh) in

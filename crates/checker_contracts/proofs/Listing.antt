@@ -2,7 +2,7 @@
 use mathlib.Core.Path.{_≡_, refl, ap, subst, _∙_}
 use mathlib.Core.List.{List, [], _∷_, _++_}
 use mathlib.Core.Logic.{inl}
-use Prim.Native.Nat.{ℕ, _+_, _-_, _≤_, _<_}
+use Prim.Native.Nat.{ℕ, _+_, _-_, _≤_, _<_, _*_}
 use native.Mathlib.Omega.{arith}
 use lib.ListN.{length, take}
 use Rattle.reader_rules.specs.Tree.{Expr, Exprs, exprsLength}
@@ -12,8 +12,9 @@ use Rattle.checker_rules.specs.Items.{Items, _⨾_}
 use Rattle.checker_rules.specs.Rules.{exprsItems, referenceItems}
 use Rattle.checker_rules.specs.Scopes.{Scope, nameAt}
 use Rattle.checker_rules.specs.Unknowns.{slot}
+use Rattle.types_cells.specs.Layout.{poolSize}
 use Rattle.types_cells.specs.Store.{run}
-use Rattle.checker_pieces.specs.Stage.{Ghost}
+use Rattle.checker_pieces.specs.Stage.{Ghost, nodeCells}
 use Rattle.checker_pieces.specs.Building.{Cells, Building}
 use Rattle.checker_pieces.proofs.Stages.{building}
 use Rattle.checker_kinds.specs.Formers.{Operating, Listed}
@@ -43,7 +44,7 @@ node-referring s d w rows n top at free h k K =
       dictionary = K .dictionary;
       scoped = K .scoped;
       table = omega arith;
-      room = node-room s d w rows n top at free h k 40 K (omega arith);
+      room = node-room s d w rows n top at free h k nodeCells K (omega arith);
     }
 
 -- Theta's rows have room in the work area.
@@ -95,7 +96,7 @@ module _ (s d w : List ℕ) (rows n top at free : ℕ) (e : Expr) (xs : Exprs) (
       pub listing-fit : m ≤ length parts₁
       listing-fit = let a = E .size in omega arith
 
-      pub listing-operating : (r : ℕ) → r ≤ 80 → Operating s₁ d n₁ top₁ r (take m parts₁)
+      pub listing-operating : (r : ℕ) → r ≤ 2 * nodeCells → Operating s₁ d n₁ top₁ r (take m parts₁)
       listing-operating r p = record {
         ghost = L .ghost;
         stands = L .stands;
@@ -104,7 +105,7 @@ module _ (s d w : List ℕ) (rows n top at free : ℕ) (e : Expr) (xs : Exprs) (
         room = node-room s₁ d w₁ rows n₁ top₁ at₁ free (K .height) k r L p;
       }
 
-      pub listing-building : (r : ℕ) → r ≤ 80 → Building s₁ n₁ top₁ r (take m parts₁)
+      pub listing-building : (r : ℕ) → r ≤ 2 * nodeCells → Building s₁ n₁ top₁ r (take m parts₁)
       listing-building r p = let O = listing-operating r p in building s₁ d n₁ top₁ r (O .ghost) (O .stands) (O .room) (take m parts₁) (typesOf (O .exprs)) (O .cells)
 
       listing-from : (s₂ : List ℕ) (answer cell n₂ top₂ : ℕ) →
@@ -117,11 +118,11 @@ module _ (s d w : List ℕ) (rows n top at free : ℕ) (e : Expr) (xs : Exprs) (
           (part-then s s₁ s₂ d w w₁ w₁ rows n top n₁ top₁ at at₁ free (exprsItems xs) own l (k ∷ []) nothing (λ Γ D G. Cells s₁ d n₁ G (run parts₁ 0 (exprsLength xs)) (typesOf xs)) (slot k 0) answer k cell n₂ top₂ at₁
           (K′ .size) (K′ .clean) (K′ .room .some) q (K′ .once) P F)
 
-      low₁ : at₁ ≤ 39936
+      low₁ : at₁ ≤ poolSize
       low₁ = let q = visiting-low s₁ d w₁ rows n₁ top₁ at₁ free (K .height) (k ∷ []) L in omega arith
 
       -- Set, Tuple, Product
-      pub listing-done : (s₂ : List ℕ) (answer cell n₂ top₂ used : ℕ) (rule : ℕ → Exprs → Items) → ((Γ : Scope) → own Γ ≡ rule k xs) → used ≤ 40 → length s₂ ≡ length s₁ →
+      pub listing-done : (s₂ : List ℕ) (answer cell n₂ top₂ used : ℕ) (rule : ℕ → Exprs → Items) → ((Γ : Scope) → own Γ ≡ rule k xs) → used ≤ nodeCells → length s₂ ≡ length s₁ →
           Listed s₁ s₂ d n₁ top₁ (take m parts₁) answer cell n₂ top₂ used rule → ExprDone s s₂ d w w₁ rows n top at free e answer k cell n₂ top₂ at₁
       listing-done s₂ answer cell n₂ top₂ used rule same few size R =
           let F = listed-ending s₁ s₂ d w₁ rows n₁ top₁ at₁ free k answer cell n₂ top₂ used size low₁ (L .clean) few (take m parts₁) rule R xs in
@@ -143,7 +144,7 @@ module _ (s d w : List ℕ) (rows n top at free : ℕ) (e : Expr) (xs : Exprs) (
       pub listing-refers : (s₂ : List ℕ) (id answer cell n₂ top₂ : ℕ) → ((Γ : Scope) → own Γ ≡ referenceItems k xs (nameAt id Γ)) → length s₂ ≡ length s₁ →
           RefersWith s₁ s₂ d w₁ n₁ top₁ rows id parts₁ m answer cell n₂ top₂ → ExprDone s s₂ d w w₁ rows n top at free e answer k cell n₂ top₂ at₁
       listing-refers s₂ id answer cell n₂ top₂ same size R =
-          let F = refers-ending s₁ s₂ d w₁ rows n₁ top₁ at₁ free k answer cell n₂ top₂ 40 size low₁ (L .clean) id parts₁ m R xs count in
+          let F = refers-ending s₁ s₂ d w₁ rows n₁ top₁ at₁ free k answer cell n₂ top₂ nodeCells size low₁ (L .clean) id parts₁ m R xs count in
           listing-from s₂ answer cell n₂ top₂ record {
             spared = F .spared;
             areas = F .areas;

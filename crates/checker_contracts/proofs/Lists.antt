@@ -12,9 +12,10 @@ use Rattle.types_rules.specs.Types.{cons}
 use Rattle.checker_rules.specs.Conditions.{typeOf, typesOf}
 use Rattle.checker_rules.specs.Items.{skip, _⨾_}
 use Rattle.checker_rules.specs.Rules.{exprItems, exprsItems}
+use Rattle.types_cells.specs.Layout.{maxCells}
 use Rattle.types_cells.specs.Store.{run}
 use Rattle.types_cells.proofs.Words.{run-at, run-length, run-cons}
-use Rattle.checker_pieces.specs.Stage.{Ghost, Cell}
+use Rattle.checker_pieces.specs.Stage.{Ghost, Cell, nodeCells}
 use Rattle.checker_pieces.specs.Building.{Cells}
 use Rattle.checker_pieces.proofs.Walks.{stops-left}
 use Rattle.checker_pieces.proofs.Stages.{next, next-cell, no-cells, skip-advanced, then-cells, room-less}
@@ -61,7 +62,7 @@ exprs-none s d w rows n top at free parts j place K =
       areas = λ z. record {
         stored = stored-low s s at refl (omega arith) (K .visiting .clean) refl;
         short = omega arith;
-        uses = λ y R. room-less s n top y (40 * 0 + y) (omega arith) R;
+        uses = λ y R. room-less s n top y (nodeCells * 0 + y) (omega arith) R;
       };
       goes = λ z G St Γ D C f.
           let A = skip-advanced s d n top G St (Owned []) in
@@ -113,7 +114,7 @@ module _ (s d w : List ℕ) (rows n top at free : ℕ) (a : Expr) (xs : Exprs) (
       pub more-made : c < n₁
       more-made = part-leaves s s₁ d w w₁ rows n top n₁ top₁ at at₁ free (K .height) (exprItems a) l m nothing (λ Γ D G. Cell s₁ d n₁ G c (typeOf a)) more-visiting First tt .made
 
-      pub more-few : n₁ ≤ 1024
+      pub more-few : n₁ ≤ maxCells
       more-few = M .stands .piece .solved .held .few
 
       length₁ : length parts₁ ≡ length parts

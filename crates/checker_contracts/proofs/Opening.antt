@@ -15,9 +15,10 @@ use Rattle.checker_pieces.specs.Closed.{Closed}
 use Rattle.checker_pieces.proofs.Growing.{begin}
 use Rattle.checker_pieces.proofs.Walks.{Alike, piece-alike}
 use Rattle.checker_contracts.specs.Visits.{idle}
+use Rattle.types_cells.specs.Layout.{firstRun, areaSize}
 
 -- OPENED: no cells, no items.
-pub opened : (s d : List ℕ) (H : Items) (U : List ℕ) → Steady H U → length s ≡ 52224 → length d < 2 ^ 31 → Stands s d 0 4096 (idle H U)
+pub opened : (s d : List ℕ) (H : Items) (U : List ℕ) → Steady H U → length s ≡ areaSize → length d < 2 ^ 31 → Stands s d 0 firstRun (idle H U)
 opened s d H U S z few = record {
   piece = begin s d H U z (S .local) (S .some .0) (S .some .1);
   above = record { low = omega arith; parts = λ i l. absurd (omega arith); names = λ i l e. absurd (omega arith) };
@@ -39,7 +40,7 @@ unfolding Refuses
 piece-refused H k t f m r = inl (refuses-ext t (Meets (H ⨾ skip)) (Meets H) f m (without-skip H) r)
 
 -- CLOSED: with the items t, by the node k.
-module _ (s s′ s″ d : List ℕ) (n top : ℕ) (H : Items) (U : List ℕ) (k : ℕ) (t : Items) (M : ℕ → Type 0) (A : Advanced s s′ d 0 4096 n top (idle H U) t M) (few : length d < 2 ^ 31)
+module _ (s s′ s″ d : List ℕ) (n top : ℕ) (H : Items) (U : List ℕ) (k : ℕ) (t : Items) (M : ℕ → Type 0) (A : Advanced s s′ d 0 firstRun n top (idle H U) t M) (few : length d < 2 ^ 31)
   where
     abbrev pub whole : Ghost
     whole = record { equations = A .equations; before = H; items = t; known = U; mentioned = A .mentioned; cells = A .cells }

@@ -12,9 +12,10 @@ use Rattle.checker_rules.specs.Items.{Items}
 use Rattle.checker_rules.specs.Rules.{exprItems, exprsItems, referenceItems, thetaItems}
 use Rattle.checker_rules.specs.Scopes.{Scope, nameAt, schemaNamed}
 use Rattle.checker_rules.specs.Unknowns.{slot}
+use Rattle.types_cells.specs.Layout.{poolSize}
 use Rattle.types_cells.specs.Store.{run}
 use Rattle.types_instances.specs.Clean.{Clean}
-use Rattle.checker_pieces.specs.Stage.{Cell}
+use Rattle.checker_pieces.specs.Stage.{Cell, nodeCells}
 use Rattle.checker_pieces.specs.Building.{Cells}
 use Rattle.checker_pieces.proofs.Stages.{next-cell, placed-cell, no-cells}
 use Rattle.checker_kinds.specs.Equations.{Combined}
@@ -96,8 +97,8 @@ expr-done s s′ d w w′ rows n top at free e k items l number place cell n′ 
 }
 
 -- RULES at node k, over the cells of operands.
-module _ (s s′ d w : List ℕ) (rows n top at free k number cell n′ top′ used : ℕ) (size : length s′ ≡ length s) (room : at ≤ 39936) (clean : Clean s at) where
-  module _ (few : used ≤ 40) where
+module _ (s s′ d w : List ℕ) (rows n top at free k number cell n′ top′ used : ℕ) (size : length s′ ≡ length s) (room : at ≤ poolSize) (clean : Clean s at) where
+  module _ (few : used ≤ nodeCells) where
     pub derived-ending : (x : ℕ) (own : ℕ → Term → Items) → Derived s s′ d n top x number cell n′ top′ used own → (t : Term) →
         Ending s s′ d w w rows n top at free (λ Γ. own k t) (k ∷ []) (λ Γ D G. Cell s d n G x t) (slot k 0) number k cell n′ top′ at
     derived-ending x own R t =
@@ -125,12 +126,12 @@ module _ (s s′ d w : List ℕ) (rows n top at free k number cell n′ top′ u
   pub refers-ending : (id : ℕ) (parts : List ℕ) (m : ℕ) → RefersWith s s′ d w n top rows id parts m number cell n′ top′ → (xs : Exprs) → exprsLength xs ≡ m →
       Ending s s′ d w w rows n top at free (λ Γ. referenceItems k xs (nameAt id Γ)) (k ∷ []) (λ Γ D G. Actuals s d n G parts 0 xs) (slot k 0) number k cell n′ top′ at
   refers-ending id parts m R xs e =
-      rule-ending s s′ d w w rows n top n′ top′ at free k number cell 40 (λ Γ. referenceItems k xs (nameAt id Γ)) (λ Γ D G. Actuals s d n G parts 0 xs) (spared-refl w rows free) size (R .low) room clean
+      rule-ending s s′ d w w rows n top n′ top′ at free k number cell nodeCells (λ Γ. referenceItems k xs (nameAt id Γ)) (λ Γ D G. Actuals s d n G parts 0 xs) (spared-refl w rows free) size (R .low) room clean
       (omega arith) (R .uses) (λ G St Γ D C v b. R .ruled G St k v Γ D C xs b e)
 
   pub theta-ending : (w′ : List ℕ) (id t : ℕ) → ThetaRuled s s′ d w w′ n top rows free id t number cell n′ top′ → length w′ ≡ length w → 2 * rows ≤ free →
       Ending s s′ d w w′ rows n top at free (λ Γ. thetaItems k t (schemaNamed id Γ) Γ) (k ∷ []) nothing (slot k 0) number k cell n′ top′ at
   theta-ending w′ id t R e below =
-      rule-ending s s′ d w w′ rows n top n′ top′ at free k number cell 40 (λ Γ. thetaItems k t (schemaNamed id Γ) Γ) nothing
+      rule-ending s s′ d w w′ rows n top n′ top′ at free k number cell nodeCells (λ Γ. thetaItems k t (schemaNamed id Γ) Γ) nothing
       (record { size = e; scope = λ i l. R .below i (omega arith); frames = λ i l m. R .below i m }) size (R .low) room clean (omega arith) (R .uses)
       (λ G St Γ D C v b. R .ruled G St k v Γ D C)

@@ -9,10 +9,11 @@ use Rattle.checker_rules.specs.Dictionary.{Dictionary}
 use Rattle.checker_rules.specs.Items.{Items, _⨾_}
 use Rattle.checker_rules.specs.Scopes.{Scope}
 use Rattle.checker_rules.specs.Unknowns.{slot}
+use Rattle.types_cells.specs.Layout.{areaSize, poolSize}
 use Rattle.types_cells.specs.Settled.{lower}
 use Rattle.types_instances.specs.Clean.{Clean}
 use Rattle.checker_pieces.specs.Piece.{Stops}
-use Rattle.checker_pieces.specs.Stage.{Ghost, Stands, Uses, Advanced, SlotOf, Unvisited, Ruled}
+use Rattle.checker_pieces.specs.Stage.{Ghost, Stands, Uses, Advanced, SlotOf, Unvisited, Ruled, nodeCells}
 use Rattle.checker_pieces.specs.Building.{Introduced}
 use Rattle.checker_pieces.proofs.Walks.{stops-left}
 use Rattle.checker_pieces.proofs.Stages.{next, next-stands, wider-mine, introduced-wider, introduce-then, stop-then, advance-then, room-less}
@@ -37,7 +38,7 @@ module _ (s s′ s″ d : List ℕ) (n top n′ top′ n″ top″ : ℕ) (G : G
 
 -- A PART, AND THE LAST ONE.
 module _ (s s′ s″ d w w′ w″ : List ℕ) (rows n top n′ top′ at at′ free : ℕ) (items rest : Scope → Items) (l m : List ℕ) (before between : Fact) (x number place cell n″ top″ at″ : ℕ)
-    (size : length s ≡ 52224) (clean : Clean s at) (some : 1 ≤ at) (room : at < 39936) (once : EachOnce (l ++ m))
+    (size : length s ≡ areaSize) (clean : Clean s at) (some : 1 ≤ at) (room : at < poolSize) (once : EachOnce (l ++ m))
     (P : Step s s′ d w w′ rows n top n′ top′ at at′ free items l before between)
     (Q : Ending s′ s″ d w′ w″ rows n′ top′ at′ free rest m between x number place cell n″ top″ at″) where
   module _ (G : Ghost) (St : Stands s d n top G) (Γ : Scope) (D : Dictionary) (C : Scoped s d w rows G Γ D) (f : Fresh (l ++ m) (G .mentioned)) (b : before Γ D G) where
@@ -76,7 +77,7 @@ module _ (s s′ s″ d w w′ w″ : List ℕ) (rows n top n′ top′ at at′
 
 -- The same in the room of their nodes.
 module _ (s s′ s″ d w w′ w″ : List ℕ) (rows n top n′ top′ at at′ free : ℕ) (items rest : Scope → Items) (l m : List ℕ) (before between : Fact) (x number place cell n″ top″ at″ : ℕ)
-    (size : length s ≡ 52224) (clean : Clean s at) (some : 1 ≤ at) (room : at < 39936) (once : EachOnce (l ++ m))
+    (size : length s ≡ areaSize) (clean : Clean s at) (some : 1 ≤ at) (room : at < poolSize) (once : EachOnce (l ++ m))
     (P : Part s s′ d w w′ rows n top n′ top′ at at′ free items l before between)
     (Q : Ending s′ s″ d w′ w″ rows n′ top′ at′ free rest m between x number place cell n″ top″ at″) where
   pub part-then : Ending s s″ d w w″ rows n top at free (λ Γ. items Γ ⨾ rest Γ) (l ++ m) before x number place cell n″ top″ at″
@@ -86,7 +87,7 @@ module _ (s s′ s″ d w w′ w″ : List ℕ) (rows n top n′ top′ at at′
 
 -- TWO PARTS are a part.
 module _ (s s′ s″ d w w′ w″ : List ℕ) (rows n top n′ top′ n″ top″ at at′ at″ free : ℕ) (items rest : Scope → Items) (l m : List ℕ) (before between after : Fact)
-    (size : length s ≡ 52224) (clean : Clean s at) (some : 1 ≤ at) (room : at < 39936) (once : EachOnce (l ++ m))
+    (size : length s ≡ areaSize) (clean : Clean s at) (some : 1 ≤ at) (room : at < poolSize) (once : EachOnce (l ++ m))
     (P : Part s s′ d w w′ rows n top n′ top′ at at′ free items l before between)
     (Q : Part s′ s″ d w′ w″ rows n′ top′ n″ top″ at′ at″ free rest m between after)
     (regroup : (Γ : Scope) (D : Dictionary) (G : Ghost) (A : Advanced s s′ d n top n′ top′ G (items Γ) (Owned (l ++ m)))
@@ -128,8 +129,8 @@ part-stops s s′ d w w′ rows n top at free items rest l m before x y number p
 }
 
 -- THE RULE OF NODE k is a last part. Rules keep the pool, and use 40 cells at most.
-module _ (s s′ d w w′ : List ℕ) (rows n top n′ top′ at free k number cell used : ℕ) (items : Scope → Items) (before : Fact) (W : Spared w w′ rows free) (size : length s′ ≡ length s) (low : lower s′ ≡ lower s) (room : at ≤ 39936)
-    (clean : Clean s at) (few : used ≤ 40) (uses : number ≡ 0 → Uses s s′ n top n′ top′ used)
+module _ (s s′ d w w′ : List ℕ) (rows n top n′ top′ at free k number cell used : ℕ) (items : Scope → Items) (before : Fact) (W : Spared w w′ rows free) (size : length s′ ≡ length s) (low : lower s′ ≡ lower s) (room : at ≤ poolSize)
+    (clean : Clean s at) (few : used ≤ nodeCells) (uses : number ≡ 0 → Uses s s′ n top n′ top′ used)
     (ruled : (G : Ghost) → Stands s d n top G → (Γ : Scope) (D : Dictionary) → Scoped s d w rows G Γ D → Unvisited k G → before Γ D G → Ruled s s′ d n top k number cell n′ top′ G (items Γ)) where
   pub rule-ending : Ending s s′ d w w′ rows n top at free items (k ∷ []) before (slot k 0) number k cell n′ top′ at
   rule-ending = record {
@@ -137,7 +138,7 @@ module _ (s s′ d w w′ : List ℕ) (rows n top n′ top′ at free k number c
     areas = λ e. record {
       stored = stored-low s s′ at size room clean low;
       short = omega arith;
-      uses = λ y R. uses e y (room-less s n top (used + y) (40 * length (k ∷ []) + y) (omega arith) R);
+      uses = λ y R. uses e y (room-less s n top (used + y) (nodeCells * length (k ∷ []) + y) (omega arith) R);
     };
     goes = λ e G St Γ D C f b.
         let R = ruled G St Γ D C (unvisited (k ∷ []) (G .mentioned) f k (inl refl)) b in

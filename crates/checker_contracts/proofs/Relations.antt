@@ -28,6 +28,7 @@ use Rattle.checker_contracts.proofs.Passing.{walking-first}
 use Rattle.checker_contracts.proofs.Sides.{Sides, left-refused, right-refused, sides-spared, sides-stored, sides-low, own-refused, relation-went, relation-several}
 use Rattle.checker_contracts.proofs.Wiping.{stored-kept, wiped-low}
 use Rattle.checker_contracts.proofs.Refused.{done-refused}
+use Rattle.types_cells.specs.Layout.{firstRun}
 
 -- The predicate p relates a and b at node k, by the items `own`.
 pub record Relation (p : Pred) (k : ℕ) (a b : Expr) (own : ℕ → Term → Term → Items) : Type 0 where
@@ -79,7 +80,7 @@ module _ (s d w : List ℕ) (rows at free : ℕ) (p : Pred) (k : ℕ) (a b : Exp
         subst (λ t. Refuses t (Meets H) number place) (sym (T .items Γ)) (r H U S Γ D C (fresh-left N (k ∷ []) U (subst (λ l. Fresh l U) (T .numbers) F))));
   }
 
-  module _ (s₁ w₁ : List ℕ) (number place cell n top at₁ : ℕ) (A : ExprDone s s₁ d w w₁ rows 0 4096 at free a number place cell n top at₁) where
+  module _ (s₁ w₁ : List ℕ) (number place cell n top at₁ : ℕ) (A : ExprDone s s₁ d w w₁ rows 0 firstRun at free a number place cell n top at₁) where
     -- .. of the left side, ..
     pub relation-left : (number ≡ 0 → ⊥) → PredDone s s₁ d w w₁ rows at free p number place
     relation-left e = refused s₁ w₁ number place e (A .spared) (left-refused s d w rows at free a b sides k own s₁ w₁ number place cell n top at₁ A e)

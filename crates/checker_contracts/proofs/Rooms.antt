@@ -5,10 +5,11 @@ use mathlib.Core.Logic.{inl, inr, ⊎-elim}
 use Prim.Native.Nat.{ℕ, suc, _+_, _*_, _-_, _≤_}
 use native.Mathlib.Omega.{arith}
 use lib.ListN.{length}
+use Rattle.types_cells.specs.Layout.{firstRun}
 use Rattle.types_cells.specs.Store.{load}
-use Rattle.checker_pieces.specs.Stage.{Room, Uses}
+use Rattle.checker_pieces.specs.Stage.{Room, Uses, nodeCells}
 use Rattle.checker_pieces.proofs.Stages.{room-less}
-use Rattle.checker_contracts.specs.Room.{Between, Crowd, Inside}
+use Rattle.checker_contracts.specs.Room.{Between, Crowd, Inside, framesAt, framesEnd, frameWords, pathTypeWords, nodeTypeWords}
 
 -- INSIDE A PIECE: fewer nodes, on a shorter path.
 pub inside-part : (s w : List ℕ) (rows n top at free h h′ x y : ℕ) → Inside s w rows n top at free h y → h′ ≤ h → x ≤ y → Inside s w rows n top at free h′ x
@@ -32,8 +33,8 @@ inside-part s w rows n top at free h h′ x y I p q =
     }
 
 -- After x nodes.
-pub inside-next : (s s′ w w′ : List ℕ) (rows n top n′ top′ at at′ free h x y : ℕ) → Inside s w rows n top at free h (x + y) → Uses s s′ n top n′ top′ (40 * x) →
-    at ≤ at′ → at′ ≤ at + 768 * x → length w′ ≡ length w → Inside s′ w′ rows n′ top′ at′ free h y
+pub inside-next : (s s′ w w′ : List ℕ) (rows n top n′ top′ at at′ free h x y : ℕ) → Inside s w rows n top at free h (x + y) → Uses s s′ n top n′ top′ (nodeCells * x) →
+    at ≤ at′ → at′ ≤ at + nodeTypeWords * x → length w′ ≡ length w → Inside s′ w′ rows n′ top′ at′ free h y
 inside-next s s′ w w′ rows n top n′ top′ at at′ free h x y I U p q r =
     let e = I .enough in
     let f = I .few in
@@ -52,7 +53,7 @@ inside-next s s′ w w′ rows n top n′ top′ at at′ free h x y I U p q r =
       frames = omega arith;
       some = omega arith;
       pool = omega arith;
-      store = U (40 * (24 - (I .visited + x)) + 40) (room-less s n top (40 * x + (40 * (24 - (I .visited + x)) + 40)) (40 * (24 - I .visited) + 40) (omega arith) (I .store));
+      store = U (nodeCells * (24 - (I .visited + x)) + nodeCells) (room-less s n top (nodeCells * x + (nodeCells * (24 - (I .visited + x)) + nodeCells)) (nodeCells * (24 - I .visited) + nodeCells) (omega arith) (I .store));
     }
 
 -- With more rows in the scope, as many as a node of the path may bring.
@@ -76,15 +77,15 @@ inside-rows s w rows m n top at free h x I p =
     }
 
 -- The rule of one node has room for 40 cells, and more.
-pub inside-room : (s w : List ℕ) (rows n top at free h y r : ℕ) → Inside s w rows n top at free h (suc y) → r ≤ 80 → Room s n top r
+pub inside-room : (s w : List ℕ) (rows n top at free h y r : ℕ) → Inside s w rows n top at free h (suc y) → r ≤ 2 * nodeCells → Room s n top r
 inside-room s w rows n top at free h y r I p =
     let e = I .enough in
     let f = I .few in
-    room-less s n top r (40 * (24 - I .visited) + 40) (omega arith) (I .store)
+    room-less s n top r (nodeCells * (24 - I .visited) + nodeCells) (omega arith) (I .store)
 
 -- BETWEEN PIECES: fewer nodes, on a shorter path, with rows of the scope, words of the frames and of the pool that were used since.
 pub between-part : (w w′ : List ℕ) (rows rows′ at at′ free free′ h h′ b b′ : ℕ) → Between w rows at free h b → length w′ ≡ length w → h′ ≤ h → b′ ≤ b → 1 ≤ at′ →
-    512 ≤ free′ → rows′ + 16 * h′ ≤ rows + 16 * h → at′ + 1536 * h′ ≤ at + 1536 * h → free′ + 128 * h′ ≤ free + 128 * h → Between w′ rows′ at′ free′ h′ b′
+    framesAt ≤ free′ → rows′ + 16 * h′ ≤ rows + 16 * h → at′ + pathTypeWords * h′ ≤ at + pathTypeWords * h → free′ + frameWords * h′ ≤ free + frameWords * h → Between w′ rows′ at′ free′ h′ b′
 between-part w w′ rows rows′ at at′ free free′ h h′ b b′ B e p q o l x y z =
     let a = B .wide in
     let c = B .stack in
@@ -95,14 +96,14 @@ between-part w w′ rows rows′ at at′ free free′ h h′ b b′ B e p q o l
 
 -- Beside a Text, one node lower: its rows are in the scope, its types in the pool, its table among the frames.
 pub between-next : (w w′ : List ℕ) (rows m at at′ free free′ h b b′ : ℕ) → Between w rows at free (suc h) b → length w′ ≡ length w → b′ ≤ b → m ≤ 16 →
-    at ≤ at′ → at′ ≤ at + 1536 → free ≤ free′ → free′ ≤ free + 128 → Between w′ (rows + m) at′ free′ h b′
+    at ≤ at′ → at′ ≤ at + pathTypeWords → free ≤ free′ → free′ ≤ free + frameWords → Between w′ (rows + m) at′ free′ h b′
 between-next w w′ rows m at at′ free free′ h b b′ B e q p x y u v =
     let o = B .some in
     let l = B .low in
     between-part w w′ rows (rows + m) at at′ free free′ (suc h) h b b′ B e (omega arith) q (omega arith) (omega arith) (omega arith) (omega arith) (omega arith)
 
 -- A PIECE BEGINS, in a store without cells.
-pub begin-inside : (s w : List ℕ) (rows at free h b nodes : ℕ) → Between w rows at free h b → nodes ≤ b → Inside s w rows 0 4096 at free h nodes
+pub begin-inside : (s w : List ℕ) (rows at free h b nodes : ℕ) → Between w rows at free h b → nodes ≤ b → Inside s w rows 0 firstRun at free h nodes
 unfolding load
 begin-inside s w rows at free h b nodes B q =
     let f = B .few in
@@ -122,8 +123,8 @@ begin-inside s w rows at free h b nodes B q =
     }
 
 -- A PIECE IS SUSPENDED at a node with x nodes below: its store is saved at `free`, and pieces of at most b nodes may come.
-pub suspended-room : (s w : List ℕ) (rows n top at free h x : ℕ) → 4096 ≤ top → Inside s w rows n top at free (suc h) (suc x) →
-    (b : ℕ) × (x ≤ b) × Between w rows at (free + (5 * n + (top - 4096))) h b
+pub suspended-room : (s w : List ℕ) (rows n top at free h x : ℕ) → firstRun ≤ top → Inside s w rows n top at free (suc h) (suc x) →
+    (b : ℕ) × (x ≤ b) × Between w rows at (free + (5 * n + (top - firstRun))) h b
 suspended-room s w rows n top at free h x t I =
     let e = I .enough in
     let f = I .few in
@@ -136,7 +137,7 @@ suspended-room s w rows n top at free h x t I =
     (I .left - 1, omega arith, record { wide = I .wide; stack = omega arith; low = omega arith; frames = omega arith; some = I .some; pool = omega arith; few = omega arith })
 
 -- The saved words have their place in the work area.
-pub saved-room : (s w : List ℕ) (rows n top at free h x : ℕ) → 4096 ≤ top → Inside s w rows n top at free (suc h) (suc x) → free + (5 * n + (top - 4096)) ≤ 14000
+pub saved-room : (s w : List ℕ) (rows n top at free h x : ℕ) → firstRun ≤ top → Inside s w rows n top at free (suc h) (suc x) → free + (5 * n + (top - firstRun)) ≤ framesEnd
 saved-room s w rows n top at free h x t I = let B = suspended-room s w rows n top at free h x t I in let f = B .2 .frames in omega arith
 
 -- CROWDS of parts.

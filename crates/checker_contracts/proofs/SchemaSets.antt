@@ -20,6 +20,7 @@ use Rattle.checker_rules.specs.Rules.{exprItems, includeItems, schemaItems}
 use Rattle.checker_rules.specs.Scopes.{Scope, includeSignature, includeNode}
 use Rattle.checker_rules.specs.Signatures.{Signature, bindingOf}
 use Rattle.checker_rules.specs.Unknowns.{Table, slot, powerOf}
+use Rattle.types_cells.specs.Layout.{firstRun, frozenSize, areaSize, poolSize, maxCells}
 use Rattle.types_cells.specs.Settled.{lower}
 use Rattle.types_solver.specs.Written.{Wrote}
 use Rattle.checker_signatures.specs.Rows.{rows as rowsOf}
@@ -27,7 +28,7 @@ use Rattle.checker_signatures.specs.Carried.{Carries}
 use Rattle.checker_signatures.proofs.CarryLaws.{carries-other}
 use Rattle.types_instances.specs.Moved.{saved, restored}
 use Rattle.checker_pieces.specs.Piece.{Stops}
-use Rattle.checker_pieces.specs.Stage.{Ghost, Stands, Room}
+use Rattle.checker_pieces.specs.Stage.{Ghost, Stands, Room, nodeCells}
 use Rattle.checker_pieces.specs.Building.{Introduced}
 use Rattle.checker_pieces.proofs.Walks.{Alike, meets-alike, piece-alike}
 use Rattle.checker_pieces.proofs.Stages.{next, next-stands, rule-goes, room-less}
@@ -136,7 +137,7 @@ module _ (s d w : List ℕ) (rows n top at free : ℕ) (k : ℕ) (i : Include) (
     stops = λ ne G St Γ D C f. stops-group (G .before) (G .items) (includeItems i Γ) (smallTypes (includeNode i) (includeSignature i Γ)) (own Γ) number place (E .stops ne G St Γ D C f tt);
   }
 
-  pub sset-save-asked : (length s ≡ 52224) × (n ≤ 1024) × (4096 ≤ top) × (top ≤ 6144) × (free < 2 ^ 39)
+  pub sset-save-asked : (length s ≡ areaSize) × (n ≤ maxCells) × (firstRun ≤ top) × (top ≤ frozenSize) × (free < 2 ^ 39)
   sset-save-asked = save-asked s d w w rows n top at free (K .height) free l (k ∷ []) sset-visiting (omega arith) deep
 
   module _ (w₁ : List ℕ) (e : ℕ) (S : Wrote w w₁ free e (saved s n top)) where
@@ -157,10 +158,10 @@ module _ (s d w : List ℕ) (rows n top at free : ℕ) (k : ℕ) (i : Include) (
           (waiting-stops s d w w₁ rows n top at free (K .height) e l (k ∷ []) sset-visiting (omega arith) deep S w₂ (T .done .still) inner s₁ 0 number place 0 n′ top′ at′ ne (λ H U Z Γ D C f. T .done .stops ne H U Z Γ D C tt f)))
 
       module _ (z : number ≡ 0) where
-        pub sset-restore-asked : (n ≤ 1024) × (4096 ≤ top) × (top ≤ 6144) × (free < 2 ^ 39) × (free + (5 * n + (top - 4096)) ≤ length w₂)
+        pub sset-restore-asked : (n ≤ maxCells) × (firstRun ≤ top) × (top ≤ frozenSize) × (free < 2 ^ 39) × (free + (5 * n + (top - firstRun)) ≤ length w₂)
         sset-restore-asked = restore-asked s d w w₁ rows n top at free (K .height) e l (k ∷ []) sset-visiting (omega arith) deep S w₂ (T .done .still)
 
-        reach : at₁ < 39936
+        reach : at₁ < poolSize
         reach = let p = sset-visiting .room .pool in let q = T .done .areas z .short in let r = T .done .areas z .few in let h = deep in omega arith
 
         module _ (s₂ : List ℕ) (R : s₂ ≡ restored s₁ n top w₂ free) where
@@ -183,14 +184,14 @@ module _ (s d w : List ℕ) (rows n top at free : ℕ) (k : ℕ) (i : Include) (
             abbrev Q : Passing s s₂ d n top n top G (inner Γ) l (After Γ D)
             Q = First .goes G St Γ D C (fresh-left l (k ∷ []) (G .mentioned) f) tt
 
-          room₂ : (r : ℕ) → r ≤ 80 → Room s₂ n top r
+          room₂ : (r : ℕ) → r ≤ 2 * nodeCells → Room s₂ n top r
           room₂ r p =
               let a = sset-visiting .room in
               let b = a .enough in
               let c = a .few in
               let g = include-some i in
               taken-uses s d w w₁ rows n top at free (K .height) e l (k ∷ []) sset-visiting (omega arith) deep S w₂ (T .done .still) s₁ s₂ at₁ (T .done .areas z .stored) R 0 r
-              (room-less s n top (0 + r) (40 * (24 - a .visited) + 40) (omega (arith, length-append l (k ∷ []))) (a .store))
+              (room-less s n top (0 + r) (nodeCells * (24 - a .visited) + nodeCells) (omega (arith, length-append l (k ∷ []))) (a .store))
 
           table : e + 2 * m ≤ length w₂
           table =
@@ -240,6 +241,6 @@ module _ (s d w : List ℕ) (rows n top at free : ℕ) (k : ℕ) (i : Include) (
                     stored = stored-on s s₂ s₃ at at₁ at₁ (First .stored) (X .stored);
                     short = omega (arith, length-append l (k ∷ []));
                     uses = λ v B.
-                        X .uses v (taken-uses s d w w₁ rows n top at free (K .height) e l (k ∷ []) sset-visiting (omega arith) deep S w₂ (T .done .still) s₁ s₂ at₁ (T .done .areas z .stored) R 0 (40 * length (k ∷ []) + v)
-                        (room-less s n top (0 + (40 * length (k ∷ []) + v)) (40 * length (l ++ (k ∷ [])) + v) (omega (arith, length-append l (k ∷ []))) B));
+                        X .uses v (taken-uses s d w w₁ rows n top at free (K .height) e l (k ∷ []) sset-visiting (omega arith) deep S w₂ (T .done .still) s₁ s₂ at₁ (T .done .areas z .stored) R 0 (nodeCells * length (k ∷ []) + v)
+                        (room-less s n top (0 + (nodeCells * length (k ∷ []) + v)) (nodeCells * length (l ++ (k ∷ [])) + v) (omega (arith, length-append l (k ∷ []))) B));
                   }

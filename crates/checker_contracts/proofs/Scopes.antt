@@ -12,6 +12,7 @@ use Rattle.checker_rules.specs.Items.{Items, _⨾_, Meets}
 use Rattle.checker_rules.specs.Scopes.{Scope}
 use Rattle.checker_rules.specs.Signatures.{Signature}
 use Rattle.checker_rules.specs.Unknowns.{Table}
+use Rattle.types_cells.specs.Layout.{areaSize, poolSize}
 use Rattle.types_cells.specs.Settled.{lower, heap, Reads}
 use Rattle.checker_signatures.specs.Rows.{rows, stack}
 use Rattle.checker_signatures.specs.Carried.{Carries, Stacked}
@@ -26,10 +27,11 @@ use Rattle.checker_pieces.specs.Stage.{Ghost}
 use Rattle.checker_lookup.specs.Scoped.{SettledAt, Scoped}
 use Rattle.checker_includes.specs.Components.{Placed}
 use Rattle.checker_includes.specs.Storing.{Stored}
+use Rattle.checker_contracts.specs.Room.{framesAt}
 use Rattle.checker_contracts.specs.Visits.{idle, Spared}
 
 -- STORED: a type that is read is read after types were written from `at` on, where the area was clean.
-module _ (s s′ d : List ℕ) (at at′ : ℕ) (size : length s ≡ 52224) (clean : Clean s at) (some : 1 ≤ at) (room : at < 39936) (S : Stored s s′ at at′) where
+module _ (s s′ d : List ℕ) (at at′ : ℕ) (size : length s ≡ areaSize) (clean : Clean s at) (some : 1 ≤ at) (room : at < poolSize) (S : Stored s s′ at at′) where
   pub stored-reads : (p : ℕ) (g : Ty) → Reads (heap s d) p g → Reads (heap s′ d) p g
   stored-reads p g R = clean-reads s s′ d at p g size (S .size ∙ size) some room clean (S .before) R
 
@@ -49,7 +51,7 @@ module _ (s s′ d : List ℕ) (at at′ : ℕ) (size : length s ≡ 52224) (cle
   carries-stored H U r rs C = carries-other (Placed s d H U) (Placed s′ d H U) (placed-stored H U) r rs C
 
 -- The pool as it was: nothing is stored.
-pub stored-low : (s s′ : List ℕ) (at : ℕ) → length s′ ≡ length s → at ≤ 39936 → Clean s at → lower s′ ≡ lower s → Stored s s′ at at
+pub stored-low : (s s′ : List ℕ) (at : ℕ) → length s′ ≡ length s → at ≤ poolSize → Clean s at → lower s′ ≡ lower s → Stored s s′ at at
 stored-low s s′ at e r C l = record { size = e; before = λ i q. lower-words s s′ l i (omega arith); after = clean-lower s s′ at C l; more = omega arith }
 
 pub stored-on : (s s′ s″ : List ℕ) (at at′ at″ : ℕ) → Stored s s′ at at′ → Stored s′ s″ at′ at″ → Stored s s″ at at″
@@ -77,7 +79,7 @@ scoped-spared s d w w′ n free G Γ D S C = record {
   recorded = C .recorded;
 }
 
-pub carries-spared : (w w′ : List ℕ) (n free base m : ℕ) (R : Term → ℕ → Type 0) (r : Signature) → Spared w w′ n free → 512 ≤ base → base + 2 * m ≤ free →
+pub carries-spared : (w w′ : List ℕ) (n free base m : ℕ) (R : Term → ℕ → Type 0) (r : Signature) → Spared w w′ n free → framesAt ≤ base → base + 2 * m ≤ free →
     Carries R r (rows w base m) → Carries R r (rows w′ base m)
 carries-spared w w′ n free base m R r S l q C = subst (Carries R r) (sym (rows-kept w w′ base m (λ k a b. S .frames k (omega arith) (omega arith)))) C
 

@@ -16,7 +16,7 @@ use Rattle.checker_rules.specs.Rules.{exprItems}
 use Rattle.checker_rules.specs.Scopes.{Scope}
 use Rattle.checker_rules.specs.Unknowns.{slot}
 use Rattle.checker_pieces.specs.Piece.{Steady}
-use Rattle.checker_pieces.specs.Stage.{Ghost, Stands, Advanced, Cell, Room, SlotOf}
+use Rattle.checker_pieces.specs.Stage.{Ghost, Stands, Advanced, Cell, Room, SlotOf, nodeCells}
 use Rattle.checker_pieces.specs.Building.{Introduced, Working}
 use Rattle.checker_pieces.specs.Closed.{Closing, Closed}
 use Rattle.checker_pieces.proofs.Stages.{next, next-stands, next-cell, placed-cell, wider-mine, advance-then, stop-then, two-cells, room-less}
@@ -32,6 +32,7 @@ use Rattle.checker_contracts.proofs.Nodes.{once-left, once-right, fresh
 use Rattle.checker_contracts.proofs.Rooms.{begin-inside, inside-part, inside-next}
 use Rattle.checker_contracts.proofs.Scopes.{scoped-stored, scoped-later, scoped-spared, stored-on, spared-on}
 use Rattle.checker_contracts.proofs.Opening.{opened, piece-refused, piece-walked, piece-several}
+use Rattle.types_cells.specs.Layout.{firstRun, poolSize}
 
 pub record Sides (s d w : List ℕ) (rows at free : ℕ) (a b : Expr) : Type 0 where
   pub height : ℕ
@@ -55,16 +56,16 @@ module _ (s d w : List ℕ) (rows at free : ℕ) (a b : Expr) (Q : Sides s d w r
   abbrev pub relationOf : Scope → Items
   relationOf Γ = exprItems a Γ ⨾ (exprItems b Γ ⨾ own k (typeOf a) (typeOf b))
 
-  inside-both : Inside s w rows 0 4096 at free (Q .height) (length na + length nb)
+  inside-both : Inside s w rows 0 firstRun at free (Q .height) (length na + length nb)
   inside-both =
       let e = Q .enough in
       let z = length-append na nb in
       begin-inside s w rows at free (Q .height) (K .bound) (length na + length nb) (K .room) (omega arith)
 
-  low-pool : at < 39936
+  low-pool : at < poolSize
   low-pool = let z = K .room .pool in omega arith
 
-  pub left-ask : ExprAsk s d w rows 0 4096 at free a
+  pub left-ask : ExprAsk s d w rows 0 firstRun at free a
   left-ask = record {
     height = Q .height;
     texts = Q .texts;
@@ -79,12 +80,12 @@ module _ (s d w : List ℕ) (rows at free : ℕ) (a b : Expr) (Q : Sides s d w r
       once = once-left na nb (K .once);
       size = K .size;
       clean = K .clean;
-      room = inside-part s w rows 0 4096 at free (Q .height) (Q .height) (length na) (length na + length nb) inside-both (omega arith) (omega arith);
+      room = inside-part s w rows 0 firstRun at free (Q .height) (Q .height) (length na) (length na + length nb) inside-both (omega arith) (omega arith);
     };
   }
 
   -- THE LEFT SIDE WAS VISITED.
-  module _ (s₁ w₁ : List ℕ) (number place cell n top at₁ : ℕ) (A : ExprDone s s₁ d w w₁ rows 0 4096 at free a number place cell n top at₁) where
+  module _ (s₁ w₁ : List ℕ) (number place cell n top at₁ : ℕ) (A : ExprDone s s₁ d w w₁ rows 0 firstRun at free a number place cell n top at₁) where
     pub left-refused : (number ≡ 0 → ⊥) → (H : Items) (U : List ℕ) → Steady H U → (Γ : Scope) (D : Dictionary) → Scoped s d w rows (idle H U) Γ D → Fresh (na ++ nb) U →
         Refuses (piece k (relationOf Γ)) (Meets H) number place
     left-refused e H U S Γ D C F =
@@ -95,14 +96,14 @@ module _ (s d w : List ℕ) (rows at free : ℕ) (a b : Expr) (Q : Sides s d w r
     module _ (fine : number ≡ 0) where
       -- any items before
       module _ (H : Items) (U : List ℕ) (S : Steady H U) (Γ : Scope) (D : Dictionary) (C : Scoped s d w rows (idle H U) Γ D) (F : Fresh (na ++ nb) U) where
-        first : Introduced s s₁ d 0 4096 n top (idle H U) (exprItems a Γ) (Owned na) (slot (exprNode a) 0) cell
+        first : Introduced s s₁ d 0 firstRun n top (idle H U) (exprItems a Γ) (Owned na) (slot (exprNode a) 0) cell
         first = A .goes fine (idle H U) (opened s d H U S (K .size) (K .few)) Γ D C (fresh-left na nb U F)
 
         abbrev ghost₁ : Ghost
-        ghost₁ = next s s₁ d 0 4096 n top (idle H U) (exprItems a Γ) (Owned na) (first .advanced)
+        ghost₁ = next s s₁ d 0 firstRun n top (idle H U) (exprItems a Γ) (Owned na) (first .advanced)
 
         stands₁ : Stands s₁ d n top ghost₁
-        stands₁ = next-stands s s₁ d 0 4096 n top (idle H U) (exprItems a Γ) (Owned na) (first .advanced) (K .few)
+        stands₁ = next-stands s s₁ d 0 firstRun n top (idle H U) (exprItems a Γ) (Owned na) (first .advanced) (K .few)
 
         scoped₁ : Scoped s₁ d w₁ rows ghost₁ Γ D
         scoped₁ =
@@ -115,7 +116,7 @@ module _ (s d w : List ℕ) (rows at free : ℕ) (a b : Expr) (Q : Sides s d w r
 
       inside₁ : Inside s₁ w₁ rows n top at₁ free (Q .height) (length nb)
       inside₁ =
-          inside-next s s₁ w w₁ rows 0 4096 n top at at₁ free (Q .height) (length na) (length nb) inside-both (A .areas fine .uses) (A .areas fine .stored .more) (A .areas fine .short)
+          inside-next s s₁ w w₁ rows 0 firstRun n top at at₁ free (Q .height) (length na) (length nb) inside-both (A .areas fine .uses) (A .areas fine .stored .more) (A .areas fine .short)
           (A .spared .size)
 
       pub right-ask : ExprAsk s₁ d w₁ rows n top at₁ free b
@@ -143,7 +144,7 @@ module _ (s d w : List ℕ) (rows at free : ℕ) (a b : Expr) (Q : Sides s d w r
             Refuses (piece k (relationOf Γ)) (Meets H) number₂ place₂
         right-refused e H U S Γ D C F =
             piece-refused H k (relationOf Γ) number₂ place₂
-            (stop-then s s₁ d 0 4096 n top (idle H U) (exprItems a Γ) (Owned na) (first H U S Γ D C F .advanced) (exprItems b Γ ⨾ own k (typeOf a) (typeOf b)) number₂ place₂
+            (stop-then s s₁ d 0 firstRun n top (idle H U) (exprItems a Γ) (Owned na) (first H U S Γ D C F .advanced) (exprItems b Γ ⨾ own k (typeOf a) (typeOf b)) number₂ place₂
             (stops-left H (skip ⨾ exprItems a Γ) (exprItems b Γ) (own k (typeOf a) (typeOf b)) number₂ place₂
             (B .stops e (ghost₁ H U S Γ D C F) (stands₁ H U S Γ D C F) Γ D (scoped₁ H U S Γ D C F) (fresh₁ H U S Γ D C F))))
 
@@ -155,7 +156,7 @@ module _ (s d w : List ℕ) (rows at free : ℕ) (a b : Expr) (Q : Sides s d w r
           sides-stored = stored-on s s₁ s₂ at at₁ at₂ (A .areas fine .stored) (B .areas fine₂ .stored)
 
           -- the words of both sides end in the pool
-          pub sides-low : at₂ < 39936
+          pub sides-low : at₂ < poolSize
           sides-low =
               let x = A .areas fine .short in
               let y = B .areas fine₂ .short in
@@ -180,7 +181,7 @@ module _ (s d w : List ℕ) (rows at free : ℕ) (a b : Expr) (Q : Sides s d w r
             left-cell : Cell s₂ d n₂ ghost₂ cell (typeOf a)
             left-cell =
                 next-cell s₁ s₂ d n top n₂ top₂ G₁ (exprItems b Γ) (Owned nb) (second .advanced) cell (typeOf a)
-                (placed-cell s s₁ d 0 4096 n top (idle H U) (exprItems a Γ) (Owned na) (first H U S Γ D C F .advanced) (slot (exprNode a) 0) cell (first H U S Γ D C F .placed))
+                (placed-cell s s₁ d 0 firstRun n top (idle H U) (exprItems a Γ) (Owned na) (first H U S Γ D C F .advanced) (slot (exprNode a) 0) cell (first H U S Γ D C F .placed))
 
             right-cell : Cell s₂ d n₂ ghost₂ cell₂ (typeOf b)
             right-cell = placed-cell s₁ s₂ d n top n₂ top₂ G₁ (exprItems b Γ) (Owned nb) (second .advanced) (slot (exprNode b) 0) cell₂ (second .placed)
@@ -191,7 +192,7 @@ module _ (s d w : List ℕ) (rows at free : ℕ) (a b : Expr) (Q : Sides s d w r
               let I = inside-next s₁ s₂ w₁ w₂ rows n top n₂ top₂ at₁ at₂ free (Q .height) (length nb) 0
               (inside-part s₁ w₁ rows n top at₁ free (Q .height) (Q .height) (length nb + 0) (length nb) inside₁ (omega arith) (omega arith))
               (B .areas fine₂ .uses) (B .areas fine₂ .stored .more) (B .areas fine₂ .short) (B .spared .size) in
-              room-less s₂ n₂ top₂ 1 (40 * (24 - I .visited) + 40) (omega arith) (I .store)
+              room-less s₂ n₂ top₂ 1 (nodeCells * (24 - I .visited) + nodeCells) (omega arith) (I .store)
 
           pub sides-ask : Working s₂ d n₂ top₂ 1 (cell ∷ cell₂ ∷ [])
           sides-ask =
@@ -213,7 +214,7 @@ module _ (s d w : List ℕ) (rows at free : ℕ) (a b : Expr) (Q : Sides s d w r
                 Refuses (piece k (relationOf Γ)) (Meets H) number₃ k
             own-refused e H U S Γ D C F =
                 piece-refused H k (relationOf Γ) number₃ k
-                (stop-then s s₁ d 0 4096 n top (idle H U) (exprItems a Γ) (Owned na) (first H U S Γ D C F .advanced) (exprItems b Γ ⨾ own k (typeOf a) (typeOf b)) number₃ k
+                (stop-then s s₁ d 0 firstRun n top (idle H U) (exprItems a Γ) (Owned na) (first H U S Γ D C F .advanced) (exprItems b Γ ⨾ own k (typeOf a) (typeOf b)) number₃ k
                 (stop-then s₁ s₂ d n top n₂ top₂ (ghost₁ H U S Γ D C F) (exprItems b Γ) (Owned nb) (second H U S Γ D C F .advanced) (own k (typeOf a) (typeOf b)) number₃ k
                 (R .stops e (ghost₂ H U S Γ D C F) (stands₂ H U S Γ D C F) k (typeOf a) (typeOf b) (left-cell H U S Γ D C F) (right-cell H U S Γ D C F))))
 
@@ -226,10 +227,10 @@ module _ (s d w : List ℕ) (rows at free : ℕ) (a b : Expr) (Q : Sides s d w r
                 abbrev N : List ℕ
                 N = (na ++ nb) ++ (k ∷ [])
 
-                whole : Advanced s s₃ d 0 4096 n₃ (third .top′) (idle H U) (relationOf Γ) (Owned N)
+                whole : Advanced s s₃ d 0 firstRun n₃ (third .top′) (idle H U) (relationOf Γ) (Owned N)
                 whole =
-                    advance-then s s₁ d 0 4096 n top (idle H U) (exprItems a Γ) (Owned N)
-                    (wider-mine s s₁ d 0 4096 n top (idle H U) (exprItems a Γ) (Owned na) (first H U S Γ D C F .advanced) (Owned N) (λ x o. owned-left (na ++ nb) (k ∷ []) x (owned-left na nb x o)))
+                    advance-then s s₁ d 0 firstRun n top (idle H U) (exprItems a Γ) (Owned N)
+                    (wider-mine s s₁ d 0 firstRun n top (idle H U) (exprItems a Γ) (Owned na) (first H U S Γ D C F .advanced) (Owned N) (λ x o. owned-left (na ++ nb) (k ∷ []) x (owned-left na nb x o)))
                     (exprItems b Γ ⨾ own k (typeOf a) (typeOf b)) s₃ n₃ (third .top′)
                     (advance-then s₁ s₂ d n top n₂ top₂ (ghost₁ H U S Γ D C F) (exprItems b Γ) (Owned N)
                     (wider-mine s₁ s₂ d n top n₂ top₂ (ghost₁ H U S Γ D C F) (exprItems b Γ) (Owned nb) (second H U S Γ D C F .advanced) (Owned N)

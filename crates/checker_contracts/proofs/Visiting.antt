@@ -8,7 +8,7 @@ use Rattle.checker_rules.specs.Dictionary.{Dictionary}
 use Rattle.checker_rules.specs.Items.{Items}
 use Rattle.checker_rules.specs.Scopes.{Scope}
 use Rattle.types_instances.specs.Clean.{Clean}
-use Rattle.checker_pieces.specs.Stage.{Ghost, Advanced}
+use Rattle.checker_pieces.specs.Stage.{Ghost, Advanced, nodeCells}
 use Rattle.checker_pieces.proofs.Stages.{next, next-stands, room-less, uses-on}
 use Rattle.checker_lookup.specs.Scoped.{Scoped}
 use Rattle.checker_includes.specs.Storing.{Stored}
@@ -18,6 +18,7 @@ use Rattle.checker_contracts.specs.Expressions.{Visiting, Visited}
 use Rattle.checker_contracts.proofs.Nodes.{fresh-left, fresh-after, once-left, once-right}
 use Rattle.checker_contracts.proofs.Rooms.{inside-part, inside-next}
 use Rattle.checker_contracts.proofs.Scopes.{scoped-stored, scoped-spared, scoped-later, stored-on}
+use Rattle.types_cells.specs.Layout.{areaSize, poolSize}
 
 -- The first part.
 pub visiting-part : (s d w : List ℕ) (rows n top at free h h′ : ℕ) (l m : List ℕ) → Visiting s d w rows n top at free h (l ++ m) → h′ ≤ h → Visiting s d w rows n top at free h′ l
@@ -35,11 +36,11 @@ visiting-part s d w rows n top at free h h′ l m K p = record {
 }
 
 -- The pool has room.
-pub visiting-low : (s d w : List ℕ) (rows n top at free h : ℕ) (l : List ℕ) → Visiting s d w rows n top at free h l → at < 39936
+pub visiting-low : (s d w : List ℕ) (rows n top at free h : ℕ) (l : List ℕ) → Visiting s d w rows n top at free h l → at < poolSize
 visiting-low s d w rows n top at free h l K = let p = K .room .pool in omega arith
 
 -- The scope of a piece with items more, in the areas after them.
-module _ (s s′ d w w′ : List ℕ) (rows n top n′ top′ at at′ free : ℕ) (size : length s ≡ 52224) (clean : Clean s at) (some : 1 ≤ at) (room : at < 39936)
+module _ (s s′ d w w′ : List ℕ) (rows n top n′ top′ at at′ free : ℕ) (size : length s ≡ areaSize) (clean : Clean s at) (some : 1 ≤ at) (room : at < poolSize)
     (X : Stored s s′ at at′) (W : Spared w w′ rows free) (G : Ghost) (own : Items) (M : ℕ → Type 0) (A : Advanced s s′ d n top n′ top′ G own M) where
   pub scoped-visited : (Γ : Scope) (D : Dictionary) → Scoped s d w rows G Γ D → Scoped s′ d w′ rows (next s s′ d n top n′ top′ G own M A) Γ D
   scoped-visited Γ D C =
@@ -73,5 +74,5 @@ visited-on s s′ s″ n top n′ top′ n″ top″ at at′ at″ l m A B =
     record {
       stored = stored-on s s′ s″ at at′ at″ (A .stored) (B .stored);
       short = omega arith;
-      uses = λ z R. uses-on s s′ s″ n n′ n″ top top′ top″ (40 * length l) (40 * length m) (A .uses) (B .uses) z (room-less s n top (40 * length l + 40 * length m + z) (40 * length (l ++ m) + z) (omega arith) R);
+      uses = λ z R. uses-on s s′ s″ n n′ n″ top top′ top″ (nodeCells * length l) (nodeCells * length m) (A .uses) (B .uses) z (room-less s n top (nodeCells * length l + nodeCells * length m + z) (nodeCells * length (l ++ m) + z) (omega arith) R);
     }

@@ -12,6 +12,7 @@ use Rattle.checker_rules.specs.Dictionary.{Dictionary}
 use Rattle.checker_rules.specs.Items.{Items, _⨾_, Meets, Agree, Refuses}
 use Rattle.checker_rules.specs.Scopes.{Scope}
 use Rattle.checker_rules.specs.Unknowns.{Table}
+use Rattle.types_cells.specs.Layout.{maxPending, firstRun, frozenSize, areaSize, poolSize, maxCells}
 use Rattle.types_cells.specs.Store.{frozen, tagAt, run}
 use Rattle.types_cells.specs.Settled.{lower}
 use Rattle.types_solver.specs.Written.{Wrote}
@@ -54,13 +55,13 @@ same-run v w at k p q h =
 
 -- THE STORE IS SAVED at `free`, at a node of which the nodes l are visited meanwhile.
 module _ (s d w w₁ : List ℕ) (rows n top at free h e : ℕ) (l rest : List ℕ) (K : Visiting s d w rows n top at free h (l ++ rest)) (own : 1 ≤ length rest) (deep : 1 ≤ h) where
-  few : n ≤ 1024
+  few : n ≤ maxCells
   few = K .stands .piece .solved .held .few
 
-  low : 4096 ≤ top
+  low : firstRun ≤ top
   low = K .stands .above .low
 
-  high : top ≤ 6144
+  high : top ≤ frozenSize
   high = let a = K .room .store .words in omega arith
 
   inside₁ : Inside s w rows n top at free (suc (h - 1)) (suc (length l))
@@ -68,15 +69,15 @@ module _ (s d w w₁ : List ℕ) (rows n top at free h e : ℕ) (l rest : List �
       let a = length-append l rest in
       inside-part s w rows n top at free h (suc (h - 1)) (suc (length l)) (length (l ++ rest)) (K .room) (omega arith) (omega arith)
 
-  bounded : (b : ℕ) × (length l ≤ b) × Between w rows at (free + (5 * n + (top - 4096))) (h - 1) b
+  bounded : (b : ℕ) × (length l ≤ b) × Between w rows at (free + (5 * n + (top - firstRun))) (h - 1) b
   bounded = suspended-room s w rows n top at free (h - 1) (length l) low inside₁
 
   -- what `save` asks
-  pub save-asked : (length s ≡ 52224) × (n ≤ 1024) × (4096 ≤ top) × (top ≤ 6144) × (free < 2 ^ 39)
+  pub save-asked : (length s ≡ areaSize) × (n ≤ maxCells) × (firstRun ≤ top) × (top ≤ frozenSize) × (free < 2 ^ 39)
   save-asked = let f = K .room .frames in (K .size, few, low, high, omega arith)
 
   module _ (S : Wrote w w₁ free e (saved s n top)) where
-    pub saved-end : e ≡ free + (5 * n + (top - 4096))
+    pub saved-end : e ≡ free + (5 * n + (top - firstRun))
     saved-end = S .end ∙ ap (λ z. free + z) (saved-length s n top (K .size) few low high)
 
     length₁ : length w₁ ≡ length w
@@ -88,7 +89,7 @@ module _ (s d w w₁ : List ℕ) (rows n top at free h e : ℕ) (l rest : List �
     pub save-spared : Spared w w₁ rows free
     save-spared = let a = K .room .stack in let b = K .room .low in record { size = length₁; scope = λ i p. before₁ i (omega arith); frames = λ i p q. before₁ i q }
 
-    saved-fit : free + (5 * n + (top - 4096)) ≤ length w₁
+    saved-fit : free + (5 * n + (top - firstRun)) ≤ length w₁
     saved-fit = let f = bounded .2 .frames in let v = K .room .wide in let z = length₁ in omega arith
 
     -- the scope at pieces inside
@@ -116,30 +117,30 @@ module _ (s d w w₁ : List ℕ) (rows n top at free h e : ℕ) (l rest : List �
           clean = K .clean;
           bound = bounded .0;
           crowd = inr (bounded .1);
-          room = between-part w w₁ rows rows at at (free + (5 * n + (top - 4096))) e (h - 1) (h - 1) (bounded .0) (bounded .0) B length₁ (omega arith) (omega arith) (B .some) (omega arith) (omega arith) (omega arith) (omega arith);
+          room = between-part w w₁ rows rows at at (free + (5 * n + (top - firstRun))) e (h - 1) (h - 1) (bounded .0) (bounded .0) B length₁ (omega arith) (omega arith) (B .some) (omega arith) (omega arith) (omega arith) (omega arith);
         }
 
     -- THE STORE IS TAKEN UP AGAIN, after types were written from `at` on and words from e on.
     module _ (w₂ : List ℕ) (W : Spared w₁ w₂ rows e) where
-      pub restore-asked : (n ≤ 1024) × (4096 ≤ top) × (top ≤ 6144) × (free < 2 ^ 39) × (free + (5 * n + (top - 4096)) ≤ length w₂)
+      pub restore-asked : (n ≤ maxCells) × (firstRun ≤ top) × (top ≤ frozenSize) × (free < 2 ^ 39) × (free + (5 * n + (top - firstRun)) ≤ length w₂)
       restore-asked = let q = save-asked in let f = saved-fit in let z = W .size in (q .1, q .2, q .3, q .4, omega arith)
 
       pub waiting-spared : Spared w w₂ rows free
       waiting-spared = let z = saved-end in spared-on w w₁ w₂ rows free save-spared (spared-less w₁ w₂ rows rows e free (omega arith) (omega arith) W)
 
-      stand : run w₂ free (5 * n + (top - 4096)) ≡ saved s n top
+      stand : run w₂ free (5 * n + (top - firstRun)) ≡ saved s n top
       stand =
           let f = saved-fit in
           let z = W .size in
           let y = saved-end in
           let u = K .room .low in
-          same-run w₂ w₁ free (5 * n + (top - 4096)) (omega arith) f (λ i p q. W .frames i (omega arith) (omega arith))
+          same-run w₂ w₁ free (5 * n + (top - firstRun)) (omega arith) f (λ i p q. W .frames i (omega arith) (omega arith))
           ∙ saved-stands s n top (K .size) few low high w w₁ free e (let v = length₁ in omega arith) S
 
-      fit₂ : free + (5 * n + (top - 4096)) ≤ length w₂
+      fit₂ : free + (5 * n + (top - firstRun)) ≤ length w₂
       fit₂ = restore-asked .4
 
-      room₁ : at < 39936
+      room₁ : at < poolSize
       room₁ = visiting-low s d w rows n top at free h (l ++ rest) K
 
       -- A piece inside stops.
@@ -154,7 +155,7 @@ module _ (s d w w₁ : List ℕ) (rows n top at free h e : ℕ) (l rest : List �
       }
 
       module _ (s₁ s₂ : List ℕ) (at₁ : ℕ) (T : Stored s s₁ at at₁) where
-        size₁ : length s₁ ≡ 52224
+        size₁ : length s₁ ≡ areaSize
         size₁ = T .size ∙ K .size
 
         module _ (R : s₂ ≡ restored s₁ n top w₂ free) where
@@ -169,14 +170,14 @@ module _ (s d w w₁ : List ℕ) (rows n top at free h e : ℕ) (l rest : List �
               subst (λ v. Resumed s v d n top at) (sym R)
               (resumed s n top (K .size) few low high s₁ w₂ free size₁ fit₂ stand d at (let z = room₁ in omega arith) (T .before) (clean-all-below s d n at (K .size) (K .room .some) room₁ (K .clean)) (K .stands .above))
 
-          pub taken-stored : at₁ < 39936 → Stored s s₂ at at₁
+          pub taken-stored : at₁ < poolSize → Stored s s₂ at at₁
           taken-stored r = stored-on s s₁ s₂ at at₁ at₁ T (stored-low s₁ s₂ at₁ length₂ (omega arith) (T .after) taken-low)
 
           -- the room is what it was
           pub taken-uses : (x : ℕ) → Uses s s₂ n top n top x
           taken-uses x y Q =
               let Q′ = room-less s n top y (x + y) (omega arith) Q in
-              record { cells = Q′ .cells; words = Q′ .words; fit = subst (λ z. z + 2 * y < 2048) (sym (load-same (frozen s) (frozen s₂) n (λ i m. back .alike .fields i 3 m (omega arith)))) (Q′ .fit) }
+              record { cells = Q′ .cells; words = Q′ .words; fit = subst (λ z. z + 2 * y < maxPending) (sym (load-same (frozen s) (frozen s₂) n (λ i m. back .alike .fields i 3 m (omega arith)))) (Q′ .fit) }
 
           module _ (G : Ghost) (St : Stands s d n top G) where
             to : (σ : ℕ → Ty) → Solution s d n (G .equations) σ → Solution s₂ d n (G .equations) σ
@@ -213,7 +214,7 @@ module _ (s d w w₁ : List ℕ) (rows n top at free h e : ℕ) (l rest : List �
                 }
 
           -- A PART OF THE EXPRESSION: its items are those of the pieces inside.
-          module _ (c : Scope → Items) (agrees : (Γ : Scope) (τ τ′ : Table) → Agree (c Γ) τ τ′) (later after : Fact) (reach : at₁ < 39936)
+          module _ (c : Scope → Items) (agrees : (Γ : Scope) (τ τ′ : Table) → Agree (c Γ) τ τ′) (later after : Fact) (reach : at₁ < poolSize)
               (inner : (H : Items) (U : List ℕ) → Steady H U → (Γ : Scope) (D : Dictionary) → Scoped s d w₁ rows (idle H U) Γ D → Fresh l U →
               (U′ : List ℕ) × Walked H (c Γ) U U′ (Owned l) × later Γ D (idle (H ⨾ c Γ) U′))
               (carry : (Γ : Scope) (D : Dictionary) (G G′ : Ghost) → ((x : ℕ) → In x (G .mentioned) → In x (G′ .mentioned)) →

@@ -5,6 +5,7 @@ use Prim.Native.Nat.{ℕ, _-_, _≤_, _<_}
 use native.Mathlib.Omega.{arith}
 use lib.ListN.{length, replicate}
 use lib.Seq.{sets, length-sets}
+use Rattle.types_cells.specs.Layout.{areaSize, poolSize}
 use Rattle.types_cells.specs.Settled.{lower}
 use Rattle.types_instances.specs.Clean.{Clean}
 use Rattle.types_instances.proofs.Moving.{lower-words, sets-before}
@@ -12,7 +13,7 @@ use Rattle.types_instances.proofs.CleanLaws.{clean-lower, clean-same, wiped-cle
 use Rattle.checker_includes.specs.Storing.{Stored}
 
 -- Other words than those of the pool may change since.
-pub stored-kept : (s s′ s″ : List ℕ) (at end : ℕ) → at ≤ 39936 → Stored s s′ at end → length s″ ≡ length s′ → lower s″ ≡ lower s′ → Stored s s″ at end
+pub stored-kept : (s s′ s″ : List ℕ) (at end : ℕ) → at ≤ poolSize → Stored s s′ at end → length s″ ≡ length s′ → lower s″ ≡ lower s′ → Stored s s″ at end
 stored-kept s s′ s″ at end r A z e = record {
   size = z ∙ A .size;
   before = λ i l. lower-words s′ s″ e i (omega arith) ∙ A .before i l;
@@ -21,7 +22,7 @@ stored-kept s s′ s″ at end r A z e = record {
 }
 
 -- WIPED from `at` to `end`.
-pub wiped-low : (s s′ : List ℕ) (at end : ℕ) → length s ≡ 52224 → Clean s at → 1 ≤ at → end < 39936 → Stored s s′ at end →
+pub wiped-low : (s s′ : List ℕ) (at end : ℕ) → length s ≡ areaSize → Clean s at → 1 ≤ at → end < poolSize → Stored s s′ at end →
     lower (sets s′ at (replicate (end - at) 0)) ≡ lower s
 wiped-low s s′ at end z C o r A =
     let n = length-sets s′ at (replicate (end - at) 0) in

@@ -13,16 +13,17 @@ use Rattle.checker_rules.specs.Items.{Items}
 use Rattle.checker_rules.specs.Rules.{exprItems, exprsItems}
 use Rattle.checker_rules.specs.Scopes.{Scope}
 use Rattle.checker_rules.specs.Unknowns.{slot}
+use Rattle.types_cells.specs.Layout.{areaSize}
 use Rattle.types_cells.specs.Store.{run}
 use Rattle.types_instances.specs.Clean.{Clean}
 use Rattle.checker_pieces.specs.Piece.{Stops}
-use Rattle.checker_pieces.specs.Stage.{Ghost, Stands, Uses, Advanced}
+use Rattle.checker_pieces.specs.Stage.{Ghost, Stands, Uses, Advanced, nodeCells}
 use Rattle.checker_pieces.specs.Building.{Cells, Introduced}
 use Rattle.checker_pieces.specs.Rows.{ghostAfter}
 use Rattle.checker_lookup.specs.Scoped.{Scoped}
 use Rattle.checker_includes.specs.Storing.{Stored}
 use Rattle.checker_contracts.specs.Visits.{Owned, Fresh, EachOnce, Spared}
-use Rattle.checker_contracts.specs.Room.{Inside}
+use Rattle.checker_contracts.specs.Room.{Inside, nodeTypeWords}
 
 -- What holds at any expression of a piece, or at a list of them, whose nodes are l. The store has n cells and its runs end at `top`; the pool is clean
 -- from `at` on, and the work area free from `free` on.
@@ -34,7 +35,7 @@ pub record Visiting (s d w : List ℕ) (rows n top at free h : ℕ) (l : List �
   pub scoped : Scoped s d w rows ghost scope dictionary
   pub fresh : Fresh l (ghost .mentioned)
   pub once : EachOnce l
-  pub size : length s ≡ 52224
+  pub size : length s ≡ areaSize
   pub clean : Clean s at
   pub room : Inside s w rows n top at free h (length l)
 
@@ -47,8 +48,8 @@ pub record ExprAsk (s d w : List ℕ) (rows n top at free : ℕ) (e : Expr) : Ty
 -- What visiting the nodes l leaves of the areas, where there is no finding.
 pub record Visited (s s′ : List ℕ) (n top n′ top′ at at′ : ℕ) (l : List ℕ) : Type 0 where
   pub stored : Stored s s′ at at′
-  pub short : at′ ≤ at + 768 * length l
-  pub uses : Uses s s′ n top n′ top′ (40 * length l)
+  pub short : at′ ≤ at + nodeTypeWords * length l
+  pub uses : Uses s s′ n top n′ top′ (nodeCells * length l)
 
 -- Number 0: the items of the expression pass, and the cell has its type; otherwise they stop with this number at the place.
 pub record ExprDone (s s′ d w w′ : List ℕ) (rows n top at free : ℕ) (e : Expr) (number place cell n′ top′ at′ : ℕ) : Type 0 where

@@ -17,6 +17,7 @@ use Rattle.checker_rules.specs.Items.{Items, _⨾_}
 use Rattle.checker_rules.specs.Rules.{includeItems, actualItems}
 use Rattle.checker_rules.specs.Scopes.{Scope, includeSignature, includeNode}
 use Rattle.checker_rules.specs.Unknowns.{slot, unknownAt, row}
+use Rattle.types_cells.specs.Layout.{dictionaryAt, typeWords}
 use Rattle.types_cells.specs.Settled.{heap, Reads}
 use Rattle.checker_signatures.specs.Rows.{rows, identifiersOf}
 use Rattle.checker_signatures.specs.Carried.{Carries}
@@ -26,6 +27,7 @@ use Rattle.checker_lookup.specs.Scoped.{Scoped}
 use Rattle.checker_lookup.specs.Components.{Component}
 use Rattle.checker_includes.specs.Components.{Placed, StandsFor, ActualTypes}
 use Rattle.checker_includes.specs.Storing.{Stored}
+use Rattle.checker_contracts.specs.Room.{pathTypeWords, nodeTypeWords, poolEnd}
 use Rattle.checker_contracts.specs.Visits.{Owned, Fresh, idle, Spared}
 use Rattle.checker_contracts.specs.Predicates.{Walking}
 use Rattle.checker_contracts.specs.Done.{Done, Signed}
@@ -55,9 +57,9 @@ pub record IncludeKept (w w′ : List ℕ) (stack free : ℕ) (places places′ 
 
 pub record IncludeLeft (s s′ w′ : List ℕ) (at at′ free m count : ℕ) : Type 0 where
   pub stored : Stored s s′ at at′
-  pub short : at′ ≤ at + 96 * count
+  pub short : at′ ≤ at + typeWords * count
   pub few : m ≤ 16
-  pub recorded : (j : ℕ) → j < m → 39936 ≤ getD w′ (free + 2 * j + 1) 0
+  pub recorded : (j : ℕ) → j < m → dictionaryAt ≤ getD w′ (free + 2 * j + 1) 0
   pub ascending : Ascending (identifiersOf (rows w′ free m))
 
 pub record IncludeDone (s s′ d w w′ : List ℕ) (stack at free : ℕ) (i : Include) (places places′ : List ℕ) (number place m at′ : ℕ) : Type 0 where
@@ -81,7 +83,7 @@ pub record ActualsAsk (s d w : List ℕ) (stack at free k j : ℕ) (xs : Exprs) 
   pub apart : In k (exprsNumbers xs) → ⊥
   pub row : length places ≡ 4
   pub count : j + exprsLength xs ≤ 4
-  pub pool : at + 96 * exprsLength xs + 768 * walking .bound + 1536 * height ≤ 36000
+  pub pool : at + typeWords * exprsLength xs + nodeTypeWords * walking .bound + pathTypeWords * height ≤ poolEnd
 
 -- The element type of actual number i of the Include at node k, and the place of a type that stands for it.
 pub record ActualAt (s d : List ℕ) (H : Items) (U : List ℕ) (k i p : ℕ) : Type 0 where
@@ -105,7 +107,7 @@ pub record ActualsKept (w w′ : List ℕ) (stack free j : ℕ) (places places�
 
 pub record ActualsLeft (s s′ : List ℕ) (at at′ count : ℕ) : Type 0 where
   pub stored : Stored s s′ at at′
-  pub short : at′ ≤ at + 96 * count
+  pub short : at′ ≤ at + typeWords * count
 
 pub record ActualsDone (s s′ d w w′ : List ℕ) (stack at free k j : ℕ) (xs : Exprs) (places places′ : List ℕ) (number place at′ : ℕ) : Type 0 where
   pub done : Done s d w stack (ActualsKept w w′ stack free j places places′) (ActualsLeft s s′ at at′ (exprsLength xs)) (Unit {0}) (λ x H U. ActualFresh k j (exprsNumbers xs) U)

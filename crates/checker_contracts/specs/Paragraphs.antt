@@ -6,24 +6,30 @@ use lib.ListN.{length}
 use Rattle.reader_rules.specs.Limited.{FewParameters, LimitedParagraph}
 use Rattle.reader_rules.specs.Tree.{Paragraph}
 use Rattle.reader_rules.specs.TreeNumbers.{paragraphNumbers}
+use Rattle.checker_rules.specs.Check.{checkWorkWords}
 use Rattle.checker_rules.specs.Dictionary.{Entry, Dictionary}
 use Rattle.checker_rules.specs.Entries.{extend}
 use Rattle.checker_rules.specs.Items.{Meets, Any, Passes, Refuses}
 use Rattle.checker_rules.specs.Rules.{paragraphItems}
 use Rattle.checker_rules.specs.Unknowns.{Table}
+use Rattle.types_cells.specs.Layout.{areaSize}
 use Rattle.types_cells.specs.Settled.{lower}
 use Rattle.checker_dictionary.specs.Waiting.{withEntries, waiting, Waits}
 use Rattle.types_instances.specs.Clean.{Clean}
 use Rattle.checker_lookup.specs.Scoped.{DictionaryHeld}
 use Rattle.checker_contracts.specs.Visits.{EachOnce}
 
+-- The words that the entries of one paragraph have where they wait, at most.
+abbrev pub maxWaiting : ℕ
+maxWaiting = 8192
+
 -- The pool is empty.
 pub record ParagraphAsk (s d w : List ℕ) (p : Paragraph) : Type 0 where
   pub dictionary : Dictionary
   pub recorded : DictionaryHeld dictionary d
-  pub size : length s ≡ 52224
+  pub size : length s ≡ areaSize
   pub few : length d < 2 ^ 31
-  pub wide : 16384 ≤ length w
+  pub wide : checkWorkWords ≤ length w
   pub clean : Clean s 1
   pub limited : LimitedParagraph 11 4 p
   pub once : EachOnce (paragraphNumbers p)
@@ -37,7 +43,7 @@ pub record Extended (w : List ℕ) (p : Paragraph) (D : Dictionary) (at count : 
   pub entries : List Entry
   pub counted : length entries ≡ count
   pub waits : Waits entries w at
-  pub short : length (waiting entries) ≤ 8192
+  pub short : length (waiting entries) ≤ maxWaiting
   pub extends : extend p D table ≡ withEntries entries D
 
 -- Number 0: the items pass, and the pool is empty again; otherwise they refuse with this number at the place.

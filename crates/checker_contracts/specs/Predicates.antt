@@ -10,6 +10,7 @@ use Rattle.checker_rules.specs.Dictionary.{Dictionary}
 use Rattle.checker_rules.specs.Items.{Items}
 use Rattle.checker_rules.specs.Rules.{predItems}
 use Rattle.checker_rules.specs.Scopes.{Scope}
+use Rattle.types_cells.specs.Layout.{areaSize}
 use Rattle.types_cells.specs.Settled.{lower}
 use Rattle.types_instances.specs.Clean.{Clean}
 use Rattle.checker_pieces.specs.Piece.{Steady}
@@ -28,7 +29,7 @@ pub record Walking (s d w : List ℕ) (rows at free h : ℕ) (l : List ℕ) : Ty
   pub scoped : Scoped s d w rows (idle before known) scope dictionary
   pub fresh : Fresh l known
   pub once : EachOnce l
-  pub size : length s ≡ 52224
+  pub size : length s ≡ areaSize
   pub few : length d < 2 ^ 31
   pub clean : Clean s at
   pub bound : ℕ

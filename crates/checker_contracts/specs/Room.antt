@@ -1,21 +1,54 @@
 -- ROOM. h nodes may stand on the path from here down (document 01: 12 from the Document), and a piece has at most 24 nodes below its closing node.
--- The work area: rows of the scope in its first 512 words, 16 for each node of the path; then frames, 128 words for each node of the path; then the saved
--- stores of the pieces around, 280 words (7 words for each of 40 cells) for each node that was visited in them.
--- The pool, for type words: 16 types of at most 96 words for each node of the path, and for each two nodes of a piece.
+-- The work area: rows of the scope, 16 for each node of the path; then frames, one for each node of the path; then the saved stores of the pieces around.
+-- The pool, for type words: 16 types for each node of the path, and for each two nodes of a piece.
 use Prim.Native.Nat.{ℕ, _+_, _*_, _-_, _≤_, _<_}
 use mathlib.Core.List.{List}
 use mathlib.Core.Logic.{_⊎_}
 use lib.ListN.{length}
-use Rattle.checker_pieces.specs.Stage.{Room}
+use Rattle.checker_pieces.specs.Stage.{Room, nodeCells}
+use Rattle.checker_signatures.specs.Tables.{tableWords}
+use Rattle.types_cells.specs.Layout.{typeWords}
+use Rattle.checker_rules.specs.Check.{checkWorkWords}
+
+-- The places of the work area: the frames with the saved stores, and where the entries of a paragraph wait when its pieces are closed.
+abbrev pub framesAt : ℕ
+framesAt = 512
+
+abbrev pub framesEnd : ℕ
+framesEnd = 14000
+
+abbrev pub entriesAt : ℕ
+entriesAt = 1024
+
+-- The rows of the scope, two words each, at most.
+abbrev pub maxRows : ℕ
+maxRows = 250
+
+-- The words of a frame, two tables; and of a saved store, for each node that was visited in it.
+abbrev pub frameWords : ℕ
+frameWords = 2 * tableWords
+
+abbrev pub savedWords : ℕ
+savedWords = 7 * nodeCells
+
+-- The words of the pool's types, for each node of the path and for each node of a piece; and where they end at the latest.
+abbrev pub pathTypeWords : ℕ
+pathTypeWords = 16 * typeWords
+
+abbrev pub nodeTypeWords : ℕ
+nodeTypeWords = 8 * typeWords
+
+abbrev pub poolEnd : ℕ
+poolEnd = 36000
 
 -- Between pieces that have at most b nodes.
 pub record Between (w : List ℕ) (rows at free h b : ℕ) : Type 0 where
-  pub wide : 16384 ≤ length w
-  pub stack : rows + 16 * h ≤ 250
-  pub low : 512 ≤ free
-  pub frames : free + 280 * b + 128 * h ≤ 14000
+  pub wide : checkWorkWords ≤ length w
+  pub stack : rows + 16 * h ≤ maxRows
+  pub low : framesAt ≤ free
+  pub frames : free + savedWords * b + frameWords * h ≤ framesEnd
   pub some : 1 ≤ at
-  pub pool : at + 768 * b + 1536 * h ≤ 36000
+  pub pool : at + nodeTypeWords * b + pathTypeWords * h ≤ poolEnd
   pub few : b ≤ 24
 
 -- The pieces inside nodes l have at most b nodes below their closing node: by the limit of 24, or since there are no more nodes.
@@ -28,10 +61,10 @@ pub record Inside (s w : List ℕ) (rows n top at free h nodes : ℕ) : Type 0 w
   pub left : ℕ
   pub enough : nodes ≤ left
   pub few : visited + left ≤ 24
-  pub wide : 16384 ≤ length w
-  pub stack : rows + 16 * h ≤ 250
-  pub low : 512 ≤ free
-  pub frames : free + 280 * (visited + left) + 128 * h ≤ 14000
+  pub wide : checkWorkWords ≤ length w
+  pub stack : rows + 16 * h ≤ maxRows
+  pub low : framesAt ≤ free
+  pub frames : free + savedWords * (visited + left) + frameWords * h ≤ framesEnd
   pub some : 1 ≤ at
-  pub pool : at + 768 * left + 1536 * h ≤ 36000
-  pub store : Room s n top (40 * (24 - visited) + 40)
+  pub pool : at + nodeTypeWords * left + pathTypeWords * h ≤ poolEnd
+  pub store : Room s n top (nodeCells * (24 - visited) + nodeCells)

@@ -12,15 +12,18 @@ use Rattle.checker_rules.specs.Items.{Items, _⨾_}
 use Rattle.checker_rules.specs.Rules.{textItems, linesItems}
 use Rattle.checker_rules.specs.Scopes.{Scope, textSignature, linesSignature, inside}
 use Rattle.checker_rules.specs.Signatures.{Signature}
+use Rattle.checker_signatures.specs.Tables.{tableWords}
 use Rattle.checker_signatures.specs.Rows.{rows}
 use Rattle.checker_signatures.specs.Carried.{Carries}
 use Rattle.checker_pieces.specs.Piece.{Steady, Walked}
 use Rattle.checker_lookup.specs.Scoped.{Scoped}
 use Rattle.checker_includes.specs.Components.{Placed}
 use Rattle.checker_includes.specs.Storing.{Stored}
+use Rattle.checker_contracts.specs.Room.{framesAt, pathTypeWords, nodeTypeWords, poolEnd}
 use Rattle.checker_contracts.specs.Visits.{Owned, Fresh, idle, Spared, globalsIf}
 use Rattle.checker_contracts.specs.Predicates.{Walking}
 use Rattle.checker_contracts.specs.Done.{Done, Signed}
+use Rattle.types_cells.specs.Layout.{typeWords}
 
 pub record TextAsk (s d w : List ℕ) (rows at free : ℕ) (t : Text) : Type 0 where
   pub height : ℕ
@@ -48,9 +51,9 @@ pub record LinesAsk (s d w : List ℕ) (stack base m at free : ℕ) (ls : Lines)
   pub signature : Signature
   pub carried : Carries (Placed s d (walking .before) (walking .known)) signature (rows w base m)
   pub few : m ≤ 16
-  pub low : 512 ≤ base
-  pub beside : base + 64 ≤ free
-  pub pool : at + 96 * (16 - m) + 768 * walking .bound + 1536 * height ≤ 36000
+  pub low : framesAt ≤ base
+  pub beside : base + tableWords ≤ free
+  pub pool : at + typeWords * (16 - m) + nodeTypeWords * walking .bound + pathTypeWords * height ≤ poolEnd
 
 pub record LinesWent (s d w : List ℕ) (base m : ℕ) (H : Items) (U : List ℕ) (Γ : Scope) (G : Dictionary) (r : Signature) (ls : Lines) : Type 0 where
   pub unknowns : List ℕ
@@ -61,7 +64,7 @@ pub record LinesWent (s d w : List ℕ) (base m : ℕ) (H : Items) (U : List ℕ
 pub record LinesLeft (s s′ : List ℕ) (m m′ at at′ : ℕ) : Type 0 where
   pub stored : Stored s s′ at at′
   pub more : m ≤ m′
-  pub short : at′ ≤ at + 96 * (m′ - m)
+  pub short : at′ ≤ at + typeWords * (m′ - m)
   pub few : m′ ≤ 16
 
 -- r is the signature of the lines before.

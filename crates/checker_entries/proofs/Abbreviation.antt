@@ -18,6 +18,7 @@ use Rattle.checker_rules.specs.Items.{Items, skip, _⨾_, small, piece, Meets, 
 use Rattle.checker_rules.specs.Rules.{paragraphItems, exprItems}
 use Rattle.checker_rules.specs.Scopes.{Scope, globals, withParameters}
 use Rattle.checker_rules.specs.Unknowns.{Table, slot}
+use Rattle.types_cells.specs.Layout.{firstRun, poolSize}
 use Rattle.types_cells.specs.Settled.{lower}
 use Rattle.types_solver.specs.Sizes.{cap}
 use Rattle.types_solver.specs.Written.{Wrote}
@@ -33,6 +34,7 @@ use Rattle.checker_pieces.proofs.Between.{walked-then, walked-mine, refuses-fir
 use Rattle.checker_pieces.proofs.Stages.{next, next-stands, placed-cell}
 use Rattle.checker_lookup.specs.Scoped.{Scoped, DictionaryHeld}
 use Rattle.checker_includes.specs.Storing.{Stored}
+use Rattle.checker_contracts.specs.Room.{framesAt, entriesAt}
 use Rattle.checker_contracts.specs.Expressions.{ExprAsk, ExprDone}
 use Rattle.checker_contracts.specs.Paragraphs.{ParagraphAsk, ParagraphDone}
 use Rattle.checker_contracts.specs.Visits.{Owned, idle}
@@ -62,7 +64,7 @@ module _ (s d w : List ℕ) (p : Paragraph) (k i : ℕ) (ps : List ℕ) (a : Exp
   unfolding LimitedParagraph
   nodes-few = A .limited .1
 
-  pub expr-asked : ExprAsk s₁ d w₁ n 0 4096 at₁ 512 a
+  pub expr-asked : ExprAsk s₁ d w₁ n 0 firstRun at₁ framesAt a
   unfolding LimitedParagraph paragraphNumbers
   expr-asked =
       let o = P .place in
@@ -82,7 +84,7 @@ module _ (s d w : List ℕ) (p : Paragraph) (k i : ℕ) (ps : List ℕ) (a : Exp
           once = once-left (exprNumbers a) (k ∷ []) (A .once);
           size = P .stored .size ∙ A .size;
           clean = P .stored .after;
-          room = begin-inside s₁ w₁ n at₁ 512 10 24 (length (exprNumbers a)) (room-below w₁ n at₁ (omega arith) few (omega arith) (omega arith)) (A .limited .1);
+          room = begin-inside s₁ w₁ n at₁ framesAt 10 24 (length (exprNumbers a)) (room-below w₁ n at₁ (omega arith) few (omega arith) (omega arith)) (A .limited .1);
         };
       }
 
@@ -96,7 +98,7 @@ module _ (s d w : List ℕ) (p : Paragraph) (k i : ℕ) (ps : List ℕ) (a : Exp
   unfolding paragraphItems
   refuse-first D f m r = refuses-first skip (piece k (body D)) (rest D) f m r
 
-  module _ (s₂ w₂ : List ℕ) (number place cell n′ top′ at₂ : ℕ) (T : ExprDone s₁ s₂ d w₁ w₂ n 0 4096 at₁ 512 a number place cell n′ top′ at₂) where
+  module _ (s₂ w₂ : List ℕ) (number place cell n′ top′ at₂ : ℕ) (T : ExprDone s₁ s₂ d w₁ w₂ n 0 firstRun at₁ framesAt a number place cell n′ top′ at₂) where
     size₂ : length w₂ ≡ length w
     size₂ = T .spared .size ∙ P .size
 
@@ -119,19 +121,19 @@ module _ (s d w : List ℕ) (p : Paragraph) (k i : ℕ) (ps : List ℕ) (a : Exp
       abbrev Mine : ℕ → Type 0
       Mine = Owned (exprNumbers a)
 
-      went : (D : Dictionary) → DictionaryHeld D d → Introduced s₁ s₂ d 0 4096 n′ top′ G₀ (body D) Mine (slot (exprNode a) 0) cell
+      went : (D : Dictionary) → DictionaryHeld D d → Introduced s₁ s₂ d 0 firstRun n′ top′ G₀ (body D) Mine (slot (exprNode a) 0) cell
       went D R = T .goes fine G₀ (opened s₁ d skip [] nothing-before (P .stored .size ∙ A .size) (A .few)) (around D) D (begun D R) (nothing-known (exprNumbers a))
 
       ghost : (D : Dictionary) (R : DictionaryHeld D d) → Ghost
-      ghost D R = next s₁ s₂ d 0 4096 n′ top′ G₀ (body D) Mine (went D R .advanced)
+      ghost D R = next s₁ s₂ d 0 firstRun n′ top′ G₀ (body D) Mine (went D R .advanced)
 
       pub closing-asked : Closing s₂ d n′
       closing-asked =
           let D = A .dictionary in
           let X = went D (A .recorded) in
-          record { top = top′; ready = record { ghost = next s₁ s₂ d 0 4096 n′ top′ G₀ (body D) Mine (X .advanced); stands = next-stands s₁ s₂ d 0 4096 n′ top′ G₀ (body D) Mine (X .advanced) (A .few) } }
+          record { top = top′; ready = record { ghost = next s₁ s₂ d 0 firstRun n′ top′ G₀ (body D) Mine (X .advanced); stands = next-stands s₁ s₂ d 0 firstRun n′ top′ G₀ (body D) Mine (X .advanced) (A .few) } }
 
-      pub low-end : at₂ < 39936
+      pub low-end : at₂ < poolSize
       low-end =
           let o = P .place in
           let q = T .areas fine .short in
@@ -155,9 +157,9 @@ module _ (s d w : List ℕ) (p : Paragraph) (k i : ℕ) (ps : List ℕ) (a : Exp
         closed : (D : Dictionary) (R : DictionaryHeld D d) → Walked skip (piece k (body D)) [] (went D R .advanced .mentioned) Mine
         closed D R = piece-walked s₁ s₂ s₃ d n′ top′ skip [] k (body D) Mine (went D R .advanced) (A .few) C
 
-        shut : (D : Dictionary) (R : DictionaryHeld D d) → Shut s₃ d n′ (next s₁ s₂ d 0 4096 n′ top′ G₀ (body D) Mine (went D R .advanced))
+        shut : (D : Dictionary) (R : DictionaryHeld D d) → Shut s₃ d n′ (next s₁ s₂ d 0 firstRun n′ top′ G₀ (body D) Mine (went D R .advanced))
         shut D R =
-            C .goes refl top′ (next s₁ s₂ d 0 4096 n′ top′ G₀ (body D) Mine (went D R .advanced)) (next-stands s₁ s₂ d 0 4096 n′ top′ G₀ (body D) Mine (went D R .advanced) (A .few))
+            C .goes refl top′ (next s₁ s₂ d 0 firstRun n′ top′ G₀ (body D) Mine (went D R .advanced)) (next-stands s₁ s₂ d 0 firstRun n′ top′ G₀ (body D) Mine (went D R .advanced) (A .few))
 
         abbrev type : (D : Dictionary) (R : DictionaryHeld D d) → Ty
         type D R = shut D R .type cell
@@ -171,9 +173,9 @@ module _ (s d w : List ℕ) (p : Paragraph) (k i : ℕ) (ps : List ℕ) (a : Exp
             let D = A .dictionary in
             let R = A .recorded in
             record {
-              ghost = next s₁ s₂ d 0 4096 n′ top′ G₀ (body D) Mine (went D R .advanced);
+              ghost = next s₁ s₂ d 0 firstRun n′ top′ G₀ (body D) Mine (went D R .advanced);
               shut = shut D R;
-              made = placed-cell s₁ s₂ d 0 4096 n′ top′ G₀ (body D) Mine (went D R .advanced) (slot (exprNode a) 0) cell (went D R .placed) .made;
+              made = placed-cell s₁ s₂ d 0 firstRun n′ top′ G₀ (body D) Mine (went D R .advanced) (slot (exprNode a) 0) cell (went D R .placed) .made;
             }
 
         pub sizing : Sizing s₃ d n′ cell
@@ -201,7 +203,7 @@ module _ (s d w : List ℕ) (p : Paragraph) (k i : ℕ) (ps : List ℕ) (a : Exp
           new D R = N .goes refl D (skip ⨾ piece k (body D)) (went D R .advanced .mentioned) k (R .holds) (closed D R .steady)
 
           measured : (D : Dictionary) (R : DictionaryHeld D d) → v ≡ cap (size (type D R))
-          measured D R = Z (next s₁ s₂ d 0 4096 n′ top′ G₀ (body D) Mine (went D R .advanced)) (shut D R)
+          measured D R = Z (next s₁ s₂ d 0 firstRun n′ top′ G₀ (body D) Mine (went D R .advanced)) (shut D R)
 
           settled-then : (D : Dictionary) (R : DictionaryHeld D d) → Settled ((skip ⨾ piece k (body D)) ⨾ newNames k (i ∷ []) D) (typeOf a) (type D R)
           unfolding Meets
@@ -225,14 +227,14 @@ module _ (s d w : List ℕ) (p : Paragraph) (k i : ℕ) (ps : List ℕ) (a : Exp
               cap-large v g q l = cap-cases (size g) (32 < size g) (λ m r. omega arith) (λ m r. omega arith)
 
           module _ (few-enough : v ≤ 32) where
-            pub wording : Wording s₃ d n′ cell 1028
+            pub wording : Wording s₃ d n′ cell (entriesAt + 4)
             wording = let q = size-few (type (A .dictionary) (A .recorded)) v (measured (A .dictionary) (A .recorded)) few-enough in record { sizing = own-sizing; small = let z = q .0 in let y : size (type (A .dictionary) (A .recorded)) ≤ 32 = omega arith in y; place = omega arith }
 
-            pub abbreviation-done : length s₃ ≡ length s₂ → (s₄ w₃ w₄ : List ℕ) (end len : ℕ) → n ≡ length ps → s₄ ≡ sets s₃ 1 (replicate (at₂ - 1) 0) → WordsAre s₃ d w₂ w₃ n′ cell 1028 end →
-                len ≡ end - 1024 - 1 → w₄ ≡ sets w₃ 1024 (len ∷ 1 ∷ i ∷ n ∷ []) → ParagraphDone s s₄ d w w₄ p 0 place 1024 1
+            pub abbreviation-done : length s₃ ≡ length s₂ → (s₄ w₃ w₄ : List ℕ) (end len : ℕ) → n ≡ length ps → s₄ ≡ sets s₃ 1 (replicate (at₂ - 1) 0) → WordsAre s₃ d w₂ w₃ n′ cell (entriesAt + 4) end →
+                len ≡ end - entriesAt - 1 → w₄ ≡ sets w₃ entriesAt (len ∷ 1 ∷ i ∷ n ∷ []) → ParagraphDone s s₄ d w w₄ p 0 place entriesAt 1
             unfolding paragraphItems extend Meets withEntries waiting entryWords under
-            abbreviation-done z₃ s₄ w₃ w₄ end len c h W l hw = subst (λ y. ParagraphDone s s₄ d w w₄ y 0 place 1024 1) (sym e) (record {
-              size = let B = wrote (A .dictionary) (A .recorded) in ap length (B .area) ∙ length-sets w₂ 1024 (entryWaits (nameEntry i (length ps) (type (A .dictionary) (A .recorded)))) ∙ size₂;
+            abbreviation-done z₃ s₄ w₃ w₄ end len c h W l hw = subst (λ y. ParagraphDone s s₄ d w w₄ y 0 place entriesAt 1) (sym e) (record {
+              size = let B = wrote (A .dictionary) (A .recorded) in ap length (B .area) ∙ length-sets w₂ entriesAt (entryWaits (nameEntry i (length ps) (type (A .dictionary) (A .recorded)))) ∙ size₂;
               low = λ z.
                   ap lower h ∙ wiped-low s s₃ 1 at₂ (A .size) (A .clean) (omega arith) low-end (stored-kept s s₂ s₃ 1 at₂ (omega arith) stored z₃ (C .low));
               goes = λ z D R.
@@ -257,14 +259,14 @@ module _ (s d w : List ℕ) (p : Paragraph) (k i : ℕ) (ps : List ℕ) (a : Exp
                     meets = S .1 .1;
                     entries = E ∷ [];
                     counted = refl;
-                    waits = one-waits E w₂ w₄ 1024 end (omega arith) (wrote D R);
+                    waits = one-waits E w₂ w₄ entriesAt end (omega arith) (wrote D R);
                     short = omega arith;
                     extends = ap (λ (y : Ty). D ▸ nameEntry i (length ps) y) (settled D R (S .0) (S .1 .0, S .1 .1 .0));
                   };
               stops = λ z. absurd (z refl);
             })
               where
-                wrote : (D : Dictionary) (R : DictionaryHeld D d) → Wrote w₂ w₄ 1024 end (entryWaits (nameEntry i (length ps) (type D R)))
+                wrote : (D : Dictionary) (R : DictionaryHeld D d) → Wrote w₂ w₄ entriesAt end (entryWaits (nameEntry i (length ps) (type D R)))
                 wrote D R =
-                    subst (λ j. Wrote w₂ w₄ 1024 end (entryWaits (nameEntry i j (type D R)))) c
-                    (head-wrote (words (type D R)) w₂ w₃ w₄ 1024 end len 1 i n (W (next s₁ s₂ d 0 4096 n′ top′ G₀ (body D) Mine (went D R .advanced)) (shut D R)) l hw)
+                    subst (λ j. Wrote w₂ w₄ entriesAt end (entryWaits (nameEntry i j (type D R)))) c
+                    (head-wrote (words (type D R)) w₂ w₃ w₄ entriesAt end len 1 i n (W (next s₁ s₂ d 0 firstRun n′ top′ G₀ (body D) Mine (went D R .advanced)) (shut D R)) l hw)

@@ -21,6 +21,7 @@ use Rattle.checker_signatures.specs.Rows.{rows}
 use Rattle.checker_signatures.proofs.RowLaws.{rows-length}
 use Rattle.checker_dictionary.specs.Waiting.{waiting}
 use Rattle.checker_lookup.specs.Scoped.{DictionaryHeld}
+use Rattle.checker_contracts.specs.Room.{framesAt, entriesAt}
 use Rattle.checker_contracts.specs.Paragraphs.{ParagraphAsk, ParagraphDone}
 use Rattle.checker_contracts.specs.Texts.{TextAsk, TextDone, Declared}
 use Rattle.checker_contracts.specs.Visits.{globalsIf}
@@ -32,7 +33,7 @@ use Rattle.checker_entries.proofs.CarriedTypes.{TypesOf, types-of}
 use Rattle.checker_entries.proofs.Waits.{wrote-waits, names-few}
 
 module _ (s d w : List ℕ) (p : Paragraph) (k : ℕ) (t : Text) (e : p ≡ axiomatic k t) where
-  pub axiom-asked : ParagraphAsk s d w p → TextAsk s d w 0 1 512 t
+  pub axiom-asked : ParagraphAsk s d w p → TextAsk s d w 0 1 framesAt t
   unfolding LimitedParagraph paragraphNumbers
   axiom-asked A′ =
       let A = subst (ParagraphAsk s d w) e A′ in
@@ -45,7 +46,7 @@ module _ (s d w : List ℕ) (p : Paragraph) (k : ℕ) (t : Text) (e : p ≡ axio
             (room-below w 0 1 (A .wide) (omega arith) (omega arith) (omega arith)) (no-rows s d w (A .dictionary) (A .recorded));
       }
 
-  module _ (s′ w′ : List ℕ) (number place m at′ : ℕ) (T : TextDone s s′ d w w′ 0 1 512 t true number place m at′) where
+  module _ (s′ w′ : List ℕ) (number place m at′ : ℕ) (T : TextDone s s′ d w w′ 0 1 framesAt t true number place m at′) where
     pub axiom-stopped : (number ≡ 0 → ⊥) → (at count : ℕ) → ParagraphDone s s′ d w w′ p number place at count
     unfolding paragraphItems globalsIf
     axiom-stopped z at count = subst (λ x. ParagraphDone s s′ d w w′ x number place at count) (sym e) (record {
@@ -56,15 +57,15 @@ module _ (s d w : List ℕ) (p : Paragraph) (k : ℕ) (t : Text) (e : p ≡ axio
     })
 
     module _ (A : ParagraphAsk s d w p) (fine : number ≡ 0) where
-      went : (D : Dictionary) → DictionaryHeld D d → Declared s′ d w′ 0 m 512 skip [] (globals D) D true t
+      went : (D : Dictionary) → DictionaryHeld D d → Declared s′ d w′ 0 m framesAt skip [] (globals D) D true t
       went D R = T .done .goes fine skip [] nothing-before (globals D) D (no-rows s d w D R) tt (nothing-known (textNumbers t))
 
-      own : (D : Dictionary) → DictionaryHeld D d → TypesOf s′ d (skip ⨾ textItems t (globals D) (globalsIf true D)) (textSignature t (globals D)) (rows w′ 512 m)
+      own : (D : Dictionary) → DictionaryHeld D d → TypesOf s′ d (skip ⨾ textItems t (globals D) (globalsIf true D)) (textSignature t (globals D)) (rows w′ framesAt m)
       own D R =
           let X = went D R in
-          types-of s′ d (skip ⨾ textItems t (globals D) (globalsIf true D)) (X .unknowns) (textSignature t (globals D)) (rows w′ 512 m) (X .signature)
+          types-of s′ d (skip ⨾ textItems t (globals D) (globalsIf true D)) (X .unknowns) (textSignature t (globals D)) (rows w′ framesAt m) (X .signature)
 
-      pub axiom-table : TableAsk s′ d w′ 512 m 1024
+      pub axiom-table : TableAsk s′ d w′ framesAt m entriesAt
       axiom-table =
           let O = own (A .dictionary) (A .recorded) in
           let z = A .few in
@@ -79,10 +80,10 @@ module _ (s d w : List ℕ) (p : Paragraph) (k : ℕ) (t : Text) (e : p ≡ axio
           }
 
       pub axiom-done : (s″ w″ : List ℕ) (end : ℕ) → s″ ≡ sets s′ 1 (replicate (at′ - 1) 0) →
-          ((gs : Tys) → TypesAt (heap s′ d) (rows w′ 512 m) gs → Wrote w′ w″ 1024 end (waiting (nameEntries (rows w′ 512 m) gs))) → ParagraphDone s s″ d w w″ p 0 place 1024 m
+          ((gs : Tys) → TypesAt (heap s′ d) (rows w′ framesAt m) gs → Wrote w′ w″ entriesAt end (waiting (nameEntries (rows w′ framesAt m) gs))) → ParagraphDone s s″ d w w″ p 0 place entriesAt m
       unfolding paragraphItems extend globalsIf Meets
-      axiom-done s″ w″ end h W = subst (λ x. ParagraphDone s s″ d w w″ x 0 place 1024 m) (sym e) (record {
-        size = let O = own (A .dictionary) (A .recorded) in ap length (W (O .types) (O .stand) .area) ∙ length-sets w′ 1024 (waiting (nameEntries (rows w′ 512 m) (O .types))) ∙ T .done .still .size;
+      axiom-done s″ w″ end h W = subst (λ x. ParagraphDone s s″ d w w″ x 0 place entriesAt m) (sym e) (record {
+        size = let O = own (A .dictionary) (A .recorded) in ap length (W (O .types) (O .stand) .area) ∙ length-sets w′ entriesAt (waiting (nameEntries (rows w′ framesAt m) (O .types))) ∙ T .done .still .size;
         low = λ z.
             let q = T .done .areas fine .short in
             let l = T .done .areas fine .few in
@@ -91,8 +92,8 @@ module _ (s d w : List ℕ) (p : Paragraph) (k : ℕ) (t : Text) (e : p ≡ axio
             let X = went D R in
             let O = own D R in
             let S = X .walked .steady .some in
-            let f = names-few (rows w′ 512 m) (O .types) (O .small) in
-            let r = rows-length w′ 512 m in
+            let f = names-few (rows w′ framesAt m) (O .types) (O .small) in
+            let r = rows-length w′ framesAt m in
             let l = T .done .areas fine .few in
             let v = A .wide in
             let y = T .done .still .size in
@@ -100,9 +101,9 @@ module _ (s d w : List ℕ) (p : Paragraph) (k : ℕ) (t : Text) (e : p ≡ axio
               passes = passes-any (textItems t (globals D) D) (X .walked .goes);
               table = S .0;
               meets = S .1 .1;
-              entries = nameEntries (rows w′ 512 m) (O .types);
+              entries = nameEntries (rows w′ framesAt m) (O .types);
               counted = O .count ∙ r;
-              waits = wrote-waits (nameEntries (rows w′ 512 m) (O .types)) w′ w″ 1024 end (omega arith) (W (O .types) (O .stand));
+              waits = wrote-waits (nameEntries (rows w′ framesAt m) (O .types)) w′ w″ entriesAt end (omega arith) (W (O .types) (O .stand));
               short = omega arith;
               extends = O .adds (S .0) (S .1) D;
             };

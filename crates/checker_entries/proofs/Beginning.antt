@@ -6,6 +6,7 @@ use Prim.Native.Nat.{ℕ, _≤_, _<_, _^_}
 use native.Mathlib.Omega.{arith}
 use lib.ListN.{length}
 use Rattle.types_rules.specs.Types.{ℤ}
+use Rattle.checker_rules.specs.Check.{checkWorkWords}
 use Rattle.checker_rules.specs.Dictionary.{Dictionary}
 use Rattle.checker_rules.specs.Items.{Items, skip, Meets, Any, Passes, Refuses}
 use Rattle.checker_rules.specs.Scopes.{Scope, globals}
@@ -17,8 +18,9 @@ use Rattle.types_instances.specs.Clean.{Clean}
 use Rattle.checker_pieces.specs.Piece.{Steady, Walked}
 use Rattle.checker_lookup.specs.Scoped.{Scoped, DictionaryHeld}
 use Rattle.checker_contracts.specs.Predicates.{Walking}
-use Rattle.checker_contracts.specs.Room.{Between}
+use Rattle.checker_contracts.specs.Room.{Between, framesAt}
 use Rattle.checker_contracts.specs.Visits.{Fresh, EachOnce, idle}
+use Rattle.types_cells.specs.Layout.{areaSize}
 
 pub nothing-before : Steady skip []
 unfolding Meets
@@ -32,11 +34,11 @@ unfolding Stacked stack
 no-rows s d w D R = record { stacked = refl; recorded = R }
 
 -- ROOM: 10 nodes on a path below the paragraph, after 4 parameters at most.
-pub room-below : (w : List ℕ) (rows at : ℕ) → 16384 ≤ length w → rows ≤ 4 → 1 ≤ at → at ≤ 17 → Between w rows at 512 10 24
+pub room-below : (w : List ℕ) (rows at : ℕ) → checkWorkWords ≤ length w → rows ≤ 4 → 1 ≤ at → at ≤ 17 → Between w rows at framesAt 10 24
 room-below w rows at z r o p = record { wide = z; stack = omega arith; low = omega arith; frames = omega arith; some = o; pool = omega arith; few = omega arith }
 
-pub walking-below : (s d w : List ℕ) (rows at : ℕ) (l : List ℕ) (Γ : Scope) (D : Dictionary) → length s ≡ 52224 → length d < 2 ^ 31 → Clean s at → EachOnce l →
-    Between w rows at 512 10 24 → Scoped s d w rows (idle skip []) Γ D → Walking s d w rows at 512 10 l
+pub walking-below : (s d w : List ℕ) (rows at : ℕ) (l : List ℕ) (Γ : Scope) (D : Dictionary) → length s ≡ areaSize → length d < 2 ^ 31 → Clean s at → EachOnce l →
+    Between w rows at framesAt 10 24 → Scoped s d w rows (idle skip []) Γ D → Walking s d w rows at framesAt 10 l
 walking-below s d w rows at l Γ D z f c o B C = record {
   before = skip;
   known = [];

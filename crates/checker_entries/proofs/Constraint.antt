@@ -12,13 +12,14 @@ use Rattle.checker_rules.specs.Items.{skip, Meets}
 use Rattle.checker_rules.specs.Rules.{paragraphItems, predItems}
 use Rattle.checker_rules.specs.Scopes.{globals}
 use Rattle.checker_dictionary.specs.Waiting.{withEntries, waiting}
+use Rattle.checker_contracts.specs.Room.{framesAt}
 use Rattle.checker_contracts.specs.Paragraphs.{ParagraphAsk, ParagraphDone}
 use Rattle.checker_contracts.specs.Predicates.{PredAsk, PredDone}
 use Rattle.checker_contracts.proofs.Nodes.{once-left}
 use Rattle.checker_entries.proofs.Beginning.{nothing-before, nothing-known, no-rows, room-below, walking-below, passes-any, refuses-any}
 
 module _ (s d w : List ℕ) (p : Paragraph) (k : ℕ) (q : Pred) (e : p ≡ constraint k q) where
-  pub constraint-asked : ParagraphAsk s d w p → PredAsk s d w 0 1 512 q
+  pub constraint-asked : ParagraphAsk s d w p → PredAsk s d w 0 1 framesAt q
   unfolding LimitedParagraph paragraphNumbers
   constraint-asked A′ =
       let A = subst (ParagraphAsk s d w) e A′ in
@@ -31,7 +32,7 @@ module _ (s d w : List ℕ) (p : Paragraph) (k : ℕ) (q : Pred) (e : p ≡ cons
             (room-below w 0 1 (A .wide) (omega arith) (omega arith) (omega arith)) (no-rows s d w (A .dictionary) (A .recorded));
       }
 
-  pub constraint-done : (s′ w′ : List ℕ) (number place at : ℕ) → PredDone s s′ d w w′ 0 1 512 q number place → ParagraphDone s s′ d w w′ p number place at 0
+  pub constraint-done : (s′ w′ : List ℕ) (number place at : ℕ) → PredDone s s′ d w w′ 0 1 framesAt q number place → ParagraphDone s s′ d w w′ p number place at 0
   unfolding paragraphItems extend withEntries waiting Meets
   constraint-done s′ w′ number place at P = subst (λ x. ParagraphDone s s′ d w w′ x number place at 0) (sym e) (record {
     size = P .done .still .size;

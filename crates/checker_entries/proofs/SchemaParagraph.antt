@@ -21,6 +21,7 @@ use Rattle.checker_signatures.proofs.RowLaws.{rows-length}
 use Rattle.checker_dictionary.specs.Waiting.{withEntries, waiting}
 use Rattle.checker_lookup.specs.Scoped.{Scoped, DictionaryHeld}
 use Rattle.checker_includes.specs.Storing.{Stored}
+use Rattle.checker_contracts.specs.Room.{framesAt, entriesAt}
 use Rattle.checker_contracts.specs.Paragraphs.{ParagraphAsk, ParagraphDone}
 use Rattle.checker_contracts.specs.Schemas.{SchemaAsk, SchemaDone, SchemaWent}
 use Rattle.checker_contracts.specs.Visits.{idle}
@@ -44,7 +45,7 @@ module _ (s d w : List ℕ) (p : Paragraph) (k name : ℕ) (ps : List ℕ) (x : 
   begun : (D : Dictionary) → DictionaryHeld D d → Scoped s₁ d w₁ n (idle skip []) (around D) D
   begun D R = P .scoped d (globals D) D (no-rows s d w D R)
 
-  pub schema-asked : SchemaAsk s₁ d w₁ n at₁ 512 x
+  pub schema-asked : SchemaAsk s₁ d w₁ n at₁ framesAt x
   unfolding LimitedParagraph paragraphNumbers
   schema-asked =
       let o = P .place in
@@ -59,7 +60,7 @@ module _ (s d w : List ℕ) (p : Paragraph) (k name : ℕ) (ps : List ℕ) (x : 
             (once-left (schemaNumbers x) (k ∷ []) (A .once)) (room-below w₁ n at₁ (omega arith) few (omega arith) (omega arith)) (begun (A .dictionary) (A .recorded));
       }
 
-  module _ (s₂ w₂ : List ℕ) (number place m at₂ : ℕ) (T : SchemaDone s₁ s₂ d w₁ w₂ n at₁ 512 x number place m at₂) where
+  module _ (s₂ w₂ : List ℕ) (number place m at₂ : ℕ) (T : SchemaDone s₁ s₂ d w₁ w₂ n at₁ framesAt x number place m at₂) where
     pub schema-stopped : (number ≡ 0 → ⊥) → (at count : ℕ) → ParagraphDone s s₂ d w w₂ p number place at count
     unfolding paragraphItems
     schema-stopped z at count = subst (λ y. ParagraphDone s s₂ d w w₂ y number place at count) (sym e) (record {
@@ -70,16 +71,16 @@ module _ (s d w : List ℕ) (p : Paragraph) (k name : ℕ) (ps : List ℕ) (x : 
     })
 
     module _ (fine : number ≡ 0) where
-      went : (D : Dictionary) → DictionaryHeld D d → SchemaWent s₂ d w₂ m 512 skip [] (around D) x
+      went : (D : Dictionary) → DictionaryHeld D d → SchemaWent s₂ d w₂ m framesAt skip [] (around D) x
       went D R = T .done .goes fine skip [] nothing-before (around D) D (begun D R) tt (nothing-known (schemaNumbers x))
 
-      own : (D : Dictionary) → DictionaryHeld D d → TypesOf s₂ d (skip ⨾ schemaItems x (around D)) (schemaSignature x (around D)) (rows w₂ 512 m)
-      own D R = let X = went D R in types-of s₂ d (skip ⨾ schemaItems x (around D)) (X .unknowns) (schemaSignature x (around D)) (rows w₂ 512 m) (X .signature)
+      own : (D : Dictionary) → DictionaryHeld D d → TypesOf s₂ d (skip ⨾ schemaItems x (around D)) (schemaSignature x (around D)) (rows w₂ framesAt m)
+      own D R = let X = went D R in types-of s₂ d (skip ⨾ schemaItems x (around D)) (X .unknowns) (schemaSignature x (around D)) (rows w₂ framesAt m) (X .signature)
 
       stored : Stored s s₂ 1 at₂
       stored = stored-on s s₁ s₂ 1 at₁ at₂ (P .stored) (T .done .areas fine .stored)
 
-      pub schema-table : TableAsk s₂ d w₂ 512 m 1030
+      pub schema-table : TableAsk s₂ d w₂ framesAt m (entriesAt + 6)
       schema-table =
           let O = own (A .dictionary) (A .recorded) in
           let z = A .few in
@@ -94,10 +95,10 @@ module _ (s d w : List ℕ) (p : Paragraph) (k name : ℕ) (ps : List ℕ) (x : 
           }
 
       pub schema-done : (s₃ w₃ : List ℕ) (end : ℕ) → n ≡ length ps → s₃ ≡ sets s₂ 1 (replicate (at₂ - 1) 0) →
-          ((gs : Tys) → TypesAt (heap s₂ d) (rows w₂ 512 m) gs → Wrote w₂ w₃ 1024 end (entryWaits (schemaOf name n (rows w₂ 512 m) gs))) → ParagraphDone s s₃ d w w₃ p 0 place 1024 1
+          ((gs : Tys) → TypesAt (heap s₂ d) (rows w₂ framesAt m) gs → Wrote w₂ w₃ entriesAt end (entryWaits (schemaOf name n (rows w₂ framesAt m) gs))) → ParagraphDone s s₃ d w w₃ p 0 place entriesAt 1
       unfolding paragraphItems extend Meets withEntries waiting
-      schema-done s₃ w₃ end c h W = subst (λ y. ParagraphDone s s₃ d w w₃ y 0 place 1024 1) (sym e) (record {
-        size = let O = own (A .dictionary) (A .recorded) in ap length (W (O .types) (O .stand) .area) ∙ length-sets w₂ 1024 (entryWaits (schemaOf name n (rows w₂ 512 m) (O .types))) ∙ T .done .still .size ∙ P .size;
+      schema-done s₃ w₃ end c h W = subst (λ y. ParagraphDone s s₃ d w w₃ y 0 place entriesAt 1) (sym e) (record {
+        size = let O = own (A .dictionary) (A .recorded) in ap length (W (O .types) (O .stand) .area) ∙ length-sets w₂ entriesAt (entryWaits (schemaOf name n (rows w₂ framesAt m) (O .types))) ∙ T .done .still .size ∙ P .size;
         low = λ z.
             let o = P .place in
             let q = T .done .areas fine .short in
@@ -107,9 +108,9 @@ module _ (s d w : List ℕ) (p : Paragraph) (k name : ℕ) (ps : List ℕ) (x : 
             let X = went D R in
             let O = own D R in
             let S = X .walked .steady .some in
-            let E = schemaOf name (length ps) (rows w₂ 512 m) (O .types) in
-            let f = schema-few (heap s₂ d) name (length ps) (rows w₂ 512 m) (O .types) (O .stand) (O .small) in
-            let r = rows-length w₂ 512 m in
+            let E = schemaOf name (length ps) (rows w₂ framesAt m) (O .types) in
+            let f = schema-few (heap s₂ d) name (length ps) (rows w₂ framesAt m) (O .types) (O .stand) (O .small) in
+            let r = rows-length w₂ framesAt m in
             let l = T .done .areas fine .few in
             let v = A .wide in
             let y = T .done .still .size in
@@ -121,10 +122,10 @@ module _ (s d w : List ℕ) (p : Paragraph) (k name : ℕ) (ps : List ℕ) (x : 
               meets = S .1 .1;
               entries = E ∷ [];
               counted = refl;
-              waits = one-waits E w₂ w₃ 1024 end (omega arith) (subst (λ j. Wrote w₂ w₃ 1024 end (entryWaits (schemaOf name j (rows w₂ 512 m) (O .types)))) c (W (O .types) (O .stand)));
+              waits = one-waits E w₂ w₃ entriesAt end (omega arith) (subst (λ j. Wrote w₂ w₃ entriesAt end (entryWaits (schemaOf name j (rows w₂ framesAt m) (O .types)))) c (W (O .types) (O .stand)));
               short = omega arith;
               extends = ap (λ (g : Ty). D ▸ schemaEntry name (length ps) g)
-                  (binding-of s₂ d (skip ⨾ schemaItems x (around D)) (X .unknowns) (schemaSignature x (around D)) (rows w₂ 512 m) (X .signature) O (S .0) (S .1));
+                  (binding-of s₂ d (skip ⨾ schemaItems x (around D)) (X .unknowns) (schemaSignature x (around D)) (rows w₂ framesAt m) (X .signature) O (S .0) (S .1));
             };
         stops = λ z. absurd (z refl);
       })

@@ -14,6 +14,7 @@ use Rattle.types_solver.specs.Written.{Wrote}
 use Rattle.checker_dictionary.specs.Waiting.{waiting, Waits}
 use Rattle.checker_entries.specs.Entries.{TypesAt, AllSmall, nameEntries, givenEntries, entryWaits, schemaOf}
 use Rattle.checker_entries.proofs.Writing.{small-words, parts-few}
+use Rattle.types_cells.specs.Layout.{typeWords}
 
 pub wrote-waits : (es : List Entry) (w w′ : List ℕ) (at e : ℕ) → at + length (waiting es) ≤ length w → Wrote w w′ at e (waiting es) → Waits es w′ at
 wrote-waits es w w′ at e l W = record {
@@ -51,6 +52,6 @@ names-few (r ∷ rs) (tcons g gs) S =
     let e = length-append (words g) (waiting (nameEntries rs gs)) in
     omega arith
 
-pub schema-few : (H : List ℕ) (s p : ℕ) (rs : List (ℕ × ℕ)) (gs : Tys) → TypesAt H rs gs → AllSmall gs → length (entryWaits (schemaOf s p rs gs)) ≤ 6 + 96 * length rs
+pub schema-few : (H : List ℕ) (s p : ℕ) (rs : List (ℕ × ℕ)) (gs : Tys) → TypesAt H rs gs → AllSmall gs → length (entryWaits (schemaOf s p rs gs)) ≤ 6 + typeWords * length rs
 unfolding entryWords words tag second identifiers
 schema-few H s p rs gs T S = let l = parts-few H rs gs T S in omega arith

@@ -13,6 +13,7 @@ use Rattle.types_rules.specs.Types.{Ty, Tys, node, tnil, tcons, size}
 use Rattle.types_rules.specs.Words.{words, second, partWords}
 use Rattle.types_rules.proofs.Words.{words-few}
 use Rattle.checker_rules.specs.Dictionary.{Entry, nameEntry, schemaEntry, entryWords}
+use Rattle.types_cells.specs.Layout.{typeWords}
 use Rattle.types_cells.specs.Settled.{heap, Reads, Reading}
 use Rattle.types_solver.specs.Written.{Wrote, Copied}
 use Rattle.checker_signatures.specs.Rows.{rows, identifiersOf}
@@ -242,7 +243,7 @@ types-count H [] (tcons g gs) T = absurd T
 types-count H (r ∷ rs) tnil T = absurd T
 types-count H (r ∷ rs) (tcons g gs) T = ap suc (types-count H rs gs (T .1))
 
-pub parts-few : (H : List ℕ) (rs : List (ℕ × ℕ)) (gs : Tys) → TypesAt H rs gs → AllSmall gs → length (partWords (identifiersOf rs) gs) ≤ 96 * length rs
+pub parts-few : (H : List ℕ) (rs : List (ℕ × ℕ)) (gs : Tys) → TypesAt H rs gs → AllSmall gs → length (partWords (identifiersOf rs) gs) ≤ typeWords * length rs
 unfolding TypesAt AllSmall identifiersOf partWords
 parts-few H [] tnil T S = omega arith
 parts-few H [] (tcons g gs) T S = absurd T
@@ -272,7 +273,7 @@ module _ (s d w w₁ w₂ : List ℕ) (base m at first : ℕ) (A : TableAsk s d 
         wrote-on w w₂ w₃ (5 ∷ m ∷ []) (partWords (identifiersOf (rows w base m)) gs) (at + 4) (first + 2) e (record { area = lead; end = omega arith })
         (subst (λ z. Wrote w₂ w₃ (first + 2) e (partWords (identifiersOf z) gs)) rows-same B)
 
-    pub schema-end : (suc at ≤ e) × (e ≤ at + 6 + 96 * m)
+    pub schema-end : (suc at ≤ e) × (e ≤ at + 6 + typeWords * m)
     schema-end =
         let q = body (A .types) (A .stand) .end in
         let l = parts-few (heap s d) (rows w base m) (A .types) (A .stand) (A .small) in

@@ -11,10 +11,11 @@ use Rattle.types_instances.specs.Clean.{Clean}
 use Rattle.checker_lookup.specs.Scoped.{Scoped}
 use Rattle.checker_includes.specs.Storing.{Stored}
 use Rattle.checker_contracts.specs.Visits.{idle}
+use Rattle.types_cells.specs.Layout.{areaSize}
 
 -- j parameters are in scope, of n that are words of p from 3 on.
 pub record ParametersAsk (s w p : List ℕ) (j n : ℕ) : Type 0 where
-  pub size : length s ≡ 52224
+  pub size : length s ≡ areaSize
   pub clean : Clean s (4 * j + 1)
   pub wide : 8 ≤ length w
   pub few : n ≤ 4

@@ -23,8 +23,8 @@ use Rattle.checker_dictionary.proofs.Places.{size-held}
 use Rattle.checker_dictionary.proofs.WaitingLaws.{entries-grow}
 use Rattle.checker_lookup.specs.Scoped.{DictionaryHeld}
 use Rattle.reader_rules.proofs.FewParameters.{few-parameters}
-use Rattle.checker_contracts.specs.Paragraphs.{ParagraphAsk, Extended, ParagraphDone}
-use Rattle.checker_extension.specs.Entering.{Listed, Ready, Entered}
+use Rattle.checker_contracts.specs.Paragraphs.{ParagraphAsk, Extended, ParagraphDone, maxWaiting}
+use Rattle.checker_extension.specs.Entering.{Listed, Ready, Entered, maxAdded}
 use Rattle.checker_extension.proofs.HeldParts.{held-part, held-rest, held-whole, recorded-part}
 use Rattle.checker_extension.proofs.ListedLaws.{listed-at, listed-limited, listed-sized, node-is}
 use Rattle.checker_extension.proofs.GrownLaws.{extended-recorded, entries-length, entries-few}
@@ -93,10 +93,10 @@ module _ (doc : List ℕ) (k : ℕ) (L : Listed doc k) (s s′ d w w′ : List �
     entries-wait = let E = X .goes z (R .dictionary) (R .recorded) in record { entries = E .entries; count = E .counted; waits = E .waits }
 
     -- The dictionary with the entries has few words.
-    grows-few : (D : Dictionary) (es : List Entry) → length (waiting es) ≤ 8192 → dictionaryLength (withEntries es D) ≤ dictionaryLength D + 16384
+    grows-few : (D : Dictionary) (es : List Entry) → length (waiting es) ≤ maxWaiting → dictionaryLength (withEntries es D) ≤ dictionaryLength D + maxAdded
     grows-few D es l = let a = entries-length es D in let b = entries-few es in omega arith
 
-    short-all : (D : Dictionary) (es : List Entry) → Holds D d → length (waiting es) ≤ 8192 → dictionaryLength (withEntries es D) ≤ 2 ^ 31
+    short-all : (D : Dictionary) (es : List Entry) → Holds D d → length (waiting es) ≤ maxWaiting → dictionaryLength (withEntries es D) ≤ 2 ^ 31
     short-all D es H l =
         let a = grows-few D es l in
         let b = size-held D d H in
@@ -122,7 +122,7 @@ module _ (doc : List ℕ) (k : ℕ) (L : Listed doc k) (s s′ d w w′ : List �
               table = E .table;
               meets = E .meets;
               recorded = extended-recorded p D (E .table) (E .passes) (E .meets) (listed-sized doc k L) (few-parameters doc k h) d d′ S H;
-              short = subst (λ (G : Dictionary). dictionaryLength G ≤ dictionaryLength D + 16384) (sym (E .extends)) l;
+              short = subst (λ (G : Dictionary). dictionaryLength G ≤ dictionaryLength D + maxAdded) (sym (E .extends)) l;
             };
         stops = λ g j q. let y : _≡_ {A = ℕ} 0 1 = cc in absurd (omega arith);
       }

@@ -1,13 +1,14 @@
 -- One paragraph entered into the dictionary.
 use mathlib.Core.Path.{_≡_}
 use mathlib.Core.List.{List, _∷_}
-use Prim.Native.Nat.{ℕ, _+_, _≤_, _<_, _^_}
+use Prim.Native.Nat.{ℕ, _+_, _≤_, _<_, _^_, _*_}
 use lib.ListN.{length}
 use Rattle.layout.specs.Layout.{count, part}
 use Rattle.reader_rules.specs.Nodes.{operandAt}
 use Rattle.reader_rules.specs.Reading.{readOf}
 use Rattle.reader_rules.specs.Tree.{Paragraph}
 use Rattle.reader_rules.specs.declared.Reading.the-variants.{Readable}
+use Rattle.checker_rules.specs.Check.{checkWorkWords}
 use Rattle.checker_rules.specs.Dictionary.{Dictionary, dictionaryLength}
 use Rattle.checker_rules.specs.Entries.{extend}
 use Rattle.checker_rules.specs.Items.{Meets, Any, Passes}
@@ -16,9 +17,11 @@ use Rattle.checker_rules.specs.Unknowns.{Table}
 use Rattle.checker_rules.specs.Verdicts.{RefusesAt}
 use Rattle.checker_rules.specs.declared.Finding.{Finding}
 use Rattle.checker_rules.specs.declared.Finding.the-variants.{Accepted, Refused}
+use Rattle.types_cells.specs.Layout.{areaSize}
 use Rattle.types_cells.specs.Settled.{lower}
 use Rattle.types_instances.specs.Clean.{Clean}
 use Rattle.checker_lookup.specs.Scoped.{DictionaryHeld}
+use Rattle.checker_contracts.specs.Paragraphs.{maxWaiting}
 
 -- Node k is a paragraph of a readable document, operand `place` of its Document.
 pub record Listed (doc : List ℕ) (k : ℕ) : Type 0 where
@@ -28,11 +31,15 @@ pub record Listed (doc : List ℕ) (k : ℕ) : Type 0 where
   pub most : place < length (part doc (count doc))
   pub is : k ≡ operandAt doc (count doc) place
 
+-- The words that one paragraph adds to the dictionary, at most.
+abbrev pub maxAdded : ℕ
+maxAdded = 2 * maxWaiting
+
 -- The areas between paragraphs: the pool is empty, and the dictionary so far has few words, whatever the length of its area.
 pub record Ready (s d w : List ℕ) : Type 0 where
-  pub size : length s ≡ 52224
+  pub size : length s ≡ areaSize
   pub clean : Clean s 1
-  pub wide : 16384 ≤ length w
+  pub wide : checkWorkWords ≤ length w
   pub dictionary : Dictionary
   pub recorded : DictionaryHeld dictionary d
   pub few : dictionaryLength dictionary < 2 ^ 30
@@ -43,7 +50,7 @@ pub record Grown (p : Paragraph) (D : Dictionary) (d : List ℕ) : Type 0 where
   pub table : Table
   pub meets : Meets (paragraphItems p D) table
   pub recorded : DictionaryHeld (extend p D table) d
-  pub short : dictionaryLength (extend p D table) ≤ dictionaryLength D + 16384
+  pub short : dictionaryLength (extend p D table) ≤ dictionaryLength D + maxAdded
 
 -- Accepted: p passes, and the pool is empty again; otherwise p refuses, before any paragraphs ps.
 pub record Entered (s s′ d d′ : List ℕ) (p : Paragraph) (r : Finding) : Type 0 where

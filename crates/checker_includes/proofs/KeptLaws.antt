@@ -12,6 +12,7 @@ use Rattle.checker_rules.specs.Items.{Items, Meets}
 use Rattle.checker_rules.specs.Signatures.{Signature, noNames, naming, termIn}
 use Rattle.checker_rules.specs.Conditions.{sameType, mergeNames, smallTypes}
 use Rattle.reader_rules.specs.Decode.{pairsFrom}
+use Rattle.types_cells.specs.Layout.{areaSize}
 use Rattle.types_cells.specs.Settled.{heap, Reads}
 use Rattle.types_cells.proofs.Growing.{lt-or-ge}
 use Rattle.checker_signatures.specs.Rows.{rows}
@@ -69,10 +70,10 @@ module _ (s d w : List ℕ) (base m source k : ℕ) (places : List ℕ) (at end 
         }
 
     module _ (s′ : List ℕ) (end′ : ℕ) (M : Moved s s′ w′ at free (e - free) end′) where
-      abbrev S : length s ≡ 52224
+      abbrev S : length s ≡ areaSize
       S = A .actuals .areas .size
 
-      size′ : length s′ ≡ 52224
+      size′ : length s′ ≡ areaSize
       size′ = M .stored .size ∙ S
 
       -- Types of the table are read as before.

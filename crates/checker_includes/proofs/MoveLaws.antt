@@ -6,6 +6,7 @@ use Prim.Native.Nat.{ℕ, suc, _+_, _-_, _≤_, _<_}
 use native.Mathlib.Omega.{arith}
 use lib.ListN.{length, getD, replicate, length-replicate, getD-replicate}
 use lib.Seq.{sets, length-sets}
+use Rattle.types_cells.specs.Layout.{poolSize}
 use Rattle.types_cells.specs.Store.{run}
 use Rattle.types_cells.proofs.Words.{run-at, run-length}
 use Rattle.types_cells.proofs.Growing.{lt-or-ge}
@@ -44,7 +45,7 @@ module _ (s w : List ℕ) (at end free k : ℕ) (A : MoveAsk s w at end free k) 
     before′ i l = ap (λ z. getD z i 0) e′ ∙ sets-before s₁ (at + k) zeros i l
 
     -- zero from the end of the words on
-    zero′ : (i : ℕ) → at + k ≤ i → i < 39936 → getD s′ i 0 ≡ 0
+    zero′ : (i : ℕ) → at + k ≤ i → i < poolSize → getD s′ i 0 ≡ 0
     zero′ i l r =
         let n = none in
         let a = size₁ in
@@ -60,7 +61,7 @@ module _ (s w : List ℕ) (at end free k : ℕ) (A : MoveAsk s w at end free k) 
         (λ (x : end ≤ i). sets-after s₁ (at + k) zeros i (omega arith) ∙ after₁ i l ∙ A .clean i (omega arith) r)
         (lt-or-ge i end)
 
-    moved : (end′ : ℕ) → at ≤ end′ → ((i : ℕ) → end′ ≤ suc i → i < 39936 → getD s′ i 0 ≡ 0) → (k ≡ 0 → end′ ≡ at) → end′ ≤ at + k + 1 → Moved s s′ w at free k end′
+    moved : (end′ : ℕ) → at ≤ end′ → ((i : ℕ) → end′ ≤ suc i → i < poolSize → getD s′ i 0 ≡ 0) → (k ≡ 0 → end′ ≡ at) → end′ ≤ at + k + 1 → Moved s s′ w at free k end′
     moved end′ m c n q = record {
       stored = record { size = ap length e′ ∙ length-sets s₁ (at + k) zeros ∙ size₁; before = λ i l. before′ i (omega arith) ∙ before₁ i l; after = c; more = m };
       words = λ x l. before′ (at + x) (omega arith) ∙ in₁ x l;

@@ -10,6 +10,7 @@ use Rattle.types_rules.specs.Types.{Ty, size}
 use Rattle.types_rules.specs.Formed.{WellFormed}
 use Rattle.types_rules.specs.Words.{words}
 use Rattle.types_solver.specs.Sizes.{cap}
+use Rattle.types_cells.specs.Layout.{areaSize, poolSize}
 use Rattle.types_cells.specs.Settled.{heap, Reads}
 use Rattle.types_solver.proofs.Marking.{cap-cases}
 use Rattle.types_cells.proofs.Reading.{heap-length, heap-low}
@@ -76,7 +77,7 @@ module _ (s d w : List ℕ) (n c free : ℕ) (A : ShownAsk s d w n c free) (v : 
             subst (λ u. Written u free e (S .type c)) (sym (W G S .area)) (written-sets w free e (S .type c) (omega arith) (W G S .end))
 
 -- Words that were moved to `at` are read there.
-pub moved-reads : (s s′ d w : List ℕ) (at free k end′ o : ℕ) (g : Ty) → length s ≡ 52224 → at + k ≤ 39936 → Moved s s′ w at free k end′ → WellFormed g → Written w (free + o) (free + k) g →
+pub moved-reads : (s s′ d w : List ℕ) (at free k end′ o : ℕ) (g : Ty) → length s ≡ areaSize → at + k ≤ poolSize → Moved s s′ w at free k end′ → WellFormed g → Written w (free + o) (free + k) g →
     Reads (heap s′ d) (at + o) g
 moved-reads s s′ d w at free k end′ o g size room M formed W =
     let f = W .fits in

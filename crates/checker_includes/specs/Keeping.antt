@@ -8,6 +8,7 @@ use lib.ListN.{length, getD}
 use Rattle.types_rules.specs.Types.{Ty, Tys, size}
 use Rattle.types_rules.specs.Formed.{WellFormed}
 use Rattle.types_rules.specs.Words.{words}
+use Rattle.types_cells.specs.Layout.{areaSize, poolSize, typeWords}
 use Rattle.types_cells.specs.Settled.{heap, Reads, Readable}
 use Rattle.checker_signatures.specs.Rows.{rows}
 use Rattle.checker_signatures.specs.Tables.{Finds}
@@ -29,7 +30,7 @@ pub record Written (w : List ℕ) (p e : ℕ) (g : Ty) : Type 0 where
 -- ONE CELL: the words of its type, or of the stand-in, go to the words of w from `free` on.
 pub record ShownAsk (s d w : List ℕ) (n c free : ℕ) : Type 0 where
   pub sizing : Sizing s d n c
-  pub scratch : free + 96 ≤ length w
+  pub scratch : free + typeWords ≤ length w
   pub near : free < 2 ^ 32
 
 pub record ShownWords (s d w w′ : List ℕ) (n c free e : ℕ) : Type 0 where
@@ -74,8 +75,8 @@ pub record AllAsk (s d w : List ℕ) (base m source k : ℕ) (places : List ℕ)
   pub rows : Rows s d w source k
   pub sizes : (j : ℕ) → j < k → (g : Ty) (hs : Tys) → Reads (heap s d) (getD w (source + 2 * j + 1) 0) g → Row (heap s d) places hs → size (fill hs g) ≤ 32
   pub many : k ≤ 16
-  pub room : at < 39936
-  pub scratch : free + 96 * 16 ≤ length w
+  pub room : at < poolSize
+  pub scratch : free + typeWords * 16 ≤ length w
   pub near : free < 2 ^ 32
   pub beside : (base + 2 * m ≤ free) × (source + 2 * k ≤ free)
   pub apart : (base + 2 * m ≤ source) ⊎ (source + 2 * k ≤ base)
@@ -89,11 +90,11 @@ pub record AllKept (s d w w′ : List ℕ) (base m source k : ℕ) (places : Lis
 
 -- THE WORDS MOVED: k words of w at `free`, to `at`; what stood there, up to `end`, is wiped.
 pub record MoveAsk (s w : List ℕ) (at end free k : ℕ) : Type 0 where
-  pub size : length s ≡ 52224
+  pub size : length s ≡ areaSize
   pub clean : Clean s end
   pub gap : (i : ℕ) → suc i ≡ at → getD s i 0 ≡ 0
   pub before : at ≤ end
-  pub room : end + k < 39936
+  pub room : end + k < poolSize
   pub inside : free + k ≤ length w
   pub near : free + k < 2 ^ 40
 

@@ -11,6 +11,7 @@ use Rattle.checker_rules.specs.Unknowns.{Table}
 use Rattle.checker_rules.specs.Items.{Items, Meets, Refuses}
 use Rattle.checker_rules.specs.Signatures.{Signature}
 use Rattle.checker_rules.specs.Conditions.{mergeNames, mergeDeclared, smallTypes}
+use Rattle.types_cells.specs.Layout.{areaSize, poolSize, typeWords}
 use Rattle.types_cells.specs.Settled.{heap, Reads}
 use Rattle.checker_signatures.specs.Rows.{rows}
 use Rattle.checker_signatures.specs.Carried.{Carries}
@@ -41,13 +42,13 @@ pub record Scratch (w w′ : List ℕ) (free : ℕ) : Type 0 where
 -- types; they are overwritten.
 pub record StoreAsk (s d w : List ℕ) (n c at end free : ℕ) : Type 0 where
   pub sizing : Sizing s d n c
-  pub size : length s ≡ 52224
+  pub size : length s ≡ areaSize
   pub clean : Clean s end
   pub gap : (i : ℕ) → suc i ≡ at → getD s i 0 ≡ 0
   pub some : 1 ≤ at
   pub before : at ≤ end
-  pub room : end + 96 < 39936
-  pub scratch : free + 96 ≤ length w
+  pub room : end + typeWords < poolSize
+  pub scratch : free + typeWords ≤ length w
   pub near : free < 2 ^ 32
 
 -- Its words stand at `at`; of a type over size 32, those of another type over size 32. That the type is well formed follows from the piece's items, which
@@ -55,7 +56,7 @@ pub record StoreAsk (s d w : List ℕ) (n c at end free : ℕ) : Type 0 where
 pub record TypeStored (s s′ d w w′ : List ℕ) (n c at free end′ : ℕ) : Type 0 where
   pub stored : Stored s s′ at end′
   pub scratch : Scratch w w′ free
-  pub short : end′ ≤ at + 96
+  pub short : end′ ≤ at + typeWords
   pub stands : (G : Ghost) (S : Shut s d n G) → WellFormed (S .type c) → (h : Ty) × Reads (heap s′ d) at h × StandsFor h (S .type c)
 
 -- 36 for a Decl whose type is over size 32: no identifier of it may be in the table, whose types are small.
@@ -80,8 +81,8 @@ pub record KeepAsk (s d w : List ℕ) (base m source k : ℕ) (places : List ℕ
   pub gap : (i : ℕ) → suc i ≡ at → getD s i 0 ≡ 0
   pub some : 1 ≤ at
   pub before : at ≤ end
-  pub room : end + 96 * 16 < 39936
-  pub scratch : free + 96 * 16 ≤ length w
+  pub room : end + typeWords * 16 < poolSize
+  pub scratch : free + typeWords * 16 ≤ length w
   pub near : free < 2 ^ 32
   pub beside : (base + 2 * m ≤ free) × (source + 2 * k ≤ free)
   pub apart : (base + 2 * m ≤ source) ⊎ (source + 2 * k ≤ base)
@@ -92,7 +93,7 @@ pub record RowsKept (s s′ d w w′ : List ℕ) (base m source k : ℕ) (places
   -- in the work area only the places of the rows at `source` and words from `free` on change
   pub words : (i : ℕ) → i < free → ((j : ℕ) → j < k → i ≡ source + 2 * j + 1 → ⊥) → getD w′ i 0 ≡ getD w i 0
   -- only types of rows that the table does not have are written
-  pub new : end′ ≤ at + 96 * newRows (rows w source k) (rows w base m)
+  pub new : end′ ≤ at + typeWords * newRows (rows w source k) (rows w base m)
   -- the rows' types, with the types gs for their parameters; types hs that stand for those are the actuals
   pub placed : (H : Items) (U : List ℕ) (n : ℕ) (q r : Signature) (hs gs : Tys) → Row (heap s d) places hs → AllStandFor hs gs → Carries (Fills s d H U gs) q (rows w source k) →
       Carries (Placed s d H U) r (rows w base m) → ((τ : Table) → Meets H τ → Meets (mergeNames n q r) τ) → ((τ : Table) → Meets H τ → Meets (smallTypes n q) τ) →

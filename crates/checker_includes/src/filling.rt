@@ -14,13 +14,14 @@ use words::word;
 ghost use mathlib.Core.Path.{_≡_};
 ghost use Prim.Native.Nat.{ℕ, _+_, _<_, _^_};
 ghost use lib.ListN.{length, getD};
+ghost use Rattle.types_cells.specs.Layout.{areaSize};
 ghost use Rattle.types_cells.specs.Calls.{Tells};
 ghost use Rattle.types_cells.specs.Settled.{heap};
 ghost use Rattle.checker_includes.specs.Filling.{Comparing, SameFilled, OneAsk, OneTold, RowsAsk, AgreeAsk, AgreeTold, SmallTold};
 
 // The k type words at p and at q are the same.
 fn same_words(a: &[u32], d: &[u32], p: usize, q: usize, k: usize) -> bool
-    requires { ⌜ (length (now a) ≡ 52224) × (p + k < 2 ^ 40) × (q + k < 2 ^ 40) ⌝ }
+    requires { ⌜ (length (now a) ≡ areaSize) × (p + k < 2 ^ 40) × (q + k < 2 ^ 40) ⌝ }
     ensures { λ r. ⌜ Tells r ((i : ℕ) → i < k → getD (heap (now (a .entry)) (now (d .entry))) (p + i) 0 ≡ getD (heap (now (a .entry)) (now (d .entry))) (q + i) 0) ⌝ }
 {
     let mut j = 0;

@@ -9,6 +9,7 @@ use Rattle.types_rules.specs.Former.{power, product}
 use Rattle.types_rules.specs.Types.{Term, unknown, nil, cons}
 use Rattle.checker_rules.specs.Items.{Items, _⨾_, fresh, equate}
 use Rattle.checker_rules.specs.Unknowns.{slot, powerOf, pairOf}
+use Rattle.types_cells.specs.Layout.{firstRun}
 use Rattle.types_cells.specs.Calls.{Making, Made}
 use Rattle.types_cells.specs.Settled.{lower}
 use Rattle.types_solver.proofs.Extending.{made-grows}
@@ -39,11 +40,11 @@ module _ (s d : List ℕ) (n top x y : ℕ) (A : Working s d n top 4 (x ∷ y �
   abbrev new₀ : In z₀ (G₀ .mentioned) → ⊥
   new₀ = unmentioned (G₀ .mentioned) .1
 
-  pub apply-making : Making s n 0 0 4096 0
+  pub apply-making : Making s n 0 0 firstRun 0
   apply-making = plain-making s d n top 4 G₀ S₀ (A .room) (omega arith) 0 (omega arith)
 
   -- The result's unknown z: cell n.
-  module _ (s₁ : List ℕ) (N : Made s s₁ n 0 0 4096 0) where
+  module _ (s₁ : List ℕ) (N : Made s s₁ n 0 0 firstRun 0) where
     room₁ : Room s₁ (suc n) top 3
     room₁ = unknown-uses s s₁ n top apply-making N 3 (A .room)
 
@@ -130,7 +131,7 @@ module _ (s d : List ℕ) (n top x y : ℕ) (A : Working s d n top 4 (x ∷ y �
           E = subst (λ u. Equated s₃ s₄ d n₃ x u b) q₃ (subst (λ u. Equated s₃ s₄ d u x c₃ b) e₃ D₄)
 
           low-s : lower s₄ ≡ lower s
-          low-s = E .low ∙ B₃ .builds d .grows .low ∙ B₂ .builds d .grows .low ∙ made-grows s s₁ d n 0 0 4096 0 apply-making N .low
+          low-s = E .low ∙ B₃ .builds d .grows .low ∙ B₂ .builds d .grows .low ∙ made-grows s s₁ d n 0 0 firstRun 0 apply-making N .low
 
           apply-uses : Uses s s₄ n top n₃ top₃ 4
           apply-uses u R =

@@ -9,6 +9,7 @@ use Rattle.types_rules.specs.Former.{int, power, product}
 use Rattle.types_rules.specs.Types.{nil, cons}
 use Rattle.checker_rules.specs.Conditions.{typesOf}
 use Rattle.checker_rules.specs.Unknowns.{integer, powerOf, productOf}
+use Rattle.types_cells.specs.Layout.{firstRun}
 use Rattle.types_cells.specs.Store.{run}
 use Rattle.types_cells.specs.Calls.{Making}
 use Rattle.types_solver.proofs.Extending.{builds-on}
@@ -19,7 +20,7 @@ use Rattle.checker_kinds.specs.Formers.{Listed, Derived, numberItems, in
 use Rattle.checker_kinds.proofs.Concluding.{listed, derived}
 
 -- ℤ may be made.
-pub integer-making : (s : List ℕ) (n top x : ℕ) (l : List ℕ) → Building s n top x l → 1 ≤ x → Making s n 1 0 4096 0
+pub integer-making : (s : List ℕ) (n top x : ℕ) (l : List ℕ) → Building s n top x l → 1 ≤ x → Making s n 1 0 firstRun 0
 unfolding run
 integer-making s n top x l B f =
     let u = B .room .cells in

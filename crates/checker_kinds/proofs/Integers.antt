@@ -11,6 +11,7 @@ use Rattle.types_rules.specs.Types.{Term, nil}
 use Rattle.checker_rules.specs.Conditions.{typed}
 use Rattle.checker_rules.specs.Items.{Items, _⨾_, equate}
 use Rattle.checker_rules.specs.Unknowns.{slot, integer}
+use Rattle.types_cells.specs.Layout.{firstRun}
 use Rattle.types_cells.specs.Store.{frozen}
 use Rattle.types_cells.specs.Calls.{Making}
 use Rattle.types_cells.specs.Settled.{lower}
@@ -25,7 +26,7 @@ use Rattle.checker_kinds.proofs.Concluding.{own-slot}
 use Rattle.checker_kinds.proofs.Operands.{operands}
 use Rattle.checker_kinds.proofs.Grouping.{introduced-group, stops-group}
 
-pub integer-making : (s d : List ℕ) (n x y : ℕ) → Relating s d n x y 1 → Making s n 1 0 4096 0
+pub integer-making : (s d : List ℕ) (n x y : ℕ) → Relating s d n x y 1 → Making s n 1 0 firstRun 0
 integer-making s d n x y A =
     let W = A .working in plain-making s d n (A .top) 1 (W .ghost) (W .stands) (W .room) (omega arith) 1 (omega arith)
 

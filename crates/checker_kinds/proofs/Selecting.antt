@@ -8,6 +8,7 @@ use native.Mathlib.Omega.{arith}
 use Rattle.types_rules.specs.Component.{componentType}
 use Rattle.types_rules.specs.Types.{Ty, Term}
 use Rattle.checker_rules.specs.Unknowns.{slot}
+use Rattle.types_cells.specs.Layout.{settledFrom}
 use Rattle.types_cells.specs.Store.{frozen}
 use Rattle.types_cells.specs.Calls.{Above}
 use Rattle.types_cells.specs.Settled.{heap, Readable, Entering, Entered}
@@ -76,7 +77,7 @@ module _ (s u d : List ℕ) (n top x : ℕ) (b : Bool) (T : Tested s u n b) (A :
     }
 
     -- the component has a cell
-    module _ (c : ℕ) (e : v ≡ suc c) (l : v < 1025) where
+    module _ (c : ℕ) (e : v ≡ suc c) (l : v < settledFrom) where
       one-cell : (G : Ghost) → Stands s d n top G → (k : ℕ) → Unvisited k G → (a : Term) → Cell s d n G x a → Introduced s u d n top n top G (selectItems id k a) (SlotOf k) (slot k 0) c
       one-cell G S k new a C =
           introduced-moved s u d n n (omega arith) G (F G S) u top top n top (selectItems id k a) (SlotOf k) (slot k 0) c
@@ -92,8 +93,8 @@ module _ (s u d : List ℕ) (n top x : ℕ) (b : Bool) (T : Tested s u n b) (A :
       }
 
     -- it has type words: they enter
-    module _ (l : 1025 ≤ v) where
-      pub entering : Entering u d n (v - 1025)
+    module _ (l : settledFrom ≤ v) where
+      pub entering : Entering u d n (v - settledFrom)
       entering = record {
         making = plain-making u d n top 1 G₀ (S₁ G₀ (A .stands)) room₁ (omega arith) 0 (omega arith);
         pinned = Q₀ .pinned;
@@ -101,17 +102,17 @@ module _ (s u d : List ℕ) (n top x : ℕ) (b : Bool) (T : Tested s u n b) (A :
         readable = K .place l n (Q₀ .L) (Q₀ .solved .held) (Q₀ .pinned) (made);
       }
 
-      module _ (w : List ℕ) (E : Entered u w d n (v - 1025)) where
+      module _ (w : List ℕ) (E : Entered u w d n (v - settledFrom)) where
         module _ (G : Ghost) (S : Stands s d n top G) where
-          g : Readable (heap u d) (v - 1025)
+          g : Readable (heap u d) (v - settledFrom)
           g = K .place l n (Q G S .L) (Q G S .solved .held) (Q G S .pinned) (made)
 
           abbrev F₂ : Later u w d n (suc n) (G .equations) (G .equations) (G .before) (G .items) (G .items) (G .cells) (G .cells)
-          F₂ = settled-later u w d n (v - 1025) entering E (g .type) (g .reads) (G .equations) (G .before) (G .items) (G .known) (G .mentioned) (G .cells) (Q G S)
+          F₂ = settled-later u w d n (v - settledFrom) entering E (g .type) (g .reads) (G .equations) (G .before) (G .items) (G .known) (G .mentioned) (G .cells) (Q G S)
 
           S₂ : Stands w d (suc n) top G
           S₂ = record {
-            piece = settled u w d n (v - 1025) entering E (g .type) (g .reads) (G .equations) (G .before) (G .items) (G .known) (G .mentioned) (G .cells) (Q G S);
+            piece = settled u w d n (v - settledFrom) entering E (g .type) (g .reads) (G .equations) (G .before) (G .items) (G .known) (G .mentioned) (G .cells) (Q G S);
             above = E .above top (still-above G S);
             few = S .few;
           }

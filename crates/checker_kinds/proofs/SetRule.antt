@@ -13,6 +13,7 @@ use Rattle.checker_rules.proofs.Slots.{slots-apart}
 use Rattle.checker_rules.specs.Conditions.{typed, typesOf, areMembers}
 use Rattle.checker_rules.specs.Items.{fresh, _⨾_}
 use Rattle.checker_rules.specs.Unknowns.{slot, unknownAt, powerOf}
+use Rattle.types_cells.specs.Layout.{maxPending, firstRun}
 use Rattle.types_cells.specs.Store.{load, run}
 use Rattle.types_cells.specs.Calls.{Making, Made}
 use Rattle.types_solver.proofs.Extending.{made-grows}
@@ -29,10 +30,10 @@ module _ (s d : List ℕ) (n top : ℕ) (ps : List ℕ) (m : ℕ) (P : (m ≤ le
   abbrev l : List ℕ
   l = take m ps
 
-  pub set-unknown : Making s n 0 0 4096 0
+  pub set-unknown : Making s n 0 0 firstRun 0
   set-unknown = plain-making s d n top 2 (P .1 .ghost) (P .1 .stands) (P .1 .room) (omega arith) 0 (omega arith)
 
-  module _ (s₁ : List ℕ) (N : Made s s₁ n 0 0 4096 0) where
+  module _ (s₁ : List ℕ) (N : Made s s₁ n 0 0 firstRun 0) where
     -- The unknown, in any piece that stands.
     module _ (G : Ghost) (St : Stands s d n top G) (k : ℕ) (new : In (slot k 1) (G .mentioned) → ⊥) where
       abbrev x : ℕ
@@ -87,7 +88,7 @@ module _ (s d : List ℕ) (n top : ℕ) (ps : List ℕ) (m : ℕ) (P : (m ≤ le
 
       pub set-refused : b ≡ false → Listed s s₂ d n top l 33 n n top 2 setItems
       set-refused e = record {
-        low = M .low ∙ made-grows s s₁ d n 0 0 4096 0 set-unknown N .low;
+        low = M .low ∙ made-grows s s₁ d n 0 0 firstRun 0 set-unknown N .low;
         wide = omega arith;
         uses = λ z. absurd (omega arith);
         ruled = λ G St k free xs K.
@@ -123,7 +124,7 @@ module _ (s d : List ℕ) (n top : ℕ) (ps : List ℕ) (m : ℕ) (P : (m ≤ le
         uses₂ : Uses s s₂ n top (suc n) top 1
         uses₂ y R =
             let Q = unknown-uses s s₁ n top set-unknown N y R in
-            record { cells = Q .cells; words = Q .words; fit = subst (λ w. load w (suc n) + 2 * y < 2048) (sym (M .still)) (Q .fit) }
+            record { cells = Q .cells; words = Q .words; fit = subst (λ w. load w (suc n) + 2 * y < maxPending) (sym (M .still)) (Q .fit) }
 
         power-asked : Building s₂ (suc n) top 1 (n ∷ [])
         power-asked =
@@ -155,7 +156,7 @@ module _ (s d : List ℕ) (n top : ℕ) (ps : List ℕ) (m : ℕ) (P : (m ≤ le
 
           core : Listed s s₃ d n top l 0 (suc n) (suc (suc n)) (top + 1) 2 setItems
           core = record {
-            low = K .builds d .grows .low ∙ M .low ∙ made-grows s s₁ d n 0 0 4096 0 set-unknown N .low;
+            low = K .builds d .grows .low ∙ M .low ∙ made-grows s s₁ d n 0 0 firstRun 0 set-unknown N .low;
             wide = omega arith;
             uses = λ z y R. K .uses y (uses₂ (1 + y) (subst (Room s n top) (let q : 2 + y ≡ 1 + (1 + y) = omega arith in q) R));
             ruled = λ G St k free xs C. rule-goes s s₃ d n top k 0 (suc n) (suc (suc n)) (top + 1) G (setItems k xs) refl (passed G St k free xs C);

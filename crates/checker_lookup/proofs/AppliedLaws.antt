@@ -14,7 +14,7 @@ use Rattle.checker_rules.specs.Unknowns.{slot, unknownAt, row}
 use Rattle.types_cells.specs.Settled.{lower, heap, Reads}
 use Rattle.types_cells.proofs.SettlingLaws.{heap-kept}
 use Rattle.checker_pieces.specs.Piece.{Goes, Stops}
-use Rattle.checker_pieces.specs.Stage.{Ghost, Stands, Cell, Room, Unvisited, SlotOf, Advanced}
+use Rattle.checker_pieces.specs.Stage.{Ghost, Stands, Cell, Room, Unvisited, SlotOf, Advanced, nodeCells}
 use Rattle.checker_pieces.specs.Building.{Introduced}
 use Rattle.checker_pieces.proofs.Walks.{Alike, piece-alike}
 use Rattle.checker_pieces.proofs.Stages.{next, next-stands, next-cell, introduce-then, rule-goes, rule-stops, room-less}
@@ -84,7 +84,7 @@ module _ (s d : List ℕ) (n top p m : ℕ) (parts : List ℕ) (B : ApplyingAt s
         expressions = B .expressions;
         at = actuals-at (D .ghost) (D .stands) (D .node) (D .unvisited) (B .expressions) (B .actuals) c;
         room =
-            row-uses s d n top p m D s₁ R (exprsLength (B .expressions)) (room-less s n top (m + exprsLength (B .expressions)) 40 (omega (arith, c, f)) (D .room));
+            row-uses s d n top p m D s₁ R (exprsLength (B .expressions)) (room-less s n top (m + exprsLength (B .expressions)) nodeCells (omega (arith, c, f)) (D .room));
       }
 
   module _ (s₂ : List ℕ) (number n₂ top₂ : ℕ) (E : ActualsEquated s₁ s₂ d (n + m) top n parts 0 m number n₂ top₂) where
@@ -175,7 +175,7 @@ module _ (s d : List ℕ) (n top p m : ℕ) (parts : List ℕ) (B : ApplyingAt s
         pub applied : AppliedAt s s₃ d n top p m parts 0 cell n′ top′
         applied = record {
           low = I .enlarged .low ∙ low₂;
-          uses = λ e y Q. I .enlarged .uses y (room₂ (32 + y) (room-less s n top (8 + (32 + y)) (40 + y) (omega arith) Q));
+          uses = λ e y Q. I .enlarged .uses y (room₂ (32 + y) (room-less s n top (8 + (32 + y)) (nodeCells + y) (omega arith) Q));
           ruled = λ G S g Q k U xs acts cnt.
               let t = typed k (instance (row k 1 m) g) in
               rule-goes s s₃ d n top k 0 cell n′ top′ G (arePowers k xs 1 ⨾ t) refl

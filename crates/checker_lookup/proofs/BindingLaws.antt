@@ -14,6 +14,7 @@ use Rattle.types_rules.specs.Types.{Ty, Tys, node, tcons, Each, Eachs, under, u
 use Rattle.checker_rules.specs.Unknowns.{Table}
 use Rattle.checker_rules.specs.Items.{_⨾_, Meets}
 use Rattle.checker_rules.specs.Signatures.{Signature, noNames, naming, termsOf, bindingOf}
+use Rattle.types_cells.specs.Layout.{frozenSize}
 use Rattle.types_cells.specs.Store.{frozen, load, run}
 use Rattle.types_cells.specs.Calls.{Above, Adding, Added, Making, Made}
 use Rattle.types_solver.specs.Growth.{Builds, Putting}
@@ -231,7 +232,7 @@ module _ (s d w : List ℕ) (base m n top : ℕ) (B : Binding s d w base m n top
       stands₂ : Stands s₂ d (n + m) top (B .ghost)
       stands₂ = rows-enlarged .stands (B .ghost) stands₁
 
-      long : length (frozen s₂) ≡ 6144
+      long : length (frozen s₂) ≡ frozenSize
       long = frozen-length s₂ (stands₂ .piece .solved .held .size)
 
       parts : run (frozen s₂) top m ≡ upFrom n m

@@ -11,6 +11,7 @@ use Rattle.types_rules.specs.Instance.{instance, instances, instanceFormer}
 use Rattle.types_rules.specs.Types.{Ty, Tys, node, tnil, tcons, Term, Terms}
 use Rattle.types_rules.specs.Words.{words, second}
 use Rattle.checker_rules.specs.Signatures.{Signature, noNames, naming, componentsOf, withNames}
+use Rattle.types_cells.specs.Layout.{dictionaryAt}
 use Rattle.types_cells.specs.Settled.{heap, Reads, nameWords, leadWords}
 use Rattle.types_cells.specs.Parts.{Rest}
 use Rattle.types_cells.proofs.Reading.{tag-at, second-at, rest-start, part-next, names-length, heap-length, place-low}
@@ -157,10 +158,10 @@ components-of s d w w′ p base m A e ids gs R q =
     }
 
 -- A binding in the dictionary has its components there.
-pub components-high : (s d w w′ : List ℕ) (p base m : ℕ) (ids : List ℕ) (gs : Tys) → ComponentsOf s d w w′ p base m ids gs → 39936 ≤ p → (X : Terms) →
-    Carries (λ t q. Component s d X t q × (39936 ≤ q)) (componentsOf (instance X (node (binding ids) gs))) (rows w′ base m)
+pub components-high : (s d w w′ : List ℕ) (p base m : ℕ) (ids : List ℕ) (gs : Tys) → ComponentsOf s d w w′ p base m ids gs → dictionaryAt ≤ p → (X : Terms) →
+    Carries (λ t q. Component s d X t q × (dictionaryAt ≤ q)) (componentsOf (instance X (node (binding ids) gs))) (rows w′ base m)
 components-high s d w w′ p base m ids gs C l X =
-    carries-each (Component s d X) (λ q. 39936 ≤ q) _ (rows w′ base m) (C .carries X) (each-place (λ q. p < q) (λ q. 39936 ≤ q) (λ q h. omega arith) (rows w′ base m) (C .after))
+    carries-each (Component s d X) (λ q. dictionaryAt ≤ q) _ (rows w′ base m) (C .carries X) (each-place (λ q. p < q) (λ q. dictionaryAt ≤ q) (λ q h. omega arith) (rows w′ base m) (C .after))
 
 -- Places are words.
 pub component-few : (s d w : List ℕ) (p base at : ℕ) → ComponentsAsked s d w p base → at + 1 < length (heap s d) → at + 1 < 2 ^ 32

@@ -17,6 +17,7 @@ use Rattle.checker_rules.specs.Conditions.{typed}
 use Rattle.checker_rules.specs.Dictionary.{Dictionary, blank, _▸_, nameEntry, schemaEntry, Named, unnamed, ofLocal, ofGlobal, nameIn}
 use Rattle.checker_rules.specs.Items.{Items, refusal, Refuses}
 use Rattle.checker_rules.specs.Rules.{referenceItems}
+use Rattle.types_cells.specs.Layout.{dictionaryAt, areaSize, poolSize}
 use Rattle.types_cells.specs.Settled.{lower, heap, Reads, Readable, Entering}
 use Rattle.checker_dictionary.specs.Holds.{Holds}
 use Rattle.checker_dictionary.specs.Lookup.{parametersAt, typeAt, NameFound, Recorded as Entry}
@@ -24,21 +25,21 @@ use Rattle.checker_dictionary.proofs.LookupLaws.{name-formed}
 use Rattle.checker_signatures.specs.Tables.{Finds}
 use Rattle.checker_signatures.proofs.CallLaws.{found-local, no-local}
 use Rattle.checker_pieces.specs.Piece.{Stops}
-use Rattle.checker_pieces.specs.Stage.{Ruled}
+use Rattle.checker_pieces.specs.Stage.{Ruled, nodeCells}
 use Rattle.checker_pieces.proofs.Stages.{rule-goes, rule-stops, room-less}
 use Rattle.checker_lookup.specs.Scoped.{SettledAt, Limited, DictionaryHeld}
 use Rattle.checker_lookup.specs.References.{TypedAt, RecordedAt, Generic, Consulted, Global, Referring, Refers}
 use Rattle.checker_lookup.proofs.Standing.{entering}
 
 -- A type in the dictionary's area.
-pub dictionary-reads : (s d : List ℕ) (p : ℕ) (g : Ty) (after : List ℕ) → length s ≡ 52224 → WellFormed g → drop p d ≡ words g ++ after → Reads (heap s d) (39936 + p) g
+pub dictionary-reads : (s d : List ℕ) (p : ℕ) (g : Ty) (after : List ℕ) → length s ≡ areaSize → WellFormed g → drop p d ≡ words g ++ after → Reads (heap s d) (dictionaryAt + p) g
 unfolding heap lower
 dictionary-reads s d p g after z f q =
-    let l : length (take 39936 s) ≡ 39936 = simp length-take (omega arith) in
+    let l : length (take poolSize s) ≡ poolSize = simp length-take (omega arith) in
     record {
       formed = f;
       after = after;
-      words-at = ap (λ (k : ℕ). drop (k + p) (take 39936 s ++ d)) (sym l) ∙ drop-append-add (take 39936 s) d p ∙ q;
+      words-at = ap (λ (k : ℕ). drop (k + p) (take poolSize s ++ d)) (sym l) ∙ drop-append-add (take poolSize s) d p ∙ q;
     }
 
 -- The limits of a recorded name.
@@ -88,11 +89,11 @@ module _ (s d : List ℕ) (n top id e : ℕ) (found : (D : Dictionary) → Holds
       pub named : nameIn id D ≡ ofGlobal m (entry .type)
       named = entry .means ∙ ap (λ (x : ℕ). ofGlobal x (entry .type)) (sym (em ∙ entry .counted))
 
-      pub type-reads : length s ≡ 52224 → Reads (heap s d) (39936 + q) (entry .type)
+      pub type-reads : length s ≡ areaSize → Reads (heap s d) (dictionaryAt + q) (entry .type)
       type-reads z =
           dictionary-reads s d q (entry .type) (entry .after) z (name-formed D id m (entry .type) (R .formed) named) (ap (λ (x : ℕ). drop x d) eq ∙ entry .written)
 
-    unfoldable pub recorded-at : Consulted s d n top → RecordedAt s d n top (39936 + q) m
+    unfoldable pub recorded-at : Consulted s d n top → RecordedAt s d n top (dictionaryAt + q) m
     recorded-at B =
         let D = B .dictionary in
         let R = B .recorded in
@@ -109,11 +110,11 @@ module _ (s d : List ℕ) (n top id e : ℕ) (found : (D : Dictionary) → Holds
           room = B .room;
         }
 
-    pub global : (s′ : List ℕ) (cell n′ top′ : ℕ) → Generic s s′ d n top (39936 + q) m cell n′ top′ → Global s s′ d n top id 0 cell n′ top′
+    pub global : (s′ : List ℕ) (cell n′ top′ : ℕ) → Generic s s′ d n top (dictionaryAt + q) m cell n′ top′ → Global s s′ d n top id 0 cell n′ top′
     unfolding referenceItems
     global s′ cell n′ top′ X = record {
       low = X .low;
-      uses = λ z y Q. X .uses y (room-less s n top (36 + y) (40 + y) (omega arith) Q);
+      uses = λ z y Q. X .uses y (room-less s n top (36 + y) (nodeCells + y) (omega arith) Q);
       ruled = λ G S k U D R.
           subst (λ (x : Named). Ruled s s′ d n top k 0 cell n′ top′ G (referenceItems k none x)) (sym (named D R))
           (rule-goes s s′ d n top k 0 cell n′ top′ G (referenceItems k none (ofGlobal m (entry D R .type))) refl
@@ -129,13 +130,13 @@ module _ (s d w : List ℕ) (n top rows id r : ℕ) (B : Referring s d w n top r
     pub local-entering : Entering s d n p
     local-entering =
         let x = found-local (SettledAt s d (B .ghost)) (B .dictionary) w 0 rows (B .scope) (B .scoped .stacked) id r F l in
-        entering s d n top p (B .ghost) (B .stands) (room-less s n top 1 40 (omega arith) (B .room)) (subst (Readable (heap s d)) here (record { type = x .2 .type; reads = x .2 .reads }))
+        entering s d n top p (B .ghost) (B .stands) (room-less s n top 1 nodeCells (omega arith) (B .room)) (subst (Readable (heap s d)) here (record { type = x .2 .type; reads = x .2 .reads }))
 
     pub local-refers : (s′ : List ℕ) (cell n′ top′ : ℕ) → TypedAt s s′ d n top p cell n′ top′ → Refers s s′ d w n top rows id 0 cell n′ top′
     unfolding referenceItems
     local-refers s′ cell n′ top′ X = record {
       low = X .low;
-      uses = λ z y Q. X .uses y (room-less s n top (1 + y) (40 + y) (omega arith) Q);
+      uses = λ z y Q. X .uses y (room-less s n top (1 + y) (nodeCells + y) (omega arith) Q);
       ruled = λ G S k U Γ D C.
           let x = found-local (SettledAt s d G) D w 0 rows Γ (C .stacked) id r F l in
           subst (λ (y : Named). Ruled s s′ d n top k 0 cell n′ top′ G (referenceItems k none y)) (sym (x .1))

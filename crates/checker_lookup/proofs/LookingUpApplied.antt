@@ -27,6 +27,7 @@ use Rattle.checker_pieces.proofs.Stages.{rule-stops}
 use Rattle.checker_lookup.specs.Scoped.{SettledAt}
 use Rattle.checker_lookup.specs.References.{Refers, ApplyingAt, AppliedAt, ConsultedWith, GlobalApplied, ReferringWith, RefersWith}
 use Rattle.checker_lookup.proofs.LookingUp.{refused, entry, named, type-reads, recorded-at, consulted}
+use Rattle.types_cells.specs.Layout.{dictionaryAt}
 
 -- The items of a Ref with one actual at least.
 module _ (k : ℕ) where
@@ -89,11 +90,11 @@ module _ (s d : List ℕ) (n top id : ℕ) (parts : List ℕ) (m : ℕ) (B : Con
       em : m ≡ parametersAt d e
       em = sym same ∙ ep
 
-      pub applying-at : ApplyingAt s d n top (39936 + q) m parts
+      pub applying-at : ApplyingAt s d n top (dictionaryAt + q) m parts
       unfolding recorded-at
       applying-at = record { recorded = recorded-at s d n top id e found some m em q eq (B .consulted); expressions = B .expressions; actuals = B .actuals; count = B .count }
 
-      pub global-applied : (s′ : List ℕ) (number cell n′ top′ : ℕ) → AppliedAt s s′ d n top (39936 + q) m parts number cell n′ top′ → GlobalApplied s s′ d n top id parts m number cell n′ top′
+      pub global-applied : (s′ : List ℕ) (number cell n′ top′ : ℕ) → AppliedAt s s′ d n top (dictionaryAt + q) m parts number cell n′ top′ → GlobalApplied s s′ d n top id parts m number cell n′ top′
       global-applied s′ number cell n′ top′ X = record {
         low = X .low;
         uses = X .uses;

@@ -25,6 +25,7 @@ use Rattle.checker_pieces.specs.Stage.{Ghost}
 use Rattle.checker_lookup.specs.Scoped.{SettledAt, Scoped}
 use Rattle.checker_lookup.specs.Thetas.{InScope, RowsAsked, ComponentInScope, RowPlaced, Idle, RowsOver, RowsPlaced}
 use Rattle.checker_lookup.proofs.IdleLaws.{idle-refuses}
+use Rattle.types_cells.specs.Layout.{areaSize}
 
 -- The scope is the same where its words are.
 pub scoped-below : (s d w w′ : List ℕ) (rows base : ℕ) → 2 * rows ≤ base → ((i : ℕ) → i < base → getD w′ i 0 ≡ getD w i 0) → (G : Ghost) (Γ : Scope) (D : Dictionary) → Scoped s d w rows G Γ D →
@@ -183,7 +184,7 @@ module _ (s d : List ℕ) (G : Ghost) (Γ : Scope) (k : ℕ) (w : List ℕ) wher
 pub record Placing (d w₀ w : List ℕ) (rows base j k : ℕ) : Type 0 where
   pub below : (i : ℕ) → i < base → getD w i 0 ≡ getD w₀ i 0
   pub names : (i : ℕ) → getD w (base + 2 * i) 0 ≡ getD w₀ (base + 2 * i) 0
-  pub placed : (s : List ℕ) (G : Ghost) (Γ : Scope) (D : Dictionary) → Scoped s d w₀ rows G Γ D → length s ≡ 52224 → (i : ℕ) → i < j →
+  pub placed : (s : List ℕ) (G : Ghost) (Γ : Scope) (D : Dictionary) → Scoped s d w₀ rows G Γ D → length s ≡ areaSize → (i : ℕ) → i < j →
       ComponentInScope s d G Γ k (getD w₀ (base + 2 * i) 0) (getD w (base + 2 * i + 1) 0)
 
 pub placing-start : (d w : List ℕ) (rows base k : ℕ) → Placing d w w rows base 0 k

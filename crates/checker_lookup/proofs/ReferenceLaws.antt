@@ -12,7 +12,7 @@ use Rattle.checker_rules.specs.Items.{Items, _⨾_}
 use Rattle.checker_rules.specs.Unknowns.{slot, unknownAt, row}
 use Rattle.types_cells.specs.Settled.{heap, Reads, Entering, Entered}
 use Rattle.types_cells.proofs.SettlingLaws.{heap-kept}
-use Rattle.checker_pieces.specs.Stage.{Ghost, Stands, Cell, Uses, Unvisited, SlotOf, Advanced}
+use Rattle.checker_pieces.specs.Stage.{Ghost, Stands, Cell, Uses, Unvisited, SlotOf, Advanced, nodeCells}
 use Rattle.checker_pieces.specs.Building.{Introduced}
 use Rattle.checker_pieces.proofs.Walks.{later-on}
 use Rattle.checker_pieces.proofs.Stages.{next, next-stands, placed-cell, introduce-then, introduced-typed, room-less}
@@ -154,7 +154,7 @@ module _ (s d : List ℕ) (n top p m : ℕ) (B : RecordedAt s d n top p m) where
       reads = kept (B .type) (B .reads);
       small = B .small;
       made = omega arith;
-      room = row-uses 32 (room-less s n top (m + 32) 40 (let z = B .few in omega arith) (B .room));
+      room = row-uses 32 (room-less s n top (m + 32) nodeCells (let z = B .few in omega arith) (B .room));
     }
 
     pub generic : (s₂ : List ℕ) (cell n′ top′ : ℕ) → InstanceOf s₁ s₂ d (n + m) top p n m cell n′ top′ → Generic s s₂ d n top p m cell n′ top′

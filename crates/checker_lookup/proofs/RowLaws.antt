@@ -9,6 +9,7 @@ use Rattle.types_rules.specs.Equations.{In, Pairs, pair, end}
 use Rattle.checker_rules.specs.Unknowns.{Table, slot}
 use Rattle.checker_rules.specs.Items.{Items, _⨾_, fresh, Meets, Agree, Passes}
 use Rattle.checker_rules.specs.Conditions.{freshRow}
+use Rattle.types_cells.specs.Layout.{firstRun}
 use Rattle.types_cells.specs.Store.{frozen, load, run, Solved}
 use Rattle.types_cells.specs.Calls.{Making, Made}
 use Rattle.types_cells.proofs.Growing.{made-above, made-load}
@@ -88,7 +89,7 @@ module _ (s₀ : List ℕ) (n p : ℕ) (B : RowAsked s₀ n p) where
       }
 
   module _ (s : List ℕ) (j : ℕ) (l : j < p) (I : RowMade s₀ s n j) where
-    pub row-ask : Making s (n + j) 0 0 4096 0
+    pub row-ask : Making s (n + j) 0 0 firstRun 0
     unfolding run
     row-ask = record {
       P₀ = B .P₀;
@@ -108,7 +109,7 @@ module _ (s₀ : List ℕ) (n p : ℕ) (B : RowAsked s₀ n p) where
       fit = let z = B .fit in let y = I .fit in omega arith;
     }
 
-    module _ (s′ : List ℕ) (N : Made s s′ (n + j) 0 0 4096 0) where
+    module _ (s′ : List ℕ) (N : Made s s′ (n + j) 0 0 firstRun 0) where
       module _ (d : List ℕ) (top k : ℕ) (G : Ghost) (S : Stands s₀ d n top G) (U : Unvisited k G) (few : suc j < 8) where
         abbrev R : RowOf s₀ s d n top (n + j) j k G
         R = I .row d top k G S U (omega arith)
@@ -137,7 +138,7 @@ module _ (s₀ : List ℕ) (n p : ℕ) (B : RowAsked s₀ n p) where
                 piece =
                     piece-alike s′ d (suc (n + j)) (A .equations) (G .before) (t ⨾ fresh x) (G .items ⨾ freshRow k 1 (suc j)) (G .known) (x ∷ A .mentioned) (pair x (n + j) (A .cells)) e
                     (unknown s s′ d (n + j) row-ask N (A .equations) (G .before) t (G .known) (A .mentioned) (A .cells) (A .piece) x new);
-                above = made-above s s′ (n + j) 0 0 4096 0 row-ask N top (A .above) (let z = A .above .low in omega arith) (λ z. absurd (omega arith));
+                above = made-above s s′ (n + j) 0 0 firstRun 0 row-ask N top (A .above) (let z = A .above .low in omega arith) (λ z. absurd (omega arith));
                 later =
                     alike-later s₀ s′ d n (suc (n + j)) (G .equations) (A .equations) (G .before) (G .items) (t ⨾ fresh x) (G .items ⨾ freshRow k 1 (suc j)) (G .cells) (pair x (n + j) (A .cells)) e
                     (later-on s₀ s s′ d n (n + j) (suc (n + j)) (G .equations) (A .equations) (A .equations) (G .before) (G .items) t (t ⨾ fresh x) (G .cells) (A .cells) (pair x (n + j) (A .cells))
@@ -156,8 +157,8 @@ module _ (s₀ : List ℕ) (n p : ℕ) (B : RowAsked s₀ n p) where
       row-next =
           let z : suc (n + j) ≡ n + (j + 1) = omega arith in
           let w : suc j ≡ j + 1 = omega arith in
-          let grows = made-grows s s′ [] (n + j) 0 0 4096 0 row-ask N in
-          let a = made-load s s′ (n + j) 0 0 4096 0 row-ask N in
+          let grows = made-grows s s′ [] (n + j) 0 0 firstRun 0 row-ask N in
+          let a = made-load s s′ (n + j) 0 0 firstRun 0 row-ask N in
           let b = I .fit in
           let c : load (frozen s′) (suc (n + j)) ≡ load (frozen s₀) n + (j + 1) = omega arith in
           record {

@@ -13,6 +13,7 @@ use Rattle.checker_rules.specs.Dictionary.{Dictionary, Named, ofGlobal, nameIn}
 use Rattle.checker_rules.specs.Items.{refusal}
 use Rattle.checker_rules.specs.Rules.{thetaName, typeInScope}
 use Rattle.checker_rules.specs.Scopes.{Scope, nameAt}
+use Rattle.types_cells.specs.Layout.{dictionaryAt}
 use Rattle.types_cells.specs.Settled.{heap, Reads}
 use Rattle.checker_dictionary.specs.Holds.{Holds}
 use Rattle.checker_dictionary.specs.Lookup.{parametersAt, typeAt, NameFound}
@@ -70,7 +71,7 @@ module _ (d w : List ℕ) (rows id r : ℕ) (F : Finds w 0 rows id r) where
         present = λ q. absurd (q refl);
       }
 
-      pub scope-recorded : p ≡ 0 → (q : ℕ) → q ≡ typeAt d e → InScope d w rows id (39937 + q)
+      pub scope-recorded : p ≡ 0 → (q : ℕ) → q ≡ typeAt d e → InScope d w rows id (dictionaryAt + 1 + q)
       unfolding thetaName typeInScope
       scope-recorded z q eq = record {
         absent = λ y. absurd (omega arith);
@@ -78,9 +79,9 @@ module _ (d w : List ℕ) (rows id r : ℕ) (F : Finds w 0 rows id r) where
             let e0 = sym z ∙ ep in
             let g = entry s d 0 0 id e found some 0 e0 q eq D (C .recorded) .type in
             let name = global-name s G Γ D C ∙ named s d 0 0 id e found some 0 e0 q eq D (C .recorded) in
-            let b : 39936 + q ≡ 39937 + q - 1 = omega arith in (
+            let b : dictionaryAt + q ≡ dictionaryAt + 1 + q - 1 = omega arith in (
               λ k. ap (thetaName true k) name,
-              subst (λ (x : Named). SettledAt s d G (typeInScope x) (39937 + q - 1)) (sym name)
-                  (subst (SettledAt s d G (instance nil g)) b (recorded-settled s d G (39936 + q) g (type-reads s d 0 0 id e found some 0 e0 q eq D (C .recorded) size))),
+              subst (λ (x : Named). SettledAt s d G (typeInScope x) (dictionaryAt + 1 + q - 1)) (sym name)
+                  (subst (SettledAt s d G (instance nil g)) b (recorded-settled s d G (dictionaryAt + q) g (type-reads s d 0 0 id e found some 0 e0 q eq D (C .recorded) size))),
             );
       }

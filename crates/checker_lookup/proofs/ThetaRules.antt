@@ -19,6 +19,7 @@ use Rattle.checker_rules.specs.Rules.{thetaNames, thetaItems, thetaSignature}
 use Rattle.checker_rules.specs.Scopes.{Scope, schemaNamed}
 use Rattle.checker_rules.specs.Signatures.{Signature, namesOf, bindingOf, componentsOf, someStroked}
 use Rattle.checker_rules.specs.Unknowns.{slot}
+use Rattle.types_cells.specs.Layout.{dictionaryAt, areaSize}
 use Rattle.types_cells.specs.Settled.{heap, Reads}
 use Rattle.checker_dictionary.specs.Holds.{Holds}
 use Rattle.checker_dictionary.specs.Lookup.{parametersAt, typeAt, SchemaFound, Recorded as Entry}
@@ -29,7 +30,7 @@ use Rattle.checker_signatures.proofs.CarryLaws.{carries-names}
 use Rattle.checker_signatures.proofs.RowLaws.{getD-below}
 use Rattle.checker_signatures.proofs.ScopeLaws.{stacked-schema}
 use Rattle.checker_signatures.proofs.TableLaws.{table-length}
-use Rattle.checker_pieces.specs.Stage.{Ghost, SlotOf, Ruled}
+use Rattle.checker_pieces.specs.Stage.{Ghost, SlotOf, Ruled, nodeCells}
 use Rattle.checker_pieces.specs.Building.{Introduced}
 use Rattle.checker_pieces.proofs.Stages.{rule-goes, rule-stops, room-less}
 use Rattle.checker_lookup.specs.Bindings.{Binding, Bound}
@@ -98,7 +99,7 @@ module _ (s d w : List ℕ) (n top rows base id k : ℕ) (B : ThetaAsked s d w n
   }
 
   module _ (some : e ≡ 0 → ⊥) (q : ℕ) (eq : q ≡ typeAt d e) where
-    size : length s ≡ 52224
+    size : length s ≡ areaSize
     size = B .referring .stands .piece .solved .held .size
 
     module _ (D : Dictionary) (R : DictionaryHeld D d) where
@@ -120,9 +121,9 @@ module _ (s d w : List ℕ) (n top rows base id k : ℕ) (B : ThetaAsked s d w n
       is-binding : entry .type ≡ node (binding ids) gs
       is-binding = limits .1 .2
 
-      binding-reads : Reads (heap s d) (39936 + q) (node (binding ids) gs)
+      binding-reads : Reads (heap s d) (dictionaryAt + q) (node (binding ids) gs)
       binding-reads =
-          subst (Reads (heap s d) (39936 + q)) is-binding
+          subst (Reads (heap s d) (dictionaryAt + q)) is-binding
           (dictionary-reads s d q (entry .type) (entry .after) size (schema-formed D id (entry .parameters) (entry .type) (R .formed) (entry .means))
           (ap (λ (x : ℕ). drop x d) eq ∙ entry .written))
 
@@ -130,7 +131,7 @@ module _ (s d w : List ℕ) (n top rows base id k : ℕ) (B : ThetaAsked s d w n
       unfolding FormedType Arity
       few-ids = let a = binding-reads .formed .0 .0 in let b = subst (λ (g : Ty). SchemaType g) is-binding limits .0 in omega arith
 
-    pub components-asked : ComponentsAsked s d w (39936 + q) base
+    pub components-asked : ComponentsAsked s d w (dictionaryAt + q) base
     components-asked =
         let D = B .referring .dictionary in
         let R = B .referring .scoped .recorded in
@@ -146,11 +147,11 @@ module _ (s d w : List ℕ) (n top rows base id k : ℕ) (B : ThetaAsked s d w n
           table = omega arith;
         }
 
-    module _ (w₁ : List ℕ) (m : ℕ) (K : ComponentRows s d w w₁ (39936 + q) base m) where
-      rows-of : (D : Dictionary) (R : DictionaryHeld D d) → ComponentsOf s d w w₁ (39936 + q) base m (ids D R) (gs D R)
+    module _ (w₁ : List ℕ) (m : ℕ) (K : ComponentRows s d w w₁ (dictionaryAt + q) base m) where
+      rows-of : (D : Dictionary) (R : DictionaryHeld D d) → ComponentsOf s d w w₁ (dictionaryAt + q) base m (ids D R) (gs D R)
       rows-of D R = K .of (ids D R) (gs D R) (binding-reads D R)
 
-      abbrev own : ComponentsOf s d w w₁ (39936 + q) base m (ids (B .referring .dictionary) (B .referring .scoped .recorded)) (gs (B .referring .dictionary) (B .referring .scoped .recorded))
+      abbrev own : ComponentsOf s d w w₁ (dictionaryAt + q) base m (ids (B .referring .dictionary) (B .referring .scoped .recorded)) (gs (B .referring .dictionary) (B .referring .scoped .recorded))
       own = rows-of (B .referring .dictionary) (B .referring .scoped .recorded)
 
       few : m ≤ 16
@@ -235,13 +236,13 @@ module _ (s d w : List ℕ) (n top rows base id k : ℕ) (B : ThetaAsked s d w n
                 signature = thetaSignature k (componentsOf (instance nil (entry (r .dictionary) (r .scoped .recorded) .type))) (r .scope);
                 carried = fine (r .ghost) (r .scope) (r .dictionary) (r .scoped) .carries;
                 table = omega arith;
-                room = room-less s n top (suc m) 40 (omega arith) (r .room);
+                room = room-less s n top (suc m) nodeCells (omega arith) (r .room);
               }
 
           pub theta-typed : (s′ : List ℕ) (cell n′ top′ : ℕ) → Bound s s′ d w₂ base m n top cell n′ top′ → ThetaRuled s s′ d w w₂ n top rows base id k 0 cell n′ top′
           theta-typed s′ cell n′ top′ X = record {
             low = X .enlarged .low;
-            uses = λ y x Q. X .enlarged .uses x (let a = few in room-less s n top (suc m + x) (40 + x) (omega arith) Q);
+            uses = λ y x Q. X .enlarged .uses x (let a = few in room-less s n top (suc m + x) (nodeCells + x) (omega arith) Q);
             below = below₂;
             ruled = λ G S node U Γ D C.
                 let E = X .enlarged in

@@ -8,6 +8,7 @@ use Rattle.checker_rules.specs.Conditions.{typed}
 use Rattle.checker_rules.specs.Unknowns.{slot, powerOf}
 use Rattle.checker_rules.specs.Signatures.{Signature, bindingOf}
 use Rattle.types_rules.specs.Equations.{Pairs}
+use Rattle.types_cells.specs.Layout.{frozenSize}
 use Rattle.types_cells.specs.Store.{frozen, load, Solved}
 use Rattle.types_cells.specs.Calls.{Above}
 use Rattle.types_solver.specs.Growth.{Builds}
@@ -55,7 +56,7 @@ pub record PuttingRows (s w : List ℕ) (base m first n top : ℕ) : Type 0 wher
   pub above : Above (frozen s) n top
   pub table : base + 2 * m ≤ length w
   pub made : first + m ≤ n
-  pub room : top + m + m ≤ 6144
+  pub room : top + m + m ≤ frozenSize
 
 -- The first j of them do.
 pub record RowsPut (s s′ w : List ℕ) (base m first n top j : ℕ) : Type 0 where

@@ -13,9 +13,10 @@ use Rattle.checker_rules.specs.Items.{Items, skip, _⨾_, equate}
 use Rattle.checker_rules.specs.Rules.{referenceItems}
 use Rattle.checker_rules.specs.Scopes.{Scope, nameAt}
 use Rattle.checker_rules.specs.Unknowns.{slot, unknownAt, row, powerOf}
+use Rattle.types_cells.specs.Layout.{maxPending, maxCells}
 use Rattle.types_cells.specs.Store.{frozen, load, Solved}
 use Rattle.types_cells.specs.Settled.{lower, heap, Reads}
-use Rattle.checker_pieces.specs.Stage.{Ghost, Stands, Cell, Room, Uses, Unvisited, SlotOf, Advanced, Ruled}
+use Rattle.checker_pieces.specs.Stage.{Ghost, Stands, Cell, Room, Uses, Unvisited, SlotOf, Advanced, Ruled, nodeCells}
 use Rattle.checker_pieces.specs.Piece.{Stops}
 use Rattle.checker_pieces.specs.Building.{Introduced}
 use Rattle.checker_lookup.specs.Scoped.{SettledAt, DictionaryHeld, Scoped}
@@ -26,8 +27,8 @@ pub record RowAsked (s : List ℕ) (n p : ℕ) : Type 0 where
   pub P₀ : Pairs ℕ
   pub L : Pairs ℕ
   pub solved : Solved s n P₀ L
-  pub room : n + p ≤ 1024
-  pub fit : load (frozen s) n + p < 2048
+  pub room : n + p ≤ maxCells
+  pub fit : load (frozen s) n + p < maxPending
 
 -- Unknowns 1 to p of node k.
 abbrev pub Among : ℕ → ℕ → ℕ → Type 0
@@ -77,7 +78,7 @@ pub record RecordedAt (s d : List ℕ) (n top p m : ℕ) : Type 0 where
   pub reads : Reads (heap s d) p type
   pub small : size type ≤ 32
   pub few : m ≤ 4
-  pub room : Room s n top 40
+  pub room : Room s n top nodeCells
 
 -- The type of a node is that recorded type, with an unknown for each parameter.
 pub record Generic (s s′ d : List ℕ) (n top p m cell n′ top′ : ℕ) : Type 0 where
@@ -94,12 +95,12 @@ pub record Consulted (s d : List ℕ) (n top : ℕ) : Type 0 where
   pub unvisited : Unvisited node ghost
   pub dictionary : Dictionary
   pub recorded : DictionaryHeld dictionary d
-  pub room : Room s n top 40
+  pub room : Room s n top nodeCells
 
 -- A RECORDED NAME WITHOUT ACTUALS.
 pub record Global (s s′ d : List ℕ) (n top id number cell n′ top′ : ℕ) : Type 0 where
   pub low : lower s′ ≡ lower s
-  pub uses : number ≡ 0 → Uses s s′ n top n′ top′ 40
+  pub uses : number ≡ 0 → Uses s s′ n top n′ top′ nodeCells
   pub ruled : (G : Ghost) → Stands s d n top G → (k : ℕ) → Unvisited k G → (D : Dictionary) → DictionaryHeld D d → Ruled s s′ d n top k number cell n′ top′ G (referenceItems k none (nameIn id D))
 
 -- A name may be looked up in scope.
@@ -112,12 +113,12 @@ pub record Referring (s d w : List ℕ) (n top rows : ℕ) : Type 0 where
   pub dictionary : Dictionary
   pub scoped : Scoped s d w rows ghost scope dictionary
   pub table : 2 * rows ≤ length w
-  pub room : Room s n top 40
+  pub room : Room s n top nodeCells
 
 -- REF WITHOUT ACTUALS.
 pub record Refers (s s′ d w : List ℕ) (n top rows id number cell n′ top′ : ℕ) : Type 0 where
   pub low : lower s′ ≡ lower s
-  pub uses : number ≡ 0 → Uses s s′ n top n′ top′ 40
+  pub uses : number ≡ 0 → Uses s s′ n top n′ top′ nodeCells
   pub ruled : (G : Ghost) → Stands s d n top G → (k : ℕ) → Unvisited k G → (Γ : Scope) (D : Dictionary) → Scoped s d w rows G Γ D →
       Ruled s s′ d n top k number cell n′ top′ G (referenceItems k none (nameAt id Γ))
 
@@ -165,7 +166,7 @@ pub record ApplyingAt (s d : List ℕ) (n top p m : ℕ) (parts : List ℕ) : Ty
 
 pub record AppliedAt (s s′ d : List ℕ) (n top p m : ℕ) (parts : List ℕ) (number cell n′ top′ : ℕ) : Type 0 where
   pub low : lower s′ ≡ lower s
-  pub uses : number ≡ 0 → Uses s s′ n top n′ top′ 40
+  pub uses : number ≡ 0 → Uses s s′ n top n′ top′ nodeCells
   pub ruled : (G : Ghost) → Stands s d n top G → (g : Ty) → Reads (heap s d) p g → (k : ℕ) → Unvisited k G → (xs : Exprs) → Actuals s d n G parts 0 xs → exprsLength xs ≡ m →
       Ruled s s′ d n top k number cell n′ top′ G (arePowers k xs 1 ⨾ typed k (instance (row k 1 m) g))
 
@@ -179,7 +180,7 @@ pub record ConsultedWith (s d : List ℕ) (n top : ℕ) (parts : List ℕ) (m : 
 
 pub record GlobalApplied (s s′ d : List ℕ) (n top id : ℕ) (parts : List ℕ) (m number cell n′ top′ : ℕ) : Type 0 where
   pub low : lower s′ ≡ lower s
-  pub uses : number ≡ 0 → Uses s s′ n top n′ top′ 40
+  pub uses : number ≡ 0 → Uses s s′ n top n′ top′ nodeCells
   pub ruled : (G : Ghost) → Stands s d n top G → (k : ℕ) → Unvisited k G → (D : Dictionary) → DictionaryHeld D d → (xs : Exprs) → Actuals s d n G parts 0 xs → exprsLength xs ≡ m →
       Ruled s s′ d n top k number cell n′ top′ G (referenceItems k xs (nameIn id D))
 
@@ -192,6 +193,6 @@ pub record ReferringWith (s d w : List ℕ) (n top rows : ℕ) (parts : List ℕ
 
 pub record RefersWith (s s′ d w : List ℕ) (n top rows id : ℕ) (parts : List ℕ) (m number cell n′ top′ : ℕ) : Type 0 where
   pub low : lower s′ ≡ lower s
-  pub uses : number ≡ 0 → Uses s s′ n top n′ top′ 40
+  pub uses : number ≡ 0 → Uses s s′ n top n′ top′ nodeCells
   pub ruled : (G : Ghost) → Stands s d n top G → (k : ℕ) → Unvisited k G → (Γ : Scope) (D : Dictionary) → Scoped s d w rows G Γ D → (xs : Exprs) → Actuals s d n G parts 0 xs →
       exprsLength xs ≡ m → Ruled s s′ d n top k number cell n′ top′ G (referenceItems k xs (nameAt id Γ))

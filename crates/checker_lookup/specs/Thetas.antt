@@ -12,24 +12,26 @@ use Rattle.checker_rules.specs.Conditions.{refuseIf}
 use Rattle.checker_rules.specs.Scopes.{Scope, nameAt, schemaNamed}
 use Rattle.checker_rules.specs.Signatures.{Signature, namesOf, someStroked}
 use Rattle.checker_rules.specs.Strokes.{decorate, takes}
+use Rattle.types_cells.specs.Layout.{areaSize}
 use Rattle.types_cells.specs.Settled.{lower}
+use Rattle.checker_signatures.specs.Tables.{tableWords}
 use Rattle.checker_signatures.specs.Rows.{rows as rowsOf, identifiersOf}
 use Rattle.checker_signatures.specs.Carried.{Carries}
 use Rattle.checker_pieces.specs.Piece.{Stops}
-use Rattle.checker_pieces.specs.Stage.{Ghost, Stands, Uses, Unvisited, Ruled}
+use Rattle.checker_pieces.specs.Stage.{Ghost, Stands, Uses, Unvisited, Ruled, nodeCells}
 use Rattle.checker_lookup.specs.Scoped.{SettledAt, Scoped}
 use Rattle.checker_lookup.specs.References.{Referring}
 
 -- ONE IDENTIFIER: the place of its settled type, where it is in scope and not generic. The place is r - 1; 0: the identifier is absent or generic, 31.
 pub record InScope (d w : List ℕ) (rows id r : ℕ) : Type 0 where
   pub absent : r ≡ 0 → (s : List ℕ) (G : Ghost) (Γ : Scope) (D : Dictionary) → Scoped s d w rows G Γ D → (k : ℕ) → thetaName true k (nameAt id Γ) ≡ refusal 31 k
-  pub present : (r ≡ 0 → ⊥) → (s : List ℕ) (G : Ghost) (Γ : Scope) (D : Dictionary) → Scoped s d w rows G Γ D → length s ≡ 52224 →
+  pub present : (r ≡ 0 → ⊥) → (s : List ℕ) (G : Ghost) (Γ : Scope) (D : Dictionary) → Scoped s d w rows G Γ D → length s ≡ areaSize →
       ((k : ℕ) → thetaName true k (nameAt id Γ) ≡ skip) × SettledAt s d G (typeInScope (nameAt id Γ)) (r - 1)
 
 -- The m rows at `base` lie above a scope of `rows` rows, in which identifiers with the stroke k are looked up.
 pub record RowsAsked (d w : List ℕ) (rows base m k : ℕ) : Type 0 where
   pub store : List ℕ
-  pub size : length store ≡ 52224
+  pub size : length store ≡ areaSize
   pub few : length d < 2 ^ 31
   pub ghost : Ghost
   pub scope : Scope
@@ -47,7 +49,7 @@ pub record ComponentInScope (s d : List ℕ) (G : Ghost) (Γ : Scope) (k i q : �
 -- The row at `at` has the place of that type; false: 31.
 pub record RowPlaced (d w w′ : List ℕ) (rows at k : ℕ) (fine : Bool) : Type 0 where
   pub others : (i : ℕ) → (i ≡ at + 1 → ⊥) → getD w′ i 0 ≡ getD w i 0
-  pub placed : fine ≡ true → (s : List ℕ) (G : Ghost) (Γ : Scope) (D : Dictionary) → Scoped s d w rows G Γ D → length s ≡ 52224 → ComponentInScope s d G Γ k (getD w at 0) (getD w′ (at + 1) 0)
+  pub placed : fine ≡ true → (s : List ℕ) (G : Ghost) (Γ : Scope) (D : Dictionary) → Scoped s d w rows G Γ D → length s ≡ areaSize → ComponentInScope s d G Γ k (getD w at 0) (getD w′ (at + 1) 0)
   pub refused : fine ≡ false → (s : List ℕ) (G : Ghost) (Γ : Scope) (D : Dictionary) → Scoped s d w rows G Γ D → (n : ℕ) →
       thetaName (takes k (getD w at 0)) n (nameAt (decorate k (getD w at 0)) Γ) ≡ refusal 31 n
 
@@ -66,7 +68,7 @@ Idle (piece n t) = ⊥
 pub record RowsOver (s d w : List ℕ) (rows base m : ℕ) (G : Ghost) (Γ : Scope) (r : Signature) : Type 0 where
   pub dictionary : Dictionary
   pub scoped : Scoped s d w rows G Γ dictionary
-  pub size : length s ≡ 52224
+  pub size : length s ≡ areaSize
   pub names : namesOf r ≡ identifiersOf (rowsOf w base m)
 
 -- ALL COMPONENTS: each row has the place of its type in scope; false: 31.
@@ -95,12 +97,12 @@ pub record ThetaChecks (d w w′ : List ℕ) (rows base m p k number : ℕ) : Ty
 pub record ThetaAsked (s d w : List ℕ) (n top rows base k : ℕ) : Type 0 where
   pub referring : Referring s d w n top rows
   pub below : 2 * rows ≤ base
-  pub free : base + 64 ≤ length w
+  pub free : base + tableWords ≤ length w
   pub stroke : k < 4
 
 pub record ThetaRuled (s s′ d w w′ : List ℕ) (n top rows base id k number cell n′ top′ : ℕ) : Type 0 where
   pub low : lower s′ ≡ lower s
-  pub uses : number ≡ 0 → Uses s s′ n top n′ top′ 40
+  pub uses : number ≡ 0 → Uses s s′ n top n′ top′ nodeCells
   pub below : (i : ℕ) → i < base → getD w′ i 0 ≡ getD w i 0
   pub ruled : (G : Ghost) → Stands s d n top G → (node : ℕ) → Unvisited node G → (Γ : Scope) (D : Dictionary) → Scoped s d w rows G Γ D →
       Ruled s s′ d n top node number cell n′ top′ G (thetaItems node k (schemaNamed id Γ) Γ)

@@ -26,6 +26,7 @@ use Rattle.checker_closing.specs.Nodes.{Node, LinedAt}
 use Rattle.checker_closing.specs.declared.results.Lined.{Lined}
 use Rattle.checker_nodes.proofs.LineNodes.{word-of}
 use Rattle.checker_nodes.proofs.SizedNodes.{expr-sized}
+use Rattle.types_cells.specs.Layout.{firstRun}
 
 -- The promise in the words of the result.
 actuals-told : {s s′ d w w′ places places′ : List ℕ} {stack at free k j number place count end′ : ℕ} {xs : Exprs} {r : Lined} → LinedAt r number place count end′ →
@@ -101,14 +102,14 @@ module _ {doc p s d w places : List ℕ} {stack at free k : ℕ} (j q : ℕ) (N 
     sized : SizedExpr (exprAt doc a)
     sized = expr-sized doc a (L .at)
 
-    pub node-actual-ask : ExprAsk s d w stack 0 4096 at free (exprAt doc a)
+    pub node-actual-ask : ExprAsk s d w stack 0 firstRun at free (exprAt doc a)
     node-actual-ask = actual-ask s d w stack at free k j (exprAt doc a) rest places Q
 
     node-actual-few : (j < 4) × (at < 2 ^ 32) × (length places ≡ 4)
     unfolding exprsLength
     node-actual-few = let c = Q .count in let p₀ = Q .pool in (omega arith, omega arith, Q .row)
 
-    module _ {s₁ w₁ : List ℕ} {number place cell c₁ top₁ at₁ : ℕ} (A : ExprDone s s₁ d w w₁ stack 0 4096 at free (exprAt doc a) number place cell c₁ top₁ at₁) where
+    module _ {s₁ w₁ : List ℕ} {number place cell c₁ top₁ at₁ : ℕ} (A : ExprDone s s₁ d w w₁ stack 0 firstRun at free (exprAt doc a) number place cell c₁ top₁ at₁) where
       node-actual-stopped : (number ≡ 0 → ⊥) → {r : Lined} → LinedAt r number place 0 0 → ActualsDone s s₁ d w w₁ stack at free k j (exprsFrom doc k (j + 4) (q - j)) places places (r .number) (r .place) (r .at)
       node-actual-stopped ne {r} L₀ = actuals-told L₀ (back s₁ w₁ places number place 0
           (actual-stopped s d w stack at free k j (exprAt doc a) rest places Q s₁ w₁ number place cell c₁ top₁ at₁ A ne 0))

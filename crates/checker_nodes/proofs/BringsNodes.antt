@@ -16,6 +16,7 @@ use Rattle.checker_contracts.proofs.Bringing.{brings-refused, brings-large, bri
 use Rattle.checker_contracts.proofs.Brought.{brought-ask}
 use Rattle.checker_contracts.proofs.IncludeNodes.{included-node, included-count}
 use Rattle.checker_closing.specs.Included.{RowsShown, oversized, kept, BroughtAsk, BroughtTold, unbrought, shown}
+use Rattle.checker_signatures.specs.Tables.{tableWords}
 
 module _ {doc p s d w places s₁ w₁ places₁ : List ℕ} {stack at free k number place m at₁ : ℕ} (N : At doc includes k) (words : p ≡ part doc k) (A : BringsAsk s d w stack at free (includeAt doc k))
     (I : IncludeDone s s₁ d w w₁ stack at free (includeAt doc k) places places₁ number place m at₁) where
@@ -45,13 +46,13 @@ module _ {doc p s d w places s₁ w₁ places₁ : List ℕ} {stack at free k nu
           rows = λ fine. record {
             rows = subst (RowsAsk s₁ d w₁ free m) (sym row-is) (brought-ask s s₁ d w w₁ stack at free (A .height) (includeAt doc k) places places₁ number place m at₁ (A .walking) I fine);
             keep = λ S.
-                subst (λ l. KeepAsk s₁ d w₁ free 0 free m l at at₁ (free + 64)) (sym row-is)
+                subst (λ l. KeepAsk s₁ d w₁ free 0 free m l at at₁ (free + tableWords)) (sym row-is)
                 (brings-keep s d w stack at free (includeAt doc k) A places s₁ w₁ places₁ number place m at₁ I fine (sized S) few-actuals);
           };
         },
       )
 
-  rows-shown : number ≡ 0 → {s₂ w₂ : List ℕ} {f x c e : ℕ} → RowsShown s₁ s₂ d w₁ w₂ free m row at at₁ (free + 64) k f x c e → Done s₂ w₂ f x c e
+  rows-shown : number ≡ 0 → {s₂ w₂ : List ℕ} {f x c e : ℕ} → RowsShown s₁ s₂ d w₁ w₂ free m row at at₁ (free + tableWords) k f x c e → Done s₂ w₂ f x c e
   rows-shown fine {s₂} {w₂} {f} {x} {c} {e} (oversized y z S h j) =
       subst (λ l. Done l w₂ f x c e) (sym h) (subst (λ l. Done s₁ l f x c e) (sym j)
       (subst (λ l. Done s₁ w₁ l x c e) (sym y) (subst (λ l. Done s₁ w₁ 38 l c e) (included-node doc k N ∙ sym z)
@@ -59,7 +60,7 @@ module _ {doc p s d w places s₁ w₁ places₁ : List ℕ} {stack at free k nu
   rows-shown fine {s₂} {w₂} {f} {x} {c} {e} (kept y z n S E) =
       subst (λ l. Done s₂ w₂ l x c e) (sym y) (subst (λ l. Done s₂ w₂ 0 x l e) (sym n)
       (brings-done s d w stack at free (includeAt doc k) A places s₁ w₁ places₁ number place m at₁ I fine (sized S) few-actuals s₂ w₂ e
-      (subst (λ l. RowsKept s₁ s₂ d w₁ w₂ free 0 free m l at at₁ (free + 64) e) row-is E) x))
+      (subst (λ l. RowsKept s₁ s₂ d w₁ w₂ free 0 free m l at at₁ (free + tableWords) e) row-is E) x))
 
   pub node-brings-told : {s₂ w₂ : List ℕ} {f x c e : ℕ} → BroughtTold s₁ s₂ d w₁ w₂ at free (take (getD p 3 0) (drop 0 places₁)) k number place m at₁ f x c e →
       BringsDone s s₂ d w w₂ stack at free (includeAt doc k) f x c e

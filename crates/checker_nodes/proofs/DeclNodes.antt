@@ -19,14 +19,16 @@ use Rattle.reader_rules.proofs.TreeShape.{One}
 use Rattle.reader_rules.proofs.TreeText.{line-declaration}
 use Rattle.types_rules.specs.Types.{Ty}
 use Rattle.reader_rules.proofs.Sized.{SizedExpr}
+use Rattle.types_cells.specs.Layout.{firstRun, typeWords}
 use Rattle.types_cells.specs.Settled.{heap, Reads, Readable}
 use Rattle.checker_signatures.specs.Rows.{rows, declareRows}
-use Rattle.checker_signatures.specs.Tables.{Table}
+use Rattle.checker_signatures.specs.Tables.{Table, tableWords}
 use Rattle.types_instances.proofs.Moving.{lower-words}
 use Rattle.checker_merging.specs.Merging.{Rows, DeclaredAsk}
 use Rattle.checker_pieces.specs.Building.{Powered, Working}
 use Rattle.checker_pieces.specs.Closed.{Closing, Closed, Sizing, SizeIs}
 use Rattle.checker_includes.specs.Storing.{Stored, StoreAsk, TypeStored}
+use Rattle.checker_contracts.specs.Room.{framesEnd, nodeTypeWords, poolEnd}
 use Rattle.checker_contracts.specs.Expressions.{ExprAsk, ExprDone}
 use Rattle.checker_contracts.specs.Texts.{LinesAsk, LinesDone}
 use Rattle.checker_contracts.proofs.Nodes.{once-left, once-apart, fresh-left, unvisited, last-in}
@@ -43,6 +45,7 @@ use Rattle.checker_closing.specs.Nodes.{Node, LinedAt}
 use Rattle.checker_closing.specs.declared.results.Lined.{Lined}
 use Rattle.checker_nodes.proofs.LineNodes.{lines-told, word-of}
 use Rattle.checker_nodes.proofs.SizedNodes.{expr-sized}
+use Rattle.checker_rules.specs.Check.{checkWorkWords}
 
 module _ {doc p s d w : List ℕ} {stack base m at free k : ℕ} (N : Node doc p lines k) (q : kindAt doc k ≡ 11) (a : ℕ) (word : a ≡ getD p 1 0)
     (K : LinesAsk s d w stack base m at free (lineAt doc k end)) (global : Bool) where
@@ -68,10 +71,10 @@ module _ {doc p s d w : List ℕ} {stack base m at free k : ℕ} (N : Node doc p
   pub node-decl-lower : Lower doc k expressions a
   node-decl-lower = O .first
 
-  pub node-decl-ask : ExprAsk s d w stack 0 4096 at free (exprAt doc a)
+  pub node-decl-ask : ExprAsk s d w stack 0 firstRun at free (exprAt doc a)
   node-decl-ask = decl-ask s d w stack base m at free k (exprAt doc a) (drop 2 p) global Q
 
-  module _ {s₁ w₁ : List ℕ} {number place cell c₁ top₁ at₁ : ℕ} (A : ExprDone s s₁ d w w₁ stack 0 4096 at free (exprAt doc a) number place cell c₁ top₁ at₁) where
+  module _ {s₁ w₁ : List ℕ} {number place cell c₁ top₁ at₁ : ℕ} (A : ExprDone s s₁ d w w₁ stack 0 firstRun at free (exprAt doc a) number place cell c₁ top₁ at₁) where
     node-decl-stopped : (number ≡ 0 → ⊥) → {r : Lined} → LinedAt r number place 0 0 → LinesDone s s₁ d w w₁ stack base m at free (lineAt doc k end) global (r .number) (r .place) (r .count) (r .at)
     node-decl-stopped ne {r} L = lines-told L (back s₁ w₁ number place 0 0
         (decl-stopped s d w stack base m at free k (exprAt doc a) (drop 2 p) global Q s₁ w₁ number place cell c₁ top₁ at₁ A ne 0 0))
@@ -118,7 +121,7 @@ module _ {doc p s d w : List ℕ} {stack base m at free k : ℕ} (N : Node doc p
                   }
 
               module _ {v : ℕ} (M : SizeIs s₃ d (c₁ + 2) c₁ v) {s₄ w₂ : List ℕ} {e : ℕ} (T : TypeStored s₃ s₄ d w₁ w₂ (c₁ + 2) c₁ at free e) where
-                long : (length w₂ ≡ length w) × (e ≤ at + 96) × (at + 768 ≤ 36768) × (base + 64 ≤ 14000) × (16384 ≤ length w)
+                long : (length w₂ ≡ length w) × (e ≤ at + typeWords) × (at + nodeTypeWords ≤ poolEnd + nodeTypeWords) × (base + tableWords ≤ framesEnd) × (checkWorkWords ≤ length w)
                 long =
                     let x = T .scratch .size in
                     let y = A .spared .size in

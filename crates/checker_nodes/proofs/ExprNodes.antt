@@ -2,7 +2,7 @@
 use mathlib.Core.Path.{_≡_, refl, sym, ap, subst, _∙_}
 use mathlib.Core.List.{List, [], _∷_}
 use mathlib.Core.Logic.{⊎-elim}
-use Prim.Native.Nat.{ℕ, _+_, _≤_, _<_}
+use Prim.Native.Nat.{ℕ, _+_, _≤_, _<_, _*_}
 use native.Mathlib.Nat.{eq-or-lt-of-le}
 use native.Mathlib.Omega.{arith}
 use lib.ListN.{length, getD}
@@ -15,6 +15,7 @@ use Rattle.reader_rules.specs.Tree.{Expr, selection}
 use Rattle.reader_rules.proofs.TreeExpr.{expr-power, expr-selection, expr-application, expr-arithmetic}
 use Rattle.types_rules.specs.Types.{Term}
 use Rattle.checker_rules.specs.Items.{Items}
+use Rattle.checker_pieces.specs.Stage.{nodeCells}
 use Rattle.checker_pieces.specs.Building.{Working}
 use Rattle.checker_kinds.specs.Equations.{Combined, applyItems, arithmeticItems, selectItems}
 use Rattle.checker_kinds.specs.Formers.{Derived, powerRuleItems}
@@ -72,10 +73,10 @@ module _ {doc s d w : List ℕ} {rows n top at free k a : ℕ} (own : ℕ → Te
     pub over-stop : (number ≡ 0 → ⊥) → ExprDone s s₁ d w w₁ rows n top at free (exprAt doc k) number place x n₁ top₁ at₁
     over-stop ne = over-stops s d w rows n top at free (exprAt doc k) (exprAt doc a) k own (O .shape) K s₁ w₁ number place x n₁ top₁ at₁ E ne x
 
-    pub over-rule : number ≡ 0 → (r : ℕ) → r ≤ 80 → Working s₁ d n₁ top₁ r (x ∷ [])
+    pub over-rule : number ≡ 0 → (r : ℕ) → r ≤ 2 * nodeCells → Working s₁ d n₁ top₁ r (x ∷ [])
     over-rule z r p = over-working s d w rows n top at free (exprAt doc k) (exprAt doc a) k own (O .shape) K s₁ w₁ number place x n₁ top₁ at₁ E z r p
 
-    pub over-end : number ≡ 0 → {s₂ : List ℕ} {answer cell n₂ top₂ used : ℕ} {r : Visit} → used ≤ 40 → length s₂ ≡ length s₁ → Derived s₁ s₂ d n₁ top₁ x answer cell n₂ top₂ used own →
+    pub over-end : number ≡ 0 → {s₂ : List ℕ} {answer cell n₂ top₂ used : ℕ} {r : Visit} → used ≤ nodeCells → length s₂ ≡ length s₁ → Derived s₁ s₂ d n₁ top₁ x answer cell n₂ top₂ used own →
         VisitAt r answer k cell n₂ top₂ at₁ → ExprDone s s₂ d w w₁ rows n top at free (exprAt doc k) (r .number) (r .place) (r .cell) (r .cells) (r .top) (r .at)
     over-end z {s₂} {answer} {cell} {n₂} {top₂} {used} few size R A =
         visit-done A (over-done s d w rows n top at free (exprAt doc k) (exprAt doc a) k own (O .shape) K s₁ w₁ number place x n₁ top₁ at₁ E z s₂ answer cell n₂ top₂ used few size R)
@@ -123,11 +124,11 @@ module _ {doc s d w : List ℕ} {rows n top at free k a b : ℕ} (own : ℕ → 
             joining-then-stops s d w rows n top at free (exprAt doc k) (exprAt doc a) (exprAt doc b) k own (O .shape) K s₁ w₁ number place x n₁ top₁ at₁ E z s₂ w₂ number₂ place₂ y n₂ top₂ at₂ E₂ ne y
 
         module _ (z₂ : number₂ ≡ 0) where
-          pub joining-rule : (r : ℕ) → r ≤ 80 → Working s₂ d n₂ top₂ r (x ∷ y ∷ [])
+          pub joining-rule : (r : ℕ) → r ≤ 2 * nodeCells → Working s₂ d n₂ top₂ r (x ∷ y ∷ [])
           joining-rule r p =
               joining-working s d w rows n top at free (exprAt doc k) (exprAt doc a) (exprAt doc b) k own (O .shape) K s₁ w₁ number place x n₁ top₁ at₁ E z s₂ w₂ number₂ place₂ y n₂ top₂ at₂ E₂ z₂ r p
 
-          pub joining-end : {s₃ : List ℕ} {answer cell n₃ top₃ used : ℕ} {r : Visit} → used ≤ 40 → length s₃ ≡ length s₂ → Combined s₂ s₃ d n₂ top₂ x y answer cell n₃ top₃ used own →
+          pub joining-end : {s₃ : List ℕ} {answer cell n₃ top₃ used : ℕ} {r : Visit} → used ≤ nodeCells → length s₃ ≡ length s₂ → Combined s₂ s₃ d n₂ top₂ x y answer cell n₃ top₃ used own →
               VisitAt r answer k cell n₃ top₃ at₂ → ExprDone s s₃ d w w₂ rows n top at free (exprAt doc k) (r .number) (r .place) (r .cell) (r .cells) (r .top) (r .at)
           joining-end {s₃} {answer} {cell} {n₃} {top₃} {used} few size R A =
               visit-done A

@@ -21,6 +21,7 @@ use Rattle.checker_contracts.proofs.Inclusions.{inclusion-many, inclusion-done}
 use Rattle.checker_contracts.proofs.IncludeNodes.{included-node, included-count}
 use Rattle.checker_closing.specs.Included.{RowsFine, RowsFound, clash, known, large, none, Total, many, few, UniteAsk, RowsUnited, LineAsk, RowsLined, refused, united, IncludedAsk, IncludedTold, unvisited, lined}
 use Rattle.checker_closing.specs.Nodes.{Node}
+use Rattle.checker_signatures.specs.Tables.{tableWords}
 
 module _ {doc p s d w : List ℕ} {stack base m at free k : ℕ} (N : Node doc p lines k) (q : kindAt doc k ≡ 12) (K : LinesAsk s d w stack base m at free (lineAt doc k end)) (global : Bool) where
   abbrev own : Include
@@ -75,18 +76,18 @@ module _ {doc p s d w : List ℕ} {stack base m at free k : ℕ} (N : Node doc p
       sized : {b : Bool} → SmallTold s₁ d w₁ free c row b → SmallTold s₁ d w₁ free c actuals b
       sized {b} = subst (λ l. SmallTold s₁ d w₁ free c l b) row-is
 
-      kept : {s₂ w₂ : List ℕ} {last : ℕ} → RowsKept s₁ s₂ d w₁ w₂ base m free c row at at₁ (free + 64) last → RowsKept s₁ s₂ d w₁ w₂ base m free c actuals at at₁ (free + 64) last
-      kept {s₂} {w₂} {last} = subst (λ l. RowsKept s₁ s₂ d w₁ w₂ base m free c l at at₁ (free + 64) last) row-is
+      kept : {s₂ w₂ : List ℕ} {last : ℕ} → RowsKept s₁ s₂ d w₁ w₂ base m free c row at at₁ (free + tableWords) last → RowsKept s₁ s₂ d w₁ w₂ base m free c actuals at at₁ (free + tableWords) last
+      kept {s₂} {w₂} {last} = subst (λ l. RowsKept s₁ s₂ d w₁ w₂ base m free c l at at₁ (free + tableWords) last) row-is
 
-      uniting : RowsFine s₁ d w₁ base m free c row global → UniteAsk s₁ d w₁ base m free c row at at₁ (free + 64)
+      uniting : RowsFine s₁ d w₁ base m free c row global → UniteAsk s₁ d w₁ base m free c row at at₁ (free + tableWords)
       uniting F = record {
-        keep = subst (λ l. KeepAsk s₁ d w₁ base m free c l at at₁ (free + 64)) (sym row-is)
+        keep = subst (λ l. KeepAsk s₁ d w₁ base m free c l at at₁ (free + tableWords)) (sym row-is)
             (inclusion-keep s d w stack base m at free own global Q places s₁ w₁ places₁ number place c at₁ I fine (agreed (F .agree)) (F .new .goes refl) (sized (F .small)) few-actuals);
         merge = λ s₂ w₂ last E.
             inclusion-merge s d w stack base m at free own global Q places s₁ w₁ places₁ number place c at₁ I fine (agreed (F .agree)) (F .new .goes refl) (sized (F .small)) few-actuals s₂ w₂ last (kept E);
       }
 
-      ready : LineAsk s₁ d w₁ base m free c row at at₁ (free + 64) global
+      ready : LineAsk s₁ d w₁ base m free c row at at₁ (free + tableWords) global
       ready = record {
         agree = subst (AgreeAsk s₁ d w₁ base m free c) (sym row-is) (inclusion-agree s d w stack base m at free own global Q places s₁ w₁ places₁ number place c at₁ I fine);
         unite = uniting;
@@ -104,7 +105,7 @@ module _ {doc p s d w : List ℕ} {stack base m at free k : ℕ} (N : Node doc p
         rows-found ne (none e F) = absurd (ne e)
 
       -- 38 of the signature, or its rows
-      module _ {s₂ w₂ : List ℕ} {f x m′ at′ : ℕ} (F : RowsFine s₁ d w₁ base m free c row global) (U : RowsUnited s₁ s₂ d w₁ w₂ base m free c row at at₁ (free + 64) k f x m′ at′) where
+      module _ {s₂ w₂ : List ℕ} {f x m′ at′ : ℕ} (F : RowsFine s₁ d w₁ base m free c row global) (U : RowsUnited s₁ s₂ d w₁ w₂ base m free c row at at₁ (free + tableWords) k f x m′ at′) where
         rows-united : Total (U .total) (U .last) f m′ at′ → Done s₂ w₂ f x m′ at′
         rows-united (many e l) =
             found-here e (U .place-is)
@@ -118,7 +119,7 @@ module _ {doc p s d w : List ℕ} {stack base m at free k : ℕ} (N : Node doc p
             (inclusion-done s d w stack base m at free own global Q places s₁ w₁ places₁ number place c at₁ I fine (agreed (F .agree)) (F .new .goes refl) (sized (F .small)) few-actuals
             s₂ (U .between) (U .last) (kept (U .kept)) w₂ (U .total) (U .merged) x l))))
 
-      rows-lined : {s₂ w₂ : List ℕ} {f x m′ at′ : ℕ} → RowsLined s₁ s₂ d w₁ w₂ base m free c row at at₁ (free + 64) global k f x m′ at′ → Done s₂ w₂ f x m′ at′
+      rows-lined : {s₂ w₂ : List ℕ} {f x m′ at′ : ℕ} → RowsLined s₁ s₂ d w₁ w₂ base m free c row at at₁ (free + tableWords) global k f x m′ at′ → Done s₂ w₂ f x m′ at′
       rows-lined (refused ne F y a b) = still a b (rows-found y ne F)
       rows-lined (united F U) = rows-united F U (U .outcome)
 

@@ -23,6 +23,7 @@ use Rattle.reader_rules.proofs.TreeLists.{exprs-go, exprs-end, exprs-length}
 use Rattle.checker_rules.specs.Items.{Items}
 use Rattle.checker_rules.specs.Rules.{referenceItems}
 use Rattle.checker_rules.specs.Scopes.{Scope, nameAt}
+use Rattle.checker_pieces.specs.Stage.{nodeCells}
 use Rattle.checker_pieces.specs.Building.{Building}
 use Rattle.checker_kinds.specs.Formers.{Operating, Listed, setItems, tupleItems, productItems}
 use Rattle.checker_lookup.specs.References.{ReferringWith, RefersWith}
@@ -34,6 +35,7 @@ use Rattle.checker_contracts.proofs.Listing.{listing-ask, listing-stops, listin
 use Rattle.checker_closing.specs.Nodes.{Node, VisitAt}
 use Rattle.checker_closing.specs.declared.results.Visit.{Visit}
 use Rattle.checker_nodes.proofs.ExprNodes.{visit-done, node-word}
+use Rattle.types_cells.specs.Layout.{maxCells}
 
 -- A node has at most 256 words.
 abbrev allBelow : ℕ → List ℕ → Bool
@@ -90,7 +92,7 @@ module _ {doc p s d w parts : List ℕ} {rows n top at free k i j : ℕ} (N : No
 
       module _ (z : number ≡ 0) where
         -- the cell is a small number
-        pub opers-cell : c < 1024
+        pub opers-cell : c < maxCells
         opers-cell =
             let x = more-made s d w rows n top at free (exprAt doc a) rest parts j K′ s₁ w₁ number place c n₁ top₁ at₁ E z (set parts j c) refl in
             let y = more-few s d w rows n top at free (exprAt doc a) rest parts j K′ s₁ w₁ number place c n₁ top₁ at₁ E z (set parts j c) refl in
@@ -190,13 +192,13 @@ module _ {doc p s d w : List ℕ} {rows n top at free k i : ℕ} {own : Scope �
       pub listing-size : (m ≤ 6) × (m ≤ length parts₁)
       listing-size = let a = O .few in (omega arith, listing-fit s d w rows n top at free (exprAt doc k) (operands doc p k i) k own (O .shape) K parts fit s₁ w₁ parts₁ number place n₁ top₁ at₁ E z m same)
 
-      pub listing-operate : (r : ℕ) → r ≤ 80 → Operating s₁ d n₁ top₁ r (take m parts₁)
+      pub listing-operate : (r : ℕ) → r ≤ 2 * nodeCells → Operating s₁ d n₁ top₁ r (take m parts₁)
       listing-operate r q = listing-operating s d w rows n top at free (exprAt doc k) (operands doc p k i) k own (O .shape) K parts fit s₁ w₁ parts₁ number place n₁ top₁ at₁ E z m same r q
 
-      pub listing-build : (r : ℕ) → r ≤ 80 → Building s₁ n₁ top₁ r (take m parts₁)
+      pub listing-build : (r : ℕ) → r ≤ 2 * nodeCells → Building s₁ n₁ top₁ r (take m parts₁)
       listing-build r q = listing-building s d w rows n top at free (exprAt doc k) (operands doc p k i) k own (O .shape) K parts fit s₁ w₁ parts₁ number place n₁ top₁ at₁ E z m same r q
 
-      pub listing-end : {s₂ : List ℕ} {answer cell n₂ top₂ used : ℕ} {r : Visit} (rule : ℕ → Exprs → Items) → ((Γ : Scope) → own Γ ≡ rule k (operands doc p k i)) → used ≤ 40 → length s₂ ≡ length s₁ →
+      pub listing-end : {s₂ : List ℕ} {answer cell n₂ top₂ used : ℕ} {r : Visit} (rule : ℕ → Exprs → Items) → ((Γ : Scope) → own Γ ≡ rule k (operands doc p k i)) → used ≤ nodeCells → length s₂ ≡ length s₁ →
           Listed s₁ s₂ d n₁ top₁ (take m parts₁) answer cell n₂ top₂ used rule → VisitAt r answer k cell n₂ top₂ at₁ →
           ExprDone s s₂ d w w₁ rows n top at free (exprAt doc k) (r .number) (r .place) (r .cell) (r .cells) (r .top) (r .at)
       listing-end {s₂} {answer} {cell} {n₂} {top₂} {used} rule same-items few size R A =

@@ -27,6 +27,7 @@ use Rattle.checker_closing.specs.Nodes.{Node}
 use Rattle.checker_closing.specs.Relations.{RelationAsk, RelationTold, stopped, went, RuleTold, refused, fits, EndTold, several, one}
 use Rattle.checker_closing.specs.declared.results.Verdict.{Verdict}
 use Rattle.checker_nodes.proofs.PredLaws.{word-at, kind-at, pred-told}
+use Rattle.types_cells.specs.Layout.{firstRun, poolSize}
 
 relation-of : (q k : ℕ) (a b : Expr) → 21 ≤ q → q ≤ 23 → Relation (relationOf q k a b) k a b (relationItems q)
 relation-of q k a b l m =
@@ -50,10 +51,10 @@ module _ {doc p : List ℕ} {k : ℕ} (B : Node doc p predicates k) {s d w : Lis
   Q : Sides s d w rows at free (exprAt doc x) (exprAt doc y)
   Q = relation-sides s d w rows at free (predAt doc k) k (exprAt doc x) (exprAt doc y) (relationItems (kindAt doc k)) T A
 
-  pub at-left : Lower doc k expressions x × ExprAsk s d w rows 0 4096 at free (exprAt doc x)
+  pub at-left : Lower doc k expressions x × ExprAsk s d w rows 0 firstRun at free (exprAt doc x)
   at-left = (sides-at .left, left-ask s d w rows at free (exprAt doc x) (exprAt doc y) Q k (relationItems (kindAt doc k)))
 
-  module _ {s₁ w₁ : List ℕ} {number place cell n top at₁ : ℕ} (X : ExprDone s s₁ d w w₁ rows 0 4096 at free (exprAt doc x) number place cell n top at₁) where
+  module _ {s₁ w₁ : List ℕ} {number place cell n top at₁ : ℕ} (X : ExprDone s s₁ d w w₁ rows 0 firstRun at free (exprAt doc x) number place cell n top at₁) where
     pub at-left-stopped : (number ≡ 0 → ⊥) → PredDone s s₁ d w w₁ rows at free (predAt doc k) number place
     at-left-stopped =
         relation-left s d w rows at free (predAt doc k) k (exprAt doc x) (exprAt doc y) (relationItems (kindAt doc k)) T A s₁ w₁ number place cell n top at₁ X
@@ -74,7 +75,7 @@ module _ {doc p : List ℕ} {k : ℕ} (B : Node doc p predicates k) {s d w : Lis
               sides-ask s d w rows at free (exprAt doc x) (exprAt doc y) Q k (relationItems (kindAt doc k)) s₁ w₁ number place cell n top at₁ X fine s₂ w₂ number₂ place₂ cell₂ n₂ top₂ at₂ Y fine₂
 
           -- the words of both sides end in the pool
-          at-end : at₂ < 39936
+          at-end : at₂ < poolSize
           at-end =
               sides-low s d w rows at free (exprAt doc x) (exprAt doc y) Q k (relationItems (kindAt doc k)) s₁ w₁ number place cell n top at₁ X fine s₂ w₂ number₂ place₂ cell₂ n₂ top₂ at₂ Y fine₂
 

@@ -11,7 +11,7 @@ use Rattle.reader_rules.specs.Promise.{At, Lower}
 use Rattle.reader_rules.specs.Tree.{Text, text}
 use Rattle.reader_rules.proofs.TreeText.{Parts, text-kind, text-law}
 use Rattle.checker_signatures.specs.Rows.{rows}
-use Rattle.checker_signatures.specs.Tables.{Beside, Pushed}
+use Rattle.checker_signatures.specs.Tables.{Beside, Pushed, tableWords}
 use Rattle.checker_contracts.specs.Predicates.{PredAsk, PredDone}
 use Rattle.checker_contracts.specs.Texts.{TextAsk, TextDone, LinesAsk, LinesDone}
 use Rattle.checker_contracts.proofs.Bodies.{text-lines, text-stopped, push-ask, text-body, text-refused, text-done}
@@ -41,10 +41,10 @@ module _ {doc : List ℕ} {k : ℕ} (B : At doc texts k) {s d w : List ℕ} {sta
   pub each-line : (q : ℕ) → 2 ≤ q → q < length p → Lower doc k lines (getD p q 0)
   each-line q l m = laid .each q l (subst (λ z. q < length z) P m) (getD p q 0) (ap (λ (z : List ℕ). getD z q 0) P)
 
-  pub at-lines : LinesAsk s d w stack free 0 at (free + 64) (linesFrom doc k 2 (length p - 2))
+  pub at-lines : LinesAsk s d w stack free 0 at (free + tableWords) (linesFrom doc k 2 (length p - 2))
   at-lines = text-lines s d w stack at free k (predAt doc x) (linesFrom doc k 2 (length p - 2)) ask
 
-  module _ (global : Bool) {s₁ w₁ : List ℕ} {number place m at₁ : ℕ} (L : LinesDone s s₁ d w w₁ stack free 0 at (free + 64) (linesFrom doc k 2 (length p - 2)) global number place m at₁) where
+  module _ (global : Bool) {s₁ w₁ : List ℕ} {number place m at₁ : ℕ} (L : LinesDone s s₁ d w w₁ stack free 0 at (free + tableWords) (linesFrom doc k 2 (length p - 2)) global number place m at₁) where
     pub at-lines-stopped : (number ≡ 0 → ⊥) → (count end : ℕ) → TextDone s s₁ d w w₁ stack at free (textAt doc k) global number place count end
     at-lines-stopped n count end =
         subst (λ t. TextDone s s₁ d w w₁ stack at free t global number place count end) (sym tree)
@@ -55,10 +55,10 @@ module _ {doc : List ℕ} {k : ℕ} (B : At doc texts k) {s d w : List ℕ} {sta
       at-push = push-ask s d w stack at free k (predAt doc x) (linesFrom doc k 2 (length p - 2)) ask global s₁ w₁ number place m at₁ L fine
 
       module _ {w₂ : List ℕ} {r : ℕ} (Z : Pushed w₁ w₂ 0 stack (rows w₁ free m) r) where
-        pub at-text-body : Lower doc k predicates x × PredAsk s₁ d w₂ (stack + m) at₁ (free + 64) (predAt doc x)
+        pub at-text-body : Lower doc k predicates x × PredAsk s₁ d w₂ (stack + m) at₁ (free + tableWords) (predAt doc x)
         at-text-body = (laid .first, text-body s d w stack at free k (predAt doc x) (linesFrom doc k 2 (length p - 2)) ask global s₁ w₁ number place m at₁ L fine w₂ r Z)
 
-        module _ {s₂ w₃ : List ℕ} {number₂ place₂ : ℕ} (Q : PredDone s₁ s₂ d w₂ w₃ (stack + m) at₁ (free + 64) (predAt doc x) number₂ place₂) where
+        module _ {s₂ w₃ : List ℕ} {number₂ place₂ : ℕ} (Q : PredDone s₁ s₂ d w₂ w₃ (stack + m) at₁ (free + tableWords) (predAt doc x) number₂ place₂) where
           pub at-text-refused : (number₂ ≡ 0 → ⊥) → (count end : ℕ) → TextDone s s₂ d w w₃ stack at free (textAt doc k) global number₂ place₂ count end
           at-text-refused n count end =
               subst (λ t. TextDone s s₂ d w w₃ stack at free t global number₂ place₂ count end) (sym tree)

@@ -14,10 +14,12 @@ use Rattle.reader_rules.proofs.TreeExpr.{expr-number, expr-integers, expr-theta
 use Rattle.reader_rules.proofs.TreeWords.{theta-words}
 use Rattle.types_solver.specs.Written.{Wrote}
 use Rattle.types_instances.specs.Moved.{saved, restored}
+use Rattle.checker_pieces.specs.Stage.{nodeCells}
 use Rattle.checker_pieces.specs.Building.{Building}
 use Rattle.checker_kinds.specs.Formers.{Listed, Derived, comprehensionItems, numberItems, integersItems}
 use Rattle.checker_lookup.specs.Bindings.{SchemaSetAsked, SchemaSetTyped}
 use Rattle.checker_lookup.specs.Thetas.{ThetaAsked, ThetaRuled}
+use Rattle.checker_contracts.specs.Room.{framesAt}
 use Rattle.checker_contracts.specs.Expressions.{Visiting, ExprAsk, ExprDone}
 use Rattle.checker_contracts.specs.Texts.{TextAsk, TextDone}
 use Rattle.checker_contracts.specs.Includes.{BringsAsk, BringsDone}
@@ -30,6 +32,7 @@ use Rattle.checker_contracts.proofs.SchemaSets.{sset-save-asked, sset-include-a
 use Rattle.checker_closing.specs.Nodes.{Node, VisitAt}
 use Rattle.checker_closing.specs.declared.results.Visit.{Visit}
 use Rattle.checker_nodes.proofs.ExprNodes.{visit-done, node-word}
+use Rattle.types_cells.specs.Layout.{firstRun, frozenSize, areaSize, maxCells}
 
 -- COMPREHENSION: the Text at node t, the body at node b.
 pub record ComprNode (doc : List ℕ) (k t b : ℕ) : Type 0 where
@@ -46,7 +49,7 @@ module _ {doc s d w : List ℕ} {rows n top at free k t b : ℕ} (O : ComprNode 
   compr : ExprAsk s d w rows n top at free (comprehension k (textAt doc t) (exprAt doc b))
   compr = subst (ExprAsk s d w rows n top at free) (O .tree) K
 
-  pub compr-save : (length s ≡ 52224) × (n ≤ 1024) × (4096 ≤ top) × (top ≤ 6144) × (free < 2 ^ 39)
+  pub compr-save : (length s ≡ areaSize) × (n ≤ maxCells) × (firstRun ≤ top) × (top ≤ frozenSize) × (free < 2 ^ 39)
   compr-save = compr-save-asked s d w rows n top at free k (textAt doc t) (exprAt doc b) compr
 
   module _ {w₁ : List ℕ} {e : ℕ} (S : Wrote w w₁ free e (saved s n top)) where
@@ -59,11 +62,11 @@ module _ {doc s d w : List ℕ} {rows n top at free k t b : ℕ} (O : ComprNode 
       compr-stop ne A = visit-done A (rw (O .tree) (compr-text-stops s d w rows n top at free k (textAt doc t) (exprAt doc b) compr w₁ e S s₁ w₂ number place m at₁ T ne 0 0 0 0))
 
       module _ (z : number ≡ 0) where
-        pub compr-restore : (n ≤ 1024) × (4096 ≤ top) × (top ≤ 6144) × (free < 2 ^ 39) × (free + (5 * n + (top - 4096)) ≤ length w₂)
+        pub compr-restore : (n ≤ maxCells) × (firstRun ≤ top) × (top ≤ frozenSize) × (free < 2 ^ 39) × (free + (5 * n + (top - firstRun)) ≤ length w₂)
         compr-restore = compr-restore-asked s d w rows n top at free k (textAt doc t) (exprAt doc b) compr w₁ e S s₁ w₂ number place m at₁ T z
 
         -- rows of the scope are few
-        pub compr-rows : rows + m ≤ 512
+        pub compr-rows : rows + m ≤ framesAt
         compr-rows = let a = compr .visiting .room .stack in let c = T .done .areas z .few in omega arith
 
         module _ {s₂ : List ℕ} (R : s₂ ≡ restored s₁ n top w₂ free) where
@@ -77,10 +80,10 @@ module _ {doc s d w : List ℕ} {rows n top at free k t b : ℕ} (O : ComprNode 
                 (compr-body-stops s d w rows n top at free k (textAt doc t) (exprAt doc b) compr w₁ e S s₁ w₂ number place m at₁ T z s₂ R s₃ w₃ number₂ place₂ x n₃ top₃ at₃ E ne x)
 
             module _ (z₂ : number₂ ≡ 0) where
-              pub compr-rule : (r : ℕ) → r ≤ 80 → Building s₃ n₃ top₃ r (x ∷ [])
+              pub compr-rule : (r : ℕ) → r ≤ 2 * nodeCells → Building s₃ n₃ top₃ r (x ∷ [])
               compr-rule r q = compr-building s d w rows n top at free k (textAt doc t) (exprAt doc b) compr w₁ e S s₁ w₂ number place m at₁ T z s₂ R s₃ w₃ number₂ place₂ x n₃ top₃ at₃ E z₂ r q
 
-              pub compr-end : {s₄ : List ℕ} {answer cell n₄ top₄ used : ℕ} {r : Visit} → used ≤ 40 → length s₄ ≡ length s₃ → Derived s₃ s₄ d n₃ top₃ x answer cell n₄ top₄ used comprehensionItems →
+              pub compr-end : {s₄ : List ℕ} {answer cell n₄ top₄ used : ℕ} {r : Visit} → used ≤ nodeCells → length s₄ ≡ length s₃ → Derived s₃ s₄ d n₃ top₃ x answer cell n₄ top₄ used comprehensionItems →
                   VisitAt r answer k cell n₄ top₄ at₃ → ExprDone s s₄ d w w₃ rows n top at free (exprAt doc k) (r .number) (r .place) (r .cell) (r .cells) (r .top) (r .at)
               compr-end {s₄} {answer} {cell} {n₄} {top₄} {used} few size D A =
                   visit-done A
@@ -99,7 +102,7 @@ module _ {doc s d w : List ℕ} {rows n top at free k i : ℕ} (O : SsetNode doc
   sset : ExprAsk s d w rows n top at free (schemaSet k (includeAt doc i))
   sset = subst (ExprAsk s d w rows n top at free) (O .tree) K
 
-  pub sset-save : (length s ≡ 52224) × (n ≤ 1024) × (4096 ≤ top) × (top ≤ 6144) × (free < 2 ^ 39)
+  pub sset-save : (length s ≡ areaSize) × (n ≤ maxCells) × (firstRun ≤ top) × (top ≤ frozenSize) × (free < 2 ^ 39)
   sset-save = sset-save-asked s d w rows n top at free k (includeAt doc i) sset
 
   module _ {w₁ : List ℕ} {e : ℕ} (S : Wrote w w₁ free e (saved s n top)) where
@@ -112,7 +115,7 @@ module _ {doc s d w : List ℕ} {rows n top at free k i : ℕ} (O : SsetNode doc
       sset-stop ne A = visit-done A (rw (O .tree) (sset-include-stops s d w rows n top at free k (includeAt doc i) sset w₁ e S s₁ w₂ number place m at₁ T ne 0 0 0 0))
 
       module _ (z : number ≡ 0) where
-        pub sset-restore : (n ≤ 1024) × (4096 ≤ top) × (top ≤ 6144) × (free < 2 ^ 39) × (free + (5 * n + (top - 4096)) ≤ length w₂)
+        pub sset-restore : (n ≤ maxCells) × (firstRun ≤ top) × (top ≤ frozenSize) × (free < 2 ^ 39) × (free + (5 * n + (top - firstRun)) ≤ length w₂)
         sset-restore = sset-restore-asked s d w rows n top at free k (includeAt doc i) sset w₁ e S s₁ w₂ number place m at₁ T z
 
         module _ {s₂ : List ℕ} (R : s₂ ≡ restored s₁ n top w₂ free) where
@@ -130,10 +133,10 @@ module _ {doc s d w : List ℕ} {rows n top at free k : ℕ} (N : At doc express
     number-ask : ExprAsk s d w rows n top at free (number k (operandAt doc k 1))
     number-ask = subst (ExprAsk s d w rows n top at free) (expr-number doc k N q) K
 
-    pub number-rule : (r : ℕ) → r ≤ 80 → Building s n top r []
+    pub number-rule : (r : ℕ) → r ≤ 2 * nodeCells → Building s n top r []
     number-rule r p = alone-building s d w rows n top at free (number k (operandAt doc k 1)) k _ (number-alone k (operandAt doc k 1)) number-ask r p
 
-    pub number-end : {s₁ : List ℕ} {answer cell n₁ top₁ used : ℕ} {r : Visit} → used ≤ 40 → length s₁ ≡ length s → Listed s s₁ d n top [] answer cell n₁ top₁ used numberItems →
+    pub number-end : {s₁ : List ℕ} {answer cell n₁ top₁ used : ℕ} {r : Visit} → used ≤ nodeCells → length s₁ ≡ length s → Listed s s₁ d n top [] answer cell n₁ top₁ used numberItems →
         VisitAt r answer k cell n₁ top₁ at → ExprDone s s₁ d w w rows n top at free (exprAt doc k) (r .number) (r .place) (r .cell) (r .cells) (r .top) (r .at)
     number-end {s₁} {answer} {cell} {n₁} {top₁} {used} few size R A =
         visit-done A
@@ -146,10 +149,10 @@ module _ {doc s d w : List ℕ} {rows n top at free k : ℕ} (N : At doc express
     integers-ask : ExprAsk s d w rows n top at free (integers k)
     integers-ask = subst (ExprAsk s d w rows n top at free) (expr-integers doc k N q) K
 
-    pub integers-rule : (r : ℕ) → r ≤ 80 → Building s n top r []
+    pub integers-rule : (r : ℕ) → r ≤ 2 * nodeCells → Building s n top r []
     integers-rule r p = alone-building s d w rows n top at free (integers k) k _ (integers-alone k) integers-ask r p
 
-    pub integers-end : {s₁ : List ℕ} {answer cell n₁ top₁ used : ℕ} {r : Visit} → used ≤ 40 → length s₁ ≡ length s → Listed s s₁ d n top [] answer cell n₁ top₁ used integersItems →
+    pub integers-end : {s₁ : List ℕ} {answer cell n₁ top₁ used : ℕ} {r : Visit} → used ≤ nodeCells → length s₁ ≡ length s → Listed s s₁ d n top [] answer cell n₁ top₁ used integersItems →
         VisitAt r answer k cell n₁ top₁ at → ExprDone s s₁ d w w rows n top at free (exprAt doc k) (r .number) (r .place) (r .cell) (r .cells) (r .top) (r .at)
     integers-end {s₁} {answer} {cell} {n₁} {top₁} {used} few size R A =
         visit-done A
@@ -177,5 +180,5 @@ module _ {doc s d w : List ℕ} {rows n top at free k : ℕ} (N : At doc express
         visit-done A
         (rw theta-tree
         (alone-done s d w rows n top at free (theta k id stroke) k _ (theta-alone k id stroke) theta-ask s₁ w₁ answer k cell n₁ top₁ at
-        (theta-ending s s₁ d w rows n top at free k answer cell n₁ top₁ 40 size (alone-low s d w rows n top at free (theta k id stroke) k _ (theta-alone k id stroke) theta-ask)
+        (theta-ending s s₁ d w rows n top at free k answer cell n₁ top₁ nodeCells size (alone-low s d w rows n top at free (theta k id stroke) k _ (theta-alone k id stroke) theta-ask)
         (theta-ask .visiting .clean) w₁ id stroke R same (theta-asked .below))))

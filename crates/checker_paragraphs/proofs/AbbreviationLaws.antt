@@ -12,6 +12,7 @@ use Rattle.checker_entries.proofs.Writing.{small-words}
 use Rattle.checker_closing.specs.Nodes.{LinedAt}
 use Rattle.checker_closing.specs.declared.results.Lined.{Lined}
 use Rattle.checker_paragraphs.specs.Abbreviations.{TypeAsk, TypeFine, TypeFound, several, clash, large, none, Entered, AbbreviatedTold, unvisited, refused}
+use Rattle.checker_contracts.specs.Room.{entriesAt}
 
 pub words-end : {s d out out′ : List ℕ} {n c at e : ℕ} → Wording s d n c at → WordsAre s d out out′ n c at e → (at ≤ e) × (e ≤ at + 95)
 words-end {s} {d} {out} {out′} {n} {c} B W = let q = W (B .sizing .ghost) (B .sizing .shut) .end in let l = small-words (B .sizing .shut .type c) (B .small) in (omega arith, omega arith)
@@ -57,7 +58,7 @@ module _ {s d w p : List ℕ} {k q number₀ place₀ c n end : ℕ} {r : Lined}
   told-refused {s′} {f} z F ne L =
       refused z (λ e. ne (sym (L .number-is) ∙ e)) (L .place-is) (subst (TypeFound s s′ d n c (drop 0 (take 1 (drop 1 p)))) (sym (L .number-is)) F) refl
 
-pub entry-made : {s s′ d w w′ : List ℕ} {n c name q end : ℕ} (w₁ : List ℕ) (last : ℕ) {id : ℕ} → WordsAre s d w w₁ n c 1028 last → id ≡ name →
-    w′ ≡ sets w₁ 1024 ((last - 1024 - 1) ∷ 1 ∷ id ∷ q ∷ []) → s′ ≡ sets s 1 (replicate (end - 1) 0) → Entered s s′ d w w′ n c name q end
+pub entry-made : {s s′ d w w′ : List ℕ} {n c name q end : ℕ} (w₁ : List ℕ) (last : ℕ) {id : ℕ} → WordsAre s d w w₁ n c (entriesAt + 4) last → id ≡ name →
+    w′ ≡ sets w₁ entriesAt ((last - entriesAt - 1) ∷ 1 ∷ id ∷ q ∷ []) → s′ ≡ sets s 1 (replicate (end - 1) 0) → Entered s s′ d w w′ n c name q end
 entry-made {q = q} w₁ last W e h z =
-    record { between = w₁; last = last; words = W; head = h ∙ ap (λ j. sets w₁ 1024 ((last - 1024 - 1) ∷ 1 ∷ j ∷ q ∷ [])) e; wiped = z }
+    record { between = w₁; last = last; words = W; head = h ∙ ap (λ j. sets w₁ entriesAt ((last - entriesAt - 1) ∷ 1 ∷ j ∷ q ∷ [])) e; wiped = z }

@@ -15,6 +15,7 @@ use Rattle.reader_rules.specs.Promise.{At}
 use Rattle.reader_rules.specs.Tree.{abbreviation}
 use Rattle.reader_rules.proofs.TreeParagraph.{Defined, paragraph-abbreviation}
 use Rattle.checker_merging.specs.Merging.{NewTold}
+use Rattle.checker_contracts.specs.Room.{framesAt, entriesAt}
 use Rattle.checker_contracts.specs.Expressions.{ExprAsk, ExprDone}
 use Rattle.checker_contracts.specs.Paragraphs.{ParagraphAsk, ParagraphDone}
 use Rattle.checker_entries.specs.Parameters.{ParametersAsk, ParametersPushed}
@@ -22,6 +23,7 @@ use Rattle.checker_entries.proofs.Abbreviation.{expr-asked, expr-stopped, closi
 use Rattle.checker_closing.specs.Nodes.{Node}
 use Rattle.checker_paragraphs.specs.Abbreviations.{TypeFine, TypeFound, several, clash, large, none, Entered, AbbreviatedAsk, AbbreviatedTold, unvisited, refused, entered}
 use Rattle.checker_paragraphs.proofs.Defined.{anywhere}
+use Rattle.types_cells.specs.Layout.{firstRun}
 
 module _ {doc p : List ℕ} {k : ℕ} (N : Node doc p paragraphs k) {s d w : List ℕ} (A : ParagraphAsk s d w (paragraphAt doc k)) {n : ℕ} (en : n ≡ getD p 2 0) (q : kindAt doc k ≡ 5) where
   five : Defined doc k expressions n (operandAt doc k (n + 3)) (paragraphAt doc k ≡ abbreviation k (operandAt doc k 1) (take n (drop 3 (part doc k))) (exprAt doc (operandAt doc k (n + 3))))
@@ -57,10 +59,10 @@ module _ {doc p : List ℕ} {k : ℕ} (N : Node doc p paragraphs k) {s d w : Lis
         ∙ ap (λ z. abbreviation k (getD p 1 0) ps (exprAt doc z)) (sym body-is)
 
     module _ {s₁ w₁ : List ℕ} {at₁ : ℕ} (P : ParametersPushed s s₁ w w₁ ps 0 n at₁) where
-      pub expr-ask : At doc expressions x × ExprAsk s₁ d w₁ n 0 4096 at₁ 512 (exprAt doc x)
+      pub expr-ask : At doc expressions x × ExprAsk s₁ d w₁ n 0 firstRun at₁ framesAt (exprAt doc x)
       expr-ask = (subst (At doc expressions) (sym body-is) (five .body .at), expr-asked s d w (paragraphAt doc k) k (getD p 1 0) ps (exprAt doc x) tree A s₁ w₁ n at₁ P (five .few))
 
-      module _ {s₂ w₂ : List ℕ} {number place cell n′ top′ at₂ : ℕ} (T : ExprDone s₁ s₂ d w₁ w₂ n 0 4096 at₁ 512 (exprAt doc x) number place cell n′ top′ at₂) where
+      module _ {s₂ w₂ : List ℕ} {number place cell n′ top′ at₂ : ℕ} (T : ExprDone s₁ s₂ d w₁ w₂ n 0 firstRun at₁ framesAt (exprAt doc x) number place cell n′ top′ at₂) where
         -- its identifier
         own : {b : Bool} → NewTold d (drop 0 (take 1 (drop 1 p))) b → NewTold d (getD p 1 0 ∷ []) b
         own {b} = subst (λ z. NewTold d z b) (own-name (take 1 (drop 1 p)) refl)
@@ -100,11 +102,11 @@ module _ {doc p : List ℕ} {k : ℕ} (N : Node doc p paragraphs k) {s d w : Lis
             (too-large s d w (paragraphAt doc k) k (getD p 1 0) ps (exprAt doc x) tree A s₁ w₁ n at₁ P (five .few) s₂ w₂ number place cell n′ top′ at₂ T fine s₃ C (own M) v Z l at count)
         type-told fine ne (none e F) = absurd (ne e)
 
-        entry-told : number ≡ 0 → {s₃ s₄ w₃ : List ℕ} → TypeFine s₂ s₃ d n′ cell (drop 0 (take 1 (drop 1 p))) → Entered s₃ s₄ d w₂ w₃ n′ cell (getD p 1 0) n at₂ → Done s₄ w₃ 0 k 1024 1
+        entry-told : number ≡ 0 → {s₃ s₄ w₃ : List ℕ} → TypeFine s₂ s₃ d n′ cell (drop 0 (take 1 (drop 1 p))) → Entered s₃ s₄ d w₂ w₃ n′ cell (getD p 1 0) n at₂ → Done s₄ w₃ 0 k entriesAt 1
         entry-told fine {s₃} {s₄} {w₃} F E =
             anywhere
             (abbreviation-done s d w (paragraphAt doc k) k (getD p 1 0) ps (exprAt doc x) tree A s₁ w₁ n at₁ P (five .few) s₂ w₂ number place cell n′ top′ at₂ T fine s₃ (F .closed) (own (F .new))
-            (F .size) (F .size-is) (F .small) (F .same) s₄ (E .between) w₃ (E .last) (E .last - 1024 - 1) given-count (E .wiped) (E .words) refl (E .head))
+            (F .size) (F .size-is) (F .small) (F .same) s₄ (E .between) w₃ (E .last) (E .last - entriesAt - 1) given-count (E .wiped) (E .words) refl (E .head))
 
         pub abbreviation-told : {s₃ w₃ : List ℕ} {f y count at : ℕ} → AbbreviatedTold s₂ s₃ d w₂ w₃ p k n number place cell n′ at₂ f y count at →
             ParagraphDone s s₃ d w w₃ (paragraphAt doc k) f y at count
@@ -116,4 +118,4 @@ module _ {doc p : List ℕ} {k : ℕ} (N : Node doc p paragraphs k) {s d w : Lis
             subst (λ z. Done s₃ z f y at count) (sym b) (subst (λ z. Done s₃ w₂ f z at count) (sym h) (type-told fine ne F))
         abbreviation-told {s₃} {w₃} {f} {y} {count} {at} (entered fine e h c a s₄ F E) =
             subst (λ z. Done s₃ w₃ z y at count) (sym e) (subst (λ z. Done s₃ w₃ 0 z at count) (sym h)
-            (subst (λ z. Done s₃ w₃ 0 k z count) (sym a) (subst (λ z. Done s₃ w₃ 0 k 1024 z) (sym c) (entry-told fine F E))))
+            (subst (λ z. Done s₃ w₃ 0 k z count) (sym a) (subst (λ z. Done s₃ w₃ 0 k entriesAt z) (sym c) (entry-told fine F E))))

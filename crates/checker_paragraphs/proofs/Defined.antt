@@ -21,6 +21,7 @@ use Rattle.types_solver.specs.Written.{Wrote}
 use Rattle.checker_signatures.specs.Rows.{rows}
 use Rattle.checker_merging.specs.Merging.{NewTold}
 use Rattle.checker_pieces.specs.Closed.{Closing, Closed, Sizing, SizeIs, Wording, WordsAre}
+use Rattle.checker_contracts.specs.Room.{framesAt, entriesAt}
 use Rattle.checker_contracts.specs.Expressions.{ExprAsk, ExprDone}
 use Rattle.checker_contracts.specs.Paragraphs.{ParagraphAsk, ParagraphDone}
 use Rattle.checker_contracts.specs.Schemas.{SchemaAsk, SchemaDone}
@@ -74,15 +75,15 @@ module _ {doc p : List ℕ} {k : ℕ} (N : Node doc p paragraphs k) {s d w : Lis
           ∙ ap (λ z. schema k name ps (schemaAt doc z)) (sym body-is)
 
       module _ {s₁ w₁ : List ℕ} {at₁ : ℕ} (P : ParametersPushed s s₁ w w₁ ps 0 n at₁) where
-        pub schema-ask : At doc schemaExpressions x × SchemaAsk s₁ d w₁ n at₁ 512 (schemaAt doc x)
+        pub schema-ask : At doc schemaExpressions x × SchemaAsk s₁ d w₁ n at₁ framesAt (schemaAt doc x)
         schema-ask = (subst (At doc schemaExpressions) (sym body-is) (four .body .at), schema-asked s d w (paragraphAt doc k) k name ps (schemaAt doc x) tree A s₁ w₁ n at₁ P (four .few))
 
-        module _ {s₂ w₂ : List ℕ} {number place m at₂ : ℕ} (T : SchemaDone s₁ s₂ d w₁ w₂ n at₁ 512 (schemaAt doc x) number place m at₂) where
+        module _ {s₂ w₂ : List ℕ} {number place m at₂ : ℕ} (T : SchemaDone s₁ s₂ d w₁ w₂ n at₁ framesAt (schemaAt doc x) number place m at₂) where
           pub schema-stops : (number ≡ 0 → ⊥) → (at count : ℕ) → ParagraphDone s s₂ d w w₂ (paragraphAt doc k) number place at count
           schema-stops z = schema-stopped s d w (paragraphAt doc k) k name ps (schemaAt doc x) tree A s₁ w₁ n at₁ P (four .few) s₂ w₂ number place m at₂ T z
 
           module _ (fine : number ≡ 0) where
-            pub schema-rows : TableAsk s₂ d w₂ 512 m 1030
+            pub schema-rows : TableAsk s₂ d w₂ framesAt m (entriesAt + 6)
             schema-rows = schema-table s d w (paragraphAt doc k) k name ps (schemaAt doc x) tree A s₁ w₁ n at₁ P (four .few) s₂ w₂ number place m at₂ T fine
 
             pub schema-low : m ≤ 16
@@ -91,7 +92,7 @@ module _ {doc p : List ℕ} {k : ℕ} (N : Node doc p paragraphs k) {s d w : Lis
             pub schema-end : at₂ < 2 ^ 40
             schema-end = let o = P .place in let f = four .few in let z = T .done .areas fine .short in let y = T .done .areas fine .few in omega arith
 
-            pub schema-told : {s₃ w₃ : List ℕ} {end : ℕ} {r : Lined} → ((gs : Tys) → TypesAt (heap s₂ d) (rows w₂ 512 m) gs → Wrote w₂ w₃ 1024 end (entryWaits (schemaOf name n (rows w₂ 512 m) gs))) →
-                s₃ ≡ sets s₂ 1 (replicate (at₂ - 1) 0) → LinedAt r 0 k 1 1024 → ParagraphDone s s₃ d w w₃ (paragraphAt doc k) (r .number) (r .place) (r .at) (r .count)
+            pub schema-told : {s₃ w₃ : List ℕ} {end : ℕ} {r : Lined} → ((gs : Tys) → TypesAt (heap s₂ d) (rows w₂ framesAt m) gs → Wrote w₂ w₃ entriesAt end (entryWaits (schemaOf name n (rows w₂ framesAt m) gs))) →
+                s₃ ≡ sets s₂ 1 (replicate (at₂ - 1) 0) → LinedAt r 0 k 1 entriesAt → ParagraphDone s s₃ d w w₃ (paragraphAt doc k) (r .number) (r .place) (r .at) (r .count)
             schema-told {s₃} {w₃} {end} W h L =
                 paragraph-told L (anywhere (schema-done s d w (paragraphAt doc k) k name ps (schemaAt doc x) tree A s₁ w₁ n at₁ P (four .few) s₂ w₂ number place m at₂ T fine s₃ w₃ end given-count h W))

@@ -21,6 +21,7 @@ use Rattle.types_solver.specs.Written.{Wrote}
 use Rattle.checker_signatures.specs.Rows.{rows}
 use Rattle.checker_dictionary.specs.Waiting.{waiting}
 use Rattle.checker_merging.specs.Merging.{NewTold}
+use Rattle.checker_contracts.specs.Room.{framesAt, entriesAt}
 use Rattle.checker_contracts.specs.Paragraphs.{ParagraphAsk, ParagraphDone}
 use Rattle.checker_contracts.specs.Predicates.{PredAsk, PredDone}
 use Rattle.checker_contracts.specs.Texts.{TextAsk, TextDone}
@@ -77,10 +78,10 @@ module _ {doc p : List ℕ} {k : ℕ} (N : Node doc p paragraphs k) {s d w : Lis
     six : One doc k predicates x (paragraphAt doc k ≡ constraint k (predAt doc x))
     six = paragraph-constraint doc k (N .at) q x (ex ∙ ap (λ z. getD z 1 0) (N .words))
 
-    pub constraint-ask : At doc predicates x × PredAsk s d w 0 1 512 (predAt doc x)
+    pub constraint-ask : At doc predicates x × PredAsk s d w 0 1 framesAt (predAt doc x)
     constraint-ask = (six .first .at, constraint-asked s d w (paragraphAt doc k) k (predAt doc x) (six .tree) A)
 
-    pub constraint-told : {s′ w′ : List ℕ} {number place : ℕ} {r : Lined} → PredDone s s′ d w w′ 0 1 512 (predAt doc x) number place → LinedAt r number place 0 0 →
+    pub constraint-told : {s′ w′ : List ℕ} {number place : ℕ} {r : Lined} → PredDone s s′ d w w′ 0 1 framesAt (predAt doc x) number place → LinedAt r number place 0 0 →
         ParagraphDone s s′ d w w′ (paragraphAt doc k) (r .number) (r .place) (r .at) (r .count)
     constraint-told {s′} {w′} {number} {place} P L = paragraph-told L (constraint-done s d w (paragraphAt doc k) k (predAt doc x) (six .tree) s′ w′ number place 0 P)
 
@@ -89,29 +90,29 @@ module _ {doc p : List ℕ} {k : ℕ} (N : Node doc p paragraphs k) {s d w : Lis
     three : One doc k texts x (paragraphAt doc k ≡ axiomatic k (textAt doc x))
     three = paragraph-axiomatic doc k (N .at) q x (ex ∙ ap (λ z. getD z 1 0) (N .words))
 
-    pub axiom-ask : At doc texts x × TextAsk s d w 0 1 512 (textAt doc x)
+    pub axiom-ask : At doc texts x × TextAsk s d w 0 1 framesAt (textAt doc x)
     axiom-ask = (three .first .at, axiom-asked s d w (paragraphAt doc k) k (textAt doc x) (three .tree) A)
 
-    module _ {s′ w′ : List ℕ} {number place m at′ : ℕ} (T : TextDone s s′ d w w′ 0 1 512 (textAt doc x) true number place m at′) where
+    module _ {s′ w′ : List ℕ} {number place m at′ : ℕ} (T : TextDone s s′ d w w′ 0 1 framesAt (textAt doc x) true number place m at′) where
       pub axiom-stops : (number ≡ 0 → ⊥) → (at count : ℕ) → ParagraphDone s s′ d w w′ (paragraphAt doc k) number place at count
       axiom-stops z = axiom-stopped s d w (paragraphAt doc k) k (textAt doc x) (three .tree) s′ w′ number place m at′ T z
 
       module _ (fine : number ≡ 0) where
-        pub axiom-rows : TableAsk s′ d w′ 512 m 1024
+        pub axiom-rows : TableAsk s′ d w′ framesAt m entriesAt
         axiom-rows = axiom-table s d w (paragraphAt doc k) k (textAt doc x) (three .tree) s′ w′ number place m at′ T A fine
 
         pub axiom-end : at′ < 2 ^ 40
         axiom-end = let z = T .done .areas fine .short in let y = T .done .areas fine .few in omega arith
 
         pub axiom-told : {s″ w″ : List ℕ} {end : ℕ} {r : Lined} →
-            ((gs : Tys) → TypesAt (heap s′ d) (rows w′ 512 m) gs → Wrote w′ w″ 1024 end (waiting (nameEntries (rows w′ 512 m) gs))) → s″ ≡ sets s′ 1 (replicate (at′ - 1) 0) →
-            LinedAt r 0 k m 1024 → ParagraphDone s s″ d w w″ (paragraphAt doc k) (r .number) (r .place) (r .at) (r .count)
+            ((gs : Tys) → TypesAt (heap s′ d) (rows w′ framesAt m) gs → Wrote w′ w″ entriesAt end (waiting (nameEntries (rows w′ framesAt m) gs))) → s″ ≡ sets s′ 1 (replicate (at′ - 1) 0) →
+            LinedAt r 0 k m entriesAt → ParagraphDone s s″ d w w″ (paragraphAt doc k) (r .number) (r .place) (r .at) (r .count)
         axiom-told {s″} {w″} {end} W h L = paragraph-told L (replaced k)
           where
-            replaced : (y : ℕ) → ParagraphDone s s″ d w w″ (paragraphAt doc k) 0 y 1024 m
+            replaced : (y : ℕ) → ParagraphDone s s″ d w w″ (paragraphAt doc k) 0 y entriesAt m
             replaced y = moved (axiom-done s d w (paragraphAt doc k) k (textAt doc x) (three .tree) s′ w′ number place m at′ T A fine s″ w″ end h W)
               where
-                moved : ParagraphDone s s″ d w w″ (paragraphAt doc k) 0 place 1024 m → ParagraphDone s s″ d w w″ (paragraphAt doc k) 0 y 1024 m
+                moved : ParagraphDone s s″ d w w″ (paragraphAt doc k) 0 place entriesAt m → ParagraphDone s s″ d w w″ (paragraphAt doc k) 0 y entriesAt m
                 moved D = record { size = D .size; low = D .low; goes = D .goes; stops = λ z. absurd (z refl) }
 
   -- 2
@@ -133,12 +134,12 @@ module _ {doc p : List ℕ} {k : ℕ} (N : Node doc p paragraphs k) {s d w : Lis
     pub given-clashes : {b : Bool} {r : Lined} → NewTold d (drop 1 p) b → b ≡ false → LinedAt r 36 k 0 0 → ParagraphDone s s d w w (paragraphAt doc k) (r .number) (r .place) (r .at) (r .count)
     given-clashes {b} T e L = paragraph-told L (given-clash s d w (paragraphAt doc k) k (drop 1 p) two (subst (NewTold d (drop 1 p)) e T) 0 0)
 
-    pub given-told : {b : Bool} {w′ : List ℕ} {end : ℕ} {r : Lined} → NewTold d (drop 1 p) b → b ≡ true → Wrote w w′ 1024 end (waiting (givenEntries (drop 1 p))) →
-        LinedAt r 0 k (length p - 1) 1024 → ParagraphDone s s d w w′ (paragraphAt doc k) (r .number) (r .place) (r .at) (r .count)
+    pub given-told : {b : Bool} {w′ : List ℕ} {end : ℕ} {r : Lined} → NewTold d (drop 1 p) b → b ≡ true → Wrote w w′ entriesAt end (waiting (givenEntries (drop 1 p))) →
+        LinedAt r 0 k (length p - 1) entriesAt → ParagraphDone s s d w w′ (paragraphAt doc k) (r .number) (r .place) (r .at) (r .count)
     given-told {b} {w′} {end} {r} T e W L =
         let l = length-drop 1 p in
         let z = given-short in
         let v = A .wide in
         paragraph-told L
-        (subst (λ j. ParagraphDone s s d w w′ (paragraphAt doc k) 0 k 1024 j) (length-drop 1 p)
-        (given-done s d w (paragraphAt doc k) k (drop 1 p) two (subst (NewTold d (drop 1 p)) e T) w′ k 1024 end (omega arith) (omega arith) W))
+        (subst (λ j. ParagraphDone s s d w w′ (paragraphAt doc k) 0 k entriesAt j) (length-drop 1 p)
+        (given-done s d w (paragraphAt doc k) k (drop 1 p) two (subst (NewTold d (drop 1 p)) e T) w′ k entriesAt end (omega arith) (omega arith) W))

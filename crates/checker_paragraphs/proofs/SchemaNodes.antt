@@ -15,9 +15,10 @@ use Rattle.reader_rules.specs.Decode.{schemaAt, textAt, includeAt}
 use Rattle.reader_rules.proofs.TreeShape.{Two}
 use Rattle.reader_rules.proofs.TreeText.{schema-kinds, schema-both, schema-plain, schema-from, as-text, as-include}
 use Rattle.checker_signatures.specs.Rows.{rows, mergeRows}
-use Rattle.checker_signatures.specs.Tables.{Table, Beside}
+use Rattle.checker_signatures.specs.Tables.{Table, Beside, tableWords}
 use Rattle.checker_merging.specs.Merging.{RowsTold}
 use Rattle.checker_includes.specs.Storing.{KeepAsk, RowsKept}
+use Rattle.checker_contracts.specs.Room.{frameWords}
 use Rattle.checker_contracts.specs.Joining.{JoinAsk, Joined}
 use Rattle.checker_contracts.specs.Schemas.{SchemaAsk, SchemaDone}
 use Rattle.checker_contracts.specs.Texts.{TextAsk, TextDone}
@@ -30,15 +31,15 @@ use Rattle.checker_closing.specs.declared.results.Lined.{Lined}
 
 -- A CONJUNCTION'S ROWS.
 module _ (s d w : List ℕ) (free m n at end k : ℕ) where
-  pub join-clash : (b : Bool) → RowsTold s d w free m (free + 64) n b → b ≡ false → (r : Lined) → LinedAt r 36 k 0 0 → Joined s s d w w free m n at end k (r .number) (r .place) (r .count) (r .at)
+  pub join-clash : (b : Bool) → RowsTold s d w free m (free + tableWords) n b → b ≡ false → (r : Lined) → LinedAt r 36 k 0 0 → Joined s s d w w free m n at end k (r .number) (r .place) (r .count) (r .at)
   join-clash b T e r L =
-      record { place-is = L .place-is; found = inl (record { number-is = L .number-is; told = subst (RowsTold s d w free m (free + 64) n) e T; still = refl; same = refl }) }
+      record { place-is = L .place-is; found = inl (record { number-is = L .number-is; told = subst (RowsTold s d w free m (free + tableWords) n) e T; still = refl; same = refl }) }
 
-  pub keep-ready : (A : JoinAsk s d w free m n at end) (row : List ℕ) → row ≡ [] → (free′ : ℕ) → free′ ≡ free + 128 → KeepAsk s d w free m (free + 64) n row at end free′
-  keep-ready A row e free′ q = subst (λ z. KeepAsk s d w free m (free + 64) n row at end z) (sym q) (subst (λ z. KeepAsk s d w free m (free + 64) n z at end (free + 128)) (sym e) (A .keep))
+  pub keep-ready : (A : JoinAsk s d w free m n at end) (row : List ℕ) → row ≡ [] → (free′ : ℕ) → free′ ≡ free + frameWords → KeepAsk s d w free m (free + tableWords) n row at end free′
+  keep-ready A row e free′ q = subst (λ z. KeepAsk s d w free m (free + tableWords) n row at end z) (sym q) (subst (λ z. KeepAsk s d w free m (free + tableWords) n z at end (free + frameWords)) (sym e) (A .keep))
 
-  module _ (A : JoinAsk s d w free m n at end) (s′ w₁ row : List ℕ) (er : row ≡ []) (free′ last : ℕ) (ef : free′ ≡ free + 128) (K : RowsKept s s′ d w w₁ free m (free + 64) n row at end free′ last) where
-    pub merge-ready : Beside (length w₁) free (m + n) (free + 64) n
+  module _ (A : JoinAsk s d w free m n at end) (s′ w₁ row : List ℕ) (er : row ≡ []) (free′ last : ℕ) (ef : free′ ≡ free + frameWords) (K : RowsKept s s′ d w w₁ free m (free + tableWords) n row at end free′ last) where
+    pub merge-ready : Beside (length w₁) free (m + n) (free + tableWords) n
     merge-ready =
         let l = A .few in
         let q = A .keep .many in
@@ -46,15 +47,15 @@ module _ (s d w : List ℕ) (free m n at end k : ℕ) where
         let y = K .size in
         record { room = omega arith; inside = omega arith; apart = inl (omega arith) }
 
-    plain : RowsKept s s′ d w w₁ free m (free + 64) n [] at end (free + 128) last
-    plain = subst (λ z. RowsKept s s′ d w w₁ free m (free + 64) n z at end (free + 128) last) er (subst (λ z. RowsKept s s′ d w w₁ free m (free + 64) n row at end z last) ef K)
+    plain : RowsKept s s′ d w w₁ free m (free + tableWords) n [] at end (free + frameWords) last
+    plain = subst (λ z. RowsKept s s′ d w w₁ free m (free + tableWords) n z at end (free + frameWords) last) er (subst (λ z. RowsKept s s′ d w w₁ free m (free + tableWords) n row at end z last) ef K)
 
-    module _ (b : Bool) (T : RowsTold s d w free m (free + 64) n b) (eb : b ≡ true) (w₂ : List ℕ) (total : ℕ) (M : Table w₁ w₂ free (mergeRows (rows w₁ (free + 64) n) (rows w₁ free m)) total) (r : Lined) where
+    module _ (b : Bool) (T : RowsTold s d w free m (free + tableWords) n b) (eb : b ≡ true) (w₂ : List ℕ) (total : ℕ) (M : Table w₁ w₂ free (mergeRows (rows w₁ (free + tableWords) n) (rows w₁ free m)) total) (r : Lined) where
       pub join-many : 16 < total → LinedAt r 38 k 0 0 → Joined s s′ d w w₂ free m n at end k (r .number) (r .place) (r .count) (r .at)
       join-many l L = record {
         place-is = L .place-is;
         found = inr (record {
-          told = subst (RowsTold s d w free m (free + 64) n) eb T;
+          told = subst (RowsTold s d w free m (free + tableWords) n) eb T;
           between = w₁;
           last = last;
           kept = plain;
@@ -68,7 +69,7 @@ module _ (s d w : List ℕ) (free m n at end k : ℕ) where
       join-done l L = record {
         place-is = L .place-is;
         found = inr (record {
-          told = subst (RowsTold s d w free m (free + 64) n) eb T;
+          told = subst (RowsTold s d w free m (free + tableWords) n) eb T;
           between = w₁;
           last = last;
           kept = plain;
@@ -124,7 +125,7 @@ module _ (doc p : List ℕ) (k q : ℕ) (N : At doc schemaExpressions k) (ep : p
         SchemaDone s s′ d w w′ stack at free (schemaAt doc k) number place m at′
     back s′ w′ number place m at′ D = subst (λ z. SchemaDone s s′ d w w′ stack at free z number place m at′) (sym (operands .tree)) D
 
-    pub near : free + 64 < 100000
+    pub near : free + tableWords < 100000
     near = let z = A .walking .room .frames in omega arith
 
     module _ (x : ℕ) (ex : x ≡ getD p 1 0) where
@@ -157,13 +158,13 @@ module _ (doc p : List ℕ) (k q : ℕ) (N : At doc schemaExpressions k) (ep : p
           pub right-lower : y < k
           right-lower = subst (λ z. z < k) (sym second-is) (operands .right .below)
 
-          pub right-asked : SchemaAsk s₁ d w₁ stack at₁ (free + 64) (schemaAt doc y)
-          right-asked = subst (λ z. SchemaAsk s₁ d w₁ stack at₁ (free + 64) (schemaAt doc z)) (sym second-is)
+          pub right-asked : SchemaAsk s₁ d w₁ stack at₁ (free + tableWords) (schemaAt doc y)
+          right-asked = subst (λ z. SchemaAsk s₁ d w₁ stack at₁ (free + tableWords) (schemaAt doc z)) (sym second-is)
               (both-second s d w stack at free k (schemaAt doc x₀) (schemaAt doc y₀) A′ s₁ w₁ number place m at₁ P′ fine)
 
-          module _ (s₂ w₂ : List ℕ) (number′ place′ n at₂ : ℕ) (Q : SchemaDone s₁ s₂ d w₁ w₂ stack at₁ (free + 64) (schemaAt doc y) number′ place′ n at₂) where
-            Q′ : SchemaDone s₁ s₂ d w₁ w₂ stack at₁ (free + 64) (schemaAt doc y₀) number′ place′ n at₂
-            Q′ = subst (λ z. SchemaDone s₁ s₂ d w₁ w₂ stack at₁ (free + 64) (schemaAt doc z) number′ place′ n at₂) second-is Q
+          module _ (s₂ w₂ : List ℕ) (number′ place′ n at₂ : ℕ) (Q : SchemaDone s₁ s₂ d w₁ w₂ stack at₁ (free + tableWords) (schemaAt doc y) number′ place′ n at₂) where
+            Q′ : SchemaDone s₁ s₂ d w₁ w₂ stack at₁ (free + tableWords) (schemaAt doc y₀) number′ place′ n at₂
+            Q′ = subst (λ z. SchemaDone s₁ s₂ d w₁ w₂ stack at₁ (free + tableWords) (schemaAt doc z) number′ place′ n at₂) second-is Q
 
             pub right-stops : (number′ ≡ 0 → ⊥) → SchemaDone s s₂ d w w₂ stack at free (schemaAt doc k) number′ place′ n at₂
             right-stops z =

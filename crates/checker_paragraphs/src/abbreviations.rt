@@ -17,10 +17,11 @@ use codes::limits;
 use types_instances::wipe;
 use words::span;
 use words::word;
-ghost use Prim.Native.Nat.{_<_, _^_};
+ghost use Prim.Native.Nat.{_<_, _^_, _+_};
 ghost use lib.ListN.{getD, take, drop};
 ghost use Rattle.checker_pieces.specs.Closed.{Wording};
 ghost use Rattle.checker_paragraphs.specs.Abbreviations.{TypeAsk, TypeFound, Entered, AbbreviatedAsk, AbbreviatedTold};
+ghost use Rattle.checker_contracts.specs.Room.{entriesAt};
 
 // The piece of n cells, whose cell c has the type of the Abbreviation with the part p: 34, 36 of its identifier, 38 of its type; 0 for none.
 fn type_finding(a: &mut [u32], d: &[u32], n: usize, c: usize, p: &[u32]) -> u32
@@ -50,7 +51,7 @@ fn enter(
     q: usize,
     end: usize,
 )
-    requires { ⌜ (Wording (now a) (now d) n c 1028) × (q < 2 ^ 32) × (end < 2 ^ 40) ⌝ }
+    requires { ⌜ (Wording (now a) (now d) n c (entriesAt + 4)) × (q < 2 ^ 32) × (end < 2 ^ 40) ⌝ }
     ensures { λ _. ⌜ Entered (now (a .entry)) (now (a .exit)) (now (d .entry)) (now (w .entry)) (now (w .exit)) n c (getD (now (p .entry)) 1 0) q end ⌝ }
 {
     let e = settled_words(a, d, n, c, w, ENTRIES + HEAD);

@@ -9,6 +9,7 @@ use Rattle.types_rules.specs.Equations.{AllP, In, InP, Pairs, pair, end}
 use Rattle.types_rules.specs.Types.{Ty}
 use Rattle.checker_rules.specs.Unknowns.{Table}
 use Rattle.checker_rules.specs.Items.{Items, _⨾_, piece, Meets, Agree, Passes, Refuses}
+use Rattle.types_cells.specs.Layout.{maxCells}
 use Rattle.types_cells.specs.Store.{frozen, tagAt, Solved}
 use Rattle.types_cells.specs.Settled.{Pinned, Fits}
 use Rattle.types_solver.specs.Sizes.{Same, Tested}
@@ -92,7 +93,7 @@ module _ (s s′ d : List ℕ) (n : ℕ) (b : Bool) (T : Tested s s′ n b) (P�
       go true e = refl
       go false e = absurd (finite-none s s′ d n (subst (Tested s s′ n) e T) P₀ (Q .L) (Q .solved) (plain (Q .some .0) (Q .some .1)))
 
-  few : n ≤ 1024
+  few : n ≤ maxCells
   few = Q .solved .held .few
 
   pub to-tested : (σ : ℕ → Ty) → Solution s d n P₀ σ → Solution s′ d n P₀ σ

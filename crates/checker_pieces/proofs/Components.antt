@@ -10,6 +10,7 @@ use Rattle.types_rules.specs.Equations.{In, Pairs, pair}
 use Rattle.types_rules.specs.Types.{Ty, Term}
 use Rattle.checker_rules.specs.Items.{Items, _⨾_, fresh, select}
 use Rattle.checker_rules.specs.Unknowns.{slot}
+use Rattle.types_cells.specs.Layout.{maxPending}
 use Rattle.types_cells.specs.Store.{frozen, load}
 use Rattle.checker_pieces.specs.Piece.{Solution, Stops, Later}
 use Rattle.checker_pieces.specs.Stage.{Ghost, Stands, Room, Cell, Unvisited, SlotOf, Advanced}
@@ -79,7 +80,7 @@ module _ (s d : List ℕ) (n top : ℕ) (G : Ghost) (S : Stands s d n top G) (k 
 
 -- Room: solving takes none, a settled cell one cell's.
 pub room-still : (s s′ : List ℕ) (n top x : ℕ) → frozen s′ ≡ frozen s → Room s n top x → Room s′ n top x
-room-still s s′ n top x e R = record { cells = R .cells; words = R .words; fit = subst (λ w. load w n + 2 * x < 2048) (sym e) (R .fit) }
+room-still s s′ n top x e R = record { cells = R .cells; words = R .words; fit = subst (λ w. load w n + 2 * x < maxPending) (sym e) (R .fit) }
 
 pub room-settled : (s s′ : List ℕ) (n top y : ℕ) → load (frozen s′) (suc n) ≡ load (frozen s) n + 1 → Room s n top (1 + y) → Room s′ (suc n) top y
 room-settled s s′ n top y e R = let a = R .cells in let b = R .words in let c = R .fit in record { cells = omega arith; words = omega arith; fit = omega arith }

@@ -10,6 +10,7 @@ use Rattle.types_rules.specs.Equations.{In, Pairs}
 use Rattle.types_rules.specs.Finite.{fromList}
 use Rattle.types_rules.specs.Former.{Former, formerOf, int, power, product}
 use Rattle.types_rules.specs.Types.{Ty, node}
+use Rattle.types_cells.specs.Layout.{firstRun, frozenSize, maxCells}
 use Rattle.types_cells.specs.Store.{frozen, run, Solved}
 use Rattle.types_cells.specs.Calls.{Above, Adding, Added, Making, Made}
 use Rattle.types_cells.specs.Settled.{Fits}
@@ -42,15 +43,15 @@ module _ (s s′ : List ℕ) (n top : ℕ) (l : List ℕ) (P₀ L : Pairs ℕ) (
   solved₁ : Solved s′ n P₀ L
   solved₁ = K .builds [] .grows .solved P₀ L S
 
-  module _ (at : ℕ) (e : at ≡ top + length l) (lt : at < 6144) where
+  module _ (at : ℕ) (e : at ≡ top + length l) (lt : at < frozenSize) where
     pub laid-ask : Adding s′ n at
     laid-ask = record { P₀ = P₀; L = L; solved = solved₁; above = subst (Above (frozen s′) n) (sym e) (K .above); room = lt }
 
     module _ (s″ : List ℕ) (x : ℕ) (N : Added s′ s″ n at x) where
-      size₁ : length (frozen s′) ≡ 6144
+      size₁ : length (frozen s′) ≡ frozenSize
       size₁ = frozen-length s′ (solved₁ .held .size)
 
-      size₂ : length (frozen s″) ≡ 6144
+      size₂ : length (frozen s″) ≡ frozenSize
       size₂ = frozen-length s″ (N .grown P₀ L solved₁ .held .size)
 
       kept : run (frozen s″) top (length l) ≡ run (frozen s′) top (length l)
@@ -125,7 +126,7 @@ module _ (s : List ℕ) (n top c : ℕ) (B : Building s n top 1 (c ∷ [])) wher
   K₀ : Laid s s n top []
   K₀ = laid-none s n top (B .above)
 
-  pub power-word : c < 1024
+  pub power-word : c < maxCells
   power-word = let l = B .older c (inl refl) in let r = B .room .cells in omega arith
 
   at₀ : top ≡ top + length {A = ℕ} []
@@ -149,7 +150,7 @@ module _ (s : List ℕ) (n top c : ℕ) (B : Building s n top 1 (c ∷ [])) wher
 
 -- THE PRODUCT OF TWO.
 module _ (s : List ℕ) (n top x y : ℕ) (B : Building s n top 2 (x ∷ y ∷ [])) where
-  pub pair-words : (x < 1024) × (y < 1024)
+  pub pair-words : (x < maxCells) × (y < maxCells)
   pair-words = let l = B .older x (inl refl) in let m = B .older y (inr (inl refl)) in let r = B .room .cells in (omega arith, omega arith)
 
   start : Laid s s n top []
@@ -184,7 +185,7 @@ module _ (s : List ℕ) (n top m : ℕ) (ps : List ℕ) (P : (m ≤ 6) × (m ≤
     at-j : top + j ≡ top + length (take j ps)
     at-j = let h = P .1 in ap (λ z. top + z) (sym (length-take-le j ps (omega arith)))
 
-    room-j : top + j < 6144
+    room-j : top + j < frozenSize
     room-j = let r = P .2 .room .words in let h = P .0 in omega arith
 
     pub lay-ask : Adding s₁ n (top + j)
@@ -214,10 +215,10 @@ module _ (s : List ℕ) (n top m : ℕ) (ps : List ℕ) (P : (m ≤ 6) × (m ≤
         (let h = P .0 in omega arith)
 
 -- ℤ.
-module _ (s s′ : List ℕ) (n : ℕ) (M : Making s n 1 0 4096 0) (N : Made s s′ n 1 0 4096 0) where
+module _ (s s′ : List ℕ) (n : ℕ) (M : Making s n 1 0 firstRun 0) (N : Made s s′ n 1 0 firstRun 0) where
   integer-uses : (top : ℕ) → Uses s s′ n top (suc n) top 1
   integer-uses top y R =
-      let ld = made-load s s′ n 1 0 4096 0 M N in
+      let ld = made-load s s′ n 1 0 firstRun 0 M N in
       let q = R .fit in
       let u = R .cells in
       let v = R .words in
@@ -225,13 +226,13 @@ module _ (s s′ : List ℕ) (n : ℕ) (M : Making s n 1 0 4096 0) (N : Made s s
 
   integer-type : (σ : ℕ → Ty) → Fits (frozen s′) (suc n) σ → σ n ≡ node int (fromList (map σ []))
   unfolding formerOf run
-  integer-type σ F = former-type s s′ [] n 1 0 4096 0 M N (omega arith) σ F
+  integer-type σ F = former-type s s′ [] n 1 0 firstRun 0 M N (omega arith) σ F
 
   pub integer-built : Integer s s′ n int []
   integer-built = record {
     built = λ top A. record {
-      builds = λ d. former-builds s s′ d n 1 0 4096 0 M N (omega arith);
-      above = made-above s s′ n 1 0 4096 0 M N top A (let z = A .low in omega arith) (λ z. absurd (omega arith));
+      builds = λ d. former-builds s s′ d n 1 0 firstRun 0 M N (omega arith);
+      above = made-above s s′ n 1 0 firstRun 0 M N top A (let z = A .low in omega arith) (λ z. absurd (omega arith));
       type = integer-type;
       uses = integer-uses top;
     };

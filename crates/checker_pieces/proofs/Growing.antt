@@ -10,6 +10,7 @@ use Rattle.types_rules.specs.Equations.{AllP, In, InP, Pairs, Solves, end, pair
 use Rattle.types_rules.specs.Types.{Ty, ℤ}
 use Rattle.checker_rules.specs.Unknowns.{Table}
 use Rattle.checker_rules.specs.Items.{Items, skip, _⨾_, fresh, Meets, Agree}
+use Rattle.types_cells.specs.Layout.{firstRun, areaSize}
 use Rattle.types_cells.specs.Store.{frozen, tagAt, view, Solved}
 use Rattle.types_cells.specs.Calls.{Making, Made}
 use Rattle.types_solver.specs.Growth.{Grows, Builds, Extension}
@@ -39,7 +40,7 @@ nothing-asked s d σ = record {
 }
 
 -- A PIECE BEGINS after items H that a table meets.
-pub begin : (s d : List ℕ) (H : Items) (U : List ℕ) → length s ≡ 52224 → Local H U → (τ : Table) → Meets H τ → Piece s d 0 end H skip U U end
+pub begin : (s d : List ℕ) (H : Items) (U : List ℕ) → length s ≡ areaSize → Local H U → (τ : Table) → Meets H τ → Piece s d 0 end H skip U U end
 unfolding Meets Agree
 begin s d H U z l τ m = record {
   L = end;
@@ -122,16 +123,16 @@ module _ (s s′ d : List ℕ) (n p : ℕ) (A : Entering s d n p) (E : Entered s
   settled-later = grown-later s s′ d n (suc n) (entered-grows s s′ d n p A E) P₀ H t U₀ U ρ Q
 
 -- A NEW UNKNOWN x, which no item mentions yet: cell n.
-module _ (s s′ d : List ℕ) (n : ℕ) (A : Making s n 0 0 4096 0) (M : Made s s′ n 0 0 4096 0) (P₀ : Pairs ℕ) (H t : Items) (U₀ U : List ℕ) (ρ : Pairs ℕ) (Q : Piece s d n P₀ H t U₀ U ρ)
+module _ (s s′ d : List ℕ) (n : ℕ) (A : Making s n 0 0 firstRun 0) (M : Made s s′ n 0 0 firstRun 0) (P₀ : Pairs ℕ) (H t : Items) (U₀ U : List ℕ) (ρ : Pairs ℕ) (Q : Piece s d n P₀ H t U₀ U ρ)
     (x : ℕ) (new : In x U → ⊥) where
   abbrev G : Grows s s′ d n (suc n)
-  G = made-grows s s′ d n 0 0 4096 0 A M
+  G = made-grows s s′ d n 0 0 firstRun 0 A M
 
   abbrev back : (σ : ℕ → Ty) → Solution s′ d (suc n) P₀ σ → Solution s d n P₀ σ
   back = solution-before s s′ d n (suc n) G P₀ H t U₀ U ρ Q
 
   at : (g : Ty) (σ : ℕ → Ty) → Solution s d n P₀ σ → (E : Extension s′ d n (suc n) σ) × (E .τ n ≡ g)
-  at g σ S = extend-unknown s s′ d n 0 0 4096 0 A M refl g σ (S .fits) (S .obeys)
+  at g σ S = extend-unknown s s′ d n 0 0 firstRun 0 A M refl g σ (S .fits) (S .obeys)
 
   earlier : (τ : Table) → Meets (H ⨾ (t ⨾ fresh x)) τ → Meets (H ⨾ t) τ
   earlier = items-earlier H t (fresh x)

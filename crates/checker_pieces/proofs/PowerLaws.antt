@@ -10,6 +10,7 @@ use Rattle.types_rules.specs.Former.{power}
 use Rattle.types_rules.specs.Types.{Term, unknown, nil, cons}
 use Rattle.checker_rules.specs.Items.{fresh, equate}
 use Rattle.checker_rules.specs.Unknowns.{slot, powerOf}
+use Rattle.types_cells.specs.Layout.{firstRun}
 use Rattle.types_cells.specs.Calls.{Making, Made}
 use Rattle.types_solver.proofs.Extending.{made-grows}
 use Rattle.checker_pieces.specs.Piece.{Stops}
@@ -37,10 +38,10 @@ unfolding slot
 unmentioned-node l = (most l, λ j i. let z = below (most l * 8 + j) l i in omega arith)
 
 module _ (s d : List ℕ) (n top c : ℕ) where
-  pub unknown-making : Working s d n top 2 (c ∷ []) → Making s n 0 0 4096 0
+  pub unknown-making : Working s d n top 2 (c ∷ []) → Making s n 0 0 firstRun 0
   unknown-making W = plain-making s d n top 2 (W .ghost) (W .stands) (W .room) (omega arith) 0 (omega arith)
 
-  module _ (s₁ : List ℕ) (A : Making s n 0 0 4096 0) (N : Made s s₁ n 0 0 4096 0) where
+  module _ (s₁ : List ℕ) (A : Making s n 0 0 firstRun 0) (N : Made s s₁ n 0 0 firstRun 0) where
     -- For a piece that stands, and an unknown that it does not mention.
     module _ (G : Ghost) (St : Stands s d n top G) (x : ℕ) (new : In x (G .mentioned) → ⊥) where
       I₁ : Introduced s s₁ d n top (suc n) top G (fresh x) (λ y. y ≡ x) x n
@@ -133,7 +134,7 @@ module _ (s d : List ℕ) (n top c : ℕ) where
           powered =
               let e : suc (suc n) ≡ n + 2 = omega arith in
               record {
-                low = E′ .low ∙ K′ .builds d .grows .low ∙ made-grows s s₁ d n 0 0 4096 0 A N .low;
+                low = E′ .low ∙ K′ .builds d .grows .low ∙ made-grows s s₁ d n 0 0 firstRun 0 A N .low;
                 uses = subst (λ z. Uses s s₃ n top z (top + 1) 2) e uses-c;
                 goes = λ q G St x new f m a C.
                     subst (λ z. Introduced s s₃ d n top z (top + 1) G (powerItems x f m a) (λ u. u ≡ x) x n) e

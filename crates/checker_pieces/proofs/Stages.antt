@@ -14,6 +14,7 @@ use Rattle.types_rules.specs.Types.{Ty, node, tcons, Term, Terms, unknown, con,
 use Rattle.checker_rules.specs.Unknowns.{Table, slot}
 use Rattle.checker_rules.specs.Items.{Items, _⨾_, skip, fresh, equate, Meets, Agree, Passes}
 use Rattle.checker_rules.specs.Conditions.{typed}
+use Rattle.types_cells.specs.Layout.{maxPending, firstRun}
 use Rattle.types_cells.specs.Store.{frozen, load, run}
 use Rattle.types_cells.specs.Calls.{Above, Making, Made}
 use Rattle.types_solver.specs.Growth.{Builds}
@@ -83,7 +84,7 @@ building s d n top x G St R l ts K = record {
 }
 
 -- An unknown, and ℤ.
-pub plain-making : (s d : List ℕ) (n top x : ℕ) (G : Ghost) → Stands s d n top G → Room s n top x → 1 ≤ x → (t : ℕ) → t < 2 → Making s n t 0 4096 0
+pub plain-making : (s d : List ℕ) (n top x : ℕ) (G : Ghost) → Stands s d n top G → Room s n top x → 1 ≤ x → (t : ℕ) → t < 2 → Making s n t 0 firstRun 0
 unfolding run
 plain-making s d n top x G St R f t l =
     let u = R .cells in
@@ -279,7 +280,7 @@ skip-advanced s d n top G St M = record {
 }
 
 -- A NEW UNKNOWN x: cell n.
-module _ (s s′ d : List ℕ) (n top : ℕ) (G : Ghost) (St : Stands s d n top G) (A : Making s n 0 0 4096 0) (N : Made s s′ n 0 0 4096 0) (x : ℕ) (new : In x (G .mentioned) → ⊥) where
+module _ (s s′ d : List ℕ) (n top : ℕ) (G : Ghost) (St : Stands s d n top G) (A : Making s n 0 0 firstRun 0) (N : Made s s′ n 0 0 firstRun 0) (x : ℕ) (new : In x (G .mentioned) → ⊥) where
   pub introduced-unknown : Introduced s s′ d n top (suc n) top G (fresh x) (λ y. y ≡ x) x n
   unfolding Passes
   introduced-unknown = record {
@@ -290,7 +291,7 @@ module _ (s s′ d : List ℕ) (n top : ℕ) (G : Ghost) (St : Stands s d n top 
       wide = omega arith;
       goes = tt;
       piece = new-unknown s s′ d n A N (G .equations) (G .before) (G .items) (G .known) (G .mentioned) (G .cells) (St .piece) x new;
-      above = made-above s s′ n 0 0 4096 0 A N top (St .above) (let z = St .above .low in omega arith) (λ z. absurd (omega arith));
+      above = made-above s s′ n 0 0 firstRun 0 A N top (St .above) (let z = St .above .low in omega arith) (λ z. absurd (omega arith));
       later = unknown-later s s′ d n A N (G .equations) (G .before) (G .items) (G .known) (G .mentioned) (G .cells) (St .piece) x new;
       wider = λ y i. inr i;
       new = λ y i. ⊎-elim inr inl i;
@@ -299,9 +300,9 @@ module _ (s s′ d : List ℕ) (n top : ℕ) (G : Ghost) (St : Stands s d n top 
   }
 
 -- Room for an unknown: 1 cell.
-pub unknown-uses : (s s′ : List ℕ) (n top : ℕ) → Making s n 0 0 4096 0 → Made s s′ n 0 0 4096 0 → Uses s s′ n top (suc n) top 1
+pub unknown-uses : (s s′ : List ℕ) (n top : ℕ) → Making s n 0 0 firstRun 0 → Made s s′ n 0 0 firstRun 0 → Uses s s′ n top (suc n) top 1
 unknown-uses s s′ n top A N y R =
-    let ld = made-load s s′ n 0 0 4096 0 A N in
+    let ld = made-load s s′ n 0 0 firstRun 0 A N in
     let q = R .fit in
     let u = R .cells in
     let v = R .words in
@@ -365,4 +366,4 @@ pub room-less : (s : List ℕ) (n top x y : ℕ) → x ≤ y → Room s n top y 
 room-less s n top x y l R = let u = R .cells in let v = R .words in let w = R .fit in record { cells = omega arith; words = omega arith; fit = omega arith }
 
 pub equal-room : (s s′ d : List ℕ) (n x y top r : ℕ) {b : Bool} → Equated s s′ d n x y b → Room s n top r → Room s′ n top r
-equal-room s s′ d n x y top r E R = record { cells = R .cells; words = R .words; fit = subst (λ w. load w n + 2 * r < 2048) (sym (E .still)) (R .fit) }
+equal-room s s′ d n x y top r E R = record { cells = R .cells; words = R .words; fit = subst (λ w. load w n + 2 * r < maxPending) (sym (E .still)) (R .fit) }

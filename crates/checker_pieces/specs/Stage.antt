@@ -10,6 +10,7 @@ use Rattle.types_rules.specs.Equations.{In, InP, Pairs, pair}
 use Rattle.types_rules.specs.Types.{Ty, Term, Each}
 use Rattle.checker_rules.specs.Unknowns.{slot}
 use Rattle.checker_rules.specs.Items.{Items, _⨾_, equate}
+use Rattle.types_cells.specs.Layout.{maxPending, frozenSize, maxCells}
 use Rattle.types_cells.specs.Store.{frozen, load}
 use Rattle.types_cells.specs.Settled.{lower}
 use Rattle.types_cells.specs.Calls.{Above}
@@ -40,11 +41,15 @@ pub record Comparing (s d : List ℕ) (n x y : ℕ) : Type 0 where
   pub left : x < n
   pub right : y < n
 
+-- The cells that the rule of one node makes, at most.
+abbrev pub nodeCells : ℕ
+nodeCells = 40
+
 -- Room for x cells more, of two words each.
 pub record Room (s : List ℕ) (n top x : ℕ) : Type 0 where
-  pub cells : n + x ≤ 1024
-  pub words : top + 2 * x ≤ 6144
-  pub fit : load (frozen s) n + 2 * x < 2048
+  pub cells : n + x ≤ maxCells
+  pub words : top + 2 * x ≤ frozenSize
+  pub fit : load (frozen s) n + 2 * x < maxPending
 
 -- The term a is the type of the cell c, which is one of the n.
 pub record Cell (s d : List ℕ) (n : ℕ) (G : Ghost) (c : ℕ) (a : Term) : Type 0 where

@@ -5,6 +5,7 @@ ghost use mathlib.Core.List.{[], _∷_};
 ghost use Prim.Native.Nat.{_+_, _≤_};
 ghost use lib.ListN.{length, take};
 ghost use Rattle.types_rules.specs.Former.{int, power, product};
+ghost use Rattle.types_cells.specs.Layout.{firstRun};
 ghost use Rattle.types_cells.specs.Calls.{Making};
 ghost use Rattle.checker_pieces.specs.Building.{Building, Laid, Built, Integer};
 
@@ -18,7 +19,7 @@ const FIRST_RUN: u32 = types_cells::area::FIRST_RUN as u32;
 
 // ℤ.
 pub fn integer(a: &mut [u32], n: usize)
-    requires { ⌜ Making (now a) n 1 0 4096 0 ⌝ }
+    requires { ⌜ Making (now a) n 1 0 firstRun 0 ⌝ }
     ensures { λ _. ⌜ Integer (now (a .entry)) (now (a .exit)) n int [] ⌝ }
 {
     types_cells::growth::new_cell(a, n, INTEGERS, 0, FIRST_RUN, 0);

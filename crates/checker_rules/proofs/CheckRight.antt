@@ -16,7 +16,7 @@ use Rattle.checker_rules.specs.Dictionary.{Dictionary, blank, dictionary
 use Rattle.checker_rules.specs.Rules.{paragraphItems}
 use Rattle.checker_rules.specs.Entries.{extend, paragraphNode}
 use Rattle.checker_rules.specs.Solving.{Solved, pass, refuse, solve, tableOf}
-use Rattle.checker_rules.specs.Check.{Answer, accepted, refused, fitting, settle, checkParagraphs, paragraphsOf, afterReading, workWords, checkOf}
+use Rattle.checker_rules.specs.Check.{Answer, accepted, refused, fitting, settle, checkParagraphs, paragraphsOf, afterReading, checkWorkWords, checkOf}
 use Rattle.checker_rules.specs.Verdicts.{Accepts, RefusesAt, AnswersFrom, AnswersTree, Answers, OneType, Records}
 use Rattle.checker_rules.proofs.ItemLaws.{not-both, one}
 use Rattle.checker_rules.proofs.SolvingRight.{Verdict, solve-right}
@@ -87,29 +87,29 @@ module _ (P : Table → Type 0) (I : List Paragraph → Dictionary → Type 0)
 
   -- A readable document.
   module _ (t : Document) (d w : ℕ) (i : I (paragraphsOf t) blank) where
-    tree-right : AnswersTree P t d w (cond (ltb w workWords) (refused 21 0) (cond (eqb d 0) (refused 22 0) (checkParagraphs (paragraphsOf t) blank d)))
+    tree-right : AnswersTree P t d w (cond (ltb w checkWorkWords) (refused 21 0) (cond (eqb d 0) (refused 22 0) (checkParagraphs (paragraphsOf t) blank d)))
     unfolding AnswersTree
-    tree-right = go (ltb w workWords) refl (eqb d 0) refl
+    tree-right = go (ltb w checkWorkWords) refl (eqb d 0) refl
       where
         some-words : (d : ℕ) → (d ≡ 0 → ⊥) → 0 < d
         some-words zero f = absurd (f refl)
         some-words (suc d) f = omega arith
 
-        go : (b : Bool) → ltb w workWords ≡ b → (c : Bool) → eqb d 0 ≡ c
+        go : (b : Bool) → ltb w checkWorkWords ≡ b → (c : Bool) → eqb d 0 ≡ c
             → AnswersTree P t d w (cond b (refused 21 0) (cond c (refused 22 0) (checkParagraphs (paragraphsOf t) blank d)))
-        go true e c q = inl (ltb-true w workWords e, refl)
-        go false e true q = inr (ltb-false w workWords e, inl (eqb-true d 0 q, refl))
-        go false e false q = inr (ltb-false w workWords e, inr (some-words d (eqb-false d 0 q), paragraphs-right (paragraphsOf t) blank d i))
+        go true e c q = inl (ltb-true w checkWorkWords e, refl)
+        go false e true q = inr (ltb-false w checkWorkWords e, inl (eqb-true d 0 q, refl))
+        go false e false q = inr (ltb-false w checkWorkWords e, inr (some-words d (eqb-false d 0 q), paragraphs-right (paragraphsOf t) blank d i))
 
-    tree-only : (a : Answer) → AnswersTree P t d w a → cond (ltb w workWords) (refused 21 0) (cond (eqb d 0) (refused 22 0) (checkParagraphs (paragraphsOf t) blank d)) ≡ a
+    tree-only : (a : Answer) → AnswersTree P t d w a → cond (ltb w checkWorkWords) (refused 21 0) (cond (eqb d 0) (refused 22 0) (checkParagraphs (paragraphsOf t) blank d)) ≡ a
     unfolding AnswersTree
-    tree-only a (inl h) = ap (λ b. cond b (refused 21 0) (cond (eqb d 0) (refused 22 0) (checkParagraphs (paragraphsOf t) blank d))) (lt-ltb w workWords (h .0)) ∙ sym (h .1)
+    tree-only a (inl h) = ap (λ b. cond b (refused 21 0) (cond (eqb d 0) (refused 22 0) (checkParagraphs (paragraphsOf t) blank d))) (lt-ltb w checkWorkWords (h .0)) ∙ sym (h .1)
     tree-only a (inr (l, inl h)) =
-        ap (λ b. cond b (refused 21 0) (cond (eqb d 0) (refused 22 0) (checkParagraphs (paragraphsOf t) blank d))) (le-ltb w workWords l)
+        ap (λ b. cond b (refused 21 0) (cond (eqb d 0) (refused 22 0) (checkParagraphs (paragraphsOf t) blank d))) (le-ltb w checkWorkWords l)
         ∙ ap (λ c. cond c (refused 22 0) (checkParagraphs (paragraphsOf t) blank d)) (eq-eqb d 0 (h .0))
         ∙ sym (h .1)
     tree-only a (inr (l, inr h)) =
-        ap (λ b. cond b (refused 21 0) (cond (eqb d 0) (refused 22 0) (checkParagraphs (paragraphsOf t) blank d))) (le-ltb w workWords l)
+        ap (λ b. cond b (refused 21 0) (cond (eqb d 0) (refused 22 0) (checkParagraphs (paragraphsOf t) blank d))) (le-ltb w checkWorkWords l)
         ∙ ap (λ c. cond c (refused 22 0) (checkParagraphs (paragraphsOf t) blank d)) (ne-eqb d 0 (λ e. omega (arith, h .0, e)))
         ∙ paragraphs-only (paragraphsOf t) blank d i a (h .1)
 
@@ -119,7 +119,7 @@ module _ (P : Table → Type 0) (I : List Paragraph → Dictionary → Type 0)
   check-right-in doc d w a i = (λ e. subst (λ b. Answers P doc d w b) e (given-right (readOf doc) refl), λ h. only h)
     where
       rest : Answer
-      rest = cond (ltb w workWords) (refused 21 0) (cond (eqb d 0) (refused 22 0) (checkParagraphs (paragraphsOf (treeOf doc)) blank d))
+      rest = cond (ltb w checkWorkWords) (refused 21 0) (cond (eqb d 0) (refused 22 0) (checkParagraphs (paragraphsOf (treeOf doc)) blank d))
 
       given-right : (r : Reading) → readOf doc ≡ r → Answers P doc d w (afterReading r rest)
       given-right Readable e = inr (e, tree-right (treeOf doc) d w (i e))
@@ -143,7 +143,7 @@ one-answer doc d w a b h k = sym (check-right doc d w a .1 h) ∙ check-right do
 -- What acceptance says: the document is readable and every rule passes.
 pub record Acceptance (doc : List ℕ) (d w : ℕ) (E : Dictionary) : Type 0 where
   pub read : readOf doc ≡ Readable
-  pub work : workWords ≤ w
+  pub work : checkWorkWords ≤ w
   pub passes : Accepts Any (paragraphsOf (treeOf doc)) blank d E
 
 pub accepted-says : (doc : List ℕ) (d w : ℕ) (E : Dictionary) → checkOf doc d w ≡ accepted E → Acceptance doc d w E

@@ -22,7 +22,7 @@ use Rattle.checker_rules.specs.Scopes.{globals, withParameters, textSign
 use Rattle.checker_rules.specs.Rules.{paragraphItems}
 use Rattle.checker_rules.specs.Entries.{addGivens, addSignature, extend, paragraphNode}
 use Rattle.checker_rules.specs.Solving.{Solved, pass, refuse, andThen, answer, passIf, selected, solveFrom, unknowns, solve, tableOf}
-use Rattle.checker_rules.specs.Check.{Answer, refused, fitting, settle, checkParagraphs, paragraphsOf, afterReading, workWords, checkOf}
+use Rattle.checker_rules.specs.Check.{Answer, refused, fitting, settle, checkParagraphs, paragraphsOf, afterReading, checkWorkWords, checkOf}
 use Rattle.checker_rules.specs.WellFormed.{FormedDictionary, FormedAnswer}
 use Rattle.checker_rules.proofs.SolvingRight.{Keeps}
 use Rattle.checker_rules.proofs.FormedInstances.{FormedOption, component-formed}
@@ -126,6 +126,6 @@ check-formed doc d w = read (readOf doc) refl
     settled r false false = paragraphs-formed (paragraphsOf (treeOf doc)) blank d (tree-sized doc r) (unfold FormedDictionary in tt)
 
     read : (r : Reading) → readOf doc ≡ r
-        → FormedAnswer (afterReading r (cond (ltb w workWords) (refused 21 0) (cond (eqb d 0) (refused 22 0) (checkParagraphs (paragraphsOf (treeOf doc)) blank d))))
-    read Readable r = settled r (ltb w workWords) (eqb d 0)
+        → FormedAnswer (afterReading r (cond (ltb w checkWorkWords) (refused 21 0) (cond (eqb d 0) (refused 22 0) (checkParagraphs (paragraphsOf (treeOf doc)) blank d))))
+    read Readable r = settled r (ltb w checkWorkWords) (eqb d 0)
     read (Refused f m) r = tt

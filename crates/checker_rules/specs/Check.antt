@@ -41,11 +41,11 @@ unfoldable pub afterReading : Reading → Answer → Answer
 afterReading Readable a = a
 afterReading (Refused f m) a = refused f m
 
-abbrev pub workWords : ℕ
-workWords = 16384
+abbrev pub checkWorkWords : ℕ
+checkWorkWords = 16384
 
 -- reading's findings; 21 for a work area of w words; 22 at 0 for a dictionary area of 0 words; the paragraphs
 unfoldable pub checkOf : List ℕ → ℕ → ℕ → Answer
 checkOf doc d w =
     afterReading (readOf doc)
-    (cond (ltb w workWords) (refused 21 0) (cond (eqb d 0) (refused 22 0) (checkParagraphs (paragraphsOf (treeOf doc)) blank d)))
+    (cond (ltb w checkWorkWords) (refused 21 0) (cond (eqb d 0) (refused 22 0) (checkParagraphs (paragraphsOf (treeOf doc)) blank d)))

@@ -9,6 +9,13 @@ use lib.ListN.{length, getD}
 use lib.Seq.{sets}
 use Rattle.checker_signatures.specs.Rows.{rows, flat, placeIn, strokeRows, renameRows, wrongRows}
 
+-- The words of a table for a signature's 16 rows; and of one with room for as many rows again.
+abbrev pub halfTable : ℕ
+halfTable = 32
+
+abbrev pub tableWords : ℕ
+tableWords = 2 * halfTable
+
 -- w with the rows rs written from base on is w′; n is their number
 pub record Table (w w′ : List ℕ) (base : ℕ) (rs : List (ℕ × ℕ)) (n : ℕ) : Type 0 where
   pub words : w′ ≡ sets w base (flat rs)

@@ -1,7 +1,7 @@
 // The limits of document 01. A document: nodes and words.
 pub const NODES: usize = 1024;
 
-pub const WORDS: usize = 16384;
+pub const DOCUMENT_WORDS: usize = 16384;
 
 // Nodes from the Document down to any node, both counted.
 pub const DEPTH: usize = 12;
@@ -42,5 +42,10 @@ pub const VALUE: usize = 64;
 
 pub const ELEMENTS: usize = 20;
 
-// The fewest words of a work area.
-pub const WORK: usize = 16384;
+// The fewest words of a check's work area, and of a run's.
+pub const CHECK_WORK_WORDS: usize = 16384;
+
+pub const RUN_WORK_WORDS: usize = 16384;
+
+// The words of a program's dictionary area.
+pub const DICTIONARY_AREA_WORDS: usize = 16384;

@@ -18,7 +18,7 @@ ghost use Rattle.states_rules.specs.Names.{documentNames};
 ghost use Rattle.states_rules.specs.States.{stateOf};
 ghost use Rattle.evaluator_rules.specs.Outcomes.{Outcome};
 ghost use Rattle.evaluator_rules.specs.Paragraphs.{Step, runDocument};
-ghost use Rattle.evaluator_rules.specs.Run.{ending, runState, runOf};
+ghost use Rattle.evaluator_rules.specs.Run.{ending, runState, runOf, runWorkWords};
 ghost use Rattle.evaluator_operations.specs.Worked.{Told};
 ghost use Rattle.evaluator_scope.specs.Named.{said};
 ghost use Rattle.evaluator_paragraphs.specs.Paragraphs.{Stepped};
@@ -42,7 +42,7 @@ fn finding_of(y: Worked) -> Finding
 
 // The run over the paragraphs, for a well-formed state.
 fn run_paragraphs(doc: &[u32], state: &[u32], work: &mut [u32]) -> Finding
-    requires { ⌜ (readOf (now doc) ≡ Readable) × (stateOf (documentNames (treeOf (now doc))) (now state) ≡ Readable) × (16384 ≤ length (now work)) ⌝ }
+    requires { ⌜ (readOf (now doc) ≡ Readable) × (stateOf (documentNames (treeOf (now doc))) (now state) ≡ Readable) × (runWorkWords ≤ length (now work)) ⌝ }
     ensures { λ r. ⌜ r ≡ ending (runDocument (treeOf (now (doc .entry))) (said (now (doc .entry)) (now (state .entry)))) .finding ⌝ }
 {
     let mut table = [0u32; states::names::TABLE_WORDS];
@@ -60,7 +60,7 @@ fn run_paragraphs(doc: &[u32], state: &[u32], work: &mut [u32]) -> Finding
 
 // A readable document, with a work area that is large enough: 41, then the paragraphs.
 fn run_state(doc: &[u32], state: &[u32], work: &mut [u32]) -> Finding
-    requires { ⌜ (readOf (now doc) ≡ Readable) × (16384 ≤ length (now work)) ⌝ }
+    requires { ⌜ (readOf (now doc) ≡ Readable) × (runWorkWords ≤ length (now work)) ⌝ }
     ensures { λ r. ⌜ r ≡ runState (stateOf (documentNames (treeOf (now (doc .entry)))) (now (state .entry))) (treeOf (now (doc .entry))) (now (state .entry)) .finding ⌝ }
 {
     let c = states::first_ill_formed(doc, state);
@@ -80,7 +80,7 @@ fn run_read(doc: &[u32], state: &[u32], work: &mut [u32]) -> Finding
     let c = reader::read(doc);
     match c {
         Reading::Readable => {
-            if work.len() < limits::WORK {
+            if work.len() < limits::RUN_WORK_WORDS {
                 return Finding::Refused {
                     number: findings::WORK_AREA,
                     place: 0,

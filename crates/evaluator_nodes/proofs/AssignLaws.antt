@@ -40,7 +40,7 @@ use Rattle.evaluator_nodes.specs.Turns.{bodyIf, bodyAt, turnAt}
 use Rattle.evaluator_operations.specs.Steps.{verdictOf}
 use Rattle.evaluator_operations.specs.declared.worked.Worked.{Worked}
 use Rattle.evaluator_operations.specs.Worked.{narrow, allNarrow, Holds, Told, fine, ceased, Valued, Judged, Flowed, Gathered, Stops}
-use Rattle.evaluator_scope.specs.Blocks.{field, Lies, Stored, inWork, Scoped, hidden, named, Pending, more, headed, Pushed, Leaves}
+use Rattle.evaluator_scope.specs.Blocks.{field, Lies, Stored, inWork, Scoped, hidden, named, Pending, more, headed, Pushed, Leaves, headWords, blockWords}
 use Rattle.evaluator_scope.specs.Blocks as Blocks
 use Rattle.evaluator_nodes.specs.Ready.{Ready, Handed, Scoping, RestIn, joinDomains, linesThen, Assigns, AssignTold, EachTold, BodyTold, LinesTold}
 use Rattle.evaluator_operations.proofs.ToldLaws.{after-told, stop-told, go-told, halt-told, at-pure, at-stop, choose-told}
@@ -257,20 +257,20 @@ two-off n x y zs [] e = let q : _≡_ {A = ℕ} 0 1 = cc in absurd (omega arith)
 two-off n x y zs (a ∷ []) e = absurd (omega (arith, ap length e))
 two-off n x y zs (a ∷ b ∷ L) e = (cc, cc)
 
-rest-block : (w : List ℕ) (b c : ℕ) (us : Values) → Lies w (68 * b + 4) (encode (Value.set us)) → length (encode (Value.set us)) ≤ 64 → narrow (Value.set us) ≡ true → c ≡ getD w (68 * b + 5) 0 → RestIn w b 2 c us
+rest-block : (w : List ℕ) (b c : ℕ) (us : Values) → Lies w (blockWords * b + headWords) (encode (Value.set us)) → length (encode (Value.set us)) ≤ 64 → narrow (Value.set us) ≡ true → c ≡ getD w (blockWords * b + 5) 0 → RestIn w b 2 c us
 unfolding encode narrow
 rest-block w b c us l s n e =
-    let p = two-off (length (encodes us)) 3 (count us) (encodes us) (drop (68 * b + 4) w) l in
-    let q : 68 * b + 4 + 2 ≡ 68 * b + (4 + 2) = omega arith in
-    let r : 68 * b + 4 + 1 ≡ 68 * b + 5 = omega arith in
+    let p = two-off (length (encodes us)) 3 (count us) (encodes us) (drop (blockWords * b + headWords) w) l in
+    let q : blockWords * b + headWords + 2 ≡ blockWords * b + (4 + 2) = omega arith in
+    let r : blockWords * b + headWords + 1 ≡ blockWords * b + 5 = omega arith in
     record {
-      lies = ap (λ (x : List ℕ). take (length (encodes us)) x) (ap (λ (j : ℕ). drop j w) (sym q) ∙ sym (drop-drop 2 (68 * b + 4) w)) ∙ p .0;
+      lies = ap (λ (x : List ℕ). take (length (encodes us)) x) (ap (λ (j : ℕ). drop j w) (sym q) ∙ sym (drop-drop 2 (blockWords * b + headWords) w)) ∙ p .0;
       short = omega arith;
-      counted = sym (e ∙ ap (λ (j : ℕ). getD w j 0) (sym r) ∙ sym (getD-drop (68 * b + 4) w 1 0) ∙ p .1);
+      counted = sym (e ∙ ap (λ (j : ℕ). getD w j 0) (sym r) ∙ sym (getD-drop (blockWords * b + headWords) w 1 0) ∙ p .1);
       narrow = n;
     }
 
-pub assigns-some : (doc state before after : List ℕ) (n m k c : ℕ) (s : Held) (r : Worked) → (m ≡ 0 → ⊥) → c ≡ getD before (68 * n + 5) 0 →
+pub assigns-some : (doc state before after : List ℕ) (n m k c : ℕ) (s : Held) (r : Worked) → (m ≡ 0 → ⊥) → c ≡ getD before (blockWords * n + 5) 0 →
     Assigns n (m - 1 + 1) before after (EachTold doc k state before n (m - 1) 2 c s r) → Assigns n m before after (AssignTold doc k state before n m s r)
 unfolding assign
 assigns-some doc state before after n zero k c s r e x g = absurd (e refl)

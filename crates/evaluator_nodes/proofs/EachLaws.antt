@@ -18,7 +18,7 @@ use Rattle.evaluator_rules.specs.Assignments.{Domains, noMore, domain, Flow, go
 use Rattle.evaluator_nodes.specs.Turns.{turnAt}
 use Rattle.evaluator_operations.specs.declared.worked.Worked.{Worked}
 use Rattle.evaluator_operations.specs.Worked.{Holds, Told, fine, ceased, Flowed}
-use Rattle.evaluator_scope.specs.Blocks.{field, Lies, Stored, inWork, Scoped, named, Pending, more, headed}
+use Rattle.evaluator_scope.specs.Blocks.{field, Lies, Stored, inWork, Scoped, named, Pending, more, headed, headWords, blockWords}
 use Rattle.evaluator_nodes.specs.Ready.{RestIn, Assigns, AssignTold, EachTold}
 use Rattle.evaluator_operations.proofs.ToldLaws.{go-told, halt-told}
 use Rattle.evaluator_operations.proofs.OperationLaws.{narrow-head, narrow-tail}
@@ -42,38 +42,38 @@ pub each-past : (doc state work : List ℕ) (n m k at c : ℕ) (s : Held) (r : W
 each-past doc state work n m k at c s r l =
     record { kept = refl; pends = λ ds p. p; told = λ scope sc i us ds p vs g ss hs. let q = g .short in absurd (omega arith) }
 
-module _ (doc state w0 w1 w2 : List ℕ) (n m k at c here len : ℕ) (s : Held) (x : Worked) (eh : here ≡ 68 * n + (4 + at)) (el : len ≡ span (drop here w0))
-    (e1 : w1 ≡ headed w0 n (getD w0 (68 * n) 0) 2 here len) (long : 68 * (n + 1) ≤ length w0) (A : Assigns (n + 1) m w1 w2 (AssignTold doc k state w1 (n + 1) m s x)) (some : c ≡ 0 → ⊥) where
-  above4 : drop (68 * n + 4) w1 ≡ drop (68 * n + 4) w0
-  above4 = rw e1 (head-drop w0 n (getD w0 (68 * n) 0) 2 here len)
+module _ (doc state w0 w1 w2 : List ℕ) (n m k at c here len : ℕ) (s : Held) (x : Worked) (eh : here ≡ blockWords * n + (4 + at)) (el : len ≡ span (drop here w0))
+    (e1 : w1 ≡ headed w0 n (getD w0 (blockWords * n) 0) 2 here len) (long : blockWords * (n + 1) ≤ length w0) (A : Assigns (n + 1) m w1 w2 (AssignTold doc k state w1 (n + 1) m s x)) (some : c ≡ 0 → ⊥) where
+  above4 : drop (blockWords * n + headWords) w1 ≡ drop (blockWords * n + headWords) w0
+  above4 = rw e1 (head-drop w0 n (getD w0 (blockWords * n) 0) 2 here len)
 
-  below0 : take (68 * n) w1 ≡ take (68 * n) w0
-  below0 = rw e1 (head-take w0 n (getD w0 (68 * n) 0) 2 here len)
+  below0 : take (blockWords * n) w1 ≡ take (blockWords * n) w0
+  below0 = rw e1 (head-take w0 n (getD w0 (blockWords * n) 0) 2 here len)
 
-  pub each-kept : take (68 * n) w2 ≡ take (68 * n) w0
-  each-kept = same-less (68 * (n + 1)) w1 w2 (A .kept) (68 * n) (omega arith) ∙ below0
+  pub each-kept : take (blockWords * n) w2 ≡ take (blockWords * n) w0
+  each-kept = same-less (blockWords * (n + 1)) w1 w2 (A .kept) (blockWords * n) (omega arith) ∙ below0
 
-  drop-same : (j : ℕ) → 68 * n + 4 ≤ j → drop j w1 ≡ drop j w0
+  drop-same : (j : ℕ) → blockWords * n + headWords ≤ j → drop j w1 ≡ drop j w0
   drop-same j l =
-      let q : j ≡ 68 * n + 4 + (j - (68 * n + 4)) = omega arith in
-      rw q (sym (drop-drop (j - (68 * n + 4)) (68 * n + 4) w1) ∙ ap (λ (y : List ℕ). drop (j - (68 * n + 4)) y) above4 ∙ drop-drop (j - (68 * n + 4)) (68 * n + 4) w0)
+      let q : j ≡ blockWords * n + headWords + (j - (blockWords * n + headWords)) = omega arith in
+      rw q (sym (drop-drop (j - (blockWords * n + headWords)) (blockWords * n + headWords) w1) ∙ ap (λ (y : List ℕ). drop (j - (blockWords * n + headWords)) y) above4 ∙ drop-drop (j - (blockWords * n + headWords)) (blockWords * n + headWords) w0)
 
   -- the words of block n stay
-  block-same : (j : ℕ) (ws : List ℕ) → 68 * n + 4 ≤ j → j + length ws ≤ 68 * (n + 1) → Lies w0 j ws → Lies w2 j ws
-  block-same j ws a b l = same-part (68 * (n + 1)) w1 w2 (A .kept) j (length ws) b ∙ ap (λ (y : List ℕ). take (length ws) y) (drop-same j a) ∙ l
+  block-same : (j : ℕ) (ws : List ℕ) → blockWords * n + headWords ≤ j → j + length ws ≤ blockWords * (n + 1) → Lies w0 j ws → Lies w2 j ws
+  block-same j ws a b l = same-part (blockWords * (n + 1)) w1 w2 (A .kept) j (length ws) b ∙ ap (λ (y : List ℕ). take (length ws) y) (drop-same j a) ∙ l
 
   name-same : field w2 n 0 ≡ field w0 n 0
   name-same =
-      let q : 68 * n ≡ 68 * n + 0 = omega arith in
-      same-word (68 * (n + 1)) w1 w2 (A .kept) (68 * n + 0) (omega arith) ∙ (rw e1 (head-name w0 n (getD w0 (68 * n) 0) 2 here len (omega arith))) ∙ ap (λ (j : ℕ). getD w0 j 0) q
+      let q : blockWords * n ≡ blockWords * n + 0 = omega arith in
+      same-word (blockWords * (n + 1)) w1 w2 (A .kept) (blockWords * n + 0) (omega arith) ∙ (rw e1 (head-name w0 n (getD w0 (blockWords * n) 0) 2 here len (omega arith))) ∙ ap (λ (j : ℕ). getD w0 j 0) q
 
   pub each-pends : (ds : Domains) → Pending w0 n (m + 1) ds → Pending w2 n (m + 1) ds
   each-pends ds p = subst (λ (j : ℕ). Pending w2 n j ds) (sym (add-one m)) (keep-all ds (subst (λ (j : ℕ). Pending w0 n j ds) (add-one m) p))
     where
       keep-all : (es : Domains) → Pending w0 n (suc m) es → Pending w2 n (suc m) es
       keep-all (domain i us es) (more e l short nr p) =
-          more (name-same ∙ e) (block-same (68 * n + 4) (encode (Value.set us)) (omega arith) (omega arith) l) short nr
-          (subst (λ (j : ℕ). Pending w2 j m es) (add-one n) (A .pends es (subst (λ (j : ℕ). Pending w1 j m es) (sym (add-one n)) (pending-above w0 w1 (68 * n + 4) above4 (suc n) m (omega arith) p))))
+          more (name-same ∙ e) (block-same (blockWords * n + headWords) (encode (Value.set us)) (omega arith) (omega arith) l) short nr
+          (subst (λ (j : ℕ). Pending w2 j m es) (add-one n) (A .pends es (subst (λ (j : ℕ). Pending w1 j m es) (sym (add-one n)) (pending-above w0 w1 (blockWords * n + headWords) above4 (suc n) m (omega arith) p))))
 
   -- the next member and the rest
   module _ (v : Value) (vs : Values) (g : RestIn w0 n at c (cons v vs)) where
@@ -106,13 +106,13 @@ module _ (doc state w0 w1 w2 : List ℕ) (n m k at c here len : ℕ) (s : Held) 
     next-scoped scope sc i e =
         let a = g .short in
         let b = length-append (encode v) (encodes vs) in
-        let l4 : 68 * n + 4 ≤ length w0 = omega arith in
+        let l4 : blockWords * n + headWords ≤ length w0 = omega arith in
         let z = next-len in
-        let q : 68 * n ≡ 68 * n + 0 = omega arith in
-        let name : field w1 n 0 ≡ getD w0 (68 * n) 0 = (rw e1 (head-name w0 n (getD w0 (68 * n) 0) 2 here len l4)) in
-        let class : field w1 n 1 ≡ 2 = (rw e1 (head-class w0 n (getD w0 (68 * n) 0) 2 here len l4)) in
-        let place : field w1 n 2 ≡ here = (rw e1 (head-place w0 n (getD w0 (68 * n) 0) 2 here len l4)) in
-        let size : field w1 n 3 ≡ len = (rw e1 (head-length w0 n (getD w0 (68 * n) 0) 2 here len l4)) in
+        let q : blockWords * n ≡ blockWords * n + 0 = omega arith in
+        let name : field w1 n 0 ≡ getD w0 (blockWords * n) 0 = (rw e1 (head-name w0 n (getD w0 (blockWords * n) 0) 2 here len l4)) in
+        let class : field w1 n 1 ≡ 2 = (rw e1 (head-class w0 n (getD w0 (blockWords * n) 0) 2 here len l4)) in
+        let place : field w1 n 2 ≡ here = (rw e1 (head-place w0 n (getD w0 (blockWords * n) 0) 2 here len l4)) in
+        let size : field w1 n 3 ≡ len = (rw e1 (head-length w0 n (getD w0 (blockWords * n) 0) 2 here len l4)) in
         rw (add-one n)
         (named (scoped-same state w0 w1 n below0 sc) (name ∙ ap (λ (j : ℕ). getD w0 j 0) q ∙ e)
         (inWork {v = v} class (rw (place, size) (omega arith)) (rw (place, size) next-stored)))
@@ -124,14 +124,14 @@ module _ (doc state w0 w1 w2 : List ℕ) (n m k at c here len : ℕ) (s : Held) 
         let b = length-append (encode v) (encodes vs) in
         let z = next-len in
         let d = g .counted in
-        let t : 68 * n + (4 + (at + len)) ≡ here + length (encode v) = omega arith in
-        let l : Lies w0 (68 * n + (4 + (at + len))) (encodes vs) =
+        let t : blockWords * n + (4 + (at + len)) ≡ here + length (encode v) = omega arith in
+        let l : Lies w0 (blockWords * n + (4 + (at + len))) (encodes vs) =
         rw t (ap (λ (y : List ℕ). take (length (encodes vs)) y)
         (sym (drop-drop (length (encode v)) here w0) ∙ ap (λ (y : List ℕ). drop (length (encode v)) y) (lies-more w0 here v vs lies0) ∙ drop-at (encode v) _ (length (encode v)) refl)
         ∙ take-at (encodes vs) _ (length (encodes vs)) refl)
         in
         record {
-          lies = block-same (68 * n + (4 + (at + len))) (encodes vs) (omega arith) (omega arith) l;
+          lies = block-same (blockWords * n + (4 + (at + len))) (encodes vs) (omega arith) (omega arith) l;
           short = omega arith;
           counted = omega arith;
           narrow = narrow-tail v vs (g .narrow);
@@ -141,7 +141,7 @@ module _ (doc state w0 w1 w2 : List ℕ) (n m k at c here len : ℕ) (s : Held) 
         Told Flowed x (assign ds (turnAt doc k) (bind i (valued v) scope) ss)
     next-told scope sc i us ds (more e l short nr p) ss hs =
         A .told (bind i (valued v) scope) (next-scoped scope sc i e) ds
-        (subst (λ (j : ℕ). Pending w1 j m ds) (sym (add-one n)) (pending-above w0 w1 (68 * n + 4) above4 (suc n) m (omega arith) p)) ss hs
+        (subst (λ (j : ℕ). Pending w1 j m ds) (sym (add-one n)) (pending-above w0 w1 (blockWords * n + headWords) above4 (suc n) m (omega arith) p)) ss hs
 
   -- it stops, or ends all assignments
   pub each-stop : (x .number ≡ 0 → ⊥) → EachTold doc k state w0 n m at c s x

@@ -29,7 +29,7 @@ use Rattle.evaluator_rules.specs.Rules.{evalExpr, evalLines, stopInclude}
 use Rattle.evaluator_nodes.specs.Turns.{turnAt}
 use Rattle.evaluator_operations.specs.declared.worked.Worked.{Worked}
 use Rattle.evaluator_operations.specs.Worked.{Holds, Told, fine, ceased, Valued, Flowed, Stops}
-use Rattle.evaluator_scope.specs.Blocks.{field, Scoped, hidden, Pending, more, Pushed, Leaves}
+use Rattle.evaluator_scope.specs.Blocks.{field, Scoped, hidden, Pending, more, Pushed, Leaves, blockWords}
 use Rattle.evaluator_scope.specs.Blocks as Blocks
 use Rattle.evaluator_nodes.specs.Ready.{Ready, Scoping, Assigns, AssignTold, LinesTold, joinDomains, linesThen}
 use Rattle.evaluator_operations.proofs.ToldLaws.{after-told, stop-told, go-told, halt-told, at-pure, at-stop}
@@ -142,7 +142,7 @@ module _ (doc : List ℕ) (k t e i : ℕ) (state work : List ℕ) (n m : ℕ) wh
             rw (decl-tree a y) (assoc-told _ _ _ (go-told (g scope sm) z (λ u j. assoc-told _ _ _ (rw (tag-none v u (λ w. b (held-tag _ u (j .held) ∙ w))) (at-stop _ s (λ w. omega arith))))))
 
         pub decl-go : (w1 w2 : List ℕ) (x′ r : Worked) → ((scope : Scope) → Scoped state work (n + m) scope → Told Valued x′ (evalExpr (exprAt doc a) scope)) → x′ .number ≡ 0 →
-            getD (x′ .held .words) 0 0 ≡ 3 → take (68 * (n + m)) w1 ≡ take (68 * (n + m)) work →
+            getD (x′ .held .words) 0 0 ≡ 3 → take (blockWords * (n + m)) w1 ≡ take (blockWords * (n + m)) work →
             Pushed w1 w2 (n + m) (length (part doc v) - 2) ((us : Values) → Holds (x′ .held) (Value.set us) → Pending w2 (n + m) (length (part doc v) - 2) (domains (drop 2 (part doc v)) us noMore)) →
             LinesTold doc k (linesFrom doc t (i + 1) (e - (i + 1))) state w2 n (m + (length (part doc v) - 2)) r →
             LinesTold doc k (linesFrom doc t i (e - i)) state work n m r
@@ -159,11 +159,11 @@ module _ (doc : List ℕ) (k t e i : ℕ) (state work : List ℕ) (n m : ℕ) wh
             c : ℕ
             c = length (part doc v) - 2
 
-            low : take (68 * (n + m)) w2 ≡ take (68 * (n + m)) work
+            low : take (blockWords * (n + m)) w2 ≡ take (blockWords * (n + m)) work
             low = pushed .kept ∙ kept
 
             scoped2 : Scoped state w2 n scope
-            scoped2 = scoped-same state work w2 n (same-less (68 * (n + m)) work w2 low (68 * n) (omega arith)) sc
+            scoped2 = scoped-same state work w2 n (same-less (blockWords * (n + m)) work w2 low (blockWords * n) (omega arith)) sc
 
             scopedm : Scoped state w2 (n + (m + c)) scope
             scopedm =

@@ -15,6 +15,7 @@ use Rattle.reader_rules.specs.Nodes.{kindAt, operandAt}
 use Rattle.reader_rules.specs.Promise.{At, Lower}
 use Rattle.reader_rules.specs.Tree.{Lines}
 use Rattle.reader_rules.specs.Decode.{exprAt, predAt}
+use Rattle.evaluator_rules.specs.Run.{runWorkWords}
 use Rattle.evaluator_rules.specs.Outcomes.{Outcome, _>>=_}
 use Rattle.evaluator_rules.specs.Scope.{Scope}
 use Rattle.evaluator_rules.specs.Assignments.{Domains, noMore, domain, Flow, Body, assign, each}
@@ -22,14 +23,14 @@ use Rattle.evaluator_rules.specs.Rules.{evalExpr, evalPred, evalLines}
 use Rattle.evaluator_nodes.specs.Turns.{turnAt}
 use Rattle.evaluator_operations.specs.declared.worked.Worked.{Worked}
 use Rattle.evaluator_operations.specs.Worked.{allNarrow, Holds, Told, Valued, Judged, Flowed}
-use Rattle.evaluator_scope.specs.Blocks.{Lies, Scoped, Pending, Leaves}
+use Rattle.evaluator_scope.specs.Blocks.{Lies, Scoped, Pending, Leaves, blockWords, blockCount}
 use Rattle.values.specs.Value as Value
 
--- Node k of sort s with n blocks in the work area. A work area has 240 blocks: there is room for 6 identifiers at each node from here down.
+-- Node k of sort s with n blocks in the work area. There is room for 6 identifiers at each node from here down.
 pub record Ready (doc work : List ℕ) (s n k : ℕ) : Type 0 where
   pub at : At doc s k
-  pub room : n + 6 * (13 - depth doc k) ≤ 240
-  pub wide : 16384 ≤ length work
+  pub room : n + 6 * (13 - depth doc k) ≤ blockCount
+  pub wide : runWorkWords ≤ length work
 
 -- w are the words of node k
 pub record Handed (doc work w : List ℕ) (s n k : ℕ) : Type 0 where
@@ -48,8 +49,8 @@ pub record Scoping (doc work : List ℕ) (n m k : ℕ) : Type 0 where
   pub most : k ≤ Layout.count doc
   pub text : Lower doc k texts (operandAt doc k 1)
   pub few : m ≤ 6
-  pub room : n + m + 6 * (12 - depth doc k) ≤ 240
-  pub wide : 16384 ≤ length work
+  pub room : n + m + 6 * (12 - depth doc k) ≤ blockCount
+  pub wide : runWorkWords ≤ length work
 
 -- what a result tells, for the scope that the blocks are
 abbrev pub Tells : {A : Type 0} → List ℕ → List ℕ → ℕ → (Worked → A → Type 0) → Worked → (Scope → Outcome A) → Type 0
@@ -71,14 +72,14 @@ pub record Rest (h : Held) (at n : ℕ) (vs : Values) : Type 0 where
 
 -- the members whose words lie in block b, from a place on
 pub record RestIn (work : List ℕ) (b at n : ℕ) (vs : Values) : Type 0 where
-  pub lies : Lies work (68 * b + (4 + at)) (encodes vs)
+  pub lies : Lies work (blockWords * b + (4 + at)) (encodes vs)
   pub short : at + length (encodes vs) ≤ 64
   pub counted : count vs ≡ n
   pub narrow : allNarrow vs ≡ true
 
 -- the assignments of m identifiers leave them as they are
 pub record Assigns (n m : ℕ) (before after : List ℕ) (Claim : Type 0) : Type 0 where
-  pub kept : take (68 * n) after ≡ take (68 * n) before
+  pub kept : take (blockWords * n) after ≡ take (blockWords * n) before
   pub pends : (ds : Domains) → Pending before n m ds → Pending after n m ds
   pub told : Claim
 

@@ -6,6 +6,7 @@ use Prim.Native.Nat.{ℕ, _+_, _≤_}
 use lib.ListN.{length}
 use Rattle.reader_rules.specs.Tree.{Pred, Lines, end, declaration, inclusion}
 use Rattle.states_rules.specs.States.{State}
+use Rattle.evaluator_rules.specs.Run.{runWorkWords}
 use Rattle.evaluator_rules.specs.Outcomes.{Outcome, _>>=_, pure}
 use Rattle.evaluator_rules.specs.Rules.{evalPred}
 use Rattle.evaluator_rules.specs.Scope.{Scope}
@@ -17,7 +18,7 @@ use Rattle.evaluator_scope.specs.Blocks.{Scoped}
 -- room for all global names, at most 64, and for the identifiers of Texts above them
 pub record Roomy (work : List ℕ) (n m : ℕ) : Type 0 where
   pub few : n + m ≤ 64
-  pub wide : 16384 ≤ length work
+  pub wide : runWorkWords ≤ length work
 
 -- the identifiers of an Axiom's Decls, with the values that the state gives them; `bindGivens` binds any identifiers
 unfoldable pub bindLines : Lines → State → Scope → Scope

@@ -19,7 +19,7 @@ use Rattle.states_rules.specs.States.{State, sizesIn, stateOf}
 use Rattle.evaluator_rules.specs.Outcomes.{Event, Outcome}
 use Rattle.evaluator_rules.specs.Scope.{Scope, empty, bind, valued}
 use Rattle.evaluator_rules.specs.Paragraphs.{Step, onward, failed, then, unless, bindGivens, testNames, testLines, runParagraph, runParagraphs, runDocument}
-use Rattle.evaluator_rules.specs.Run.{ending, runState, runWork, runRead, runOf}
+use Rattle.evaluator_rules.specs.Run.{ending, runState, runWork, runRead, runOf, runWorkWords}
 use Rattle.evaluator_rules.specs.Claims as Claims
 use Rattle.evaluator_rules.specs.Claims.{Listed, Good, finished, ceased, Formed}
 use Rattle.evaluator_rules.proofs.Outcomes.{bind-good, pure-good, choose-good}
@@ -103,7 +103,7 @@ module _ (doc state : List ℕ) (words : Words state) where
 
   read-kept : (work : ℕ) (r : Reading) → readOf doc ≡ r → Kept (runRead r doc state work .list)
   unfolding runRead
-  read-kept work Readable e = work-kept e (leb 16384 work)
+  read-kept work Readable e = work-kept e (leb runWorkWords work)
   read-kept work (Unreadable n p) e = Claims.empty
 
 -- for any document words and any state of 32-bit words; an ill-formed state is 41 and lists nothing

@@ -17,7 +17,7 @@ use Rattle.evaluator_rules.specs.Scope.{Scope}
 use Rattle.states_rules.specs.Names.{documentNames}
 use Rattle.states_rules.specs.States.{State, stateOf}
 use Rattle.evaluator_rules.specs.Paragraphs.{Step, onward, failed, then, testNames, testLines, runParagraph, runParagraphs, runDocument}
-use Rattle.evaluator_rules.specs.Run.{ran, ending, runState, runWork, runRead, runOf}
+use Rattle.evaluator_rules.specs.Run.{ran, ending, runState, runWork, runRead, runOf, runWorkWords}
 use Rattle.evaluator_rules.specs.declared.Finding.the-variants.{Refused}
 use Rattle.evaluator_rules.specs.Claims.{finished, ceased, Finds, unreadable, noRoom, illFormed, holds, fails, troubled, WellFormed}
 use Rattle.evaluator_rules.proofs.Outcomes.{pure-good, choose-good}
@@ -61,27 +61,27 @@ unfolding runDocument
 document-fine (document n ps) state = paragraphs-fine ps state _
 
 module _ (doc state : List ℕ) (work : ℕ) (read : readOf doc ≡ Readable) where
-  ending-finds : 16384 ≤ work → WellFormed (documentNames (treeOf doc)) state → {m : Outcome Step} → Fine m → Finds doc state work (ending m)
+  ending-finds : runWorkWords ≤ work → WellFormed (documentNames (treeOf doc)) state → {m : Outcome Step} → Fine m → Finds doc state work (ending m)
   unfolding ending
   ending-finds l w (finished {a = onward scope} t _) = holds read l w t
   ending-finds l w (finished {a = failed n} t _) = fails read l w t
   ending-finds l w (ceased t s) = troubled read l w t s
 
-  state-finds : 16384 ≤ work → (r : Reading) → stateOf (documentNames (treeOf doc)) state ≡ r → Finds doc state work (runState r (treeOf doc) state)
+  state-finds : runWorkWords ≤ work → (r : Reading) → stateOf (documentNames (treeOf doc)) state ≡ r → Finds doc state work (runState r (treeOf doc) state)
   unfolding runState
   state-finds l Readable e = ending-finds l (state-well (documentNames (treeOf doc)) state .0 e) (document-fine (treeOf doc) _)
   state-finds l (Unreadable n p) e =
       let h = state-ill (documentNames (treeOf doc)) state n p .0 e in
       subst (λ (x : ℕ). Finds doc state work (ran (Refused x p) [])) (sym (h .0)) (illFormed read l (h .1))
 
-  work-finds : (b : Bool) → leb 16384 work ≡ b → Finds doc state work (runWork b (treeOf doc) state)
+  work-finds : (b : Bool) → leb runWorkWords work ≡ b → Finds doc state work (runWork b (treeOf doc) state)
   unfolding runWork
-  work-finds true e = state-finds (leb-true 16384 work e) _ refl
-  work-finds false e = noRoom read (leb-false 16384 work e)
+  work-finds true e = state-finds (leb-true runWorkWords work e) _ refl
+  work-finds false e = noRoom read (leb-false runWorkWords work e)
 
 read-finds : (doc state : List ℕ) (work : ℕ) (r : Reading) → readOf doc ≡ r → Finds doc state work (runRead r doc state work)
 unfolding runRead
-read-finds doc state work Readable e = work-finds doc state work e (leb 16384 work) refl
+read-finds doc state work Readable e = work-finds doc state work e (leb runWorkWords work) refl
 read-finds doc state work (Unreadable n p) e = unreadable e
 
 pub run-finds : (doc state : List ℕ) (work : ℕ) → Finds doc state work (runOf doc state work)

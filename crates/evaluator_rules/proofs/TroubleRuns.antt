@@ -14,7 +14,7 @@ use Rattle.evaluator_rules.specs.Outcomes.{Event, Outcome, done, stopped
 use Rattle.evaluator_rules.specs.Scope.{Scope, empty}
 use Rattle.evaluator_rules.specs.Rules.{test, stopInclude}
 use Rattle.evaluator_rules.specs.Paragraphs.{Step, onward, failed, runParagraph, runDocument}
-use Rattle.evaluator_rules.specs.Run.{Ran, ending, runState, runOf}
+use Rattle.evaluator_rules.specs.Run.{Ran, ending, runState, runOf, runWorkWords}
 use Rattle.evaluator_rules.specs.Claims.{WellFormed}
 use Rattle.evaluator_rules.specs.Listing.{stops}
 use Rattle.evaluator_rules.specs.ListingRun
@@ -103,7 +103,7 @@ refused-ending : {o : Outcome Step} {w m : ℕ} → Stops o w m → ending o .fi
 unfolding ending
 refused-ending broke = refl
 
-module _ (doc state : List ℕ) (work : ℕ) (read : readOf doc ≡ Readable) (room : 16384 ≤ work) (well : WellFormed (documentNames (treeOf doc)) state) where
+module _ (doc state : List ℕ) (work : ℕ) (read : readOf doc ≡ Readable) (room : runWorkWords ≤ work) (well : WellFormed (documentNames (treeOf doc)) state) where
   by-document : runOf doc state work .finding ≡ ending (runDocument (treeOf doc) (valueIn (documentNames (treeOf doc)) state)) .finding
   unfolding runState
   by-document = ap (λ (r : Ran). r .finding) (by-state doc state work read room Readable (state-well (documentNames (treeOf doc)) state .1 well))

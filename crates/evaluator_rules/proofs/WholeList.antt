@@ -17,7 +17,7 @@ use Rattle.evaluator_rules.specs.Outcomes.{Event, Outcome, _>>=_}
 use Rattle.evaluator_rules.specs.Scope.{Scope}
 use Rattle.evaluator_rules.specs.Rules.{evalExpr, testExpr, stopInclude}
 use Rattle.evaluator_rules.specs.Paragraphs.{Step, onward, failed, then, unless, testNames, testLines, runParagraph, runParagraphs, runDocument}
-use Rattle.evaluator_rules.specs.Run.{Ran, ran, ending, runState, runWork, runRead, runOf}
+use Rattle.evaluator_rules.specs.Run.{Ran, ran, ending, runState, runWork, runRead, runOf, runWorkWords}
 use Rattle.evaluator_rules.specs.Claims.{WellFormed}
 use Rattle.evaluator_rules.specs.Listing.{Result, gives, stops, Tests}
 use Rattle.evaluator_rules.specs.ListingRun
@@ -78,27 +78,27 @@ module _ (state : State) where
   document-says (document n ps) = other-says (paragraphs-say ps _) (λ t r h. ListingRun.inOrder h)
 
 module _ (doc state : List ℕ) (work : ℕ) (read : readOf doc ≡ Readable) where
-  ending-lists : 16384 ≤ work → WellFormed (documentNames (treeOf doc)) state → {o : Outcome Step} → Says (RunsDocument (valueIn (documentNames (treeOf doc)) state) (treeOf doc)) o → Lists doc state work (ending o)
+  ending-lists : runWorkWords ≤ work → WellFormed (documentNames (treeOf doc)) state → {o : Outcome Step} → Says (RunsDocument (valueIn (documentNames (treeOf doc)) state) (treeOf doc)) o → Lists doc state work (ending o)
   unfolding ending
   ending-lists l w (Said.finished {a = onward scope} h) = ListingRun.holds read l w h
   ending-lists l w (Said.finished {a = failed n} h) = ListingRun.fails read l w h
   ending-lists l w (Said.ceased h) = ListingRun.troubled read l w h
 
-  state-lists : 16384 ≤ work → (r : Reading) → stateOf (documentNames (treeOf doc)) state ≡ r → Lists doc state work (runState r (treeOf doc) state)
+  state-lists : runWorkWords ≤ work → (r : Reading) → stateOf (documentNames (treeOf doc)) state ≡ r → Lists doc state work (runState r (treeOf doc) state)
   unfolding runState
   state-lists l Readable e = ending-lists l (state-well (documentNames (treeOf doc)) state .0 e) (document-says _ (treeOf doc))
   state-lists l (Unreadable n p) e =
       let h = state-ill (documentNames (treeOf doc)) state n p .0 e in
       subst (λ (x : ℕ). Lists doc state work (ran (Refused x p) [])) (sym (h .0)) (ListingRun.illFormed read l (h .1))
 
-  work-lists : (b : Bool) → leb 16384 work ≡ b → Lists doc state work (runWork b (treeOf doc) state)
+  work-lists : (b : Bool) → leb runWorkWords work ≡ b → Lists doc state work (runWork b (treeOf doc) state)
   unfolding runWork
-  work-lists true e = state-lists (leb-true 16384 work e) _ refl
-  work-lists false e = ListingRun.noRoom read (leb-false 16384 work e)
+  work-lists true e = state-lists (leb-true runWorkWords work e) _ refl
+  work-lists false e = ListingRun.noRoom read (leb-false runWorkWords work e)
 
 read-lists : (doc state : List ℕ) (work : ℕ) (r : Reading) → readOf doc ≡ r → Lists doc state work (runRead r doc state work)
 unfolding runRead
-read-lists doc state work Readable e = work-lists doc state work e (leb 16384 work) refl
+read-lists doc state work Readable e = work-lists doc state work e (leb runWorkWords work) refl
 read-lists doc state work (Unreadable n p) e = ListingRun.unreadable e
 
 -- for every document, state and work area, the run's finding and list are given
@@ -169,15 +169,15 @@ ending-of (finished {a = failed n}) = refl
 ending-of ceased = refl
 
 module _ (doc state : List ℕ) (work : ℕ) (read : readOf doc ≡ Readable) where
-  no-room : work < 16384 → runOf doc state work ≡ ran (Refused 21 0) []
+  no-room : work < runWorkWords → runOf doc state work ≡ ran (Refused 21 0) []
   unfolding runOf runRead runWork
-  no-room l = ap (λ (r : Reading). runRead r doc state work) read ∙ ap (λ (b : Bool). runWork b (treeOf doc) state) (lt-leb 16384 work l)
+  no-room l = ap (λ (r : Reading). runRead r doc state work) read ∙ ap (λ (b : Bool). runWork b (treeOf doc) state) (lt-leb runWorkWords work l)
 
-  pub by-state : 16384 ≤ work → (r : Reading) → stateOf (documentNames (treeOf doc)) state ≡ r → runOf doc state work ≡ runState r (treeOf doc) state
+  pub by-state : runWorkWords ≤ work → (r : Reading) → stateOf (documentNames (treeOf doc)) state ≡ r → runOf doc state work ≡ runState r (treeOf doc) state
   unfolding runOf runRead runWork
-  by-state l r e = ap (λ (x : Reading). runRead x doc state work) read ∙ ap (λ (b : Bool). runWork b (treeOf doc) state) (le-leb 16384 work l) ∙ ap (λ (x : Reading). runState x (treeOf doc) state) e
+  by-state l r e = ap (λ (x : Reading). runRead x doc state work) read ∙ ap (λ (b : Bool). runWork b (treeOf doc) state) (le-leb runWorkWords work l) ∙ ap (λ (x : Reading). runState x (treeOf doc) state) e
 
-  by-run : 16384 ≤ work → WellFormed (documentNames (treeOf doc)) state → {t : List Event} {r : Result Step} → RunsDocument (valueIn (documentNames (treeOf doc)) state) (treeOf doc) t r → runOf doc state work ≡ endingOf t r
+  by-run : runWorkWords ≤ work → WellFormed (documentNames (treeOf doc)) state → {t : List Event} {r : Result Step} → RunsDocument (valueIn (documentNames (treeOf doc)) state) (treeOf doc) t r → runOf doc state work ≡ endingOf t r
   unfolding runState
   by-run l w h = by-state l Readable (state-well (documentNames (treeOf doc)) state .1 w) ∙ ending-of (document-comes _ h)
 

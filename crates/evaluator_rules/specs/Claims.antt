@@ -14,7 +14,7 @@ use Rattle.evaluator_rules.specs.WordCount.{wordCount}
 use Rattle.evaluator_rules.specs.Outcomes.{Event, worked, Outcome, done, stopped}
 use Rattle.states_rules.specs.Names.{Name, documentNames}
 use Rattle.states_rules.specs.States.{isPaired, givenNumber, valueNumber}
-use Rattle.evaluator_rules.specs.Run.{Ran, ran}
+use Rattle.evaluator_rules.specs.Run.{Ran, ran, runWorkWords}
 use Rattle.evaluator_rules.specs.declared.Finding.the-variants.{Holds, Fails, Refused}
 
 pub data Listed (E : ℕ → Value → Type 0) : List Event → Type 0 where
@@ -61,8 +61,8 @@ Trouble number node = (51 ≤ number) × (number ≤ 55)
 -- the findings of a run, in their order: reading's, 21, 41, the paragraphs'
 pub data Finds (doc state : List ℕ) (work : ℕ) : Ran → Type 0 where
   unreadable : {n p : ℕ} → readOf doc ≡ Unreadable n p → Finds doc state work (ran (Refused n p) [])
-  noRoom : readOf doc ≡ Readable → work < 16384 → Finds doc state work (ran (Refused 21 0) [])
-  illFormed : {p : ℕ} → readOf doc ≡ Readable → 16384 ≤ work → IllFormed (documentNames (treeOf doc)) state p → Finds doc state work (ran (Refused 41 p) [])
-  holds : {t : List Event} → readOf doc ≡ Readable → 16384 ≤ work → WellFormed (documentNames (treeOf doc)) state → Listed Short t → Finds doc state work (ran Holds t)
-  fails : {n : ℕ} {t : List Event} → readOf doc ≡ Readable → 16384 ≤ work → WellFormed (documentNames (treeOf doc)) state → Listed Short t → Finds doc state work (ran (Fails n) t)
-  troubled : {n p : ℕ} {t : List Event} → readOf doc ≡ Readable → 16384 ≤ work → WellFormed (documentNames (treeOf doc)) state → Listed Short t → Trouble n p → Finds doc state work (ran (Refused n p) t)
+  noRoom : readOf doc ≡ Readable → work < runWorkWords → Finds doc state work (ran (Refused 21 0) [])
+  illFormed : {p : ℕ} → readOf doc ≡ Readable → runWorkWords ≤ work → IllFormed (documentNames (treeOf doc)) state p → Finds doc state work (ran (Refused 41 p) [])
+  holds : {t : List Event} → readOf doc ≡ Readable → runWorkWords ≤ work → WellFormed (documentNames (treeOf doc)) state → Listed Short t → Finds doc state work (ran Holds t)
+  fails : {n : ℕ} {t : List Event} → readOf doc ≡ Readable → runWorkWords ≤ work → WellFormed (documentNames (treeOf doc)) state → Listed Short t → Finds doc state work (ran (Fails n) t)
+  troubled : {n p : ℕ} {t : List Event} → readOf doc ≡ Readable → runWorkWords ≤ work → WellFormed (documentNames (treeOf doc)) state → Listed Short t → Trouble n p → Finds doc state work (ran (Refused n p) t)

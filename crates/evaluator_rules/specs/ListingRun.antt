@@ -14,7 +14,7 @@ use Rattle.states_rules.specs.States.{State, valueIn}
 use Rattle.evaluator_rules.specs.Outcomes.{Event}
 use Rattle.evaluator_rules.specs.Scope.{Scope, empty, bind, valued, generic}
 use Rattle.evaluator_rules.specs.Paragraphs.{Step, onward, failed, bindGivens}
-use Rattle.evaluator_rules.specs.Run.{Ran, ran, runOf}
+use Rattle.evaluator_rules.specs.Run.{Ran, ran, runOf, runWorkWords}
 use Rattle.evaluator_rules.specs.Claims.{IllFormed, WellFormed}
 use Rattle.evaluator_rules.specs.Listing.{Result, gives, stops, Works, Tells, Tests}
 use Rattle.evaluator_rules.specs.declared.Finding.the-variants.{Holds, Fails, Refused}
@@ -74,13 +74,13 @@ pub data RunsDocument (state : State) : Document → List Event → Result Step 
 -- The run of a document's words with a state's, in a work area of `work` words: its finding and its list. A refusal before the paragraphs has no list.
 pub data Lists (doc state : List ℕ) (work : ℕ) : Ran → Type 0 where
   unreadable : {n p : ℕ} → readOf doc ≡ Unreadable n p → Lists doc state work (ran (Refused n p) [])
-  noRoom : readOf doc ≡ Readable → work < 16384 → Lists doc state work (ran (Refused 21 0) [])
-  illFormed : {p : ℕ} → readOf doc ≡ Readable → 16384 ≤ work → IllFormed (documentNames (treeOf doc)) state p → Lists doc state work (ran (Refused 41 p) [])
-  holds : {t : List Event} {scope : Scope} → readOf doc ≡ Readable → 16384 ≤ work → WellFormed (documentNames (treeOf doc)) state
+  noRoom : readOf doc ≡ Readable → work < runWorkWords → Lists doc state work (ran (Refused 21 0) [])
+  illFormed : {p : ℕ} → readOf doc ≡ Readable → runWorkWords ≤ work → IllFormed (documentNames (treeOf doc)) state p → Lists doc state work (ran (Refused 41 p) [])
+  holds : {t : List Event} {scope : Scope} → readOf doc ≡ Readable → runWorkWords ≤ work → WellFormed (documentNames (treeOf doc)) state
       → RunsDocument (valueIn (documentNames (treeOf doc)) state) (treeOf doc) t (gives (onward scope)) → Lists doc state work (ran Holds t)
-  fails : {t : List Event} {n : ℕ} → readOf doc ≡ Readable → 16384 ≤ work → WellFormed (documentNames (treeOf doc)) state
+  fails : {t : List Event} {n : ℕ} → readOf doc ≡ Readable → runWorkWords ≤ work → WellFormed (documentNames (treeOf doc)) state
       → RunsDocument (valueIn (documentNames (treeOf doc)) state) (treeOf doc) t (gives (failed n)) → Lists doc state work (ran (Fails n) t)
-  troubled : {t : List Event} {w m : ℕ} → readOf doc ≡ Readable → 16384 ≤ work → WellFormed (documentNames (treeOf doc)) state
+  troubled : {t : List Event} {w m : ℕ} → readOf doc ≡ Readable → runWorkWords ≤ work → WellFormed (documentNames (treeOf doc)) state
       → RunsDocument (valueIn (documentNames (treeOf doc)) state) (treeOf doc) t (stops w m) → Lists doc state work (ran (Refused w m) t)
 
 -- The run's finding and list are those of the sentences above, and these give one finding and one list only.

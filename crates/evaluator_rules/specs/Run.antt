@@ -33,13 +33,17 @@ unfoldable pub runState : Reading → Document → List ℕ → Ran
 runState Readable tree state = ending (runDocument tree (valueIn (documentNames tree) state))
 runState (Unreadable number place) tree state = ran (Refused number place) []
 
+-- the words of a run's work area, at least
+abbrev pub runWorkWords : ℕ
+runWorkWords = 16384
+
 -- 21: a work area under 16,384 words
 unfoldable pub runWork : Bool → Document → List ℕ → Ran
 runWork true tree state = runState (stateOf (documentNames tree) state) tree state
 runWork false tree state = ran (Refused 21 0) []
 
 unfoldable pub runRead : Reading → List ℕ → List ℕ → ℕ → Ran
-runRead Readable doc state work = runWork (leb 16384 work) (treeOf doc) state
+runRead Readable doc state work = runWork (leb runWorkWords work) (treeOf doc) state
 runRead (Unreadable number place) doc state work = ran (Refused number place) []
 
 unfoldable pub runOf : List ℕ → List ℕ → ℕ → Ran

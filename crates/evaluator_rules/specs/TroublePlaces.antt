@@ -16,7 +16,7 @@ use Rattle.states_rules.specs.Names.{documentNames}
 use Rattle.states_rules.specs.States.{State}
 use Rattle.evaluator_rules.specs.Scope.{Scope}
 use Rattle.evaluator_rules.specs.Paragraphs.{runParagraph}
-use Rattle.evaluator_rules.specs.Run.{runOf}
+use Rattle.evaluator_rules.specs.Run.{runOf, runWorkWords}
 use Rattle.evaluator_rules.specs.Claims.{Trouble, WellFormed}
 use Rattle.evaluator_rules.specs.Evaluations.{Stops, Evaluation, working, telling, testing, declaring, including, StopsAt}
 use Rattle.evaluator_rules.specs.declared.Finding.the-variants.{Refused}
@@ -125,5 +125,5 @@ PlacedEvaluation w m (including i) = PlacedInclude w m i
 pub record TroublePlaces : Type 0 where
   pub each : (t : Evaluation) (w m : ℕ) → StopsAt t w m → Trouble w m × PlacedEvaluation w m t
   pub paragraph : (p : Paragraph) (state : State) (scope : Scope) (w m : ℕ) → Stops (runParagraph p state scope) w m → Trouble w m × PlacedParagraph w m p
-  pub run : (doc state : List ℕ) (work w m : ℕ) → readOf doc ≡ Readable → 16384 ≤ work → WellFormed (documentNames (treeOf doc)) state
+  pub run : (doc state : List ℕ) (work w m : ℕ) → readOf doc ≡ Readable → runWorkWords ≤ work → WellFormed (documentNames (treeOf doc)) state
       → runOf doc state work .finding ≡ Refused w m → Trouble w m × PlacedDocument w m (treeOf doc)

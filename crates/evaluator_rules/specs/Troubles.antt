@@ -24,7 +24,7 @@ use Rattle.evaluator_rules.specs.Scope.{Scope, empty, valued, generic, u
 use Rattle.evaluator_rules.specs.Assignments.{Domains}
 use Rattle.evaluator_rules.specs.Rules.{evalExpr, evalExprs, evalPred, evalLines}
 use Rattle.evaluator_rules.specs.Paragraphs.{runParagraph}
-use Rattle.evaluator_rules.specs.Run.{runOf}
+use Rattle.evaluator_rules.specs.Run.{runOf, runWorkWords}
 use Rattle.evaluator_rules.specs.Claims.{NotRun, IllFormed, WellFormed}
 use Rattle.evaluator_rules.specs.Listing.{NoInteger, NoSet, NoTuple, Another, assignments}
 use Rattle.evaluator_rules.specs.Evaluations.{Gives, Stops, Evaluation, working, telling, testing, declaring, including, StopsAt, Adding, Gathering, Reaches, Within, Begins, BeginsIn}
@@ -128,9 +128,9 @@ pub data InRun (state : State) : Document → Evaluation → Type 0 where
 -- the refusals of a run, with number and place
 pub data RunRefused (doc state : List ℕ) (work : ℕ) : ℕ → ℕ → Type 0 where
   unreadable : {w m : ℕ} → readOf doc ≡ Unreadable w m → RunRefused doc state work w m
-  noRoom : readOf doc ≡ Readable → work < 16384 → RunRefused doc state work 21 0
-  illFormed : {m : ℕ} → readOf doc ≡ Readable → 16384 ≤ work → IllFormed (documentNames (treeOf doc)) state m → RunRefused doc state work 41 m
-  troubled : {w m : ℕ} {u : Evaluation} → readOf doc ≡ Readable → 16384 ≤ work → WellFormed (documentNames (treeOf doc)) state → InRun (valueIn (documentNames (treeOf doc)) state) (treeOf doc) u → Row w m u
+  noRoom : readOf doc ≡ Readable → work < runWorkWords → RunRefused doc state work 21 0
+  illFormed : {m : ℕ} → readOf doc ≡ Readable → runWorkWords ≤ work → IllFormed (documentNames (treeOf doc)) state m → RunRefused doc state work 41 m
+  troubled : {w m : ℕ} {u : Evaluation} → readOf doc ≡ Readable → runWorkWords ≤ work → WellFormed (documentNames (treeOf doc)) state → InRun (valueIn (documentNames (treeOf doc)) state) (treeOf doc) u → Row w m u
       → RunRefused doc state work w m
 
 -- one that t reaches stops with w at m

@@ -18,7 +18,7 @@ use Rattle.values.specs.Value.{Value, Values, encode}
 use Rattle.values.specs.Value as Value
 use Rattle.evaluator_rules.specs.Scope.{Meaning, valued, generic, unknown, Scope, empty, bind, lookup, pick, refer, hasActuals}
 use Rattle.evaluator_rules.specs.Assignments.{Domains, noMore, domain, domains}
-use Rattle.evaluator_scope.specs.Blocks.{field, Lies, Stored, Means, inState, inWork, isGeneric, Scoped, hidden, named, Pending, more, lastBlock, headed, valueOf, Pushed, Leaves}
+use Rattle.evaluator_scope.specs.Blocks.{field, Lies, Stored, Means, inState, inWork, isGeneric, Scoped, hidden, named, Pending, more, lastBlock, headed, valueOf, Pushed, Leaves, headWords, blockWords}
 use Rattle.evaluator_scope.specs.Blocks as Blocks
 use Rattle.values.specs.Lookup.{valueAt}
 use Rattle.values.specs.Held.{keep as words}
@@ -50,44 +50,44 @@ stored-same : {v : Value} (u w : List ℕ) → u ≡ w → Stored w v → Stored
 stored-same u w e s = record { words = e ∙ s .words; short = s .short; narrow = s .narrow }
 
 module _ (state before after : List ℕ) where
-  means-same : (b : ℕ) {m : Meaning} → take (68 * (b + 1)) after ≡ take (68 * (b + 1)) before → Means state before b m → Means state after b m
+  means-same : (b : ℕ) {m : Meaning} → take (blockWords * (b + 1)) after ≡ take (blockWords * (b + 1)) before → Means state before b m → Means state after b m
   means-same b e (inState c s) =
-      let f = same-word (68 * (b + 1)) before after e in
-      let f1 = f (68 * b + 1) (omega arith) in
-      let f2 = f (68 * b + 2) (omega arith) in
-      let f3 = f (68 * b + 3) (omega arith) in
+      let f = same-word (blockWords * (b + 1)) before after e in
+      let f1 = f (blockWords * b + 1) (omega arith) in
+      let f2 = f (blockWords * b + 2) (omega arith) in
+      let f3 = f (blockWords * b + 3) (omega arith) in
       inState (f1 ∙ c) (stored-same _ _ (rw (f2, f3)) s)
   means-same b e (inWork c l s) =
-      let f = same-word (68 * (b + 1)) before after e in
-      let f1 = f (68 * b + 1) (omega arith) in
-      let f2 = f (68 * b + 2) (omega arith) in
-      let f3 = f (68 * b + 3) (omega arith) in
-      inWork (f1 ∙ c) (rw (f2, f3) l) (stored-same _ _ (rw (f2, f3) (same-part (68 * (b + 1)) before after e _ _ l)) s)
-  means-same b e (isGeneric c) = isGeneric (same-word (68 * (b + 1)) before after e (68 * b + 1) (omega arith) ∙ c)
+      let f = same-word (blockWords * (b + 1)) before after e in
+      let f1 = f (blockWords * b + 1) (omega arith) in
+      let f2 = f (blockWords * b + 2) (omega arith) in
+      let f3 = f (blockWords * b + 3) (omega arith) in
+      inWork (f1 ∙ c) (rw (f2, f3) l) (stored-same _ _ (rw (f2, f3) (same-part (blockWords * (b + 1)) before after e _ _ l)) s)
+  means-same b e (isGeneric c) = isGeneric (same-word (blockWords * (b + 1)) before after e (blockWords * b + 1) (omega arith) ∙ c)
 
-  pub scoped-same : (n : ℕ) {scope : Scope} → take (68 * n) after ≡ take (68 * n) before → Scoped state before n scope → Scoped state after n scope
+  pub scoped-same : (n : ℕ) {scope : Scope} → take (blockWords * n) after ≡ take (blockWords * n) before → Scoped state before n scope → Scoped state after n scope
   scoped-same zero e Blocks.none = Blocks.none
   scoped-same (suc n) e (hidden s h) =
-      hidden (scoped-same n (same-less (68 * suc n) before after e (68 * n) (omega arith)) s) (same-word (68 * suc n) before after e (68 * n + 1) (omega arith) ∙ h)
+      hidden (scoped-same n (same-less (blockWords * suc n) before after e (blockWords * n) (omega arith)) s) (same-word (blockWords * suc n) before after e (blockWords * n + 1) (omega arith) ∙ h)
   scoped-same (suc n) e (named s i m) =
-      let q : 68 * suc n ≡ 68 * (n + 1) = omega arith in
-      named (scoped-same n (same-less (68 * suc n) before after e (68 * n) (omega arith)) s) (same-word (68 * suc n) before after e (68 * n + 0) (omega arith) ∙ i)
+      let q : blockWords * suc n ≡ blockWords * (n + 1) = omega arith in
+      named (scoped-same n (same-less (blockWords * suc n) before after e (blockWords * n) (omega arith)) s) (same-word (blockWords * suc n) before after e (blockWords * n + 0) (omega arith) ∙ i)
       (means-same n (rw q at e) m)
 
 -- a pending block, and those above it
-pub pending-same : (before after : List ℕ) (b m : ℕ) {ds : Domains} → take (68 * (b + m)) after ≡ take (68 * (b + m)) before → Pending before b m ds → Pending after b m ds
+pub pending-same : (before after : List ℕ) (b m : ℕ) {ds : Domains} → take (blockWords * (b + m)) after ≡ take (blockWords * (b + m)) before → Pending before b m ds → Pending after b m ds
 pending-same before after b zero e Blocks.none = Blocks.none
 pending-same before after b (suc m) e (more {vs} i l s n p) =
-    let q : 68 * (b + suc m) ≡ 68 * (suc b + m) = omega arith in
-    more (same-word (68 * (b + suc m)) before after e (68 * b + 0) (omega arith) ∙ i)
-    (same-part (68 * (b + suc m)) before after e (68 * b + 4) (length (encode (Value.set vs))) (omega arith) ∙ l) s n
+    let q : blockWords * (b + suc m) ≡ blockWords * (suc b + m) = omega arith in
+    more (same-word (blockWords * (b + suc m)) before after e (blockWords * b + 0) (omega arith) ∙ i)
+    (same-part (blockWords * (b + suc m)) before after e (blockWords * b + headWords) (length (encode (Value.set vs))) (omega arith) ∙ l) s n
     (pending-same before after (suc b) m (rw q at e) p)
 
 -- the words from block b on that are the same
-pub pending-above : (before after : List ℕ) (N : ℕ) → drop N after ≡ drop N before → (b m : ℕ) {ds : Domains} → N ≤ 68 * b → Pending before b m ds → Pending after b m ds
+pub pending-above : (before after : List ℕ) (N : ℕ) → drop N after ≡ drop N before → (b m : ℕ) {ds : Domains} → N ≤ blockWords * b → Pending before b m ds → Pending after b m ds
 pending-above before after N e b zero h Blocks.none = Blocks.none
 pending-above before after N e b (suc m) h (more {vs} i l s n p) =
-    more (word (68 * b + 0) (omega arith) ∙ i) (ap (λ (x : List ℕ). take (length (encode (Value.set vs))) x) (rest (68 * b + 4) (omega arith)) ∙ l) s n (pending-above before after N e (suc b) m (omega arith) p)
+    more (word (blockWords * b + 0) (omega arith) ∙ i) (ap (λ (x : List ℕ). take (length (encode (Value.set vs))) x) (rest (blockWords * b + headWords) (omega arith)) ∙ l) s n (pending-above before after N e (suc b) m (omega arith) p)
   where
     rest : (at : ℕ) → N ≤ at → drop at after ≡ drop at before
     rest at g =
@@ -101,50 +101,50 @@ pending-above before after N e b (suc m) h (more {vs} i l s n p) =
 
 -- ---- a block's head
 module _ (work : List ℕ) (b name class at len : ℕ) where
-  pub head-take : take (68 * b) (headed work b name class at len) ≡ take (68 * b) work
+  pub head-take : take (blockWords * b) (headed work b name class at len) ≡ take (blockWords * b) work
   unfolding headed
   head-take =
-      take-set-le (68 * b) _ (68 * b + 3) len (omega arith) ∙ take-set-le (68 * b) _ (68 * b + 2) at (omega arith)
-      ∙ take-set-le (68 * b) _ (68 * b + 1) class (omega arith) ∙ take-set-le (68 * b) work (68 * b) name (omega arith)
+      take-set-le (blockWords * b) _ (blockWords * b + 3) len (omega arith) ∙ take-set-le (blockWords * b) _ (blockWords * b + 2) at (omega arith)
+      ∙ take-set-le (blockWords * b) _ (blockWords * b + 1) class (omega arith) ∙ take-set-le (blockWords * b) work (blockWords * b) name (omega arith)
 
-  pub head-drop : drop (68 * b + 4) (headed work b name class at len) ≡ drop (68 * b + 4) work
+  pub head-drop : drop (blockWords * b + headWords) (headed work b name class at len) ≡ drop (blockWords * b + headWords) work
   unfolding headed
   head-drop =
-      drop-set-lt (68 * b + 4) _ (68 * b + 3) len (omega arith) ∙ drop-set-lt (68 * b + 4) _ (68 * b + 2) at (omega arith)
-      ∙ drop-set-lt (68 * b + 4) _ (68 * b + 1) class (omega arith) ∙ drop-set-lt (68 * b + 4) work (68 * b) name (omega arith)
+      drop-set-lt (blockWords * b + headWords) _ (blockWords * b + 3) len (omega arith) ∙ drop-set-lt (blockWords * b + headWords) _ (blockWords * b + 2) at (omega arith)
+      ∙ drop-set-lt (blockWords * b + headWords) _ (blockWords * b + 1) class (omega arith) ∙ drop-set-lt (blockWords * b + headWords) work (blockWords * b) name (omega arith)
 
-  module _ (h : 68 * b + 4 ≤ length work) where
+  module _ (h : blockWords * b + headWords ≤ length work) where
     w1 : List ℕ
-    w1 = set work (68 * b) name
+    w1 = set work (blockWords * b) name
 
     w2 : List ℕ
-    w2 = set w1 (68 * b + 1) class
+    w2 = set w1 (blockWords * b + 1) class
 
     w3 : List ℕ
-    w3 = set w2 (68 * b + 2) at
+    w3 = set w2 (blockWords * b + 2) at
 
     pub head-name : field (headed work b name class at len) b 0 ≡ name
     unfolding headed w1 w2 w3
     head-name =
-        let q : 68 * b + 0 ≡ 68 * b = omega arith in
-        rw q (getD-set-other w3 (68 * b + 3) (68 * b) len 0 (λ e. omega arith) ∙ getD-set-other w2 (68 * b + 2) (68 * b) at 0 (λ e. omega arith)
-        ∙ getD-set-other w1 (68 * b + 1) (68 * b) class 0 (λ e. omega arith) ∙ getD-set-same work (68 * b) name 0 (omega arith))
+        let q : blockWords * b + 0 ≡ blockWords * b = omega arith in
+        rw q (getD-set-other w3 (blockWords * b + 3) (blockWords * b) len 0 (λ e. omega arith) ∙ getD-set-other w2 (blockWords * b + 2) (blockWords * b) at 0 (λ e. omega arith)
+        ∙ getD-set-other w1 (blockWords * b + 1) (blockWords * b) class 0 (λ e. omega arith) ∙ getD-set-same work (blockWords * b) name 0 (omega arith))
 
     pub head-class : field (headed work b name class at len) b 1 ≡ class
     unfolding headed w1 w2 w3
     head-class =
-        getD-set-other w3 (68 * b + 3) (68 * b + 1) len 0 (λ e. omega arith) ∙ getD-set-other w2 (68 * b + 2) (68 * b + 1) at 0 (λ e. omega arith)
-        ∙ getD-set-same w1 (68 * b + 1) class 0 (omega (arith, length-set work (68 * b) name))
+        getD-set-other w3 (blockWords * b + 3) (blockWords * b + 1) len 0 (λ e. omega arith) ∙ getD-set-other w2 (blockWords * b + 2) (blockWords * b + 1) at 0 (λ e. omega arith)
+        ∙ getD-set-same w1 (blockWords * b + 1) class 0 (omega (arith, length-set work (blockWords * b) name))
 
     pub head-place : field (headed work b name class at len) b 2 ≡ at
     unfolding headed w1 w2 w3
     head-place =
-        getD-set-other w3 (68 * b + 3) (68 * b + 2) len 0 (λ e. omega arith)
-        ∙ getD-set-same w2 (68 * b + 2) at 0 (omega (arith, length-set work (68 * b) name, length-set w1 (68 * b + 1) class))
+        getD-set-other w3 (blockWords * b + 3) (blockWords * b + 2) len 0 (λ e. omega arith)
+        ∙ getD-set-same w2 (blockWords * b + 2) at 0 (omega (arith, length-set work (blockWords * b) name, length-set w1 (blockWords * b + 1) class))
 
     pub head-length : field (headed work b name class at len) b 3 ≡ len
     unfolding headed w1 w2 w3
-    head-length = getD-set-same w3 (68 * b + 3) len 0 (omega (arith, length-set work (68 * b) name, length-set w1 (68 * b + 1) class, length-set w2 (68 * b + 2) at))
+    head-length = getD-set-same w3 (blockWords * b + 3) len 0 (omega (arith, length-set work (blockWords * b) name, length-set w1 (blockWords * b + 1) class, length-set w2 (blockWords * b + 2) at))
 
 -- ---- the block of a name
 abbrev pub Found : List ℕ → List ℕ → ℕ → Meaning → Type 0
@@ -175,32 +175,32 @@ module _ (state work : List ℕ) (i : ℕ) where
 
 -- one turn of the search
 module _ (work : List ℕ) (i : ℕ) where
-  pub block-hit : (n : ℕ) → 0 < n → getD work (68 * (n - 1)) 0 ≡ i → (getD work (68 * (n - 1) + 1) 0 ≡ 0 → ⊥) → n ≡ lastBlock work i n
+  pub block-hit : (n : ℕ) → 0 < n → getD work (blockWords * (n - 1)) 0 ≡ i → (getD work (blockWords * (n - 1) + 1) 0 ≡ 0 → ⊥) → n ≡ lastBlock work i n
   unfolding lastBlock
   block-hit zero h e f = absurd (omega arith)
   block-hit (suc n) h e f =
       let q : suc n - 1 ≡ n = omega arith in
-      let p : 68 * n ≡ 68 * n + 0 = omega arith in
-      sym (rw (eq-eqb (getD work (68 * n + 0) 0) i (rw (q, p) at e), ne-eqb (getD work (68 * n + 1) 0) 0 (rw q at f)))
+      let p : blockWords * n ≡ blockWords * n + 0 = omega arith in
+      sym (rw (eq-eqb (getD work (blockWords * n + 0) 0) i (rw (q, p) at e), ne-eqb (getD work (blockWords * n + 1) 0) 0 (rw q at f)))
 
-  pub block-hidden : (n : ℕ) → 0 < n → getD work (68 * (n - 1) + 1) 0 ≡ 0 → lastBlock work i n ≡ lastBlock work i (n - 1)
+  pub block-hidden : (n : ℕ) → 0 < n → getD work (blockWords * (n - 1) + 1) 0 ≡ 0 → lastBlock work i n ≡ lastBlock work i (n - 1)
   unfolding lastBlock
   block-hidden zero h e = absurd (omega arith)
   block-hidden (suc n) h e =
       let q : suc n - 1 ≡ n = omega arith in
-      rw (q, eq-eqb (getD work (68 * n + 1) 0) 0 (rw q at e)) (go (eqb (field work n 0) i))
+      rw (q, eq-eqb (getD work (blockWords * n + 1) 0) 0 (rw q at e)) (go (eqb (field work n 0) i))
     where
       go : (t : Bool) → cond t (lastBlock work i n) (lastBlock work i n) ≡ lastBlock work i n
       go true = refl
       go false = refl
 
-  pub block-other : (n : ℕ) → 0 < n → (getD work (68 * (n - 1)) 0 ≡ i → ⊥) → lastBlock work i n ≡ lastBlock work i (n - 1)
+  pub block-other : (n : ℕ) → 0 < n → (getD work (blockWords * (n - 1)) 0 ≡ i → ⊥) → lastBlock work i n ≡ lastBlock work i (n - 1)
   unfolding lastBlock
   block-other zero h e = absurd (omega arith)
   block-other (suc n) h e =
       let q : suc n - 1 ≡ n = omega arith in
-      let p : 68 * n ≡ 68 * n + 0 = omega arith in
-      rw (q, ne-eqb (getD work (68 * n + 0) 0) i (rw (q, p) at e))
+      let p : blockWords * n ≡ blockWords * n + 0 = omega arith in
+      rw (q, ne-eqb (getD work (blockWords * n + 0) 0) i (rw (q, p) at e))
 
   pub block-none : 0 ≡ lastBlock work i 0
   unfolding lastBlock
@@ -291,9 +291,9 @@ pushed-none work x b j v h =
     let z : length x - j ≡ 0 = omega arith in
     record { kept = refl; hidden = λ i p q. absurd (omega arith); told = λ vs g. rw (z, drop-of-length-le x h) Blocks.none }
 
-module _ (w0 w1 w2 w3 x : List ℕ) (b j : ℕ) (v : Held) (e1 : w1 ≡ headed w0 b (getD x j 0) 0 0 0) (e2 : w2 ≡ sets w1 (68 * b + 4) (v .words)) (long : 68 * (b + 1) ≤ length w0) (h : j < length x) where
-  below4 : take (68 * b + 4) w2 ≡ take (68 * b + 4) w1
-  below4 = rw e2 (take-sets (v .words) w1 (68 * b + 4) (68 * b + 4) (omega arith))
+module _ (w0 w1 w2 w3 x : List ℕ) (b j : ℕ) (v : Held) (e1 : w1 ≡ headed w0 b (getD x j 0) 0 0 0) (e2 : w2 ≡ sets w1 (blockWords * b + headWords) (v .words)) (long : blockWords * (b + 1) ≤ length w0) (h : j < length x) where
+  below4 : take (blockWords * b + headWords) w2 ≡ take (blockWords * b + headWords) w1
+  below4 = rw e2 (take-sets (v .words) w1 (blockWords * b + headWords) (blockWords * b + headWords) (omega arith))
 
   pub pushed-more : Pushed w2 w3 (b + 1) (length x - (j + 1)) ((vs : Values) → Holds v (Value.set vs) → Pending w3 (b + 1) (length x - (j + 1)) (domains (drop (j + 1) x) vs noMore)) →
       Pushed w0 w3 b (length x - j) ((vs : Values) → Holds v (Value.set vs) → Pending w3 b (length x - j) (domains (drop j x) vs noMore))
@@ -301,67 +301,67 @@ module _ (w0 w1 w2 w3 x : List ℕ) (b j : ℕ) (v : Held) (e1 : w1 ≡ headed w
   pushed-more p =
       let k = p .kept in
       let m : length x - j ≡ suc (length x - (j + 1)) = omega arith in
-      let c2 : (i : ℕ) → i < 68 * b + 4 → getD w2 i 0 ≡ getD w1 i 0 = same-word (68 * b + 4) w1 w2 below4 in
-      let c3 : (i : ℕ) → i < 68 * (b + 1) → getD w3 i 0 ≡ getD w2 i 0 = same-word (68 * (b + 1)) w2 w3 k in
-      let l4 : 68 * b + 4 ≤ length w0 = omega arith in
-      let class : field w3 b 1 ≡ 0 = c3 (68 * b + 1) (omega arith) ∙ c2 (68 * b + 1) (omega arith) ∙ (rw e1 (head-class w0 b (getD x j 0) 0 0 0 l4)) in
-      let name : field w3 b 0 ≡ getD x j 0 = c3 (68 * b + 0) (omega arith) ∙ c2 (68 * b + 0) (omega arith) ∙ (rw e1 (head-name w0 b (getD x j 0) 0 0 0 l4)) in
-      let l1 : 68 * b + 4 + 64 ≤ length w1 = omega (arith, ap length e1, length-headed w0 b (getD x j 0) 0 0 0) in
+      let c2 : (i : ℕ) → i < blockWords * b + headWords → getD w2 i 0 ≡ getD w1 i 0 = same-word (blockWords * b + headWords) w1 w2 below4 in
+      let c3 : (i : ℕ) → i < blockWords * (b + 1) → getD w3 i 0 ≡ getD w2 i 0 = same-word (blockWords * (b + 1)) w2 w3 k in
+      let l4 : blockWords * b + headWords ≤ length w0 = omega arith in
+      let class : field w3 b 1 ≡ 0 = c3 (blockWords * b + 1) (omega arith) ∙ c2 (blockWords * b + 1) (omega arith) ∙ (rw e1 (head-class w0 b (getD x j 0) 0 0 0 l4)) in
+      let name : field w3 b 0 ≡ getD x j 0 = c3 (blockWords * b + 0) (omega arith) ∙ c2 (blockWords * b + 0) (omega arith) ∙ (rw e1 (head-name w0 b (getD x j 0) 0 0 0 l4)) in
+      let l1 : blockWords * b + headWords + 64 ≤ length w1 = omega (arith, ap length e1, length-headed w0 b (getD x j 0) 0 0 0) in
       record {
         kept =
-            same-less (68 * (b + 1)) w2 w3 k (68 * b) (omega arith) ∙ same-less (68 * b + 4) w1 w2 below4 (68 * b) (omega arith)
+            same-less (blockWords * (b + 1)) w2 w3 k (blockWords * b) (omega arith) ∙ same-less (blockWords * b + headWords) w1 w2 below4 (blockWords * b) (omega arith)
             ∙ (rw e1 (head-take w0 b (getD x j 0) 0 0 0));
         hidden = λ i q r. ⊎-elim (λ t. subst (λ (y : ℕ). field w3 y 1 ≡ 0) t class) (λ t. p .hidden i (omega arith) (omega arith)) (eq-or-lt-of-le q);
         told = λ vs g.
-            let lies : Lies w2 (68 * b + 4) (encode (Value.set vs)) = rw e2 (copied w1 (68 * b + 4) v (Value.set vs) g l1) in
+            let lies : Lies w2 (blockWords * b + headWords) (encode (Value.set vs)) = rw e2 (copied w1 (blockWords * b + headWords) v (Value.set vs) g l1) in
             let s = g .short in
             let next : Pending w3 (suc b) (length x - (j + 1)) (domains (drop (j + 1) x) vs noMore) = (rw (add-one b) at (p .told vs g)) in
             rw (m, drop-next x j h)
-            (more name (same-part (68 * (b + 1)) w2 w3 k (68 * b + 4) (length (encode (Value.set vs))) (omega arith) ∙ lies) s (g .narrow) next);
+            (more name (same-part (blockWords * (b + 1)) w2 w3 k (blockWords * b + headWords) (length (encode (Value.set vs))) (omega arith) ∙ lies) s (g .narrow) next);
       }
 
 -- ---- a new name
-module _ (w0 w1 w2 : List ℕ) (n name : ℕ) (v : Held) (e1 : w1 ≡ sets w0 (68 * n + 4) (v .words)) (e2 : w2 ≡ headed w1 n name 2 (68 * n + 4) (v .len)) (long : 68 * (n + 1) ≤ length w0) where
-  value-kept : take (68 * n) w2 ≡ take (68 * n) w0
+module _ (w0 w1 w2 : List ℕ) (n name : ℕ) (v : Held) (e1 : w1 ≡ sets w0 (blockWords * n + headWords) (v .words)) (e2 : w2 ≡ headed w1 n name 2 (blockWords * n + headWords) (v .len)) (long : blockWords * (n + 1) ≤ length w0) where
+  value-kept : take (blockWords * n) w2 ≡ take (blockWords * n) w0
   value-kept =
-      let a : take (68 * n) w2 ≡ take (68 * n) w1 = (rw e2 (head-take w1 n name 2 (68 * n + 4) (v .len))) in
-      let b : take (68 * n) w1 ≡ take (68 * n) w0 = (rw e1 (take-sets (v .words) w0 (68 * n) (68 * n + 4) (omega arith))) in
+      let a : take (blockWords * n) w2 ≡ take (blockWords * n) w1 = (rw e2 (head-take w1 n name 2 (blockWords * n + headWords) (v .len))) in
+      let b : take (blockWords * n) w1 ≡ take (blockWords * n) w0 = (rw e1 (take-sets (v .words) w0 (blockWords * n) (blockWords * n + headWords) (omega arith))) in
       a ∙ b
 
   pub bind-value : Leaves n w0 w2 ((state : List ℕ) (scope : Scope) (x : Value) → Scoped state w0 n scope → Holds v x → Scoped state w2 (n + 1) (bind name (valued x) scope))
   bind-value =
-      let l1 : 68 * n + 4 ≤ length w1 = omega (arith, ap length e1, length-sets w0 (68 * n + 4) (v .words)) in
-      let tag : field w2 n 0 ≡ name = (rw e2 (head-name w1 n name 2 (68 * n + 4) (v .len) l1)) in
-      let class : field w2 n 1 ≡ 2 = (rw e2 (head-class w1 n name 2 (68 * n + 4) (v .len) l1)) in
-      let place : field w2 n 2 ≡ 68 * n + 4 = (rw e2 (head-place w1 n name 2 (68 * n + 4) (v .len) l1)) in
-      let size : field w2 n 3 ≡ v .len = (rw e2 (head-length w1 n name 2 (68 * n + 4) (v .len) l1)) in
-      let above : drop (68 * n + 4) w2 ≡ drop (68 * n + 4) w1 = (rw e2 (head-drop w1 n name 2 (68 * n + 4) (v .len))) in
+      let l1 : blockWords * n + headWords ≤ length w1 = omega (arith, ap length e1, length-sets w0 (blockWords * n + headWords) (v .words)) in
+      let tag : field w2 n 0 ≡ name = (rw e2 (head-name w1 n name 2 (blockWords * n + headWords) (v .len) l1)) in
+      let class : field w2 n 1 ≡ 2 = (rw e2 (head-class w1 n name 2 (blockWords * n + headWords) (v .len) l1)) in
+      let place : field w2 n 2 ≡ blockWords * n + headWords = (rw e2 (head-place w1 n name 2 (blockWords * n + headWords) (v .len) l1)) in
+      let size : field w2 n 3 ≡ v .len = (rw e2 (head-length w1 n name 2 (blockWords * n + headWords) (v .len) l1)) in
+      let above : drop (blockWords * n + headWords) w2 ≡ drop (blockWords * n + headWords) w1 = (rw e2 (head-drop w1 n name 2 (blockWords * n + headWords) (v .len))) in
       record {
         kept = value-kept;
         told = λ state scope x sc h.
             let s = h .short in
             let len : v .len ≡ length (encode x) = held-len v (encode x) (h .words) (h .short) in
-            let lies : Lies w1 (68 * n + 4) (encode x) = (rw e1 (copied w0 (68 * n + 4) v x h (omega arith))) in
+            let lies : Lies w1 (blockWords * n + headWords) (encode x) = (rw e1 (copied w0 (blockWords * n + headWords) v x h (omega arith))) in
             rw (add-one n)
             (named (scoped-same state w0 w2 n value-kept sc) tag
             (inWork {v = x} class (rw (place, size) (omega arith))
-            (rw (place, size) (record { words = ap (λ (y : List ℕ). take (v .len) y) above ∙ ap (λ (j : ℕ). take j (drop (68 * n + 4) w1)) len ∙ lies; short = h .short; narrow = h .narrow }))));
+            (rw (place, size) (record { words = ap (λ (y : List ℕ). take (v .len) y) above ∙ ap (λ (j : ℕ). take j (drop (blockWords * n + headWords) w1)) len ∙ lies; short = h .short; narrow = h .narrow }))));
       }
 
-module _ (w0 w1 : List ℕ) (n name class at len : ℕ) (e1 : w1 ≡ headed w0 n name class at len) (long : 68 * (n + 1) ≤ length w0) where
-  head-kept : take (68 * n) w1 ≡ take (68 * n) w0
+module _ (w0 w1 : List ℕ) (n name class at len : ℕ) (e1 : w1 ≡ headed w0 n name class at len) (long : blockWords * (n + 1) ≤ length w0) where
+  head-kept : take (blockWords * n) w1 ≡ take (blockWords * n) w0
   head-kept = rw e1 (head-take w0 n name class at len)
 
   pub bind-generic : class ≡ 3 → Leaves n w0 w1 ((state : List ℕ) (scope : Scope) → Scoped state w0 n scope → Scoped state w1 (n + 1) (bind name generic scope))
   bind-generic c =
-      let l : 68 * n + 4 ≤ length w0 = omega arith in
+      let l : blockWords * n + headWords ≤ length w0 = omega arith in
       let tag : field w1 n 0 ≡ name = (rw e1 (head-name w0 n name class at len l)) in
       let kind : field w1 n 1 ≡ class = (rw e1 (head-class w0 n name class at len l)) in
       record { kept = head-kept; told = λ state scope sc. rw (add-one n) (named (scoped-same state w0 w1 n head-kept sc) tag (isGeneric (kind ∙ c))) }
 
   pub bind-entry : class ≡ 1 → Leaves n w0 w1 ((state : List ℕ) (scope : Scope) (x : Value) → Scoped state w0 n scope → Stored (take len (drop at state)) x → Scoped state w1 (n + 1) (bind name (valued x) scope))
   bind-entry c =
-      let l : 68 * n + 4 ≤ length w0 = omega arith in
+      let l : blockWords * n + headWords ≤ length w0 = omega arith in
       let tag : field w1 n 0 ≡ name = (rw e1 (head-name w0 n name class at len l)) in
       let kind : field w1 n 1 ≡ class = (rw e1 (head-class w0 n name class at len l)) in
       let place : field w1 n 2 ≡ at = (rw e1 (head-place w0 n name class at len l)) in

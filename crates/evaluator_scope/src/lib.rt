@@ -1,4 +1,4 @@
-// The names in scope, as blocks of 68 words in the work area, the newest last (specs/Blocks.antt).
+// The names in scope, as blocks in the work area, the newest last (specs/Blocks.antt).
 mod classes;
 pub mod named;
 
@@ -21,10 +21,11 @@ ghost use Rattle.values.specs.Value as Value;
 ghost use lib.ListN.{length, take, drop};
 ghost use lib.Seq.{sets};
 ghost use Rattle.reader_rules.specs.Tree.{Exprs};
+ghost use Rattle.evaluator_rules.specs.Run.{runWorkWords};
 ghost use Rattle.evaluator_rules.specs.Scope.{Scope, valued, generic, bind, lookup, refer, hasActuals};
 ghost use Rattle.evaluator_rules.specs.Assignments.{noMore, domains};
 ghost use Rattle.evaluator_operations.specs.Worked.{Holds, Told, Valued};
-ghost use Rattle.evaluator_scope.specs.Blocks.{Leaves, Stored, Scoped, Pending, Pushed, lastBlock, headed, valueOf};
+ghost use Rattle.evaluator_scope.specs.Blocks.{Leaves, Stored, Scoped, Pending, Pushed, lastBlock, headed, valueOf, headWords, blockWords, blockCount};
 
 // The words of a block's head: the name, its class, and the place and length of its value.
 pub const HEAD: usize = 4;
@@ -52,7 +53,7 @@ const GENERIC: u32 = classes::GENERIC as u32;
 
 // The last of the first n blocks that is in scope under a name, counted from 1; 0 where there is none.
 fn find(work: &[u32], n: usize, name: usize) -> usize
-    requires { ⌜ n ≤ 240 ⌝ }
+    requires { ⌜ n ≤ blockCount ⌝ }
     ensures { λ r. ⌜ (r ≡ lastBlock (now (work .entry)) name n) × (r ≤ n) ⌝ }
 {
     let mut b = n;
@@ -72,7 +73,7 @@ fn find(work: &[u32], n: usize, name: usize) -> usize
 
 // The words of the value of block b, as a part of the state or of the work area.
 fn value_of<'a>(state: &'a [u32], work: &'a [u32], b: usize) -> &'a [u32]
-    requires { ⌜ b ≤ 240 ⌝ }
+    requires { ⌜ b ≤ blockCount ⌝ }
     ensures { λ r. ⌜ now r ≡ valueOf (now (state .entry)) (now (work .entry)) b ⌝ }
 {
     let at = BLOCK * b;
@@ -94,7 +95,7 @@ pub fn refer<'a>(
     name: usize,
     actuals: bool,
 ) -> Worked
-    requires { ⌜ (n ≤ 240) × (k ≤ 1024) ⌝ }
+    requires { ⌜ (n ≤ blockCount) × (k ≤ 1024) ⌝ }
     ensures { λ r. ⌜ ((scope : Scope) → Scoped (now (state .entry)) (now (work .entry)) n scope → (xs : Exprs) → actuals ≡ hasActuals xs → Told Valued r (refer k xs (lookup name scope))) ⌝ }
 {
     let b = find(work, n, name);
@@ -112,7 +113,7 @@ pub fn refer<'a>(
 
 // Writes the head of block b.
 pub fn put_head(work: &mut [u32], b: usize, name: usize, class: u32, at: usize, len: usize)
-    requires { ⌜ (b ≤ 240) × (name < 2 ^ 32) × (at < 2 ^ 32) × (len < 2 ^ 32) ⌝ }
+    requires { ⌜ (b ≤ blockCount) × (name < 2 ^ 32) × (at < 2 ^ 32) × (len < 2 ^ 32) ⌝ }
     ensures { λ _. ⌜ now (work .exit) ≡ headed (now (work .entry)) b name class at len ⌝ }
 {
     let base = BLOCK * b;
@@ -124,8 +125,8 @@ pub fn put_head(work: &mut [u32], b: usize, name: usize, class: u32, at: usize, 
 
 // Copies a value into block b.
 pub fn put_value(work: &mut [u32], b: usize, v: Held)
-    requires { ⌜ 68 * (b + 1) ≤ length (now work) ⌝ }
-    ensures { λ _. ⌜ now (work .exit) ≡ sets (now (work .entry)) (68 * b + 4) (v .words) ⌝ }
+    requires { ⌜ blockWords * (b + 1) ≤ length (now work) ⌝ }
+    ensures { λ _. ⌜ now (work .exit) ≡ sets (now (work .entry)) (blockWords * b + headWords) (v .words) ⌝ }
 {
     let w = v.words;
     copy(&w, work, BLOCK * b + HEAD);
@@ -133,7 +134,7 @@ pub fn put_value(work: &mut [u32], b: usize, v: Held)
 
 // The identifiers of a Decl with the words x, from j on, in blocks from b on, with the set v that they run through; not in scope yet.
 pub fn put_domains(work: &mut [u32], b: usize, x: &[u32], j: usize, v: Held)
-    requires { ⌜ (b + (length (now x) - j) ≤ 240) × (16384 ≤ length (now work)) × (length (now x) ≤ 256) ⌝ }
+    requires { ⌜ (b + (length (now x) - j) ≤ blockCount) × (runWorkWords ≤ length (now work)) × (length (now x) ≤ 256) ⌝ }
     ensures { λ _. ⌜ Pushed (now (work .entry)) (now (work .exit)) b (length (now (x .entry)) - j) ((vs : Values) → Holds v (Value.set vs) → Pending (now (work .exit)) b (length (now (x .entry)) - j) (domains (drop j (now (x .entry))) vs noMore)) ⌝ }
 {
     if x.len() <= j {
@@ -146,7 +147,7 @@ pub fn put_domains(work: &mut [u32], b: usize, x: &[u32], j: usize, v: Held)
 
 // A new name in block n, with a value by value.
 pub fn put_name(work: &mut [u32], n: usize, name: usize, v: Held)
-    requires { ⌜ (68 * (n + 1) ≤ length (now work)) × (n ≤ 239) × (name < 2 ^ 32) × (v .len < 2 ^ 32) ⌝ }
+    requires { ⌜ (blockWords * (n + 1) ≤ length (now work)) × (n < blockCount) × (name < 2 ^ 32) × (v .len < 2 ^ 32) ⌝ }
     ensures { λ _. ⌜ Leaves n (now (work .entry)) (now (work .exit)) ((state : List ℕ) (scope : Scope) (x : Value) → Scoped state (now (work .entry)) n scope → Holds v x → Scoped state (now (work .exit)) (n + 1) (bind name (valued x) scope)) ⌝ }
 {
     let len = v.len;
@@ -156,7 +157,7 @@ pub fn put_name(work: &mut [u32], n: usize, name: usize, v: Held)
 
 // A new name in block n, whose value lies in the state.
 pub fn put_entry(work: &mut [u32], n: usize, name: usize, at: usize, len: usize)
-    requires { ⌜ (68 * (n + 1) ≤ length (now work)) × (n ≤ 239) × (name < 2 ^ 32) × (at < 2 ^ 32) × (len < 2 ^ 32) ⌝ }
+    requires { ⌜ (blockWords * (n + 1) ≤ length (now work)) × (n < blockCount) × (name < 2 ^ 32) × (at < 2 ^ 32) × (len < 2 ^ 32) ⌝ }
     ensures { λ _. ⌜ Leaves n (now (work .entry)) (now (work .exit)) ((state : List ℕ) (scope : Scope) (x : Value) → Scoped state (now (work .entry)) n scope → Stored (take len (drop at state)) x → Scoped state (now (work .exit)) (n + 1) (bind name (valued x) scope)) ⌝ }
 {
     put_head(work, n, name, IN_STATE, at, len);
@@ -164,7 +165,7 @@ pub fn put_entry(work: &mut [u32], n: usize, name: usize, at: usize, len: usize)
 
 // A new name in block n: an abbreviation with parameters.
 pub fn put_generic(work: &mut [u32], n: usize, name: usize)
-    requires { ⌜ (68 * (n + 1) ≤ length (now work)) × (n ≤ 239) × (name < 2 ^ 32) ⌝ }
+    requires { ⌜ (blockWords * (n + 1) ≤ length (now work)) × (n < blockCount) × (name < 2 ^ 32) ⌝ }
     ensures { λ _. ⌜ Leaves n (now (work .entry)) (now (work .exit)) ((state : List ℕ) (scope : Scope) → Scoped state (now (work .entry)) n scope → Scoped state (now (work .exit)) (n + 1) (bind name generic scope)) ⌝ }
 {
     put_head(work, n, name, GENERIC, 0, 0);

@@ -16,6 +16,7 @@ ghost use lib.ListN.{length, drop};
 ghost use Rattle.values.specs.Value.{Value};
 ghost use Rattle.reader_rules.specs.Decode.{treeOf};
 ghost use Rattle.states_rules.specs.Names.{documentNames, namesAs};
+ghost use Rattle.evaluator_rules.specs.Run.{runWorkWords};
 ghost use Rattle.evaluator_rules.specs.Scope.{valued, bind};
 ghost use Rattle.evaluator_rules.specs.Paragraphs.{bindGivens};
 ghost use Rattle.evaluator_operations.specs.Worked.{Holds};
@@ -48,7 +49,7 @@ pub fn bounded(v: Held) -> Held
 
 // A name in block b: its entry in the state, or the set of a given's elements.
 fn put_stated(doc: &[u32], state: &[u32], table: &[u32], work: &mut [u32], b: usize, name: usize)
-    requires { ⌜ Stated (now doc) (now state) (now table) × Among name (documentNames (treeOf (now doc))) × (b < 64) × (16384 ≤ length (now work)) × (name < 2 ^ 32) ⌝ }
+    requires { ⌜ Stated (now doc) (now state) (now table) × Among name (documentNames (treeOf (now doc))) × (b < 64) × (runWorkWords ≤ length (now work)) × (name < 2 ^ 32) ⌝ }
     ensures { λ _. ⌜ Extends (now (state .entry)) (now (work .entry)) (now (work .exit)) b (b + 1) (bind name (valued (said (now (doc .entry)) (now (state .entry)) name))) ⌝ }
 {
     let k = place_of(doc, name);
@@ -69,7 +70,7 @@ pub fn put_names(
     w: &[u32],
     j: usize,
 )
-    requires { ⌜ Stated (now doc) (now state) (now table) × Declares (now doc) (namesAs true (drop j (now w))) × (b + (length (now w) - j) ≤ 64) × (16384 ≤ length (now work)) × (length (now w) ≤ 256) ⌝ }
+    requires { ⌜ Stated (now doc) (now state) (now table) × Declares (now doc) (namesAs true (drop j (now w))) × (b + (length (now w) - j) ≤ 64) × (runWorkWords ≤ length (now work)) × (length (now w) ≤ 256) ⌝ }
     ensures { λ _. ⌜ Extends (now (state .entry)) (now (work .entry)) (now (work .exit)) b (b + (length (now (w .entry)) - j)) (bindGivens (drop j (now (w .entry))) (said (now (doc .entry)) (now (state .entry)))) ⌝ }
 {
     if w.len() <= j {

@@ -2,9 +2,9 @@
 use mathlib.Core.Path.{_≡_}
 use mathlib.Core.List.{List, [], _∷_}
 use Prim.Native.Nat.{ℕ}
-use Rattle.checker_rules.specs.Check.{checkOf}
-use Rattle.printer_rules.specs.Print.{printedOf}
-use Rattle.evaluator_rules.specs.Run.{runOf}
+use Rattle.checker_rules.specs.Check.{checkOf, checkWorkWords}
+use Rattle.printer_rules.specs.Print.{printedOf, dictionaryAreaWords}
+use Rattle.evaluator_rules.specs.Run.{runOf, runWorkWords}
 use Rattle.evaluator_rules.specs.declared.Finding.{Finding}
 use Rattle.evaluator_rules.specs.declared.Finding.the-variants.{Holds, Refused}
 use Rattle.marked.specs.Coded.{coded, keeping, numbersTo, integersFrom}
@@ -66,9 +66,9 @@ marked =
 
 -- a row holds: the definition gives what must come, with areas of 16,384 words
 unfoldable pub RowHolds : Row → Type 0
-RowHolds (checked d a) = ofCheck (checkOf d 16384 16384) ≡ a
+RowHolds (checked d a) = ofCheck (checkOf d dictionaryAreaWords checkWorkWords) ≡ a
 RowHolds (printed d p) = printedOf d ≡ p
-RowHolds (ran d s) = ofRun (runOf d (0 ∷ []) 16384) ≡ s
+RowHolds (ran d s) = ofRun (runOf d (0 ∷ []) runWorkWords) ≡ s
 
 unfoldable pub AllHold : List Row → Type 0
 AllHold [] = Unit {0}

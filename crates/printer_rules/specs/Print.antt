@@ -1,7 +1,7 @@
 -- The printed finding of a check: bytes, from the finding and the dictionary's words.
 use mathlib.Core.List.{List}
 use Prim.Native.Nat.{ℕ}
-use Rattle.checker_rules.specs.Check.{Answer, checkOf}
+use Rattle.checker_rules.specs.Check.{Answer, checkOf, checkWorkWords}
 use Rattle.checker_rules.specs.Areas.{findingOf, dictionaryAfter}
 use Rattle.checker_rules.specs.declared.Finding.{Finding}
 use Rattle.checker_rules.specs.declared.Finding.the-variants.{Accepted, Refused}
@@ -15,6 +15,10 @@ printOf (Refused number place) d = refusedLine number place
 unfoldable pub printedAnswer : Answer → ℕ → List ℕ
 printedAnswer a n = printOf (findingOf a) (dictionaryAfter a n)
 
+-- the words of the program's dictionary area
+abbrev pub dictionaryAreaWords : ℕ
+dictionaryAreaWords = 16384
+
 -- what the program prints for a document's words, with areas of 16,384 words
 unfoldable pub printedOf : List ℕ → List ℕ
-printedOf doc = printedAnswer (checkOf doc 16384 16384) 16384
+printedOf doc = printedAnswer (checkOf doc dictionaryAreaWords checkWorkWords) dictionaryAreaWords

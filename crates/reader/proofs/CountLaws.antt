@@ -13,7 +13,7 @@ use Rattle.words.specs.Loops.{total, has}
 use Rattle.words.proofs.Lists.{same-test, total-upto}
 use Rattle.layout.specs.Layout.{count, part}
 use Rattle.layout.proofs.Laws.{part-length}
-use Rattle.reader_rules.specs.Nodes.{kindAt, parent, above, ancestors}
+use Rattle.reader_rules.specs.Nodes.{kindAt, parent, above, ancestors, documentWords}
 use Rattle.reader_rules.specs.Repeats.{declared, declaredIn, firstOperand, isAxiomDecl, globals}
 use Rattle.reader_rules.specs.Limits.{tooDeep, isClosing, belowUpTo, anyCrowded, tooCrowded, declaredUpTo, tooNested, tooWide, tooMany, globalsUpTo, limitNumber}
 use Rattle.reader_rules.proofs.Accepted.{Nodes}
@@ -251,23 +251,23 @@ module _ (doc : List ℕ) (k : ℕ) (p : 1 ≤ k) (u : List ℕ) (d : Declared d
 
 -- ---- few identifiers at one node
 module _ (doc up : List ℕ) (l : Linked doc up) (k : ℕ) (p : 1 ≤ k) (q : k ≤ count doc) where
-  few-words : length (part doc k) ≤ 16384
+  few-words : length (part doc k) ≤ documentWords
   few-words =
       let d = nodes-of doc up l .laid in
       let e = d .pair k p q in
       omega (arith, part-length 1 doc k p e, e .ends, d .short)
 
-  pub declared-few : length (declared doc k) ≤ 16384
+  pub declared-few : length (declared doc k) ≤ documentWords
   declared-few = omega (arith, few-words, length-drop 2 (part doc k))
 
-  pub globals-few : length (globals doc k) ≤ 16384
+  pub globals-few : length (globals doc k) ≤ documentWords
   unfolding globals
   globals-few =
       let w = part doc k in
       by (eqb (kindAt doc k) 2) (eqb (kindAt doc k) 5) (isAxiomDecl doc k) (omega (arith, few-words, length-drop 1 w)) (omega (arith, length-take 1 (drop 1 w))) declared-few
     where
-      by : (a b c : Bool) → length (drop 1 (part doc k)) ≤ 16384 → length (firstOperand doc k) ≤ 16384 → length (declared doc k) ≤ 16384
-          → length (cond a (drop 1 (part doc k)) (cond b (firstOperand doc k) (cond c (declared doc k) []))) ≤ 16384
+      by : (a b c : Bool) → length (drop 1 (part doc k)) ≤ documentWords → length (firstOperand doc k) ≤ documentWords → length (declared doc k) ≤ documentWords
+          → length (cond a (drop 1 (part doc k)) (cond b (firstOperand doc k) (cond c (declared doc k) []))) ≤ documentWords
       by true b c x y z = x
       by false true c x y z = y
       by false false true x y z = z

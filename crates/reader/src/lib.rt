@@ -1,7 +1,7 @@
 // The reader of coded documents: findings 11 to 17 for any words (document 01, "The coded document", "Finding numbers").
 use codes::findings;
+use codes::limits::DOCUMENT_WORDS;
 use codes::limits::NODES;
-use codes::limits::WORDS;
 use layout::Form;
 use reader_nodes::nodes::check_nodes;
 use reader_repeats::first_repeat;
@@ -66,7 +66,7 @@ pub fn read(doc: &[u32]) -> Reading
         fewest: 1,
         most: NODES,
         shortest: 1,
-        longest: WORDS,
+        longest: DOCUMENT_WORDS,
     };
     if layout::laid_out(doc, form) {
         let first = check_nodes(doc);

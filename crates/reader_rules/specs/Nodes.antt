@@ -9,9 +9,13 @@ use Rattle.layout.specs.declared.Form.{Form}
 use Rattle.layout.specs.Layout.{count, part}
 use Rattle.reader_rules.specs.Kinds.{sortAt, isNodeSort}
 
+-- the words of a document, at most
+abbrev pub documentWords : ℕ
+documentWords = 16384
+
 -- 1 to 1,024 nodes, each of at least 1 word, at most 16,384 words
 abbrev pub documentForm : Form
-documentForm = record { fewest = 1; most = 1024; shortest = 1; longest = 16384 }
+documentForm = record { fewest = 1; most = 1024; shortest = 1; longest = documentWords }
 
 -- a node's words are the kind, then operands
 abbrev pub kindAt : List ℕ → ℕ → ℕ

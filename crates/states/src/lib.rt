@@ -27,7 +27,7 @@ pub fn first_ill_formed(doc: &[u32], state: &[u32]) -> Reading
         fewest: 0,
         most: limits::NODES,
         shortest: 1,
-        longest: limits::WORDS,
+        longest: limits::DOCUMENT_WORDS,
     };
     if layout::laid_out(state, form) {
         if word(state, 0) == n {

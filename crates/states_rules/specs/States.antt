@@ -6,6 +6,7 @@ use lib.Dec.{eqb, leb}
 use lib.ListN.{length, getD}
 use Rattle.layout.specs.declared.Form.{Form}
 use Rattle.layout.specs.Layout.{count, laidOut, part}
+use Rattle.reader_rules.specs.Nodes.{documentWords}
 use Rattle.reader_rules.specs.Findings.{scan, andThen}
 use Rattle.reader_rules.specs.Reading.{readOf}
 use Rattle.reader_rules.specs.Decode.{treeOf}
@@ -19,7 +20,7 @@ use Rattle.states_rules.specs.Decode.{valueOf}
 
 -- the document's layout, with a count from 0
 abbrev pub stateForm : Form
-stateForm = record { fewest = 0; most = 1024; shortest = 1; longest = 16384 }
+stateForm = record { fewest = 0; most = 1024; shortest = 1; longest = documentWords }
 
 -- the name of entry k; entries are numbered from 1 (R20)
 abbrev pub nameAt : List Name → ℕ → Name

@@ -8,6 +8,7 @@ use native.Mathlib.Omega.{arith}
 use native.Mathlib.Nat.{eq-or-lt-of-le, suc-mul, zero-mul}
 use lib.ListN.{length, getD}
 use Rattle.types_rules.specs.Equations.{end}
+use Rattle.types_cells.specs.Layout.{firstRun, frozenSize, areaSize, maxCells}
 use Rattle.types_cells.specs.Store.{frozen, load, run}
 use Rattle.types_cells.specs.Calls.{Above, Adding, Added, Making, Made}
 use Rattle.types_unifier.specs.Merging.{Asking, Merged}
@@ -19,7 +20,7 @@ use Rattle.types_solver.proofs.Extending.{added-builds, added-load, added-other
 use Rattle.tower.specs.Ready.{Ready, Row, Rowing, Rowed, Room, Built, Forming, Applying, Applied, Towering, Towered}
 
 -- An area with no cells.
-pub ready-start : (s d : List ℕ) → length s ≡ 52224 → Ready s d 0 4096 0
+pub ready-start : (s d : List ℕ) → length s ≡ areaSize → Ready s d 0 firstRun 0
 unfolding load
 ready-start s d e = record {
   P₀ = end;
@@ -32,11 +33,11 @@ ready-start s d e = record {
   parts = λ i l. absurd (omega arith);
 }
 
-pub adding : (s d : List ℕ) (n top k : ℕ) → Ready s d n top k → top < 6144 → Adding s n top
+pub adding : (s d : List ℕ) (n top k : ℕ) → Ready s d n top k → top < frozenSize → Adding s n top
 adding s d n top k R l = record { P₀ = R .P₀; L = R .L; solved = R .solved; above = R .above; room = l }
 
 -- One part more.
-pub ready-add : (s s′ d : List ℕ) (n top k x : ℕ) → Ready s d n top k → top < 6144 → x < n → Added s s′ n top x → Ready s′ d n (suc top) (suc k)
+pub ready-add : (s s′ d : List ℕ) (n top k x : ℕ) → Ready s d n top k → top < frozenSize → x < n → Added s s′ n top x → Ready s′ d n (suc top) (suc k)
 ready-add s s′ d n top k x R l m N =
     let A = adding s d n top k R l in
     let low = R .low in
@@ -56,7 +57,7 @@ ready-add s s′ d n top k x R l m N =
     }
 
 -- The parts are those of a new cell.
-pub making : (s d : List ℕ) (n top t a m : ℕ) → Ready s d n (top + m) m → n < 1024 → n + top + m + 1 ≤ 6143 → t ≤ 4 → (t < 2 → a ≡ 0) → (t ≡ 3 → a ≡ 0) → (t ≡ 3 → m ≡ 1) → (t ≡ 4 → a ≡ m) → Making s n t a top m
+pub making : (s d : List ℕ) (n top t a m : ℕ) → Ready s d n (top + m) m → n < maxCells → n + top + m + 1 < frozenSize → t ≤ 4 → (t < 2 → a ≡ 0) → (t ≡ 3 → a ≡ 0) → (t ≡ 3 → m ≡ 1) → (t ≡ 4 → a ≡ m) → Making s n t a top m
 making s d n top t a m R l r h p q o u =
     let low = R .low in
     record {
@@ -110,7 +111,7 @@ ready-merge s s′ d n top x y R lx ly M =
       pinned = M .same refl n (R .P₀) (R .L) (R .solved) (R .pinned) lx ly .pinned;
       above = subst (λ w. Above w n top) (sym (M .still)) (R .above);
       low = R .low;
-      fit = subst (λ w. load w n + 0 + 4096 ≤ n + top) (sym (M .still)) (R .fit);
+      fit = subst (λ w. load w n + 0 + firstRun ≤ n + top) (sym (M .still)) (R .fit);
       parts = λ i l. absurd (omega arith);
     }
 
@@ -149,7 +150,7 @@ module _ (s t : List ℕ) (n top first step m x j : ℕ) (W : Rowing s n top fir
   pub row-cell : x < n
   row-cell = let r = W .row j l in let e = T .at in omega arith
 
-  pub row-few : n ≤ 1024
+  pub row-few : n ≤ maxCells
   row-few = W .ready .solved .held .few
 
   pub row-adding : Adding t n (top + j)
@@ -226,7 +227,7 @@ form-plain s n top t W l = record {
   products = λ q. refl;
 }
 
-pub form-product : (s : List ℕ) (n top first step m : ℕ) → Room s n top 1 m → Row n first step m → step < 1024 → Forming s n top 4 m first step m
+pub form-product : (s : List ℕ) (n top first step m : ℕ) → Room s n top 1 m → Row n first step m → step < maxCells → Forming s n top 4 m first step m
 form-product s n top first step m W R l = record {
   room = W;
   row = R;
@@ -275,12 +276,12 @@ module _ (s d : List ℕ) (n top x : ℕ) (A : Applying s d n top x) where
 pub record Levels (s d : List ℕ) (n top x i : ℕ) : Type 0 where
   pub ready : Ready s d n top 0
   pub cells : n ≡ 1 + 11 * i
-  pub words : top ≡ 4096 + 34 * i
+  pub words : top ≡ firstRun + 34 * i
   pub made : x < n
 
-pub levels-start : (s t d : List ℕ) → length s ≡ 52224 → Built s t 0 4096 1 0 → Levels t d 1 4096 0 0
+pub levels-start : (s t d : List ℕ) → length s ≡ areaSize → Built s t 0 firstRun 1 0 → Levels t d 1 firstRun 0 0
 levels-start s t d e B = record {
-  ready = ready-as t d (0 + 1) 1 (4096 + 0) 4096 0 0 (omega arith) (omega arith) refl (B d (ready-start s d e));
+  ready = ready-as t d (0 + 1) 1 (firstRun + 0) firstRun 0 0 (omega arith) (omega arith) refl (B d (ready-start s d e));
   cells = omega arith;
   words = omega arith;
   made = omega arith;
@@ -304,4 +305,4 @@ levels-step s t d n top x i b Y e A = record {
 }
 
 pub levels-end : (s d : List ℕ) (n top x i levels : ℕ) (b : Bool) → Levels s d n top x i → i ≡ levels → Towered s d levels b
-levels-end s d n top x i levels b Y e q = ready-as s d n (1 + 11 * levels) top (4096 + 34 * levels) 0 0 (let z = Y .cells in omega arith) (let z = Y .words in omega arith) refl (Y .ready)
+levels-end s d n top x i levels b Y e q = ready-as s d n (1 + 11 * levels) top (firstRun + 34 * levels) 0 0 (let z = Y .cells in omega arith) (let z = Y .words in omega arith) refl (Y .ready)

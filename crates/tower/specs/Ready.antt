@@ -5,6 +5,7 @@ use mathlib.Core.List.{List}
 use Prim.Native.Nat.{ℕ, _+_, _*_, _-_, _≤_, _<_, _^_}
 use lib.ListN.{length, getD}
 use Rattle.types_rules.specs.Equations.{Pairs}
+use Rattle.types_cells.specs.Layout.{firstRun, frozenSize, areaSize, maxCells}
 use Rattle.types_cells.specs.Store.{frozen, load, Solved}
 use Rattle.types_cells.specs.Calls.{Above}
 use Rattle.types_cells.specs.Settled.{Pinned}
@@ -16,8 +17,8 @@ pub record Ready (s d : List ℕ) (n top k : ℕ) : Type 0 where
   pub solved : Solved s n P₀ L
   pub pinned : Pinned s d n
   pub above : Above (frozen s) n top
-  pub low : 4096 + k ≤ top
-  pub fit : load (frozen s) n + k + 4096 ≤ n + top
+  pub low : firstRun + k ≤ top
+  pub fit : load (frozen s) n + k + firstRun ≤ n + top
   pub parts : (i : ℕ) → i < k → getD (frozen s) (top - k + i) 0 < n
 
 -- The m cells from `first` on, each `step` after the one before.
@@ -29,8 +30,8 @@ pub record Rowing (s : List ℕ) (n top first step m : ℕ) : Type 0 where
   pub k : ℕ
   pub ready : Ready s d n top k
   pub row : Row n first step m
-  pub short : step < 1024
-  pub room : top + m ≤ 6144
+  pub short : step < maxCells
+  pub room : top + m ≤ frozenSize
 
 abbrev pub Rowed : List ℕ → List ℕ → ℕ → ℕ → ℕ → Type 0
 Rowed s s′ n top m = (d : List ℕ) (k : ℕ) → Ready s d n top k → Ready s′ d n (top + m) (k + m)
@@ -39,8 +40,8 @@ Rowed s s′ n top m = (d : List ℕ) (k : ℕ) → Ready s d n top k → Ready 
 pub record Room (s : List ℕ) (n top c m : ℕ) : Type 0 where
   pub d : List ℕ
   pub ready : Ready s d n top 0
-  pub cells : n + c ≤ 1024
-  pub words : n + top + c + m ≤ 6143
+  pub cells : n + c ≤ maxCells
+  pub words : n + top + c + m < frozenSize
 
 -- They are made.
 abbrev pub Built : List ℕ → List ℕ → ℕ → ℕ → ℕ → ℕ → Type 0
@@ -50,7 +51,7 @@ Built s s′ n top c m = (d : List ℕ) → Ready s d n top 0 → Ready s′ d (
 pub record Forming (s : List ℕ) (n top t a first step m : ℕ) : Type 0 where
   pub room : Room s n top 1 m
   pub row : Row n first step m
-  pub short : step < 1024
+  pub short : step < maxCells
   pub tags : t ≤ 4
   pub plain : t < 2 → a ≡ 0
   pub powers : t ≡ 3 → a ≡ 0
@@ -60,8 +61,8 @@ pub record Forming (s : List ℕ) (n top t a first step m : ℕ) : Type 0 where
 -- The application to cell x.
 pub record Applying (s d : List ℕ) (n top x : ℕ) : Type 0 where
   pub ready : Ready s d n top 0
-  pub cells : n + 11 ≤ 1024
-  pub words : n + top + 45 ≤ 6143
+  pub cells : n + 11 ≤ maxCells
+  pub words : n + top + 45 < frozenSize
   pub made : x < n
   pub few : length d < 2 ^ 31
 
@@ -70,14 +71,14 @@ Applied s s′ d n top fine = fine ≡ true → Ready s d n top 0 → Ready s′
 
 -- A tower of so many levels over ℤ (1) or an unknown (0).
 pub record Towering (s d : List ℕ) (start levels : ℕ) : Type 0 where
-  pub size : length s ≡ 52224
+  pub size : length s ≡ areaSize
   pub few : length d < 2 ^ 31
   pub plain : start < 2
   pub some : 1 ≤ levels
   pub within : levels ≤ 32
 
 abbrev pub Towered : List ℕ → List ℕ → ℕ → Bool → Type 0
-Towered s d levels fine = fine ≡ true → Ready s d (1 + 11 * levels) (4096 + 34 * levels) 0
+Towered s d levels fine = fine ≡ true → Ready s d (1 + 11 * levels) (firstRun + 34 * levels) 0
 
 -- The store is built, and x one of its cells.
 pub record Asked (s d : List ℕ) (n x : ℕ) : Type 0 where

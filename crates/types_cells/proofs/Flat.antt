@@ -18,6 +18,7 @@ use Rattle.types_rules.proofs.Terms.{bool-no}
 use Rattle.types_rules.specs.Classes.{Closed, Shape, Wf, next, rep}
 use Rattle.types_rules.specs.Equations.{AllP, Pairs, Solves, end, pair}
 use Rattle.types_rules.specs.Follows.{Follows, View}
+use Rattle.types_cells.specs.Layout.{maxCells, maxPending, poolSize, linksAt, settledFrom, areaSize}
 use Rattle.types_cells.specs.Store.{frozen, linkAt, linkOf, tagAt, view, Cell, load, Both, Held, Solved}
 use Rattle.types_cells.specs.Flat.{Kept, Direct, Refers, Straight}
 use Rattle.types_rules.specs.Types.{Ty}
@@ -176,31 +177,31 @@ module _ (s : List ℕ) (n : ℕ) (P₀ L : Pairs ℕ) (X : Solved s n P₀ L) (
       go true = rb
       go false = h .0 .1
 
-  few-i : i < 1024
+  few-i : i < maxCells
   few-i = let f = X .held .few in omega arith
 
-  still₁ : frozen (set s (39936 + i) (suc r)) ≡ frozen s
-  still₁ = let f = few-i in frozen-set s (39936 + i) (suc r) (omega arith)
+  still₁ : frozen (set s (linksAt + i) (suc r)) ≡ frozen s
+  still₁ = let f = few-i in frozen-set s (linksAt + i) (suc r) (omega arith)
 
-  links-c : (j : ℕ) → j < n → (v : ℕ) → linkAt s j ≡ v → (c : Bool) → eqb j i ≡ c → next eqb L₁ j ≡ linkOf (linkAt (set s (39936 + i) (suc r)) j)
+  links-c : (j : ℕ) → j < n → (v : ℕ) → linkAt s j ≡ v → (c : Bool) → eqb j i ≡ c → next eqb L₁ j ≡ linkOf (linkAt (set s (linksAt + i) (suc r)) j)
   unfolding linkOf
   links-c j m zero e true q = absurd (linked (ap (linkAt s) (sym (eqb-true j i q)) ∙ e))
   links-c j m (suc v) e true q =
       some-flat i r L j v (X .held .links j m ∙ ap linkOf e) ∙ ap (λ c. some (pick c r v)) q
-      ∙ sym (ap (λ z. linkOf (linkAt (set s (39936 + i) (suc r)) z)) (eqb-true j i q)
-      ∙ ap linkOf (link-new _ i (suc r) (let b = rb in let f = X .held .few in omega arith) (getD-set-same s (39936 + i) (suc r) 0 (let f = few-i in let z = X .held .size in omega arith))))
-  links-c j m zero e false q = none-flat i r L j (X .held .links j m ∙ ap linkOf e) ∙ sym (ap linkOf (link-same s _ j j (getD-set-other s (39936 + i) (39936 + j) (suc r) 0 (λ z. eqb-false j i q (omega arith))) ∙ e))
+      ∙ sym (ap (λ z. linkOf (linkAt (set s (linksAt + i) (suc r)) z)) (eqb-true j i q)
+      ∙ ap linkOf (link-new _ i (suc r) (let b = rb in let f = X .held .few in omega arith) (getD-set-same s (linksAt + i) (suc r) 0 (let f = few-i in let z = X .held .size in omega arith))))
+  links-c j m zero e false q = none-flat i r L j (X .held .links j m ∙ ap linkOf e) ∙ sym (ap linkOf (link-same s _ j j (getD-set-other s (linksAt + i) (linksAt + j) (suc r) 0 (λ z. eqb-false j i q (omega arith))) ∙ e))
   links-c j m (suc v) e false q =
-      some-flat i r L j v (X .held .links j m ∙ ap linkOf e) ∙ ap (λ c. some (pick c r v)) q ∙ sym (ap linkOf (link-same s _ j j (getD-set-other s (39936 + i) (39936 + j) (suc r) 0 (λ z. eqb-false j i q (omega arith))) ∙ e))
+      some-flat i r L j v (X .held .links j m ∙ ap linkOf e) ∙ ap (λ c. some (pick c r v)) q ∙ sym (ap linkOf (link-same s _ j j (getD-set-other s (linksAt + i) (linksAt + j) (suc r) 0 (λ z. eqb-false j i q (omega arith))) ∙ e))
 
-  pub straight : Kept (set s (39936 + i) (suc r)) n P₀ L
+  pub straight : Kept (set s (linksAt + i) (suc r)) n P₀ L
   straight = record {
     L′ = L₁;
     solved = record {
       held = record {
-        size = length-set s (39936 + i) (suc r) ∙ X .held .size;
+        size = length-set s (linksAt + i) (suc r) ∙ X .held .size;
         few = X .held .few;
-        room = subst (λ w. load w n < 2048) (sym still₁) (X .held .room);
+        room = subst (λ w. load w n < maxPending) (sym still₁) (X .held .room);
         cells = λ j m. subst (λ w. Cell w j) (sym still₁) (X .held .cells j m);
         links = λ j m. links-c j m (linkAt s j) refl (eqb j i) refl;
         wf = wf₁;
@@ -214,33 +215,33 @@ module _ (s : List ℕ) (n : ℕ) (P₀ L : Pairs ℕ) (X : Solved s n P₀ L) (
   }
 
 -- Cell i gets the link to r.
-module _ (s : List ℕ) (i r : ℕ) (z : length s ≡ 52224) (f : i < 1024) (fr : r < 1024) where
-  set-hit : linkAt (set s (39936 + i) (suc r)) i ≡ suc r
-  set-hit = link-new _ i (suc r) (omega arith) (getD-set-same s (39936 + i) (suc r) 0 (omega arith))
+module _ (s : List ℕ) (i r : ℕ) (z : length s ≡ areaSize) (f : i < maxCells) (fr : r < maxCells) where
+  set-hit : linkAt (set s (linksAt + i) (suc r)) i ≡ suc r
+  set-hit = link-new _ i (suc r) (omega arith) (getD-set-same s (linksAt + i) (suc r) 0 (omega arith))
 
-  set-miss : (j : ℕ) → (j ≡ i → ⊥) → linkAt (set s (39936 + i) (suc r)) j ≡ linkAt s j
-  set-miss j d = link-same s _ j j (getD-set-other s (39936 + i) (39936 + j) (suc r) 0 (λ e. d (omega arith)))
+  set-miss : (j : ℕ) → (j ≡ i → ⊥) → linkAt (set s (linksAt + i) (suc r)) j ≡ linkAt s j
+  set-miss j d = link-same s _ j j (getD-set-other s (linksAt + i) (linksAt + j) (suc r) 0 (λ e. d (omega arith)))
 
-  old : (linkAt s i ≡ 0 → ⊥) → (j : ℕ) → j ≡ i → 1025 ≤ wordAt s j → ⊥
+  old : (linkAt s i ≡ 0 → ⊥) → (j : ℕ) → j ≡ i → settledFrom ≤ wordAt s j → ⊥
   unfolding wordAt linkAt
-  old d j e v = d (link-none (getD s (39936 + i) 0) (subst (λ k. 1025 ≤ getD s (39936 + k) 0) e v))
+  old d j e v = d (link-none (getD s (linksAt + i) 0) (subst (λ k. settledFrom ≤ getD s (linksAt + k) 0) e v))
 
-  go-to : (linkAt s i ≡ 0 → ⊥) → (j : ℕ) → 1025 ≤ wordAt s j → (b : Bool) → eqb j i ≡ b → wordAt (set s (39936 + i) (suc r)) j ≡ wordAt s j
+  go-to : (linkAt s i ≡ 0 → ⊥) → (j : ℕ) → settledFrom ≤ wordAt s j → (b : Bool) → eqb j i ≡ b → wordAt (set s (linksAt + i) (suc r)) j ≡ wordAt s j
   unfolding wordAt
   go-to d j v true e = absurd (old d j (eqb-true j i e) v)
-  go-to d j v false e = getD-set-other s (39936 + i) (39936 + j) (suc r) 0 (λ q. eqb-false j i e (omega arith))
+  go-to d j v false e = getD-set-other s (linksAt + i) (linksAt + j) (suc r) 0 (λ q. eqb-false j i e (omega arith))
 
-  go-from : (j : ℕ) → 1025 ≤ wordAt (set s (39936 + i) (suc r)) j → (b : Bool) → eqb j i ≡ b → wordAt (set s (39936 + i) (suc r)) j ≡ wordAt s j
+  go-from : (j : ℕ) → settledFrom ≤ wordAt (set s (linksAt + i) (suc r)) j → (b : Bool) → eqb j i ≡ b → wordAt (set s (linksAt + i) (suc r)) j ≡ wordAt s j
   unfolding wordAt
   go-from j v true e =
-      let q : wordAt (set s (39936 + i) (suc r)) j ≡ suc r = ap (λ k. getD (set s (39936 + i) (suc r)) (39936 + k) 0) (eqb-true j i e) ∙ getD-set-same s (39936 + i) (suc r) 0 (omega arith) in
+      let q : wordAt (set s (linksAt + i) (suc r)) j ≡ suc r = ap (λ k. getD (set s (linksAt + i) (suc r)) (linksAt + k) 0) (eqb-true j i e) ∙ getD-set-same s (linksAt + i) (suc r) 0 (omega arith) in
       absurd (omega arith)
-  go-from j v false e = getD-set-other s (39936 + i) (39936 + j) (suc r) 0 (λ q. eqb-false j i e (omega arith))
+  go-from j v false e = getD-set-other s (linksAt + i) (linksAt + j) (suc r) 0 (λ q. eqb-false j i e (omega arith))
 
-  set-refers : (linkAt s i ≡ 0 → ⊥) → Refers s (set s (39936 + i) (suc r))
+  set-refers : (linkAt s i ≡ 0 → ⊥) → Refers s (set s (linksAt + i) (suc r))
   unfolding lower
   set-refers d = record {
-    low = take-set-le 39936 s (39936 + i) (suc r) (omega arith);
+    low = take-set-le poolSize s (linksAt + i) (suc r) (omega arith);
     to = λ j v. go-to d j v (eqb j i) refl;
     from = λ j v. go-from j v (eqb j i) refl;
   }
@@ -264,30 +265,30 @@ module _ (s t d : List ℕ) (n : ℕ) (K : Refers s t) where
   refers-pinned f P = record {
     reads = λ i l v.
         let e = K .from i v in
-        subst (λ z. Readable z (wordAt t i - 1025)) (sym low-heap) (subst (λ z. Readable (heap s d) (z - 1025)) (sym e) (P .reads i l (omega arith)));
+        subst (λ z. Readable z (wordAt t i - settledFrom)) (sym low-heap) (subst (λ z. Readable (heap s d) (z - settledFrom)) (sym e) (P .reads i l (omega arith)));
     bare = λ i l v. let e = K .from i v in ap (λ z. tagAt z i) f ∙ P .bare i l (omega arith);
   }
 
   pub refers-to : (σ : ℕ → Ty) → Obeys s d n σ → Obeys t d n σ
   refers-to σ O i l v g R =
       let e = K .from i v in
-      O i l (omega arith) g (subst (λ z. Reads (heap s d) (z - 1025) g) e (subst (λ z. Reads z (wordAt t i - 1025) g) low-heap R))
+      O i l (omega arith) g (subst (λ z. Reads (heap s d) (z - settledFrom) g) e (subst (λ z. Reads z (wordAt t i - settledFrom) g) low-heap R))
 
   pub refers-from : (σ : ℕ → Ty) → Obeys t d n σ → Obeys s d n σ
   refers-from σ O i l v g R =
       let e = K .to i v in
-      O i l (omega arith) g (subst (λ z. Reads (heap t d) (z - 1025) g) (sym e) (subst (λ z. Reads z (wordAt s i - 1025) g) (sym low-heap) R))
+      O i l (omega arith) g (subst (λ z. Reads (heap t d) (z - settledFrom) g) (sym e) (subst (λ z. Reads z (wordAt s i - settledFrom) g) (sym low-heap) R))
 
 suc-inj : (a b : ℕ) → suc a ≡ suc b → a ≡ b
 suc-inj a b e = omega arith
 
-pub straightened : (s : List ℕ) (n i r : ℕ) → length s ≡ 52224 → i < 1024 → r < 1024 → Root s i r → (linkAt s i ≡ 0 → ⊥) → Straight s (set s (39936 + i) (suc r)) i n
+pub straightened : (s : List ℕ) (n i r : ℕ) → length s ≡ areaSize → i < maxCells → r < maxCells → Root s i r → (linkAt s i ≡ 0 → ⊥) → Straight s (set s (linksAt + i) (suc r)) i n
 straightened s n i r z f fr Q d = record {
   refers = set-refers s i r z f fr d;
-  still = frozen-set s (39936 + i) (suc r) (omega arith);
+  still = frozen-set s (linksAt + i) (suc r) (omega arith);
   direct = λ j e.
       let m = suc-inj j r (sym e ∙ set-hit s i r z f fr) in
-      ap (linkAt (set s (39936 + i) (suc r))) m ∙ set-miss s i r z f fr r (λ q. d (ap (linkAt s) (sym q) ∙ Q .free)) ∙ Q .free;
+      ap (linkAt (set s (linksAt + i) (suc r))) m ∙ set-miss s i r z f fr r (λ q. d (ap (linkAt s) (sym q) ∙ Q .free)) ∙ Q .free;
   others = set-miss s i r z f fr;
   roots = λ e. absurd (d e);
   keeps = λ P₀ L X l. straight s n P₀ L X i r l (Q .is n L (X .held) l) (Q .free) d;

@@ -17,6 +17,7 @@ use Rattle.types_rules.specs.Equations.{AllP, In, Pairs, end, pair}
 use Rattle.types_rules.specs.Follows.{Follows, View, matching, reflexive, shape, stated, symmetric, transitive, unk}
 use Rattle.types_rules.specs.Former.{Former}
 use Rattle.types_rules.specs.Former.{formerOf}
+use Rattle.types_cells.specs.Layout.{maxCells, maxPending, poolSize, linksAt, recordsAt, argumentsAt, firstsAt, countsAt, firstRun, frozenSize, areaSize}
 use Rattle.types_cells.specs.Store.{frozen, linkAt, fieldAt, tagAt, argAt, firstAt, countAt, run, partsAt, formerAt, viewOf, view, Cell, load, linkOf, Both, Held, Solved}
 use Rattle.types_cells.specs.Calls.{put, Making, Made, Above, Adding, Added}
 use Rattle.types_cells.proofs.Words.{frozen-length, run-at, run-length, link-new, link-same}
@@ -124,7 +125,7 @@ next-new n end h i l = refl
 next-new n (pair a b L) h i l = next-c a b i n L (h .0 .0) l (next-new n L (h .1) i l) (eqb i a) refl
 
 -- The invariant over a store that has the old cells, and more.
-module _ (s s′ : List ℕ) (n n′ : ℕ) (size : length s′ ≡ length s) (wide : n ≤ n′) (few : n′ ≤ 1024) (room : load (frozen s′) n′ < 2048)
+module _ (s s′ : List ℕ) (n n′ : ℕ) (size : length s′ ≡ length s) (wide : n ≤ n′) (few : n′ ≤ maxCells) (room : load (frozen s′) n′ < maxPending)
     (cells : (i : ℕ) → i < n′ → Cell (frozen s′) i) (same : (i : ℕ) → i < n → linkAt s′ i ≡ linkAt s i) (fresh : (i : ℕ) → n ≤ i → i < n′ → linkAt s′ i ≡ 0)
     (old : (i : ℕ) → i < n → view (frozen s′) n′ i ≡ view (frozen s) n i) where
   pub solved-grow : (P₀ L : Pairs ℕ) → Solved s n P₀ L → Solved s′ n′ P₀ L
@@ -153,59 +154,59 @@ unfolding load
 load-same w w′ zero h = refl
 load-same w w′ (suc n) h = let e = h n (omega arith) in let r = load-same w w′ n (λ i l. h i (omega arith)) in omega arith
 
-pub frozen-at : (s : List ℕ) (k : ℕ) → getD (frozen s) k 0 ≡ getD s (46080 + k) 0
+pub frozen-at : (s : List ℕ) (k : ℕ) → getD (frozen s) k 0 ≡ getD s (recordsAt + k) 0
 unfolding frozen
-frozen-at s k = getD-drop 46080 s k 0
+frozen-at s k = getD-drop recordsAt s k 0
 
 -- The words of a new cell.
-module _ (s : List ℕ) (n t a f c : ℕ) (size : length s ≡ 52224) (l : n < 1024) where
+module _ (s : List ℕ) (n t a f c : ℕ) (size : length s ≡ areaSize) (l : n < maxCells) where
   abbrev s1 : List ℕ
-  s1 = set s (39936 + n) 0
+  s1 = set s (linksAt + n) 0
 
   abbrev s2 : List ℕ
-  s2 = set s1 (46080 + 4 * n) t
+  s2 = set s1 (recordsAt + 4 * n) t
 
   abbrev s3 : List ℕ
-  s3 = set s2 (46081 + 4 * n) a
+  s3 = set s2 (argumentsAt + 4 * n) a
 
   abbrev s4 : List ℕ
-  s4 = set s3 (46082 + 4 * n) f
+  s4 = set s3 (firstsAt + 4 * n) f
 
-  pub put-other : (p : ℕ) → (p ≡ 39936 + n → ⊥) → (p ≡ 46080 + 4 * n → ⊥) → (p ≡ 46081 + 4 * n → ⊥) → (p ≡ 46082 + 4 * n → ⊥) → (p ≡ 46083 + 4 * n → ⊥) → getD (put s n t a f c) p 0 ≡ getD s p 0
+  pub put-other : (p : ℕ) → (p ≡ poolSize + n → ⊥) → (p ≡ recordsAt + 4 * n → ⊥) → (p ≡ argumentsAt + 4 * n → ⊥) → (p ≡ firstsAt + 4 * n → ⊥) → (p ≡ countsAt + 4 * n → ⊥) → getD (put s n t a f c) p 0 ≡ getD s p 0
   unfolding put
   put-other p d₀ d₁ d₂ d₃ d₄ =
-      getD-set-other s4 (46083 + 4 * n) p c 0 d₄ ∙ getD-set-other s3 (46082 + 4 * n) p f 0 d₃ ∙ getD-set-other s2 (46081 + 4 * n) p a 0 d₂
-      ∙ getD-set-other s1 (46080 + 4 * n) p t 0 d₁ ∙ getD-set-other s (39936 + n) p 0 0 d₀
+      getD-set-other s4 (countsAt + 4 * n) p c 0 d₄ ∙ getD-set-other s3 (firstsAt + 4 * n) p f 0 d₃ ∙ getD-set-other s2 (argumentsAt + 4 * n) p a 0 d₂
+      ∙ getD-set-other s1 (recordsAt + 4 * n) p t 0 d₁ ∙ getD-set-other s (linksAt + n) p 0 0 d₀
 
   pub put-length : length (put s n t a f c) ≡ length s
   unfolding put
   put-length = simp length-set
 
-  pub put-0 : getD (put s n t a f c) (39936 + n) 0 ≡ 0
+  pub put-0 : getD (put s n t a f c) (linksAt + n) 0 ≡ 0
   unfolding put
   put-0 =
-      getD-set-other s4 (46083 + 4 * n) (39936 + n) c 0 (λ e. omega arith) ∙ getD-set-other s3 (46082 + 4 * n) (39936 + n) f 0 (λ e. omega arith)
-      ∙ getD-set-other s2 (46081 + 4 * n) (39936 + n) a 0 (λ e. omega arith) ∙ getD-set-other s1 (46080 + 4 * n) (39936 + n) t 0 (λ e. omega arith) ∙ getD-set-same s (39936 + n) 0 0 (omega arith)
+      getD-set-other s4 (countsAt + 4 * n) (linksAt + n) c 0 (λ e. omega arith) ∙ getD-set-other s3 (firstsAt + 4 * n) (linksAt + n) f 0 (λ e. omega arith)
+      ∙ getD-set-other s2 (argumentsAt + 4 * n) (linksAt + n) a 0 (λ e. omega arith) ∙ getD-set-other s1 (recordsAt + 4 * n) (linksAt + n) t 0 (λ e. omega arith) ∙ getD-set-same s (linksAt + n) 0 0 (omega arith)
 
-  put-t : getD (put s n t a f c) (46080 + 4 * n) 0 ≡ t
+  put-t : getD (put s n t a f c) (recordsAt + 4 * n) 0 ≡ t
   unfolding put
   put-t =
-      getD-set-other s4 (46083 + 4 * n) (46080 + 4 * n) c 0 (λ e. omega arith) ∙ getD-set-other s3 (46082 + 4 * n) (46080 + 4 * n) f 0 (λ e. omega arith)
-      ∙ getD-set-other s2 (46081 + 4 * n) (46080 + 4 * n) a 0 (λ e. omega arith) ∙ getD-set-same s1 (46080 + 4 * n) t 0 (simp length-set (omega arith))
+      getD-set-other s4 (countsAt + 4 * n) (recordsAt + 4 * n) c 0 (λ e. omega arith) ∙ getD-set-other s3 (firstsAt + 4 * n) (recordsAt + 4 * n) f 0 (λ e. omega arith)
+      ∙ getD-set-other s2 (argumentsAt + 4 * n) (recordsAt + 4 * n) a 0 (λ e. omega arith) ∙ getD-set-same s1 (recordsAt + 4 * n) t 0 (simp length-set (omega arith))
 
-  put-a : getD (put s n t a f c) (46081 + 4 * n) 0 ≡ a
+  put-a : getD (put s n t a f c) (argumentsAt + 4 * n) 0 ≡ a
   unfolding put
   put-a =
-      getD-set-other s4 (46083 + 4 * n) (46081 + 4 * n) c 0 (λ e. omega arith) ∙ getD-set-other s3 (46082 + 4 * n) (46081 + 4 * n) f 0 (λ e. omega arith)
-      ∙ getD-set-same s2 (46081 + 4 * n) a 0 (simp length-set (omega arith))
+      getD-set-other s4 (countsAt + 4 * n) (argumentsAt + 4 * n) c 0 (λ e. omega arith) ∙ getD-set-other s3 (firstsAt + 4 * n) (argumentsAt + 4 * n) f 0 (λ e. omega arith)
+      ∙ getD-set-same s2 (argumentsAt + 4 * n) a 0 (simp length-set (omega arith))
 
-  put-f : getD (put s n t a f c) (46082 + 4 * n) 0 ≡ f
+  put-f : getD (put s n t a f c) (firstsAt + 4 * n) 0 ≡ f
   unfolding put
-  put-f = getD-set-other s4 (46083 + 4 * n) (46082 + 4 * n) c 0 (λ e. omega arith) ∙ getD-set-same s3 (46082 + 4 * n) f 0 (simp length-set (omega arith))
+  put-f = getD-set-other s4 (countsAt + 4 * n) (firstsAt + 4 * n) c 0 (λ e. omega arith) ∙ getD-set-same s3 (firstsAt + 4 * n) f 0 (simp length-set (omega arith))
 
-  put-c : getD (put s n t a f c) (46083 + 4 * n) 0 ≡ c
+  put-c : getD (put s n t a f c) (countsAt + 4 * n) 0 ≡ c
   unfolding put
-  put-c = getD-set-same s4 (46083 + 4 * n) c 0 (simp length-set (omega arith))
+  put-c = getD-set-same s4 (countsAt + 4 * n) c 0 (simp length-set (omega arith))
 
   abbrev w : List ℕ
   w = frozen s
@@ -213,36 +214,36 @@ module _ (s : List ℕ) (n t a f c : ℕ) (size : length s ≡ 52224) (l : n < 1
   abbrev w′ : List ℕ
   w′ = frozen (put s n t a f c)
 
-  here : (j q v : ℕ) → 46080 + (4 * n + j) ≡ q → getD (put s n t a f c) q 0 ≡ v → fieldAt w′ n j ≡ v
+  here : (j q v : ℕ) → recordsAt + (4 * n + j) ≡ q → getD (put s n t a f c) q 0 ≡ v → fieldAt w′ n j ≡ v
   unfolding fieldAt
   here j q v e h = frozen-at (put s n t a f c) (4 * n + j) ∙ ap (λ z. getD (put s n t a f c) z 0) e ∙ h
 
   pub t-at : tagAt w′ n ≡ t
-  t-at = here 0 (46080 + 4 * n) t (omega arith) put-t
+  t-at = here 0 (recordsAt + 4 * n) t (omega arith) put-t
 
   a-at : argAt w′ n ≡ a
-  a-at = here 1 (46081 + 4 * n) a (omega arith) put-a
+  a-at = here 1 (argumentsAt + 4 * n) a (omega arith) put-a
 
   f-at : firstAt w′ n ≡ f
-  f-at = here 2 (46082 + 4 * n) f (omega arith) put-f
+  f-at = here 2 (firstsAt + 4 * n) f (omega arith) put-f
 
   c-at : countAt w′ n ≡ c
-  c-at = here 3 (46083 + 4 * n) c (omega arith) put-c
+  c-at = here 3 (countsAt + 4 * n) c (omega arith) put-c
 
   pub there : (i j : ℕ) → i < n → j < 4 → fieldAt w′ i j ≡ fieldAt w i j
   unfolding fieldAt
   there i j m q =
       frozen-at (put s n t a f c) (4 * i + j)
-      ∙ put-other (46080 + (4 * i + j)) (λ e. omega arith) (λ e. omega arith) (λ e. omega arith) (λ e. omega arith) (λ e. omega arith)
+      ∙ put-other (recordsAt + (4 * i + j)) (λ e. omega arith) (λ e. omega arith) (λ e. omega arith) (λ e. omega arith) (λ e. omega arith)
       ∙ sym (frozen-at s (4 * i + j))
 
-  pub runs : (p : ℕ) → 4096 ≤ p → getD w′ p 0 ≡ getD w p 0
+  pub runs : (p : ℕ) → firstRun ≤ p → getD w′ p 0 ≡ getD w p 0
   runs p m =
       frozen-at (put s n t a f c) p
-      ∙ put-other (46080 + p) (λ e. omega arith) (λ e. omega arith) (λ e. omega arith) (λ e. omega arith) (λ e. omega arith)
+      ∙ put-other (recordsAt + p) (λ e. omega arith) (λ e. omega arith) (λ e. omega arith) (λ e. omega arith) (λ e. omega arith)
       ∙ sym (frozen-at s p)
 
-  sizes : length w′ ≡ 6144
+  sizes : length w′ ≡ frozenSize
   sizes = frozen-length (put s n t a f c) (put-length ∙ size)
 
   agree : (i : ℕ) → i < n → Cell w i → Agree w w′ i
@@ -253,7 +254,7 @@ module _ (s : List ℕ) (n t a f c : ℕ) (size : length s ≡ 52224) (l : n < 1
     names = λ e p q r. runs p (let z = C .named-low e in omega arith);
   }
 
-  run-new : (at k : ℕ) → 4096 ≤ at → at + k ≤ 6144 → run w′ at k ≡ run w at k
+  run-new : (at k : ℕ) → firstRun ≤ at → at + k ≤ frozenSize → run w′ at k ≡ run w at k
   run-new at k m q = run-frame w w′ at k (let z = frozen-length s size in omega arith) (let z = sizes in omega arith) (λ p r x. runs p (omega arith))
 
   module _ (M : Making s n t a f c) where
@@ -291,7 +292,7 @@ module _ (s : List ℕ) (n t a f c : ℕ) (size : length s ≡ 52224) (l : n < 1
     old-view : (i : ℕ) → i < n → view w′ (suc n) i ≡ view w n i
     old-view i m = view-agree w w′ i (cells-old i m) (agree i m (cells-old i m)) n (suc n) m (omega arith)
 
-    load-new : load w′ (suc n) < 2048
+    load-new : load w′ (suc n) < maxPending
     unfolding load
     load-new = let e = load-same w w′ n (λ i m. there i 3 m (omega arith)) in let k = c-at in let q = M .fit in omega arith
 
@@ -304,31 +305,31 @@ module _ (s : List ℕ) (n t a f c : ℕ) (size : length s ≡ 52224) (l : n < 1
     }
       where
         same-links : (i : ℕ) → i < n → linkAt (put s n t a f c) i ≡ linkAt s i
-        same-links i m = link-same s _ i i (put-other (39936 + i) (λ e. omega arith) (λ e. omega arith) (λ e. omega arith) (λ e. omega arith) (λ e. omega arith))
+        same-links i m = link-same s _ i i (put-other (linksAt + i) (λ e. omega arith) (λ e. omega arith) (λ e. omega arith) (λ e. omega arith) (λ e. omega arith))
 
         new-link : (i : ℕ) → n ≤ i → i < suc n → linkAt (put s n t a f c) i ≡ 0
         new-link i m q = let e : i ≡ n = omega arith in rw e (link-new _ n 0 (omega arith) put-0)
 
 -- A word more in the runs.
 module _ (s : List ℕ) (n top x : ℕ) (A : Adding s n top) where
-  size′ : length s ≡ 52224
+  size′ : length s ≡ areaSize
   size′ = A .solved .held .size
 
   abbrev v : List ℕ
   v = frozen s
 
   abbrev v′ : List ℕ
-  v′ = frozen (set s (46080 + top) x)
+  v′ = frozen (set s (recordsAt + top) x)
 
   pub word-other : (p : ℕ) → (p ≡ top → ⊥) → getD v′ p 0 ≡ getD v p 0
-  word-other p d = frozen-at _ p ∙ getD-set-other s (46080 + top) (46080 + p) x 0 (λ e. d (omega arith)) ∙ sym (frozen-at s p)
+  word-other p d = frozen-at _ p ∙ getD-set-other s (recordsAt + top) (recordsAt + p) x 0 (λ e. d (omega arith)) ∙ sym (frozen-at s p)
 
   pub fields-same : (i j : ℕ) → i < n → j < 4 → fieldAt v′ i j ≡ fieldAt v i j
   unfolding fieldAt
   fields-same i j m q = word-other (4 * i + j) (λ e. let z = A .above .low in let y = A .solved .held .few in omega arith)
 
   sizes′ : length v′ ≡ length v
-  sizes′ = frozen-length (set s (46080 + top) x) (length-set s (46080 + top) x ∙ size′) ∙ sym (frozen-length s size′)
+  sizes′ = frozen-length (set s (recordsAt + top) x) (length-set s (recordsAt + top) x ∙ size′) ∙ sym (frozen-length s size′)
 
   agree′ : (i : ℕ) → i < n → Agree v v′ i
   agree′ i m = record {
@@ -344,11 +345,11 @@ module _ (s : List ℕ) (n top x : ℕ) (A : Adding s n top) where
   old′ : (i : ℕ) → i < n → view v′ n i ≡ view v n i
   old′ i m = view-agree v v′ i (cells′ i m) (agree′ i m) n n m (omega arith)
 
-  pub added : Added s (set s (46080 + top) x) n top x
+  pub added : Added s (set s (recordsAt + top) x) n top x
   added = record {
     words = refl;
-    grown = solved-grow s (set s (46080 + top) x) n n (length-set s (46080 + top) x) (omega arith) (A .solved .held .few)
-        (subst (λ z. z < 2048) (sym (load-same v v′ n (λ i m. fields-same i 3 m (omega arith)))) (A .solved .held .room))
+    grown = solved-grow s (set s (recordsAt + top) x) n n (length-set s (recordsAt + top) x) (omega arith) (A .solved .held .few)
+        (subst (λ z. z < maxPending) (sym (load-same v v′ n (λ i m. fields-same i 3 m (omega arith)))) (A .solved .held .room))
         (λ i m. cell-agree v v′ i (cells′ i m) (agree′ i m)) same-links (λ i p q. absurd (omega arith)) old′;
     old = old′;
     above = record {
@@ -359,12 +360,12 @@ module _ (s : List ℕ) (n top x : ℕ) (A : Adding s n top) where
     };
   }
     where
-      same-links : (i : ℕ) → i < n → linkAt (set s (46080 + top) x) i ≡ linkAt s i
-      same-links i m = link-same s _ i i (getD-set-other s (46080 + top) (39936 + i) x 0 (λ e. let y = A .solved .held .few in omega arith))
+      same-links : (i : ℕ) → i < n → linkAt (set s (recordsAt + top) x) i ≡ linkAt s i
+      same-links i m = link-same s _ i i (getD-set-other s (recordsAt + top) (linksAt + i) x 0 (λ e. let y = A .solved .held .few in omega arith))
 
 -- Where the runs of the cells end, with a new cell, and the cells and parts together.
 module _ (s s′ : List ℕ) (n t a f c : ℕ) (M : Making s n t a f c) (N : Made s s′ n t a f c) where
-  abbrev sz : length s ≡ 52224
+  abbrev sz : length s ≡ areaSize
   sz = M .solved .held .size
 
   old-field : (i j : ℕ) → i < n → j < 4 → fieldAt (frozen s′) i j ≡ fieldAt (frozen s) i j

@@ -16,6 +16,7 @@ use Rattle.types_rules.proofs.Rational.{swap-cases}
 use Rattle.types_rules.specs.Classes.{Wf, next, rep}
 use Rattle.types_rules.specs.Equations.{AllP, In, Pairs, end, pair}
 use Rattle.types_rules.specs.Follows.{unk}
+use Rattle.types_cells.specs.Layout.{maxCells, maxPending}
 use Rattle.types_cells.specs.Calls.{Known, Root}
 use Rattle.types_cells.specs.Store.{frozen, linkAt, Cell, load, linkOf, Both, Held}
 
@@ -129,27 +130,27 @@ module _ (s : List ℕ) (n : ℕ) (L : Pairs ℕ) (H : Held s n L) where
   far-more zero k l h = far-0 k l h (linkAt s k) refl
   far-more (suc f) k l h = far-c f k l h (λ j m q. far-more f j m q) (linkAt s k) refl
 
-  short : (k : ℕ) → k < n → hops eqb L k ≤ 1024
+  short : (k : ℕ) → k < n → hops eqb L k ≤ maxCells
   short k l = omega (arith, few-hops L k, few-links n L (H .wf) (H .inside), H .few)
 
-  pub far-less : (k j : ℕ) → k < n → linkAt s k ≡ suc j → far s 1025 j < far s 1025 k
+  pub far-less : (k j : ℕ) → k < n → linkAt s k ≡ suc j → far s (1 + maxCells) j < far s (1 + maxCells) k
   unfolding far
   far-less k j l e =
       let m = hop-below k j l e in
-      omega (arith, far-more 1024 j m (short j m), ap (λ v. farOf v (λ i. far s 1024 i)) e)
+      omega (arith, far-more maxCells j m (short j m), ap (λ v. farOf v (λ i. far s maxCells i)) e)
 
 pub known-root : (s : List ℕ) (i r : ℕ) → Known s i → Root s i r → Known s r
 known-root s i r k q = record { n = k .n; L = k .L; held = k .held; made = subst (λ z. z < k .n) (q .is (k .n) (k .L) (k .held) (k .made)) (rep-below (k .n) (k .L) (k .held .inside) i (k .made)) }
 
-pub few-cell : (s : List ℕ) (i : ℕ) → Known s i → i < 1024
+pub few-cell : (s : List ℕ) (i : ℕ) → Known s i → i < maxCells
 few-cell s i k = let f = k .held .few in let l = k .made in omega arith
 
 -- What is kept where links and the frozen part are.
-pub held-same : (s s′ : List ℕ) → frozen s′ ≡ frozen s → (n : ℕ) (L : Pairs ℕ) → length s′ ≡ length s → ((i : ℕ) → i < 1024 → linkAt s′ i ≡ linkAt s i) → Held s n L → Held s′ n L
+pub held-same : (s s′ : List ℕ) → frozen s′ ≡ frozen s → (n : ℕ) (L : Pairs ℕ) → length s′ ≡ length s → ((i : ℕ) → i < maxCells → linkAt s′ i ≡ linkAt s i) → Held s n L → Held s′ n L
 held-same s s′ e n L l h H = record {
   size = l ∙ H .size;
   few = H .few;
-  room = subst (λ w. load w n < 2048) (sym e) (H .room);
+  room = subst (λ w. load w n < maxPending) (sym e) (H .room);
   cells = λ i m. subst (λ w. Cell w i) (sym e) (H .cells i m);
   links = λ i m. H .links i m ∙ ap linkOf (sym (h i (let f = H .few in omega arith)));
   wf = H .wf;

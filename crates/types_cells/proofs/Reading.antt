@@ -17,6 +17,7 @@ use Rattle.types_rules.specs.Words.{second, words, partWords}
 use mathlib.Core.Option.{Option, some, none}
 use Rattle.types_rules.specs.Component.{pickType, componentType}
 use Rattle.types_rules.proofs.Words.{words-one}
+use Rattle.types_cells.specs.Layout.{poolSize, areaSize}
 use Rattle.types_cells.specs.Parts.{Names, Rest}
 use Rattle.types_cells.specs.Settled.{lower, heap, Reads, Readable, Areas, leadWords, nameWords, partsOf}
 
@@ -140,24 +141,24 @@ unfolding partWords
 rest-done H w at l e R = let q = R .end in omega arith
 
 -- The two areas as one list.
-pub lower-length : (s : List ℕ) → length s ≡ 52224 → length (lower s) ≡ 39936
+pub lower-length : (s : List ℕ) → length s ≡ areaSize → length (lower s) ≡ poolSize
 unfolding lower
 lower-length s e = simp length-take (omega arith)
 
-pub heap-length : (s d : List ℕ) → length s ≡ 52224 → length (heap s d) ≡ 39936 + length d
+pub heap-length : (s d : List ℕ) → length s ≡ areaSize → length (heap s d) ≡ poolSize + length d
 unfolding heap
 heap-length s d e = length-append (lower s) d ∙ ap (λ z. z + length d) (lower-length s e)
 
-pub heap-low : (s d : List ℕ) (p : ℕ) → length s ≡ 52224 → p < 39936 → getD (heap s d) p 0 ≡ getD s p 0
+pub heap-low : (s d : List ℕ) (p : ℕ) → length s ≡ areaSize → p < poolSize → getD (heap s d) p 0 ≡ getD s p 0
 unfolding heap lower
-heap-low s d p e l = List·getD-append (lower s) d 0 p (let z = lower-length s e in omega arith) ∙ getD-take 39936 s p 0 l
+heap-low s d p e l = List·getD-append (lower s) d 0 p (let z = lower-length s e in omega arith) ∙ getD-take poolSize s p 0 l
 
-pub heap-high : (s d : List ℕ) (p : ℕ) → length s ≡ 52224 → 39936 ≤ p → getD (heap s d) p 0 ≡ getD d (p - 39936) 0
+pub heap-high : (s d : List ℕ) (p : ℕ) → length s ≡ areaSize → poolSize ≤ p → getD (heap s d) p 0 ≡ getD d (p - poolSize) 0
 unfolding heap
 heap-high s d p e l =
     let z = lower-length s e in
-    let q : p ≡ length (lower s) + (p - 39936) = omega arith in
-    ap (λ k. getD (lower s ++ d) k 0) q ∙ getD-append-add (lower s) d (p - 39936) 0
+    let q : p ≡ length (lower s) + (p - poolSize) = omega arith in
+    ap (λ k. getD (lower s ++ d) k 0) q ∙ getD-append-add (lower s) d (p - poolSize) 0
 
 -- Walking over the parts: n of them, j passed, a name takes w words, the whole ends at e.
 pub record Scan (H : List ℕ) (w at n j e : ℕ) : Type 0 where

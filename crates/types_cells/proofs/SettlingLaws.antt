@@ -17,6 +17,7 @@ use Rattle.types_rules.specs.Finite.{fromList}
 use Rattle.types_rules.specs.Follows.{Follows}
 use Rattle.types_rules.specs.Former.{Former}
 use Rattle.types_rules.specs.Types.{Ty, Tys, node, tnil, tcons}
+use Rattle.types_cells.specs.Layout.{maxCells, poolSize, linksAt, settledFrom}
 use Rattle.types_cells.specs.Store.{frozen, linkAt, linkPart, tagAt, formerAt, countAt, firstAt, partsAt, run, view, Cell, Held, Solved}
 use Rattle.types_cells.specs.Calls.{Root, Tells}
 use Rattle.types_cells.specs.Settled.{lower, heap, Reads, Readable, wordAt, Pinned, Obeys, Fits, SameType, Kept, Pinning, Adds, Pin, Settling}
@@ -59,61 +60,61 @@ module _ (s d : List ℕ) (r p : ℕ) (S : Settling s d r p) where
   abbrev H : List ℕ
   H = heap s d
 
-  few : r < 1024
+  few : r < maxCells
   few = let f = P .held .few in let l = P .made in omega arith
 
   abbrev s₁ : List ℕ
-  s₁ = set s (39936 + r) (1025 + p)
+  s₁ = set s (linksAt + r) (settledFrom + p)
 
-  hit : wordAt s₁ r ≡ 1025 + p
+  hit : wordAt s₁ r ≡ settledFrom + p
   unfolding wordAt
-  hit = getD-set-same s (39936 + r) (1025 + p) 0 (let z = P .held .size in let f = few in omega arith)
+  hit = getD-set-same s (linksAt + r) (settledFrom + p) 0 (let z = P .held .size in let f = few in omega arith)
 
   miss : (i : ℕ) → (i ≡ r → ⊥) → wordAt s₁ i ≡ wordAt s i
   unfolding wordAt
-  miss i d′ = getD-set-other s (39936 + r) (39936 + i) (1025 + p) 0 (λ e. d′ (omega arith))
+  miss i d′ = getD-set-other s (linksAt + r) (linksAt + i) (settledFrom + p) 0 (λ e. d′ (omega arith))
 
   link-c : (i : ℕ) (b : Bool) → eqb i r ≡ b → linkAt s₁ i ≡ linkAt s i
   unfolding linkAt wordAt
   link-c i true e =
       let q = eqb-true i r e in
-      ap (λ z. linkAt s₁ z) q ∙ ap linkPart hit ∙ link-none (1025 + p) (omega arith) ∙ sym (ap (λ z. linkAt s z) q ∙ S .root)
+      ap (λ z. linkAt s₁ z) q ∙ ap linkPart hit ∙ link-none (settledFrom + p) (omega arith) ∙ sym (ap (λ z. linkAt s z) q ∙ S .root)
   link-c i false e = ap linkPart (miss i (eqb-false i r e))
 
   kept₁ : Kept s s₁
   unfolding lower
   kept₁ = record {
-    size = length-set s (39936 + r) (1025 + p);
-    low = take-set-le 39936 s (39936 + r) (1025 + p) (omega arith);
-    still = frozen-set s (39936 + r) (1025 + p) (let f = few in omega arith);
+    size = length-set s (linksAt + r) (settledFrom + p);
+    low = take-set-le poolSize s (linksAt + r) (settledFrom + p) (omega arith);
+    still = frozen-set s (linksAt + r) (settledFrom + p) (let f = few in omega arith);
     links = λ i. link-c i (eqb i r) refl;
-    rest = λ i l. getD-set-other s (39936 + r) i (1025 + p) 0 (λ e. let f = few in omega arith);
+    rest = λ i l. getD-set-other s (linksAt + r) i (settledFrom + p) 0 (λ e. let f = few in omega arith);
   }
 
   eh : heap s₁ d ≡ heap s d
   eh = heap-kept s s₁ d (kept₁ .low)
 
-  place : 1025 + p - 1025 ≡ p
+  place : settledFrom + p - settledFrom ≡ p
   place = omega arith
 
-  pinned-c : (n : ℕ) → Pinned s d n → (i : ℕ) → i < n → (b : Bool) → eqb i r ≡ b → 1025 ≤ wordAt s₁ i → Readable (heap s₁ d) (wordAt s₁ i - 1025)
+  pinned-c : (n : ℕ) → Pinned s d n → (i : ℕ) → i < n → (b : Bool) → eqb i r ≡ b → settledFrom ≤ wordAt s₁ i → Readable (heap s₁ d) (wordAt s₁ i - settledFrom)
   pinned-c n Q i l true e v =
       let q = eqb-true i r e in
-      subst (λ z. Readable z (wordAt s₁ i - 1025)) (sym eh) (subst (Readable (heap s d)) (sym (ap (λ z. wordAt s₁ z - 1025) q ∙ ap (λ z. z - 1025) hit ∙ place)) (P .readable))
+      subst (λ z. Readable z (wordAt s₁ i - settledFrom)) (sym eh) (subst (Readable (heap s d)) (sym (ap (λ z. wordAt s₁ z - settledFrom) q ∙ ap (λ z. z - settledFrom) hit ∙ place)) (P .readable))
   pinned-c n Q i l false e v =
       let m = miss i (eqb-false i r e) in
-      subst (λ z. Readable z (wordAt s₁ i - 1025)) (sym eh) (subst (λ z. Readable (heap s d) (z - 1025)) (sym m) (Q .reads i l (omega arith)))
+      subst (λ z. Readable z (wordAt s₁ i - settledFrom)) (sym eh) (subst (λ z. Readable (heap s d) (z - settledFrom)) (sym m) (Q .reads i l (omega arith)))
 
-  bare-c : (n : ℕ) → Pinned s d n → (i : ℕ) → i < n → (b : Bool) → eqb i r ≡ b → 1025 ≤ wordAt s₁ i → tagAt (frozen s₁) i ≡ 0
+  bare-c : (n : ℕ) → Pinned s d n → (i : ℕ) → i < n → (b : Bool) → eqb i r ≡ b → settledFrom ≤ wordAt s₁ i → tagAt (frozen s₁) i ≡ 0
   bare-c n Q i l true e v = ap₂ tagAt (kept₁ .still) (eqb-true i r e) ∙ S .open-cell
   bare-c n Q i l false e v = let m = miss i (eqb-false i r e) in ap (λ z. tagAt z i) (kept₁ .still) ∙ Q .bare i l (omega arith)
 
-  module _ (none : wordAt s r < 1025) where
+  module _ (none : wordAt s r < settledFrom) where
     pub settled-before : (n : ℕ) (σ : ℕ → Ty) → Obeys s₁ d n σ → Obeys s d n σ
     settled-before n σ O i l v g R =
         let ne : i ≡ r → ⊥ = λ e. let z = ap (wordAt s) e in omega arith in
         let m = miss i ne in
-        O i l (omega arith) g (subst (λ z. Reads z (wordAt s₁ i - 1025) g) (sym eh) (subst (λ z. Reads (heap s d) (z - 1025) g) (sym m) R))
+        O i l (omega arith) g (subst (λ z. Reads z (wordAt s₁ i - settledFrom) g) (sym eh) (subst (λ z. Reads (heap s d) (z - settledFrom) g) (sym m) R))
 
     pub settled-after : (n : ℕ) (g : Ty) → Reads (heap s d) p g → (σ : ℕ → Ty) → Obeys s d n σ → σ r ≡ g → Obeys s₁ d n σ
     settled-after n g R σ O e i l v k Q = go (eqb i r) refl
@@ -121,14 +122,14 @@ module _ (s d : List ℕ) (r p : ℕ) (S : Settling s d r p) where
         go : (b : Bool) → eqb i r ≡ b → σ i ≡ k
         go true z =
             let q = eqb-true i r z in
-            ap σ q ∙ e ∙ reads-one (heap s d) p g k R (subst (λ y. Reads y p k) eh (subst (λ y. Reads (heap s₁ d) y k) (ap (λ y. wordAt s₁ y - 1025) q ∙ ap (λ y. y - 1025) hit ∙ place) Q))
+            ap σ q ∙ e ∙ reads-one (heap s d) p g k R (subst (λ y. Reads y p k) eh (subst (λ y. Reads (heap s₁ d) y k) (ap (λ y. wordAt s₁ y - settledFrom) q ∙ ap (λ y. y - settledFrom) hit ∙ place) Q))
         go false z =
             let m = miss i (eqb-false i r z) in
-            O i l (omega arith) k (subst (λ y. Reads (heap s d) (y - 1025) k) m (subst (λ y. Reads y (wordAt s₁ i - 1025) k) eh Q))
+            O i l (omega arith) k (subst (λ y. Reads (heap s d) (y - settledFrom) k) m (subst (λ y. Reads y (wordAt s₁ i - settledFrom) k) eh Q))
 
     pub settled-type : (n : ℕ) → r < n → (g : Ty) → Reads (heap s d) p g → (σ : ℕ → Ty) → Obeys s₁ d n σ → σ r ≡ g
     settled-type n l g R σ O =
-        O r l (let z = hit in omega arith) g (subst (λ z. Reads z (wordAt s₁ r - 1025) g) (sym eh) (subst (λ z. Reads (heap s d) z g) (sym (ap (λ z. z - 1025) hit ∙ place)) R))
+        O r l (let z = hit in omega arith) g (subst (λ z. Reads z (wordAt s₁ r - settledFrom) g) (sym eh) (subst (λ z. Reads (heap s d) z g) (sym (ap (λ z. z - settledFrom) hit ∙ place)) R))
 
     pub settled : Pin s s₁ d r p true
     settled = record {
@@ -143,7 +144,7 @@ module _ (s d : List ℕ) (r p : ℕ) (S : Settling s d r p) where
     }
 
   -- r refers to a type already.
-  pub compared : (b : Bool) → 1025 ≤ wordAt s r → SameType s d p (wordAt s r - 1025) b → Pin s s d r p b
+  pub compared : (b : Bool) → settledFrom ≤ wordAt s r → SameType s d p (wordAt s r - settledFrom) b → Pin s s d r p b
   compared b v T = record {
     kept = kept-refl s;
     pinned = λ f n L h Q l. Q;

@@ -8,30 +8,31 @@ use lib.ListN.{length, getD, take, drop, set, length-take, length-drop}
 use lib.Seq.{getD-take, getD-drop, drop-cons, drop-set-lt}
 use borrow.Author.Tests.{lt-ltb, le-ltb}
 use Rattle.types_rules.specs.Equations.{In}
+use Rattle.types_cells.specs.Layout.{linksAt, recordsAt, settledFrom, frozenSize, areaSize}
 use Rattle.types_cells.specs.Store.{frozen, linkPart, linkAt, run}
 
-pub frozen-length : (s : List ℕ) → length s ≡ 52224 → length (frozen s) ≡ 6144
+pub frozen-length : (s : List ℕ) → length s ≡ areaSize → length (frozen s) ≡ frozenSize
 unfolding frozen
 frozen-length s e = simp length-drop (omega arith)
 
-pub frozen-set : (s : List ℕ) (i v : ℕ) → i < 46080 → frozen (set s i v) ≡ frozen s
+pub frozen-set : (s : List ℕ) (i v : ℕ) → i < recordsAt → frozen (set s i v) ≡ frozen s
 unfolding frozen
-frozen-set s i v l = drop-set-lt 46080 s i v l
+frozen-set s i v l = drop-set-lt recordsAt s i v l
 
 -- A link word.
-pub link-part : (v : ℕ) → v < 1025 → linkPart v ≡ v
+pub link-part : (v : ℕ) → v < settledFrom → linkPart v ≡ v
 unfolding linkPart
-link-part v l = rw (linkPart, lt-ltb v 1025 l)
+link-part v l = rw (linkPart, lt-ltb v settledFrom l)
 
-pub link-none : (v : ℕ) → 1025 ≤ v → linkPart v ≡ 0
+pub link-none : (v : ℕ) → settledFrom ≤ v → linkPart v ≡ 0
 unfolding linkPart
-link-none v l = rw (linkPart, le-ltb v 1025 l)
+link-none v l = rw (linkPart, le-ltb v settledFrom l)
 
-pub link-same : (s t : List ℕ) (i j : ℕ) → getD t (39936 + j) 0 ≡ getD s (39936 + i) 0 → linkAt t j ≡ linkAt s i
+pub link-same : (s t : List ℕ) (i j : ℕ) → getD t (linksAt + j) 0 ≡ getD s (linksAt + i) 0 → linkAt t j ≡ linkAt s i
 unfolding linkAt
 link-same s t i j e = ap linkPart e
 
-pub link-new : (s : List ℕ) (i v : ℕ) → v < 1025 → getD s (39936 + i) 0 ≡ v → linkAt s i ≡ v
+pub link-new : (s : List ℕ) (i v : ℕ) → v < settledFrom → getD s (linksAt + i) 0 ≡ v → linkAt s i ≡ v
 unfolding linkAt
 link-new s i v l e = ap linkPart e ∙ link-part v l
 

@@ -9,29 +9,30 @@ use lib.ListN.{length, set}
 use Rattle.types_rules.specs.Classes.{rep}
 use Rattle.types_rules.specs.Equations.{In, Pairs}
 use Rattle.types_rules.specs.Former.{formerOf}
+use Rattle.types_cells.specs.Layout.{maxCells, maxPending, linksAt, recordsAt, argumentsAt, firstsAt, countsAt, firstRun, frozenSize}
 use Rattle.types_cells.specs.Store.{frozen, linkAt, tagAt, argAt, firstAt, countAt, run, viewOf, view, load, Held, Solved}
 
 -- The words of a new cell n.
 unfoldable pub put : List ℕ → ℕ → ℕ → ℕ → ℕ → ℕ → List ℕ
-put s n t a f c = set (set (set (set (set s (39936 + n) 0) (46080 + 4 * n) t) (46081 + 4 * n) a) (46082 + 4 * n) f) (46083 + 4 * n) c
+put s n t a f c = set (set (set (set (set s (linksAt + n) 0) (recordsAt + 4 * n) t) (argumentsAt + 4 * n) a) (firstsAt + 4 * n) f) (countsAt + 4 * n) c
 
 -- A new cell may be made of these words.
 pub record Making (s : List ℕ) (n t a f c : ℕ) : Type 0 where
   pub P₀ : Pairs ℕ
   pub L : Pairs ℕ
   pub solved : Solved s n P₀ L
-  pub few : n < 1024
+  pub few : n < maxCells
   pub tags : t ≤ 6
   pub plain : t < 2 → a ≡ 0
   pub powers : t ≡ 3 → a ≡ 0
   pub products : t ≡ 4 → a ≡ c
   pub one : t ≡ 3 → c ≡ 1
-  pub low : 4096 ≤ f
-  pub room : f + c ≤ 6144
-  pub named-low : t ≡ 5 → 4096 ≤ a
-  pub named : t ≡ 5 → a + c ≤ 6144
+  pub low : firstRun ≤ f
+  pub room : f + c ≤ frozenSize
+  pub named-low : t ≡ 5 → firstRun ≤ a
+  pub named : t ≡ 5 → a + c ≤ frozenSize
   pub older : (k : ℕ) → In k (run (frozen s) f c) → k < n
-  pub fit : load (frozen s) n + 1 + c < 2048
+  pub fit : load (frozen s) n + 1 + c < maxPending
 
 -- Cell n is made; nothing else changed.
 pub record Made (s s′ : List ℕ) (n t a f c : ℕ) : Type 0 where
@@ -42,7 +43,7 @@ pub record Made (s s′ : List ℕ) (n t a f c : ℕ) : Type 0 where
 
 -- The runs of the cells end at or below the place `top`.
 pub record Above (w : List ℕ) (n top : ℕ) : Type 0 where
-  pub low : 4096 ≤ top
+  pub low : firstRun ≤ top
   pub parts : (i : ℕ) → i < n → firstAt w i + countAt w i ≤ top
   pub names : (i : ℕ) → i < n → tagAt w i ≡ 5 → argAt w i + countAt w i ≤ top
 
@@ -51,11 +52,11 @@ pub record Adding (s : List ℕ) (n top : ℕ) : Type 0 where
   pub L : Pairs ℕ
   pub solved : Solved s n P₀ L
   pub above : Above (frozen s) n top
-  pub room : top < 6144
+  pub room : top < frozenSize
 
 -- A word more in the runs, at `top`.
 pub record Added (s s′ : List ℕ) (n top x : ℕ) : Type 0 where
-  pub words : s′ ≡ set s (46080 + top) x
+  pub words : s′ ≡ set s (recordsAt + top) x
   pub grown : (P₀ L : Pairs ℕ) → Solved s n P₀ L → Solved s′ n P₀ L
   pub old : (i : ℕ) → i < n → view (frozen s′) n i ≡ view (frozen s) n i
   pub above : Above (frozen s′) n (suc top)
@@ -77,6 +78,6 @@ pub record Root (s : List ℕ) (i r : ℕ) : Type 0 where
   pub free : linkAt s r ≡ 0
 
 pub record Runs (w : List ℕ) (p q k : ℕ) : Type 0 where
-  pub size : length w ≡ 6144
+  pub size : length w ≡ frozenSize
   pub left : p + k ≤ length w
   pub right : q + k ≤ length w

@@ -5,6 +5,7 @@ use Prim.Native.Nat.{ℕ, suc, _≤_, _<_}
 use lib.Dec.{eqb}
 use Rattle.types_rules.specs.Classes.{rep}
 use Rattle.types_rules.specs.Equations.{Pairs}
+use Rattle.types_cells.specs.Layout.{settledFrom}
 use Rattle.types_cells.specs.Store.{frozen, linkAt, Solved}
 use Rattle.types_cells.specs.Settled.{lower, wordAt}
 
@@ -25,8 +26,8 @@ Direct s i = (j : ℕ) → linkAt s i ≡ suc j → linkAt s j ≡ 0
 -- The same cells refer to the same types.
 pub record Refers (s s′ : List ℕ) : Type 0 where
   pub low : lower s′ ≡ lower s
-  pub to : (j : ℕ) → 1025 ≤ wordAt s j → wordAt s′ j ≡ wordAt s j
-  pub from : (j : ℕ) → 1025 ≤ wordAt s′ j → wordAt s′ j ≡ wordAt s j
+  pub to : (j : ℕ) → settledFrom ≤ wordAt s j → wordAt s′ j ≡ wordAt s j
+  pub from : (j : ℕ) → settledFrom ≤ wordAt s′ j → wordAt s′ j ≡ wordAt s j
 
 pub record Straight (s s′ : List ℕ) (i n : ℕ) : Type 0 where
   pub refers : Refers s s′

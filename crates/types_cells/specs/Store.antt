@@ -1,10 +1,10 @@
--- The store of cells, in the caller's work area of 52,224 words (specs/Layout has how the places follow from the capacity):
---   0     .. 39935   the caller's: scopes, signatures, and type words that cells refer to
---   39936  .. 40959   link of cell i: 0 none, j + 1 to cell j; 1025 + p: the cell is settled, and its type words stand at the place p
---   40960  .. 41983   mark of cell i: 0 not marked, 34 being visited, else the size of its type, at most 33
---   41984  .. 46079  pending pairs, two words each
---   46080 .. 50175  cell i at 4 i: tag, argument, first part, number of parts     (from here on: the frozen part, which no solving changes)
---   50176 .. 52223  runs: the parts of cells, the identifiers of bindings; places in it count from 46080
+-- The store of cells, in the caller's work area (specs/Layout has the places and how they follow from the capacity):
+--   0          the pool, the caller's part: scopes, signatures, and type words that cells refer to
+--   linksAt    link of cell i: 0 none, j + 1 to cell j; settledFrom + p: the cell is settled, and its type words stand at the place p
+--   marksAt    mark of cell i: 0 not marked, 34 being visited, else the size of its type, at most 33
+--   pairsAt    pending pairs, two words each
+--   recordsAt  cell i at 4 i: tag, argument, first part, number of parts     (from here on: the frozen part, which no solving changes)
+--   runsAt     runs: the parts of cells, the identifiers of bindings; places in it count from recordsAt
 -- Tags are those of type words: 1 ℤ, 2 given, 3 power, 4 product, 5 binding (argument: the place of its identifiers), 6 parameter; 0 is an unknown.
 use mathlib.Core.Path.{_≡_}
 use mathlib.Core.Bool.{Bool, true, false}
@@ -18,16 +18,17 @@ use Rattle.types_rules.specs.Classes.{Closed, Wf, next, rep, zipN}
 use Rattle.types_rules.specs.Equations.{AllP, In, Pairs, end, pair}
 use Rattle.types_rules.specs.Follows.{Clash, Follows, View, shape, unk}
 use Rattle.types_rules.specs.Former.{formerOf, Former, binding, given, int, parameter, power, product}
+use Rattle.types_cells.specs.Layout.{maxCells, maxPending, linksAt, pairsAt, secondsAt, recordsAt, settledFrom, firstRun, areaSize}
 
 unfoldable pub frozen : List ℕ → List ℕ
-frozen s = drop 46080 s
+frozen s = drop recordsAt s
 
 -- A link word that is no link leaves the cell a representative.
 unfoldable pub linkPart : ℕ → ℕ
-linkPart v = elim (ltb v 1025) [ true ↦ v | false ↦ 0 ]
+linkPart v = elim (ltb v settledFrom) [ true ↦ v | false ↦ 0 ]
 
 unfoldable pub linkAt : List ℕ → ℕ → ℕ
-linkAt s i = linkPart (getD s (39936 + i) 0)
+linkAt s i = linkPart (getD s (linksAt + i) 0)
 
 -- Word j of cell i.
 unfoldable pub fieldAt : List ℕ → ℕ → ℕ → ℕ
@@ -69,9 +70,9 @@ pub record Cell (w : List ℕ) (i : ℕ) : Type 0 where
   pub powers : tagAt w i ≡ 3 → argAt w i ≡ 0
   pub products : tagAt w i ≡ 4 → argAt w i ≡ countAt w i
   pub one : tagAt w i ≡ 3 → countAt w i ≡ 1
-  pub low : 4096 ≤ firstAt w i
+  pub low : firstRun ≤ firstAt w i
   pub room : firstAt w i + countAt w i ≤ length w
-  pub named-low : tagAt w i ≡ 5 → 4096 ≤ argAt w i
+  pub named-low : tagAt w i ≡ 5 → firstRun ≤ argAt w i
   pub named : tagAt w i ≡ 5 → argAt w i + countAt w i ≤ length w
   pub older : (c : ℕ) → In c (partsAt w i) → c < i
 
@@ -98,9 +99,9 @@ Both n a b = (a < n) × (b < n)
 
 -- The area s holds n cells, and the links L.
 pub record Held (s : List ℕ) (n : ℕ) (L : Pairs ℕ) : Type 0 where
-  pub size : length s ≡ 52224
-  pub few : n ≤ 1024
-  pub room : load (frozen s) n < 2048
+  pub size : length s ≡ areaSize
+  pub few : n ≤ maxCells
+  pub room : load (frozen s) n < maxPending
   pub cells : (i : ℕ) → i < n → Cell (frozen s) i
   pub links : (i : ℕ) → i < n → next eqb L i ≡ linkOf (linkAt s i)
   pub wf : Wf eqb L
@@ -116,7 +117,7 @@ pub record Solved (s : List ℕ) (n : ℕ) (P₀ L : Pairs ℕ) : Type 0 where
 -- The k pending pairs, the newest first.
 unfoldable pub pending : List ℕ → ℕ → Pairs ℕ
 pending s zero = end
-pending s (suc k) = pair (getD s (41984 + 2 * k) 0) (getD s (41985 + 2 * k) 0) (pending s k)
+pending s (suc k) = pair (getD s (pairsAt + 2 * k) 0) (getD s (secondsAt + 2 * k) 0) (pending s k)
 
 -- The invariant while k pairs are pending.
 pub record Busy (s : List ℕ) (n : ℕ) (P₀ L : Pairs ℕ) (k : ℕ) : Type 0 where
@@ -126,4 +127,4 @@ pub record Busy (s : List ℕ) (n : ℕ) (P₀ L : Pairs ℕ) (k : ℕ) : Type 0
   pub due : AllP (Follows (view (frozen s) n) P₀) (pending s k)
   pub cells : AllP (Both n) (pending s k)
   pub asked : AllP (Both n) P₀
-  pub fit : weight s n + k ≤ 2048
+  pub fit : weight s n + k ≤ maxPending

@@ -9,6 +9,7 @@ use crate::area::SETTLED;
 use words::store;
 ghost use mathlib.Core.Path.{_≡_};
 ghost use Prim.Native.Nat.{_<_};
+ghost use Rattle.types_cells.specs.Layout.{maxCells, firstRun};
 ghost use Rattle.types_cells.specs.Settled.{Entering, Entered};
 ghost use Rattle.types_cells.specs.Calls.{put, Making, Made, Adding, Added};
 
@@ -18,7 +19,7 @@ const FIRST_RUN: u32 = crate::area::FIRST_RUN as u32;
 
 // Writes cell n.
 fn put_cell(a: &mut [u32], n: usize, tag: u32, arg: u32, first: u32, count: u32)
-    requires { ⌜ n < 1024 ⌝ }
+    requires { ⌜ n < maxCells ⌝ }
     ensures { λ _. ⌜ now (a .exit) ≡ put (now (a .entry)) n tag arg first count ⌝ }
 {
     store(a, LINKS + n, 0);
@@ -39,8 +40,8 @@ pub fn new_cell(a: &mut [u32], n: usize, tag: u32, arg: u32, first: u32, count: 
 
 // A new unknown, cell number n.
 pub fn new_unknown(a: &mut [u32], n: usize)
-    requires { ⌜ Making (now a) n 0 0 4096 0 ⌝ }
-    ensures { λ _. ⌜ Made (now (a .entry)) (now (a .exit)) n 0 0 4096 0 ⌝ }
+    requires { ⌜ Making (now a) n 0 0 firstRun 0 ⌝ }
+    ensures { λ _. ⌜ Made (now (a .entry)) (now (a .exit)) n 0 0 firstRun 0 ⌝ }
 {
     new_cell(a, n, UNKNOWN, 0, FIRST_RUN, 0);
 }

@@ -6,6 +6,7 @@ use words::word;
 ghost use mathlib.Core.Path.{_≡_};
 ghost use Prim.Native.Nat.{suc, _+_, _<_, _^_};
 ghost use lib.ListN.{set};
+ghost use Rattle.types_cells.specs.Layout.{maxCells, linksAt, settledFrom};
 ghost use Rattle.types_cells.specs.Store.{linkAt};
 ghost use Rattle.types_cells.specs.Flat.{Sound, Straight, Flattened};
 ghost use Rattle.types_cells.specs.Calls.{Known, Root};
@@ -13,7 +14,7 @@ ghost use Rattle.types_cells.specs.Calls.{Known, Root};
 // The link of cell k: 0 where it is a representative.
 pub fn link(a: &[u32], k: usize) -> usize
     requires { ⌜ k < 2 ^ 32 ⌝ }
-    ensures { λ r. ⌜ (r ≡ linkAt (now (a .entry)) k) × (r < 1025) ⌝ }
+    ensures { λ r. ⌜ (r ≡ linkAt (now (a .entry)) k) × (r < settledFrom) ⌝ }
 {
     let v = word(a, LINKS + k);
     if v < SETTLED {
@@ -24,8 +25,8 @@ pub fn link(a: &[u32], k: usize) -> usize
 
 // Links cell x to y.
 pub fn set_link(a: &mut [u32], x: usize, y: usize)
-    requires { ⌜ (x < 1024) × (y < 1024) ⌝ }
-    ensures { λ _. ⌜ now (a .exit) ≡ set (now (a .entry)) (39936 + x) (suc y) ⌝ }
+    requires { ⌜ (x < maxCells) × (y < maxCells) ⌝ }
+    ensures { λ _. ⌜ now (a .exit) ≡ set (now (a .entry)) (linksAt + x) (suc y) ⌝ }
 {
     store(a, LINKS + x, (y + 1) as u32);
 }

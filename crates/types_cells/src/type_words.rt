@@ -6,11 +6,12 @@ use words::word;
 ghost use mathlib.Core.Path.{_≡_};
 ghost use Prim.Native.Nat.{_+_, _<_, _≤_, _^_};
 ghost use lib.ListN.{length, getD};
+ghost use Rattle.types_cells.specs.Layout.{areaSize};
 ghost use Rattle.types_cells.specs.Settled.{heap, leadWords, nameWords, partsOf, Reading, Ends, Readings, SameType};
 
 // The type word at the place p: in the caller's part of the area, or in the dictionary.
 pub fn type_word(a: &[u32], d: &[u32], p: usize) -> usize
-    requires { ⌜ length (now a) ≡ 52224 ⌝ }
+    requires { ⌜ length (now a) ≡ areaSize ⌝ }
     ensures { λ r. ⌜ (r ≡ getD (heap (now (a .entry)) (now (d .entry))) p 0) × (r < 2 ^ 32) ⌝ }
 {
     if p < POOL {
@@ -44,7 +45,7 @@ pub fn name_words(t: usize) -> usize
 
 // The number of parts of the type at p, whose tag is t.
 pub fn parts_of(a: &[u32], d: &[u32], t: usize, p: usize) -> usize
-    requires { ⌜ (length (now a) ≡ 52224) × (p < 2 ^ 40) ⌝ }
+    requires { ⌜ (length (now a) ≡ areaSize) × (p < 2 ^ 40) ⌝ }
     ensures { λ r. ⌜ (r ≡ partsOf t (getD (heap (now (a .entry)) (now (d .entry))) (p + 1) 0)) × (r < 2 ^ 32) ⌝ }
 {
     if t == type_tags::POWER {

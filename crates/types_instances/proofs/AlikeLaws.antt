@@ -10,6 +10,7 @@ use borrow.Author.Tests.{le-ltb}
 use Rattle.types_rules.specs.Equations.{Pairs}
 use Rattle.types_rules.specs.Follows.{unk}
 use Rattle.types_rules.specs.Types.{Ty}
+use Rattle.types_cells.specs.Layout.{maxPending, poolSize, settledFrom, frozenSize, areaSize}
 use Rattle.types_cells.specs.Store.{frozen, linkAt, Cell, view, Solved}
 use Rattle.types_cells.specs.Calls.{Above}
 use Rattle.types_cells.specs.Settled.{heap, wordAt, Reads, Readable, Pinned, Obeys, Fits}
@@ -36,7 +37,7 @@ module _ (s s′ : List ℕ) (n top : ℕ) (A : Alike s s′ n top) where
     names = λ i m q. let z = B .names i m (sym (A .fields i 0 m (omega arith)) ∙ q) in let e = A .fields i 1 m (omega arith) in let k = A .fields i 3 m (omega arith) in omega arith;
   }
 
-  module _ (size : length s ≡ 52224) (cells : (i : ℕ) → i < n → Cell (frozen s) i) (B : Above (frozen s) n top) where
+  module _ (size : length s ≡ areaSize) (cells : (i : ℕ) → i < n → Cell (frozen s) i) (B : Above (frozen s) n top) where
     agree : (i : ℕ) → i < n → Agree (frozen s) (frozen s′) i
     agree i m = record {
       size = frozen-length s′ (A .size ∙ size) ∙ sym (frozen-length s size);
@@ -63,19 +64,19 @@ module _ (s s′ : List ℕ) (n top : ℕ) (A : Alike s s′ n top) where
       let size = S .held .size in
       let cells = S .held .cells in
       solved-grow s s′ n n (A .size) (omega arith) (S .held .few)
-      (subst (λ z. z < 2048) (sym (load-same (frozen s) (frozen s′) n (λ i m. A .fields i 3 m (omega arith)))) (S .held .room))
+      (subst (λ z. z < maxPending) (sym (load-same (frozen s) (frozen s′) n (λ i m. A .fields i 3 m (omega arith)))) (S .held .room))
       (λ i m. cell-agree (frozen s) (frozen s′) i (cells i m) (agree size cells B i m)) link-alike (λ i p q. absurd (omega arith)) (below-view size cells B) P₀ L S
 
   -- Settled cells, where their types are still read.
   module _ (d : List ℕ) (R : StillRead s s′ d n) where
-    settled : (i : ℕ) → i < n → 1025 ≤ wordAt s′ i → 1025 ≤ wordAt s i
+    settled : (i : ℕ) → i < n → settledFrom ≤ wordAt s′ i → settledFrom ≤ wordAt s i
     settled i m v = let e = A .links i m in omega arith
 
     pub alike-pinned : Pinned s d n → Pinned s′ d n
     alike-pinned P = record {
       reads = λ i m v.
           let D = P .reads i m (settled i m v) in
-          subst (λ z. Readable (heap s′ d) (z - 1025)) (sym (A .links i m)) (record { type = D .type; reads = R i m (settled i m v) (D .type) (D .reads) });
+          subst (λ z. Readable (heap s′ d) (z - settledFrom)) (sym (A .links i m)) (record { type = D .type; reads = R i m (settled i m v) (D .type) (D .reads) });
       bare = λ i m v. A .fields i 0 m (omega arith) ∙ P .bare i m (settled i m v);
     }
 
@@ -83,20 +84,20 @@ module _ (s s′ : List ℕ) (n top : ℕ) (A : Alike s s′ n top) where
     alike-obeys σ P O i m v g G =
         let D = P .reads i m (settled i m v) in
         let K = R i m (settled i m v) (D .type) (D .reads) in
-        let e = reads-one (heap s′ d) (wordAt s i - 1025) (D .type) g K (subst (λ z. Reads (heap s′ d) (z - 1025) g) (A .links i m) G) in
+        let e = reads-one (heap s′ d) (wordAt s i - settledFrom) (D .type) g K (subst (λ z. Reads (heap s′ d) (z - settledFrom) g) (A .links i m) G) in
         O i m (settled i m v) (D .type) (D .reads) ∙ e
 
     pub alike-obeys-back : (σ : ℕ → Ty) → Obeys s′ d n σ → Obeys s d n σ
     alike-obeys-back σ O i m v g G =
         let e = A .links i m in
-        O i m (omega arith) g (subst (λ z. Reads (heap s′ d) (z - 1025) g) (sym e) (R i m v g G))
+        O i m (omega arith) g (subst (λ z. Reads (heap s′ d) (z - settledFrom) g) (sym e) (R i m v g G))
 
     pub alike-below : (at : ℕ) → Pinned s d n → AllBelow s d n at → AllBelow s′ d n at
     alike-below at P B i m v g G =
         let D = P .reads i m (settled i m v) in
         let K = R i m (settled i m v) (D .type) (D .reads) in
-        let e = reads-one (heap s′ d) (wordAt s i - 1025) (D .type) g K (subst (λ z. Reads (heap s′ d) (z - 1025) g) (A .links i m) G) in
-        subst (λ z. Below at (z - 1025) g) (sym (A .links i m)) (subst (λ k. Below at (wordAt s i - 1025) k) e (B i m (settled i m v) (D .type) (D .reads)))
+        let e = reads-one (heap s′ d) (wordAt s i - settledFrom) (D .type) g K (subst (λ z. Reads (heap s′ d) (z - settledFrom) g) (A .links i m) G) in
+        subst (λ z. Below at (z - settledFrom) g) (sym (A .links i m)) (subst (λ k. Below at (wordAt s i - settledFrom) k) e (B i m (settled i m v) (D .type) (D .reads)))
 
     -- Solutions, both ways.
     module _ (P₀ L : Pairs ℕ) (B : Above (frozen s) n top) (S : Solved s n P₀ L) where
@@ -117,23 +118,23 @@ module _ (s s′ : List ℕ) (n top : ℕ) (A : Alike s s′ n top) where
       }
 
 -- Types below `at` are still read where the words below `at` are the same.
-pub still-read : (s s′ d : List ℕ) (n at : ℕ) → length s ≡ 52224 → length s′ ≡ 52224 → at ≤ 39936 → ((i : ℕ) → i < at → getD s′ i 0 ≡ getD s i 0) → AllBelow s d n at → StillRead s s′ d n
-still-read s s′ d n at e e′ r h B i m v g G = below-reads s s′ d at (wordAt s i - 1025) g e e′ r h (B i m v g G) G
+pub still-read : (s s′ d : List ℕ) (n at : ℕ) → length s ≡ areaSize → length s′ ≡ areaSize → at ≤ poolSize → ((i : ℕ) → i < at → getD s′ i 0 ≡ getD s i 0) → AllBelow s d n at → StillRead s s′ d n
+still-read s s′ d n at e e′ r h B i m v g G = below-reads s s′ d at (wordAt s i - settledFrom) g e e′ r h (B i m v g G) G
 
 -- The words ws written over the caller's part: the solver's store is the same, and where every settled type lies below them, so are its solutions.
-module _ (s : List ℕ) (at : ℕ) (ws : List ℕ) (size : length s ≡ 52224) (room : at + length ws ≤ 39936) (n : ℕ) where
+module _ (s : List ℕ) (at : ℕ) (ws : List ℕ) (size : length s ≡ areaSize) (room : at + length ws ≤ poolSize) (n : ℕ) where
   pub moved-still : (d : List ℕ) → AllBelow s d n at → StillRead s (sets s at ws) d n
-  moved-still d B i m v g G = moved-reads s at ws size room d (wordAt s i - 1025) g (B i m v g G) G
+  moved-still d B i m v g G = moved-reads s at ws size room d (wordAt s i - settledFrom) g (B i m v g G) G
 
   module _ (d : List ℕ) (B : AllBelow s d n at) where
     pub moved-pinned : Pinned s d n → Pinned (sets s at ws) d n
-    moved-pinned P = alike-pinned s (sets s at ws) n 6144 (moved-alike s at ws size room n 6144) d (moved-still d B) P
+    moved-pinned P = alike-pinned s (sets s at ws) n frozenSize (moved-alike s at ws size room n frozenSize) d (moved-still d B) P
 
     pub moved-obeys : (σ : ℕ → Ty) → Pinned s d n → Obeys s d n σ → Obeys (sets s at ws) d n σ
-    moved-obeys σ P O = alike-obeys s (sets s at ws) n 6144 (moved-alike s at ws size room n 6144) d (moved-still d B) σ P O
+    moved-obeys σ P O = alike-obeys s (sets s at ws) n frozenSize (moved-alike s at ws size room n frozenSize) d (moved-still d B) σ P O
 
     pub moved-obeys-back : (σ : ℕ → Ty) → Obeys (sets s at ws) d n σ → Obeys s d n σ
-    moved-obeys-back σ O = alike-obeys-back s (sets s at ws) n 6144 (moved-alike s at ws size room n 6144) d (moved-still d B) σ O
+    moved-obeys-back σ O = alike-obeys-back s (sets s at ws) n frozenSize (moved-alike s at ws size room n frozenSize) d (moved-still d B) σ O
 
     pub moved-below : Pinned s d n → AllBelow (sets s at ws) d n at
-    moved-below P = alike-below s (sets s at ws) n 6144 (moved-alike s at ws size room n 6144) d (moved-still d B) at P B
+    moved-below P = alike-below s (sets s at ws) n frozenSize (moved-alike s at ws size room n frozenSize) d (moved-still d B) at P B

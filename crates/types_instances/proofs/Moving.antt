@@ -9,6 +9,7 @@ use lib.Seq.{sets, length-sets, getD-set-same, getD-set-other, getD-take, ext-ge
 use Rattle.types_rules.specs.Types.{Ty}
 use Rattle.types_rules.specs.Formed.{WellFormed}
 use Rattle.types_rules.specs.Words.{words}
+use Rattle.types_cells.specs.Layout.{poolSize, linksAt, recordsAt, areaSize}
 use Rattle.types_cells.specs.Store.{frozen, fieldAt, run}
 use Rattle.types_cells.specs.Settled.{lower, heap, wordAt, Reads}
 use Rattle.types_cells.proofs.Words.{run-at, run-length, frozen-length}
@@ -41,11 +42,11 @@ sets-run l at ws r =
     let e = run-length (sets l at ws) at (length ws) (omega arith) in
     ext-getD 0 (run (sets l at ws) at (length ws)) ws e (λ j q. let y : j < length ws = omega arith in run-at (sets l at ws) at (length ws) j y ∙ sets-in l at ws j r y)
 
-pub lower-at : (s : List ℕ) (i : ℕ) → i < 39936 → getD (lower s) i 0 ≡ getD s i 0
+pub lower-at : (s : List ℕ) (i : ℕ) → i < poolSize → getD (lower s) i 0 ≡ getD s i 0
 unfolding lower
-lower-at s i l = getD-take 39936 s i 0 l
+lower-at s i l = getD-take poolSize s i 0 l
 
-pub lower-words : (s s′ : List ℕ) → lower s′ ≡ lower s → (i : ℕ) → i < 39936 → getD s′ i 0 ≡ getD s i 0
+pub lower-words : (s s′ : List ℕ) → lower s′ ≡ lower s → (i : ℕ) → i < poolSize → getD s′ i 0 ≡ getD s i 0
 lower-words s s′ e i l = sym (lower-at s′ i l) ∙ ap (λ z. getD z i 0) e ∙ lower-at s i l
 
 -- A type is read where its words stand.
@@ -62,7 +63,7 @@ reads-at H p g w r h =
     }
 
 -- Two areas that have the same words below `at` read the same types there, and in the dictionary.
-pub below-reads : (s s′ d : List ℕ) (at p : ℕ) (g : Ty) → length s ≡ 52224 → length s′ ≡ 52224 → at ≤ 39936 → ((i : ℕ) → i < at → getD s′ i 0 ≡ getD s i 0) → Below at p g →
+pub below-reads : (s s′ d : List ℕ) (at p : ℕ) (g : Ty) → length s ≡ areaSize → length s′ ≡ areaSize → at ≤ poolSize → ((i : ℕ) → i < at → getD s′ i 0 ≡ getD s i 0) → Below at p g →
     Reads (heap s d) p g → Reads (heap s′ d) p g
 below-reads s s′ d at p g e e′ r h b R =
     let i = inside (heap s d) p g R in
@@ -75,7 +76,7 @@ below-reads s s′ d at p g e e′ r h b R =
     ∙ word-in (heap s d) p g R j l)
 
 -- The words ws written over the caller's part.
-module _ (s : List ℕ) (at : ℕ) (ws : List ℕ) (size : length s ≡ 52224) (room : at + length ws ≤ 39936) where
+module _ (s : List ℕ) (at : ℕ) (ws : List ℕ) (size : length s ≡ areaSize) (room : at + length ws ≤ poolSize) where
   abbrev s′ : List ℕ
   s′ = sets s at ws
 
@@ -83,18 +84,18 @@ module _ (s : List ℕ) (at : ℕ) (ws : List ℕ) (size : length s ≡ 52224) (
   moved-size = length-sets s at ws
 
   -- The store is untouched.
-  pub moved-high : (i : ℕ) → 39936 ≤ i → getD s′ i 0 ≡ getD s i 0
+  pub moved-high : (i : ℕ) → poolSize ≤ i → getD s′ i 0 ≡ getD s i 0
   moved-high i l = sets-after s at ws i (omega arith)
 
   pub moved-frozen : frozen s′ ≡ frozen s
   moved-frozen =
       let e = frozen-length s size in
       let e′ = frozen-length s′ (moved-size ∙ size) in
-      ext-getD 0 (frozen s′) (frozen s) (e′ ∙ sym e) (λ i l. frozen-at s′ i ∙ moved-high (46080 + i) (omega arith) ∙ sym (frozen-at s i))
+      ext-getD 0 (frozen s′) (frozen s) (e′ ∙ sym e) (λ i l. frozen-at s′ i ∙ moved-high (recordsAt + i) (omega arith) ∙ sym (frozen-at s i))
 
   pub moved-word : (i : ℕ) → wordAt s′ i ≡ wordAt s i
   unfolding wordAt
-  moved-word i = moved-high (39936 + i) (omega arith)
+  moved-word i = moved-high (linksAt + i) (omega arith)
 
   pub moved-alike : (n top : ℕ) → Alike s s′ n top
   moved-alike n top = record {

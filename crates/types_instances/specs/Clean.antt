@@ -3,6 +3,7 @@ use mathlib.Core.Path.{_≡_}
 use mathlib.Core.List.{List}
 use Prim.Native.Nat.{ℕ, suc, _≤_, _<_}
 use lib.ListN.{getD}
+use Rattle.types_cells.specs.Layout.{poolSize}
 
 abbrev pub Clean : List ℕ → ℕ → Type 0
-Clean s at = (i : ℕ) → at ≤ suc i → i < 39936 → getD s i 0 ≡ 0
+Clean s at = (i : ℕ) → at ≤ suc i → i < poolSize → getD s i 0 ≡ 0

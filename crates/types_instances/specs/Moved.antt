@@ -8,6 +8,7 @@ use lib.Seq.{sets}
 use Rattle.types_rules.specs.Types.{Ty}
 use Rattle.types_rules.specs.Words.{words}
 use Rattle.types_rules.specs.Equations.{Pairs}
+use Rattle.types_cells.specs.Layout.{poolSize, linksAt, recordsAt, settledFrom, firstRun, runsAt}
 use Rattle.types_cells.specs.Store.{frozen, fieldAt, run, Solved}
 use Rattle.types_cells.specs.Calls.{Above}
 use Rattle.types_cells.specs.Settled.{heap, wordAt, Reads, Pinned, Obeys}
@@ -15,30 +16,30 @@ use Rattle.types_solver.specs.Answers.{SolutionOf}
 
 -- The words of g at p lie below `at`, or in the dictionary.
 abbrev pub Below : ℕ → ℕ → Ty → Type 0
-Below at p g = (p + length (words g) ≤ at) ⊎ (39936 ≤ p)
+Below at p g = (p + length (words g) ≤ at) ⊎ (poolSize ≤ p)
 
 -- So do those of each settled cell's type.
 abbrev pub AllBelow : List ℕ → List ℕ → ℕ → ℕ → Type 0
-AllBelow s d n at = (i : ℕ) → i < n → 1025 ≤ wordAt s i → (g : Ty) → Reads (heap s d) (wordAt s i - 1025) g → Below at (wordAt s i - 1025) g
+AllBelow s d n at = (i : ℕ) → i < n → settledFrom ≤ wordAt s i → (g : Ty) → Reads (heap s d) (wordAt s i - settledFrom) g → Below at (wordAt s i - settledFrom) g
 
 -- The words of each settled cell's type of s are still read in s′.
 abbrev pub StillRead : List ℕ → List ℕ → List ℕ → ℕ → Type 0
-StillRead s s′ d n = (i : ℕ) → i < n → 1025 ≤ wordAt s i → (g : Ty) → Reads (heap s d) (wordAt s i - 1025) g → Reads (heap s′ d) (wordAt s i - 1025) g
+StillRead s s′ d n = (i : ℕ) → i < n → settledFrom ≤ wordAt s i → (g : Ty) → Reads (heap s d) (wordAt s i - settledFrom) g → Reads (heap s′ d) (wordAt s i - settledFrom) g
 
 -- s′ has the first n cells of s, with their link words, and its runs below `top`.
 pub record Alike (s s′ : List ℕ) (n top : ℕ) : Type 0 where
   pub size : length s′ ≡ length s
   pub links : (i : ℕ) → i < n → wordAt s′ i ≡ wordAt s i
   pub fields : (i j : ℕ) → i < n → j < 4 → fieldAt (frozen s′) i j ≡ fieldAt (frozen s) i j
-  pub runs : (p : ℕ) → 4096 ≤ p → p < top → getD (frozen s′) p 0 ≡ getD (frozen s) p 0
+  pub runs : (p : ℕ) → firstRun ≤ p → p < top → getD (frozen s′) p 0 ≡ getD (frozen s) p 0
 
 -- The words of a store of n cells whose runs end at `top`: link words, cells, runs.
 unfoldable pub saved : List ℕ → ℕ → ℕ → List ℕ
-saved s n top = run s 39936 n ++ (run s 46080 (4 * n) ++ run s 50176 (top - 4096))
+saved s n top = run s linksAt n ++ (run s recordsAt (4 * n) ++ run s runsAt (top - firstRun))
 
 -- The area s with the store whose words stand in `from` at `at`.
 unfoldable pub restored : List ℕ → ℕ → ℕ → List ℕ → ℕ → List ℕ
-restored s n top from at = sets (sets (sets s 39936 (run from at n)) 46080 (run from (at + n) (4 * n))) 50176 (run from (at + n + 4 * n) (top - 4096))
+restored s n top from at = sets (sets (sets s linksAt (run from at n)) recordsAt (run from (at + n) (4 * n))) runsAt (run from (at + n + 4 * n) (top - firstRun))
 
 -- The store s is taken up again in s′, with the same cells, equations and solutions; its settled types lie below `base` or in the dictionary.
 pub record Resumed (s s′ d : List ℕ) (n top base : ℕ) : Type 0 where

@@ -19,6 +19,7 @@ ghost use mathlib.Core.Path.{_≡_};
 ghost use Prim.Native.Nat.{ℕ, _+_, _*_, _-_, _<_, _≤_, _^_};
 ghost use lib.ListN.{length, getD, replicate};
 ghost use lib.Seq.{sets};
+ghost use Rattle.types_cells.specs.Layout.{maxCells, firstRun, frozenSize, areaSize};
 ghost use Rattle.types_cells.specs.Store.{run};
 ghost use Rattle.types_cells.specs.Settled.{heap};
 ghost use Rattle.types_solver.specs.Written.{Wrote};
@@ -79,7 +80,7 @@ pub fn filled_size(a: &[u32], d: &[u32], p: usize, row: &[u32]) -> usize
 
 // The k type words at p, from `at` on: where they end.
 fn put_words(a: &[u32], d: &[u32], p: usize, k: usize, out: &mut [u32], at: usize) -> usize
-    requires { ⌜ (length (now a) ≡ 52224) × (p + k ≤ length (heap (now a) (now d))) × (p + k < 2 ^ 40) × (at + k < 2 ^ 41) ⌝ }
+    requires { ⌜ (length (now a) ≡ areaSize) × (p + k ≤ length (heap (now a) (now d))) × (p + k < 2 ^ 40) × (at + k < 2 ^ 41) ⌝ }
     ensures { λ e. ⌜ Wrote (now (out .entry)) (now (out .exit)) at e (run (heap (now (a .entry)) (now (d .entry))) p k) ⌝ }
 {
     let mut j = 0;
@@ -160,7 +161,7 @@ pub fn wipe(a: &mut [u32], from: usize, to: usize)
 
 // The store of n cells whose runs end at top: link words, cells and runs, in out from `at` on. Where they end.
 pub fn save(a: &[u32], n: usize, top: usize, out: &mut [u32], at: usize) -> usize
-    requires { ⌜ (length (now a) ≡ 52224) × (n ≤ 1024) × (4096 ≤ top) × (top ≤ 6144) × (at < 2 ^ 39) ⌝ }
+    requires { ⌜ (length (now a) ≡ areaSize) × (n ≤ maxCells) × (firstRun ≤ top) × (top ≤ frozenSize) × (at < 2 ^ 39) ⌝ }
     ensures { λ e. ⌜ Wrote (now (out .entry)) (now (out .exit)) at e (saved (now (a .entry)) n top) ⌝ }
 {
     let m = CELL_WORDS * n;
@@ -173,7 +174,7 @@ pub fn save(a: &[u32], n: usize, top: usize, out: &mut [u32], at: usize) -> usiz
 
 // The store that `save` wrote, back in its place.
 pub fn restore(a: &mut [u32], n: usize, top: usize, from: &[u32], at: usize)
-    requires { ⌜ (n ≤ 1024) × (4096 ≤ top) × (top ≤ 6144) × (at < 2 ^ 39) × (at + (5 * n + (top - 4096)) ≤ length (now from)) ⌝ }
+    requires { ⌜ (n ≤ maxCells) × (firstRun ≤ top) × (top ≤ frozenSize) × (at < 2 ^ 39) × (at + (5 * n + (top - firstRun)) ≤ length (now from)) ⌝ }
     ensures { λ _. ⌜ now (a .exit) ≡ restored (now (a .entry)) n top (now (from .entry)) at ⌝ }
 {
     let m = CELL_WORDS * n;

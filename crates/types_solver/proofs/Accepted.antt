@@ -12,6 +12,7 @@ use Rattle.types_rules.proofs.Closed.{closed-start}
 use Rattle.types_rules.proofs.Transfer.{follows-holds}
 use Rattle.types_rules.specs.Equations.{Pairs, end}
 use Rattle.types_rules.specs.Types.{Ty, size}
+use Rattle.types_cells.specs.Layout.{maxCells, settledFrom, areaSize}
 use Rattle.types_cells.specs.Store.{frozen, tagAt, view, load, Held, Solved}
 use Rattle.types_cells.specs.Settled.{heap, wordAt, Reads, Readable, Pinned, Obeys, Fits}
 use Rattle.types_solver.specs.Sizes.{markAt, Sized, Same, Tested, Model, Least}
@@ -22,7 +23,7 @@ use Rattle.types_cells.proofs.Solutions.{mk-c, sat-all}
 use Rattle.types_cells.proofs.SettlingLaws.{heap-kept}
 
 -- Any area of 52,224 words is a store with no cells.
-pub start : (s : List ℕ) → length s ≡ 52224 → Solved s 0 end end
+pub start : (s : List ℕ) → length s ≡ areaSize → Solved s 0 end end
 unfolding load
 start s e = record {
   held = record {
@@ -40,7 +41,7 @@ start s e = record {
 }
 
 -- What `finite` does not change: what solutions obey.
-module _ (s s′ d : List ℕ) (n : ℕ) (K : Same s s′) (few : n ≤ 1024) where
+module _ (s s′ d : List ℕ) (n : ℕ) (K : Same s s′) (few : n ≤ maxCells) where
   low-heap : heap s′ d ≡ heap s d
   low-heap = heap-kept s s′ d (K .low)
 
@@ -48,14 +49,14 @@ module _ (s s′ d : List ℕ) (n : ℕ) (K : Same s s′) (few : n ≤ 1024) wh
   same-pinned P = record {
     reads = λ i l v.
         let e = K .refs i (omega arith) in
-        subst (λ z. Readable z (wordAt s′ i - 1025)) (sym low-heap) (subst (λ z. Readable (heap s d) (z - 1025)) (sym e) (P .reads i l (omega arith)));
+        subst (λ z. Readable z (wordAt s′ i - settledFrom)) (sym low-heap) (subst (λ z. Readable (heap s d) (z - settledFrom)) (sym e) (P .reads i l (omega arith)));
     bare = λ i l v. let e = K .refs i (omega arith) in ap (λ z. tagAt z i) (K .still) ∙ P .bare i l (omega arith);
   }
 
   pub same-obeys : (σ : ℕ → Ty) → Obeys s d n σ → Obeys s′ d n σ
   same-obeys σ O i l v g R =
       let e = K .refs i (omega arith) in
-      O i l (omega arith) g (subst (λ z. Reads (heap s d) (z - 1025) g) e (subst (λ z. Reads z (wordAt s′ i - 1025) g) low-heap R))
+      O i l (omega arith) g (subst (λ z. Reads (heap s d) (z - settledFrom) g) e (subst (λ z. Reads z (wordAt s′ i - settledFrom) g) low-heap R))
 
 -- `finite` true: each solution is one of the marked store.
 pub model : (s s′ d : List ℕ) (n : ℕ) → Tested s s′ n true → (P₀ L : Pairs ℕ) → Solved s n P₀ L → Pinned s d n → (X : SolutionOf s d n P₀) → Model s′ d n L (X .σ)
@@ -77,4 +78,4 @@ pub least : (s : List ℕ) (n : ℕ) (L : Pairs ℕ) → Held s n L → Resolved
 least s n L H R σ i l t k v =
     let q = stop-rep s n L H i l k in
     let z = R i l (ap (tagAt (frozen s)) q ∙ t) in
-    let y : 1025 ≤ wordAt s i = subst (λ u. 1025 ≤ wordAt s u) q z in absurd (omega arith)
+    let y : settledFrom ≤ wordAt s i = subst (λ u. settledFrom ≤ wordAt s u) q z in absurd (omega arith)

@@ -9,6 +9,7 @@ use lib.ListN.{getD}
 use Rattle.types_rules.proofs.Terms.{bool-no}
 use Rattle.types_rules.specs.Equations.{Pairs, Solves, pair}
 use Rattle.types_rules.specs.Types.{Ty}
+use Rattle.types_cells.specs.Layout.{maxCells, linksAt, settledFrom}
 use Rattle.types_cells.specs.Store.{frozen, linkAt, Solved}
 use Rattle.types_cells.specs.Settled.{Pinned, Obeys, Fits}
 use Rattle.types_unifier.specs.Merging.{Asking, Merged, Done}
@@ -24,19 +25,19 @@ use Rattle.types_solver.proofs.Accepted.{same-pinned, same-obeys}
 use Rattle.types_solver.proofs.Marking.{same-back, same-solved}
 use Rattle.types_solver.proofs.Opening.{finite-some, finite-none}
 
-link-few : (s : List ℕ) (i : ℕ) → linkAt s i < 1025
+link-few : (s : List ℕ) (i : ℕ) → linkAt s i < settledFrom
 unfolding linkAt
 link-few s i =
     ⊎-elim
-    (λ l. subst (λ z. z < 1025) (sym (link-part (getD s (39936 + i) 0) l)) l)
-    (λ l. subst (λ z. z < 1025) (sym (link-none (getD s (39936 + i) 0) l)) (omega arith))
-    (lt-or-ge (getD s (39936 + i) 0) 1025)
+    (λ l. subst (λ z. z < settledFrom) (sym (link-part (getD s (linksAt + i) 0) l)) l)
+    (λ l. subst (λ z. z < settledFrom) (sym (link-none (getD s (linksAt + i) 0) l)) (omega arith))
+    (lt-or-ge (getD s (linksAt + i) 0) settledFrom)
 
 -- Direct links stay direct where links are kept.
-same-direct : (s t : List ℕ) → Same s t → (i : ℕ) → i < 1024 → Direct s i → Direct t i
+same-direct : (s t : List ℕ) → Same s t → (i : ℕ) → i < maxCells → Direct s i → Direct t i
 same-direct s t K i l D j e =
     let f = link-few t i in
-    let m : j < 1024 = omega arith in
+    let m : j < maxCells = omega arith in
     K .links j m ∙ D j (sym (K .links i l) ∙ e)
 
 module _ (s d : List ℕ) (n x y : ℕ) (E : Equating s d n x y) where
@@ -80,7 +81,7 @@ module _ (s d : List ℕ) (n x y : ℕ) (E : Equating s d n x y) where
           back : Same v t
           back = same-back t v (T .same)
 
-          few : n ≤ 1024
+          few : n ≤ maxCells
           few = E .solved .held .few
 
           to : (P₀ L : Pairs ℕ) → Solved s n P₀ L → Pinned s d n → (σ : ℕ → Ty) → Fits (frozen s) n σ → Solves σ (pair x y P₀) → Obeys s d n σ → Obeys t d n σ

@@ -17,6 +17,7 @@ use Rattle.types_rules.specs.Finite.{fromList, typeOfView}
 use Rattle.types_rules.specs.Follows.{View, shape, unk}
 use Rattle.types_rules.specs.Former.{Former, formerOf, int}
 use Rattle.types_rules.specs.Types.{Ty, node, tnil}
+use Rattle.types_cells.specs.Layout.{maxCells, poolSize, linksAt, recordsAt, settledFrom, areaSize}
 use Rattle.types_cells.specs.Store.{frozen, tagAt, fieldAt, partsAt, formerAt, run, view, viewOf, load, Both, Cell, Solved}
 use Rattle.types_cells.specs.Calls.{Making, Made, Above, Adding, Added}
 use Rattle.types_cells.specs.Settled.{lower, heap, wordAt, Reads, Readable, Fits, Obeys, Pinned, Entering, Entered}
@@ -149,7 +150,7 @@ module _ (s s′ d : List ℕ) (n : ℕ) (P₀ L : Pairs ℕ) (S : Solved s n P�
 
 -- A new cell.
 module _ (s s′ d : List ℕ) (n t a f c : ℕ) (M : Making s n t a f c) (N : Made s s′ n t a f c) where
-  abbrev size : length s ≡ 52224
+  abbrev size : length s ≡ areaSize
   size = M .solved .held .size
 
   abbrev v : View ℕ
@@ -237,16 +238,16 @@ module _ (s s′ d : List ℕ) (n p : ℕ) (E : Entering s d n p) (N : Entered s
 
 -- A word more in the runs: the same assignments.
 module _ (s s′ d : List ℕ) (n top x : ℕ) (A : Adding s n top) (N : Added s s′ n top x) where
-  few-n : n ≤ 1024
+  few-n : n ≤ maxCells
   few-n = A .solved .held .few
 
   low-a : lower s′ ≡ lower s
   unfolding lower
-  low-a = ap lower (N .words) ∙ take-set-le 39936 s (46080 + top) x (omega arith)
+  low-a = ap lower (N .words) ∙ take-set-le poolSize s (recordsAt + top) x (omega arith)
 
   word-a : (i : ℕ) → i < n → wordAt s′ i ≡ wordAt s i
   unfolding wordAt
-  word-a i l = ap (λ z. getD z (39936 + i) 0) (N .words) ∙ getD-set-other s (46080 + top) (39936 + i) x 0 (λ e. let z = few-n in omega arith)
+  word-a i l = ap (λ z. getD z (linksAt + i) 0) (N .words) ∙ getD-set-other s (recordsAt + top) (linksAt + i) x 0 (λ e. let z = few-n in omega arith)
 
   heap-a : heap s′ d ≡ heap s d
   heap-a = heap-kept s s′ d low-a
@@ -257,17 +258,17 @@ module _ (s s′ d : List ℕ) (n top x : ℕ) (A : Adding s n top) (N : Added s
   added-pinned : Pinned s d n → Pinned s′ d n
   added-pinned P = record {
     reads = λ i l v. let e = word-a i l in
-        subst (λ z. Readable z (wordAt s′ i - 1025)) (sym heap-a) (subst (λ z. Readable (heap s d) (z - 1025)) (sym e) (P .reads i l (omega arith)));
+        subst (λ z. Readable z (wordAt s′ i - settledFrom)) (sym heap-a) (subst (λ z. Readable (heap s d) (z - settledFrom)) (sym e) (P .reads i l (omega arith)));
     bare = λ i l v. let e = word-a i l in tag-a i l ∙ P .bare i l (omega arith);
   }
 
   added-before : (σ : ℕ → Ty) → Obeys s′ d n σ → Obeys s d n σ
   added-before σ O i l v g R =
-      let e = word-a i l in O i l (omega arith) g (subst (λ z. Reads z (wordAt s′ i - 1025) g) (sym heap-a) (subst (λ z. Reads (heap s d) (z - 1025) g) (sym e) R))
+      let e = word-a i l in O i l (omega arith) g (subst (λ z. Reads z (wordAt s′ i - settledFrom) g) (sym heap-a) (subst (λ z. Reads (heap s d) (z - settledFrom) g) (sym e) R))
 
   added-after : (σ : ℕ → Ty) → Obeys s d n σ → Obeys s′ d n σ
   added-after σ O i l v g R =
-      let e = word-a i l in O i l (omega arith) g (subst (λ z. Reads (heap s d) (z - 1025) g) e (subst (λ z. Reads z (wordAt s′ i - 1025) g) heap-a R))
+      let e = word-a i l in O i l (omega arith) g (subst (λ z. Reads (heap s d) (z - settledFrom) g) e (subst (λ z. Reads z (wordAt s′ i - settledFrom) g) heap-a R))
 
   pub added-builds : Builds s s′ d n n
   added-builds = record {
@@ -285,14 +286,14 @@ module _ (s s′ d : List ℕ) (n top x : ℕ) (A : Adding s n top) (N : Added s
   }
 
   pub added-load : load (frozen s′) n ≡ load (frozen s) n
-  added-load = ap (λ z. load (frozen z) n) (N .words) ∙ load-same (frozen s) (frozen (set s (46080 + top) x)) n (λ i l. fields-same s n top x A i 3 l (omega arith))
+  added-load = ap (λ z. load (frozen z) n) (N .words) ∙ load-same (frozen s) (frozen (set s (recordsAt + top) x)) n (λ i l. fields-same s n top x A i 3 l (omega arith))
 
   -- The other words of the runs, and where the runs of the cells end.
   pub added-other : (q : ℕ) → (q ≡ top → ⊥) → getD (frozen s′) q 0 ≡ getD (frozen s) q 0
   added-other q e = ap (λ z. getD (frozen z) q 0) (N .words) ∙ word-other s n top x A q e
 
   pub added-here : getD (frozen s′) top 0 ≡ x
-  added-here = ap (λ z. getD (frozen z) top 0) (N .words) ∙ frozen-at (set s (46080 + top) x) top ∙ getD-set-same s (46080 + top) x 0 (let z = A .solved .held .size in let r = A .room in omega arith)
+  added-here = ap (λ z. getD (frozen z) top 0) (N .words) ∙ frozen-at (set s (recordsAt + top) x) top ∙ getD-set-same s (recordsAt + top) x 0 (let z = A .solved .held .size in let r = A .room in omega arith)
 
   pub added-above : (bound : ℕ) → Above (frozen s) n bound → Above (frozen s′) n bound
   added-above bound B = record {

@@ -16,6 +16,7 @@ use Rattle.types_rules.specs.Formed.{partCountType}
 use Rattle.types_rules.specs.Instance.{nth, actual, instanceFormer, instance, instances}
 use Rattle.types_rules.specs.Types.{Ty, Tys, Term, Terms, con, node, tcons, tnil, size, sizes, under, unders, unknown}
 use Rattle.types_rules.specs.Words.{second, words}
+use Rattle.types_cells.specs.Layout.{frozenSize}
 use Rattle.types_cells.specs.Store.{frozen, load, run, view, Solved}
 use Rattle.types_cells.specs.Calls.{Above, Adding, Added, Making, Made}
 use Rattle.types_cells.specs.Parts.{Names, Rest}
@@ -421,7 +422,7 @@ module _ (s d : List ℕ) (n top at w m j row k : ℕ) (A : InstancingParts s d 
             let q = E .is g (subst (λ z. Reads z (at + w) g) (sym eh) (P .reads)) in
             subst (λ z. Rest z w e₁ (P .tail) gs e) (sym eh) (subst (λ z. Rest (heap s d) w z (P .tail) gs e) (sym q) (P .rest))
 
-        rest-c : (l : List ℕ) (gs : Tys) (e : ℕ) → Rest (heap s d) w at l gs e → partCountType gs + j ≡ m → Room s d n top (sizes gs) row k → top + 2 * sizes gs + 2 * j ≤ 6144 →
+        rest-c : (l : List ℕ) (gs : Tys) (e : ℕ) → Rest (heap s d) w at l gs e → partCountType gs + j ≡ m → Room s d n top (sizes gs) row k → top + 2 * sizes gs + 2 * j ≤ frozenSize →
             InstancingParts s₁ d n₁ top₁ e₁ w m (j + 1) row k
         unfolding size
         rest-c l tnil e R q A′ h = absurd (omega arith)
@@ -472,7 +473,7 @@ module _ (s d : List ℕ) (n top at w m j row k : ℕ) (A : InstancingParts s d 
               Instances s₁ s₂ n₁ top₁ w m (j + 1) row k n₂ T (part-next (heap s d) w at l g gs e R .tail) gs
           later l g gs e R q = Y .are _ gs e (rest₁ l g gs e R) (omega arith)
 
-          putting-c : (l : List ℕ) (gs : Tys) (e : ℕ) → Rest (heap s d) w at l gs e → partCountType gs + j ≡ m → top + 2 * sizes gs + 2 * j ≤ 6144 → T + m + m ≤ 6144
+          putting-c : (l : List ℕ) (gs : Tys) (e : ℕ) → Rest (heap s d) w at l gs e → partCountType gs + j ≡ m → top + 2 * sizes gs + 2 * j ≤ frozenSize → T + m + m ≤ frozenSize
           unfolding size
           putting-c l tnil e R q h = absurd (omega arith)
           putting-c l (tcons g gs) e R q h =
@@ -492,13 +493,13 @@ module _ (s d : List ℕ) (n top at w m j row k : ℕ) (A : InstancingParts s d 
           }
 
           module _ (s₃ : List ℕ) (Z : PutPart s₂ s₃ d n₂ T m j w at c) where
-            size₂ : length (frozen s₂) ≡ 6144
+            size₂ : length (frozen s₂) ≡ frozenSize
             size₂ = frozen-length s₂ (S₂ .held .size)
 
-            size₃ : length (frozen s₃) ≡ 6144
+            size₃ : length (frozen s₃) ≡ frozenSize
             size₃ = frozen-length s₃ (Z .builds .grows .solved (A .room .P₀) (A .room .L) S₂ .held .size)
 
-            room : T + m + m ≤ 6144
+            room : T + m + m ≤ frozenSize
             room = putting .room
 
             part-run : (q : ℕ) → suc q + j ≡ m → run (frozen s₃) (T + j) (suc q) ≡ c ∷ run (frozen s₂) (T + (j + 1)) q

@@ -15,6 +15,7 @@ use Rattle.types_rules.specs.Finite.{fromList}
 use Rattle.types_rules.specs.Former.{Former, binding, given, identifiers, int, parameter, power, product}
 use Rattle.types_rules.specs.Types.{Ty, Tys, node, tcons, tnil, ℤ}
 use mathlib.Core.Logic.{_⊎_, inl, inr}
+use Rattle.types_cells.specs.Layout.{maxCells, settledFrom}
 use Rattle.types_cells.specs.Store.{frozen, linkAt, tagAt, argAt, firstAt, countAt, run, partsAt, formerAt, Held, Solved}
 use Rattle.types_cells.specs.Calls.{Known, Root}
 use Rattle.types_solver.specs.Sizes.{Solution}
@@ -92,7 +93,7 @@ module _ (s d : List ℕ) (r id : ℕ) (root : linkAt s r ≡ 0) where
   pub former-lacks : tagAt w r ≡ 5 → (In id (run w (argAt w r) (countAt w r)) → ⊥) → Looked s d r id 0
   former-lacks t h = former-none (omega arith) (λ n L H l ids q m. h (subst (In id) (binding-inj _ _ (sym q ∙ head-five w r t)) m))
 
-  pub former-some : (j c : ℕ) → c < 1024 → tagAt w r ≡ 5 → j < countAt w r → getD (run w (argAt w r) (countAt w r)) j 0 ≡ id →
+  pub former-some : (j c : ℕ) → c < maxCells → tagAt w r ≡ 5 → j < countAt w r → getD (run w (argAt w r) (countAt w r)) j 0 ≡ id →
       ((k : ℕ) → k < j → getD (run w (argAt w r) (countAt w r)) k 0 ≡ id → ⊥) → getD w (firstAt w r + j) 0 ≡ c → Looked s d r id (c + 1)
   former-some j c few t q hit first here = record {
     found = λ k e b n P₀ L S l X.
@@ -114,7 +115,7 @@ module _ (s d : List ℕ) (r id : ℕ) (root : linkAt s r ≡ 0) where
     absent = λ e. absurd (omega arith);
   }
 
-  pub part-few : (n : ℕ) (L : Pairs ℕ) → Held s n L → r < n → (j : ℕ) → j < countAt w r → getD w (firstAt w r + j) 0 < 1024
+  pub part-few : (n : ℕ) (L : Pairs ℕ) → Held s n L → r < n → (j : ℕ) → j < countAt w r → getD w (firstAt w r + j) 0 < maxCells
   part-few n L H l j q =
       let C = H .cells r l in
       let o = C .older (getD (partsAt w r) j 0) (getD-in (partsAt w r) j (let z = parts-length w r C in omega arith)) in
@@ -126,7 +127,7 @@ module _ (s d : List ℕ) (r id : ℕ) (root : linkAt s r ≡ 0) where
   unfolding componentType identifiers pickType
   none-type = refl
 
-  pub open-none : tagAt w r ≡ 0 → wordAt s r < 1025 → Looked s d r id 0
+  pub open-none : tagAt w r ≡ 0 → wordAt s r < settledFrom → Looked s d r id 0
   open-none t v = record {
     found = λ c e. absurd (omega arith);
     below = λ c e. absurd (omega arith);
@@ -135,10 +136,10 @@ module _ (s d : List ℕ) (r id : ℕ) (root : linkAt s r ≡ 0) where
     absent = λ e n P₀ L S P l F.
         let X = solution-with s d n P₀ L S P F ℤ in
         let q = self n L (S .held) l in
-        record { solution = X; lacks = ap (componentType id) (open-type s d n P₀ L S P F ℤ r l (ap (tagAt w) q ∙ t) (subst (λ z. wordAt s z < 1025) (sym q) v)) ∙ none-type };
+        record { solution = X; lacks = ap (componentType id) (open-type s d n P₀ L S P F ℤ r l (ap (tagAt w) q ∙ t) (subst (λ z. wordAt s z < settledFrom) (sym q) v)) ∙ none-type };
   }
 
-  module _ (v : 1025 ≤ wordAt s r) (p : ℕ) (C : Component s d (wordAt s r - 1025) id p) where
+  module _ (v : settledFrom ≤ wordAt s r) (p : ℕ) (C : Component s d (wordAt s r - settledFrom) id p) where
     pub settled-none : p ≡ 0 → Looked s d r id 0
     settled-none z = record {
       found = λ c e. absurd (omega arith);
@@ -151,7 +152,7 @@ module _ (s d : List ℕ) (r id : ℕ) (root : linkAt s r ≡ 0) where
           record { solution = X; lacks = ap (componentType id) (X .obeys r l v (D .type) (D .reads)) ∙ C .none z (D .type) (D .reads) };
     }
 
-    pub settled-some : (p ≡ 0 → ⊥) → Looked s d r id (1025 + p)
+    pub settled-some : (p ≡ 0 → ⊥) → Looked s d r id (settledFrom + p)
     settled-some z = record {
       found = λ c e b. absurd (omega arith);
       below = λ c e b. absurd (omega arith);
@@ -180,7 +181,7 @@ looking-root s d i r K Q = record {
   root = Q .free;
 }
 
-pub looking-few : (s d : List ℕ) (r : ℕ) → LookingRoot s d r → r < 1024
+pub looking-few : (s d : List ℕ) (r : ℕ) → LookingRoot s d r → r < maxCells
 looking-few s d r K = let f = K .looking .held .few in let l = K .looking .made in omega arith
 
 module _ (s d : List ℕ) (i r id v : ℕ) (Q : Root s i r) (K : Looked s d r id v) where
@@ -194,7 +195,7 @@ module _ (s d : List ℕ) (i r id v : ℕ) (Q : Root s i r) (K : Looked s d r id
   looked-root = record {
     found = λ c e b n P₀ L S l X. sym (ap (componentType id) (same-type n P₀ L S l X)) ∙ K .found c e b n P₀ L S (below-r n L (S .held) l) X;
     below = λ c e b n L H l. K .below c e b n L H (below-r n L H l);
-    settled = λ e n P₀ L S P l X. subst (λ g. Found (heap s d) (v - 1025) (componentType id g)) (same-type n P₀ L S l X) (K .settled e n P₀ L S P (below-r n L (S .held) l) X);
+    settled = λ e n P₀ L S P l X. subst (λ g. Found (heap s d) (v - settledFrom) (componentType id g)) (same-type n P₀ L S l X) (K .settled e n P₀ L S P (below-r n L (S .held) l) X);
     place = λ e n L H P l. K .place e n L H P (below-r n L H l);
     absent = λ e n P₀ L S P l F.
         let a = K .absent e n P₀ L S P (below-r n L (S .held) l) F in

@@ -9,6 +9,7 @@ use native.Mathlib.Nat.{eq-or-lt-of-le, eq-zero-or-pos}
 use lib.Dec.{eqb}
 use lib.ListN.{length, set, length-set}
 use lib.Seq.{getD-set-same, getD-set-other, take-set-le}
+use Rattle.types_cells.specs.Layout.{maxCells, poolSize, linksAt, marksAt, areaSize}
 use Rattle.types_cells.specs.Settled.{lower, wordAt}
 use borrow.Author.Tests.{eqb-true, eqb-false, lt-ltb, le-ltb}
 use Rattle.types_rules.proofs.Classify.{build}
@@ -177,26 +178,26 @@ same-solved s t a n P₀ L S = record {
 }
 
 -- A mark.
-module _ (s : List ℕ) (i v : ℕ) (size : length s ≡ 52224) (l : i < 1024) where
-  pub mark-same : Same s (set s (40960 + i) v)
+module _ (s : List ℕ) (i v : ℕ) (size : length s ≡ areaSize) (l : i < maxCells) where
+  pub mark-same : Same s (set s (marksAt + i) v)
   unfolding lower wordAt
   mark-same = record {
-    low = take-set-le 39936 s (40960 + i) v (omega arith);
-    refs = λ j m. getD-set-other s (40960 + i) (39936 + j) v 0 (λ e. omega arith);
-    size = length-set s (40960 + i) v;
-    still = frozen-set s (40960 + i) v (omega arith);
-    links = λ j m. link-same s _ j j (getD-set-other s (40960 + i) (39936 + j) v 0 (λ e. omega arith));
+    low = take-set-le poolSize s (marksAt + i) v (omega arith);
+    refs = λ j m. getD-set-other s (marksAt + i) (linksAt + j) v 0 (λ e. omega arith);
+    size = length-set s (marksAt + i) v;
+    still = frozen-set s (marksAt + i) v (omega arith);
+    links = λ j m. link-same s _ j j (getD-set-other s (marksAt + i) (linksAt + j) v 0 (λ e. omega arith));
   }
 
-  pub mark-hit : markAt (set s (40960 + i) v) i ≡ v
+  pub mark-hit : markAt (set s (marksAt + i) v) i ≡ v
   unfolding markAt
-  mark-hit = getD-set-same s (40960 + i) v 0 (omega arith)
+  mark-hit = getD-set-same s (marksAt + i) v 0 (omega arith)
 
-  pub mark-miss : (j : ℕ) → (j ≡ i → ⊥) → markAt (set s (40960 + i) v) j ≡ markAt s j
+  pub mark-miss : (j : ℕ) → (j ≡ i → ⊥) → markAt (set s (marksAt + i) v) j ≡ markAt s j
   unfolding markAt
-  mark-miss j d = getD-set-other s (40960 + i) (40960 + j) v 0 (λ e. d (omega arith))
+  mark-miss j d = getD-set-other s (marksAt + i) (marksAt + j) v 0 (λ e. d (omega arith))
 
-  bare-low : (m : ℕ) → m ≤ i → bare (set s (40960 + i) v) m ≡ bare s m
+  bare-low : (m : ℕ) → m ≤ i → bare (set s (marksAt + i) v) m ≡ bare s m
   unfolding bare
   bare-low zero q = refl
   bare-low (suc m) q = ap₂ (λ x y. free x 1 + y) (mark-miss m (λ e. omega arith)) (bare-low m (omega arith))
@@ -206,28 +207,28 @@ module _ (s : List ℕ) (i v : ℕ) (size : length s ≡ 52224) (l : i < 1024) w
   free-0 zero d = absurd (d refl)
   free-0 (suc x) d = refl
 
-  pub bare-less : (v ≡ 0 → ⊥) → (m : ℕ) → bare (set s (40960 + i) v) m ≤ bare s m
+  pub bare-less : (v ≡ 0 → ⊥) → (m : ℕ) → bare (set s (marksAt + i) v) m ≤ bare s m
   unfolding bare
   bare-less some zero = omega arith
   bare-less some (suc m) = go (eqb m i) refl (bare-less some m)
     where
-      go : (b : Bool) → eqb m i ≡ b → bare (set s (40960 + i) v) m ≤ bare s m → free (markAt (set s (40960 + i) v) m) 1 + bare (set s (40960 + i) v) m ≤ free (markAt s m) 1 + bare s m
-      go true t h = let e = ap (markAt (set s (40960 + i) v)) (eqb-true m i t) ∙ mark-hit in let z = free-0 (markAt (set s (40960 + i) v) m) (λ y. some (sym e ∙ y)) in omega arith
+      go : (b : Bool) → eqb m i ≡ b → bare (set s (marksAt + i) v) m ≤ bare s m → free (markAt (set s (marksAt + i) v) m) 1 + bare (set s (marksAt + i) v) m ≤ free (markAt s m) 1 + bare s m
+      go true t h = let e = ap (markAt (set s (marksAt + i) v)) (eqb-true m i t) ∙ mark-hit in let z = free-0 (markAt (set s (marksAt + i) v) m) (λ y. some (sym e ∙ y)) in omega arith
       go false t h = let e = ap (λ x. free x 1) (mark-miss m (eqb-false m i t)) in omega arith
 
   module _ (none : markAt s i ≡ 0) (some : v ≡ 0 → ⊥) where
-    term-new : free (markAt (set s (40960 + i) v) i) 1 ≡ 0
+    term-new : free (markAt (set s (marksAt + i) v) i) 1 ≡ 0
     term-new = free-0 _ (λ e. some (sym mark-hit ∙ e))
 
     term-old : free (markAt s i) 1 ≡ 1
     unfolding free
     term-old = ap (λ x. free x 1) none
 
-    pub bare-mark : (m : ℕ) → i < m → bare (set s (40960 + i) v) m + 1 ≡ bare s m
+    pub bare-mark : (m : ℕ) → i < m → bare (set s (marksAt + i) v) m + 1 ≡ bare s m
     unfolding bare
     bare-mark zero q = absurd (omega arith)
     bare-mark (suc m) q = ⊎-elim
-        (λ e. subst (λ z. free (markAt (set s (40960 + i) v) z) 1 + bare (set s (40960 + i) v) z + 1 ≡ free (markAt s z) 1 + bare s z) e
+        (λ e. subst (λ z. free (markAt (set s (marksAt + i) v) z) 1 + bare (set s (marksAt + i) v) z + 1 ≡ free (markAt s z) 1 + bare s z) e
         (omega (arith, term-new, term-old, bare-low i (omega arith))))
         (λ p. omega (arith, bare-mark m p, ap (λ x. free x 1) (mark-miss m (λ e. omega arith))))
         (eq-or-lt-of-le q′)
@@ -236,20 +237,20 @@ module _ (s : List ℕ) (i v : ℕ) (size : length s ≡ 52224) (l : i < 1024) w
         q′ = omega arith
 
   -- Marks stay right where the new one is.
-  pub marks-set : (n : ℕ) (L : Pairs ℕ) → ((v ≡ 34 → ⊥) → Sized (frozen s) n L i v) → Marks s n L → Marks (set s (40960 + i) v) n L
+  pub marks-set : (n : ℕ) (L : Pairs ℕ) → ((v ≡ 34 → ⊥) → Sized (frozen s) n L i v) → Marks s n L → Marks (set s (marksAt + i) v) n L
   marks-set n L z M = record { right = λ j q d f. go j q d f (eqb j i) refl }
     where
-      e : frozen (set s (40960 + i) v) ≡ frozen s
-      e = frozen-set s (40960 + i) v (omega arith)
+      e : frozen (set s (marksAt + i) v) ≡ frozen s
+      e = frozen-set s (marksAt + i) v (omega arith)
 
-      go : (j : ℕ) → j < n → (markAt (set s (40960 + i) v) j ≡ 0 → ⊥) → (markAt (set s (40960 + i) v) j ≡ 34 → ⊥) → (b : Bool) → eqb j i ≡ b →
-          Sized (frozen (set s (40960 + i) v)) n L j (markAt (set s (40960 + i) v) j)
+      go : (j : ℕ) → j < n → (markAt (set s (marksAt + i) v) j ≡ 0 → ⊥) → (markAt (set s (marksAt + i) v) j ≡ 34 → ⊥) → (b : Bool) → eqb j i ≡ b →
+          Sized (frozen (set s (marksAt + i) v)) n L j (markAt (set s (marksAt + i) v) j)
       go j q d f true t =
           let ji = eqb-true j i t in
-          let h = ap (markAt (set s (40960 + i) v)) ji ∙ mark-hit in
-          subst (λ y. Sized (frozen (set s (40960 + i) v)) n L y (markAt (set s (40960 + i) v) y)) (sym ji)
-          (subst (λ y. Sized y n L i (markAt (set s (40960 + i) v) i)) (sym e) (subst (λ y. Sized (frozen s) n L i y) (sym mark-hit) (z (λ y. f (h ∙ y)))))
+          let h = ap (markAt (set s (marksAt + i) v)) ji ∙ mark-hit in
+          subst (λ y. Sized (frozen (set s (marksAt + i) v)) n L y (markAt (set s (marksAt + i) v) y)) (sym ji)
+          (subst (λ y. Sized y n L i (markAt (set s (marksAt + i) v) i)) (sym e) (subst (λ y. Sized (frozen s) n L i y) (sym mark-hit) (z (λ y. f (h ∙ y)))))
       go j q d f false t =
           let m = mark-miss j (eqb-false j i t) in
-          subst (λ y. Sized y n L j (markAt (set s (40960 + i) v) j)) (sym e)
+          subst (λ y. Sized y n L j (markAt (set s (marksAt + i) v) j)) (sym e)
           (subst (λ y. Sized (frozen s) n L j y) (sym m) (M .right j q (λ y. d (m ∙ y)) (λ y. f (m ∙ y))))

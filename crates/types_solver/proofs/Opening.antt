@@ -16,6 +16,7 @@ use Rattle.types_rules.specs.Equations.{In, Pairs, Solves}
 use Rattle.types_rules.specs.Finite.{bounded, boundedView, fromList, typeOf}
 use Rattle.types_rules.specs.Follows.{View, shape, unk}
 use Rattle.types_rules.specs.Types.{Ty, Tys, node, ℤ, ℙℤ}
+use Rattle.types_cells.specs.Layout.{linksAt, settledFrom}
 use Rattle.types_cells.specs.Store.{frozen, linkAt, linkPart, tagAt, view, Held, Solved}
 use Rattle.types_cells.specs.Calls.{Root}
 use Rattle.types_solver.specs.Sizes.{Solution, Tested}
@@ -29,38 +30,38 @@ use Rattle.types_cells.proofs.Reading.{reads-one, below-next}
 use Rattle.types_cells.proofs.Growing.{lt-or-ge}
 
 -- The type that cell i refers to, and g where it does not.
-choose : (s d : List ℕ) (n : ℕ) → Pinned s d n → Ty → (i : ℕ) (b c : Bool) → ltb i n ≡ b → ltb (wordAt s i) 1025 ≡ c → Ty
-choose s d n P g i true false e f = P .reads i (ltb-true i n e) (ltb-false (wordAt s i) 1025 f) .type
+choose : (s d : List ℕ) (n : ℕ) → Pinned s d n → Ty → (i : ℕ) (b c : Bool) → ltb i n ≡ b → ltb (wordAt s i) settledFrom ≡ c → Ty
+choose s d n P g i true false e f = P .reads i (ltb-true i n e) (ltb-false (wordAt s i) settledFrom f) .type
 choose s d n P g i true true e f = g
 choose s d n P g i false c e f = g
 
 pick : (s d : List ℕ) (n : ℕ) → Pinned s d n → Ty → ℕ → Ty
-pick s d n P g i = choose s d n P g i (ltb i n) (ltb (wordAt s i) 1025) refl refl
+pick s d n P g i = choose s d n P g i (ltb i n) (ltb (wordAt s i) settledFrom) refl refl
 
-pinned-c : (s d : List ℕ) (n : ℕ) (P : Pinned s d n) (g : Ty) (i : ℕ) → i < n → 1025 ≤ wordAt s i → (k : Ty) → Reads (heap s d) (wordAt s i - 1025) k →
-    (b c : Bool) (e : ltb i n ≡ b) (f : ltb (wordAt s i) 1025 ≡ c) → choose s d n P g i b c e f ≡ k
+pinned-c : (s d : List ℕ) (n : ℕ) (P : Pinned s d n) (g : Ty) (i : ℕ) → i < n → settledFrom ≤ wordAt s i → (k : Ty) → Reads (heap s d) (wordAt s i - settledFrom) k →
+    (b c : Bool) (e : ltb i n ≡ b) (f : ltb (wordAt s i) settledFrom ≡ c) → choose s d n P g i b c e f ≡ k
 unfolding choose
-pinned-c s d n P g i l v k R true false e f = let D = P .reads i (ltb-true i n e) (ltb-false (wordAt s i) 1025 f) in reads-one (heap s d) (wordAt s i - 1025) (D .type) k (D .reads) R
-pinned-c s d n P g i l v k R true true e f = absurd (let z = ltb-true (wordAt s i) 1025 f in omega arith)
+pinned-c s d n P g i l v k R true false e f = let D = P .reads i (ltb-true i n e) (ltb-false (wordAt s i) settledFrom f) in reads-one (heap s d) (wordAt s i - settledFrom) (D .type) k (D .reads) R
+pinned-c s d n P g i l v k R true true e f = absurd (let z = ltb-true (wordAt s i) settledFrom f in omega arith)
 pinned-c s d n P g i l v k R false c e f = absurd (let z = ltb-false i n e in omega arith)
 
-open-c : (s d : List ℕ) (n : ℕ) (P : Pinned s d n) (g : Ty) (i : ℕ) → wordAt s i < 1025 → (b c : Bool) (e : ltb i n ≡ b) (f : ltb (wordAt s i) 1025 ≡ c) → choose s d n P g i b c e f ≡ g
+open-c : (s d : List ℕ) (n : ℕ) (P : Pinned s d n) (g : Ty) (i : ℕ) → wordAt s i < settledFrom → (b c : Bool) (e : ltb i n ≡ b) (f : ltb (wordAt s i) settledFrom ≡ c) → choose s d n P g i b c e f ≡ g
 unfolding choose
-open-c s d n P g i v true false e f = absurd (let z = ltb-false (wordAt s i) 1025 f in omega arith)
+open-c s d n P g i v true false e f = absurd (let z = ltb-false (wordAt s i) settledFrom f in omega arith)
 open-c s d n P g i v true true e f = refl
 open-c s d n P g i v false c e f = refl
 
-pick-pinned : (s d : List ℕ) (n : ℕ) (P : Pinned s d n) (g : Ty) (i : ℕ) → i < n → 1025 ≤ wordAt s i → (k : Ty) → Reads (heap s d) (wordAt s i - 1025) k → pick s d n P g i ≡ k
+pick-pinned : (s d : List ℕ) (n : ℕ) (P : Pinned s d n) (g : Ty) (i : ℕ) → i < n → settledFrom ≤ wordAt s i → (k : Ty) → Reads (heap s d) (wordAt s i - settledFrom) k → pick s d n P g i ≡ k
 unfolding pick
-pick-pinned s d n P g i l v k R = pinned-c s d n P g i l v k R (ltb i n) (ltb (wordAt s i) 1025) refl refl
+pick-pinned s d n P g i l v k R = pinned-c s d n P g i l v k R (ltb i n) (ltb (wordAt s i) settledFrom) refl refl
 
-pick-open : (s d : List ℕ) (n : ℕ) (P : Pinned s d n) (g : Ty) (i : ℕ) → wordAt s i < 1025 → pick s d n P g i ≡ g
+pick-open : (s d : List ℕ) (n : ℕ) (P : Pinned s d n) (g : Ty) (i : ℕ) → wordAt s i < settledFrom → pick s d n P g i ≡ g
 unfolding pick
-pick-open s d n P g i v = open-c s d n P g i v (ltb i n) (ltb (wordAt s i) 1025) refl refl
+pick-open s d n P g i v = open-c s d n P g i v (ltb i n) (ltb (wordAt s i) settledFrom) refl refl
 
-settled-root : (s : List ℕ) (i : ℕ) → 1025 ≤ wordAt s i → linkAt s i ≡ 0
+settled-root : (s : List ℕ) (i : ℕ) → settledFrom ≤ wordAt s i → linkAt s i ≡ 0
 unfolding linkAt wordAt
-settled-root s i v = link-none (getD s (39936 + i) 0) v
+settled-root s i v = link-none (getD s (linksAt + i) 0) v
 
 module _ (s d : List ℕ) (n : ℕ) (P₀ L : Pairs ℕ) (S : Solved s n P₀ L) (P : Pinned s d n) (F : Finite (frozen s) n L) where
   abbrev w : List ℕ
@@ -89,11 +90,11 @@ module _ (s d : List ℕ) (n : ℕ) (P₀ L : Pairs ℕ) (S : Solved s n P₀ L)
             at-unk (pick s d n P g) i l (ap (tagAt w) ri ∙ P .bare i l v) ∙ ap (pick s d n P g) ri ∙ pick-pinned s d n P g i l v k R;
       }
 
-  pub open-type : (g : Ty) (i : ℕ) → i < n → tagAt w (r i) ≡ 0 → wordAt s (r i) < 1025 → solution-with g .σ i ≡ g
+  pub open-type : (g : Ty) (i : ℕ) → i < n → tagAt w (r i) ≡ 0 → wordAt s (r i) < settledFrom → solution-with g .σ i ≡ g
   unfolding solution-with
   open-type g i l e v = at-unk (pick s d n P g) i l e ∙ pick-open s d n P g (r i) v
 
-  pub two-left : (i : ℕ) → i < n → tagAt w i ≡ 0 → tagAt w (r i) ≡ 0 → wordAt s (r i) < 1025 → Differ s d n P₀
+  pub two-left : (i : ℕ) → i < n → tagAt w i ≡ 0 → tagAt w (r i) ≡ 0 → wordAt s (r i) < settledFrom → Differ s d n P₀
   two-left i l bare e v = record {
     one = solution-with ℤ;
     other = solution-with ℙℤ;
@@ -103,7 +104,7 @@ module _ (s d : List ℕ) (n : ℕ) (P₀ L : Pairs ℕ) (S : Solved s n P₀ L)
     differ = λ q. let p : ℤ ≡ ℙℤ = sym (open-type ℤ i l e v) ∙ q ∙ open-type ℙℤ i l e v in let z : _≡_ {A = ℕ} 0 1 = cc in omega arith;
   }
 
-  module _ (settled : (i : ℕ) → i < n → tagAt w (r i) ≡ 0 → 1025 ≤ wordAt s (r i)) (X Y : SolutionOf s d n P₀) where
+  module _ (settled : (i : ℕ) → i < n → tagAt w (r i) ≡ 0 → settledFrom ≤ wordAt s (r i)) (X Y : SolutionOf s d n P₀) where
     abbrev plain : SolutionOf s d n P₀ → Solution w n P₀
     plain Z = record { σ = Z .σ; fits = Z .fits; sat = Z .sat }
 
@@ -139,32 +140,32 @@ module _ (s d : List ℕ) (n : ℕ) (P₀ L : Pairs ℕ) (S : Solved s n P₀ L)
     all-one i l = one-d n i l (F i l)
 
 -- The scan.
-pub left-yes : (s : List ℕ) (n i x : ℕ) → i < n → Root s i x → tagAt (frozen s) x ≡ 0 → wordAt s x < 1025 → Left s n true
+pub left-yes : (s : List ℕ) (n i x : ℕ) → i < n → Root s i x → tagAt (frozen s) x ≡ 0 → wordAt s x < settledFrom → Left s n true
 left-yes s n i x l Q e v = record {
   several = λ f d P₀ L S P F.
       let k = subst (λ z. z < n) (Q .is n L (S .held) l) (rep-below n L (S .held .inside) i l) in
       let q = stop-rep s n L (S .held) x k (Q .free) in
-      two-left s d n P₀ L S P F x k e (ap (tagAt (frozen s)) q ∙ e) (subst (λ z. wordAt s z < 1025) (sym q) v);
+      two-left s d n P₀ L S P F x k e (ap (tagAt (frozen s)) q ∙ e) (subst (λ z. wordAt s z < settledFrom) (sym q) v);
   one = λ f. absurd (bool-no true refl f);
   resolved = λ f. absurd (bool-no true refl f);
 }
 
-pub left-no : (s : List ℕ) (n : ℕ) → ((i : ℕ) → i < n → (L : Pairs ℕ) → Held s n L → tagAt (frozen s) (rep eqb L i) ≡ 0 → 1025 ≤ wordAt s (rep eqb L i)) → Left s n false
+pub left-no : (s : List ℕ) (n : ℕ) → ((i : ℕ) → i < n → (L : Pairs ℕ) → Held s n L → tagAt (frozen s) (rep eqb L i) ≡ 0 → settledFrom ≤ wordAt s (rep eqb L i)) → Left s n false
 left-no s n h = record {
   several = λ f. absurd (bool-no false f refl);
   one = λ f d P₀ L S P F X Y i l. all-one s d n P₀ L S P F (λ j m e. h j m L (S .held) e) X Y i l;
   resolved = λ f L H i l. h i l L H;
 }
 
-pub scan-next : (s : List ℕ) (n i x : ℕ) → i < n → Root s i x → ((tagAt (frozen s) x ≡ 0) × (wordAt s x < 1025) → ⊥) →
-    ((j : ℕ) → j < i → (L : Pairs ℕ) → Held s n L → tagAt (frozen s) (rep eqb L j) ≡ 0 → 1025 ≤ wordAt s (rep eqb L j)) →
-    (j : ℕ) → j < i + 1 → (L : Pairs ℕ) → Held s n L → tagAt (frozen s) (rep eqb L j) ≡ 0 → 1025 ≤ wordAt s (rep eqb L j)
-scan-next s n i x l Q d h = below-next (λ j. (L : Pairs ℕ) → Held s n L → tagAt (frozen s) (rep eqb L j) ≡ 0 → 1025 ≤ wordAt s (rep eqb L j)) i h here
+pub scan-next : (s : List ℕ) (n i x : ℕ) → i < n → Root s i x → ((tagAt (frozen s) x ≡ 0) × (wordAt s x < settledFrom) → ⊥) →
+    ((j : ℕ) → j < i → (L : Pairs ℕ) → Held s n L → tagAt (frozen s) (rep eqb L j) ≡ 0 → settledFrom ≤ wordAt s (rep eqb L j)) →
+    (j : ℕ) → j < i + 1 → (L : Pairs ℕ) → Held s n L → tagAt (frozen s) (rep eqb L j) ≡ 0 → settledFrom ≤ wordAt s (rep eqb L j)
+scan-next s n i x l Q d h = below-next (λ j. (L : Pairs ℕ) → Held s n L → tagAt (frozen s) (rep eqb L j) ≡ 0 → settledFrom ≤ wordAt s (rep eqb L j)) i h here
   where
-    here : (L : Pairs ℕ) → Held s n L → tagAt (frozen s) (rep eqb L i) ≡ 0 → 1025 ≤ wordAt s (rep eqb L i)
+    here : (L : Pairs ℕ) → Held s n L → tagAt (frozen s) (rep eqb L i) ≡ 0 → settledFrom ≤ wordAt s (rep eqb L i)
     here L H e =
         let q = Q .is n L H l in
-        ⊎-elim (λ z. absurd (d (sym (ap (tagAt (frozen s)) q) ∙ e, subst (λ y. wordAt s y < 1025) q z))) (λ z. z) (lt-or-ge (wordAt s (rep eqb L i)) 1025)
+        ⊎-elim (λ z. absurd (d (sym (ap (tagAt (frozen s)) q) ∙ e, subst (λ y. wordAt s y < settledFrom) q z))) (λ z. z) (lt-or-ge (wordAt s (rep eqb L i)) settledFrom)
 
 -- `finite` and settled cells: true, there is a solution that gives them their types; false, there is none.
 pub finite-some : (s s′ d : List ℕ) (n : ℕ) → Tested s s′ n true → (P₀ L : Pairs ℕ) → Solved s n P₀ L → Pinned s d n → SolutionOf s d n P₀

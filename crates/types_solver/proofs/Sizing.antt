@@ -13,6 +13,7 @@ use Rattle.types_rules.specs.Finite.{fromList, typeOf, typeOfView}
 use Rattle.types_rules.specs.Follows.{View, shape, unk}
 use Rattle.types_rules.specs.Former.{int}
 use Rattle.types_rules.specs.Types.{Ty, node, size, sizes, tnil}
+use Rattle.types_cells.specs.Layout.{settledFrom}
 use Rattle.types_cells.specs.Store.{frozen, tagAt, firstAt, countAt, run, view}
 use Rattle.types_cells.specs.Calls.{Root}
 use Rattle.types_cells.specs.Settled.{wordAt}
@@ -64,7 +65,7 @@ measured-unknown s d i r v Q t U = record {
       (λ q. U .free q ∙ sym (ap cap (ap size (m-by s d i r Q n L σ M l) ∙ E r (r-below s i r Q n L (M .marked) l) t (Q .free) q) ∙ cap-low 1 (omega arith)))
       (λ q. let R = m-readable s d i r Q n L σ M l q in
       U .settled q .is (R .type) (R .reads) ∙ sym (ap (λ g. cap (size g)) (m-settled s d i r Q n L σ M l q (R .type) (R .reads))))
-      (lt-or-ge (wordAt s r) 1025);
+      (lt-or-ge (wordAt s r) settledFrom);
   few = U .few;
 }
 

@@ -10,6 +10,7 @@ use lib.ListN.{length, set}
 use Rattle.types_rules.proofs.Terms.{bool-no}
 use Rattle.types_rules.specs.Equations.{Pairs}
 use Rattle.types_rules.specs.Types.{size, sizes}
+use Rattle.types_cells.specs.Layout.{maxCells, marksAt, areaSize}
 use Rattle.types_cells.specs.Store.{frozen, partsAt, Held, Solved}
 use Rattle.types_cells.specs.Calls.{Known}
 use Rattle.types_solver.specs.Sizes.{markAt, Sized, Marks, Same, Read, Falls, Visited, Calm, Visits, Cleared, Solution, Tested}
@@ -65,14 +66,14 @@ seen-end s t n i le X = record {
 pub clear-start : (s : List ℕ) → Cleared s s 0
 clear-start s = record { same = same-refl s; none = λ j l. absurd (omega arith) }
 
-pub clear-step : (s t : List ℕ) (n i : ℕ) → Cleared s t i → Read s n → i < n → Cleared s (set t (40960 + i) 0) (i + 1)
+pub clear-step : (s t : List ℕ) (n i : ℕ) → Cleared s t i → Read s n → i < n → Cleared s (set t (marksAt + i) 0) (i + 1)
 clear-step s t n i C D l =
-    let size : length t ≡ 52224 = C .same .size ∙ D .held .size in
-    let few : i < 1024 = let f = D .held .few in omega arith in
+    let size : length t ≡ areaSize = C .same .size ∙ D .held .size in
+    let few : i < maxCells = let f = D .held .few in omega arith in
     record {
       same = same-on s t _ (C .same) (mark-same t i 0 size few);
       none = λ j b. ⊎-elim
-          (λ e. ap (markAt (set t (40960 + i) 0)) e ∙ mark-hit t i 0 size few)
+          (λ e. ap (markAt (set t (marksAt + i) 0)) e ∙ mark-hit t i 0 size few)
           (λ q. mark-miss t i 0 size few j (λ e. omega arith) ∙ C .none j q)
           (eq-or-lt-of-le (let z : j ≤ i = omega arith in z));
     }

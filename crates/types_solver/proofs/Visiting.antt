@@ -14,6 +14,7 @@ use Rattle.types_rules.specs.Classes.{rep}
 use Rattle.types_rules.specs.Equations.{In, Pairs}
 use Rattle.types_rules.specs.Finite.{bounded, fromList}
 use Rattle.types_rules.specs.Types.{size, sizes}
+use Rattle.types_cells.specs.Layout.{maxCells, marksAt, areaSize}
 use Rattle.types_cells.specs.Store.{frozen, linkAt, tagAt, firstAt, countAt, run, partsAt, view, Held}
 use Rattle.types_cells.specs.Calls.{Known}
 use Rattle.types_solver.specs.Sizes.{cap, markAt, bare, arityOf, arityAt, typeAt, Sized, Marks, Same, Falls, Onward, Reached, Visited}
@@ -145,7 +146,7 @@ module _ (s t : List ℕ) (r k j sum : ℕ) (P : Parts s t r k j sum) (ek : k �
   }
 
   -- The visit of the part met a cell below itself: so would one of r, which was not marked in s₀.
-  module _ (s₀ : List ℕ) (few : r < 1024) (size : length s₀ ≡ 52224) (begun : s ≡ set s₀ (40960 + r) 34) (Y : Visited t u p false) where
+  module _ (s₀ : List ℕ) (few : r < maxCells) (size : length s₀ ≡ areaSize) (begun : s ≡ set s₀ (marksAt + r) 34) (Y : Visited t u p false) where
     begun-same : Same s₀ s
     begun-same = subst (λ z. Same s₀ z) (sym begun) (mark-same s₀ r 34 size few)
 
@@ -176,24 +177,24 @@ module _ (s t : List ℕ) (r k j sum : ℕ) (P : Parts s t r k j sum) (ek : k �
     }
 
 -- All parts have been visited: r gets its mark.
-module _ (s₀ s t : List ℕ) (r k j sum : ℕ) (W : Known s₀ r) (root : linkAt s₀ r ≡ 0) (none : markAt s₀ r ≡ 0) (begun : s ≡ set s₀ (40960 + r) 34) (P : Parts s t r k j sum) (ek : k ≡ arityAt (frozen s₀) r) (le : k ≤ j) where
-  few-r : r < 1024
+module _ (s₀ s t : List ℕ) (r k j sum : ℕ) (W : Known s₀ r) (root : linkAt s₀ r ≡ 0) (none : markAt s₀ r ≡ 0) (begun : s ≡ set s₀ (marksAt + r) 34) (P : Parts s t r k j sum) (ek : k ≡ arityAt (frozen s₀) r) (le : k ≤ j) where
+  few-r : r < maxCells
   few-r = let f = W .held .few in let l = W .made in omega arith
 
-  size₀ : length s₀ ≡ 52224
+  size₀ : length s₀ ≡ areaSize
   size₀ = W .held .size
 
   s-same : Same s₀ s
   s-same = subst (λ z. Same s₀ z) (sym begun) (mark-same s₀ r 34 size₀ few-r)
 
-  size-t : length t ≡ 52224
+  size-t : length t ≡ areaSize
   size-t = P .onward .same .size ∙ s-same .size ∙ size₀
 
   miss : (i : ℕ) → (i ≡ r → ⊥) → markAt s i ≡ markAt s₀ i
   miss i d = ap (λ y. markAt y i) begun ∙ mark-miss s₀ r 34 size₀ few-r i d
 
   abbrev u : List ℕ
-  u = set t (40960 + r) sum
+  u = set t (marksAt + r) sum
 
   pos-sum : sum ≡ 0 → ⊥
   pos-sum e = let z = P .some in omega arith
@@ -202,10 +203,10 @@ module _ (s₀ s t : List ℕ) (r k j sum : ℕ) (W : Known s₀ r) (root : link
   end-onward = record {
     same = same-on s₀ s u s-same (same-on s t u (P .onward .same) (mark-same t r sum size-t few-r));
     fewer =
-        let a = bare-less t r sum size-t few-r pos-sum 1024 in
+        let a = bare-less t r sum size-t few-r pos-sum maxCells in
         let b = P .onward .fewer in
-        let c = ap (λ z. bare z 1024) begun in
-        let d = bare-mark s₀ r 34 size₀ few-r none (λ e. omega arith) 1024 few-r in
+        let c = ap (λ z. bare z maxCells) begun in
+        let d = bare-mark s₀ r 34 size₀ few-r none (λ e. omega arith) maxCells few-r in
         omega arith;
     kept = λ i d.
         let ne : (i ≡ r → ⊥) = λ e. d (ap (markAt s₀) e ∙ none) in
@@ -275,8 +276,8 @@ module _ (s₀ s t : List ℕ) (r k j sum : ℕ) (W : Known s₀ r) (root : link
   }
 
 -- In the visit of r, which had no mark in s₀ and has 34 in s.
-module _ (s₀ s : List ℕ) (r k : ℕ) (W : Known s₀ r) (root : linkAt s₀ r ≡ 0) (none : markAt s₀ r ≡ 0) (begun : s ≡ set s₀ (40960 + r) 34) (ek : k ≡ arityAt (frozen s₀) r) where
-  few-cell-r : r < 1024
+module _ (s₀ s : List ℕ) (r k : ℕ) (W : Known s₀ r) (root : linkAt s₀ r ≡ 0) (none : markAt s₀ r ≡ 0) (begun : s ≡ set s₀ (marksAt + r) 34) (ek : k ≡ arityAt (frozen s₀) r) where
+  few-cell-r : r < maxCells
   few-cell-r = let f = W .held .few in let l = W .made in omega arith
 
   marked-same : Same s₀ s
@@ -293,12 +294,12 @@ module _ (s₀ s : List ℕ) (r k : ℕ) (W : Known s₀ r) (root : linkAt s₀ 
     visit-size = P .onward .same .size ∙ marked-same .size
 
     -- The measure: cells without a mark, then links on the way.
-    pub visit-falls : (p : ℕ) → 1026 * bare t 1024 + far t 1025 p < 1026 * bare s₀ 1024 + far s₀ 1025 r
+    pub visit-falls : (p : ℕ) → (2 + maxCells) * bare t maxCells + far t (1 + maxCells) p < (2 + maxCells) * bare s₀ maxCells + far s₀ (1 + maxCells) r
     visit-falls p =
         let a = P .onward .fewer in
-        let b = ap (λ z. bare z 1024) begun in
-        let c = bare-mark s₀ r 34 (W .held .size) few-cell-r none (λ e. omega arith) 1024 few-cell-r in
-        let d = far-le t 1025 p in
+        let b = ap (λ z. bare z maxCells) begun in
+        let c = bare-mark s₀ r 34 (W .held .size) few-cell-r none (λ e. omega arith) maxCells few-cell-r in
+        let d = far-le t (1 + maxCells) p in
         omega arith
 
     module _ (lt : j < k) (p : ℕ) (ep : p ≡ getD (frozen t) (firstAt (frozen t) r + j) 0) where
@@ -321,7 +322,7 @@ module _ (s u : List ℕ) (i c : ℕ) (K : Known s i) (none : markAt s i ≡ 0) 
   pub link-known : Known s c
   link-known = record { n = K .n; L = K .L; held = K .held; made = hop-below s (K .n) (K .L) (K .held) i c (K .made) link }
 
-  pub link-falls : 1026 * bare s 1024 + far s 1025 c < 1026 * bare s 1024 + far s 1025 i
+  pub link-falls : (2 + maxCells) * bare s maxCells + far s (1 + maxCells) c < (2 + maxCells) * bare s maxCells + far s (1 + maxCells) i
   link-falls = let z = far-less s (K .n) (K .L) (K .held) i c (K .made) link in omega arith
 
   pub link-stop : Visited s u c false → Visited s u i false
@@ -334,17 +335,17 @@ module _ (s u : List ℕ) (i c : ℕ) (K : Known s i) (none : markAt s i ≡ 0) 
   }
 
   module _ (Y : Visited s u c true) (v : ℕ) (ev : v ≡ markAt u c) where
-    few-i : i < 1024
+    few-i : i < maxCells
     few-i = let f = K .held .few in let l = K .made in omega arith
 
     R : Reached s u c
     R = Y .goes refl
 
-    size-u : length u ≡ 52224
+    size-u : length u ≡ areaSize
     size-u = Y .same .size ∙ K .held .size
 
     abbrev u′ : List ℕ
-    u′ = set u (40960 + i) v
+    u′ = set u (marksAt + i) v
 
     hit : markAt u′ i ≡ markAt u c
     hit = mark-hit u i v size-u few-i ∙ ev
@@ -352,7 +353,7 @@ module _ (s u : List ℕ) (i c : ℕ) (K : Known s i) (none : markAt s i ≡ 0) 
     link-onward : Onward s u′
     link-onward = record {
       same = same-on s u u′ (Y .same) (mark-same u i v size-u few-i);
-      fewer = let a = bare-less u i v size-u few-i (λ e. R .marked (sym ev ∙ e)) 1024 in let b = R .onward .fewer in omega arith;
+      fewer = let a = bare-less u i v size-u few-i (λ e. R .marked (sym ev ∙ e)) maxCells in let b = R .onward .fewer in omega arith;
       kept = λ j d. mark-miss u i v size-u few-i j (λ e. d (ap (markAt s) e ∙ none)) ∙ R .onward .kept j d;
       ended = λ j e. go j e (eqb j i) refl;
     }

@@ -18,6 +18,7 @@ use Rattle.types_rules.specs.Types.{Ty, node, size, tnil}
 use Rattle.types_rules.specs.Former.{formerOf, tag}
 use Rattle.types_rules.specs.Words.{second, words, partWords}
 use Rattle.types_rules.specs.Formed.{partCountType}
+use Rattle.types_cells.specs.Layout.{maxCells, settledFrom}
 use Rattle.types_cells.specs.Store.{frozen, tagAt, argAt, firstAt, countAt, run, partsAt, formerAt, view, Cell}
 use Rattle.types_solver.specs.Sizes.{markAt, typeAt, Marked, Model}
 use Rattle.types_solver.specs.Written.{lead, leadOf, leadAt, nameAt, rest, Resolved, Wrote}
@@ -199,7 +200,7 @@ module _ (s : List ℕ) (i r : ℕ) (Q : Root s i r) (n : ℕ) (L : Pairs ℕ) (
   pub r-below : r < n
   r-below = subst (λ z. z < n) q (rep-below n L (R .held .inside) i l)
 
-  pub r-few : r < 1024
+  pub r-few : r < maxCells
   r-few = let f = R .held .few in let b = r-below in omega arith
 
   pub r-cell : Cell (frozen s) r
@@ -214,8 +215,8 @@ module _ (s : List ℕ) (i r : ℕ) (Q : Root s i r) (n : ℕ) (L : Pairs ℕ) (
       let h = subst (λ y. In y (partsAt (frozen s) r)) (run-at (frozen s) (firstAt (frozen s) r) (countAt (frozen s) r) j jc ∙ sym e) m in
       mark-falls s n L R i l (subst (λ z. 0 < tagAt (frozen s) z) (sym q) known) small c (subst (λ y. In c (partsAt (frozen s) y)) (sym q) h)
 
-  pub r-settled : Resolved s n L → tagAt (frozen s) r ≡ 0 → 1025 ≤ wordAt s r
-  r-settled h t = subst (λ z. 1025 ≤ wordAt s z) q (h i l (ap (tagAt (frozen s)) q ∙ t))
+  pub r-settled : Resolved s n L → tagAt (frozen s) r ≡ 0 → settledFrom ≤ wordAt s r
+  r-settled h t = subst (λ z. settledFrom ≤ wordAt s z) q (h i l (ap (tagAt (frozen s)) q ∙ t))
 
 -- And in a solution.
 module _ (s d : List ℕ) (i r : ℕ) (Q : Root s i r) (n : ℕ) (L : Pairs ℕ) (σ : ℕ → Ty) (M : Model s d n L σ) (l : i < n) where
@@ -233,10 +234,10 @@ module _ (s d : List ℕ) (i r : ℕ) (Q : Root s i r) (n : ℕ) (L : Pairs ℕ)
   pub m-length : 0 < tagAt (frozen s) r → (k : ℕ) → k ≡ countAt (frozen s) r → length (words (σ i)) ≡ length (leadAt (frozen s) r) + length (rest σ (frozen s) r 0 k)
   m-length p k ek = ap length (m-words p k ek) ∙ length-append (leadAt (frozen s) r) (rest σ (frozen s) r 0 k)
 
-  pub m-settled : 1025 ≤ wordAt s r → (g : Ty) → Reads (heap s d) (wordAt s r - 1025) g → σ i ≡ g
+  pub m-settled : settledFrom ≤ wordAt s r → (g : Ty) → Reads (heap s d) (wordAt s r - settledFrom) g → σ i ≡ g
   m-settled v g R = m-by ∙ M .obeys r (r-below s i r Q n L (M .marked) l) v g R
 
-  pub m-readable : 1025 ≤ wordAt s r → Readable (heap s d) (wordAt s r - 1025)
+  pub m-readable : settledFrom ≤ wordAt s r → Readable (heap s d) (wordAt s r - settledFrom)
   m-readable v = M .pinned .reads r (r-below s i r Q n L (M .marked) l) v
 
 pub wrote-one : (out : List ℕ) (at v : ℕ) (ws : List ℕ) → ws ≡ v ∷ [] → Wrote out (set out at v) at (at + 1) ws

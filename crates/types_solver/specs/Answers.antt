@@ -11,6 +11,7 @@ use Rattle.types_rules.specs.Component.{componentType}
 use Rattle.types_rules.specs.Equations.{In, Pairs, Solves}
 use Rattle.types_rules.specs.Finite.{bounded}
 use Rattle.types_rules.specs.Types.{Ty}
+use Rattle.types_cells.specs.Layout.{settledFrom}
 use Rattle.types_cells.specs.Store.{frozen, linkAt, tagAt, view, Held, Solved}
 use Rattle.types_solver.specs.Written.{Resolved}
 use Rattle.types_cells.specs.Settled.{heap, Readable, Pinned, Obeys, Fits, Found}
@@ -67,11 +68,11 @@ pub record LookingRoot (s d : List ℕ) (i : ℕ) : Type 0 where
   pub looking : Looking s d i
   pub root : linkAt s i ≡ 0
 
--- 35. c + 1, below 1025: in every solution cell i is a binding where id has the type of cell c. 1025 + p: in every solution it is one where id has the type
--- whose words stand at p. 0: in some solution it is not.
+-- 35. c + 1, below settledFrom: in every solution cell i is a binding where id has the type of cell c. settledFrom + p: in every solution it is one where id
+-- has the type whose words stand at p. 0: in some solution it is not.
 pub record Looked (s d : List ℕ) (i id v : ℕ) : Type 0 where
-  pub found : (c : ℕ) → v ≡ suc c → v < 1025 → (n : ℕ) (P₀ L : Pairs ℕ) → Solved s n P₀ L → i < n → (X : SolutionOf s d n P₀) → componentType id (X .σ i) ≡ some (X .σ c)
-  pub below : (c : ℕ) → v ≡ suc c → v < 1025 → (n : ℕ) (L : Pairs ℕ) → Held s n L → i < n → c < n
-  pub settled : 1025 ≤ v → (n : ℕ) (P₀ L : Pairs ℕ) → Solved s n P₀ L → Pinned s d n → i < n → (X : SolutionOf s d n P₀) → Found (heap s d) (v - 1025) (componentType id (X .σ i))
-  pub place : 1025 ≤ v → (n : ℕ) (L : Pairs ℕ) → Held s n L → Pinned s d n → i < n → Readable (heap s d) (v - 1025)
+  pub found : (c : ℕ) → v ≡ suc c → v < settledFrom → (n : ℕ) (P₀ L : Pairs ℕ) → Solved s n P₀ L → i < n → (X : SolutionOf s d n P₀) → componentType id (X .σ i) ≡ some (X .σ c)
+  pub below : (c : ℕ) → v ≡ suc c → v < settledFrom → (n : ℕ) (L : Pairs ℕ) → Held s n L → i < n → c < n
+  pub settled : settledFrom ≤ v → (n : ℕ) (P₀ L : Pairs ℕ) → Solved s n P₀ L → Pinned s d n → i < n → (X : SolutionOf s d n P₀) → Found (heap s d) (v - settledFrom) (componentType id (X .σ i))
+  pub place : settledFrom ≤ v → (n : ℕ) (L : Pairs ℕ) → Held s n L → Pinned s d n → i < n → Readable (heap s d) (v - settledFrom)
   pub absent : v ≡ 0 → (n : ℕ) (P₀ L : Pairs ℕ) → Solved s n P₀ L → Pinned s d n → i < n → Finite (frozen s) n L → Without s d n P₀ i id

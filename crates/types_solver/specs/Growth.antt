@@ -9,6 +9,7 @@ use Rattle.types_rules.specs.Follows.{unk}
 use Rattle.types_rules.specs.Formed.{partCountType}
 use Rattle.types_rules.specs.Instance.{instance, instances}
 use Rattle.types_rules.specs.Types.{Ty, Tys, Terms, cons, nil, size, sizes, under, unders, unknown}
+use Rattle.types_cells.specs.Layout.{maxCells, maxPending, frozenSize}
 use Rattle.types_cells.specs.Store.{frozen, load, run, view, Solved}
 use Rattle.types_cells.specs.Calls.{Above, Making, Made}
 use Rattle.types_cells.specs.Parts.{Rest}
@@ -62,7 +63,7 @@ pub record Forming (s : List ℕ) (n top t v m : ℕ) : Type 0 where
   pub making : Making s n t (argOf t v (top + m)) top m
   pub above : Above (frozen s) n top
   pub word : v < 2 ^ 32
-  pub room : top + m + m ≤ 6144
+  pub room : top + m + m ≤ frozenSize
 
 pub record Formed (s s′ : List ℕ) (n top t v m cell n′ top′ : ℕ) : Type 0 where
   pub made : Made s s′ n t (argOf t v (top + m)) top m
@@ -79,7 +80,7 @@ pub record Putting (s : List ℕ) (n top m j c : ℕ) : Type 0 where
   pub above : Above (frozen s) n top
   pub made : c < n
   pub within : j < m
-  pub room : top + m + m ≤ 6144
+  pub room : top + m + m ≤ frozenSize
 
 pub record PutPart (s s′ d : List ℕ) (n top m j w at c : ℕ) : Type 0 where
   pub builds : Builds s s′ d n n
@@ -97,9 +98,9 @@ pub record Room (s d : List ℕ) (n top x row k : ℕ) : Type 0 where
   pub above : Above (frozen s) n top
   pub few : length d < 2 ^ 31
   pub row-made : row + k ≤ n
-  pub cells : n + x ≤ 1024
-  pub words : top + 2 * x ≤ 6144
-  pub fit : load (frozen s) n + 2 * x ≤ 2048
+  pub cells : n + x ≤ maxCells
+  pub words : top + 2 * x ≤ frozenSize
+  pub fit : load (frozen s) n + 2 * x ≤ maxPending
 
 -- The type at p may enter.
 pub record Instancing (s d : List ℕ) (n top p row k : ℕ) : Type 0 where
@@ -129,7 +130,7 @@ pub record InstancingParts (s d : List ℕ) (n top at w m j row k : ℕ) : Type 
   pub rest : Rest (heap s d) w at l gs e
   pub count : partCountType gs + j ≡ m
   pub room : Room s d n top (sizes gs) row k
-  pub ahead : top + 2 * sizes gs + 2 * j ≤ 6144
+  pub ahead : top + 2 * sizes gs + 2 * j ≤ frozenSize
 
 -- Their cells stand at top′ + j, and their identifiers at top′ + m + j.
 pub record Instances (s s′ : List ℕ) (n top w m j row k n′ top′ : ℕ) (l : List ℕ) (gs : Tys) : Type 0 where

@@ -11,6 +11,7 @@ use Rattle.types_rules.specs.Finite.{bounded, fromList, typeOf}
 use Rattle.types_rules.specs.Follows.{shape}
 use Rattle.types_rules.specs.Former.{Former, int}
 use Rattle.types_rules.specs.Types.{Ty, node, size, tnil}
+use Rattle.types_cells.specs.Layout.{maxCells, marksAt, settledFrom}
 use Rattle.types_cells.specs.Store.{frozen, linkAt, tagAt, countAt, partsAt, view, free, Held, Solved}
 use Rattle.types_cells.specs.Settled.{lower, heap, wordAt, Reads, Pinned, Obeys, Fits}
 
@@ -24,7 +25,7 @@ pub record TypeSize (s d : List ℕ) (p v : ℕ) : Type 0 where
   pub few : v ≤ 33
 
 unfoldable pub markAt : List ℕ → ℕ → ℕ
-markAt s i = getD s (40960 + i) 0
+markAt s i = getD s (marksAt + i) 0
 
 -- The cells with no mark.
 unfoldable pub bare : List ℕ → ℕ → ℕ
@@ -56,9 +57,9 @@ pub record Marks (s : List ℕ) (n : ℕ) (L : Pairs ℕ) : Type 0 where
 pub record Same (s s′ : List ℕ) : Type 0 where
   pub size : length s′ ≡ length s
   pub still : frozen s′ ≡ frozen s
-  pub links : (i : ℕ) → i < 1024 → linkAt s′ i ≡ linkAt s i
+  pub links : (i : ℕ) → i < maxCells → linkAt s′ i ≡ linkAt s i
   pub low : lower s′ ≡ lower s
-  pub refs : (i : ℕ) → i < 1024 → wordAt s′ i ≡ wordAt s i
+  pub refs : (i : ℕ) → i < maxCells → wordAt s′ i ≡ wordAt s i
 
 pub record Read (s : List ℕ) (n : ℕ) : Type 0 where
   pub L : Pairs ℕ
@@ -72,7 +73,7 @@ pub record Falls (w : List ℕ) (n : ℕ) (L : Pairs ℕ) (m : ℕ → ℕ) : Ty
 -- From s to s′ cells were marked, and the visits that began since have ended.
 pub record Onward (s s′ : List ℕ) : Type 0 where
   pub same : Same s s′
-  pub fewer : bare s′ 1024 ≤ bare s 1024
+  pub fewer : bare s′ maxCells ≤ bare s maxCells
   pub kept : (i : ℕ) → (markAt s i ≡ 0 → ⊥) → markAt s′ i ≡ markAt s i
   pub ended : (i : ℕ) → markAt s′ i ≡ 34 → markAt s i ≡ 34
 
@@ -133,12 +134,12 @@ pub record Model (s d : List ℕ) (n : ℕ) (L : Pairs ℕ) (σ : ℕ → Ty) : 
 
 -- σ gives types of size 1 to the cells that are left open.
 abbrev pub Least : List ℕ → ℕ → (ℕ → Ty) → Type 0
-Least s n σ = (i : ℕ) → i < n → tagAt (frozen s) i ≡ 0 → linkAt s i ≡ 0 → wordAt s i < 1025 → size (σ i) ≡ 1
+Least s n σ = (i : ℕ) → i < n → tagAt (frozen s) i ≡ 0 → linkAt s i ≡ 0 → wordAt s i < settledFrom → size (σ i) ≡ 1
 
 -- The size of the unknown r, which is no link.
 pub record UnknownSize (s d : List ℕ) (r v : ℕ) : Type 0 where
-  pub free : wordAt s r < 1025 → v ≡ 1
-  pub settled : 1025 ≤ wordAt s r → TypeSize s d (wordAt s r - 1025) v
+  pub free : wordAt s r < settledFrom → v ≡ 1
+  pub settled : settledFrom ≤ wordAt s r → TypeSize s d (wordAt s r - settledFrom) v
   pub few : v ≤ 33
 
 pub record Measuring (s d : List ℕ) (i : ℕ) : Type 0 where

@@ -11,6 +11,7 @@ use Rattle.types_rules.specs.Equations.{Pairs}
 use Rattle.types_rules.specs.Words.{second, words}
 use Rattle.types_rules.specs.Former.{tag, Former, binding, given, identifiers, int, parameter, power, product}
 use Rattle.types_rules.specs.Types.{Ty, Tys, node, tcons, tnil}
+use Rattle.types_cells.specs.Layout.{maxCells, settledFrom}
 use Rattle.types_cells.specs.Store.{frozen, tagAt, argAt, firstAt, countAt, Held}
 use Rattle.types_cells.specs.Settled.{heap, wordAt, Reads}
 use Rattle.types_solver.specs.Sizes.{markAt, Model}
@@ -51,7 +52,7 @@ pub record Copied (s d out out′ : List ℕ) (at p e : ℕ) : Type 0 where
 
 -- Every cell has a former or refers to a type.
 abbrev pub Resolved : List ℕ → ℕ → Pairs ℕ → Type 0
-Resolved s n L = (i : ℕ) → i < n → tagAt (frozen s) (rep eqb L i) ≡ 0 → 1025 ≤ wordAt s (rep eqb L i)
+Resolved s n L = (i : ℕ) → i < n → tagAt (frozen s) (rep eqb L i) ≡ 0 → settledFrom ≤ wordAt s (rep eqb L i)
 
 pub record Writing (s d : List ℕ) (at i : ℕ) : Type 0 where
   pub n : ℕ
@@ -69,7 +70,7 @@ abbrev pub Typed : List ℕ → List ℕ → List ℕ → List ℕ → ℕ → �
 Typed s d out out′ at i e = (n : ℕ) (L : Pairs ℕ) (σ : ℕ → Ty) → Model s d n L σ → Resolved s n L → i < n → Wrote out out′ at e (words (σ i))
 
 pub record Leading (s : List ℕ) (r at : ℕ) : Type 0 where
-  pub few : r < 1024
+  pub few : r < maxCells
   pub tags : tagAt (frozen s) r ≤ 6
   pub some : 0 < tagAt (frozen s) r
   pub room : at < 2 ^ 40

@@ -12,6 +12,7 @@ use words::store;
 use words::word;
 ghost use mathlib.Core.Path.{_≡_};
 ghost use Prim.Native.Nat.{_<_, _^_};
+ghost use Rattle.types_cells.specs.Layout.{maxCells};
 ghost use Rattle.types_cells.specs.Store.{frozen};
 ghost use Rattle.types_solver.specs.Sizes.{arityAt, Read, Visited, Visits, Cleared, Tested};
 ghost use Rattle.types_cells.specs.Calls.{Known};
@@ -21,7 +22,7 @@ const VISITING: usize = OVER + 1;
 
 // The number of parts of cell r: an unknown has none.
 fn arity(a: &[u32], r: usize) -> usize
-    requires { ⌜ r < 1024 ⌝ }
+    requires { ⌜ r < maxCells ⌝ }
     ensures { λ k. ⌜ (k ≡ arityAt (frozen (now (a .entry))) r) × (k < 2 ^ 32) ⌝ }
 {
     if field(a, r, TAG) == UNKNOWN {

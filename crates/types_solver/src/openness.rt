@@ -8,6 +8,7 @@ use types_cells::links::find;
 use words::word;
 ghost use mathlib.Core.Path.{_≡_};
 ghost use Prim.Native.Nat.{_<_};
+ghost use Rattle.types_cells.specs.Layout.{maxCells, settledFrom};
 ghost use Rattle.types_cells.specs.Store.{frozen, tagAt};
 ghost use Rattle.types_cells.specs.Settled.{wordAt};
 ghost use Rattle.types_solver.specs.Answers.{Left};
@@ -16,8 +17,8 @@ ghost use Rattle.types_cells.specs.Calls.{Tells};
 
 // Cell r is an unknown, and refers to no type.
 fn is_open(a: &[u32], r: usize) -> bool
-    requires { ⌜ r < 1024 ⌝ }
-    ensures { λ b. ⌜ Tells b ((tagAt (frozen (now (a .entry))) r ≡ 0) × (wordAt (now (a .entry)) r < 1025)) ⌝ }
+    requires { ⌜ r < maxCells ⌝ }
+    ensures { λ b. ⌜ Tells b ((tagAt (frozen (now (a .entry))) r ≡ 0) × (wordAt (now (a .entry)) r < settledFrom)) ⌝ }
 {
     if field(a, r, TAG) != UNKNOWN {
         return false;

@@ -15,6 +15,7 @@ use types_cells::type_words::type_word;
 use words::store;
 use words::word;
 ghost use Prim.Native.Nat.{_<_, _^_};
+ghost use Rattle.types_cells.specs.Layout.{maxCells};
 ghost use Rattle.types_cells.specs.Store.{frozen};
 ghost use Rattle.types_cells.specs.Settled.{Reading};
 ghost use Rattle.types_solver.specs.Written.{leadAt, nameAt, Copied, Wrote, Writing, Typed, Leading};
@@ -42,7 +43,7 @@ fn put_lead(a: &[u32], out: &mut [u32], at: usize, r: usize) -> usize
 
 // The identifier of part j of the former at r, if it has identifiers.
 fn put_name(a: &[u32], out: &mut [u32], at: usize, r: usize, j: usize) -> usize
-    requires { ⌜ (r < 1024) × (j < 2 ^ 32) × (at < 2 ^ 40) ⌝ }
+    requires { ⌜ (r < maxCells) × (j < 2 ^ 32) × (at < 2 ^ 40) ⌝ }
     ensures { λ e. ⌜ Wrote (now (out .entry)) (now (out .exit)) at e (nameAt (frozen (now (a .entry))) r j) ⌝ }
 {
     if field(a, r, TAG) == type_tags::BINDING {

@@ -18,6 +18,7 @@ use Rattle.types_rules.specs.Classes.{Closed, Wf, next, rep, zipN}
 use Rattle.types_rules.specs.Equations.{AllP, In, InP, Pairs, Solves, end, pair}
 use Rattle.types_rules.specs.Follows.{Clash, Follows, View, matching, parts, shape, symmetric, unk}
 use Rattle.types_rules.specs.Former.{Former}
+use Rattle.types_cells.specs.Layout.{maxCells, maxPending, linksAt, pairsAt, secondsAt, areaSize}
 use Rattle.types_cells.specs.Store.{frozen, linkAt, fieldAt, tagAt, countAt, partsAt, formerAt, view, Cell, load, free, weight, linkOf, Both, Held, pending, Busy}
 use Rattle.types_cells.proofs.LinkLaws.{rep-below, held-same}
 use Rattle.types_cells.proofs.Words.{frozen-set, link-new, link-same}
@@ -50,18 +51,18 @@ weight-load s zero = omega arith
 weight-load s (suc m) = omega (arith, weight-load s m, free-le (linkAt s m) (1 + countAt (frozen s) m))
 
 -- The link of x to y.
-module _ (s : List ℕ) (x y : ℕ) (size : length s ≡ 52224) (few : x < 1024) (few-y : y < 1024) where
+module _ (s : List ℕ) (x y : ℕ) (size : length s ≡ areaSize) (few : x < maxCells) (few-y : y < maxCells) where
   abbrev pub s₁ : List ℕ
-  s₁ = set s (39936 + x) (suc y)
+  s₁ = set s (linksAt + x) (suc y)
 
   pub still₁ : frozen s₁ ≡ frozen s
-  still₁ = frozen-set s (39936 + x) (suc y) (omega arith)
+  still₁ = frozen-set s (linksAt + x) (suc y) (omega arith)
 
   hit : linkAt s₁ x ≡ suc y
-  hit = link-new s₁ x (suc y) (omega arith) (getD-set-same s (39936 + x) (suc y) 0 (omega arith))
+  hit = link-new s₁ x (suc y) (omega arith) (getD-set-same s (linksAt + x) (suc y) 0 (omega arith))
 
   miss : (i : ℕ) → (i ≡ x → ⊥) → linkAt s₁ i ≡ linkAt s i
-  miss i ne = link-same s s₁ i i (getD-set-other s (39936 + x) (39936 + i) (suc y) 0 (λ e. ne (omega arith)))
+  miss i ne = link-same s s₁ i i (getD-set-other s (linksAt + x) (linksAt + i) (suc y) 0 (λ e. ne (omega arith)))
 
   weight-low : (m : ℕ) → m ≤ x → weight s₁ m ≡ weight s m
   weight-low m l = weight-same s s₁ still₁ m (λ i q. miss i (λ z. omega arith))
@@ -96,9 +97,9 @@ module _ (s : List ℕ) (x y : ℕ) (size : length s ≡ 52224) (few : x < 1024)
   pub held-link : (n : ℕ) (L : Pairs ℕ) → x < n → y < n → rep eqb L x ≡ x → rep eqb L y ≡ y → (y ≡ x → ⊥) → Held s n L → Held s₁ n (pair x y L)
   unfolding next
   held-link n L lx ly rx ry ne H = record {
-    size = length-set s (39936 + x) (suc y) ∙ size;
+    size = length-set s (linksAt + x) (suc y) ∙ size;
     few = H .few;
-    room = subst (λ w. load w n < 2048) (sym still₁) (H .room);
+    room = subst (λ w. load w n < maxPending) (sym still₁) (H .room);
     cells = λ i m. subst (λ w. Cell w i) (sym still₁) (H .cells i m);
     links = λ i m. link-c n L i (H .links i m) (eqb i x) refl;
     wf = (rx, ry, ne, H .wf);
@@ -108,7 +109,7 @@ module _ (s : List ℕ) (x y : ℕ) (size : length s ≡ 52224) (few : x < 1024)
 -- The invariant, from its parts over w and P.
 pub busy : (s : List ℕ) (n : ℕ) (P₀ L : Pairs ℕ) (k : ℕ) (w : List ℕ) (P : Pairs ℕ) → frozen s ≡ w → pending s k ≡ P → Held s n L →
     Closed eqb (view w n) P₀ L P → AllP (Follows (view w n) P₀) L → AllP (Follows (view w n) P₀) P → AllP (Both n) P → AllP (Both n) P₀ →
-    weight s n + k ≤ 2048 → Busy s n P₀ L k
+    weight s n + k ≤ maxPending → Busy s n P₀ L k
 busy s n P₀ L k w P ew eP H C fl fp b a q = record {
   held = H;
   closed = subst (λ z. Closed eqb (view z n) P₀ L (pending s k)) (sym ew)
@@ -131,10 +132,10 @@ module _ (s : List ℕ) (n : ℕ) (P₀ L : Pairs ℕ) (k : ℕ) (B : Busy s n P
   Vw = view (frozen s) n
 
   abbrev pub a : ℕ
-  a = getD s (41984 + 2 * k) 0
+  a = getD s (pairsAt + 2 * k) 0
 
   abbrev pub b : ℕ
-  b = getD s (41985 + 2 * k) 0
+  b = getD s (secondsAt + 2 * k) 0
 
   C : Closed eqb Vw P₀ L (pair a b (pending s k))
   unfolding pending
@@ -180,28 +181,28 @@ module _ (s : List ℕ) (n : ℕ) (P₀ L : Pairs ℕ) (k : ℕ) (B : Busy s n P
     pub meets : Follows Vw P₀ x y
     meets = subst (λ z. Follows Vw P₀ z y) ra (subst (λ z. Follows Vw P₀ (rep eqb L a) z) rb (reps ℕ eqb eqb-true eqb-false Vw P₀ L (pending s k) a b (B .follows, (D .0, D .1))))
 
-    few-x : x < 1024
+    few-x : x < maxCells
     few-x = let f = B .held .few in let l = lx in omega arith
 
-    few-y : y < 1024
+    few-y : y < maxCells
     few-y = let f = B .held .few in let l = ly in omega arith
 
-    pub left-unk : tagAt (frozen s) x ≡ 0 → Next (set s (39936 + x) (suc y)) n P₀ k
+    pub left-unk : tagAt (frozen s) x ≡ 0 → Next (set s (linksAt + x) (suc y)) n P₀ k
     left-unk t = record {
       L = pair x y L;
       busy = busy _ n P₀ (pair x y L) k (frozen s) (pending s k)
-          (still₁ s x y (B .held .size) few-x few-y) (pending-low s k (39936 + x) (suc y) (let l = few-x in omega arith))
+          (still₁ s x y (B .held .size) few-x few-y) (pending-low s k (linksAt + x) (suc y) (let l = few-x in omega arith))
           (held-link s x y (B .held .size) few-x few-y n L lx ly rx ry (λ q. ne (sym q)) (B .held))
           (closed-unk ℕ eqb eqb-true eqb-false Vw P₀ L (pending s k) a b C x y rx ry (λ q. ne (sym q)) (view-unk (frozen s) n x lx t) same-f)
           (meets, B .follows) (D .1) (E .1) (B .asked)
           (let f = B .fit in omega (arith, weight-link s x y (B .held .size) few-x few-y fx n lx));
     }
 
-    pub right-unk : tagAt (frozen s) y ≡ 0 → Next (set s (39936 + y) (suc x)) n P₀ k
+    pub right-unk : tagAt (frozen s) y ≡ 0 → Next (set s (linksAt + y) (suc x)) n P₀ k
     right-unk t = record {
       L = pair y x L;
       busy = busy _ n P₀ (pair y x L) k (frozen s) (pending s k)
-          (still₁ s y x (B .held .size) few-y few-x) (pending-low s k (39936 + y) (suc x) (let l = few-y in omega arith))
+          (still₁ s y x (B .held .size) few-y few-x) (pending-low s k (linksAt + y) (suc x) (let l = few-y in omega arith))
           (held-link s y x (B .held .size) few-y few-x n L ly lx ry rx ne (B .held))
           (closed-unk ℕ eqb eqb-true eqb-false Vw P₀ L (pending s k) a b C y x ry rx ne (view-unk (frozen s) n y ly t) (λ f fl q. same-f f fl (sym q)))
           (symmetric meets, B .follows) (D .1) (E .1) (B .asked)
@@ -229,31 +230,31 @@ module _ (s : List ℕ) (n : ℕ) (P₀ L : Pairs ℕ) (k : ℕ) (B : Busy s n P
         differ = λ q l. no′ (q, sym (parts-length (frozen s) x (B .held .cells x lx)) ∙ l ∙ parts-length (frozen s) y (B .held .cells y ly));
       }
 
-      module _ (al : Alike (frozen s) x y) (s₂ : List ℕ) (r : ℕ) (len : length s₂ ≡ length (set s (39936 + x) (suc y))) (count : r ≡ k + countAt (frozen (set s (39936 + x) (suc y))) x)
-          (still : frozen s₂ ≡ frozen (set s (39936 + x) (suc y))) (front : (i : ℕ) → i < 41984 → getD s₂ i 0 ≡ getD (set s (39936 + x) (suc y)) i 0)
-          (pairs : zipN (partsAt (frozen (set s (39936 + x) (suc y))) x) (partsAt (frozen (set s (39936 + x) (suc y))) y) (pending (set s (39936 + x) (suc y)) k) ≡ some (pending s₂ r)) where
+      module _ (al : Alike (frozen s) x y) (s₂ : List ℕ) (r : ℕ) (len : length s₂ ≡ length (set s (linksAt + x) (suc y))) (count : r ≡ k + countAt (frozen (set s (linksAt + x) (suc y))) x)
+          (still : frozen s₂ ≡ frozen (set s (linksAt + x) (suc y))) (front : (i : ℕ) → i < pairsAt → getD s₂ i 0 ≡ getD (set s (linksAt + x) (suc y)) i 0)
+          (pairs : zipN (partsAt (frozen (set s (linksAt + x) (suc y))) x) (partsAt (frozen (set s (linksAt + x) (suc y))) y) (pending (set s (linksAt + x) (suc y)) k) ≡ some (pending s₂ r)) where
         zipped : zipN (partsAt (frozen s) x) (partsAt (frozen s) y) (pending s k) ≡ some (pending s₂ r)
-        zipped = ap₂ (λ w P. zipN (partsAt w x) (partsAt w y) P) (sym (still₁ s x y (B .held .size) few-x few-y)) (sym (pending-low s k (39936 + x) (suc y) (let l = few-x in omega arith))) ∙ pairs
+        zipped = ap₂ (λ w P. zipN (partsAt w x) (partsAt w y) P) (sym (still₁ s x y (B .held .size) few-x few-y)) (sym (pending-low s k (linksAt + x) (suc y) (let l = few-x in omega arith))) ∙ pairs
 
         spec : (f : ℕ → ℕ) → ZipSpec f (partsAt (frozen s) x) (partsAt (frozen s) y) (pending s k) (some (pending s₂ r))
         spec f = subst (ZipSpec f (partsAt (frozen s) x) (partsAt (frozen s) y) (pending s k)) zipped (zip-spec f _ _ _)
 
-        links₂ : (i : ℕ) → i < 1024 → linkAt s₂ i ≡ linkAt (set s (39936 + x) (suc y)) i
-        links₂ i l = link-same _ s₂ i i (front (39936 + i) (omega arith))
+        links₂ : (i : ℕ) → i < maxCells → linkAt s₂ i ≡ linkAt (set s (linksAt + x) (suc y)) i
+        links₂ i l = link-same _ s₂ i i (front (linksAt + i) (omega arith))
 
         vx′ : Vw x ≡ shape (formerAt (frozen s) y) (partsAt (frozen s) x)
         vx′ = vx ∙ ap (λ h. shape h (partsAt (frozen s) x)) (al .0)
 
-        pub weight₂ : (m : ℕ) → m ≤ 1024 → x < m → weight s₂ m + r + 1 ≡ weight s m + k
+        pub weight₂ : (m : ℕ) → m ≤ maxCells → x < m → weight s₂ m + r + 1 ≡ weight s m + k
         weight₂ m l xm =
             let c = ap (λ w. countAt w x) (still₁ s x y (B .held .size) few-x few-y) in
-            omega (arith, weight-same (set s (39936 + x) (suc y)) s₂ still m (λ i q. links₂ i (omega arith)), weight-link s x y (B .held .size) few-x few-y fx m xm)
+            omega (arith, weight-same (set s (linksAt + x) (suc y)) s₂ still m (λ i q. links₂ i (omega arith)), weight-link s x y (B .held .size) few-x few-y fx m xm)
 
         pub both-shape : Next s₂ n P₀ r
         both-shape = record {
           L = pair x y L;
           busy = busy s₂ n P₀ (pair x y L) r (frozen s) (pending s₂ r) (still ∙ still₁ s x y (B .held .size) few-x few-y) refl
-              (held-same (set s (39936 + x) (suc y)) s₂ still n (pair x y L) len links₂ (held-link s x y (B .held .size) few-x few-y n L lx ly rx ry (λ q. ne (sym q)) (B .held)))
+              (held-same (set s (linksAt + x) (suc y)) s₂ still n (pair x y L) len links₂ (held-link s x y (B .held .size) few-x few-y n L lx ly rx ry (λ q. ne (sym q)) (B .held)))
               (closed-shape ℕ eqb eqb-true eqb-false Vw P₀ L (pending s k) a b C x y rx ry (λ q. ne (sym q)) (formerAt (frozen s) x) (formerAt (frozen s) y)
               (partsAt (frozen s) x) (partsAt (frozen s) y) vx vy (al .0) same-f (pending s₂ r) (λ f q. spec f .0 q))
               (meets, B .follows)

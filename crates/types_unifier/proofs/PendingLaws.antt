@@ -8,49 +8,50 @@ use lib.ListN.{length, getD, set, length-set}
 use lib.Seq.{getD-set-same, getD-set-other}
 use Rattle.types_rules.specs.Classes.{zipN}
 use Rattle.types_rules.specs.Equations.{Pairs, pair}
+use Rattle.types_cells.specs.Layout.{maxPending, pairsAt, secondsAt, areaSize}
 use Rattle.types_cells.specs.Store.{frozen, run, pending}
 use Rattle.types_cells.proofs.Words.{frozen-set, run-cons}
 
-pub pending-set : (s : List ℕ) (k i v : ℕ) → 41984 + 2 * k ≤ i → pending (set s i v) k ≡ pending s k
+pub pending-set : (s : List ℕ) (k i v : ℕ) → pairsAt + 2 * k ≤ i → pending (set s i v) k ≡ pending s k
 unfolding pending
 pending-set s zero i v l = refl
 pending-set s (suc k) i v l =
-    let a = getD-set-other s i (41984 + 2 * k) v 0 (λ e. omega arith) in
-    let b = getD-set-other s i (41985 + 2 * k) v 0 (λ e. omega arith) in
+    let a = getD-set-other s i (pairsAt + 2 * k) v 0 (λ e. omega arith) in
+    let b = getD-set-other s i (secondsAt + 2 * k) v 0 (λ e. omega arith) in
     let r = pending-set s k i v (omega arith) in
     cc
 
-pub pending-low : (s : List ℕ) (k i v : ℕ) → i < 41984 → pending (set s i v) k ≡ pending s k
+pub pending-low : (s : List ℕ) (k i v : ℕ) → i < pairsAt → pending (set s i v) k ≡ pending s k
 unfolding pending
 pending-low s zero i v l = refl
 pending-low s (suc k) i v l =
-    let a = getD-set-other s i (41984 + 2 * k) v 0 (λ e. omega arith) in
-    let b = getD-set-other s i (41985 + 2 * k) v 0 (λ e. omega arith) in
+    let a = getD-set-other s i (pairsAt + 2 * k) v 0 (λ e. omega arith) in
+    let b = getD-set-other s i (secondsAt + 2 * k) v 0 (λ e. omega arith) in
     let r = pending-low s k i v l in
     cc
 
 -- One more pair.
 abbrev pub pushed : List ℕ → ℕ → ℕ → ℕ → List ℕ
-pushed s k p q = set (set s (41984 + 2 * k) p) (41985 + 2 * k) q
+pushed s k p q = set (set s (pairsAt + 2 * k) p) (secondsAt + 2 * k) q
 
-module _ (s : List ℕ) (k p q : ℕ) (size : length s ≡ 52224) (l : k < 2048) where
+module _ (s : List ℕ) (k p q : ℕ) (size : length s ≡ areaSize) (l : k < maxPending) where
   pub push-pending : pending (pushed s k p q) (suc k) ≡ pair p q (pending s k)
   unfolding pending
   push-pending =
-      let e = length-set s (41984 + 2 * k) p in
-      let a = getD-set-other (set s (41984 + 2 * k) p) (41985 + 2 * k) (41984 + 2 * k) q 0 (λ z. omega arith) in
-      let a′ = getD-set-same s (41984 + 2 * k) p 0 (omega arith) in
-      let b = getD-set-same (set s (41984 + 2 * k) p) (41985 + 2 * k) q 0 (omega arith) in
-      let r = pending-set (set s (41984 + 2 * k) p) k (41985 + 2 * k) q (omega arith) in
-      let r′ = pending-set s k (41984 + 2 * k) p (omega arith) in
+      let e = length-set s (pairsAt + 2 * k) p in
+      let a = getD-set-other (set s (pairsAt + 2 * k) p) (secondsAt + 2 * k) (pairsAt + 2 * k) q 0 (λ z. omega arith) in
+      let a′ = getD-set-same s (pairsAt + 2 * k) p 0 (omega arith) in
+      let b = getD-set-same (set s (pairsAt + 2 * k) p) (secondsAt + 2 * k) q 0 (omega arith) in
+      let r = pending-set (set s (pairsAt + 2 * k) p) k (secondsAt + 2 * k) q (omega arith) in
+      let r′ = pending-set s k (pairsAt + 2 * k) p (omega arith) in
       cc
 
   pub push-frozen : frozen (pushed s k p q) ≡ frozen s
   push-frozen = frozen-set _ _ _ (omega arith) ∙ frozen-set _ _ _ (omega arith)
 
-  pub push-front : (i : ℕ) → i < 41984 → getD (pushed s k p q) i 0 ≡ getD s i 0
+  pub push-front : (i : ℕ) → i < pairsAt → getD (pushed s k p q) i 0 ≡ getD s i 0
   push-front i m =
-      getD-set-other (set s (41984 + 2 * k) p) (41985 + 2 * k) i q 0 (λ z. omega arith) ∙ getD-set-other s (41984 + 2 * k) i p 0 (λ z. omega arith)
+      getD-set-other (set s (pairsAt + 2 * k) p) (secondsAt + 2 * k) i q 0 (λ z. omega arith) ∙ getD-set-other s (pairsAt + 2 * k) i p 0 (λ z. omega arith)
 
 -- What is left to push after j of m pairs.
 unfoldable pub left : List ℕ → ℕ → ℕ → ℕ → List ℕ → ℕ → ℕ → Option (Pairs ℕ)
@@ -66,7 +67,7 @@ pub left-end : (w : List ℕ) (f g m : ℕ) (s : List ℕ) (k j : ℕ) → m ≤
 unfolding left run zipN
 left-end w f g m s k j l = let e : m - j ≡ 0 = omega arith in rw e
 
-pub left-step : (w : List ℕ) (f g m : ℕ) (s : List ℕ) (k j : ℕ) → length s ≡ 52224 → k + j < 2048 → j < m → f + m ≤ length w → g + m ≤ length w →
+pub left-step : (w : List ℕ) (f g m : ℕ) (s : List ℕ) (k j : ℕ) → length s ≡ areaSize → k + j < maxPending → j < m → f + m ≤ length w → g + m ≤ length w →
     left w f g m (pushed s (k + j) (getD w (f + j) 0) (getD w (g + j) 0)) k (j + 1) ≡ left w f g m s k j
 unfolding left zipN
 left-step w f g m s k j size l jm lf lg =

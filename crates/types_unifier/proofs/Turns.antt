@@ -12,6 +12,7 @@ use Rattle.types_rules.proofs.Terms.{bool-no}
 use Rattle.types_rules.specs.Classes.{Closed, rep}
 use Rattle.types_rules.specs.Equations.{AllP, InP, Pairs, end, pair}
 use Rattle.types_rules.specs.Follows.{Clash, Follows, View, matching, reflexive, stated, symmetric, transitive}
+use Rattle.types_cells.specs.Layout.{maxCells, maxPending, linksAt, pairsAt, secondsAt, settledFrom, areaSize}
 use Rattle.types_cells.specs.Store.{frozen, linkAt, tagAt, countAt, view, Cell, load, weight, Both, Held, Solved, pending, Busy}
 use Rattle.types_rules.specs.Equations.{Solves}
 use Rattle.types_rules.specs.Types.{Ty}
@@ -52,16 +53,16 @@ pos e ne = omega arith
 
 -- The two ends of the newest pair are cells.
 module _ (s d : List ℕ) (k : ℕ) (o : Open s d (suc k)) where
-  pub few : k < 2048
+  pub few : k < maxPending
   few = let f = o .busy .fit in omega arith
 
-  pub known-a : Known s (getD s (41984 + 2 * k) 0)
+  pub known-a : Known s (getD s (pairsAt + 2 * k) 0)
   known-a = record { n = o .n; L = o .L; held = o .busy .held; made = below-a s (o .n) (o .P₀) (o .L) k (o .busy) }
 
-  pub known-b : Known s (getD s (41985 + 2 * k) 0)
+  pub known-b : Known s (getD s (secondsAt + 2 * k) 0)
   known-b = record { n = o .n; L = o .L; held = o .busy .held; made = below-b s (o .n) (o .P₀) (o .L) k (o .busy) }
 
-  pub skip-turned : (x y : ℕ) → Root s (getD s (41984 + 2 * k) 0) x → Root s (getD s (41985 + 2 * k) 0) y → x ≡ y → Turned s s d (suc k) true k
+  pub skip-turned : (x y : ℕ) → Root s (getD s (pairsAt + 2 * k) 0) x → Root s (getD s (secondsAt + 2 * k) 0) y → x ≡ y → Turned s s d (suc k) true k
   skip-turned x y rx ry e = record {
     still = refl;
     low = refl;
@@ -74,10 +75,10 @@ module _ (s d : List ℕ) (k : ℕ) (o : Open s d (suc k)) where
 
 module _ (s d : List ℕ) (k x y : ℕ) (p : Popped s d k x y) where
   module _ (n : ℕ) (P₀ L : Pairs ℕ) (B : Busy s n P₀ L (suc k)) where
-    ra : rep eqb L (getD s (41984 + 2 * k) 0) ≡ x
+    ra : rep eqb L (getD s (pairsAt + 2 * k) 0) ≡ x
     ra = p .left .is n L (B .held) (below-a s n P₀ L k B)
 
-    rb : rep eqb L (getD s (41985 + 2 * k) 0) ≡ y
+    rb : rep eqb L (getD s (secondsAt + 2 * k) 0) ≡ y
     rb = p .right .is n L (B .held) (below-b s n P₀ L k B)
 
     x-below : x < n
@@ -86,16 +87,16 @@ module _ (s d : List ℕ) (k x y : ℕ) (p : Popped s d k x y) where
     y-below : y < n
     y-below = ly s n P₀ L k B x y ra rb (p .apart) (p .left .free) (p .right .free)
 
-  size : length s ≡ 52224
+  size : length s ≡ areaSize
   size = p .reading .busy .held .size
 
   abbrev o : Open s d (suc k)
   o = p .reading
 
-  pub few-x : x < 1024
+  pub few-x : x < maxCells
   few-x = let l = x-below (o .n) (o .P₀) (o .L) (o .busy) in let f = o .busy .held .few in omega arith
 
-  pub few-y : y < 1024
+  pub few-y : y < maxCells
   few-y = let l = y-below (o .n) (o .P₀) (o .L) (o .busy) in let f = o .busy .held .few in omega arith
 
   -- Solutions make the two representatives equal.
@@ -105,12 +106,12 @@ module _ (s d : List ℕ) (k x y : ℕ) (p : Popped s d k x y) where
       (meets s n P₀ L k B x y (ra n P₀ L B) (rb n P₀ L B) (p .apart) (p .left .free) (p .right .free))
 
   -- The unknown u, one of the two, is linked to v, the other.
-  module _ (u v : ℕ) (fu : u < 1024) (fv : v < 1024) (free : linkAt s u ≡ 0)
+  module _ (u v : ℕ) (fu : u < maxCells) (fv : v < maxCells) (free : linkAt s u ≡ 0)
       (below : (n : ℕ) (P₀ L : Pairs ℕ) → Busy s n P₀ L (suc k) → (u < n) × (v < n))
       (one : (n : ℕ) (P₀ L : Pairs ℕ) → Busy s n P₀ L (suc k) → (σ : ℕ → Ty) → Fits (frozen s) n σ → Solves σ P₀ → σ u ≡ σ v)
-      (next : (n : ℕ) (P₀ L : Pairs ℕ) → Busy s n P₀ L (suc k) → Next (set s (39936 + u) (suc v)) n P₀ k) where
+      (next : (n : ℕ) (P₀ L : Pairs ℕ) → Busy s n P₀ L (suc k) → Next (set s (linksAt + u) (suc v)) n P₀ k) where
     abbrev t : List ℕ
-    t = set s (39936 + u) (suc v)
+    t = set s (linksAt + u) (suc v)
 
     tied-tying : Tying s d u v
     tied-tying =
@@ -126,7 +127,7 @@ module _ (s d : List ℕ) (k x y : ℕ) (p : Popped s d k x y) where
     tied-turned s′ b T = record {
       still = T .kept .still ∙ still₁ s u v size fu fv;
       low = T .kept .low ∙ low₁ s d u v size fu fv;
-      falls = λ e. omega (arith, weight-same t s′ (T .kept .still) 1024 (λ i l. T .kept .links i), weight-link s u v size fu fv free 1024 fu);
+      falls = λ e. omega (arith, weight-same t s′ (T .kept .still) maxCells (λ i l. T .kept .links i), weight-link s u v size fu fv free maxCells fu);
       goes = λ e n P₀ L B P. let N = next n P₀ L B in record { L = N .L; busy = busy-kept t s′ (T .kept) n P₀ (N .L) k (N .busy) };
       same = λ e n P₀ L B P. let N = next n P₀ L B in let q = below n P₀ L B in T .same e n (N .L) (N .busy .held) P (q .0) (q .1) P₀ (solves n P₀ L B);
       stops = λ e n P₀ L B P. let N = next n P₀ L B in let q = below n P₀ L B in T .stops e n (N .L) (N .busy .held) P (q .0) (q .1) P₀ (solves n P₀ L B);
@@ -172,41 +173,41 @@ module _ (s d : List ℕ) (k x y : ℕ) (p : Popped s d k x y) where
     }
 
     module _ (al : Alike (frozen s) x y) where
-      pub pushing : Pushing (set s (39936 + x) (suc y)) k x y
+      pub pushing : Pushing (set s (linksAt + x) (suc y)) k x y
       pushing =
           let e = still₁ s x y size few-x few-y in
           let c = ap (λ w. countAt w x) e in
           let f = o .busy .fit in
           let l = x-below (o .n) (o .P₀) (o .L) (o .busy) in
           record {
-            size = length-set s (39936 + x) (suc y) ∙ size;
+            size = length-set s (linksAt + x) (suc y) ∙ size;
             two = subst (λ w. Two w x y) (sym e) two;
             same = subst (λ w. countAt w x ≡ countAt w y) (sym e) (al .1);
             fit = omega (arith, weight-link s x y size few-x few-y (p .left .free) (o .n) l);
           }
 
-      module _ (s₂ : List ℕ) (r : ℕ) (len : length s₂ ≡ length (set s (39936 + x) (suc y))) (q : Pushed (set s (39936 + x) (suc y)) s₂ k x y r) where
+      module _ (s₂ : List ℕ) (r : ℕ) (len : length s₂ ≡ length (set s (linksAt + x) (suc y))) (q : Pushed (set s (linksAt + x) (suc y)) s₂ k x y r) where
         low₂ : lower s₂ ≡ lower s
-        low₂ = lower-front (set s (39936 + x) (suc y)) s₂ len (q .front) ∙ low₁ s d x y size few-x few-y
+        low₂ = lower-front (set s (linksAt + x) (suc y)) s₂ len (q .front) ∙ low₁ s d x y size few-x few-y
 
         still₂ : frozen s₂ ≡ frozen s
         still₂ = q .still ∙ still₁ s x y size few-x few-y
 
-        word₂ : (i : ℕ) → i < 1024 → wordAt s₂ i ≡ wordAt (set s (39936 + x) (suc y)) i
+        word₂ : (i : ℕ) → i < maxCells → wordAt s₂ i ≡ wordAt (set s (linksAt + x) (suc y)) i
         unfolding wordAt
-        word₂ i l = q .front (39936 + i) (omega arith)
+        word₂ i l = q .front (linksAt + i) (omega arith)
 
         -- Link words past the last cell are never asked.
-        words₂ : (i : ℕ) → i < 1024 → (i ≡ x → ⊥) → wordAt s₂ i ≡ wordAt s i
+        words₂ : (i : ℕ) → i < maxCells → (i ≡ x → ⊥) → wordAt s₂ i ≡ wordAt s i
         words₂ i l ne = word₂ i l ∙ other₁ s d x y size few-x few-y i ne
 
-        hit₂ : wordAt s₂ x < 1025
+        hit₂ : wordAt s₂ x < settledFrom
         hit₂ = let a = word₂ x few-x in let b = hit₁ s d x y size few-x few-y in let l = few-y in omega arith
 
-        not-settled : (n : ℕ) → Pinned s d n → x < n → wordAt s x < 1025
-        not-settled n P l = ⊎-elim (λ z. z) (λ z. absurd (let b = P .bare x l z in omega arith)) (lt-or-ge (wordAt s x) 1025)
+        not-settled : (n : ℕ) → Pinned s d n → x < n → wordAt s x < settledFrom
+        not-settled n P l = ⊎-elim (λ z. z) (λ z. absurd (let b = P .bare x l z in omega arith)) (lt-or-ge (wordAt s x) settledFrom)
 
-        small : (n : ℕ) → n ≤ 1024 → (i : ℕ) → i < n → i < 1024
+        small : (n : ℕ) → n ≤ maxCells → (i : ℕ) → i < n → i < maxCells
         small n f i l = omega arith
 
         pub both-turned : Turned s s₂ d (suc k) true r
@@ -216,7 +217,7 @@ module _ (s d : List ℕ) (k x y : ℕ) (p : Popped s d k x y) where
           falls = λ e. omega (
             arith,
             weight₂ s (o .n) (o .P₀) (o .L) k (o .busy) x y (ra (o .n) (o .P₀) (o .L) (o .busy)) (rb (o .n) (o .P₀) (o .L) (o .busy)) (p .apart) (p .left .free) (p .right .free)
-                tx ty al s₂ r len (q .count) (q .still) (q .front) (q .pairs) 1024 (omega arith) few-x,
+                tx ty al s₂ r len (q .count) (q .still) (q .front) (q .pairs) maxCells (omega arith) few-x,
           );
           goes = λ e n P₀ L B P. both-shape s n P₀ L k B x y (ra n P₀ L B) (rb n P₀ L B) (p .apart) (p .left .free) (p .right .free)
               tx ty al s₂ r len (q .count) (q .still) (q .front) (q .pairs);
@@ -250,7 +251,7 @@ module _ (s : List ℕ) (n : ℕ) (P₀ L : Pairs ℕ) (S : Solved s n P₀ L) (
   begin =
       let size = S .held .size in
       let ew = push-frozen s 0 x y size (omega arith) in
-      let el : ((i : ℕ) → i < 1024 → linkAt (pushed s 0 x y) i ≡ linkAt s i) = (λ i l. link-same s (pushed s 0 x y) i i (push-front s 0 x y size (omega arith) (39936 + i) (omega arith))) in
+      let el : ((i : ℕ) → i < maxCells → linkAt (pushed s 0 x y) i ≡ linkAt s i) = (λ i l. link-same s (pushed s 0 x y) i i (push-front s 0 x y size (omega arith) (linksAt + i) (omega arith))) in
       let f = S .held .few in
       record {
         L = L;
@@ -275,8 +276,8 @@ begin-same s d n P₀ L S Pn x y P =
       from = λ σ F S′ O. alike-from s (pushed s 0 x y) d n lo st (words size) σ O;
     }
   where
-    words : length s ≡ 52224 → (i : ℕ) → i < n → wordAt (pushed s 0 x y) i ≡ wordAt s i
-    words size i l = let f = S .held .few in unfold wordAt in (push-front s 0 x y size (omega arith) (39936 + i) (omega arith))
+    words : length s ≡ areaSize → (i : ℕ) → i < n → wordAt (pushed s 0 x y) i ≡ wordAt s i
+    words size i l = let f = S .held .few in unfold wordAt in (push-front s 0 x y size (omega arith) (linksAt + i) (omega arith))
 
 pub same-on : (s t u d : List ℕ) (n : ℕ) (P₀ : Pairs ℕ) → frozen t ≡ frozen s → Same s t d n P₀ → Same t u d n P₀ → Same s u d n P₀
 same-on s t u d n P₀ e A B = record {
@@ -352,7 +353,7 @@ draining-end s t d k l D = record {
 }
 
 -- The whole merge.
-module _ (s t u d : List ℕ) (x y : ℕ) (b : Bool) (e : t ≡ pushed s 0 x y) (D : Drained t u d 1 b) (size : length s ≡ 52224) where
+module _ (s t u d : List ℕ) (x y : ℕ) (b : Bool) (e : t ≡ pushed s 0 x y) (D : Drained t u d 1 b) (size : length s ≡ areaSize) where
   fz : frozen t ≡ frozen s
   fz = ap frozen e ∙ push-frozen s 0 x y size (omega arith)
 

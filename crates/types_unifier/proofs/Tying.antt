@@ -18,6 +18,7 @@ use Rattle.types_rules.specs.Finite.{fromList}
 use Rattle.types_rules.specs.Follows.{Clash, Follows}
 use Rattle.types_rules.specs.Former.{Former}
 use Rattle.types_rules.specs.Types.{Ty, Tys, node}
+use Rattle.types_cells.specs.Layout.{maxCells, poolSize, linksAt, pairsAt, secondsAt, settledFrom, areaSize}
 use Rattle.types_cells.specs.Store.{frozen, linkAt, tagAt, view, weight, Held, pending, Busy}
 use Rattle.types_cells.specs.Settled.{lower, heap, Reads, Readable, wordAt, Pinned, Obeys, Fits, Kept, Pinning, Pin}
 use Rattle.types_unifier.specs.Merging.{Same, NoSolution, Tying, Tied}
@@ -41,68 +42,68 @@ clash-none w n P₀ c σ F S =
     c .differ (node-0 _ _ _ _ q) (map-len σ (c .cs) (c .ds) (mk-c _ _ _ _ q))
 
 -- Two areas with the same link words of cells but x's, and the same heap.
-module _ (s t d : List ℕ) (n x : ℕ) (low : lower t ≡ lower s) (still : frozen t ≡ frozen s) (other : (i : ℕ) → (i ≡ x → ⊥) → wordAt t i ≡ wordAt s i) (free : wordAt t x < 1025) where
+module _ (s t d : List ℕ) (n x : ℕ) (low : lower t ≡ lower s) (still : frozen t ≡ frozen s) (other : (i : ℕ) → (i ≡ x → ⊥) → wordAt t i ≡ wordAt s i) (free : wordAt t x < settledFrom) where
   eh : heap t d ≡ heap s d
   eh = heap-kept s t d low
 
-  not-x : (i : ℕ) → 1025 ≤ wordAt t i → i ≡ x → ⊥
+  not-x : (i : ℕ) → settledFrom ≤ wordAt t i → i ≡ x → ⊥
   not-x i v e = let z = ap (wordAt t) e in omega arith
 
   pub unlinked-pinned : Pinned s d n → Pinned t d n
   unlinked-pinned P = record {
     reads = λ i l v. let m = other i (not-x i v) in
-        subst (λ z. Readable z (wordAt t i - 1025)) (sym eh) (subst (λ z. Readable (heap s d) (z - 1025)) (sym m) (P .reads i l (omega arith)));
+        subst (λ z. Readable z (wordAt t i - settledFrom)) (sym eh) (subst (λ z. Readable (heap s d) (z - settledFrom)) (sym m) (P .reads i l (omega arith)));
     bare = λ i l v. let m = other i (not-x i v) in ap (λ z. tagAt z i) still ∙ P .bare i l (omega arith);
   }
 
   pub unlinked-obeys : (σ : ℕ → Ty) → Obeys s d n σ → Obeys t d n σ
   unlinked-obeys σ O i l v g R =
       let m = other i (not-x i v) in
-      O i l (omega arith) g (subst (λ z. Reads (heap s d) (z - 1025) g) m (subst (λ z. Reads z (wordAt t i - 1025) g) eh R))
+      O i l (omega arith) g (subst (λ z. Reads (heap s d) (z - settledFrom) g) m (subst (λ z. Reads z (wordAt t i - settledFrom) g) eh R))
 
-  pub linked-obeys : (σ : ℕ → Ty) → Obeys t d n σ → (1025 ≤ wordAt s x → (g : Ty) → Reads (heap s d) (wordAt s x - 1025) g → σ x ≡ g) → Obeys s d n σ
+  pub linked-obeys : (σ : ℕ → Ty) → Obeys t d n σ → (settledFrom ≤ wordAt s x → (g : Ty) → Reads (heap s d) (wordAt s x - settledFrom) g → σ x ≡ g) → Obeys s d n σ
   linked-obeys σ O f i l v g R = go (eqb i x) refl
     where
       go : (b : Bool) → eqb i x ≡ b → σ i ≡ g
       go true e =
           let q = eqb-true i x e in
-          ap σ q ∙ f (subst (λ z. 1025 ≤ wordAt s z) q v) g (subst (λ z. Reads (heap s d) (wordAt s z - 1025) g) q R)
+          ap σ q ∙ f (subst (λ z. settledFrom ≤ wordAt s z) q v) g (subst (λ z. Reads (heap s d) (wordAt s z - settledFrom) g) q R)
       go false e =
           let m = other i (eqb-false i x e) in
-          O i l (omega arith) g (subst (λ z. Reads z (wordAt t i - 1025) g) (sym eh) (subst (λ z. Reads (heap s d) (z - 1025) g) (sym m) R))
+          O i l (omega arith) g (subst (λ z. Reads z (wordAt t i - settledFrom) g) (sym eh) (subst (λ z. Reads (heap s d) (z - settledFrom) g) (sym m) R))
 
 -- The link of x to y.
-module _ (s d : List ℕ) (x y : ℕ) (size : length s ≡ 52224) (few-x : x < 1024) (few-y : y < 1024) where
+module _ (s d : List ℕ) (x y : ℕ) (size : length s ≡ areaSize) (few-x : x < maxCells) (few-y : y < maxCells) where
   abbrev s₁ : List ℕ
-  s₁ = set s (39936 + x) (suc y)
+  s₁ = set s (linksAt + x) (suc y)
 
   pub low₁ : lower s₁ ≡ lower s
   unfolding lower
-  low₁ = take-set-le 39936 s (39936 + x) (suc y) (omega arith)
+  low₁ = take-set-le poolSize s (linksAt + x) (suc y) (omega arith)
 
   pub still₁ : frozen s₁ ≡ frozen s
-  still₁ = frozen-set s (39936 + x) (suc y) (omega arith)
+  still₁ = frozen-set s (linksAt + x) (suc y) (omega arith)
 
   pub hit₁ : wordAt s₁ x ≡ suc y
   unfolding wordAt
-  hit₁ = getD-set-same s (39936 + x) (suc y) 0 (omega arith)
+  hit₁ = getD-set-same s (linksAt + x) (suc y) 0 (omega arith)
 
   pub other₁ : (i : ℕ) → (i ≡ x → ⊥) → wordAt s₁ i ≡ wordAt s i
   unfolding wordAt
-  other₁ i d′ = getD-set-other s (39936 + x) (39936 + i) (suc y) 0 (λ e. d′ (omega arith))
+  other₁ i d′ = getD-set-other s (linksAt + x) (linksAt + i) (suc y) 0 (λ e. d′ (omega arith))
 
-  pub free₁ : wordAt s₁ x < 1025
+  pub free₁ : wordAt s₁ x < settledFrom
   free₁ = let h = hit₁ in omega arith
 
 module _ (s d : List ℕ) (x y : ℕ) (T : Tying s d x y) where
-  few-x : x < 1024
+  few-x : x < maxCells
   few-x = let f = T .held .few in let l = T .left in omega arith
 
-  few-y : y < 1024
+  few-y : y < maxCells
   few-y = let f = T .held .few in let l = T .right in omega arith
 
   abbrev t : List ℕ
-  t = set s (39936 + x) (suc y)
+  t = set s (linksAt + x) (suc y)
 
   lo : lower t ≡ lower s
   lo = low₁ s d x y (T .size) few-x few-y
@@ -113,10 +114,10 @@ module _ (s d : List ℕ) (x y : ℕ) (T : Tying s d x y) where
   ot : (i : ℕ) → (i ≡ x → ⊥) → wordAt t i ≡ wordAt s i
   ot = other₁ s d x y (T .size) few-x few-y
 
-  fr : wordAt t x < 1025
+  fr : wordAt t x < settledFrom
   fr = free₁ s d x y (T .size) few-x few-y
 
-  pub tied-none : wordAt s x < 1025 → Tied s t d x y true
+  pub tied-none : wordAt s x < settledFrom → Tied s t d x y true
   tied-none v = record {
     kept = kept-refl t;
     same = λ f n L H P lx ly P₀ sv. record {
@@ -127,7 +128,7 @@ module _ (s d : List ℕ) (x y : ℕ) (T : Tying s d x y) where
     stops = λ f. absurd (bool-no true refl f);
   }
 
-  pub pinning-y : 1025 ≤ wordAt s x → Pinning t d y (wordAt s x - 1025)
+  pub pinning-y : settledFrom ≤ wordAt s x → Pinning t d y (wordAt s x - settledFrom)
   pinning-y v = record {
     n = T .n;
     L = T .L;
@@ -135,12 +136,12 @@ module _ (s d : List ℕ) (x y : ℕ) (T : Tying s d x y) where
     pinned = unlinked-pinned s t d (T .n) x lo st ot fr (T .pinned);
     made = T .right;
     few = T .few;
-    readable = subst (λ z. Readable z (wordAt s x - 1025)) (sym (heap-kept s t d lo)) (T .pinned .reads x (T .left) v);
+    readable = subst (λ z. Readable z (wordAt s x - settledFrom)) (sym (heap-kept s t d lo)) (T .pinned .reads x (T .left) v);
   }
 
-  module _ (u : List ℕ) (b : Bool) (v : 1025 ≤ wordAt s x) (X : Pin t u d y (wordAt s x - 1025) b) where
-    reads-t : (g : Ty) → Reads (heap s d) (wordAt s x - 1025) g → Reads (heap t d) (wordAt s x - 1025) g
-    reads-t g R = subst (λ z. Reads z (wordAt s x - 1025) g) (sym (heap-kept s t d lo)) R
+  module _ (u : List ℕ) (b : Bool) (v : settledFrom ≤ wordAt s x) (X : Pin t u d y (wordAt s x - settledFrom) b) where
+    reads-t : (g : Ty) → Reads (heap s d) (wordAt s x - settledFrom) g → Reads (heap t d) (wordAt s x - settledFrom) g
+    reads-t g R = subst (λ z. Reads z (wordAt s x - settledFrom) g) (sym (heap-kept s t d lo)) R
 
     fits-t : (n : ℕ) (σ : ℕ → Ty) → Fits (frozen s) n σ → Fits (frozen t) n σ
     fits-t n σ F = subst (λ z. Fits z n σ) (sym st) F
@@ -173,8 +174,8 @@ pending-kept : (s t : List ℕ) → Kept s t → (k : ℕ) → pending t k ≡ p
 unfolding pending
 pending-kept s t K zero = refl
 pending-kept s t K (suc k) =
-    let a = K .rest (41984 + 2 * k) (omega arith) in
-    let b = K .rest (41985 + 2 * k) (omega arith) in
+    let a = K .rest (pairsAt + 2 * k) (omega arith) in
+    let b = K .rest (secondsAt + 2 * k) (omega arith) in
     let r = pending-kept s t K k in
     cc
 
@@ -190,54 +191,54 @@ module _ (s t d : List ℕ) (n : ℕ) (low : lower t ≡ lower s) (still : froze
 
   pub alike-pinned : Pinned s d n → Pinned t d n
   alike-pinned P = record {
-    reads = λ i l v. let m = words i l in subst (λ z. Readable z (wordAt t i - 1025)) (sym eq) (subst (λ z. Readable (heap s d) (z - 1025)) (sym m) (P .reads i l (omega arith)));
+    reads = λ i l v. let m = words i l in subst (λ z. Readable z (wordAt t i - settledFrom)) (sym eq) (subst (λ z. Readable (heap s d) (z - settledFrom)) (sym m) (P .reads i l (omega arith)));
     bare = λ i l v. let m = words i l in ap (λ z. tagAt z i) still ∙ P .bare i l (omega arith);
   }
 
   pub alike-to : (σ : ℕ → Ty) → Obeys s d n σ → Obeys t d n σ
-  alike-to σ O i l v g R = let m = words i l in O i l (omega arith) g (subst (λ z. Reads (heap s d) (z - 1025) g) m (subst (λ z. Reads z (wordAt t i - 1025) g) eq R))
+  alike-to σ O i l v g R = let m = words i l in O i l (omega arith) g (subst (λ z. Reads (heap s d) (z - settledFrom) g) m (subst (λ z. Reads z (wordAt t i - settledFrom) g) eq R))
 
   pub alike-from : (σ : ℕ → Ty) → Obeys t d n σ → Obeys s d n σ
   alike-from σ O i l v g R =
-      let m = words i l in O i l (omega arith) g (subst (λ z. Reads z (wordAt t i - 1025) g) (sym eq) (subst (λ z. Reads (heap s d) (z - 1025) g) (sym m) R))
+      let m = words i l in O i l (omega arith) g (subst (λ z. Reads z (wordAt t i - settledFrom) g) (sym eq) (subst (λ z. Reads (heap s d) (z - settledFrom) g) (sym m) R))
 
-pub lower-front : (s t : List ℕ) → length t ≡ length s → ((i : ℕ) → i < 41984 → getD t i 0 ≡ getD s i 0) → lower t ≡ lower s
+pub lower-front : (s t : List ℕ) → length t ≡ length s → ((i : ℕ) → i < pairsAt → getD t i 0 ≡ getD s i 0) → lower t ≡ lower s
 unfolding lower
 lower-front s t e h =
-    ext-getD 0 (take 39936 t) (take 39936 s) (length-take 39936 t ∙ ap (λ z. Prim.Native.Nat.min 39936 z) e ∙ sym (length-take 39936 s))
-    (λ i l. let q : i < 39936 = small t i l in getD-take 39936 t i 0 q ∙ h i (omega arith) ∙ sym (getD-take 39936 s i 0 q))
+    ext-getD 0 (take poolSize t) (take poolSize s) (length-take poolSize t ∙ ap (λ z. Prim.Native.Nat.min poolSize z) e ∙ sym (length-take poolSize s))
+    (λ i l. let q : i < poolSize = small t i l in getD-take poolSize t i 0 q ∙ h i (omega arith) ∙ sym (getD-take poolSize s i 0 q))
   where
-    small : (t : List ℕ) (i : ℕ) → i < length (take 39936 t) → i < 39936
-    small t i l = let z = length-take 39936 t in omega arith
+    small : (t : List ℕ) (i : ℕ) → i < length (take poolSize t) → i < poolSize
+    small t i l = let z = length-take poolSize t in omega arith
 
 -- Two areas with the same link words but for x, which is settled in neither, and the same heap.
-module _ (s t d : List ℕ) (n x : ℕ) (low : lower t ≡ lower s) (still : frozen t ≡ frozen s) (other : (i : ℕ) → i < n → (i ≡ x → ⊥) → wordAt t i ≡ wordAt s i) (free : wordAt t x < 1025)
-    (free-s : wordAt s x < 1025) where
+module _ (s t d : List ℕ) (n x : ℕ) (low : lower t ≡ lower s) (still : frozen t ≡ frozen s) (other : (i : ℕ) → i < n → (i ≡ x → ⊥) → wordAt t i ≡ wordAt s i) (free : wordAt t x < settledFrom)
+    (free-s : wordAt s x < settledFrom) where
   eqh : heap t d ≡ heap s d
   eqh = heap-kept s t d low
 
-  no-t : (i : ℕ) → 1025 ≤ wordAt t i → i ≡ x → ⊥
+  no-t : (i : ℕ) → settledFrom ≤ wordAt t i → i ≡ x → ⊥
   no-t i v e = let z = ap (wordAt t) e in omega arith
 
-  no-s : (i : ℕ) → 1025 ≤ wordAt s i → i ≡ x → ⊥
+  no-s : (i : ℕ) → settledFrom ≤ wordAt s i → i ≡ x → ⊥
   no-s i v e = let z = ap (wordAt s) e in omega arith
 
   pub free-pinned : Pinned s d n → Pinned t d n
   free-pinned P = record {
     reads = λ i l v. let m = other i l (no-t i v) in
-        subst (λ z. Readable z (wordAt t i - 1025)) (sym eqh) (subst (λ z. Readable (heap s d) (z - 1025)) (sym m) (P .reads i l (omega arith)));
+        subst (λ z. Readable z (wordAt t i - settledFrom)) (sym eqh) (subst (λ z. Readable (heap s d) (z - settledFrom)) (sym m) (P .reads i l (omega arith)));
     bare = λ i l v. let m = other i l (no-t i v) in ap (λ z. tagAt z i) still ∙ P .bare i l (omega arith);
   }
 
   pub free-to : (σ : ℕ → Ty) → Obeys s d n σ → Obeys t d n σ
   free-to σ O i l v g R =
       let m = other i l (no-t i v) in
-      O i l (omega arith) g (subst (λ z. Reads (heap s d) (z - 1025) g) m (subst (λ z. Reads z (wordAt t i - 1025) g) eqh R))
+      O i l (omega arith) g (subst (λ z. Reads (heap s d) (z - settledFrom) g) m (subst (λ z. Reads z (wordAt t i - settledFrom) g) eqh R))
 
   pub free-from : (σ : ℕ → Ty) → Obeys t d n σ → Obeys s d n σ
   free-from σ O i l v g R =
       let m = other i l (no-s i v) in
-      O i l (omega arith) g (subst (λ z. Reads z (wordAt t i - 1025) g) (sym eqh) (subst (λ z. Reads (heap s d) (z - 1025) g) (sym m) R))
+      O i l (omega arith) g (subst (λ z. Reads z (wordAt t i - settledFrom) g) (sym eqh) (subst (λ z. Reads (heap s d) (z - settledFrom) g) (sym m) R))
 
 pub pinning-as : (t u d : List ℕ) (c p q : ℕ) → u ≡ t → q ≡ p → Pinning t d c p → Pinning u d c q
 pinning-as t u d c p q e f P = subst (λ z. Pinning z d c q) (sym e) (subst (Pinning t d c) (sym f) P)

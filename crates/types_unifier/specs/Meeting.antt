@@ -7,6 +7,7 @@ use lib.ListN.{getD}
 use Rattle.types_rules.specs.Former.{Former, binding}
 use Rattle.types_rules.specs.Types.{Tys, node}
 use Rattle.types_rules.specs.Formed.{partCountType}
+use Rattle.types_cells.specs.Layout.{maxCells}
 use Rattle.types_cells.specs.Store.{frozen, tagAt, argAt, countAt, run, formerAt, Cell}
 use Rattle.types_cells.specs.Calls.{Tells}
 use Rattle.types_cells.specs.Settled.{heap, Reads, Readable, Areas}
@@ -14,7 +15,7 @@ use Rattle.types_cells.specs.Settled.{heap, Reads, Readable, Areas}
 -- Cell r has a former, and p is the place of a type.
 pub record Meeting (s d : List ℕ) (r p : ℕ) : Type 0 where
   pub areas : Areas s d
-  pub few : r < 1024
+  pub few : r < maxCells
   pub cell : Cell (frozen s) r
   pub shaped : 0 < tagAt (frozen s) r
   pub readable : Readable (heap s d) p

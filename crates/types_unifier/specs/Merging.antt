@@ -7,6 +7,7 @@ use Prim.Native.Nat.{ℕ, suc, _+_, _*_, _≤_, _<_, _^_}
 use lib.ListN.{length, getD, set}
 use Rattle.types_rules.specs.Equations.{Pairs, Solves, pair}
 use Rattle.types_rules.specs.Types.{Ty}
+use Rattle.types_cells.specs.Layout.{maxCells, linksAt, pairsAt, secondsAt, areaSize}
 use Rattle.types_cells.specs.Store.{frozen, weight, Held, Solved, Busy}
 use Rattle.types_cells.specs.Calls.{Root}
 use Rattle.types_cells.specs.Settled.{lower, Pinned, Obeys, Fits, Kept}
@@ -38,7 +39,7 @@ NoSolution s d n P₀ = (σ : ℕ → Ty) → Fits (frozen s) n σ → Solves σ
 pub record Turned (s s′ d : List ℕ) (k : ℕ) (fine : Bool) (r : ℕ) : Type 0 where
   pub still : frozen s′ ≡ frozen s
   pub low : lower s′ ≡ lower s
-  pub falls : fine ≡ true → weight s′ 1024 + r < weight s 1024 + k
+  pub falls : fine ≡ true → weight s′ maxCells + r < weight s maxCells + k
   pub goes : fine ≡ true → (n : ℕ) (P₀ L : Pairs ℕ) → Busy s n P₀ L k → Pinned s d n → Next s′ n P₀ r
   pub same : fine ≡ true → (n : ℕ) (P₀ L : Pairs ℕ) → Busy s n P₀ L k → Pinned s d n → Same s s′ d n P₀
   pub stops : fine ≡ false → (n : ℕ) (P₀ L : Pairs ℕ) → Busy s n P₀ L k → Pinned s d n → NoSolution s d n P₀
@@ -46,16 +47,16 @@ pub record Turned (s s′ d : List ℕ) (k : ℕ) (fine : Bool) (r : ℕ) : Type
 -- Two representatives, of the pair that was popped.
 pub record Popped (s d : List ℕ) (k x y : ℕ) : Type 0 where
   pub reading : Open s d (suc k)
-  pub left : Root s (getD s (41984 + 2 * k) 0) x
-  pub right : Root s (getD s (41985 + 2 * k) 0) y
+  pub left : Root s (getD s (pairsAt + 2 * k) 0) x
+  pub right : Root s (getD s (secondsAt + 2 * k) 0) y
   pub apart : x ≡ y → ⊥
 
 -- The unknown x, a representative, may be linked to y: with the link there is a reading.
 pub record Tying (s d : List ℕ) (x y : ℕ) : Type 0 where
   pub n : ℕ
   pub L : Pairs ℕ
-  pub size : length s ≡ 52224
-  pub held : Held (set s (39936 + x) (suc y)) n L
+  pub size : length s ≡ areaSize
+  pub held : Held (set s (linksAt + x) (suc y)) n L
   pub pinned : Pinned s d n
   pub few : length d < 2 ^ 31
   pub left : x < n
@@ -63,10 +64,10 @@ pub record Tying (s d : List ℕ) (x y : ℕ) : Type 0 where
 
 -- x is linked to y, and y is given the type that x refers to, if it does.
 pub record Tied (s s′ d : List ℕ) (x y : ℕ) (fine : Bool) : Type 0 where
-  pub kept : Kept (set s (39936 + x) (suc y)) s′
-  pub same : fine ≡ true → (n : ℕ) (L : Pairs ℕ) → Held (set s (39936 + x) (suc y)) n L → Pinned s d n → x < n → y < n → (P₀ : Pairs ℕ) →
+  pub kept : Kept (set s (linksAt + x) (suc y)) s′
+  pub same : fine ≡ true → (n : ℕ) (L : Pairs ℕ) → Held (set s (linksAt + x) (suc y)) n L → Pinned s d n → x < n → y < n → (P₀ : Pairs ℕ) →
       ((σ : ℕ → Ty) → Fits (frozen s) n σ → Solves σ P₀ → Solves σ L × (σ x ≡ σ y)) → Same s s′ d n P₀
-  pub stops : fine ≡ false → (n : ℕ) (L : Pairs ℕ) → Held (set s (39936 + x) (suc y)) n L → Pinned s d n → x < n → y < n → (P₀ : Pairs ℕ) →
+  pub stops : fine ≡ false → (n : ℕ) (L : Pairs ℕ) → Held (set s (linksAt + x) (suc y)) n L → Pinned s d n → x < n → y < n → (P₀ : Pairs ℕ) →
       ((σ : ℕ → Ty) → Fits (frozen s) n σ → Solves σ P₀ → Solves σ L × (σ x ≡ σ y)) → NoSolution s d n P₀
 
 pub record Done (s : List ℕ) (n : ℕ) (P₀ : Pairs ℕ) : Type 0 where

@@ -19,6 +19,7 @@ use words::word;
 ghost use mathlib.Core.Path.{_≡_};
 ghost use Prim.Native.Nat.{suc, _+_, _*_, _<_, _^_};
 ghost use lib.ListN.{set};
+ghost use Rattle.types_cells.specs.Layout.{maxPending, pairsAt, secondsAt};
 ghost use Rattle.types_cells.specs.Store.{frozen, run};
 ghost use Rattle.types_cells.specs.Calls.{Tells, Runs};
 ghost use Rattle.types_unifier.specs.Comparing.{Two, Alike, Pushing, Pushed};
@@ -67,8 +68,8 @@ fn same_head(a: &[u32], x: usize, y: usize) -> bool
 
 // Pair number k of those that are pending.
 fn push(a: &mut [u32], k: usize, p: usize, q: usize)
-    requires { ⌜ (k < 2048) × (p < 2 ^ 32) × (q < 2 ^ 32) ⌝ }
-    ensures { λ _. ⌜ now (a .exit) ≡ set (set (now (a .entry)) (41984 + 2 * k) p) (41985 + 2 * k) q ⌝ }
+    requires { ⌜ (k < maxPending) × (p < 2 ^ 32) × (q < 2 ^ 32) ⌝ }
+    ensures { λ _. ⌜ now (a .exit) ≡ set (set (now (a .entry)) (pairsAt + 2 * k) p) (secondsAt + 2 * k) q ⌝ }
 {
     store(a, PAIRS + 2 * k, p as u32);
     store(a, SECONDS + 2 * k, q as u32);

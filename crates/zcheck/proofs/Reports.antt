@@ -21,6 +21,7 @@ use Rattle.printer_rules.proofs.Lengths.{print-length}
 use Rattle.input.specs.Input.{areWords, wordsOf, firstWords, wordsAfter}
 use Rattle.input.proofs.Laws.{first-length, words-room, words-taken}
 use Rattle.zcheck.specs.Report.{reportOf, Prints, Areas}
+use Rattle.reader_rules.specs.Nodes.{documentWords}
 
 all-words : (ws : List ℕ) → ((i : ℕ) → getD ws i 0 < 2 ^ 32) → Words ws
 all-words [] h = none
@@ -82,7 +83,7 @@ module _ (bytes : List ℕ) where
   broken-report e p = rw (ap (areWords bytes) (sym area-length) ∙ e) p
 
 -- more than 65,536 bytes are no words of the area
-too-long : (bytes : List ℕ) → 65536 < length bytes → areWords bytes 16384 ≡ false
+too-long : (bytes : List ℕ) → 65536 < length bytes → areWords bytes documentWords ≡ false
 unfolding areWords
 too-long bytes l = rw (lt-leb (length bytes) (4 * 16384) (omega arith)) (and-false (eqb (length bytes % 4) 0))
   where

@@ -13,14 +13,16 @@ ghost use Rattle.checker_rules.specs.declared.Finding.the-variants.{Refused};
 ghost use Rattle.printer_rules.specs.Print.{printedOf, printOf};
 ghost use Rattle.zcheck.specs.Report.{reportOf, Prints, Areas};
 
-// Words of each area, as many as a document may have.
-const AREA: usize = limits::WORDS;
+// Words of the areas.
+const DOCUMENT: usize = limits::DOCUMENT_WORDS;
 
-// One byte more than an area has, so that a longer input shows.
-const INPUT: usize = WORD_BYTES * AREA + 1;
+const DICTIONARY: usize = limits::DICTIONARY_AREA_WORDS;
+
+// One byte more than a document has, so that a longer input shows.
+const INPUT: usize = WORD_BYTES * DOCUMENT + 1;
 
 // Bytes that always suffice for the printed finding: `enough` in printer_rules/specs/Bounds.antt.
-const OUTPUT: usize = 11 * AREA + 34;
+const OUTPUT: usize = 11 * DICTIONARY + 34;
 
 // The printed finding of a document's words: its length.
 fn print_check(doc: &[u32], dict: &mut [u32], work: &mut [u32], out: &mut [u8]) -> usize
@@ -48,9 +50,9 @@ fn print_broken(dict: &[u32], out: &mut [u8]) -> usize
 fn report(input: &[u8], out: &mut [u8; OUTPUT]) -> usize
     ensures { λ r. ⌜ Prints (reportOf (now (input .entry))) r (now (out .exit)) ⌝ }
 {
-    let mut doc: [u32; AREA] = [0; AREA];
-    let mut dict: [u32; AREA] = [0; AREA];
-    let mut work: [u32; AREA] = [0; AREA];
+    let mut doc: [u32; 16384] = [0; 16384];
+    let mut dict: [u32; 16384] = [0; 16384];
+    let mut work: [u32; 16384] = [0; 16384];
     if input::take_words(input, &mut doc) {
         let n = input.len() / WORD_BYTES;
         return print_check(&doc[..n], &mut dict, &mut work, out);

@@ -12,11 +12,15 @@ ghost use Rattle.fitter_rules.specs.Fit.{fitOf};
 ghost use Rattle.evaluator_rules.specs.Run.{runOf};
 ghost use Rattle.zrun.specs.Judge.{judgeOf};
 
-// Words of each area, as many as a document may have.
-const AREA: usize = limits::WORDS;
+// Words of the areas: of the document and the state, of the dictionary; and the work area, first the fit's, which needs no more than the run's.
+const DOCUMENT: usize = limits::DOCUMENT_WORDS;
 
-// One byte more than an area has, so that a longer file shows.
-const INPUT: usize = WORD_BYTES * AREA + 1;
+const DICTIONARY: usize = limits::DICTIONARY_AREA_WORDS;
+
+const WORK: usize = limits::RUN_WORK_WORDS;
+
+// One byte more than a document has, so that a longer file shows.
+const INPUT: usize = WORD_BYTES * DOCUMENT + 1;
 
 // What was read, where it could be: n bytes of a file, or words of an area.
 struct Input {
@@ -115,19 +119,19 @@ fn show(finding: Finding) {
 }
 
 fn main() {
-    let mut doc = [0u32; AREA];
+    let mut doc = [0u32; DOCUMENT];
     let document = load(1, &mut doc);
     if !document.read {
         return;
     }
-    let mut state = [0u32; AREA];
+    let mut state = [0u32; DOCUMENT];
     let values = load(2, &mut state);
     if !values.read {
         return;
     }
     let n = document.n;
     let m = values.n;
-    let mut dict = [0u32; AREA];
-    let mut work = [0u32; AREA];
+    let mut dict = [0u32; DICTIONARY];
+    let mut work = [0u32; WORK];
     show(judge(&doc[..n], &state[..m], &mut dict, &mut work));
 }

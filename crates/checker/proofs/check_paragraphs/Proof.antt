@@ -5,12 +5,13 @@ use mathlib.Core.Path.{sym}
 use borrow.Author.Needs.{needs}
 use Rattle.checker.proofs.check_paragraphs.Statement.{statement}
 use Rattle.checker.proofs.check_paragraphs.Tie as tie
+use Rattle.types_cells.specs.Layout.{areaSize}
 
 sub-m : tie.Need-sub-m
 sub-m c = first-some _ (c .before .before .before .before .before .before .before .before .before .pre .0) _ (c .before .word .ensures .0) _ (c .part .ensures)
 
 slice-aggregate-paragraphs-from : tie.Need-slice-aggregate-paragraphs-from
-slice-aggregate-paragraphs-from c = sym (length-replicate {A = ℕ} 52224 0)
+slice-aggregate-paragraphs-from c = sym (length-replicate {A = ℕ} areaSize 0)
 
 paragraphs-from-requires : tie.Need-paragraphs-from-requires
 paragraphs-from-requires c κs = first-ask _ (c .before .before .before .before .before .before .before .before .before .before .before .before .pre .0) _ (c .before .before .before .before .word .ensures .0) _ (c .before .before .before .part .ensures) _ _ (c .before .before .before .before .before .before .before .before .before .before .before .before .pre .1) (c .before .before .before .before .before .before .before .begin .ensures (c .before .before .before .before .before .before .before .before .before .before .before .before .pre .2))

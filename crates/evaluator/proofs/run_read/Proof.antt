@@ -1,6 +1,6 @@
 use lib.ListN.{length}
 use borrow.Author.Tests.{lt-leb, le-leb}
-use Rattle.evaluator_rules.specs.Run.{runOf, runRead, runWork}
+use Rattle.evaluator_rules.specs.Run.{runOf, runRead, runWork, runWorkWords}
 use mathlib.Core.Path.{_≡_, refl, sym, ap, subst, _∙_}
 use mathlib.Core.Bool.{true, false}
 use mathlib.Core.List.{List}
@@ -19,7 +19,7 @@ enum-told c = search needs
 
 returns : tie.Need-returns
 unfolding runOf runRead runWork
-returns c = rw (← (c .before .before .before .read .ensures), c .before .enum-told .given .1, lt-leb 16384 (length (c .before .before .before .before .before .before .before .args .work .now)) (c .if1 .taken))
+returns c = rw (← (c .before .before .before .read .ensures), c .before .enum-told .given .1, lt-leb runWorkWords (length (c .before .before .before .before .before .before .before .args .work .now)) (c .if1 .taken))
 
 run-state-requires : tie.Need-run-state-requires
 run-state-requires c κs = (sym (c .before .before .before .before .read .ensures) ∙ c .before .before .enum-told .given .1, omega arith)
@@ -32,7 +32,7 @@ same-length c = search needs
 
 returns-2 : tie.Need-returns-2
 unfolding runOf runRead runWork
-returns-2 c = rw (← (c .before .before .before .before .before .before .before .read .ensures), c .before .before .before .before .before .enum-told .given .1, le-leb 16384 (length (c .before .before .before .before .before .before .before .before .before .before .before .args .work .now)) (omega arith)) (c .before .before .run-state .ensures)
+returns-2 c = rw (← (c .before .before .before .before .before .before .before .read .ensures), c .before .before .before .before .before .enum-told .given .1, le-leb runWorkWords (length (c .before .before .before .before .before .before .before .before .before .before .before .args .work .now)) (omega arith)) (c .before .before .run-state .ensures)
 
 returns-3 : tie.Need-returns-3
 unfolding runOf runRead

@@ -3,13 +3,13 @@ use Rattle.evaluator_scope.proofs.BlockLaws.{block-hit, block-hidden, b
 use Prim.Native.Nat.{_≤_}
 use mathlib.Core.Path.{_≡_, refl, sym, _∙_}
 use native.Mathlib.Omega.{arith}
-use Rattle.evaluator_scope.specs.Blocks.{lastBlock}
+use Rattle.evaluator_scope.specs.Blocks.{lastBlock, blockCount}
 use borrow.Author.Needs.{needs}
 use Rattle.evaluator_scope.proofs.find.Statement.{statement}
 use Rattle.evaluator_scope.proofs.find.Tie as tie
 
 abbrev Inv-loop : tie.InvT-loop
-Inv-loop work n name b₀ b = (b ≤ n) × (n ≤ 240) × (lastBlock work name n ≡ lastBlock work name b)
+Inv-loop work n name b₀ b = (b ≤ n) × (n ≤ blockCount) × (lastBlock work name n ≡ lastBlock work name b)
 
 abbrev μ-loop : tie.MeasureT-loop
 μ-loop work n name b₀ b = b

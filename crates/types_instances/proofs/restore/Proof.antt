@@ -1,6 +1,7 @@
 use mathlib.Core.Path.{ap, _∙_}
 use Prim.Native.Nat.{_+_, _*_, _-_}
 use lib.Seq.{sets}
+use Rattle.types_cells.specs.Layout.{recordsAt, firstRun, runsAt}
 use Rattle.types_cells.specs.Store.{run}
 use Rattle.types_instances.specs.Moved.{restored}
 use borrow.Author.Needs.{needs}
@@ -41,8 +42,8 @@ returns : tie.Need-returns
 unfolding restored
 returns c =
     let s = c .before .before .before .before .before .before .before .before .before .before .before .before .before .before .args in
-    c .before .before .copy-words3 .ensures ∙ ap (λ z. sets z 50176 (run (s .from .now) (s .at + s .n + 4 * s .n) (s .top - 4096)))
-    (c .before .before .before .before .before .before .copy-words2 .ensures ∙ ap (λ z. sets z 46080 (run (s .from .now) (s .at + s .n) (4 * s .n))) (c .before .before .before .before .before .before .before .before .before .before .copy-words .ensures))
+    c .before .before .copy-words3 .ensures ∙ ap (λ z. sets z runsAt (run (s .from .now) (s .at + s .n + 4 * s .n) (s .top - firstRun)))
+    (c .before .before .before .before .before .before .copy-words2 .ensures ∙ ap (λ z. sets z recordsAt (run (s .from .now) (s .at + s .n) (4 * s .n))) (c .before .before .before .before .before .before .before .before .before .before .copy-words .ensures))
 
 pub restore-spec : {M : Type 1} → statement M
 restore-spec =

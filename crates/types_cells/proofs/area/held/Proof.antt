@@ -1,3 +1,4 @@
+use Rattle.types_cells.specs.Layout.{recordsAt}
 use Rattle.types_cells.specs.Store.{frozen}
 use lib.Seq.{getD-drop}
 use mathlib.Core.Path.{_∙_, sym}
@@ -16,7 +17,7 @@ word-requires c κs = search needs
 
 returns : tie.Need-returns
 unfolding frozen
-returns c = (c .word .ensures .0 ∙ sym (getD-drop 46080 (c .before .before .args .a .now) (c .before .before .args .k) 0), c .word .ensures .1)
+returns c = (c .word .ensures .0 ∙ sym (getD-drop recordsAt (c .before .before .args .a .now) (c .before .before .args .k) 0), c .word .ensures .1)
 
 pub held-spec : {M : Type 1} → statement M
 held-spec = tie.close (tie.spec add-word word-requires returns)

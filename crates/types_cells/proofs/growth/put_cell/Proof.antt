@@ -2,6 +2,7 @@ use borrow.Author.Needs.{needs}
 use mathlib.Core.Path.{_∙_, ap}
 use lib.ListN.{set}
 use Prim.Native.Nat.{_+_, _*_}
+use Rattle.types_cells.specs.Layout.{recordsAt, argumentsAt, firstsAt, countsAt}
 use Rattle.types_cells.specs.Calls.{put}
 use Rattle.types_cells.proofs.growth.put_cell.Statement.{statement}
 use Rattle.types_cells.proofs.growth.put_cell.Tie as tie
@@ -51,10 +52,10 @@ returns c =
     let s = c .before .before .before .before .before .before .before .before .before .before .before .before .before .before .before .before .before .before .before .before .before in
     let at = 4 * s .args .n in
     c .before .before .store5 .ensures
-    ∙ ap (λ z. set z (46083 + at) (s .args .count)) (c .before .before .before .before .before .before .store4 .ensures
-    ∙ ap (λ z. set z (46082 + at) (s .args .first)) (c .before .before .before .before .before .before .before .before .before .before .store3 .ensures
-    ∙ ap (λ z. set z (46081 + at) (s .args .arg)) (c .before .before .before .before .before .before .before .before .before .before .before .before .before .before .store2 .ensures
-    ∙ ap (λ z. set z (46080 + at) (s .args .tag)) (c .before .before .before .before .before .before .before .before .before .before .before .before .before .before .before .before .before .before .store .ensures))))
+    ∙ ap (λ z. set z (countsAt + at) (s .args .count)) (c .before .before .before .before .before .before .store4 .ensures
+    ∙ ap (λ z. set z (firstsAt + at) (s .args .first)) (c .before .before .before .before .before .before .before .before .before .before .store3 .ensures
+    ∙ ap (λ z. set z (argumentsAt + at) (s .args .arg)) (c .before .before .before .before .before .before .before .before .before .before .before .before .before .before .store2 .ensures
+    ∙ ap (λ z. set z (recordsAt + at) (s .args .tag)) (c .before .before .before .before .before .before .before .before .before .before .before .before .before .before .before .before .before .before .store .ensures))))
 
 pub put-cell-spec : {M : Type 1} → statement M
 put-cell-spec =

@@ -1,7 +1,8 @@
 use mathlib.Core.Path.{_≡_, refl, sym, ap, _∙_}
-use Prim.Native.Nat.{ℕ, suc, _-_, _<_}
+use Prim.Native.Nat.{ℕ, suc, _-_, _<_, _+_}
 use native.Mathlib.Omega.{arith}
 use lib.Dec.{eqb}
+use Rattle.types_cells.specs.Layout.{maxCells, settledFrom}
 use Rattle.types_cells.specs.Store.{linkAt, Held}
 use Rattle.types_cells.proofs.LinkLaws.{far, far-less, hop-below, hop-rep, stop-rep}
 use borrow.Author.Needs.{needs}
@@ -14,10 +15,10 @@ use Rattle.types_cells.proofs.links.find.Lts as lts
 use Rattle.types_cells.proofs.links.link.Reads as link-reads
 
 abbrev Inv-loop : tie.InvT-loop
-Inv-loop a i k₀ l₀ k l = (l ≡ linkAt a k) × (l < 1025) × ((n : ℕ) (L : Pairs ℕ) → Held a n L → i < n → (k < n) × (rep eqb L k ≡ rep eqb L i))
+Inv-loop a i k₀ l₀ k l = (l ≡ linkAt a k) × (l < settledFrom) × ((n : ℕ) (L : Pairs ℕ) → Held a n L → i < n → (k < n) × (rep eqb L k ≡ rep eqb L i))
 
 abbrev μ-loop : tie.MeasureT-loop
-μ-loop a i k₀ l₀ k l = far a 1025 k
+μ-loop a i k₀ l₀ k l = far a (1 + maxCells) k
 
 link-requires : tie.Need-link-requires Inv-loop μ-loop
 link-requires c κs = search needs

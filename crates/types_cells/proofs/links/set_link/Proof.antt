@@ -8,6 +8,7 @@ use Rattle.types_cells.proofs.links.set_link.Tie as tie
 use Rattle.types_cells.proofs.links.set_link.Reads as reads
 use Rattle.types_cells.proofs.links.set_link.Lts as lts
 use Rattle.words.proofs.store.Reads as store-reads
+use Rattle.types_cells.specs.Layout.{linksAt}
 
 add-store : tie.Need-add-store
 add-store c = search needs
@@ -25,7 +26,7 @@ same-length : tie.Need-same-length
 same-length c = search needs
 
 returns : tie.Need-returns
-returns c = c .before .before .store .ensures ∙ ap (set (c .before .before .before .before .before .args .a .now) (39936 + c .before .before .before .before .before .args .x)) (add-suc (c .before .before .before .before .before .args .y))
+returns c = c .before .before .store .ensures ∙ ap (set (c .before .before .before .before .before .args .a .now) (linksAt + c .before .before .before .before .before .args .x)) (add-suc (c .before .before .before .before .before .args .y))
 
 pub set-link-spec : {M : Type 1} → statement M
 set-link-spec =

@@ -20,9 +20,10 @@ use Rattle.words.proofs.store.Reads as store-reads
 use Rattle.words.proofs.word.Reads as word-reads
 use Rattle.types_solver.proofs.acyclicity.+visit.{statement}
 use Rattle.types_solver.proofs.acyclicity.+visit.Tie.{close}
+use Rattle.types_cells.specs.Layout.{maxCells}
 
 abbrev μ-visit : Measures 1 visit-kinds.ps ℕ
-μ-visit κs a = 1026 * bare (a .0 .now) 1024 + far (a .0 .now) 1025 (a .1 .0)
+μ-visit κs a = (2 + maxCells) * bare (a .0 .now) maxCells + far (a .0 .now) (1 + maxCells) (a .1 .0)
 
 abbrev visit-at : ℕ → In 1 visit-kinds.ps
 visit-at t = and 1 visit-kinds.ps (is 1 visit-kinds.ps μ-visit t) visit.Pre

@@ -1,6 +1,7 @@
 use mathlib.Core.Path.{_≡_, refl, sym, ap, subst, _∙_}
 use native.Mathlib.Omega.{arith}
 use Prim.Native.Nat.{_+_, _-_, _≤_}
+use Rattle.types_cells.specs.Layout.{settledFrom}
 use Rattle.types_cells.specs.Settled.{wordAt, heap, Readable, Component}
 use Rattle.types_cells.proofs.Reading.{place-low, heap-length}
 use Rattle.types_solver.proofs.Looking.{open-none, settled-none, settled-some, looking-few}
@@ -32,7 +33,7 @@ settled-component-requires c κs = let s = c .before .before .before .before in
     let l = c .if1 .left in
     record {
       areas = record { size = K .held .size; few = let f = K .few in omega arith };
-      readable = subst (λ z. Readable (heap (s .args .a .now) (s .args .d .now)) (z - 1025)) (sym e) (K .pinned .reads _ (K .made) (omega arith));
+      readable = subst (λ z. Readable (heap (s .args .a .now) (s .args .d .now)) (z - settledFrom)) (sym e) (K .pinned .reads _ (K .made) (omega arith));
     }
 
 returns-2 : tie.Need-returns-2
@@ -40,7 +41,7 @@ unfolding wordAt
 returns-2 c = let s = c .before .before .before .before .before .before in
     let e = c .before .before .before .word .ensures .0 in
     let l = c .before .before .if1 .left in
-    settled-none _ _ _ _ (s .pre .0 .root) (omega arith) _ (subst (λ z. Component (s .args .a .now) (s .args .d .now) (z - 1025) (s .args .id) (c .before .settled-component .result)) e (c .before .settled-component .ensures)) (c .if2 .taken)
+    settled-none _ _ _ _ (s .pre .0 .root) (omega arith) _ (subst (λ z. Component (s .args .a .now) (s .args .d .now) (z - settledFrom) (s .args .id) (c .before .settled-component .result)) e (c .before .settled-component .ensures)) (c .if2 .taken)
 
 add-result : tie.Need-add-result
 unfolding wordAt
@@ -49,7 +50,7 @@ add-result c = let s = c .before .before .before .before .before .before in
     let e = c .before .before .before .word .ensures .0 in
     let l = c .before .before .if1 .left in
     let D = K .pinned .reads _ (K .made) (omega arith) in
-    let C = subst (λ z. Component (s .args .a .now) (s .args .d .now) (z - 1025) (s .args .id) (c .before .settled-component .result)) e (c .before .settled-component .ensures) in
+    let C = subst (λ z. Component (s .args .a .now) (s .args .d .now) (z - settledFrom) (s .args .id) (c .before .settled-component .result)) e (c .before .settled-component .ensures) in
     let f = place-low _ _ _ (C .some (c .if2 .left) (D .type) (D .reads) .reads) in
     let h = heap-length (s .args .a .now) (s .args .d .now) (K .held .size) in
     let g = K .few in omega arith
@@ -59,7 +60,7 @@ unfolding wordAt
 returns-3 c = let s = c .before .before .before .before .before .before in
     let e = c .before .before .before .word .ensures .0 in
     let l = c .before .before .if1 .left in
-    settled-some _ _ _ _ (s .pre .0 .root) (omega arith) _ (subst (λ z. Component (s .args .a .now) (s .args .d .now) (z - 1025) (s .args .id) (c .before .settled-component .result)) e (c .before .settled-component .ensures)) (c .if2 .left)
+    settled-some _ _ _ _ (s .pre .0 .root) (omega arith) _ (subst (λ z. Component (s .args .a .now) (s .args .d .now) (z - settledFrom) (s .args .id) (c .before .settled-component .result)) e (c .before .settled-component .ensures)) (c .if2 .left)
 
 pub unknown-component-spec : {M : Type 1} → statement M
 unknown-component-spec =

@@ -5,6 +5,7 @@ use Prim.Native.Nat.{ℕ, _+_, _-_, _≤_, _<_}
 use lib.Dec.{eqb}
 use Rattle.types_rules.specs.Classes.{rep}
 use Rattle.types_rules.specs.Equations.{Pairs}
+use Rattle.types_cells.specs.Layout.{settledFrom}
 use Rattle.types_cells.specs.Store.{frozen, tagAt, Held}
 use Rattle.types_cells.specs.Calls.{Known}
 use Rattle.types_cells.specs.Settled.{wordAt}
@@ -18,7 +19,7 @@ use Rattle.types_cells.proofs.links.find.Reads as find-reads
 use Rattle.types_solver.proofs.openness.is_open.Reads as is-open-reads
 
 abbrev Inv-loop : tie.InvT-loop
-Inv-loop a n i₀ i = (j : ℕ) → j < i → (L : Pairs ℕ) → Held a n L → tagAt (frozen a) (rep eqb L j) ≡ 0 → 1025 ≤ wordAt a (rep eqb L j)
+Inv-loop a n i₀ i = (j : ℕ) → j < i → (L : Pairs ℕ) → Held a n L → tagAt (frozen a) (rep eqb L j) ≡ 0 → settledFrom ≤ wordAt a (rep eqb L j)
 
 abbrev μ-loop : tie.MeasureT-loop
 μ-loop a n i₀ i = n - i

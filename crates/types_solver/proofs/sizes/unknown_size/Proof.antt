@@ -1,6 +1,7 @@
 use mathlib.Core.Path.{_≡_, refl, sym, ap, subst, _∙_}
 use native.Mathlib.Omega.{arith}
 use Prim.Native.Nat.{_+_, _-_, _≤_}
+use Rattle.types_cells.specs.Layout.{settledFrom}
 use Rattle.types_cells.specs.Settled.{wordAt, heap, Readable}
 use Rattle.types_solver.specs.Sizes.{TypeSize}
 use Rattle.types_solver.proofs.Looking.{looking-few}
@@ -32,7 +33,7 @@ type-size-requires c κs = let s = c .before .before .before .before in
     let l = c .if1 .left in
     record {
       areas = record { size = K .held .size; few = let f = K .few in omega arith };
-      readable = subst (λ z. Readable (heap (s .args .a .now) (s .args .d .now)) (z - 1025)) (sym e) (K .pinned .reads _ (K .made) (omega arith));
+      readable = subst (λ z. Readable (heap (s .args .a .now) (s .args .d .now)) (z - settledFrom)) (sym e) (K .pinned .reads _ (K .made) (omega arith));
     }
 
 returns-2 : tie.Need-returns-2
@@ -42,7 +43,7 @@ returns-2 c = let s = c .before .before .before .before .before in
     let l = c .before .if1 .left in
     record {
       free = λ q. absurd (omega arith);
-      settled = λ q. subst (λ z. TypeSize (s .args .a .now) (s .args .d .now) (z - 1025) (c .type-size .result)) e (c .type-size .ensures);
+      settled = λ q. subst (λ z. TypeSize (s .args .a .now) (s .args .d .now) (z - settledFrom) (c .type-size .result)) e (c .type-size .ensures);
       few = c .type-size .ensures .few;
     }
 

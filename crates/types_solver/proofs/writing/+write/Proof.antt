@@ -9,6 +9,7 @@ use lib.Seq.{sets}
 use Rattle.types_rules.specs.Types.{Ty}
 use Rattle.types_rules.specs.Words.{words}
 use Rattle.types_rules.specs.Equations.{Pairs}
+use Rattle.types_cells.specs.Layout.{settledFrom}
 use Rattle.types_cells.specs.Store.{frozen, tagAt, firstAt, countAt}
 use Rattle.types_cells.specs.Settled.{heap, wordAt, Reads, Readable}
 use Rattle.types_solver.specs.Sizes.{markAt, Model}
@@ -81,7 +82,7 @@ write-put-type-requires t c κs = let s = c .before .before .before .before .bef
     let q = P .room in (
       record {
         areas = record { size = P .model .marked .held .size; few = let f = P .few in omega arith };
-        readable = subst (λ z. Readable (heap (s .args .a .now) (s .args .d .now)) (z - 1025)) (sym e) (m-readable _ _ _ _ (c .before .before .before .before .find .ensures) (P .n) (P .L) (P .σ) (P .model) (P .made) v);
+        readable = subst (λ z. Readable (heap (s .args .a .now) (s .args .d .now)) (z - settledFrom)) (sym e) (m-readable _ _ _ _ (c .before .before .before .before .find .ensures) (P .n) (P .L) (P .σ) (P .model) (P .made) v);
       },
       omega arith,
     )
@@ -97,7 +98,7 @@ write-returns t c = let s = c .before .before .before .before .before .before .b
     λ n L σ M R l.
     let v = r-settled _ _ _ (c .before .before .before .before .before .before .before .find .ensures) n L (M .marked) l R t in
     let D = m-readable _ _ _ _ (c .before .before .before .before .before .before .before .find .ensures) n L σ M l v in
-    let Rd = subst (λ z. Reads (heap (s .args .a .now) (s .args .d .now)) (z - 1025) (D .type)) (sym e) (D .reads) in
+    let Rd = subst (λ z. Reads (heap (s .args .a .now) (s .args .d .now)) (z - settledFrom) (D .type)) (sym e) (D .reads) in
     subst (λ g. Wrote (s .args .out .now) (c .before .before .put-type .last .1 .1 .0) (s .args .at) (c .before .before .put-type .result) (words g)) (sym (m-settled _ _ _ _ (c .before .before .before .before .before .before .before .find .ensures) n L σ M l v (D .type) (D .reads))) (c .before .before .put-type .ensures .is (D .type) Rd)
 
 write-field-requires-2 : (t : ℕ) → write-lts.Need-field-requires-2 (write-calls t) (write-at t) write.Post write-Inv-loop write-μ-loop

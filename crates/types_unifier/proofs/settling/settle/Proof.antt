@@ -3,6 +3,7 @@ use mathlib.Core.Path.{_≡_, refl, sym, ap, subst, _∙_}
 use native.Mathlib.Omega.{arith}
 use Prim.Native.Nat.{_+_, _-_, _≤_}
 use lib.ListN.{set}
+use Rattle.types_cells.specs.Layout.{settledFrom}
 use Rattle.types_cells.specs.Settled.{wordAt, heap, Readable, Pin, SameType}
 use Rattle.types_cells.proofs.SettlingLaws.{settled, compared}
 use Rattle.types_cells.proofs.Reading.{place-low, heap-length}
@@ -60,7 +61,7 @@ same-type-requires c κs =
     record {
       areas = record { size = P .held .size; few = let f = P .few in omega arith };
       left = P .readable;
-      right = subst (λ z. Readable (heap (c .before .before .before .before .before .before .args .a .now) (c .before .before .before .before .before .before .args .d .now)) (z - 1025)) (sym e) (P .pinned .reads _ (P .made) (omega arith));
+      right = subst (λ z. Readable (heap (c .before .before .before .before .before .before .args .a .now) (c .before .before .before .before .before .before .args .d .now)) (z - settledFrom)) (sym e) (P .pinned .reads _ (P .made) (omega arith));
     }
 
 same-length-2 : tie.Need-same-length-2
@@ -72,7 +73,7 @@ returns-2 c =
     let s = c .before .before .before .before .before .before .before in
     let e = c .before .before .before .word .ensures .0 in
     let l = c .before .before .if1 .left in
-    compared _ _ _ _ (s .pre) _ (omega arith) (subst (λ z. SameType (s .args .a .now) (s .args .d .now) (s .args .p) (z - 1025) (c .same-type .result)) e (c .same-type .ensures))
+    compared _ _ _ _ (s .pre) _ (omega arith) (subst (λ z. SameType (s .args .a .now) (s .args .d .now) (s .args .p) (z - settledFrom) (c .same-type .result)) e (c .same-type .ensures))
 
 pub settle-spec : {M : Type 1} → statement M
 settle-spec =

@@ -2,6 +2,7 @@ use borrow.Author.Needs.{needs}
 use mathlib.Core.Path.{_≡_, refl, sym, ap, subst, _∙_}
 use native.Mathlib.Omega.{arith}
 use Prim.Native.Nat.{ℕ, suc, _+_, _-_, _<_}
+use Rattle.types_cells.specs.Layout.{maxCells}
 use Rattle.types_cells.specs.Store.{weight}
 use Rattle.types_unifier.proofs.Turns.{Draining, draining-start, draining-open, draining-step, draining-stop, draining-end}
 use Rattle.types_unifier.proofs.unification.drain.Statement.{statement}
@@ -14,7 +15,7 @@ abbrev Inv-loop : tie.InvT-loop
 Inv-loop a₀ d k₀ a k = Draining a₀ a d k
 
 abbrev μ-loop : tie.MeasureT-loop
-μ-loop a₀ d k₀ a k = weight a 1024 + k
+μ-loop a₀ d k₀ a k = weight a maxCells + k
 
 loop-holds : tie.Need-loop-holds Inv-loop μ-loop
 loop-holds c = draining-start _ _

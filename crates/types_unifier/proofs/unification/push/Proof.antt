@@ -7,6 +7,7 @@ use Rattle.types_unifier.proofs.unification.push.Tie as tie
 use Rattle.types_unifier.proofs.unification.push.Reads as reads
 use Rattle.types_unifier.proofs.unification.push.Lts as lts
 use Rattle.words.proofs.store.Reads as store-reads
+use Rattle.types_cells.specs.Layout.{secondsAt}
 
 mul-store : tie.Need-mul-store
 mul-store c = search needs
@@ -36,7 +37,7 @@ same-length : tie.Need-same-length
 same-length c = search needs
 
 returns : tie.Need-returns
-returns c = c .before .before .store2 .ensures ∙ ap (λ z. set z (41985 + 2 * c .before .before .before .before .before .before .before .before .before .args .k) (c .before .before .before .before .before .before .before .before .before .args .q)) (c .before .before .before .before .before .before .store .ensures)
+returns c = c .before .before .store2 .ensures ∙ ap (λ z. set z (secondsAt + 2 * c .before .before .before .before .before .before .before .before .before .args .k) (c .before .before .before .before .before .before .before .before .before .args .q)) (c .before .before .before .before .before .before .store .ensures)
 
 pub push-spec : {M : Type 1} → statement M
 push-spec =

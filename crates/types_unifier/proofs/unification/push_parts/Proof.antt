@@ -2,6 +2,7 @@ use mathlib.Core.Path.{_≡_, refl, sym, ap, ap₂, subst, _∙_}
 use Prim.Native.Nat.{ℕ, suc, _+_, _-_, _≤_, _<_}
 use native.Mathlib.Omega.{arith}
 use lib.ListN.{length, getD, length-set}
+use Rattle.types_cells.specs.Layout.{maxPending, pairsAt, areaSize}
 use Rattle.types_cells.specs.Store.{frozen, firstAt, countAt, partsAt, run, pending}
 use mathlib.Core.Option.{some}
 use Rattle.types_cells.proofs.Words.{frozen-length}
@@ -18,7 +19,7 @@ use Rattle.types_unifier.proofs.unification.push.Reads as push-reads
 
 abbrev Inv-loop : tie.InvT-loop
 Inv-loop a₀ k x y m j₀ a j =
-    (j ≤ m) × (length a ≡ length a₀) × (frozen a ≡ frozen a₀) × ((i : ℕ) → i < 41984 → getD a i 0 ≡ getD a₀ i 0)
+    (j ≤ m) × (length a ≡ length a₀) × (frozen a ≡ frozen a₀) × ((i : ℕ) → i < pairsAt → getD a i 0 ≡ getD a₀ i 0)
     × (left (frozen a₀) (firstAt (frozen a₀) x) (firstAt (frozen a₀) y) m a k j ≡ left (frozen a₀) (firstAt (frozen a₀) x) (firstAt (frozen a₀) y) m a₀ k 0)
 
 abbrev μ-loop : tie.MeasureT-loop
@@ -60,8 +61,8 @@ loop-again c =
     let me = c .before .before .before .before .before .before .before .before .before .before .field .ensures .0 in
     let jm = c .before .before .before .before .before .before .before .before .loop-test .taken in
     let p = s .pre in
-    let size : length a ≡ 52224 = i .1 ∙ p .size in
-    let lk : k + j < 2048 = omega arith in
+    let size : length a ≡ areaSize = i .1 ∙ p .size in
+    let lk : k + j < maxPending = omega arith in
     let ep : c .before .before .before .before .before .before .part .result ≡ getD w (firstAt w (s .args .x) + j) 0 = c .before .before .before .before .before .before .part .ensures .0 ∙ ap (λ z. getD z (firstAt z (s .args .x) + j) 0) (i .2) in
     let eq : c .before .before .before .before .part2 .result ≡ getD w (firstAt w (s .args .y) + j) 0 = c .before .before .before .before .part2 .ensures .0 ∙ ap (λ z. getD z (firstAt z (s .args .y) + j) 0) (i .2) in
     let e = c .before .before .push .ensures ∙ ap₂ (λ u v. pushed a (k + j) u v) ep eq in (

@@ -3,6 +3,7 @@ use mathlib.Core.Path.{_≡_, refl, sym, ap, subst, _∙_}
 use native.Mathlib.Omega.{arith}
 use Prim.Native.Nat.{_+_, _-_, _≤_, suc}
 use lib.ListN.{set, length}
+use Rattle.types_cells.specs.Layout.{settledFrom}
 use Rattle.types_cells.specs.Settled.{wordAt, Pinning, Pin}
 use Rattle.types_unifier.specs.Merging.{Tied}
 use Rattle.types_unifier.proofs.Tying.{tied-none, tied-some, pinning-y, pinning-as, pin-from}
@@ -40,7 +41,7 @@ pin-requires c κs =
     let s = c .before .before .before .before .before .before .before .before .before .before in
     let e = c .before .before .before .before .before .before .word .ensures .0 in
     let l = c .before .if1 .left in
-    pinning-as _ _ _ _ _ _ (c .before .before .before .before .set-link .ensures) (ap (λ z. z - 1025) e) (pinning-y _ _ _ _ (s .pre) (omega arith))
+    pinning-as _ _ _ _ _ _ (c .before .before .before .before .set-link .ensures) (ap (λ z. z - settledFrom) e) (pinning-y _ _ _ _ (s .pre) (omega arith))
 
 same-length-2 : tie.Need-same-length-2
 same-length-2 c = c .before .before .pin .ensures .kept .size ∙ c .before .before .before .before .before .before .before .set-link .kept .0
@@ -51,7 +52,7 @@ returns-2 c =
     let s = c .before .before .before .before .before .before .before .before .before .before .before .before .before in
     let e = c .before .before .before .before .before .before .before .before .before .word .ensures .0 in
     let l = c .before .before .before .before .if1 .left in
-    tied-some _ _ _ _ (s .pre) _ _ (omega arith) (pin-from _ _ _ _ _ _ _ _ (c .before .before .before .before .before .before .before .set-link .ensures) (ap (λ z. z - 1025) e) (c .before .before .pin .ensures))
+    tied-some _ _ _ _ (s .pre) _ _ (omega arith) (pin-from _ _ _ _ _ _ _ _ (c .before .before .before .before .before .before .before .set-link .ensures) (ap (λ z. z - settledFrom) e) (c .before .before .pin .ensures))
 
 pub tie-spec : {M : Type 1} → statement M
 tie-spec =

@@ -20,6 +20,7 @@ use borrow.Fn.PlainCycle.{Measures, is, falls, and}
 use Rattle.evaluator_nodes.proofs.nodes.lines.Reads as lines
 use Rattle.evaluator_nodes.proofs.nodes.+adds+all+apply+arith+assign+below+body+compr+connect+each+each_part+expr+lines+member+negate+parts+power+pred+product+quant+refers+same+tests+tuple+turn+value.Lts-lines as lines-lts
 use Rattle.evaluator_nodes.proofs.nodes.+adds+all+apply+arith+assign+below+body+compr+connect+each+each_part+expr+lines+member+negate+parts+power+pred+product+quant+refers+same+tests+tuple+turn+value.Proof.Env.{lines-at, lines-calls}
+use Rattle.evaluator_scope.specs.Blocks.{blockWords}
 
 lines-assign-requires : (t : ℕ) → lines-lts.Need-assign-requires (lines-calls t) (lines-at t) lines.Post
 lines-assign-requires t c κs =
@@ -59,7 +60,7 @@ lines-returns-3 t c =
     let a = s .args in
     let o = line-at (s .pre .1 .0) (a .t) (s .pre .1 .1) (a .u .now) (s .pre .1 .2) (a .i) _ (s .pre .1 .3) (omega (arith, c .before .before .before .before .before .before .before .before .before .before .before .if1 .left)) (c .before .before .before .before .before .before .before .before .before .before .word .ensures .0) in
     let e = c .before .before .before .before .expr .ensures in
-    record { kept = same-less (68 * (a .n + a .m)) _ _ (e .kept) (68 * a .n) (omega arith); told = decl-stop (a .doc .now) (a .k) (a .t) (length (a .u .now)) (a .i) (a .state .now) (a .work .now) (a .n) (a .m) (omega (arith, c .before .before .before .before .before .before .before .before .before .before .before .if1 .left)) _ (o .1) (o .0 .at) (λ z. c .before .before .before .before .before .before .before .if2 .left (c .before .before .before .before .before .before .before .before .word2 .ensures .0 ∙ ap (λ (l : List ℕ). getD l 0 0) (c .before .before .before .before .before .before .before .before .before .part .ensures) ∙ z)) _ (c .before .before .before .before .before .word3 .ensures .0 ∙ ap (λ (l : List ℕ). getD l 1 0) (c .before .before .before .before .before .before .before .before .before .part .ensures)) _ (e .told) (c .if3 .taken) }
+    record { kept = same-less (blockWords * (a .n + a .m)) _ _ (e .kept) (blockWords * a .n) (omega arith); told = decl-stop (a .doc .now) (a .k) (a .t) (length (a .u .now)) (a .i) (a .state .now) (a .work .now) (a .n) (a .m) (omega (arith, c .before .before .before .before .before .before .before .before .before .before .before .if1 .left)) _ (o .1) (o .0 .at) (λ z. c .before .before .before .before .before .before .before .if2 .left (c .before .before .before .before .before .before .before .before .word2 .ensures .0 ∙ ap (λ (l : List ℕ). getD l 0 0) (c .before .before .before .before .before .before .before .before .before .part .ensures) ∙ z)) _ (c .before .before .before .before .before .word3 .ensures .0 ∙ ap (λ (l : List ℕ). getD l 1 0) (c .before .before .before .before .before .before .before .before .before .part .ensures)) _ (e .told) (c .if3 .taken) }
 
 lines-returns-4 : (t : ℕ) → lines-lts.Need-returns-4 (lines-calls t) (lines-at t) lines.Post
 lines-returns-4 t c =
@@ -67,7 +68,7 @@ lines-returns-4 t c =
     let a = s .args in
     let o = line-at (s .pre .1 .0) (a .t) (s .pre .1 .1) (a .u .now) (s .pre .1 .2) (a .i) _ (s .pre .1 .3) (omega (arith, c .before .before .before .before .before .before .before .before .before .before .before .before .before .before .before .if1 .left)) (c .before .before .before .before .before .before .before .before .before .before .before .before .before .before .word .ensures .0) in
     let e = c .before .before .before .before .before .before .before .before .expr .ensures in
-    record { kept = same-less (68 * (a .n + a .m)) _ _ (e .kept) (68 * a .n) (omega arith); told = decl-other (a .doc .now) (a .k) (a .t) (length (a .u .now)) (a .i) (a .state .now) (a .work .now) (a .n) (a .m) (omega (arith, c .before .before .before .before .before .before .before .before .before .before .before .before .before .before .before .if1 .left)) _ (o .1) (o .0 .at) (λ z. c .before .before .before .before .before .before .before .before .before .before .before .if2 .left (c .before .before .before .before .before .before .before .before .before .before .before .before .word2 .ensures .0 ∙ ap (λ (l : List ℕ). getD l 0 0) (c .before .before .before .before .before .before .before .before .before .before .before .before .before .part .ensures) ∙ z)) _ (c .before .before .before .before .before .before .before .before .before .word3 .ensures .0 ∙ ap (λ (l : List ℕ). getD l 1 0) (c .before .before .before .before .before .before .before .before .before .before .before .before .before .part .ensures)) _ _ (e .told) (c .before .before .before .before .if3 .left) (λ z. c .before .if4 .taken (c .before .before .tag-of .ensures ∙ z)) (c .stop2 .ensures) }
+    record { kept = same-less (blockWords * (a .n + a .m)) _ _ (e .kept) (blockWords * a .n) (omega arith); told = decl-other (a .doc .now) (a .k) (a .t) (length (a .u .now)) (a .i) (a .state .now) (a .work .now) (a .n) (a .m) (omega (arith, c .before .before .before .before .before .before .before .before .before .before .before .before .before .before .before .if1 .left)) _ (o .1) (o .0 .at) (λ z. c .before .before .before .before .before .before .before .before .before .before .before .if2 .left (c .before .before .before .before .before .before .before .before .before .before .before .before .word2 .ensures .0 ∙ ap (λ (l : List ℕ). getD l 0 0) (c .before .before .before .before .before .before .before .before .before .before .before .before .before .part .ensures) ∙ z)) _ (c .before .before .before .before .before .before .before .before .before .word3 .ensures .0 ∙ ap (λ (l : List ℕ). getD l 1 0) (c .before .before .before .before .before .before .before .before .before .before .before .before .before .part .ensures)) _ _ (e .told) (c .before .before .before .before .if3 .left) (λ z. c .before .if4 .taken (c .before .before .tag-of .ensures ∙ z)) (c .stop2 .ensures) }
 
 lines-put-domains-requires : (t : ℕ) → lines-lts.Need-put-domains-requires (lines-calls t) (lines-at t) lines.Post
 lines-put-domains-requires t c κs =
@@ -106,7 +107,7 @@ lines-returns-5 t c =
     let d = rw (c .before .before .before .before .before .before .before .before .before .before .before .before .before .before .before .before .before .before .before .before .part .ensures) at (c .before .before .before .before .before .before .put-domains .ensures) in
     let g = rw (c .before .before .before .before .before .before .before .before .before .before .before .before .before .before .before .before .before .before .before .before .part .ensures) at (c .before .before .lines .ensures) in
     let low = d .kept ∙ e .kept in
-    record { kept = g .kept ∙ same-less (68 * (a .n + a .m)) _ _ low (68 * a .n) (omega arith); told = decl-go (a .doc .now) (a .k) (a .t) (length (a .u .now)) (a .i) (a .state .now) (a .work .now) (a .n) (a .m) (omega (arith, c .before .before .before .before .before .before .before .before .before .before .before .before .before .before .before .before .before .before .before .before .before .before .if1 .left)) _ (o .1) (o .0 .at) (λ z. c .before .before .before .before .before .before .before .before .before .before .before .before .before .before .before .before .before .before .if2 .left (c .before .before .before .before .before .before .before .before .before .before .before .before .before .before .before .before .before .before .before .word2 .ensures .0 ∙ ap (λ (l : List ℕ). getD l 0 0) (c .before .before .before .before .before .before .before .before .before .before .before .before .before .before .before .before .before .before .before .before .part .ensures) ∙ z)) _ (c .before .before .before .before .before .before .before .before .before .before .before .before .before .before .before .before .word3 .ensures .0 ∙ ap (λ (l : List ℕ). getD l 1 0) (c .before .before .before .before .before .before .before .before .before .before .before .before .before .before .before .before .before .before .before .before .part .ensures)) _ _ _ _ (e .told) (c .before .before .before .before .before .before .before .before .before .before .before .if3 .left) (sym (c .before .before .before .before .before .before .before .before .before .tag-of .ensures) ∙ c .before .before .before .before .before .before .before .before .if4 .left) (e .kept) d (g .told) }
+    record { kept = g .kept ∙ same-less (blockWords * (a .n + a .m)) _ _ low (blockWords * a .n) (omega arith); told = decl-go (a .doc .now) (a .k) (a .t) (length (a .u .now)) (a .i) (a .state .now) (a .work .now) (a .n) (a .m) (omega (arith, c .before .before .before .before .before .before .before .before .before .before .before .before .before .before .before .before .before .before .before .before .before .before .if1 .left)) _ (o .1) (o .0 .at) (λ z. c .before .before .before .before .before .before .before .before .before .before .before .before .before .before .before .before .before .before .if2 .left (c .before .before .before .before .before .before .before .before .before .before .before .before .before .before .before .before .before .before .before .word2 .ensures .0 ∙ ap (λ (l : List ℕ). getD l 0 0) (c .before .before .before .before .before .before .before .before .before .before .before .before .before .before .before .before .before .before .before .before .part .ensures) ∙ z)) _ (c .before .before .before .before .before .before .before .before .before .before .before .before .before .before .before .before .word3 .ensures .0 ∙ ap (λ (l : List ℕ). getD l 1 0) (c .before .before .before .before .before .before .before .before .before .before .before .before .before .before .before .before .before .before .before .before .part .ensures)) _ _ _ _ (e .told) (c .before .before .before .before .before .before .before .before .before .before .before .if3 .left) (sym (c .before .before .before .before .before .before .before .before .before .tag-of .ensures) ∙ c .before .before .before .before .before .before .before .before .if4 .left) (e .kept) d (g .told) }
 
 pub lines-closed : {M : Type 1} (t : ℕ) → lines-lts.Closed (lines-calls t) (lines-at t) lines.Post M
 lines-closed t =
