@@ -5,16 +5,16 @@ use Prim.Native.Nat.{ℕ}
 use lib.ListN.{length, replicate}
 use Rattle.evaluator_rules.specs.Run.{runOf}
 use Rattle.checker_rules.specs.Check.{Answer}
-use Rattle.checker_rules.specs.Areas.{findingOf, dictionaryAfter, workAfter}
+use Rattle.checker_rules.specs.Areas.{answerFinding, dictionaryAfter, workAfter}
 use Rattle.capi_codes.specs.Code.{checkCode, runCode}
 
 -- the check call and the fit call, with areas of d and w words: the number of their answer, and what each area then holds
 pub record Decided (a : Answer) (d w code : ℕ) (dictionary work : List ℕ) : Type 0 where
-  pub finding : code ≡ checkCode (findingOf a)
+  pub finding : code ≡ checkCode (answerFinding a)
   pub recorded : dictionary ≡ dictionaryAfter a d
   pub cleared : work ≡ workAfter w
 
 -- the run call: the number of its finding, and a work area of zeros
-pub record Ran (doc state before after : List ℕ) (code : ℕ) : Type 0 where
+pub record RunDecided (doc state before after : List ℕ) (code : ℕ) : Type 0 where
   pub finding : code ≡ runCode (runOf doc state (length before) .finding)
   pub cleared : after ≡ replicate (length before) 0

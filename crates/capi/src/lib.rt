@@ -11,8 +11,8 @@ ghost use Rattle.checker_rules.specs.Check.{checkOf};
 ghost use Rattle.fitter_rules.specs.Fit.{fitOf};
 ghost use Rattle.printer_rules.specs.Print.{printOf};
 ghost use Rattle.printer_rules.specs.Buffer.{Printed};
-ghost use Rattle.capi_codes.specs.Code.{codeOf, findingOf};
-ghost use Rattle.capi.specs.Areas.{Decided, Ran};
+ghost use Rattle.capi_codes.specs.Code.{codeOf, codeFinding};
+ghost use Rattle.capi.specs.Areas.{Decided, RunDecided};
 
 // Reading: 0 where the document is readable, else one of 11 to 17 with its place.
 #[no_mangle]
@@ -51,7 +51,7 @@ pub extern "C" fn z_fit(doc: &[u32], state: &[u32], dict: &mut [u32], work: &mut
 // A run of a document over a state: reading's finding first, then 21, 41, and those of the paragraphs. The work area is zeros afterwards.
 #[no_mangle]
 pub extern "C" fn z_run(doc: &[u32], state: &[u32], work: &mut [u32]) -> u64
-    ensures { λ n. ⌜ Ran (now (doc .entry)) (now (state .entry)) (now (work .entry)) (now (work .exit)) n ⌝ }
+    ensures { λ n. ⌜ RunDecided (now (doc .entry)) (now (state .entry)) (now (work .entry)) (now (work .exit)) n ⌝ }
 {
     run_code(evaluator::run(doc, state, work))
 }
@@ -60,7 +60,7 @@ pub extern "C" fn z_run(doc: &[u32], state: &[u32], work: &mut [u32]) -> u64
 // buffer is all zero.
 #[no_mangle]
 pub extern "C" fn z_print(finding: u64, dict: &[u32], out: &mut [u8]) -> usize
-    ensures { λ r. ⌜ Printed (printOf (findingOf finding) (now (dict .entry))) (length (now (out .entry))) r (now (out .exit)) ⌝ }
+    ensures { λ r. ⌜ Printed (printOf (codeFinding finding) (now (dict .entry))) (length (now (out .entry))) r (now (out .exit)) ⌝ }
 {
     printer::print_finding(finding_of(finding), dict, out)
 }

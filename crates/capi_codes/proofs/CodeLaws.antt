@@ -5,10 +5,10 @@ use native.Mathlib.Omega.{arith}
 use native.Mathlib.Nat.{div-add-mod', mod-lt}
 use borrow.Author.Tests.{ne-eqb}
 use Rattle.checker_rules.specs.declared.Finding.the-variants.{Refused}
-use Rattle.capi_codes.specs.Code.{findingOf}
+use Rattle.capi_codes.specs.Code.{codeFinding}
 
-pub refused-back : (number place : ℕ) → 0 < number → place < 4294967296 → findingOf (number * 4294967296 + place) ≡ Refused number place
-unfolding findingOf
+pub refused-back : (number place : ℕ) → 0 < number → place < 4294967296 → codeFinding (number * 4294967296 + place) ≡ Refused number place
+unfolding codeFinding
 refused-back number place some small =
     let code = number * 4294967296 + place in
     let t = div-add-mod' code 4294967296 in

@@ -15,8 +15,8 @@ codeOf Readable = 0
 codeOf (Refused number place) = number * 4294967296 + place
 
 -- the finding of a check that a number codes
-unfoldable pub findingOf : ℕ → Finding
-findingOf code = cond (eqb code 0) Accepted (Refused′ (code / 4294967296) (code % 4294967296))
+unfoldable pub codeFinding : ℕ → Finding
+codeFinding code = cond (eqb code 0) Accepted (Refused′ (code / 4294967296) (code % 4294967296))
 
 -- a check's finding, or a fit's
 unfoldable pub checkCode : Finding → ℕ

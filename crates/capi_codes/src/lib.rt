@@ -2,7 +2,7 @@
 use checker_rules::Finding;
 use reader_rules::Reading;
 ghost use mathlib.Core.Path.{_≡_};
-ghost use Rattle.capi_codes.specs.Code.{codeOf, findingOf, checkCode, runCode};
+ghost use Rattle.capi_codes.specs.Code.{codeOf, codeFinding, checkCode, runCode};
 
 // The places under each number: as many as a word has values.
 const PLACES: u64 = 4294967296;
@@ -41,7 +41,7 @@ pub fn run_code(f: evaluator_rules::Finding) -> u64
 
 // The finding of a check that a number codes.
 pub fn finding_of(code: u64) -> Finding
-    ensures { λ f. ⌜ f ≡ findingOf code ⌝ }
+    ensures { λ f. ⌜ f ≡ codeFinding code ⌝ }
 {
     if code == 0 {
         return Finding::Accepted;

@@ -9,7 +9,7 @@ use Rattle.reader_rules.specs.Reading.{readOf}
 use Rattle.reader_rules.specs.Tree.{Document}
 use Rattle.reader_rules.specs.Decode.{treeOf}
 use Rattle.reader_rules.specs.declared.Reading.the-variants.{Readable, Refused as Unreadable}
-use Rattle.checker_rules.specs.Areas.{findingOf, dictionaryAfter, Checked}
+use Rattle.checker_rules.specs.Areas.{answerFinding, dictionaryAfter, CheckCall}
 use Rattle.checker_rules.specs.Check.{Answer, accepted, refused, paragraphsOf, checkOf, checkWorkWords}
 use Rattle.checker_rules.specs.Dictionary.{blank, dictionaryWords, dictionaryLength}
 use Rattle.checker_rules.specs.Items.{Any}
@@ -21,7 +21,7 @@ use Rattle.checker.specs.Answering.{Told, Answered, TreeAnswered}
 
 -- A refusal's area holds no dictionary yet.
 pub told-refused : (f m : ℕ) (d : List ℕ) → Told (refused f m) d (Refused f m)
-unfolding findingOf
+unfolding answerFinding
 told-refused f m d = record { finding = refl; held = λ E q. let z : _≡_ {A = ℕ} 0 1 = cc in absurd (omega arith) }
 
 -- A readable document.
@@ -56,16 +56,16 @@ module _ (doc : List ℕ) (d w : ℕ) (d′ : List ℕ) (e : length d′ ≡ d) 
   cleared-to : w″ ≡ replicate w 0
   cleared-to = y ∙ ap (λ (n : ℕ). replicate n 0) z
 
-  pub checked-accepted : r ≡ Accepted → Checked doc d w Accepted d′ w″
-  unfolding findingOf dictionaryAfter
+  pub checked-accepted : r ≡ Accepted → CheckCall doc d w Accepted d′ w″
+  unfolding answerFinding dictionaryAfter
   checked-accepted q = record { finding = sym q ∙ X .finding; recorded = go (checkOf doc d w) X; cleared = cleared-to }
     where
       go : (a : Answer) → Told a d′ r → d′ ≡ dictionaryAfter a d
       go (accepted E) Y = Y .held E refl .laid ∙ ap (λ (n : ℕ). dictionaryWords E ++ replicate (n - dictionaryLength E) 0) e
       go (refused f m) Y = let h = Y .finding in let o : _≡_ {A = ℕ} 0 1 = cc in absurd (omega arith)
 
-  pub checked-refused : (f m : ℕ) → r ≡ Refused f m → (d″ : List ℕ) → d″ ≡ replicate (length d′) 0 → Checked doc d w (Refused f m) d″ w″
-  unfolding findingOf dictionaryAfter
+  pub checked-refused : (f m : ℕ) → r ≡ Refused f m → (d″ : List ℕ) → d″ ≡ replicate (length d′) 0 → CheckCall doc d w (Refused f m) d″ w″
+  unfolding answerFinding dictionaryAfter
   checked-refused f m q d″ u = record { finding = sym q ∙ X .finding; recorded = u ∙ ap (λ (n : ℕ). replicate n 0) e ∙ go (checkOf doc d w) X; cleared = cleared-to }
     where
       go : (a : Answer) → Told a d′ r → replicate d 0 ≡ dictionaryAfter a d

@@ -10,7 +10,7 @@ use Rattle.layout.specs.Layout.{count}
 use Rattle.reader_rules.specs.Nodes.{operandAt, documentWords}
 use Rattle.reader_rules.specs.Tree.{Paragraph}
 use Rattle.reader_rules.specs.Decode.{gather, paragraphAt, paragraphsFrom}
-use Rattle.checker_rules.specs.Areas.{findingOf}
+use Rattle.checker_rules.specs.Areas.{answerFinding}
 use Rattle.checker_rules.specs.Check.{Answer, accepted, refused}
 use Rattle.checker_rules.specs.Dictionary.{Dictionary}
 use Rattle.checker_rules.specs.Entries.{extend}
@@ -21,7 +21,7 @@ use Rattle.checker_rules.specs.declared.Finding.the-variants.{Accepted, Refused
 use Rattle.checker_dictionary.specs.Holds.{Holds}
 use Rattle.types_instances.proofs.CleanLaws.{clean-lower}
 use Rattle.checker_lookup.specs.Scoped.{DictionaryHeld}
-use Rattle.checker_extension.specs.Entering.{Listed, Grown, Entered}
+use Rattle.checker_extension.specs.Entering.{IsParagraph, Grown, Entered}
 use Rattle.checker.specs.Answering.{ParagraphsAsk, Answered}
 use Rattle.checker.proofs.AnsweringLaws.{told-refused}
 use Rattle.checker.proofs.DocumentWords.{words-few}
@@ -41,7 +41,7 @@ answers-next p ps D d′ G (refused f m) h = inr (G .passes, (G .table, (tt, G .
 
 module _ (doc : List ℕ) (i m : ℕ) where
   pub from-none : m ≡ 0 → (d : List ℕ) (D : Dictionary) → DictionaryHeld D d → Answered (paragraphsFrom doc (count doc) i m) D (length d) d Accepted
-  unfolding AnswersFrom Accepts paragraphsFrom gather findingOf
+  unfolding AnswersFrom Accepts paragraphsFrom gather answerFinding
   from-none z d D R = rw z (record { answer = accepted D; answers = refl; told = record { finding = refl; held = λ E q. let e : D ≡ E = cc in subst (λ (X : Dictionary). Holds X d) e (R .holds) } })
 
   module _ (some : m ≡ 0 → ⊥) (k : ℕ) (is : k ≡ operandAt doc (count doc) i) where
@@ -80,7 +80,7 @@ node-at doc n i k e q = q ∙ ap (λ (j : ℕ). operandAt doc j i) e
 
 -- What is asked before a paragraph, and before the next.
 module _ (doc s d w : List ℕ) (i m : ℕ) (A : ParagraphsAsk doc s d w i m) (some : m ≡ 0 → ⊥) where
-  pub from-listed : (k : ℕ) → k ≡ operandAt doc (count doc) i → Listed doc k
+  pub from-listed : (k : ℕ) → k ≡ operandAt doc (count doc) i → IsParagraph doc k
   from-listed k e = let a = A .ends in record { read = A .read; place = i; some = A .some; most = omega arith; is = e }
 
   pub from-small : i + 1 ≤ documentWords

@@ -7,26 +7,26 @@ use Rattle.layout.specs.Layout.{count, part}
 use Rattle.reader_rules.specs.Reading.{readOf}
 use Rattle.reader_rules.specs.Tree.{Paragraph, Document}
 use Rattle.reader_rules.specs.declared.Reading.the-variants.{Readable}
-use Rattle.checker_rules.specs.Areas.{findingOf}
+use Rattle.checker_rules.specs.Areas.{answerFinding}
 use Rattle.checker_rules.specs.Check.{Answer, accepted, checkOf}
 use Rattle.checker_rules.specs.Dictionary.{Dictionary, dictionaryLength}
 use Rattle.checker_rules.specs.Items.{Any}
 use Rattle.checker_rules.specs.Verdicts.{AnswersFrom, AnswersTree}
 use Rattle.checker_rules.specs.declared.Finding.{Finding}
 use Rattle.checker_dictionary.specs.Holds.{Holds}
-use Rattle.checker_extension.specs.Entering.{Ready, maxAdded}
+use Rattle.checker_extension.specs.Entering.{BetweenParagraphs, maxAdded}
 
 -- The m operands of the Document from i on are left. Each paragraph before them has added 16,384 words to the dictionary at most.
 pub record ParagraphsAsk (doc s d w : List ℕ) (i m : ℕ) : Type 0 where
   pub read : readOf doc ≡ Readable
   pub some : 1 ≤ i
   pub ends : i + m ≡ length (part doc (count doc))
-  pub ready : Ready s d w
+  pub ready : BetweenParagraphs s d w
   pub short : dictionaryLength (ready .dictionary) ≤ maxAdded * i
 
 -- The finding is that of the answer, and the area d′ holds its dictionary.
 pub record Told (answer : Answer) (d′ : List ℕ) (r : Finding) : Type 0 where
-  pub finding : r ≡ findingOf answer
+  pub finding : r ≡ answerFinding answer
   pub held : (E : Dictionary) → answer ≡ accepted E → Holds E d′
 
 -- The paragraphs ps, over the dictionary D in an area of d words.

@@ -17,7 +17,7 @@ ghost use Rattle.layout.specs.Layout.{count};
 ghost use Rattle.reader_rules.specs.Decode.{treeOf, paragraphsFrom};
 ghost use Rattle.reader_rules.specs.Reading.{readOf};
 ghost use Rattle.reader_rules.specs.declared.Reading.the-variants.{Readable};
-ghost use Rattle.checker_rules.specs.Areas.{Checked};
+ghost use Rattle.checker_rules.specs.Areas.{CheckCall};
 ghost use Rattle.checker_rules.specs.Check.{paragraphsOf, checkWorkWords};
 ghost use Rattle.checker_rules.specs.Dictionary.{Dictionary, blank};
 ghost use Rattle.checker_lookup.specs.Scoped.{DictionaryHeld};
@@ -98,7 +98,7 @@ fn check_words(doc: &[u32], dict: &mut [u32], work: &mut [u32]) -> Finding
 
 // The check of any words, with areas of any length.
 pub fn check(doc: &[u32], dict: &mut [u32], work: &mut [u32]) -> Finding
-    ensures { λ r. ⌜ Checked (now (doc .entry)) (length (now (dict .entry))) (length (now (work .entry))) r (now (dict .exit)) (now (work .exit)) ⌝ }
+    ensures { λ r. ⌜ CheckCall (now (doc .entry)) (length (now (dict .entry))) (length (now (work .entry))) r (now (dict .exit)) (now (work .exit)) ⌝ }
 {
     let found = check_words(doc, dict, work);
     clear(work);

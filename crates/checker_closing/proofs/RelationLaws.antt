@@ -8,15 +8,15 @@ use lib.Seq.{sets}
 use Rattle.checker_pieces.specs.Closed.{Closing, Closed}
 use Rattle.checker_kinds.specs.Equations.{Related}
 use Rattle.checker_closing.specs.Leaves.{relationItems}
-use Rattle.checker_closing.specs.Nodes.{Found}
+use Rattle.checker_closing.specs.Nodes.{VerdictAt}
 use Rattle.checker_closing.specs.Relations.{EndAsk, EndTold, several, one, RuleAsk, RuleTold, fits}
 use Rattle.checker_closing.specs.declared.results.Verdict.{Verdict}
 
 module _ {s s₁ d : List ℕ} {n at end k : ℕ} {b : Bool} (Z : Closed s s₁ d n b) {r : Verdict} where
-  pub end-several : b ≡ false → Found r 34 k → EndTold s s₁ d n at end k r
+  pub end-several : b ≡ false → VerdictAt r 34 k → EndTold s s₁ d n at end k r
   end-several nay F = several (subst (Closed s s₁ d n) nay Z) F
 
-  pub end-one : b ≡ true → {s₂ : List ℕ} → length s₁ ≡ length s → s₂ ≡ sets s₁ at (replicate (end - at) 0) → Found r 0 k → EndTold s s₂ d n at end k r
+  pub end-one : b ≡ true → {s₂ : List ℕ} → length s₁ ≡ length s → s₂ ≡ sets s₁ at (replicate (end - at) 0) → VerdictAt r 0 k → EndTold s s₂ d n at end k r
   end-one y z wiped F = one s₁ (subst (Closed s s₁ d n) y Z) z wiped F
 
 module _ (q : ℕ) {s s₁ d : List ℕ} {x y n top number n′ : ℕ} (R : Related s s₁ d n top x y number n′ (relationItems q)) (fine : number ≡ 0) where

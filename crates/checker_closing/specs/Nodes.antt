@@ -22,7 +22,7 @@ pub record VisitAt (r : Visit) (number place cell cells top at : ℕ) : Type 0 w
   pub top-is : r .top ≡ top
   pub at-is : r .at ≡ at
 
-pub record Found (r : Verdict) (number place : ℕ) : Type 0 where
+pub record VerdictAt (r : Verdict) (number place : ℕ) : Type 0 where
   pub number-is : r .number ≡ number
   pub place-is : r .place ≡ place
 

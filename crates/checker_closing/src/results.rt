@@ -1,7 +1,7 @@
 // What the functions over nodes return. Number 0: no finding; otherwise it is the finding's number, at the node `place`.
 ghost use mathlib.Core.Path.{_≡_};
 ghost use Prim.Native.Nat.{_<_, _^_};
-ghost use Rattle.checker_closing.specs.Nodes.{VisitAt, Found, LinedAt};
+ghost use Rattle.checker_closing.specs.Nodes.{VisitAt, VerdictAt, LinedAt};
 
 // An expression: the cell of its type, the number of cells, where their runs end, and from where on the pool is clean.
 pub struct Visit {
@@ -59,7 +59,7 @@ pub fn unvisited(number: u32, place: u32) -> Visit
 // The finding `number` at node k, 0 for none.
 pub fn verdict_at(number: u32, k: usize) -> Verdict
     requires { ⌜ k < 2 ^ 32 ⌝ }
-    ensures { λ r. ⌜ Found r number k ⌝ }
+    ensures { λ r. ⌜ VerdictAt r number k ⌝ }
 {
     Verdict {
         number: number,
@@ -69,7 +69,7 @@ pub fn verdict_at(number: u32, k: usize) -> Verdict
 
 // The finding of a part.
 pub fn found(number: u32, place: u32) -> Verdict
-    ensures { λ r. ⌜ Found r number place ⌝ }
+    ensures { λ r. ⌜ VerdictAt r number place ⌝ }
 {
     Verdict {
         number: number,

@@ -7,7 +7,7 @@ use native.Mathlib.Omega.{arith}
 use lib.ListN.{length, getD, take}
 use Rattle.types_rules.specs.Types.{Tys, tnil, tcons, unders}
 use Rattle.checker_rules.specs.Items.{Items, Meets}
-use Rattle.checker_rules.specs.Unknowns.{Table, row}
+use Rattle.checker_rules.specs.Unknowns.{Valuation, row}
 use Rattle.types_cells.specs.Settled.{heap}
 use Rattle.types_instances.specs.Filled.{Row}
 use Rattle.checker_includes.specs.Components.{AllStandFor, ActualTypes}
@@ -26,7 +26,7 @@ module _ (s d : List ℕ) (H : Items) (U : List ℕ) (k : ℕ) where
   -- q actuals from number j on.
   record TypesFrom (j q : ℕ) (places : List ℕ) : Type 0 where
     types : Tys
-    settled : (τ : Table) → Meets H τ → unders τ (row k (suc j) q) ≡ types
+    settled : (τ : Valuation) → Meets H τ → unders τ (row k (suc j) q) ≡ types
     shown : Tys
     stand : Row (heap s d) (take q places) shown
     alike : AllStandFor shown types

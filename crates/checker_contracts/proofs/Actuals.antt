@@ -17,7 +17,7 @@ use Rattle.checker_rules.specs.Dictionary.{Dictionary}
 use Rattle.checker_rules.specs.Items.{Items, skip, _⨾_, piece, Meets, Refuses}
 use Rattle.checker_rules.specs.Rules.{exprItems, actualItems}
 use Rattle.checker_rules.specs.Scopes.{Scope}
-use Rattle.checker_rules.specs.Unknowns.{Table, slot, unknownAt}
+use Rattle.checker_rules.specs.Unknowns.{Valuation, slot, unknownAt}
 use Rattle.reader_rules.proofs.Sized.{SizedExpr}
 use Rattle.checker_rules.proofs.Slots.{slots-apart}
 use Rattle.types_cells.specs.Layout.{firstRun, areaSize, poolSize, typeWords}

@@ -15,7 +15,7 @@ use Rattle.checker_rules.specs.Items.{Items, _⨾_, Meets, Refuses}
 use Rattle.checker_rules.specs.Rules.{includeItems}
 use Rattle.checker_rules.specs.Scopes.{Scope, includeNode, includeSignature}
 use Rattle.checker_rules.specs.Signatures.{Signature, noNames, naming, termIn}
-use Rattle.checker_rules.specs.Unknowns.{Table}
+use Rattle.checker_rules.specs.Unknowns.{Valuation}
 use Rattle.checker_signatures.specs.Tables.{tableWords}
 use Rattle.checker_signatures.specs.Rows.{rows}
 use Rattle.checker_signatures.specs.Carried.{Carries}
@@ -33,7 +33,7 @@ use Rattle.checker_contracts.proofs.Scopes.{spared-on}
 use Rattle.checker_contracts.proofs.Refused.{done-refused}
 
 -- Nothing to merge with.
-merge-none : (n : ℕ) (q : Signature) (τ : Table) → Meets (mergeNames n q noNames) τ
+merge-none : (n : ℕ) (q : Signature) (τ : Valuation) → Meets (mergeNames n q noNames) τ
 unfolding mergeNames sameType termIn Meets
 merge-none n noNames τ = tt
 merge-none n (naming i t q) τ = (tt, merge-none n q τ)

@@ -7,7 +7,7 @@ use lib.ListN.{length, getD, take}
 use Rattle.reader_rules.specs.Tree.{Include}
 use Rattle.reader_rules.specs.TreeNumbers.{includeNumbers}
 use Rattle.checker_rules.specs.Items.{Items, Meets}
-use Rattle.checker_rules.specs.Unknowns.{Table, row}
+use Rattle.checker_rules.specs.Unknowns.{Valuation, row}
 use Rattle.checker_rules.specs.Scopes.{includeNode, includeSignature}
 use Rattle.types_instances.specs.Clean.{Clean}
 use Rattle.checker_includes.specs.Components.{ActualTypes}
@@ -27,7 +27,7 @@ pub stored-gap : (s s′ : List ℕ) (at at′ : ℕ) → at ≤ poolSize → Cl
 stored-gap s s′ at at′ r C A i e = A .before i (omega arith) ∙ C i (omega arith) (omega arith)
 
 -- Items that say more.
-pub actuals-more : (s d : List ℕ) (H H′ : Items) (U : List ℕ) (k q : ℕ) (places : List ℕ) → ((τ : Table) → Meets H′ τ → Meets H τ) → ActualTypes s d H U k q places → ActualTypes s d H′ U k q places
+pub actuals-more : (s d : List ℕ) (H H′ : Items) (U : List ℕ) (k q : ℕ) (places : List ℕ) → ((τ : Valuation) → Meets H′ τ → Meets H τ) → ActualTypes s d H U k q places → ActualTypes s d H′ U k q places
 actuals-more s d H H′ U k q places says A =
     record { types = A .types; settled = λ τ m. A .settled τ (says τ m); shown = A .shown; stand = A .stand; alike = A .alike; over = A .over }
 

@@ -18,7 +18,7 @@ use Rattle.checker_rules.specs.Items.{Items, skip, refusal, _⨾_, Meets, Refus
 use Rattle.checker_rules.specs.Rules.{schemaItems}
 use Rattle.checker_rules.specs.Scopes.{Scope, schemaSignature}
 use Rattle.checker_rules.specs.Signatures.{Signature, countNames, merge}
-use Rattle.checker_rules.specs.Unknowns.{Table}
+use Rattle.checker_rules.specs.Unknowns.{Valuation}
 use Rattle.checker_signatures.specs.Rows.{rows, flat, mergeRows}
 use Rattle.checker_signatures.specs.Carried.{Carries}
 use Rattle.checker_signatures.specs.Tables.{Table as Written, tableWords}
@@ -70,7 +70,7 @@ spared-table w w′ stack base rs n l T = record {
 }
 
 -- Items that bring no unknowns hold in every table that meets those before.
-pub noted : (H c : Items) (U : List ℕ) (M : ℕ → Type 0) → Walked H c U U M → (τ : Table) → Meets H τ → Meets c τ
+pub noted : (H c : Items) (U : List ℕ) (M : ℕ → Type 0) → Walked H c U U M → (τ : Valuation) → Meets H τ → Meets c τ
 unfolding Meets
 noted H c U M W τ m = let x = W .extends τ m in W .steady .local (x .0) τ (x .2) (x .1) .1
 
@@ -243,7 +243,7 @@ module _ (s d w : List ℕ) (stack at free k : ℕ) (a b : Schema) (A : SchemaAs
           -- AFTER 36. The right side's rows have their types in s₃, w₃, and both tables are merged in w₄.
           module _ (T : RowsTold s₂ d w₂ free m (free + tableWords) n true) (s₃ w₃ w₄ : List ℕ) (r e : ℕ) (E : Spared w₁ w₃ stack (free + tableWords)) (B : Stored s₁ s₃ at₁ e)
               (kept : (H : Items) (U : List ℕ) (Γ : Scope) (Z : Paired s₁ s₂ d w₁ w₂ m n free H U Γ a b) →
-              ((τ : Table) → Meets (Sides H a b Γ) τ → Meets (mergeNames k (schemaSignature b Γ) (schemaSignature a Γ)) τ) →
+              ((τ : Valuation) → Meets (Sides H a b Γ) τ → Meets (mergeNames k (schemaSignature b Γ) (schemaSignature a Γ)) τ) →
               Carries (Placed s₃ d (Sides H a b Γ) (Z .unknowns)) (schemaSignature b Γ) (rows w₃ (free + tableWords) n))
               (W : Written w₃ w₄ free (mergeRows (rows w₃ (free + tableWords) n) (rows w₃ free m)) r) where
             spared₄ : Spared w w₄ stack free

@@ -14,7 +14,7 @@ use Rattle.checker_rules.specs.Dictionary.{Dictionary}
 use Rattle.checker_rules.specs.Items.{Items, skip, _⨾_, equate, piece, Meets, And, Agree, Passes}
 use Rattle.checker_rules.specs.Rules.{exprItems}
 use Rattle.checker_rules.specs.Scopes.{Scope, globals, local}
-use Rattle.checker_rules.specs.Unknowns.{Table, slot}
+use Rattle.checker_rules.specs.Unknowns.{Valuation, slot}
 use Rattle.checker_rules.specs.WellFormed.{FormedDictionary}
 use Rattle.checker_rules.proofs.FormedItems.{FormedItems, isPower-formed, formedExpr}
 use Rattle.checker_rules.proofs.FormedScopes.{FormedScope}
@@ -28,17 +28,17 @@ use Rattle.checker_contracts.specs.Visits.{idle}
 use Rattle.checker_contracts.proofs.Normal.{normal, normalTable, Normal, normal-formed, normal-same, normal-under, term-formed, normal-items}
 
 -- The scope's terms have the types that τ gives them.
-unfoldable pins : Table → Scope → Items
+unfoldable pins : Valuation → Scope → Items
 pins τ (globals D) = skip
 pins τ (local i t Γ) = equate 33 0 t (instance nil (under τ t)) ⨾ pins τ Γ
 
 -- As τ meets.
-pins-met : (τ : Table) (Γ : Scope) → Meets (pins τ Γ) τ
+pins-met : (τ : Valuation) (Γ : Scope) → Meets (pins τ Γ) τ
 unfolding pins Meets
 pins-met τ (globals D) = tt
 pins-met τ (local i t Γ) = (sym (instance-none τ (under τ t)), pins-met τ Γ)
 
-module _ (s d : List ℕ) (H : Items) (U : List ℕ) (D : Dictionary) (τ : Table) (m : Meets H τ) where
+module _ (s d : List ℕ) (H : Items) (U : List ℕ) (D : Dictionary) (τ : Valuation) (m : Meets H τ) where
   abbrev Row : Term → ℕ → Type 0
   Row = SettledAt s d (idle H U)
 
@@ -55,7 +55,7 @@ module _ (s d : List ℕ) (H : Items) (U : List ℕ) (D : Dictionary) (τ : Tabl
   scope-formed (local i t Γ) (r ∷ st) k f = (term-formed τ t (type-formed t (r .1) (k .1)), scope-formed Γ st (k .2) f)
 
   -- What is said of the terms depends on the unknowns U alone, ..
-  pins-local : (Γ : Scope) (st : List (ℕ × ℕ)) → Stacked Row Γ st D → (σ σ′ : Table) → SameOn U σ σ′ → Meets (pins τ Γ) σ → Meets (pins τ Γ) σ′
+  pins-local : (Γ : Scope) (st : List (ℕ × ℕ)) → Stacked Row Γ st D → (σ σ′ : Valuation) → SameOn U σ σ′ → Meets (pins τ Γ) σ → Meets (pins τ Γ) σ′
   unfolding Stacked pins Meets
   pins-local (globals E) st k σ σ′ h n = tt
   pins-local (local i t Γ) [] k σ σ′ h n = absurd k
@@ -76,7 +76,7 @@ module _ (s d : List ℕ) (H : Items) (U : List ℕ) (D : Dictionary) (τ : Tabl
       )
 
   -- After these items the scope is what it was.
-  pinned : (H′ : Items) (Γ : Scope) (st : List (ℕ × ℕ)) → ((σ : Table) → Meets H′ σ → Meets (pins τ Γ) σ) → Stacked Row Γ st D → Stacked (SettledAt s d (idle H′ U)) Γ st D
+  pinned : (H′ : Items) (Γ : Scope) (st : List (ℕ × ℕ)) → ((σ : Valuation) → Meets H′ σ → Meets (pins τ Γ) σ) → Stacked Row Γ st D → Stacked (SettledAt s d (idle H′ U)) Γ st D
   unfolding Stacked pins Meets
   pinned H′ (globals E) [] says k = k
   pinned H′ (globals E) (r ∷ st) says k = absurd k
@@ -100,7 +100,7 @@ module _ (s d w : List ℕ) (rows : ℕ) (a : Expr) (New : List ℕ → Type 0) 
   abbrev pub Closes : Type 0
   Closes = (H : Items) (U : List ℕ) → Steady H U → Scoped s d w rows (idle H U) Γ D → New U → Passes (piece n closedItems) (Meets H)
 
-  pub settled-formed : Closes → SizedExpr a → (H : Items) (U : List ℕ) → Scoped s d w rows (idle H U) Γ D → New U → (τ : Table) → Meets (H ⨾ piece n closedItems) τ →
+  pub settled-formed : Closes → SizedExpr a → (H : Items) (U : List ℕ) → Scoped s d w rows (idle H U) Γ D → New U → (τ : Valuation) → Meets (H ⨾ piece n closedItems) τ →
       WellFormed (τ (slot n k))
   unfolding Meets Passes FormedItems Agree
   settled-formed C z H U S f τ h =

@@ -17,7 +17,7 @@ use Rattle.types_rules.specs.Formed.{FormedType, Arity, Ascending}
 use Rattle.types_rules.specs.Instance.{instance}
 use Rattle.types_rules.specs.Types.{Ty, Tys, node, Term, nil}
 use Rattle.checker_rules.specs.Conditions.{refuseIf}
-use Rattle.checker_rules.specs.Dictionary.{Dictionary, Found, noSchema, aSchema, schemaIn}
+use Rattle.checker_rules.specs.Dictionary.{Dictionary, NamedSchema, noSchema, aSchema, schemaIn}
 use Rattle.checker_rules.specs.Items.{Items, skip, _⨾_, refusal, Meets, Refuses}
 use Rattle.checker_rules.specs.Rules.{includeRule, includeItems, actualItems}
 use Rattle.checker_rules.specs.Scopes.{Scope, schemaNamed, brought, includeSignature, includeNode}
@@ -111,7 +111,7 @@ module _ (s d w : List ℕ) (stack at free n id k : ℕ) (xs : Exprs) (rs : List
         subst (λ c. Refuses c (Meets H) 31 n) (sym (items-absent n id k xs rs Γ (in-dictionary H U Γ D C ∙ found D (C .recorded .holds) .absent z))) (refused H 31 n))
 
     module _ (some : e ≡ 0 → ⊥) where
-      entry : (D : Dictionary) → DictionaryHeld D d → Entry Found (schemaIn id D) aSchema d e
+      entry : (D : Dictionary) → DictionaryHeld D d → Entry NamedSchema (schemaIn id D) aSchema d e
       entry D R = found D (R .holds) .present (⊎-elim (λ z. absurd (some z)) (λ z. omega arith) (eq-zero-or-pos e))
 
       -- 32

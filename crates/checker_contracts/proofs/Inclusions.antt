@@ -17,7 +17,7 @@ use Rattle.checker_rules.specs.Items.{Items, skip, _⨾_, Meets, Refuses}
 use Rattle.checker_rules.specs.Rules.{includeItems, linesItems}
 use Rattle.checker_rules.specs.Scopes.{Scope, includeNode, includeSignature, linesSignature}
 use Rattle.checker_rules.specs.Signatures.{Signature, namesOf, countNames, merge}
-use Rattle.checker_rules.specs.Unknowns.{Table as Typing, row}
+use Rattle.checker_rules.specs.Unknowns.{Valuation, row}
 use Rattle.types_cells.specs.Layout.{poolSize}
 use Rattle.types_cells.specs.Settled.{heap, Reads}
 use Rattle.types_cells.proofs.Reading.{reads-one}
@@ -151,7 +151,7 @@ module _ (s d w : List ℕ) (stack base m at free : ℕ) (i : Include) (global :
         B = I .done .goes fine H U S Γ D C tt F
 
         -- the table after more items
-        table-later : (H′ : Items) → ((τ : Typing) → Meets H′ τ → Meets H τ) → Carries (Placed s₁ d H′ (B .unknowns)) r (rows w₁ base m)
+        table-later : (H′ : Items) → ((τ : Valuation) → Meets H′ τ → Meets H τ) → Carries (Placed s₁ d H′ (B .unknowns)) r (rows w₁ base m)
         table-later H′ says = carries-later s₁ d H H′ U (B .unknowns) (B .walked .wider) says r (rows w₁ base m) (table₁ H U r J)
 
       -- 36, beside the lines before

@@ -4,7 +4,7 @@ use mathlib.Core.Logic.{_↔_, inl, inr, ⊎-elim, _⊎_}
 use mathlib.Core.Path.{_≡_, refl, sym, ap, subst, _∙_}
 use Prim.Native.Nat.{ℕ, zero, suc}
 use lib.ListN.{getD, take}
-use Rattle.checker_rules.specs.Unknowns.{Table}
+use Rattle.checker_rules.specs.Unknowns.{Valuation}
 use Rattle.checker_rules.specs.Items.{Items, skip, _⨾_, Meets, Passes, Refuses}
 use Rattle.checker_rules.proofs.ItemLaws.{passes-ext, refuses-ext}
 use Rattle.checker_pieces.specs.Piece.{Steady, Walked}
@@ -49,7 +49,7 @@ AllWalked H (a ∷ l) U U′ M = (Y : List ℕ) × Walked H a U Y M × AllWalked
 
 -- H and H′ are met by the same tables.
 abbrev Same : Items → Items → Type 0
-Same H H′ = (τ : Table) → Meets H τ ↔ Meets H′ τ
+Same H H′ = (τ : Valuation) → Meets H τ ↔ Meets H′ τ
 
 -- THE GROUPING does not matter to a table.
 after-append : (H : Items) (l m : List Items) → after H (l ++ m) ≡ after (after H l) m

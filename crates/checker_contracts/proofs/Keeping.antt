@@ -17,7 +17,7 @@ use Rattle.checker_rules.specs.Dictionary.{Dictionary}
 use Rattle.checker_rules.specs.Items.{Items, Meets}
 use Rattle.checker_rules.specs.Scopes.{Scope, schemaSignature}
 use Rattle.checker_rules.specs.Signatures.{Signature, noNames, naming, namesOf}
-use Rattle.checker_rules.specs.Unknowns.{Table}
+use Rattle.checker_rules.specs.Unknowns.{Valuation}
 use Rattle.checker_rules.proofs.FormedScopes.{schema-rising}
 use Rattle.types_cells.specs.Layout.{areaSize}
 use Rattle.types_cells.specs.Settled.{heap, Reads, Areas}
@@ -50,7 +50,7 @@ use Rattle.checker_contracts.proofs.Scopes.{stored-reads, spared-on}
 use Rattle.checker_contracts.proofs.TableRows.{carries-row, rows-ready}
 
 -- Placed types are small.
-placed-small : (s d : List ℕ) (H : Items) (U : List ℕ) (n : ℕ) (q : Signature) (rs : List (ℕ × ℕ)) → Carries (Placed s d H U) q rs → (τ : Table) → Meets H τ → Meets (smallTypes n q) τ
+placed-small : (s d : List ℕ) (H : Items) (U : List ℕ) (n : ℕ) (q : Signature) (rs : List (ℕ × ℕ)) → Carries (Placed s d H U) q rs → (τ : Valuation) → Meets H τ → Meets (smallTypes n q) τ
 unfolding Carries smallTypes Meets
 placed-small s d H U n noNames rs C τ m = tt
 placed-small s d H U n (naming i t q) [] C τ m = absurd C
@@ -196,7 +196,7 @@ module _ (s d w : List ℕ) (stack at free k : ℕ) (a b : Schema) (A : SchemaAs
     rows₃ = let l = P .done .areas fine .few in rows-kept w₂ w₃ free m (λ i x y. T .words i (omega arith) (λ j o e. omega arith))
 
     kept : (H : Items) (U : List ℕ) (Γ : Scope) (Z : Paired s₁ s₂ d w₁ w₂ m n free H U Γ a b) →
-        ((τ : Table) → Meets (Sides H a b Γ) τ → Meets (mergeNames k (schemaSignature b Γ) (schemaSignature a Γ)) τ) →
+        ((τ : Valuation) → Meets (Sides H a b Γ) τ → Meets (mergeNames k (schemaSignature b Γ) (schemaSignature a Γ)) τ) →
         Carries (Placed s₃ d (Sides H a b Γ) (Z .unknowns)) (schemaSignature b Γ) (rows w₃ (free + tableWords) n)
     unfolding AllStandFor
     kept H U Γ Z M =
@@ -205,7 +205,7 @@ module _ (s d w : List ℕ) (stack at free k : ℕ) (a b : Schema) (A : SchemaAs
         (placed-small s₂ d (Sides H a b Γ) (Z .unknowns) k (schemaSignature b Γ) (rows w₂ (free + tableWords) n) (Z .right)) (Z .second .steady)
 
     module _ (H : Items) (U : List ℕ) (Γ : Scope) (Z : Paired s₁ s₂ d w₁ w₂ m n free H U Γ a b)
-        (M : (τ : Table) → Meets (Sides H a b Γ) τ → Meets (mergeNames k (schemaSignature b Γ) (schemaSignature a Γ)) τ) where
+        (M : (τ : Valuation) → Meets (Sides H a b Γ) τ → Meets (mergeNames k (schemaSignature b Γ) (schemaSignature a Γ)) τ) where
       names₂ : namesOf (schemaSignature b Γ) ≡ identifiersOf (rows w₂ (free + tableWords) n)
       names₂ = carries-names (Placed s₂ d (Sides H a b Γ) (Z .unknowns)) (schemaSignature b Γ) (rows w₂ (free + tableWords) n) (Z .right)
 

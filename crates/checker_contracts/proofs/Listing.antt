@@ -17,7 +17,7 @@ use Rattle.types_cells.specs.Store.{run}
 use Rattle.checker_pieces.specs.Stage.{Ghost, nodeCells}
 use Rattle.checker_pieces.specs.Building.{Cells, Building}
 use Rattle.checker_pieces.proofs.Stages.{building}
-use Rattle.checker_kinds.specs.Formers.{Operating, Listed}
+use Rattle.checker_kinds.specs.Formers.{Operating, DerivedList}
 use Rattle.checker_lookup.specs.References.{Actuals, Referring, ReferringWith, RefersWith}
 use Rattle.checker_lookup.specs.Thetas.{ThetaAsked}
 use Rattle.checker_contracts.specs.Expressions.{Visiting, ExprAsk, ExprDone, ExprsAsk, ExprsDone}
@@ -123,7 +123,7 @@ module _ (s d w : List ℕ) (rows n top at free : ℕ) (e : Expr) (xs : Exprs) (
 
       -- Set, Tuple, Product
       pub listing-done : (s₂ : List ℕ) (answer cell n₂ top₂ used : ℕ) (rule : ℕ → Exprs → Items) → ((Γ : Scope) → own Γ ≡ rule k xs) → used ≤ nodeCells → length s₂ ≡ length s₁ →
-          Listed s₁ s₂ d n₁ top₁ (take m parts₁) answer cell n₂ top₂ used rule → ExprDone s s₂ d w w₁ rows n top at free e answer k cell n₂ top₂ at₁
+          DerivedList s₁ s₂ d n₁ top₁ (take m parts₁) answer cell n₂ top₂ used rule → ExprDone s s₂ d w w₁ rows n top at free e answer k cell n₂ top₂ at₁
       listing-done s₂ answer cell n₂ top₂ used rule same few size R =
           let F = listed-ending s₁ s₂ d w₁ rows n₁ top₁ at₁ free k answer cell n₂ top₂ used size low₁ (L .clean) few (take m parts₁) rule R xs in
           listing-from s₂ answer cell n₂ top₂ record {

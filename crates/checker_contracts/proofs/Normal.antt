@@ -10,10 +10,10 @@ use native.Mathlib.Omega.{arith}
 use lib.Dec.{eqb}
 use lib.ListN.{length}
 use Rattle.types_rules.specs.Former.{Former, int, given, parameter, power, product, binding, identifiers}
-use Rattle.types_rules.specs.Types.{Ty, Tys, node, tnil, tcons, Term, Terms, unknown, con, nil, cons, under, unders, size, sizes, ℤ}
+use Rattle.types_rules.specs.Types.{Ty, Tys, node, tnil, tcons, Term, Terms, unknown, con, nil, cons, under, unders, size, sizes, integerType}
 use Rattle.types_rules.specs.Component.{pickType, componentType}
 use Rattle.types_rules.specs.Formed.{partCount, partCountType, Formed, Formeds, FormedType, FormedTypes, Ascending, Arity, WellFormed}
-use Rattle.checker_rules.specs.Unknowns.{Table}
+use Rattle.checker_rules.specs.Unknowns.{Valuation}
 use Rattle.checker_rules.specs.Items.{Items, skip, _⨾_, fresh, equate, select, small, refusal, piece, Known, Meets, And, Passes}
 use Rattle.checker_rules.proofs.FormedItems.{FormedItems}
 use Rattle.types_cells.proofs.Growing.{lt-or-ge}
@@ -58,7 +58,7 @@ decide-arity (binding l) n = decide-both (decide-equal (length l) n) (decide-asc
 -- THE NORMAL FORM of a type.
 unfoldable pub normalNode : {A : Type 0} → Decided A → Former → Tys → Ty
 normalNode (inl a) h gs = node h gs
-normalNode (inr a) h gs = ℤ
+normalNode (inr a) h gs = integerType
 
 unfoldable mutual
   pub normal : Ty → Ty
@@ -68,7 +68,7 @@ unfoldable mutual
   normals tnil = tnil
   normals (tcons g gs) = tcons (normal g) (normals gs)
 
-abbrev pub normalTable : Table → Table
+abbrev pub normalTable : Valuation → Valuation
 normalTable τ x = normal (τ x)
 
 normals-count : (gs : Tys) → partCountType (normals gs) ≡ partCountType gs
@@ -147,7 +147,7 @@ unfolding normal componentType
 normal-component i (node h gs) k n e = node-component (decide-arity h (partCountType gs)) i h gs k n e
 
 -- TERMS that are well formed.
-unders-count : (τ : Table) (ts : Terms) → partCountType (unders τ ts) ≡ partCount ts
+unders-count : (τ : Valuation) (ts : Terms) → partCountType (unders τ ts) ≡ partCount ts
 unfolding unders
 unders-count τ nil = refl
 unders-count τ (cons t ts) = ap suc (unders-count τ ts)
@@ -155,13 +155,13 @@ unders-count τ (cons t ts) = ap suc (unders-count τ ts)
 mutual
   unfolding normal under Formed
 
-  pub normal-under : (τ : Table) (t : Term) → Formed Arity t → under (normalTable τ) t ≡ normal (under τ t)
+  pub normal-under : (τ : Valuation) (t : Term) → Formed Arity t → under (normalTable τ) t ≡ normal (under τ t)
   normal-under τ (unknown x) f = refl
   normal-under τ (con h ts) f =
       ap (node h) (normals-under τ ts (f .1))
       ∙ sym (node-kept (decide-arity h (partCountType (unders τ ts))) h (normals (unders τ ts)) (subst (Arity h) (sym (unders-count τ ts)) (f .0)))
 
-  normals-under : (τ : Table) (ts : Terms) → Formeds Arity ts → unders (normalTable τ) ts ≡ normals (unders τ ts)
+  normals-under : (τ : Valuation) (ts : Terms) → Formeds Arity ts → unders (normalTable τ) ts ≡ normals (unders τ ts)
   normals-under τ nil f = refl
   normals-under τ (cons t ts) f = ap₂ tcons (normal-under τ t (f .0)) (normals-under τ ts (f .1))
 
@@ -169,19 +169,19 @@ mutual
 mutual
   unfolding under Formed FormedType
 
-  pub term-formed : (τ : Table) (t : Term) → WellFormed (under τ t) → Formed Arity t
+  pub term-formed : (τ : Valuation) (t : Term) → WellFormed (under τ t) → Formed Arity t
   term-formed τ (unknown x) f = tt
   term-formed τ (con h ts) f = (subst (Arity h) (unders-count τ ts) (f .0), terms-formed τ ts (f .1))
 
-  terms-formed : (τ : Table) (ts : Terms) → FormedTypes Arity (unders τ ts) → Formeds Arity ts
+  terms-formed : (τ : Valuation) (ts : Terms) → FormedTypes Arity (unders τ ts) → Formeds Arity ts
   terms-formed τ nil f = tt
   terms-formed τ (cons t ts) f = (term-formed τ t (f .0), terms-formed τ ts (f .1))
 
 -- ITEMS of such terms that pass.
-abbrev pub Normal : (Table → Type 0) → Type 0
-Normal P = (τ : Table) → P τ → P (normalTable τ)
+abbrev pub Normal : (Valuation → Type 0) → Type 0
+Normal P = (τ : Valuation) → P τ → P (normalTable τ)
 
-pub normal-items : (c : Items) (P : Table → Type 0) → Normal P → FormedItems c → Passes c P → (τ : Table) → P τ → Meets c τ → Meets c (normalTable τ)
+pub normal-items : (c : Items) (P : Valuation → Type 0) → Normal P → FormedItems c → Passes c P → (τ : Valuation) → P τ → Meets c τ → Meets c (normalTable τ)
 unfolding FormedItems Passes Meets
 normal-items skip P N f p τ m h = tt
 normal-items (a ⨾ b) P N f p τ m h = (

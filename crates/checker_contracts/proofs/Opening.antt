@@ -6,7 +6,7 @@ use mathlib.Core.Logic.{_↔_, inl}
 use Prim.Native.Nat.{ℕ, _<_, _^_}
 use native.Mathlib.Omega.{arith}
 use lib.ListN.{length}
-use Rattle.checker_rules.specs.Unknowns.{Table}
+use Rattle.checker_rules.specs.Unknowns.{Valuation}
 use Rattle.checker_rules.specs.Items.{Items, skip, _⨾_, piece, Meets, Agree, Passes, Refuses}
 use Rattle.checker_rules.proofs.ItemLaws.{passes-ext, refuses-ext}
 use Rattle.checker_pieces.specs.Piece.{Steady, Walked, Stops}
@@ -26,7 +26,7 @@ opened s d H U S z few = record {
 }
 
 -- No item before the first.
-without-skip : (H : Items) (τ : Table) → Meets (H ⨾ skip) τ ↔ Meets H τ
+without-skip : (H : Items) (τ : Valuation) → Meets (H ⨾ skip) τ ↔ Meets H τ
 unfolding Meets
 without-skip H τ = (λ h. h .0, λ h. (h, tt))
 

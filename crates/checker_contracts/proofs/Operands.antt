@@ -19,7 +19,7 @@ use Rattle.checker_pieces.specs.Stage.{Cell, nodeCells}
 use Rattle.checker_pieces.specs.Building.{Cells}
 use Rattle.checker_pieces.proofs.Stages.{next-cell, placed-cell, no-cells}
 use Rattle.checker_kinds.specs.Equations.{Combined}
-use Rattle.checker_kinds.specs.Formers.{Listed, Derived}
+use Rattle.checker_kinds.specs.Formers.{DerivedList, Derived}
 use Rattle.checker_lookup.specs.References.{Actuals, RefersWith}
 use Rattle.checker_lookup.specs.Thetas.{ThetaRuled}
 use Rattle.checker_contracts.specs.Visits.{Owned, Fresh}
@@ -111,13 +111,13 @@ module _ (s s′ d w : List ℕ) (rows n top at free k number cell n′ top′ u
         rule-ending s s′ d w w rows n top n′ top′ at free k number cell used (λ Γ. own k t u) (λ Γ D G. Cell s d n G x t × Cell s d n G y u) (spared-refl w rows free) size (R .low) room clean few (R .uses)
         (λ G St Γ D C v b. R .ruled G St k v t u (b .0) (b .1))
 
-    pub listed-ending : (l : List ℕ) (own : ℕ → Exprs → Items) → Listed s s′ d n top l number cell n′ top′ used own → (xs : Exprs) →
+    pub listed-ending : (l : List ℕ) (own : ℕ → Exprs → Items) → DerivedList s s′ d n top l number cell n′ top′ used own → (xs : Exprs) →
         Ending s s′ d w w rows n top at free (λ Γ. own k xs) (k ∷ []) (λ Γ D G. Cells s d n G l (typesOf xs)) (slot k 0) number k cell n′ top′ at
     listed-ending l own R xs =
         rule-ending s s′ d w w rows n top n′ top′ at free k number cell used (λ Γ. own k xs) (λ Γ D G. Cells s d n G l (typesOf xs)) (spared-refl w rows free) size (R .low) room clean few (R .uses)
         (λ G St Γ D C v b. R .ruled G St k v xs b)
 
-    pub bare-ending : (own : ℕ → Exprs → Items) → Listed s s′ d n top [] number cell n′ top′ used own → Ending s s′ d w w rows n top at free (λ Γ. own k none) (k ∷ []) nothing (slot k 0) number k cell n′ top′ at
+    pub bare-ending : (own : ℕ → Exprs → Items) → DerivedList s s′ d n top [] number cell n′ top′ used own → Ending s s′ d w w rows n top at free (λ Γ. own k none) (k ∷ []) nothing (slot k 0) number k cell n′ top′ at
     unfolding typesOf
     bare-ending own R =
         rule-ending s s′ d w w rows n top n′ top′ at free k number cell used (λ Γ. own k none) nothing (spared-refl w rows free) size (R .low) room clean few (R .uses)

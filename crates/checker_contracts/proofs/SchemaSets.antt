@@ -19,7 +19,7 @@ use Rattle.checker_rules.specs.Items.{Items, _⨾_, Meets, Agree, And, Passes, 
 use Rattle.checker_rules.specs.Rules.{exprItems, includeItems, schemaItems}
 use Rattle.checker_rules.specs.Scopes.{Scope, includeSignature, includeNode}
 use Rattle.checker_rules.specs.Signatures.{Signature, bindingOf}
-use Rattle.checker_rules.specs.Unknowns.{Table, slot, powerOf}
+use Rattle.checker_rules.specs.Unknowns.{Valuation, slot, powerOf}
 use Rattle.types_cells.specs.Layout.{firstRun, frozenSize, areaSize, poolSize, maxCells}
 use Rattle.types_cells.specs.Settled.{lower}
 use Rattle.types_solver.specs.Written.{Wrote}
@@ -54,7 +54,7 @@ alike-inner t a b c = (
   λ τ τ′. (λ h. (h .0, (h .1 .0 .0, (h .1 .0 .1, h .1 .1))), λ h. (h .0, ((h .1 .0, h .1 .1 .0), h .1 .1 .1))),
 )
 
-and-group : (P : Table → Type 0) (a b : Items) (τ : Table) → And P (a ⨾ b) τ ↔ And (And P a) b τ
+and-group : (P : Valuation → Type 0) (a b : Items) (τ : Valuation) → And P (a ⨾ b) τ ↔ And (And P a) b τ
 unfolding Meets
 and-group P a b τ = (λ h. ((h .0, h .1 .0), h .1 .1), λ h. (h .0 .0, (h .0 .1, h .1)))
 
@@ -96,7 +96,7 @@ carries-settled s d H U r rs C =
     carries-other (Placed s d H U) (SettledAt s d (idle H U)) (λ t p P. record { over = P .typed .over; type = P .typed .type; reads = P .typed .reads; means = λ τ m. P .typed .settled τ (m .0) }) r rs C
 
 carries-moved : (s s′ d : List ℕ) (G G′ : Ghost) → lower s′ ≡ lower s → ((x : ℕ) → In x (G .mentioned) → In x (G′ .mentioned)) →
-    ((τ : Table) → Meets (G′ .before ⨾ G′ .items) τ → Meets (G .before ⨾ G .items) τ) → (r : Signature) (rs : List (ℕ × ℕ)) → Carries (SettledAt s d G) r rs → Carries (SettledAt s′ d G′) r rs
+    ((τ : Valuation) → Meets (G′ .before ⨾ G′ .items) τ → Meets (G .before ⨾ G .items) τ) → (r : Signature) (rs : List (ℕ × ℕ)) → Carries (SettledAt s d G) r rs → Carries (SettledAt s′ d G′) r rs
 carries-moved s s′ d G G′ low wider says r rs C = carries-other (SettledAt s d G) (SettledAt s′ d G′) other r rs C
   where
     other : (t : Term) (p : ℕ) → SettledAt s d G t p → SettledAt s′ d G′ t p

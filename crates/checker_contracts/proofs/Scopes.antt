@@ -11,7 +11,7 @@ use Rattle.checker_rules.specs.Dictionary.{Dictionary}
 use Rattle.checker_rules.specs.Items.{Items, _⨾_, Meets}
 use Rattle.checker_rules.specs.Scopes.{Scope}
 use Rattle.checker_rules.specs.Signatures.{Signature}
-use Rattle.checker_rules.specs.Unknowns.{Table}
+use Rattle.checker_rules.specs.Unknowns.{Valuation}
 use Rattle.types_cells.specs.Layout.{areaSize, poolSize}
 use Rattle.types_cells.specs.Settled.{lower, heap, Reads}
 use Rattle.checker_signatures.specs.Rows.{rows, stack}
@@ -85,7 +85,7 @@ carries-spared w w′ n free base m R r S l q C = subst (Carries R r) (sym (rows
 
 -- LATER: items that say more, about more unknowns.
 module _ (s d w : List ℕ) (n : ℕ) (Γ : Scope) (D : Dictionary) (G G′ : Ghost) (wider : (x : ℕ) → In x (G .mentioned) → In x (G′ .mentioned))
-    (says : (τ : Table) → Meets (G′ .before ⨾ G′ .items) τ → Meets (G .before ⨾ G .items) τ) where
+    (says : (τ : Valuation) → Meets (G′ .before ⨾ G′ .items) τ → Meets (G .before ⨾ G .items) τ) where
   settled-later : (t : Term) (p : ℕ) → SettledAt s d G t p → SettledAt s d G′ t p
   settled-later t p T = record {
     over = each-map (λ y. In y (G .mentioned)) (λ y. In y (G′ .mentioned)) wider t (T .over);
@@ -103,7 +103,7 @@ unfolding Meets
 scoped-idle s d w n Γ D G C = scoped-later s d w n Γ D G (idle (G .before ⨾ G .items) (G .mentioned)) (λ x i. i) (λ τ m. m .0) C
 
 pub scoped-piece : (s d w : List ℕ) (n : ℕ) (Γ : Scope) (D : Dictionary) (H : Items) (U : List ℕ) (G : Ghost) → ((x : ℕ) → In x U → In x (G .mentioned)) →
-    ((τ : Table) → Meets (G .before ⨾ G .items) τ → Meets H τ) → Scoped s d w n (idle H U) Γ D → Scoped s d w n G Γ D
+    ((τ : Valuation) → Meets (G .before ⨾ G .items) τ → Meets H τ) → Scoped s d w n (idle H U) Γ D → Scoped s d w n G Γ D
 unfolding Meets
 scoped-piece s d w n Γ D H U G wider says C = scoped-later s d w n Γ D (idle H U) G wider (λ τ m. (says τ m, tt)) C
 
@@ -113,7 +113,7 @@ pub scoped-walked : (s d w : List ℕ) (n : ℕ) (Γ : Scope) (D : Dictionary) (
 unfolding Meets
 scoped-walked s d w n Γ D H c U U′ M W C = scoped-later s d w n Γ D (idle H U) (idle (H ⨾ c) U′) (W .wider) (λ τ m. (m .0 .0, tt)) C
 
-pub carries-later : (s d : List ℕ) (H H′ : Items) (U U′ : List ℕ) → ((x : ℕ) → In x U → In x U′) → ((τ : Table) → Meets H′ τ → Meets H τ) → (r : Signature) (rs : List (ℕ × ℕ)) →
+pub carries-later : (s d : List ℕ) (H H′ : Items) (U U′ : List ℕ) → ((x : ℕ) → In x U → In x U′) → ((τ : Valuation) → Meets H′ τ → Meets H τ) → (r : Signature) (rs : List (ℕ × ℕ)) →
     Carries (Placed s d H U) r rs → Carries (Placed s d H′ U′) r rs
 carries-later s d H H′ U U′ wider says r rs C = carries-other (Placed s d H U) (Placed s d H′ U′) other r rs C
   where

@@ -11,7 +11,7 @@ use Rattle.types_rules.specs.Types.{Ty}
 use Rattle.checker_rules.specs.Dictionary.{Dictionary}
 use Rattle.checker_rules.specs.Items.{Items, _⨾_, Meets, Agree, Refuses}
 use Rattle.checker_rules.specs.Scopes.{Scope}
-use Rattle.checker_rules.specs.Unknowns.{Table}
+use Rattle.checker_rules.specs.Unknowns.{Valuation}
 use Rattle.types_cells.specs.Layout.{maxPending, firstRun, frozenSize, areaSize, poolSize, maxCells}
 use Rattle.types_cells.specs.Store.{frozen, tagAt, run}
 use Rattle.types_cells.specs.Settled.{lower}
@@ -195,7 +195,7 @@ module _ (s d w w₁ : List ℕ) (rows n top at free h e : ℕ) (l rest : List �
             }
 
             -- THE PIECE WITH THE ITEMS c of the pieces inside it.
-            unfoldable taken : (c : Items) (U : List ℕ) → Walked (G .before ⨾ G .items) c (G .mentioned) U (Owned l) → ((τ τ′ : Table) → Agree c τ τ′) → Advanced s s₂ d n top n top G c (Owned l)
+            unfoldable taken : (c : Items) (U : List ℕ) → Walked (G .before ⨾ G .items) c (G .mentioned) U (Owned l) → ((τ τ′ : Valuation) → Agree c τ τ′) → Advanced s s₂ d n top n top G c (Owned l)
             taken c U Z agrees =
                 let S′ = back .solved (G .equations) (St .piece .L) (St .piece .solved) in
                 let P′ = back .pinned (St .piece .pinned) in
@@ -214,11 +214,11 @@ module _ (s d w w₁ : List ℕ) (rows n top at free h e : ℕ) (l rest : List �
                 }
 
           -- A PART OF THE EXPRESSION: its items are those of the pieces inside.
-          module _ (c : Scope → Items) (agrees : (Γ : Scope) (τ τ′ : Table) → Agree (c Γ) τ τ′) (later after : Fact) (reach : at₁ < poolSize)
+          module _ (c : Scope → Items) (agrees : (Γ : Scope) (τ τ′ : Valuation) → Agree (c Γ) τ τ′) (later after : Fact) (reach : at₁ < poolSize)
               (inner : (H : Items) (U : List ℕ) → Steady H U → (Γ : Scope) (D : Dictionary) → Scoped s d w₁ rows (idle H U) Γ D → Fresh l U →
               (U′ : List ℕ) × Walked H (c Γ) U U′ (Owned l) × later Γ D (idle (H ⨾ c Γ) U′))
               (carry : (Γ : Scope) (D : Dictionary) (G G′ : Ghost) → ((x : ℕ) → In x (G .mentioned) → In x (G′ .mentioned)) →
-              ((τ : Table) → Meets (G′ .before ⨾ G′ .items) τ → Meets (G .before ⨾ G .items) τ) → later Γ D G → after Γ D G′) where
+              ((τ : Valuation) → Meets (G′ .before ⨾ G′ .items) τ → Meets (G .before ⨾ G .items) τ) → later Γ D G → after Γ D G′) where
             pub waiting-step : Step s s₂ d w w₂ rows n top n top at at₁ free c l nothing after
             unfolding Meets taken
             waiting-step = record {

@@ -11,7 +11,7 @@ use Rattle.checker_rules.specs.Dictionary.{Entry, Dictionary}
 use Rattle.checker_rules.specs.Entries.{extend}
 use Rattle.checker_rules.specs.Items.{Meets, Any, Passes, Refuses}
 use Rattle.checker_rules.specs.Rules.{paragraphItems}
-use Rattle.checker_rules.specs.Unknowns.{Table}
+use Rattle.checker_rules.specs.Unknowns.{Valuation}
 use Rattle.types_cells.specs.Layout.{areaSize}
 use Rattle.types_cells.specs.Settled.{lower}
 use Rattle.checker_dictionary.specs.Waiting.{withEntries, waiting, Waits}
@@ -38,7 +38,7 @@ pub record ParagraphAsk (s d w : List ℕ) (p : Paragraph) : Type 0 where
 -- The entries of the paragraph p over the dictionary D wait at the place `at` of w, `count` of them.
 pub record Extended (w : List ℕ) (p : Paragraph) (D : Dictionary) (at count : ℕ) : Type 0 where
   pub passes : Passes (paragraphItems p D) Any
-  pub table : Table
+  pub table : Valuation
   pub meets : Meets (paragraphItems p D) table
   pub entries : List Entry
   pub counted : length entries ≡ count

@@ -12,7 +12,7 @@ use Rattle.types_rules.specs.Types.{Ty}
 use Rattle.types_rules.specs.Words.{words}
 use Rattle.types_rules.specs.Formed.{WellFormed}
 use Rattle.checker_rules.specs.Dictionary.{Entry, nameEntry, schemaEntry, Dictionary, blank, _▸_, entryWords, entries, laidOutWords, dictionaryWords, dictionaryLength}
-use Rattle.checker_rules.specs.Dictionary.{Named, unnamed, ofGlobal, nameIn, Found, noSchema, aSchema, schemaIn}
+use Rattle.checker_rules.specs.Dictionary.{Named, unnamed, ofGlobal, nameIn, NamedSchema, noSchema, aSchema, schemaIn}
 use Rattle.checker_rules.specs.WellFormed.{FormedDictionary}
 use Rattle.checker_rules.proofs.FormedScopes.{FormedNamed, FormedFound, nameIn-formed, schemaIn-formed}
 use Rattle.checker_dictionary.specs.Holds.{Holds}
@@ -146,7 +146,7 @@ name-found D d i h = located Named unnamed ofGlobal 1 i (nameIn i) refl (name-st
 
 pub schema-found : (D : Dictionary) (d : List ℕ) (s : ℕ) → Holds D d → SchemaFound D d s (newest (isEntry d 2 s) (count d))
 unfolding schemaIn
-schema-found D d s h = located Found noSchema aSchema 2 s (schemaIn s) refl (schema-step s) d D h
+schema-found D d s h = located NamedSchema noSchema aSchema 2 s (schemaIn s) refl (schema-step s) d D h
 
 -- the types of a well-formed dictionary are well formed
 pub name-formed : (D : Dictionary) (i p : ℕ) (g : Ty) → FormedDictionary D → nameIn i D ≡ ofGlobal p g → WellFormed g

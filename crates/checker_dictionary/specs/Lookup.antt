@@ -8,7 +8,7 @@ use lib.ListN.{getD, drop}
 use Rattle.layout.specs.Layout.{offsetAt}
 use Rattle.types_rules.specs.Types.{Ty}
 use Rattle.types_rules.specs.Words.{words}
-use Rattle.checker_rules.specs.Dictionary.{Dictionary, Named, unnamed, ofGlobal, nameIn, Found, noSchema, aSchema, schemaIn}
+use Rattle.checker_rules.specs.Dictionary.{Dictionary, Named, unnamed, ofGlobal, nameIn, NamedSchema, noSchema, aSchema, schemaIn}
 
 -- The words of entry k (document 01, "Entry: class, identifier or schema name, parameter count, type"); a type is known by its place.
 unfoldable pub classAt : List ℕ → ℕ → ℕ
@@ -50,4 +50,4 @@ abbrev pub NameFound : Dictionary → List ℕ → ℕ → ℕ → Type 0
 NameFound D d i k = Located Named (nameIn i D) unnamed ofGlobal d k
 
 abbrev pub SchemaFound : Dictionary → List ℕ → ℕ → ℕ → Type 0
-SchemaFound D d s k = Located Found (schemaIn s D) noSchema aSchema d k
+SchemaFound D d s k = Located NamedSchema (schemaIn s D) noSchema aSchema d k

@@ -17,7 +17,7 @@ use Rattle.checker_rules.specs.Entries.{extend}
 use Rattle.checker_rules.specs.Items.{Items, skip, _⨾_, small, piece, Meets, Refuses}
 use Rattle.checker_rules.specs.Rules.{paragraphItems, exprItems}
 use Rattle.checker_rules.specs.Scopes.{Scope, globals, withParameters}
-use Rattle.checker_rules.specs.Unknowns.{Table, slot}
+use Rattle.checker_rules.specs.Unknowns.{Valuation, slot}
 use Rattle.types_cells.specs.Layout.{firstRun, poolSize}
 use Rattle.types_cells.specs.Settled.{lower}
 use Rattle.types_solver.specs.Sizes.{cap}

@@ -5,12 +5,12 @@ use mathlib.Core.Logic.{inl}
 use Prim.Native.Nat.{ℕ, _≤_, _<_, _^_}
 use native.Mathlib.Omega.{arith}
 use lib.ListN.{length}
-use Rattle.types_rules.specs.Types.{ℤ}
+use Rattle.types_rules.specs.Types.{integerType}
 use Rattle.checker_rules.specs.Check.{checkWorkWords}
 use Rattle.checker_rules.specs.Dictionary.{Dictionary}
 use Rattle.checker_rules.specs.Items.{Items, skip, Meets, Any, Passes, Refuses}
 use Rattle.checker_rules.specs.Scopes.{Scope, globals}
-use Rattle.checker_rules.specs.Unknowns.{Table}
+use Rattle.checker_rules.specs.Unknowns.{Valuation}
 use Rattle.checker_rules.proofs.ItemLaws.{passes-ext, refuses-ext}
 use Rattle.checker_signatures.specs.Rows.{stack}
 use Rattle.checker_signatures.specs.Carried.{Stacked}
@@ -24,7 +24,7 @@ use Rattle.types_cells.specs.Layout.{areaSize}
 
 pub nothing-before : Steady skip []
 unfolding Meets
-nothing-before = record { local = λ τ τ′ h m. tt; some = (λ x. ℤ, tt) }
+nothing-before = record { local = λ τ τ′ h m. tt; some = (λ x. integerType, tt) }
 
 pub nothing-known : (l : List ℕ) → Fresh l []
 nothing-known l x o i = i

@@ -9,7 +9,7 @@ use Rattle.checker_rules.specs.Dictionary.{Dictionary, _▸_, Entry, nameEntry}
 use Rattle.checker_rules.specs.Entries.{addSignature}
 use Rattle.checker_rules.specs.Items.{Items, Meets}
 use Rattle.checker_rules.specs.Signatures.{Signature, noNames, naming, namesOf, termsOf, bindingOf}
-use Rattle.checker_rules.specs.Unknowns.{Table}
+use Rattle.checker_rules.specs.Unknowns.{Valuation}
 use Rattle.types_cells.specs.Settled.{heap}
 use Rattle.checker_signatures.specs.Rows.{identifiersOf}
 use Rattle.checker_signatures.specs.Carried.{Carries}
@@ -23,8 +23,8 @@ pub record TypesOf (s d : List ℕ) (H : Items) (r : Signature) (rs : List (ℕ 
   pub stand : TypesAt (heap s d) rs types
   pub small : AllSmall types
   pub count : length (nameEntries rs types) ≡ length rs
-  pub means : (τ : Table) → Meets H τ → unders τ (termsOf r) ≡ types
-  pub adds : (τ : Table) → Meets H τ → (D : Dictionary) → addSignature r τ D ≡ withEntries (nameEntries rs types) D
+  pub means : (τ : Valuation) → Meets H τ → unders τ (termsOf r) ≡ types
+  pub adds : (τ : Valuation) → Meets H τ → (D : Dictionary) → addSignature r τ D ≡ withEntries (nameEntries rs types) D
 
 pub types-of : (s d : List ℕ) (H : Items) (U : List ℕ) (r : Signature) (rs : List (ℕ × ℕ)) → Carries (Placed s d H U) r rs → TypesOf s d H r rs
 unfolding Carries TypesAt AllSmall nameEntries termsOf unders addSignature withEntries
@@ -47,6 +47,6 @@ types-of s d H U (naming i t r) (x ∷ rs) C =
 
 -- The binding of the signature.
 pub binding-of : (s d : List ℕ) (H : Items) (U : List ℕ) (r : Signature) (rs : List (ℕ × ℕ)) → Carries (Placed s d H U) r rs → (T : TypesOf s d H r rs) →
-    (τ : Table) → Meets H τ → under τ (bindingOf r) ≡ node (binding (identifiersOf rs)) (T .types)
+    (τ : Valuation) → Meets H τ → under τ (bindingOf r) ≡ node (binding (identifiersOf rs)) (T .types)
 unfolding bindingOf under
 binding-of s d H U r rs C T τ m = ap₂ (λ (l : List ℕ) (gs : Tys). node (binding l) gs) (carries-names (Placed s d H U) r rs C) (T .means τ m)

@@ -24,14 +24,14 @@ use Rattle.checker_dictionary.proofs.WaitingLaws.{entries-grow}
 use Rattle.checker_lookup.specs.Scoped.{DictionaryHeld}
 use Rattle.reader_rules.proofs.FewParameters.{few-parameters}
 use Rattle.checker_contracts.specs.Paragraphs.{ParagraphAsk, Extended, ParagraphDone, maxWaiting}
-use Rattle.checker_extension.specs.Entering.{Listed, Ready, Entered, maxAdded}
+use Rattle.checker_extension.specs.Entering.{IsParagraph, BetweenParagraphs, Entered, maxAdded}
 use Rattle.checker_extension.proofs.HeldParts.{held-part, held-rest, held-whole, recorded-part}
 use Rattle.checker_extension.proofs.ListedLaws.{listed-at, listed-limited, listed-sized, node-is}
 use Rattle.checker_extension.proofs.GrownLaws.{extended-recorded, entries-length, entries-few}
 
 -- The words in use are what a paragraph asks for.
 module _ (d part : List ℕ) (n : ℕ) (e : n ≡ sizeAt d) (q : part ≡ take n (drop 0 d)) where
-  pub visit-ask : (doc s w : List ℕ) (k : ℕ) → Listed doc k → Ready s d w → At doc paragraphs k × ParagraphAsk s part w (paragraphAt doc k)
+  pub visit-ask : (doc s w : List ℕ) (k : ℕ) → IsParagraph doc k → BetweenParagraphs s d w → At doc paragraphs k × ParagraphAsk s part w (paragraphAt doc k)
   visit-ask doc s w k L R =
       let at = listed-at doc k L in
       let h = R .recorded .holds in
@@ -76,7 +76,7 @@ append-part D es d d₁ r n high H few A =
       full = λ q. let l = length-take-le n d high in let z = X .full q in absurd (omega arith);
     }
 
-module _ (doc : List ℕ) (k : ℕ) (L : Listed doc k) (s s′ d w w′ : List ℕ) (R : Ready s d w) (f m at c : ℕ) (X : ParagraphDone s s′ d w w′ (paragraphAt doc k) f m at c) where
+module _ (doc : List ℕ) (k : ℕ) (L : IsParagraph doc k) (s s′ d w w′ : List ℕ) (R : BetweenParagraphs s d w) (f m at c : ℕ) (X : ParagraphDone s s′ d w w′ (paragraphAt doc k) f m at c) where
   p : Paragraph
   p = paragraphAt doc k
 

@@ -5,7 +5,7 @@ use Prim.Native.Nat.{ℕ, _+_, _≤_}
 use native.Mathlib.Omega.{arith}
 use lib.ListN.{length, length-append}
 use Rattle.reader_rules.specs.Tree.{Paragraph}
-use Rattle.types_rules.specs.Types.{ℤ}
+use Rattle.types_rules.specs.Types.{integerType}
 use Rattle.types_rules.specs.Substitution.{empty}
 use Rattle.types_rules.specs.Formed.{Arity}
 use Rattle.types_rules.proofs.Formed.{sol-fit}
@@ -13,8 +13,8 @@ use Rattle.checker_rules.specs.Dictionary.{Entry, entryWords, Dictionary, _▸_
 use Rattle.checker_rules.specs.Entries.{extend}
 use Rattle.checker_rules.specs.Items.{Items, Meets, Any, Passes}
 use Rattle.checker_rules.specs.Rules.{paragraphItems}
-use Rattle.checker_rules.specs.Solving.{Solved, pass, refuse, unknowns, solve, tableOf}
-use Rattle.checker_rules.specs.Unknowns.{Table}
+use Rattle.checker_rules.specs.Solving.{Solved, pass, refuse, unknowns, solve, valuationOf}
+use Rattle.checker_rules.specs.Unknowns.{Valuation}
 use Rattle.checker_rules.specs.WellFormed.{FormedDictionary}
 use Rattle.checker_rules.proofs.FormedCheck.{FormedSolved, solve-formed, extend-formed, integer-formed}
 use Rattle.checker_rules.proofs.FormedItems.{formedParagraph}
@@ -29,10 +29,10 @@ use Rattle.reader_rules.specs.Limited.{FewParameters}
 use Rattle.checker_lookup.specs.Scoped.{DictionaryHeld}
 use Rattle.checker_lookup.proofs.LimitedKept.{limited-extend}
 
--- Any table that meets the items gives the entries that the solver's own table gives, and that table is well formed.
-module _ (p : Paragraph) (D : Dictionary) (τ : Table) (P : Passes (paragraphItems p D) Any) (M : Meets (paragraphItems p D) τ) where
+-- Any valuation that meets the items gives the entries that the solver's own valuation gives, and that valuation is well formed.
+module _ (p : Paragraph) (D : Dictionary) (τ : Valuation) (P : Passes (paragraphItems p D) Any) (M : Meets (paragraphItems p D) τ) where
   pub extended-formed : SizedParagraph p → FormedDictionary D → FormedDictionary (extend p D τ)
-  unfolding solve tableOf
+  unfolding solve valuationOf
   extended-formed z f = go (solve t) (solve-right t) (solve-formed t (unknowns t []) empty (formedParagraph p D z f) tt)
     where
       t : Items
@@ -40,8 +40,8 @@ module _ (p : Paragraph) (D : Dictionary) (τ : Table) (P : Passes (paragraphIte
 
       go : (r : Solved) → Verdict Any t r → FormedSolved r → FormedDictionary (extend p D τ)
       go (pass vs s) v k =
-          subst FormedDictionary (extend-same p D P (tableOf s) τ (v .1) M)
-          (extend-formed (tableOf s) (λ x. sol-fit Arity s k (λ y. ℤ) (λ y. integer-formed) x) p D f)
+          subst FormedDictionary (extend-same p D P (valuationOf s) τ (v .1) M)
+          (extend-formed (valuationOf s) (λ x. sol-fit Arity s k (λ y. integerType) (λ y. integer-formed) x) p D f)
       go (refuse g m) v k = absurd (not-both t Any g m P v)
 
   pub extended-recorded : SizedParagraph p → FewParameters p → (d d′ : List ℕ) → DictionaryHeld D d → Holds (extend p D τ) d′ → DictionaryHeld (extend p D τ) d′

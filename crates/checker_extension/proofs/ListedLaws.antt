@@ -20,7 +20,7 @@ use Rattle.checker_rules.specs.Entries.{paragraphNode}
 use Rattle.reader_rules.proofs.Sized.{SizedParagraph, SizedParagraphs}
 use Rattle.checker_rules.proofs.SizedTree.{tree-sized}
 use Rattle.types_cells.proofs.Growing.{lt-or-ge}
-use Rattle.checker_extension.specs.Entering.{Listed}
+use Rattle.checker_extension.specs.Entering.{IsParagraph}
 
 -- What holds of a list of paragraphs holds of the paragraph at each place.
 module _ (P : Paragraph → Type 0) (Q : List Paragraph → Type 0) (first : (p : Paragraph) (ps : List Paragraph) → Q (p ∷ ps) → P p)
@@ -34,7 +34,7 @@ module _ (P : Paragraph → Type 0) (Q : List Paragraph → Type 0) (first : (p 
       (λ (z : j ≤ i). let e : i ≡ j = omega arith in subst (λ (v : ℕ). P (paragraphAt doc (getD w v 0))) e (first _ _ h))
       (lt-or-ge i j)
 
-module _ (doc : List ℕ) (k : ℕ) (L : Listed doc k) where
+module _ (doc : List ℕ) (k : ℕ) (L : IsParagraph doc k) where
   pub listed-lower : Lower doc (count doc) paragraphs k
   listed-lower = document-law doc (L .read) .each (L .place) (L .some) (L .most) k (L .is)
 

@@ -13,7 +13,7 @@ use Rattle.checker_rules.specs.Dictionary.{Dictionary, dictionaryLength}
 use Rattle.checker_rules.specs.Entries.{extend}
 use Rattle.checker_rules.specs.Items.{Meets, Any, Passes}
 use Rattle.checker_rules.specs.Rules.{paragraphItems}
-use Rattle.checker_rules.specs.Unknowns.{Table}
+use Rattle.checker_rules.specs.Unknowns.{Valuation}
 use Rattle.checker_rules.specs.Verdicts.{RefusesAt}
 use Rattle.checker_rules.specs.declared.Finding.{Finding}
 use Rattle.checker_rules.specs.declared.Finding.the-variants.{Accepted, Refused}
@@ -24,7 +24,7 @@ use Rattle.checker_lookup.specs.Scoped.{DictionaryHeld}
 use Rattle.checker_contracts.specs.Paragraphs.{maxWaiting}
 
 -- Node k is a paragraph of a readable document, operand `place` of its Document.
-pub record Listed (doc : List ℕ) (k : ℕ) : Type 0 where
+pub record IsParagraph (doc : List ℕ) (k : ℕ) : Type 0 where
   pub read : readOf doc ≡ Readable
   pub place : ℕ
   pub some : 1 ≤ place
@@ -36,7 +36,7 @@ abbrev pub maxAdded : ℕ
 maxAdded = 2 * maxWaiting
 
 -- The areas between paragraphs: the pool is empty, and the dictionary so far has few words, whatever the length of its area.
-pub record Ready (s d w : List ℕ) : Type 0 where
+pub record BetweenParagraphs (s d w : List ℕ) : Type 0 where
   pub size : length s ≡ areaSize
   pub clean : Clean s 1
   pub wide : checkWorkWords ≤ length w
@@ -47,7 +47,7 @@ pub record Ready (s d w : List ℕ) : Type 0 where
 -- The paragraph p passes over the dictionary D, and the area d holds D with its entries.
 pub record Grown (p : Paragraph) (D : Dictionary) (d : List ℕ) : Type 0 where
   pub passes : Passes (paragraphItems p D) Any
-  pub table : Table
+  pub table : Valuation
   pub meets : Meets (paragraphItems p D) table
   pub recorded : DictionaryHeld (extend p D table) d
   pub short : dictionaryLength (extend p D table) ≤ dictionaryLength D + maxAdded

@@ -15,14 +15,14 @@ ghost use Rattle.checker_rules.specs.Dictionary.{Entry, Dictionary, dictionaryL
 ghost use Rattle.checker_dictionary.specs.Holds.{Holds};
 ghost use Rattle.checker_dictionary.specs.Waiting.{withEntries, Waits, Waiting, AppendedAll};
 ghost use Rattle.checker_contracts.specs.Paragraphs.{ParagraphDone};
-ghost use Rattle.checker_extension.specs.Entering.{Listed, Ready, Entered};
+ghost use Rattle.checker_extension.specs.Entering.{IsParagraph, BetweenParagraphs, Entered};
 
 // The words of an area that a dictionary may use: offsets and lengths are 32 bits.
 const MOST_WORDS: usize = 2147483648;
 
 // The paragraph at node k, over the words of the dictionary that are in use.
 fn visit(doc: &[u32], a: &mut [u32], dict: &[u32], work: &mut [u32], k: usize) -> Lined
-    requires { ⌜ Listed (now doc) k × Ready (now a) (now dict) (now work) ⌝ }
+    requires { ⌜ IsParagraph (now doc) k × BetweenParagraphs (now a) (now dict) (now work) ⌝ }
     ensures { λ r. ⌜ ParagraphDone (now (a .entry)) (now (a .exit)) (now (dict .entry)) (now (work .entry)) (now (work .exit)) (paragraphAt (now (doc .entry)) k) (r .number) (r .place) (r .at) (r .count) ⌝ }
 {
     let n = size(dict);
@@ -42,7 +42,7 @@ fn append(dict: &mut [u32], work: &[u32], at: usize, m: usize) -> bool
 
 // The paragraph at node k: its finding, then 22; Accepted where the dictionary has its entries.
 pub fn enter(doc: &[u32], a: &mut [u32], dict: &mut [u32], work: &mut [u32], k: usize) -> Finding
-    requires { ⌜ Listed (now doc) k × Ready (now a) (now dict) (now work) ⌝ }
+    requires { ⌜ IsParagraph (now doc) k × BetweenParagraphs (now a) (now dict) (now work) ⌝ }
     ensures { λ r. ⌜ Entered (now (a .entry)) (now (a .exit)) (now (dict .entry)) (now (dict .exit)) (paragraphAt (now (doc .entry)) k) r ⌝ }
 {
     let p = visit(doc, a, dict, work, k);

@@ -15,7 +15,7 @@ use Rattle.checker_signatures.specs.Tables.{Finds}
 use Rattle.checker_signatures.proofs.RowLaws.{rows-kept}
 use Rattle.types_instances.specs.Fill.{fill}
 use Rattle.checker_includes.specs.NewRows.{newRows}
-use Rattle.checker_includes.specs.Keeping.{Written, Found, Fresh, RowAsk, RowKept, AllAsk, AllKept}
+use Rattle.checker_includes.specs.Keeping.{Written, RowFound, Fresh, RowAsk, RowKept, AllAsk, AllKept}
 use Rattle.checker_includes.proofs.NewRowLaws.{rows-few, one-more, one-same}
 
 pub finds-same : (w w′ : List ℕ) (base m i f : ℕ) → ((x : ℕ) → base ≤ x → x < base + 2 * m → getD w′ x 0 ≡ getD w x 0) → Finds w′ base m i f → Finds w base m i f
@@ -33,7 +33,7 @@ module _ (s d w₀ : List ℕ) (base m source k : ℕ) (places : List ℕ) (at f
   Kept w j e = AllKept s d w₀ w base m source j places at free e
 
   abbrev Each : List ℕ → ℕ → ℕ → Type 0
-  Each w e i = Found w₀ w base m (source + 2 * i) ⊎ ((o : ℕ) × Fresh s d w₀ w (source + 2 * i) places (at + o) (free + o) e)
+  Each w e i = RowFound w₀ w base m (source + 2 * i) ⊎ ((o : ℕ) × Fresh s d w₀ w (source + 2 * i) places (at + o) (free + o) e)
 
   pub all-start : Kept w₀ 0 free
   all-start = record { size = refl; words = λ i l h. refl; more = omega arith; short = omega arith; each = λ j l. absurd (omega arith) }
@@ -103,7 +103,7 @@ module _ (s d w₀ : List ℕ) (base m source k : ℕ) (places : List ℕ) (at f
       old i b (inr F) = inr (F .0, record { place = old-place i b ∙ F .1 .place; stands = λ g hs P Q. old-written (F .0) (fill hs g) (F .1 .stands g hs P Q) })
 
       -- What row j gets.
-      new : Found w w₁ base m r ⊎ Fresh s d w w₁ r places (at + (e - free)) e e₁ → Each w₁ e₁ j
+      new : RowFound w w₁ base m r ⊎ Fresh s d w w₁ r places (at + (e - free)) e e₁ → Each w₁ e₁ j
       new (inl F) =
           let f = F .row in
           let b = F .among in

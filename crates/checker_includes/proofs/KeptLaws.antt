@@ -7,7 +7,7 @@ use Prim.Native.Nat.{ℕ, zero, suc, _+_, _-_, _*_, _≤_, _<_}
 use native.Mathlib.Omega.{arith}
 use lib.ListN.{length, getD}
 use Rattle.types_rules.specs.Types.{Ty, Tys, Term, under, size}
-use Rattle.checker_rules.specs.Unknowns.{Table}
+use Rattle.checker_rules.specs.Unknowns.{Valuation}
 use Rattle.checker_rules.specs.Items.{Items, Meets}
 use Rattle.checker_rules.specs.Signatures.{Signature, noNames, naming, termIn}
 use Rattle.checker_rules.specs.Conditions.{sameType, mergeNames, smallTypes}
@@ -26,7 +26,7 @@ use Rattle.types_instances.proofs.Rows.{filled-formed}
 use Rattle.types_instances.proofs.Moving.{below-reads}
 use Rattle.checker_includes.specs.Components.{Placed, Fills, AllStandFor}
 use Rattle.checker_includes.specs.Storing.{KeepAsk, RowsKept}
-use Rattle.checker_includes.specs.Keeping.{Written, Found, Fresh, AllAsk, AllKept, MoveAsk, Moved}
+use Rattle.checker_includes.specs.Keeping.{Written, RowFound, Fresh, AllAsk, AllKept, MoveAsk, Moved}
 use Rattle.checker_includes.proofs.StandLaws.{stands-back, fill-alike}
 use Rattle.checker_includes.proofs.StoreLaws.{moved-reads}
 use Rattle.checker_includes.proofs.NewRowLaws.{rows-few}
@@ -95,10 +95,10 @@ module _ (s d w : List ℕ) (base m source k : ℕ) (places : List ℕ) (at end 
 
       -- What the row at r got.
       abbrev Got : ℕ → Type 0
-      Got r = Found w w′ base m r ⊎ ((o : ℕ) × Fresh s d w w′ r places (at + o) (free + o) e)
+      Got r = RowFound w w′ base m r ⊎ ((o : ℕ) × Fresh s d w w′ r places (at + o) (free + o) e)
 
       module _ (H : Items) (U : List ℕ) (n : ℕ) (r : Signature) (hs gs : Tys) (T : Row (heap s d) places hs) (L : AllStandFor hs gs) (C : Carries (Placed s d H U) r (rows w base m)) (D : Steady H U) where
-        abbrev τ₀ : Table
+        abbrev τ₀ : Valuation
         τ₀ = D .some .0
 
         -- ONE ROW, of the identifier x and the term t.
@@ -113,7 +113,7 @@ module _ (s d w : List ℕ) (base m source k : ℕ) (places : List ℕ) (at end 
           placed : (q : ℕ) → Reads (heap s′ d) q g → Placed s′ d H U t q
           placed q R = record { typed = record { type = g; reads = R; settled = B .settled; over = B .over }; small = few }
 
-          found : Found w w′ base m p → Placed s′ d H U t (getD w′ (p + 1) 0)
+          found : RowFound w w′ base m p → Placed s′ d H U t (getD w′ (p + 1) 0)
           unfolding sameType Meets
           found F =
               let f = F .row in

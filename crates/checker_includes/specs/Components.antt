@@ -6,7 +6,7 @@ use mathlib.Core.Logic.{_⊎_}
 use Prim.Native.Nat.{ℕ, suc, _≤_, _<_}
 use Rattle.types_rules.specs.Equations.{In}
 use Rattle.types_rules.specs.Types.{Ty, Tys, tnil, tcons, Term, Each, unders, size}
-use Rattle.checker_rules.specs.Unknowns.{Table, slot, row}
+use Rattle.checker_rules.specs.Unknowns.{Valuation, slot, row}
 use Rattle.checker_rules.specs.Items.{Items, Meets}
 use Rattle.types_cells.specs.Settled.{heap, Reads}
 use Rattle.checker_pieces.specs.Piece.{Settled}
@@ -39,7 +39,7 @@ AllStandFor (tcons h hs) (tcons g gs) = StandsFor h g × AllStandFor hs gs
 -- The actuals of the Include at node k, q of them: their element types are settled, and types that stand for them stand at the places of the row.
 pub record ActualTypes (s d : List ℕ) (H : Items) (U : List ℕ) (k q : ℕ) (places : List ℕ) : Type 0 where
   pub types : Tys
-  pub settled : (τ : Table) → Meets H τ → unders τ (row k 1 q) ≡ types
+  pub settled : (τ : Valuation) → Meets H τ → unders τ (row k 1 q) ≡ types
   pub shown : Tys
   pub stand : Row (heap s d) places shown
   pub alike : AllStandFor shown types

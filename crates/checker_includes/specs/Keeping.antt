@@ -40,7 +40,7 @@ pub record ShownWords (s d w w′ : List ℕ) (n c free e : ℕ) : Type 0 where
   pub shows : (G : Ghost) (S : Shut s d n G) → WellFormed (S .type c) → (h : Ty) × WellFormed h × Written w′ free e h × StandsFor h (S .type c)
 
 -- The row at r has the place of the table's row with the same identifier, ..
-pub record Found (w w′ : List ℕ) (base m r : ℕ) : Type 0 where
+pub record RowFound (w w′ : List ℕ) (base m r : ℕ) : Type 0 where
   pub row : ℕ
   pub finds : Finds w base m (getD w r 0) row
   pub among : row < m
@@ -67,7 +67,7 @@ pub record RowKept (s d w w′ : List ℕ) (base m r : ℕ) (places : List ℕ) 
   pub words : (i : ℕ) → i < e → (i ≡ r + 1 → ⊥) → getD w′ i 0 ≡ getD w i 0
   pub more : e ≤ e′
   pub short : e′ ≤ e + 95 * newRows (rows w r 1) (rows w base m)
-  pub kept : Found w w′ base m r ⊎ Fresh s d w w′ r places own e e′
+  pub kept : RowFound w w′ base m r ⊎ Fresh s d w w′ r places own e e′
 
 -- ALL ROWS: words more go to the words of w from `free` on; they are to stand at `at`.
 pub record AllAsk (s d w : List ℕ) (base m source k : ℕ) (places : List ℕ) (at free : ℕ) : Type 0 where
@@ -86,7 +86,7 @@ pub record AllKept (s d w w′ : List ℕ) (base m source k : ℕ) (places : Lis
   pub words : (i : ℕ) → i < free → ((j : ℕ) → j < k → i ≡ source + 2 * j + 1 → ⊥) → getD w′ i 0 ≡ getD w i 0
   pub more : free ≤ e
   pub short : e ≤ free + 95 * newRows (rows w source k) (rows w base m)
-  pub each : (j : ℕ) → j < k → Found w w′ base m (source + 2 * j) ⊎ ((o : ℕ) × Fresh s d w w′ (source + 2 * j) places (at + o) (free + o) e)
+  pub each : (j : ℕ) → j < k → RowFound w w′ base m (source + 2 * j) ⊎ ((o : ℕ) × Fresh s d w w′ (source + 2 * j) places (at + o) (free + o) e)
 
 -- THE WORDS MOVED: k words of w at `free`, to `at`; what stood there, up to `end`, is wiped.
 pub record MoveAsk (s w : List ℕ) (at end free k : ℕ) : Type 0 where

@@ -7,7 +7,7 @@ use Prim.Native.Nat.{ℕ, suc, _+_, _*_, _≤_, _<_, _^_}
 use lib.ListN.{length, getD}
 use Rattle.types_rules.specs.Types.{Ty, Tys, Term, size}
 use Rattle.types_rules.specs.Formed.{WellFormed}
-use Rattle.checker_rules.specs.Unknowns.{Table}
+use Rattle.checker_rules.specs.Unknowns.{Valuation}
 use Rattle.checker_rules.specs.Items.{Items, Meets, Refuses}
 use Rattle.checker_rules.specs.Signatures.{Signature}
 use Rattle.checker_rules.specs.Conditions.{mergeNames, mergeDeclared, smallTypes}
@@ -96,5 +96,5 @@ pub record RowsKept (s s′ d w w′ : List ℕ) (base m source k : ℕ) (places
   pub new : end′ ≤ at + typeWords * newRows (rows w source k) (rows w base m)
   -- the rows' types, with the types gs for their parameters; types hs that stand for those are the actuals
   pub placed : (H : Items) (U : List ℕ) (n : ℕ) (q r : Signature) (hs gs : Tys) → Row (heap s d) places hs → AllStandFor hs gs → Carries (Fills s d H U gs) q (rows w source k) →
-      Carries (Placed s d H U) r (rows w base m) → ((τ : Table) → Meets H τ → Meets (mergeNames n q r) τ) → ((τ : Table) → Meets H τ → Meets (smallTypes n q) τ) →
+      Carries (Placed s d H U) r (rows w base m) → ((τ : Valuation) → Meets H τ → Meets (mergeNames n q r) τ) → ((τ : Valuation) → Meets H τ → Meets (smallTypes n q) τ) →
       Steady H U → Carries (Placed s′ d H U) q (rows w′ source k)

@@ -14,7 +14,7 @@ use Rattle.types_solver.specs.Growth.{Builds}
 use Rattle.checker_pieces.specs.Stage.{Ghost, Stands, Cell, Unvisited, SlotOf, Uses, Ruled}
 use Rattle.checker_pieces.specs.Building.{Introduced}
 use Rattle.checker_pieces.proofs.Stages.{stands-built, introduced-typed, introduced-before, introduced-wider, rule-goes}
-use Rattle.checker_kinds.specs.Formers.{OperandCells, Listed, Derived}
+use Rattle.checker_kinds.specs.Formers.{OperandCells, DerivedList, Derived}
 
 pub own-slot : (k j : ℕ) → j < 8 → (y : ℕ) → y ≡ slot k j → SlotOf k y
 own-slot k j l y e = (j, l, e)
@@ -34,7 +34,7 @@ module _ (s s′ d : List ℕ) (n n′ top top′ c used : ℕ) (B : Builds s s�
   passed G St k W t C = rule-goes s s′ d n top k 0 c n′ top′ G (typed k t) refl (concluded s s′ d n n′ top top′ B A G St c t C k (W 0 (omega arith)))
 
   pub listed : (l : List ℕ) (t : Exprs → Term) → ((G : Ghost) → Stands s d n top G → (xs : Exprs) → OperandCells s d n G l xs → Cell s′ d n′ G c (t xs)) →
-      Listed s s′ d n top l 0 c n′ top′ used (λ k xs. typed k (t xs))
+      DerivedList s s′ d n top l 0 c n′ top′ used (λ k xs. typed k (t xs))
   listed l t f = record { low = B .grows .low; wide = B .grows .wide; uses = λ e. U; ruled = λ G St k W xs K. passed G St k W (t xs) (f G St xs K) }
 
   pub derived : (x : ℕ) (t : Term → Term) → ((G : Ghost) → Stands s d n top G → (a : Term) → Cell s d n G x a → Cell s′ d n′ G c (t a)) →

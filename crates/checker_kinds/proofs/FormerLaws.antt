@@ -16,7 +16,7 @@ use Rattle.types_solver.proofs.Extending.{builds-on}
 use Rattle.checker_pieces.specs.Stage.{Ghost, Stands, Cell}
 use Rattle.checker_pieces.specs.Building.{Building, Built, Integer}
 use Rattle.checker_pieces.proofs.Stages.{built-stands, built-cell, one-cell, no-cells, uses-on}
-use Rattle.checker_kinds.specs.Formers.{Listed, Derived, numberItems, integersItems, tupleItems, comprehensionItems}
+use Rattle.checker_kinds.specs.Formers.{DerivedList, Derived, numberItems, integersItems, tupleItems, comprehensionItems}
 use Rattle.checker_kinds.proofs.Concluding.{listed, derived}
 
 -- ℤ may be made.
@@ -44,10 +44,10 @@ integer-making s n top x l B f =
     }
 
 -- NUMBER.
-pub number-ruled : (s s′ : List ℕ) (n top : ℕ) → Building s n top 1 [] → Integer s s′ n int [] → (d : List ℕ) → Listed s s′ d n top [] 0 n (n + 1) top 1 numberItems
+pub number-ruled : (s s′ : List ℕ) (n top : ℕ) → Building s n top 1 [] → Integer s s′ n int [] → (d : List ℕ) → DerivedList s s′ d n top [] 0 n (n + 1) top 1 numberItems
 number-ruled s s′ n top B I d =
     let K = I .built top (B .above) in
-    subst (λ z. Listed s s′ d n top [] 0 n z top 1 numberItems) (let z : suc n ≡ n + 1 = omega arith in z)
+    subst (λ z. DerivedList s s′ d n top [] 0 n z top 1 numberItems) (let z : suc n ≡ n + 1 = omega arith in z)
     (listed s s′ d n (suc n) top top n 1 (K .builds d) (K .above) (K .uses) [] (λ xs. integer) (λ G St xs C. built-cell s s′ d n top top 1 int [] K G St nil (no-cells s d n G)))
 
 -- THE SET ℤ.
@@ -84,17 +84,17 @@ module _ (s : List ℕ) (n top : ℕ) (B : Building s n top 2 []) (s₁ : List �
         built-cell s₁ s₂ d (suc n) top (top + 1) 1 power (n ∷ []) K₂ G (built-stands s s₁ d n top top 1 int [] K₁ G St) (cons integer nil)
         (one-cell s₁ d (suc n) G n integer (ℤ-cell d G St))
 
-    pub integers-ruled : (d : List ℕ) → Listed s s₂ d n top [] 0 (n + 1) (n + 2) (top + 1) 2 integersItems
+    pub integers-ruled : (d : List ℕ) → DerivedList s s₂ d n top [] 0 (n + 1) (n + 2) (top + 1) 2 integersItems
     integers-ruled d =
-        subst (λ z. Listed s s₂ d n top [] 0 z (n + 2) (top + 1) 2 integersItems) (let z : suc n ≡ n + 1 = omega arith in z)
-        (subst (λ z. Listed s s₂ d n top [] 0 (suc n) z (top + 1) 2 integersItems) (let z : suc (suc n) ≡ n + 2 = omega arith in z)
+        subst (λ z. DerivedList s s₂ d n top [] 0 z (n + 2) (top + 1) 2 integersItems) (let z : suc n ≡ n + 1 = omega arith in z)
+        (subst (λ z. DerivedList s s₂ d n top [] 0 (suc n) z (top + 1) 2 integersItems) (let z : suc (suc n) ≡ n + 2 = omega arith in z)
         (listed s s₂ d n (suc (suc n)) top (top + 1) (suc n) 2 (builds-on s s₁ s₂ d n (suc n) (suc (suc n)) (K₁ .builds d) (K₂ .builds d)) (K₂ .above)
         (uses-on s s₁ s₂ n (suc n) (suc (suc n)) top top (top + 1) 1 1 (K₁ .uses) (K₂ .uses)) [] (λ xs. powerOf integer) (λ G St xs C. its-power d G St)))
 
 -- TUPLE.
-pub tuple-ruled : (s s′ : List ℕ) (n top m : ℕ) (l : List ℕ) → Built s s′ n top (top + m) 4 product l → (d : List ℕ) → Listed s s′ d n top l 0 n (n + 1) (top + m) 4 tupleItems
+pub tuple-ruled : (s s′ : List ℕ) (n top m : ℕ) (l : List ℕ) → Built s s′ n top (top + m) 4 product l → (d : List ℕ) → DerivedList s s′ d n top l 0 n (n + 1) (top + m) 4 tupleItems
 tuple-ruled s s′ n top m l K d =
-    subst (λ z. Listed s s′ d n top l 0 n z (top + m) 4 tupleItems) (let z : suc n ≡ n + 1 = omega arith in z)
+    subst (λ z. DerivedList s s′ d n top l 0 n z (top + m) 4 tupleItems) (let z : suc n ≡ n + 1 = omega arith in z)
     (listed s s′ d n (suc n) top (top + m) n 4 (K .builds d) (K .above) (K .uses) l (λ xs. productOf (typesOf xs))
     (λ G St xs C. built-cell s s′ d n top (top + m) 4 product l K G St (typesOf xs) C))
 

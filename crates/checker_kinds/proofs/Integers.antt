@@ -16,7 +16,7 @@ use Rattle.types_cells.specs.Store.{frozen}
 use Rattle.types_cells.specs.Calls.{Making}
 use Rattle.types_cells.specs.Settled.{lower}
 use Rattle.checker_pieces.specs.Piece.{Stops}
-use Rattle.checker_pieces.specs.Stage.{Ghost, Ready, Stands, Comparing, Cell, Unvisited, SlotOf, Advanced, Room, Uses, Equated}
+use Rattle.checker_pieces.specs.Stage.{Ghost, StandsReady, Stands, Comparing, Cell, Unvisited, SlotOf, Advanced, Room, Uses, Equated}
 use Rattle.checker_pieces.specs.Building.{Integer, Built, Introduced, Working}
 use Rattle.checker_pieces.proofs.Components.{advanced-moved, room-still}
 use Rattle.checker_pieces.proofs.Stages.{plain-making, no-cells, built-stands, built-old, built-cell, later-built, equal-advanced, next, next-stands, next-cell, advance-then, stop-then, introduced-typed, introduce-then, next-unvisited, introduced-wider, wider-mine, rule-goes, rule-stops}

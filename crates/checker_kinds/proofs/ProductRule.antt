@@ -23,7 +23,7 @@ use Rattle.types_solver.proofs.Extending.{builds-on}
 use Rattle.checker_pieces.proofs.PowerLaws.{unmentioned-node}
 use Rattle.checker_pieces.proofs.Stages.{next, next-stands, next-unvisited, wider-mine, built-stands, built-cell, one-cell, building, room-less, introduce-then, rule-goes, rule-stops}
 use Rattle.checker_pieces.proofs.Walks.{stops-left}
-use Rattle.checker_kinds.specs.Formers.{OperandCells, Operating, Listed, productItems}
+use Rattle.checker_kinds.specs.Formers.{OperandCells, Operating, DerivedList, productItems}
 use Rattle.checker_kinds.proofs.Concluding.{concluded}
 
 -- EVERY SECOND NUMBER: one more.
@@ -91,7 +91,7 @@ module _ (s d : List ℕ) (n top : ℕ) (ps : List ℕ) (m : ℕ) (P : (m ≤ 6)
     few : 1 + m ≤ 8
     few = let z = P .0 in omega arith
 
-    pub product-refused : b ≡ false → Listed s s₁ d n top l 33 n n top 17 productItems
+    pub product-refused : b ≡ false → DerivedList s s₁ d n top l 33 n n top 17 productItems
     product-refused e = record {
       low = Q .low;
       wide = omega arith;
@@ -195,7 +195,7 @@ module _ (s d : List ℕ) (n top : ℕ) (ps : List ℕ) (m : ℕ) (P : (m ≤ 6)
             uses₃ : Uses s s₃ n top (suc (suc N)) (T + m + 1) 17
             uses₃ z R = K₂ .uses z (K₁ .uses (1 + z) (Q .uses e (4 + (1 + z)) (room-less s n top (2 * m + (4 + (1 + z))) (17 + z) (let y = P .0 in omega arith) R)))
 
-            core : Listed s s₃ d n top l 0 (suc N) (suc (suc N)) (T + m + 1) 17 productItems
+            core : DerivedList s s₃ d n top l 0 (suc N) (suc (suc N)) (T + m + 1) 17 productItems
             core = record {
               low = B .grows .low ∙ Q .low;
               wide = omega arith;
@@ -203,7 +203,7 @@ module _ (s d : List ℕ) (n top : ℕ) (ps : List ℕ) (m : ℕ) (P : (m ≤ 6)
               ruled = λ G St k free xs C. rule-goes s s₃ d n top k 0 (suc N) (suc (suc N)) (T + m + 1) G (productItems k xs) refl (passed G St k free xs C);
             }
 
-            pub product-ruled : Listed s s₃ d n top l 0 (N + 1) (N + 2) (T + m + 1) 17 productItems
+            pub product-ruled : DerivedList s s₃ d n top l 0 (N + 1) (N + 2) (T + m + 1) 17 productItems
             product-ruled =
-                subst (λ z. Listed s s₃ d n top l 0 z (N + 2) (T + m + 1) 17 productItems) (let z : suc N ≡ N + 1 = omega arith in z)
-                (subst (λ z. Listed s s₃ d n top l 0 (suc N) z (T + m + 1) 17 productItems) (let z : suc (suc N) ≡ N + 2 = omega arith in z) core)
+                subst (λ z. DerivedList s s₃ d n top l 0 z (N + 2) (T + m + 1) 17 productItems) (let z : suc N ≡ N + 1 = omega arith in z)
+                (subst (λ z. DerivedList s s₃ d n top l 0 (suc N) z (T + m + 1) 17 productItems) (let z : suc (suc N) ≡ N + 2 = omega arith in z) core)

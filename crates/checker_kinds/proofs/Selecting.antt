@@ -12,7 +12,7 @@ use Rattle.types_cells.specs.Layout.{settledFrom}
 use Rattle.types_cells.specs.Store.{frozen}
 use Rattle.types_cells.specs.Calls.{Above}
 use Rattle.types_cells.specs.Settled.{heap, Readable, Entering, Entered}
-use Rattle.types_solver.specs.Sizes.{Read, Tested}
+use Rattle.types_solver.specs.Sizes.{Read, TestedFinite}
 use Rattle.types_solver.specs.Answers.{SolutionOf, Looking, Looked}
 use Rattle.checker_pieces.specs.Piece.{Solution, Piece, Later}
 use Rattle.checker_pieces.specs.Stage.{Ghost, Stands, Cell, Unvisited, SlotOf, Room}
@@ -31,7 +31,7 @@ as-one s d n G σ S = record { σ = σ; fits = S .fits; sat = S .sat; obeys = S 
 pub select-reads : (s d : List ℕ) (n top x w : ℕ) → Working s d n top w (x ∷ []) → Read s n
 select-reads s d n top x w A = let Q = A .stands .piece in record { L = Q .L; held = Q .solved .held }
 
-module _ (s u d : List ℕ) (n top x : ℕ) (b : Bool) (T : Tested s u n b) (A : Working s d n top 1 (x ∷ [])) where
+module _ (s u d : List ℕ) (n top x : ℕ) (b : Bool) (T : TestedFinite s u n b) (A : Working s d n top 1 (x ∷ [])) where
   made : x < n
   made = operand s d n (A .ghost) x (A .terms) (A .cells) .1 .made
 

@@ -23,7 +23,7 @@ use Rattle.checker_pieces.specs.Rows.{Meeting, Members}
 use Rattle.checker_pieces.proofs.PowerLaws.{unmentioned-node}
 use Rattle.checker_pieces.proofs.Stages.{next, next-stands, next-cell, next-cells, next-unvisited, wider-mine, placed-cell, built-cell, one-cell, building, plain-making, introduced-unknown, introduce-then, unknown-uses, rule-goes, rule-stops, stop-then}
 use Rattle.checker_pieces.proofs.Walks.{stops-left}
-use Rattle.checker_kinds.specs.Formers.{OperandCells, Operating, Listed, setItems}
+use Rattle.checker_kinds.specs.Formers.{OperandCells, Operating, DerivedList, setItems}
 use Rattle.checker_kinds.proofs.Concluding.{own-slot, concluded}
 
 module _ (s d : List ℕ) (n top : ℕ) (ps : List ℕ) (m : ℕ) (P : (m ≤ length ps) × Operating s d n top 2 (take m ps)) where
@@ -86,7 +86,7 @@ module _ (s d : List ℕ) (n top : ℕ) (ps : List ℕ) (m : ℕ) (P : (m ≤ le
       unfolding run
       M = subst (λ z. Members s₁ s₂ d z n l b) (let z : n + 1 ≡ suc n = omega arith in z) M₀
 
-      pub set-refused : b ≡ false → Listed s s₂ d n top l 33 n n top 2 setItems
+      pub set-refused : b ≡ false → DerivedList s s₂ d n top l 33 n n top 2 setItems
       set-refused e = record {
         low = M .low ∙ made-grows s s₁ d n 0 0 firstRun 0 set-unknown N .low;
         wide = omega arith;
@@ -154,7 +154,7 @@ module _ (s d : List ℕ) (n top : ℕ) (ps : List ℕ) (m : ℕ) (P : (m ≤ le
                 (concluded s₂ s₃ d (suc n) (suc (suc n)) top (top + 1) (K .builds d) (K .above) (G₂ G St k new xs C) (St₂ G St k new xs C) (suc n) type cell k
                 (free₂ G St k new xs C (free 0 (omega arith)))))
 
-          core : Listed s s₃ d n top l 0 (suc n) (suc (suc n)) (top + 1) 2 setItems
+          core : DerivedList s s₃ d n top l 0 (suc n) (suc (suc n)) (top + 1) 2 setItems
           core = record {
             low = K .builds d .grows .low ∙ M .low ∙ made-grows s s₁ d n 0 0 firstRun 0 set-unknown N .low;
             wide = omega arith;
@@ -162,7 +162,7 @@ module _ (s d : List ℕ) (n top : ℕ) (ps : List ℕ) (m : ℕ) (P : (m ≤ le
             ruled = λ G St k free xs C. rule-goes s s₃ d n top k 0 (suc n) (suc (suc n)) (top + 1) G (setItems k xs) refl (passed G St k free xs C);
           }
 
-          pub set-ruled : Listed s s₃ d n top l 0 (n + 1) (n + 2) (top + 1) 2 setItems
+          pub set-ruled : DerivedList s s₃ d n top l 0 (n + 1) (n + 2) (top + 1) 2 setItems
           set-ruled =
-              subst (λ z. Listed s s₃ d n top l 0 z (n + 2) (top + 1) 2 setItems) (let z : suc n ≡ n + 1 = omega arith in z)
-              (subst (λ z. Listed s s₃ d n top l 0 (suc n) z (top + 1) 2 setItems) (let z : suc (suc n) ≡ n + 2 = omega arith in z) core)
+              subst (λ z. DerivedList s s₃ d n top l 0 z (n + 2) (top + 1) 2 setItems) (let z : suc n ≡ n + 1 = omega arith in z)
+              (subst (λ z. DerivedList s s₃ d n top l 0 (suc n) z (top + 1) 2 setItems) (let z : suc (suc n) ≡ n + 2 = omega arith in z) core)

@@ -47,7 +47,7 @@ pub record Operating (s d : List ℕ) (n top x : ℕ) (l : List ℕ) : Type 0 wh
   pub room : Room s n top x
 
 -- THE RULE OF A NODE with the operands l: the room of `used` cells is used.
-pub record Listed (s s′ d : List ℕ) (n top : ℕ) (l : List ℕ) (number cell n′ top′ used : ℕ) (own : ℕ → Exprs → Items) : Type 0 where
+pub record DerivedList (s s′ d : List ℕ) (n top : ℕ) (l : List ℕ) (number cell n′ top′ used : ℕ) (own : ℕ → Exprs → Items) : Type 0 where
   pub low : lower s′ ≡ lower s
   pub wide : n ≤ n′
   pub uses : number ≡ 0 → Uses s s′ n top n′ top′ used

@@ -9,12 +9,12 @@ ghost use Prim.Native.Nat.{ℕ, _+_, _*_, _≤_, _<_, _^_};
 ghost use lib.ListN.{length, take};
 ghost use Rattle.checker_pieces.specs.Building.{Building, Working};
 ghost use Rattle.checker_pieces.specs.Rows.{everySecond};
-ghost use Rattle.checker_kinds.specs.Formers.{Operating, Listed, Derived, numberItems, integersItems, tupleItems, productItems, setItems, comprehensionItems, powerRuleItems};
+ghost use Rattle.checker_kinds.specs.Formers.{Operating, DerivedList, Derived, numberItems, integersItems, tupleItems, productItems, setItems, comprehensionItems, powerRuleItems};
 
 // Number: ℤ.
 pub fn number_rule(a: &mut [u32], n: usize, top: usize) -> Ruling
     requires { ⌜ Building (now a) n top 1 [] ⌝ }
-    ensures { λ r. ⌜ ((d : List ℕ) → Listed (now (a .entry)) (now (a .exit)) d n top [] (r .number) (r .cell) (r .cells) (r .top) 1 numberItems) ⌝ }
+    ensures { λ r. ⌜ ((d : List ℕ) → DerivedList (now (a .entry)) (now (a .exit)) d n top [] (r .number) (r .cell) (r .cells) (r .top) 1 numberItems) ⌝ }
 {
     checker_pieces::formers::integer(a, n);
     Ruling {
@@ -28,7 +28,7 @@ pub fn number_rule(a: &mut [u32], n: usize, top: usize) -> Ruling
 // The set ℤ: a power of ℤ.
 pub fn integers_rule(a: &mut [u32], n: usize, top: usize) -> Ruling
     requires { ⌜ Building (now a) n top 2 [] ⌝ }
-    ensures { λ r. ⌜ ((d : List ℕ) → Listed (now (a .entry)) (now (a .exit)) d n top [] (r .number) (r .cell) (r .cells) (r .top) 2 integersItems) ⌝ }
+    ensures { λ r. ⌜ ((d : List ℕ) → DerivedList (now (a .entry)) (now (a .exit)) d n top [] (r .number) (r .cell) (r .cells) (r .top) 2 integersItems) ⌝ }
 {
     checker_pieces::formers::integer(a, n);
     checker_pieces::formers::power(a, n + 1, top, n);
@@ -43,7 +43,7 @@ pub fn integers_rule(a: &mut [u32], n: usize, top: usize) -> Ruling
 // Tuple: the product of the cells in the first m words of `parts`.
 pub fn tuple_rule(a: &mut [u32], n: usize, top: usize, parts: &[u32], m: usize) -> Ruling
     requires { ⌜ (m ≤ 6) × (m ≤ length (now parts)) × Building (now a) n top 4 (take m (now parts)) ⌝ }
-    ensures { λ r. ⌜ ((d : List ℕ) → Listed (now (a .entry)) (now (a .exit)) d n top (take m (now (parts .entry))) (r .number) (r .cell) (r .cells) (r .top) 4 tupleItems) ⌝ }
+    ensures { λ r. ⌜ ((d : List ℕ) → DerivedList (now (a .entry)) (now (a .exit)) d n top (take m (now (parts .entry))) (r .number) (r .cell) (r .cells) (r .top) 4 tupleItems) ⌝ }
 {
     checker_pieces::formers::product(a, n, top, parts, m);
     Ruling {
@@ -94,7 +94,7 @@ pub fn power_rule(a: &mut [u32], d: &[u32], n: usize, top: usize, c: usize) -> R
 // Set: its members, the cells in the first m words of `parts`, have one type, and the power of that is the type.
 pub fn set_rule(a: &mut [u32], d: &[u32], n: usize, top: usize, parts: &[u32], m: usize) -> Ruling
     requires { ⌜ (m ≤ length (now parts)) × Operating (now a) (now d) n top 2 (take m (now parts)) ⌝ }
-    ensures { λ r. ⌜ Listed (now (a .entry)) (now (a .exit)) (now (d .entry)) n top (take m (now (parts .entry))) (r .number) (r .cell) (r .cells) (r .top) 2 setItems ⌝ }
+    ensures { λ r. ⌜ DerivedList (now (a .entry)) (now (a .exit)) (now (d .entry)) n top (take m (now (parts .entry))) (r .number) (r .cell) (r .cells) (r .top) 2 setItems ⌝ }
 {
     types_cells::growth::new_unknown(a, n);
     if checker_pieces::members::are_members(a, d, n + 1, parts, 0, m, n) {
@@ -136,7 +136,7 @@ pub fn product_rule(
     m: usize,
 ) -> Ruling
     requires { ⌜ (m ≤ 6) × (m ≤ length (now parts)) × Operating (now a) (now d) n top 17 (take m (now parts)) ⌝ }
-    ensures { λ r. ⌜ Listed (now (a .entry)) (now (a .exit)) (now (d .entry)) n top (take m (now (parts .entry))) (r .number) (r .cell) (r .cells) (r .top) 17 productItems ⌝ }
+    ensures { λ r. ⌜ DerivedList (now (a .entry)) (now (a .exit)) (now (d .entry)) n top (take m (now (parts .entry))) (r .number) (r .cell) (r .cells) (r .top) 17 productItems ⌝ }
 {
     if checker_pieces::powers::are_powers(a, d, n, top, parts, 0, m) {
         let mut row = [0u32; limits::PARTS];

@@ -11,7 +11,7 @@ use Rattle.types_rules.specs.Equations.{In}
 use Rattle.types_rules.specs.Finite.{fromList}
 use Rattle.types_rules.specs.Former.{binding, formerOf}
 use Rattle.types_rules.specs.Types.{Ty, Tys, node, tcons, Each, Eachs, under, unders}
-use Rattle.checker_rules.specs.Unknowns.{Table}
+use Rattle.checker_rules.specs.Unknowns.{Valuation}
 use Rattle.checker_rules.specs.Items.{_⨾_, Meets}
 use Rattle.checker_rules.specs.Signatures.{Signature, noNames, naming, termsOf, bindingOf}
 use Rattle.types_cells.specs.Layout.{frozenSize}
@@ -183,7 +183,7 @@ module _ (s d w : List ℕ) (G : Ghost) where
   carried-over (naming i t r) base zero h = absurd h
   carried-over (naming i t r) base (suc m) h = (h .1 .over, carried-over r (suc (suc base)) m (h .2))
 
-  carried-types : (r : Signature) (base m n : ℕ) (σ : ℕ → Ty) (τ : Table) → Carries (SettledAt s d G) r (rows w base m) → Meets (G .before ⨾ G .items) τ →
+  carried-types : (r : Signature) (base m n : ℕ) (σ : ℕ → Ty) (τ : Valuation) → Carries (SettledAt s d G) r (rows w base m) → Meets (G .before ⨾ G .items) τ →
       ((j : ℕ) → j < m → (g : Ty) → Reads (heap s d) (placeAt w base j) g → σ (n + j) ≡ g) → fromList (map σ (upFrom n m)) ≡ unders τ (termsOf r)
   unfolding Carries pairsFrom termsOf unders upFrom fromList map
   carried-types noNames base zero n σ τ h k types = refl
@@ -295,7 +295,7 @@ module _ (s d w : List ℕ) (base m n top : ℕ) (B : Binding s d w base m n top
               };
             }
 
-        type : (G : Ghost) → Stands s d n top G → (r : Signature) → Carries (SettledAt s d G) r (rows w base m) → (τ : Table) → Meets (G .before ⨾ G .items) τ →
+        type : (G : Ghost) → Stands s d n top G → (r : Signature) → Carries (SettledAt s d G) r (rows w base m) → (τ : Valuation) → Meets (G .before ⨾ G .items) τ →
             (σ : ℕ → Ty) → Solution s₃ d (suc (n + m)) (G .equations) σ → σ (n + m) ≡ under τ (bindingOf r)
         unfolding formerOf bindingOf under
         type G S r C τ h σ X =

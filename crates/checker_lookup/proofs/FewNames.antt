@@ -12,7 +12,7 @@ use Rattle.types_rules.specs.Types.{Ty, node, Term, Terms, unknown, con, nil, c
 use Rattle.types_rules.specs.Formed.{partCount}
 use Rattle.types_rules.specs.Instance.{nth, actual, instanceFormer, instance, instances}
 use Rattle.checker_rules.specs.Unknowns.{row}
-use Rattle.checker_rules.specs.Dictionary.{Dictionary, blank, _▸_, nameEntry, schemaEntry, Found, noSchema, aSchema, schemaIn}
+use Rattle.checker_rules.specs.Dictionary.{Dictionary, blank, _▸_, nameEntry, schemaEntry, NamedSchema, noSchema, aSchema, schemaIn}
 use Rattle.checker_rules.specs.Signatures.{Signature, noNames, naming, countNames, withNames, componentsOf, insertName, strokeAll, renamed, renameAll}
 use Rattle.checker_rules.specs.Scopes.{Scope, globals, local, schemaNamed, withParameters, brought, includeSignature}
 use Rattle.checker_rules.proofs.FormedInstances.{instances-count}
@@ -82,11 +82,11 @@ unfolding instance
 instance-few (node h gs) n k p l = let e = instances-count (row n k p) gs in former-few h n k p (instances (row n k p) gs) (omega arith)
 
 -- The schemas that are found have few components.
-unfoldable pub FewFound : Found → Type 0
+unfoldable pub FewFound : NamedSchema → Type 0
 FewFound noSchema = Unit {0}
 FewFound (aSchema p g) = FewParts g
 
-brought-few : (f : Found) (n m p k : ℕ) (rs : List (ℕ × ℕ)) → FewFound f → countNames (brought f (row n m p) k rs) ≤ 16
+brought-few : (f : NamedSchema) (n m p k : ℕ) (rs : List (ℕ × ℕ)) → FewFound f → countNames (brought f (row n m p) k rs) ≤ 16
 unfolding brought FewFound countNames
 brought-few noSchema n m p k rs h = omega arith
 brought-few (aSchema q g) n m p k rs h =

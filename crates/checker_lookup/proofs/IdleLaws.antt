@@ -3,14 +3,14 @@ use mathlib.Core.Logic.{_↔_, inr}
 use mathlib.Core.List.{List}
 use Prim.Native.Nat.{ℕ}
 use Rattle.checker_rules.specs.Items.{Items, skip, _⨾_, fresh, equate, select, small, refusal, piece, Meets, Agree, And, Passes, Refuses}
-use Rattle.checker_rules.specs.Unknowns.{Table}
+use Rattle.checker_rules.specs.Unknowns.{Valuation}
 use Rattle.checker_rules.proofs.ItemLaws.{passes-ext, refuses-ext}
 use Rattle.checker_pieces.specs.Building.{Introduced}
 use Rattle.checker_pieces.specs.Stage.{Ghost}
 use Rattle.checker_lookup.specs.Thetas.{Idle}
 use Rattle.checker_lookup.proofs.AppliedLaws.{introduced-alike}
 
-idle-meets : (a : Items) → Idle a → (τ : Table) → Meets a τ
+idle-meets : (a : Items) → Idle a → (τ : Valuation) → Meets a τ
 unfolding Idle Meets
 idle-meets skip h τ = tt
 idle-meets (a ⨾ b) h τ = (idle-meets a (h .0) τ, idle-meets b (h .1) τ)
@@ -21,7 +21,7 @@ idle-meets (small n a) h τ = absurd h
 idle-meets (refusal f n) h τ = absurd h
 idle-meets (piece n t) h τ = absurd h
 
-idle-agree : (a : Items) → Idle a → (σ τ : Table) → Agree a σ τ
+idle-agree : (a : Items) → Idle a → (σ τ : Valuation) → Agree a σ τ
 unfolding Idle Agree
 idle-agree skip h σ τ = tt
 idle-agree (a ⨾ b) h σ τ = (idle-agree a (h .0) σ τ, idle-agree b (h .1) σ τ)
@@ -32,7 +32,7 @@ idle-agree (small n a) h σ τ = absurd h
 idle-agree (refusal f n) h σ τ = absurd h
 idle-agree (piece n t) h σ τ = absurd h
 
-pub idle-passes : (a : Items) → Idle a → (P : Table → Type 0) → Passes a P
+pub idle-passes : (a : Items) → Idle a → (P : Valuation → Type 0) → Passes a P
 unfolding Idle Passes
 idle-passes skip h P = tt
 idle-passes (a ⨾ b) h P = (idle-passes a (h .0) P, idle-passes b (h .1) (And P a))
@@ -44,10 +44,10 @@ idle-passes (refusal f n) h P = absurd h
 idle-passes (piece n t) h P = absurd h
 
 module _ (a : Items) (h : Idle a) where
-  idle-and : (P : Table → Type 0) (τ : Table) → P τ ↔ And P a τ
+  idle-and : (P : Valuation → Type 0) (τ : Valuation) → P τ ↔ And P a τ
   idle-and P τ = (λ p. (p, idle-meets a h τ), λ p. p .0)
 
-  pub idle-refuses : (b : Items) (P : Table → Type 0) (f m : ℕ) → Refuses b P f m → Refuses (a ⨾ b) P f m
+  pub idle-refuses : (b : Items) (P : Valuation → Type 0) (f m : ℕ) → Refuses b P f m → Refuses (a ⨾ b) P f m
   unfolding Refuses
   idle-refuses b P f m r = inr (idle-passes a h P, refuses-ext b P (And P a) f m (idle-and P) r)
 

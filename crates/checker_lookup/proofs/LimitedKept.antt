@@ -10,7 +10,7 @@ use Rattle.reader_rules.specs.Tree.{Text, text, Lines, end, declaration, inclus
 use Rattle.reader_rules.specs.Tree.{Paragraph, given, axiomatic, schema, abbreviation, constraint}
 use Rattle.types_rules.specs.Types.{Term, under, unders, size}
 use Rattle.types_rules.specs.Formed.{partCountType}
-use Rattle.checker_rules.specs.Unknowns.{Table, unknownAt, givenSet}
+use Rattle.checker_rules.specs.Unknowns.{Valuation, unknownAt, givenSet}
 use Rattle.checker_rules.specs.Items.{Meets}
 use Rattle.checker_rules.specs.Conditions.{refuseIf, smallTypes, fewNames}
 use Rattle.checker_rules.specs.Dictionary.{Dictionary, blank, _▸_, nameEntry}
@@ -23,7 +23,7 @@ use Rattle.reader_rules.specs.Limited.{FewParameters}
 use Rattle.checker_lookup.proofs.FewNames.{FewSchemas, include-few, globals-few, parameters-few}
 
 -- What a table that meets the items shows.
-module _ (τ : Table) where
+module _ (τ : Valuation) where
   refuseIf-met : (b : Bool) (f n : ℕ) → Meets (refuseIf b f n) τ → b ≡ false
   unfolding refuseIf Meets
   refuseIf-met true f n m = absurd m
@@ -120,7 +120,7 @@ module _ (τ : Table) where
   signature-limited (naming i t s) D h l = signature-limited s (D ▸ nameEntry i 0 (under τ t)) (h .1) (l, omega arith, h .0)
 
 -- A PARAGRAPH WHOSE ITEMS ARE MET KEEPS THE DICTIONARY WITHIN ITS LIMITS.
-pub limited-extend : (p : Paragraph) (D : Dictionary) (τ : Table) → FewParameters p → Limited D → Meets (paragraphItems p D) τ → Limited (extend p D τ)
+pub limited-extend : (p : Paragraph) (D : Dictionary) (τ : Valuation) → FewParameters p → Limited D → Meets (paragraphItems p D) τ → Limited (extend p D τ)
 unfolding paragraphItems extend Meets Limited
 limited-extend (given n is) D τ f l m = givens-limited τ is D l
 limited-extend (axiomatic n t) D τ f l m = signature-limited τ (textSignature t (globals D)) D (text-small τ t (globals D) D m) l

@@ -4,34 +4,34 @@ use Prim.Native.Nat.{ℕ, suc}
 use Rattle.reader_rules.specs.Tree.{Exprs, none, more, exprsLength}
 use Rattle.checker_rules.specs.Conditions.{typeOf, arePowers, freshRow}
 use Rattle.checker_rules.specs.Items.{Items, _⨾_, fresh, equate, Meets, Agree, And, Passes, Refuses}
-use Rattle.checker_rules.specs.Unknowns.{Table, slot, unknownAt, powerOf}
+use Rattle.checker_rules.specs.Unknowns.{Valuation, slot, unknownAt, powerOf}
 use Rattle.checker_rules.proofs.ItemLaws.{passes-ext, refuses-ext}
 use Rattle.checker_pieces.specs.Piece.{Goes, Stops}
 use Rattle.checker_pieces.proofs.Walks.{Alike}
 use Rattle.checker_lookup.specs.References.{powerEquations}
 use Rattle.checker_lookup.proofs.RowLaws.{meets-row}
 
-meets-powers : (k : ℕ) (xs : Exprs) (i : ℕ) (τ : Table) → Meets (powerEquations k xs i) τ ↔ Meets (arePowers k xs i) τ
+meets-powers : (k : ℕ) (xs : Exprs) (i : ℕ) (τ : Valuation) → Meets (powerEquations k xs i) τ ↔ Meets (arePowers k xs i) τ
 unfolding Meets powerEquations arePowers
 meets-powers k none i τ = (λ h. tt, λ h. tt)
 meets-powers k (more a xs) i τ = let q = meets-powers k xs (suc i) τ in (λ h. ((tt, h .0), q .0 (h .1)), λ h. (h .0 .1, q .1 (h .1)))
 
-agree-powers : (k : ℕ) (xs : Exprs) (i : ℕ) (σ τ : Table) → Agree (freshRow k i (exprsLength xs) ⨾ powerEquations k xs i) σ τ ↔ Agree (arePowers k xs i) σ τ
+agree-powers : (k : ℕ) (xs : Exprs) (i : ℕ) (σ τ : Valuation) → Agree (freshRow k i (exprsLength xs) ⨾ powerEquations k xs i) σ τ ↔ Agree (arePowers k xs i) σ τ
 unfolding Agree powerEquations arePowers freshRow exprsLength
 agree-powers k none i σ τ = (λ h. tt, λ h. (tt, tt))
 agree-powers k (more a xs) i σ τ =
     let q = agree-powers k xs (suc i) σ τ in
     (λ h. ((h .0 .0, tt), q .0 (h .0 .1, h .1 .1)), λ h. let z = q .1 (h .1) in ((h .0 .0, z .0), (tt, z .1)))
 
-first-fresh : (P : Table → Type 0) (x : ℕ) (τ : Table) → P τ ↔ And P (fresh x) τ
+first-fresh : (P : Valuation → Type 0) (x : ℕ) (τ : Valuation) → P τ ↔ And P (fresh x) τ
 unfolding Meets
 first-fresh P x τ = (λ h. (h, tt), λ h. h .0)
 
-with-fresh : (P : Table → Type 0) (x : ℕ) (e : Items) (τ : Table) → And P e τ ↔ And P (fresh x ⨾ e) τ
+with-fresh : (P : Valuation → Type 0) (x : ℕ) (e : Items) (τ : Valuation) → And P e τ ↔ And P (fresh x ⨾ e) τ
 unfolding Meets
 with-fresh P x e τ = (λ h. (h .0, (tt, h .1)), λ h. (h .0, h .1 .1))
 
-passes-powers : (k : ℕ) (xs : Exprs) (i : ℕ) (P : Table → Type 0) → Passes (powerEquations k xs i) P → Passes (arePowers k xs i) P
+passes-powers : (k : ℕ) (xs : Exprs) (i : ℕ) (P : Valuation → Type 0) → Passes (powerEquations k xs i) P → Passes (arePowers k xs i) P
 unfolding Passes powerEquations arePowers
 passes-powers k none i P p = tt
 passes-powers k (more a xs) i P p =
@@ -39,7 +39,7 @@ passes-powers k (more a xs) i P p =
     let x = slot k i in
     ((tt, passes-ext e P (And P (fresh x)) (first-fresh P x) (p .0)), passes-ext (arePowers k xs (suc i)) (And P e) (And P (fresh x ⨾ e)) (with-fresh P x e) (passes-powers k xs (suc i) (And P e) (p .1)))
 
-refuses-powers : (k : ℕ) (xs : Exprs) (i : ℕ) (P : Table → Type 0) (f m : ℕ) → Refuses (powerEquations k xs i) P f m → Refuses (arePowers k xs i) P f m
+refuses-powers : (k : ℕ) (xs : Exprs) (i : ℕ) (P : Valuation → Type 0) (f m : ℕ) → Refuses (powerEquations k xs i) P f m → Refuses (arePowers k xs i) P f m
 unfolding Passes Refuses powerEquations arePowers
 refuses-powers k none i P f m r = r
 refuses-powers k (more a xs) i P f m (inl r) =
@@ -64,11 +64,11 @@ module _ (k : ℕ) (xs : Exprs) (b : Items) where
     λ σ τ. let q = agree-powers k xs 1 σ τ in (λ h. (q .0 (h .0, h .1 .0), h .1 .1), λ h. let z = q .1 (h .0) in (z .0, (z .1, h .1))),
   )
 
-  module _ (P : Table → Type 0) where
-    no-row : (τ : Table) → And P (freshRow k 1 (exprsLength xs)) τ ↔ P τ
+  module _ (P : Valuation → Type 0) where
+    no-row : (τ : Valuation) → And P (freshRow k 1 (exprsLength xs)) τ ↔ P τ
     no-row τ = (λ h. h .0, λ h. (h, meets-row k 1 (exprsLength xs) τ))
 
-    after-powers : (τ : Table) → And (And P (freshRow k 1 (exprsLength xs))) (powerEquations k xs 1) τ ↔ And P (arePowers k xs 1) τ
+    after-powers : (τ : Valuation) → And (And P (freshRow k 1 (exprsLength xs))) (powerEquations k xs 1) τ ↔ And P (arePowers k xs 1) τ
     after-powers τ = let q = meets-powers k xs 1 τ in (λ h. (h .0 .0, q .0 (h .1)), λ h. ((h .0, meets-row k 1 (exprsLength xs) τ), q .1 (h .1)))
 
     passes-first : Passes unknowns-first P → Passes (arePowers k xs 1 ⨾ b) P

@@ -6,7 +6,7 @@ use Prim.Native.Nat.{ℕ, zero, suc, _+_, _≤_, _<_}
 use native.Mathlib.Omega.{arith}
 use native.Mathlib.Nat.{eq-or-lt-of-le}
 use Rattle.types_rules.specs.Equations.{In, Pairs, pair, end}
-use Rattle.checker_rules.specs.Unknowns.{Table, slot}
+use Rattle.checker_rules.specs.Unknowns.{Valuation, slot}
 use Rattle.checker_rules.specs.Items.{Items, _⨾_, fresh, Meets, Agree, Passes}
 use Rattle.checker_rules.specs.Conditions.{freshRow}
 use Rattle.types_cells.specs.Layout.{firstRun}
@@ -21,18 +21,18 @@ use Rattle.checker_pieces.proofs.Growing.{unknown, unknown-later}
 use Rattle.checker_lookup.specs.References.{RowAsked, Among, RowOf, RowMade}
 
 -- The items of a row ask nothing.
-pub meets-row : (k j p : ℕ) (τ : Table) → Meets (freshRow k j p) τ
+pub meets-row : (k j p : ℕ) (τ : Valuation) → Meets (freshRow k j p) τ
 unfolding freshRow Meets
 meets-row k j zero τ = tt
 meets-row k j (suc p) τ = (tt, meets-row k (suc j) p τ)
 
-passes-row : (k j p : ℕ) (P : Table → Type 0) → Passes (freshRow k j p) P
+passes-row : (k j p : ℕ) (P : Valuation → Type 0) → Passes (freshRow k j p) P
 unfolding freshRow Passes
 passes-row k j zero P = tt
 passes-row k j (suc p) P = (tt, passes-row k (suc j) p _)
 
 -- One unknown more at the row's end.
-agree-row : (k j p : ℕ) (σ τ : Table) → Agree (freshRow k j p ⨾ fresh (slot k (j + p))) σ τ ↔ Agree (freshRow k j (suc p)) σ τ
+agree-row : (k j p : ℕ) (σ τ : Valuation) → Agree (freshRow k j p ⨾ fresh (slot k (j + p))) σ τ ↔ Agree (freshRow k j (suc p)) σ τ
 unfolding freshRow Agree
 agree-row k j zero σ τ =
     let e : j + 0 ≡ j = omega arith in

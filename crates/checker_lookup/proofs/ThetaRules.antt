@@ -13,7 +13,7 @@ use Rattle.types_rules.specs.Formed.{FormedType, Arity}
 use Rattle.types_rules.specs.Instance.{instance}
 use Rattle.types_rules.specs.Types.{Ty, Tys, node, nil}
 use Rattle.checker_rules.specs.Conditions.{typed, refuseIf}
-use Rattle.checker_rules.specs.Dictionary.{Dictionary, blank, _▸_, nameEntry, schemaEntry, Found, noSchema, aSchema, schemaIn}
+use Rattle.checker_rules.specs.Dictionary.{Dictionary, blank, _▸_, nameEntry, schemaEntry, NamedSchema, noSchema, aSchema, schemaIn}
 use Rattle.checker_rules.specs.Items.{_⨾_}
 use Rattle.checker_rules.specs.Rules.{thetaNames, thetaItems, thetaSignature}
 use Rattle.checker_rules.specs.Scopes.{Scope, schemaNamed}
@@ -45,7 +45,7 @@ use Rattle.checker_lookup.proofs.PlacedLaws.{scoped-below}
 use Rattle.checker_lookup.proofs.ReferenceLaws.{introduced-enlarged, new-typing}
 
 -- The type of a recorded schema.
-unfoldable OfSchema : Found → Type 0
+unfoldable OfSchema : NamedSchema → Type 0
 OfSchema noSchema = Unit {0}
 OfSchema (aSchema p g) = SchemaType g
 
@@ -95,7 +95,7 @@ module _ (s d w : List ℕ) (n top rows base id k : ℕ) (B : ThetaAsked s d w n
     uses = λ q. absurd (omega arith);
     below = λ i l. refl;
     ruled = λ G S node U Γ D C.
-        stopped s d n top node 30 G (thetaItems node k (schemaNamed id Γ) Γ) (ap (λ (x : Found). thetaItems node k x Γ) (in-dictionary G Γ D C ∙ found D (C .recorded .holds) .absent z));
+        stopped s d n top node 30 G (thetaItems node k (schemaNamed id Γ) Γ) (ap (λ (x : NamedSchema). thetaItems node k x Γ) (in-dictionary G Γ D C ∙ found D (C .recorded .holds) .absent z));
   }
 
   module _ (some : e ≡ 0 → ⊥) (q : ℕ) (eq : q ≡ typeAt d e) where
@@ -106,7 +106,7 @@ module _ (s d w : List ℕ) (n top rows base id k : ℕ) (B : ThetaAsked s d w n
       entry-some : 1 ≤ e
       entry-some = ⊎-elim (λ z. absurd (some z)) (λ z. omega arith) (eq-zero-or-pos e)
 
-      abbrev entry : Entry Found (schemaIn id D) aSchema d e
+      abbrev entry : Entry NamedSchema (schemaIn id D) aSchema d e
       entry = found D (R .holds) .present entry-some
 
       abbrev limits : SchemaType (entry .type)
@@ -215,7 +215,7 @@ module _ (s d w : List ℕ) (n top rows base id k : ℕ) (B : ThetaAsked s d w n
           below = below₂;
           ruled = λ G S node U Γ D C.
               let g = entry D (C .recorded) .type in
-              subst (λ (x : Found). Ruled s s d n top node number 0 n top G (thetaItems node k x Γ)) (sym (found-schema G Γ D C))
+              subst (λ (x : NamedSchema). Ruled s s d n top node number 0 n top G (thetaItems node k x Γ)) (sym (found-schema G Γ D C))
               (rule-stops s s d n top node number 0 n top G (thetaItems node k (aSchema p g) Γ) ne
               (T .stops ne s G Γ (componentsOf (instance nil g)) (above G Γ D C) node (G .before) (G .items) (typed node (bindingOf (thetaSignature k (componentsOf (instance nil g)) Γ)))));
         }
@@ -250,7 +250,7 @@ module _ (s d w : List ℕ) (n top rows base id k : ℕ) (B : ThetaAsked s d w n
                 let sig = thetaSignature k (componentsOf (instance nil g)) Γ in
                 let t = bindingOf sig in
                 let F = fine G Γ D C in
-                subst (λ (x : Found). Ruled s s′ d n top node 0 cell n′ top′ G (thetaItems node k x Γ)) (sym (found-schema G Γ D C))
+                subst (λ (x : NamedSchema). Ruled s s′ d n top node 0 cell n′ top′ G (thetaItems node k x Γ)) (sym (found-schema G Γ D C))
                 (rule-goes s s′ d n top node 0 cell n′ top′ G (thetaItems node k (aSchema p g) Γ) refl
                 (theta-introduced s s′ d n top n′ top′ G node k p g Γ w₂ base m F cell
                 (introduced-enlarged s s′ s′ d n top n′ top′ n′ top′ (suc m) G (typed node t) (SlotOf node) (slot node 0) cell E S

@@ -6,7 +6,7 @@ use Rattle.types_rules.specs.Equations.{In}
 use Rattle.types_rules.specs.Formed.{partCountType}
 use Rattle.types_rules.specs.Former.{binding}
 use Rattle.types_rules.specs.Types.{Ty, Tys, node, Term, Each, under, size}
-use Rattle.checker_rules.specs.Unknowns.{Table}
+use Rattle.checker_rules.specs.Unknowns.{Valuation}
 use Rattle.checker_rules.specs.Items.{_⨾_, Meets}
 use Rattle.checker_rules.specs.Dictionary.{Dictionary, blank, _▸_, nameEntry, schemaEntry}
 use Rattle.checker_rules.specs.Scopes.{Scope}
@@ -22,7 +22,7 @@ pub record SettledAt (s d : List ℕ) (G : Ghost) (t : Term) (p : ℕ) : Type 0 
   pub over : Each (λ x. In x (G .mentioned)) t
   pub type : Ty
   pub reads : Reads (heap s d) p type
-  pub means : (τ : Table) → Meets (G .before ⨾ G .items) τ → under τ t ≡ type
+  pub means : (τ : Valuation) → Meets (G .before ⨾ G .items) τ → under τ t ≡ type
 
 -- The binding of a schema has 16 components at most (38).
 abbrev pub FewParts : Ty → Type 0

@@ -11,7 +11,7 @@ ghost use Rattle.checker_lookup.specs.References.{RowAsked, RowMade, Ins
 ghost use Rattle.types_cells.specs.Settled.{Entering};
 
 // A node's rule: number 0, and the cell has the node's type; or a finding at the node. The number of cells, and where their runs end.
-pub struct Ruling {
+pub struct LookupRuling {
     pub number: u32,
     pub cell: usize,
     pub cells: usize,
@@ -77,13 +77,13 @@ fn generic(a: &mut [u32], d: &[u32], n: usize, top: usize, p: usize, m: usize) -
 }
 
 // A recorded name, without actuals.
-fn global(a: &mut [u32], d: &[u32], n: usize, top: usize, id: usize) -> Ruling
+fn global(a: &mut [u32], d: &[u32], n: usize, top: usize, id: usize) -> LookupRuling
     requires { ⌜ Consulted (now a) (now d) n top ⌝ }
     ensures { λ r. ⌜ Global (now (a .entry)) (now (a .exit)) (now (d .entry)) n top id (r .number) (r .cell) (r .cells) (r .top) ⌝ }
 {
     let e = entry_of_name(d, id);
     if e == 0 {
-        return Ruling {
+        return LookupRuling {
             number: findings::UNKNOWN_NAME,
             cell: 0,
             cells: n,
@@ -93,7 +93,7 @@ fn global(a: &mut [u32], d: &[u32], n: usize, top: usize, id: usize) -> Ruling
     let m = parameters_of(d, e);
     let p = DICTIONARY + type_place(d, e);
     let g = generic(a, d, n, top, p, m);
-    Ruling {
+    LookupRuling {
         number: 0,
         cell: g.cell,
         cells: g.cells,
@@ -110,14 +110,14 @@ pub fn reference(
     top: usize,
     rows: usize,
     id: usize,
-) -> Ruling
+) -> LookupRuling
     requires { ⌜ Referring (now a) (now d) (now w) n top rows ⌝ }
     ensures { λ r. ⌜ Refers (now (a .entry)) (now (a .exit)) (now (d .entry)) (now (w .entry)) n top rows id (r .number) (r .cell) (r .cells) (r .top) ⌝ }
 {
     let r = find(w, 0, rows, id);
     if r < rows {
         let g = settled(a, d, n, top, word(w, 2 * r + 1));
-        return Ruling {
+        return LookupRuling {
             number: 0,
             cell: g.cell,
             cells: g.cells,
@@ -137,12 +137,12 @@ fn equate_actuals(
     parts: &[u32],
     i: usize,
     m: usize,
-) -> Ruling
+) -> LookupRuling
     requires { ⌜ EquatingActuals (now a) (now d) n top first (now parts) i m ⌝ }
     ensures { λ r. ⌜ ActualsEquated (now (a .entry)) (now (a .exit)) (now (d .entry)) n top first (now (parts .entry)) i m (r .number) (r .cells) (r .top) ⌝ }
 {
     if m <= i {
-        return Ruling {
+        return LookupRuling {
             number: 0,
             cell: 0,
             cells: n,
@@ -153,7 +153,7 @@ fn equate_actuals(
     if checker_pieces::equal(a, d, n + 1, word(parts, i), n) {
         return equate_actuals(a, d, n + 1, top + 1, first + 1, parts, i + 1, m);
     }
-    Ruling {
+    LookupRuling {
         number: findings::UNEQUAL,
         cell: 0,
         cells: n + 1,
@@ -170,7 +170,7 @@ fn applied(
     p: usize,
     m: usize,
     parts: &[u32],
-) -> Ruling
+) -> LookupRuling
     requires { ⌜ ApplyingAt (now a) (now d) n top p m (now parts) ⌝ }
     ensures { λ r. ⌜ AppliedAt (now (a .entry)) (now (a .exit)) (now (d .entry)) n top p m (now (parts .entry)) (r .number) (r .cell) (r .cells) (r .top) ⌝ }
 {
@@ -181,7 +181,7 @@ fn applied(
         return q;
     }
     let g = instance(a, d, q.cells, q.top, p, n, m);
-    Ruling {
+    LookupRuling {
         number: 0,
         cell: g.cell,
         cells: g.cells,
@@ -198,13 +198,13 @@ fn global_applied(
     id: usize,
     parts: &[u32],
     m: usize,
-) -> Ruling
+) -> LookupRuling
     requires { ⌜ ConsultedWith (now a) (now d) n top (now parts) m ⌝ }
     ensures { λ r. ⌜ GlobalApplied (now (a .entry)) (now (a .exit)) (now (d .entry)) n top id (now (parts .entry)) m (r .number) (r .cell) (r .cells) (r .top) ⌝ }
 {
     let e = entry_of_name(d, id);
     if e == 0 {
-        return Ruling {
+        return LookupRuling {
             number: findings::UNKNOWN_NAME,
             cell: 0,
             cells: n,
@@ -212,7 +212,7 @@ fn global_applied(
         };
     }
     if parameters_of(d, e) != m {
-        return Ruling {
+        return LookupRuling {
             number: findings::WRONG_COUNT,
             cell: 0,
             cells: n,
@@ -234,7 +234,7 @@ pub fn ref_rule(
     id: usize,
     parts: &[u32],
     m: usize,
-) -> Ruling
+) -> LookupRuling
     requires { ⌜ ReferringWith (now a) (now d) (now w) n top rows (now parts) m ⌝ }
     ensures { λ r. ⌜ RefersWith (now (a .entry)) (now (a .exit)) (now (d .entry)) (now (w .entry)) n top rows id (now (parts .entry)) m (r .number) (r .cell) (r .cells) (r .top) ⌝ }
 {
@@ -243,7 +243,7 @@ pub fn ref_rule(
     }
     let r = find(w, 0, rows, id);
     if r < rows {
-        return Ruling {
+        return LookupRuling {
             number: findings::WRONG_COUNT,
             cell: 0,
             cells: n,

@@ -1,7 +1,7 @@
 // Theta: the binding of a schema's components, with the types that their decorated identifiers have in scope.
 use crate::bindings::binding;
 use crate::components::component_rows;
-use crate::references::Ruling;
+use crate::references::LookupRuling;
 use checker_dictionary::lookup::entry_of_name;
 use checker_dictionary::lookup::entry_of_schema;
 use checker_dictionary::lookup::parameters_of;
@@ -108,13 +108,13 @@ pub fn theta_rule(
     base: usize,
     id: usize,
     stroke: usize,
-) -> Ruling
+) -> LookupRuling
     requires { ⌜ ThetaAsked (now a) (now d) (now w) n top rows base stroke ⌝ }
     ensures { λ r. ⌜ ThetaRuled (now (a .entry)) (now (a .exit)) (now (d .entry)) (now (w .entry)) (now (w .exit)) n top rows base id stroke (r .number) (r .cell) (r .cells) (r .top) ⌝ }
 {
     let e = entry_of_schema(d, id);
     if e == 0 {
-        return Ruling {
+        return LookupRuling {
             number: findings::UNKNOWN_NAME,
             cell: 0,
             cells: n,
@@ -124,7 +124,7 @@ pub fn theta_rule(
     let m = component_rows(a, d, w, DICTIONARY + type_place(d, e), base);
     let number = checks(d, w, rows, base, m, parameters_of(d, e), stroke);
     if number != 0 {
-        return Ruling {
+        return LookupRuling {
             number: number,
             cell: 0,
             cells: n,
@@ -132,7 +132,7 @@ pub fn theta_rule(
         };
     }
     let g = binding(a, d, w, base, m, n, top);
-    Ruling {
+    LookupRuling {
         number: 0,
         cell: g.cell,
         cells: g.cells,

@@ -25,7 +25,7 @@ use Rattle.checker_rules.specs.Rules.{referenceItems}
 use Rattle.checker_rules.specs.Scopes.{Scope, nameAt}
 use Rattle.checker_pieces.specs.Stage.{nodeCells}
 use Rattle.checker_pieces.specs.Building.{Building}
-use Rattle.checker_kinds.specs.Formers.{Operating, Listed, setItems, tupleItems, productItems}
+use Rattle.checker_kinds.specs.Formers.{Operating, DerivedList, setItems, tupleItems, productItems}
 use Rattle.checker_lookup.specs.References.{ReferringWith, RefersWith}
 use Rattle.checker_contracts.specs.Expressions.{ExprAsk, ExprDone, ExprsAsk, ExprsDone}
 use Rattle.checker_contracts.specs.Shapes.{Listing}
@@ -199,7 +199,7 @@ module _ {doc p s d w : List ℕ} {rows n top at free k i : ℕ} {own : Scope �
       listing-build r q = listing-building s d w rows n top at free (exprAt doc k) (operands doc p k i) k own (O .shape) K parts fit s₁ w₁ parts₁ number place n₁ top₁ at₁ E z m same r q
 
       pub listing-end : {s₂ : List ℕ} {answer cell n₂ top₂ used : ℕ} {r : Visit} (rule : ℕ → Exprs → Items) → ((Γ : Scope) → own Γ ≡ rule k (operands doc p k i)) → used ≤ nodeCells → length s₂ ≡ length s₁ →
-          Listed s₁ s₂ d n₁ top₁ (take m parts₁) answer cell n₂ top₂ used rule → VisitAt r answer k cell n₂ top₂ at₁ →
+          DerivedList s₁ s₂ d n₁ top₁ (take m parts₁) answer cell n₂ top₂ used rule → VisitAt r answer k cell n₂ top₂ at₁ →
           ExprDone s s₂ d w w₁ rows n top at free (exprAt doc k) (r .number) (r .place) (r .cell) (r .cells) (r .top) (r .at)
       listing-end {s₂} {answer} {cell} {n₂} {top₂} {used} rule same-items few size R A =
           visit-done A

@@ -16,7 +16,7 @@ use Rattle.reader_rules.proofs.TreeShape.{One, Two}
 use Rattle.types_cells.proofs.Growing.{lt-or-ge}
 use Rattle.checker_contracts.specs.Predicates.{PredAsk, PredDone}
 use Rattle.checker_contracts.proofs.Connecting.{truth-done, not-part, not-done, connected-first, connected-stopped, connected-second, connected-done}
-use Rattle.checker_closing.specs.Nodes.{Node, Found}
+use Rattle.checker_closing.specs.Nodes.{Node, VerdictAt}
 use Rattle.checker_closing.specs.declared.results.Verdict.{Verdict}
 
 pub node-of : {doc p : List ℕ} {q k : ℕ} → At doc q k → p ≡ part doc k → Node doc p q k
@@ -33,14 +33,14 @@ pub beyond : (q n : ℕ) → n ≤ q → (q ≡ n → ⊥) → n < q
 beyond q n l d = ⊎-elim (λ (z : n < q). z) (λ (z : q ≤ n). absurd (d (omega arith))) (lt-or-ge n q)
 
 -- The promise in the words of the result.
-pub pred-told : {s s′ d w w′ : List ℕ} {rows at free number place : ℕ} {p : Pred} {r : Verdict} → Found r number place → PredDone s s′ d w w′ rows at free p number place →
+pub pred-told : {s s′ d w w′ : List ℕ} {rows at free number place : ℕ} {p : Pred} {r : Verdict} → VerdictAt r number place → PredDone s s′ d w w′ rows at free p number place →
     PredDone s s′ d w w′ rows at free p (r .number) (r .place)
 pred-told {s} {s′} {d} {w} {w′} {rows} {at} {free} {number} {place} {p} {r} F P =
     subst (λ z. PredDone s s′ d w w′ rows at free p z (r .place)) (sym (F .number-is)) (subst (λ z. PredDone s s′ d w w′ rows at free p number z) (sym (F .place-is)) P)
 
 module _ {doc p : List ℕ} {k : ℕ} (B : Node doc p predicates k) {s d w : List ℕ} {rows at free : ℕ} where
   -- 20
-  pub at-truth : kindAt doc k ≡ 20 → (r : Verdict) → Found r 0 k → PredDone s s d w w rows at free (predAt doc k) (r .number) (r .place)
+  pub at-truth : kindAt doc k ≡ 20 → (r : Verdict) → VerdictAt r 0 k → PredDone s s d w w rows at free (predAt doc k) (r .number) (r .place)
   at-truth q r F = pred-told F (subst (λ t. PredDone s s d w w rows at free t 0 k) (sym (pred-truth doc k (B .at) q)) (truth-done s d w rows at free k k))
 
   module _ (A : PredAsk s d w rows at free (predAt doc k)) where

@@ -16,7 +16,7 @@ use Rattle.types_solver.specs.Written.{Wrote}
 use Rattle.types_instances.specs.Moved.{saved, restored}
 use Rattle.checker_pieces.specs.Stage.{nodeCells}
 use Rattle.checker_pieces.specs.Building.{Building}
-use Rattle.checker_kinds.specs.Formers.{Listed, Derived, comprehensionItems, numberItems, integersItems}
+use Rattle.checker_kinds.specs.Formers.{DerivedList, Derived, comprehensionItems, numberItems, integersItems}
 use Rattle.checker_lookup.specs.Bindings.{SchemaSetAsked, SchemaSetTyped}
 use Rattle.checker_lookup.specs.Thetas.{ThetaAsked, ThetaRuled}
 use Rattle.checker_contracts.specs.Room.{framesAt}
@@ -136,7 +136,7 @@ module _ {doc s d w : List ℕ} {rows n top at free k : ℕ} (N : At doc express
     pub number-rule : (r : ℕ) → r ≤ 2 * nodeCells → Building s n top r []
     number-rule r p = alone-building s d w rows n top at free (number k (operandAt doc k 1)) k _ (number-alone k (operandAt doc k 1)) number-ask r p
 
-    pub number-end : {s₁ : List ℕ} {answer cell n₁ top₁ used : ℕ} {r : Visit} → used ≤ nodeCells → length s₁ ≡ length s → Listed s s₁ d n top [] answer cell n₁ top₁ used numberItems →
+    pub number-end : {s₁ : List ℕ} {answer cell n₁ top₁ used : ℕ} {r : Visit} → used ≤ nodeCells → length s₁ ≡ length s → DerivedList s s₁ d n top [] answer cell n₁ top₁ used numberItems →
         VisitAt r answer k cell n₁ top₁ at → ExprDone s s₁ d w w rows n top at free (exprAt doc k) (r .number) (r .place) (r .cell) (r .cells) (r .top) (r .at)
     number-end {s₁} {answer} {cell} {n₁} {top₁} {used} few size R A =
         visit-done A
@@ -152,7 +152,7 @@ module _ {doc s d w : List ℕ} {rows n top at free k : ℕ} (N : At doc express
     pub integers-rule : (r : ℕ) → r ≤ 2 * nodeCells → Building s n top r []
     integers-rule r p = alone-building s d w rows n top at free (integers k) k _ (integers-alone k) integers-ask r p
 
-    pub integers-end : {s₁ : List ℕ} {answer cell n₁ top₁ used : ℕ} {r : Visit} → used ≤ nodeCells → length s₁ ≡ length s → Listed s s₁ d n top [] answer cell n₁ top₁ used integersItems →
+    pub integers-end : {s₁ : List ℕ} {answer cell n₁ top₁ used : ℕ} {r : Visit} → used ≤ nodeCells → length s₁ ≡ length s → DerivedList s s₁ d n top [] answer cell n₁ top₁ used integersItems →
         VisitAt r answer k cell n₁ top₁ at → ExprDone s s₁ d w w rows n top at free (exprAt doc k) (r .number) (r .place) (r .cell) (r .cells) (r .top) (r .at)
     integers-end {s₁} {answer} {cell} {n₁} {top₁} {used} few size R A =
         visit-done A

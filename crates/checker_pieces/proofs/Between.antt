@@ -5,13 +5,13 @@ use mathlib.Core.Logic.{_⊎_, _↔_, inl, inr, ⊎-elim}
 use Prim.Native.Nat.{ℕ, _≤_, _<_}
 use Rattle.types_rules.specs.Equations.{In}
 use Rattle.types_rules.specs.Types.{Ty, Term, under, size}
-use Rattle.checker_rules.specs.Unknowns.{Table}
+use Rattle.checker_rules.specs.Unknowns.{Valuation}
 use Rattle.checker_rules.specs.Items.{Items, skip, _⨾_, equate, small, refusal, Meets, And, Passes, Refuses}
 use Rattle.checker_rules.proofs.ItemLaws.{passes-ext, refuses-ext}
 use Rattle.checker_pieces.specs.Piece.{SameOn, Local, Steady, Extends, Walked, Settled}
 
 -- Two lists of items after H, or the second in a row of them.
-pub after : (H a : Items) (τ : Table) → Meets (H ⨾ a) τ ↔ And (Meets H) a τ
+pub after : (H a : Items) (τ : Valuation) → Meets (H ⨾ a) τ ↔ And (Meets H) a τ
 unfolding Meets
 after H a τ = (λ h. (h .0, h .1), λ h. (h .0, h .1))
 
@@ -28,7 +28,7 @@ unfolding Refuses
 refuses-second H a b f m p r = inr (p, refuses-ext b (Meets (H ⨾ a)) (And (Meets H) a) f m (after H a) r)
 
 -- ITEMS THAT HOLD ANYWAY.
-pub walked-noted : (H c : Items) (U : List ℕ) (Mine : ℕ → Type 0) → Steady H U → Passes c (Meets H) → ((τ : Table) → Meets H τ → Meets c τ) → Walked H c U U Mine
+pub walked-noted : (H c : Items) (U : List ℕ) (Mine : ℕ → Type 0) → Steady H U → Passes c (Meets H) → ((τ : Valuation) → Meets H τ → Meets c τ) → Walked H c U U Mine
 unfolding Meets
 walked-noted H c U Mine S p holds = record {
   goes = p;

@@ -12,7 +12,7 @@ use Rattle.checker_rules.specs.Items.{piece, Meets, Passes, Refuses}
 use Rattle.types_cells.specs.Store.{frozen}
 use Rattle.types_rules.specs.Words.{words}
 use Rattle.types_cells.specs.Calls.{Above}
-use Rattle.types_solver.specs.Sizes.{cap, markAt, Read, Tested, Measuring, Measured}
+use Rattle.types_solver.specs.Sizes.{cap, markAt, Read, TestedFinite, Measuring, Measured}
 use Rattle.types_solver.specs.Answers.{Finite, Left}
 use Rattle.types_solver.specs.Written.{Writing, Typed}
 use Rattle.types_solver.proofs.Accepted.{model, least}
@@ -28,7 +28,7 @@ use Rattle.checker_pieces.proofs.Lengths.{words-few}
 pub closing-read : (s d : List ℕ) (n : ℕ) → Closing s d n → Read s n
 closing-read s d n C = let Q = C .ready .stands .piece in record { L = Q .L; held = Q .solved .held }
 
-module _ (s u d : List ℕ) (n : ℕ) (b : Bool) (T : Tested s u n b) where
+module _ (s u d : List ℕ) (n : ℕ) (b : Bool) (T : TestedFinite s u n b) where
   pub tested-read : Closing s d n → Read u n
   tested-read C = let Q = C .ready .stands .piece in record { L = Q .L; held = T .grown _ (Q .L) (Q .solved) .held }
 
@@ -59,7 +59,7 @@ module _ (s u d : List ℕ) (n : ℕ) (b : Bool) (T : Tested s u n b) where
           steady = λ m. closed-steady u d n (G .equations) (G .before) (G .items) (G .known) (G .mentioned) (G .cells) after m finite Z;
           types = λ m x c i τ h. closed-type u d n (G .equations) (G .before) (G .items) (G .known) (G .mentioned) (G .cells) after m finite Z (X .0) O x c i τ h;
           links = Q .L;
-          model = model s u d n (subst (Tested s u n) e T) (G .equations) (Q .L) (Q .solved) (Q .pinned) (record { σ = X .0; fits = X .1 .fits; sat = X .1 .sat; obeys = X .1 .obeys });
+          model = model s u d n (subst (TestedFinite s u n) e T) (G .equations) (Q .L) (Q .solved) (Q .pinned) (record { σ = X .0; fits = X .1 .fits; sat = X .1 .sat; obeys = X .1 .obeys });
           resolved = Z .resolved refl (Q .L) (T .grown (G .equations) (Q .L) (Q .solved) .held);
           few = S .few;
         }

@@ -7,12 +7,12 @@ use Prim.Native.Nat.{ℕ, _<_, _≤_}
 use native.Mathlib.Omega.{arith}
 use Rattle.types_rules.specs.Equations.{AllP, In, InP, Pairs, pair, end}
 use Rattle.types_rules.specs.Types.{Ty}
-use Rattle.checker_rules.specs.Unknowns.{Table}
+use Rattle.checker_rules.specs.Unknowns.{Valuation}
 use Rattle.checker_rules.specs.Items.{Items, _⨾_, piece, Meets, Agree, Passes, Refuses}
 use Rattle.types_cells.specs.Layout.{maxCells}
 use Rattle.types_cells.specs.Store.{frozen, tagAt, Solved}
 use Rattle.types_cells.specs.Settled.{Pinned, Fits}
-use Rattle.types_solver.specs.Sizes.{Same, Tested}
+use Rattle.types_solver.specs.Sizes.{Same, TestedFinite}
 use Rattle.types_solver.specs.Answers.{SolutionOf, Finite, Left, Differ}
 use Rattle.types_solver.proofs.Accepted.{same-pinned, same-obeys}
 use Rattle.types_solver.proofs.Opening.{finite-none}
@@ -48,7 +48,7 @@ module _ (s s′ d : List ℕ) (n : ℕ) (P₀ L : Pairs ℕ) (S′ : Solved s�
   }
 
   -- THE PIECE AROUND IS TAKEN UP AGAIN after items c of pieces inside it.
-  module _ (c : Items) (U′ : List ℕ) (wider : (x : ℕ) → In x U → In x U′) (lc : Local ((H ⨾ t) ⨾ c) U′) (E : Extends (H ⨾ t) c U) (agrees : (τ τ′ : Table) → Agree c τ τ′) where
+  module _ (c : Items) (U′ : List ℕ) (wider : (x : ℕ) → In x U → In x U′) (lc : Local ((H ⨾ t) ⨾ c) U′) (E : Extends (H ⨾ t) c U) (agrees : (τ τ′ : Valuation) → Agree c τ τ′) where
     pub resumed : Piece s′ d n P₀ H (t ⨾ c) U₀ U′ ρ
     unfolding Meets Agree
     resumed = record {
@@ -73,7 +73,7 @@ module _ (s s′ d : List ℕ) (n : ℕ) (P₀ L : Pairs ℕ) (S′ : Solved s�
         tracked′ end q = tt
         tracked′ (pair x i R) q = ((wider x (q .0 .0), q .0 .1), tracked′ R (q .1))
 
-        matched : (R : Pairs ℕ) (τ τ′ : Table) (σ : ℕ → Ty) → SameOn U τ′ τ → AllP (λ x i. In x U × (i < n)) R → Matches R τ σ → Matches R τ′ σ
+        matched : (R : Pairs ℕ) (τ τ′ : Valuation) (σ : ℕ → Ty) → SameOn U τ′ τ → AllP (λ x i. In x U × (i < n)) R → Matches R τ σ → Matches R τ′ σ
         matched end τ τ′ σ e q m = tt
         matched (pair x i R) τ τ′ σ e q m = (e x (q .0 .0) ∙ m .0, matched R τ τ′ σ e (q .1) (m .1))
 
@@ -82,7 +82,7 @@ module _ (s s′ d : List ℕ) (n : ℕ) (P₀ L : Pairs ℕ) (S′ : Solved s�
     resumed-later = record { solutions = from; items = λ τ m. (m .0, m .1 .0); unknowns = λ τ σ m. m }
 
 -- `finite` on a piece: it answers true, and the piece stands.
-module _ (s s′ d : List ℕ) (n : ℕ) (b : Bool) (T : Tested s s′ n b) (P₀ : Pairs ℕ) (H t : Items) (U₀ U : List ℕ) (ρ : Pairs ℕ) (Q : Piece s d n P₀ H t U₀ U ρ) where
+module _ (s s′ d : List ℕ) (n : ℕ) (b : Bool) (T : TestedFinite s s′ n b) (P₀ : Pairs ℕ) (H t : Items) (U₀ U : List ℕ) (ρ : Pairs ℕ) (Q : Piece s d n P₀ H t U₀ U ρ) where
   plain : (σ : ℕ → Ty) → Solution s d n P₀ σ → SolutionOf s d n P₀
   plain σ S = record { σ = σ; fits = S .fits; sat = S .sat; obeys = S .obeys }
 
@@ -91,7 +91,7 @@ module _ (s s′ d : List ℕ) (n : ℕ) (b : Bool) (T : Tested s s′ n b) (P�
     where
       go : (c : Bool) → b ≡ c → c ≡ true
       go true e = refl
-      go false e = absurd (finite-none s s′ d n (subst (Tested s s′ n) e T) P₀ (Q .L) (Q .solved) (plain (Q .some .0) (Q .some .1)))
+      go false e = absurd (finite-none s s′ d n (subst (TestedFinite s s′ n) e T) P₀ (Q .L) (Q .solved) (plain (Q .some .0) (Q .some .1)))
 
   few : n ≤ maxCells
   few = Q .solved .held .few
@@ -133,7 +133,7 @@ module _ (s d : List ℕ) (n : ℕ) (P₀ : Pairs ℕ) (H t : Items) (U₀ U : L
       let b = Q .complete (D .other .σ) (part (D .other)) (Q .start .0) (Q .start .1) in
       inr (p, refl, refl, (a .0, b .0, (a .1 .0, a .1 .1), (b .1 .0, b .1 .1), λ g. apart D (a .0) (b .0) (a .2) (b .2) (Q .agree (a .0) (b .0) .0 g)))
     where
-      apart : (D : Differ s d n P₀) (τ τ′ : Table) → Matches ρ τ (D .one .σ) → Matches ρ τ′ (D .other .σ) → AllP (λ x c. τ x ≡ τ′ x) ρ → ⊥
+      apart : (D : Differ s d n P₀) (τ τ′ : Valuation) → Matches ρ τ (D .one .σ) → Matches ρ τ′ (D .other .σ) → AllP (λ x c. τ x ≡ τ′ x) ρ → ⊥
       apart D τ τ′ j k q = D .differ (⊎-elim
           (λ z. sym (all-in (λ x c. τ x ≡ D .one .σ c) ρ (z .0) (D .cell) j (z .1)) ∙ all-in (λ x c. τ x ≡ τ′ x) ρ (z .0) (D .cell) q (z .1) ∙ all-in (λ x c. τ′ x ≡ D .other .σ c) ρ (z .0) (D .cell) k (z .1))
           (λ z. z .1 (D .one .σ) (part (D .one)) ∙ sym (z .1 (D .other .σ) (part (D .other))))
@@ -143,7 +143,7 @@ module _ (s d : List ℕ) (n : ℕ) (P₀ : Pairs ℕ) (H t : Items) (U₀ U : L
     pub one : (σ σ′ : ℕ → Ty) → Solution s d n P₀ σ → Solution s d n P₀ σ′ → (i : ℕ) → i < n → σ i ≡ σ′ i
     one σ σ′ S S′ i l = Z .one refl d P₀ (Q .L) (Q .solved) (Q .pinned) F (whole σ S) (whole σ′ S′) i l
 
-    agreed : (τ τ′ : Table) → Meets (H ⨾ t) τ → Meets (H ⨾ t) τ′ → AllP (λ x c. τ x ≡ τ′ x) ρ
+    agreed : (τ τ′ : Valuation) → Meets (H ⨾ t) τ → Meets (H ⨾ t) τ′ → AllP (λ x c. τ x ≡ τ′ x) ρ
     agreed τ τ′ h h′ = let a = Q .sound τ h in let b = Q .sound τ′ h′ in go ρ (a .0) (b .0) (a .1) (b .1) (Q .tracked) (a .2) (b .2)
       where
         go : (R : Pairs ℕ) (σ σ′ : ℕ → Ty) → Solution s d n P₀ σ → Solution s d n P₀ σ′ → AllP (λ x c. In x U × (c < n)) R → Matches R τ σ → Matches R τ′ σ′ → AllP (λ x c. τ x ≡ τ′ x) R
@@ -166,7 +166,7 @@ module _ (s d : List ℕ) (n : ℕ) (P₀ : Pairs ℕ) (H t : Items) (U₀ U : L
     }
 
     -- each unknown has one type
-    pub closed-type : (σ : ℕ → Ty) → Solution s d n P₀ σ → (x c : ℕ) → InP x c ρ → (τ : Table) → Meets (H ⨾ piece m t) τ → τ x ≡ σ c
+    pub closed-type : (σ : ℕ → Ty) → Solution s d n P₀ σ → (x c : ℕ) → InP x c ρ → (τ : Valuation) → Meets (H ⨾ piece m t) τ → τ x ≡ σ c
     unfolding Meets
     closed-type σ S x c i τ h =
         let a = Q .sound τ (h .0, h .1) in

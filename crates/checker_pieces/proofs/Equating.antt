@@ -6,7 +6,7 @@ use mathlib.Core.Logic.{_⊎_, _↔_, inl, inr, ⊎-elim}
 use Prim.Native.Nat.{ℕ}
 use Rattle.types_rules.specs.Equations.{AllP, In, Pairs, pair}
 use Rattle.types_rules.specs.Types.{Ty, tcons, node, Term, Terms, unknown, con, nil, cons, under, unders, Each, Eachs}
-use Rattle.checker_rules.specs.Unknowns.{Table}
+use Rattle.checker_rules.specs.Unknowns.{Valuation}
 use Rattle.checker_rules.specs.Items.{Items, _⨾_, equate, Meets, Agree, Passes, Refuses}
 use Rattle.types_cells.specs.Store.{tagAt}
 use Rattle.types_cells.specs.Settled.{Fits}
@@ -19,11 +19,11 @@ use Rattle.checker_pieces.proofs.Walks.{items-earlier}
 mutual
   unfolding under Each
 
-  pub under-same : (U : List ℕ) (τ τ′ : Table) → ((x : ℕ) → In x U → τ x ≡ τ′ x) → (a : Term) → Each (λ x. In x U) a → under τ a ≡ under τ′ a
+  pub under-same : (U : List ℕ) (τ τ′ : Valuation) → ((x : ℕ) → In x U → τ x ≡ τ′ x) → (a : Term) → Each (λ x. In x U) a → under τ a ≡ under τ′ a
   under-same U τ τ′ h (unknown x) i = h x i
   under-same U τ τ′ h (con k ts) i = ap (node k) (unders-same U τ τ′ h ts i)
 
-  pub unders-same : (U : List ℕ) (τ τ′ : Table) → ((x : ℕ) → In x U → τ x ≡ τ′ x) → (ts : Terms) → Eachs (λ x. In x U) ts → unders τ ts ≡ unders τ′ ts
+  pub unders-same : (U : List ℕ) (τ τ′ : Valuation) → ((x : ℕ) → In x U → τ x ≡ τ′ x) → (ts : Terms) → Eachs (λ x. In x U) ts → unders τ ts ≡ unders τ′ ts
   unders-same U τ τ′ h nil i = refl
   unders-same U τ τ′ h (cons a ts) i = λ z. tcons (under-same U τ τ′ h a (i .0) z) (unders-same U τ τ′ h ts (i .1) z)
 
@@ -32,15 +32,15 @@ module _ (s s′ d : List ℕ) (n x y : ℕ) (P₀ : Pairs ℕ) (H t : Items) (U
   abbrev item : Items
   item = equate f m a b
 
-  met : (τ : Table) → Meets (H ⨾ t) τ → under τ a ≡ under τ b → Meets (H ⨾ (t ⨾ item)) τ
+  met : (τ : Valuation) → Meets (H ⨾ t) τ → under τ a ≡ under τ b → Meets (H ⨾ (t ⨾ item)) τ
   unfolding Meets
   met τ h e = (h .0, (h .1, e))
 
-  equal-in : (τ : Table) → Meets (H ⨾ (t ⨾ item)) τ → under τ a ≡ under τ b
+  equal-in : (τ : Valuation) → Meets (H ⨾ (t ⨾ item)) τ → under τ a ≡ under τ b
   unfolding Meets
   equal-in τ h = h .1 .1
 
-  joined : (τ : Table) → Meets (H ⨾ t) τ → under τ a ≡ under τ b → (σ : ℕ → Ty) → Solution s d n P₀ σ → Matches ρ τ σ → σ x ≡ σ y
+  joined : (τ : Valuation) → Meets (H ⨾ t) τ → under τ a ≡ under τ b → (σ : ℕ → Ty) → Solution s d n P₀ σ → Matches ρ τ σ → σ x ≡ σ y
   joined τ h e σ S k = Da τ h σ S k ∙ e ∙ sym (Db τ h σ S k)
 
   -- No solution of the equations before gives x and y one type.
@@ -74,13 +74,13 @@ module _ (s s′ d : List ℕ) (n x y : ℕ) (P₀ : Pairs ℕ) (H t : Items) (U
     has-one : (σ : ℕ → Ty) × Solution s′ d n P₁ σ
     has-one = let X = M .some refl P₀ (Q .L) (Q .solved) (Q .pinned) in (X .σ, record { fits = X .fits; sat = X .sat; obeys = X .obeys })
 
-    complete′ : (σ : ℕ → Ty) → Solution s′ d n P₁ σ → (τ₀ : Table) → Meets H τ₀ → (τ : Table) × Meets (H ⨾ (t ⨾ item)) τ × Matches ρ τ σ × SameOn U₀ τ τ₀
+    complete′ : (σ : ℕ → Ty) → Solution s′ d n P₁ σ → (τ₀ : Valuation) → Meets H τ₀ → (τ : Valuation) × Meets (H ⨾ (t ⨾ item)) τ × Matches ρ τ σ × SameOn U₀ τ τ₀
     complete′ σ S τ₀ h =
         let B = back σ S in
         let q = Q .complete σ B τ₀ h in
         (q .0, met (q .0) (q .1) (sym (Da (q .0) (q .1) σ B (q .2)) ∙ S .sat .0 ∙ Db (q .0) (q .1) σ B (q .2)), q .2, q .3)
 
-    agree′ : (τ τ′ : Table) → Agree (t ⨾ item) τ τ′ ↔ AllP (λ z c. τ z ≡ τ′ z) ρ
+    agree′ : (τ τ′ : Valuation) → Agree (t ⨾ item) τ τ′ ↔ AllP (λ z c. τ z ≡ τ′ z) ρ
     unfolding Agree
     agree′ τ τ′ = (λ h. Q .agree τ τ′ .0 (h .0), λ h. (Q .agree τ τ′ .1 h, tt))
 

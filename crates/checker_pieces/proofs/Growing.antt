@@ -7,8 +7,8 @@ use native.Mathlib.Omega.{arith}
 use native.Mathlib.Nat.{eq-zero-or-pos}
 use lib.ListN.{length}
 use Rattle.types_rules.specs.Equations.{AllP, In, InP, Pairs, Solves, end, pair}
-use Rattle.types_rules.specs.Types.{Ty, ℤ}
-use Rattle.checker_rules.specs.Unknowns.{Table}
+use Rattle.types_rules.specs.Types.{Ty, integerType}
+use Rattle.checker_rules.specs.Unknowns.{Valuation}
 use Rattle.checker_rules.specs.Items.{Items, skip, _⨾_, fresh, Meets, Agree}
 use Rattle.types_cells.specs.Layout.{firstRun, areaSize}
 use Rattle.types_cells.specs.Store.{frozen, tagAt, view, Solved}
@@ -39,8 +39,8 @@ nothing-asked s d σ = record {
   obeys = λ i l v g R. absurd (omega arith);
 }
 
--- A PIECE BEGINS after items H that a table meets.
-pub begin : (s d : List ℕ) (H : Items) (U : List ℕ) → length s ≡ areaSize → Local H U → (τ : Table) → Meets H τ → Piece s d 0 end H skip U U end
+-- A PIECE BEGINS after items H that a valuation meets.
+pub begin : (s d : List ℕ) (H : Items) (U : List ℕ) → length s ≡ areaSize → Local H U → (τ : Valuation) → Meets H τ → Piece s d 0 end H skip U U end
 unfolding Meets Agree
 begin s d H U z l τ m = record {
   L = end;
@@ -49,9 +49,9 @@ begin s d H U z l τ m = record {
   tracked = tt;
   more = λ x i. i;
   local = λ σ σ′ e h. (l σ σ′ e (h .0), tt);
-  sound = λ σ h. ((λ i. ℤ), nothing-asked s d (λ i. ℤ), tt);
+  sound = λ σ h. ((λ i. integerType), nothing-asked s d (λ i. integerType), tt);
   complete = λ σ S τ₀ h. (τ₀, (h, tt), tt, λ x i. refl);
-  some = ((λ i. ℤ), nothing-asked s d (λ i. ℤ));
+  some = ((λ i. integerType), nothing-asked s d (λ i. integerType));
   start = (τ, m);
   agree = λ σ σ′. (λ h. tt, λ h. tt);
   open-cells = λ i k e. absurd (omega arith);
@@ -65,7 +65,7 @@ module _ (s s′ d : List ℕ) (n n′ : ℕ) (G : Grows s s′ d n n′) (P₀ 
   pub extended : (σ : ℕ → Ty) → Solution s d n P₀ σ → (E : Extension s′ d n n′ σ) → Solution s′ d n′ P₀ (E .τ)
   extended σ S E = record { fits = E .fits; sat = extends-solves s s′ d n n′ σ E P₀ (Q .L) (Q .solved) (S .sat); obeys = E .obeys }
 
-  pub extended-matches : (τ : Table) (σ : ℕ → Ty) (E : Extension s′ d n n′ σ) → Matches ρ τ σ → Matches ρ τ (E .τ)
+  pub extended-matches : (τ : Valuation) (σ : ℕ → Ty) (E : Extension s′ d n n′ σ) → Matches ρ τ σ → Matches ρ τ (E .τ)
   extended-matches τ σ E m = all-zip ρ (λ x c k e. e ∙ sym (E .same c (k .1))) (Q .tracked) m
 
   tag-before : (i : ℕ) → i < n → tagAt (frozen s′) i ≡ 0 → tagAt (frozen s) i ≡ 0
@@ -134,17 +134,17 @@ module _ (s s′ d : List ℕ) (n : ℕ) (A : Making s n 0 0 firstRun 0) (M : Ma
   at : (g : Ty) (σ : ℕ → Ty) → Solution s d n P₀ σ → (E : Extension s′ d n (suc n) σ) × (E .τ n ≡ g)
   at g σ S = extend-unknown s s′ d n 0 0 firstRun 0 A M refl g σ (S .fits) (S .obeys)
 
-  earlier : (τ : Table) → Meets (H ⨾ (t ⨾ fresh x)) τ → Meets (H ⨾ t) τ
+  earlier : (τ : Valuation) → Meets (H ⨾ (t ⨾ fresh x)) τ → Meets (H ⨾ t) τ
   earlier = items-earlier H t (fresh x)
 
-  now-met : (τ : Table) → Meets (H ⨾ t) τ → Meets (H ⨾ (t ⨾ fresh x)) τ
+  now-met : (τ : Valuation) → Meets (H ⨾ t) τ → Meets (H ⨾ (t ⨾ fresh x)) τ
   unfolding Meets
   now-met τ m = (m .0, (m .1, tt))
 
   apart : (y : ℕ) → In y U → y ≡ x → ⊥
   apart y i e = new (subst (λ z. In z U) e i)
 
-  agree-more : (τ τ′ : Table) → Agree (t ⨾ fresh x) τ τ′ ↔ AllP (λ y c. τ y ≡ τ′ y) (pair x n ρ)
+  agree-more : (τ τ′ : Valuation) → Agree (t ⨾ fresh x) τ τ′ ↔ AllP (λ y c. τ y ≡ τ′ y) (pair x n ρ)
   unfolding Agree
   agree-more τ τ′ = (λ h. (h .1, Q .agree τ τ′ .0 (h .0)), λ h. (Q .agree τ τ′ .1 (h .1), h .0))
 
@@ -167,7 +167,7 @@ module _ (s s′ d : List ℕ) (n : ℕ) (A : Making s n 0 0 firstRun 0) (M : Ma
           (put-hit x (σ n) (q .0), all-zip ρ (λ y c k e. put-miss x (σ n) (q .0) y (apart y (k .0)) ∙ e) (Q .tracked) (q .2)),
           λ y i. put-miss x (σ n) (q .0) y (apart y (Q .more y i)) ∙ q .3 y i,
         );
-    some = let E = at ℤ (Q .some .0) (Q .some .1) in (E .0 .τ, extended s s′ d n (suc n) G P₀ H t U₀ U ρ Q (Q .some .0) (Q .some .1) (E .0));
+    some = let E = at integerType (Q .some .0) (Q .some .1) in (E .0 .τ, extended s s′ d n (suc n) G P₀ H t U₀ U ρ Q (Q .some .0) (Q .some .1) (E .0));
     start = Q .start;
     agree = agree-more;
     open-cells = accounted s s′ d n (suc n) G P₀ H t U₀ U ρ Q (pair x n ρ) (λ y i z. inr z) (λ i k l e. let q : i ≡ n = omega arith in inl (x, inl (refl, q)));

@@ -7,7 +7,7 @@ use Prim.Native.Nat.{ℕ, _<_}
 use Rattle.types_rules.specs.Component.{componentType}
 use Rattle.types_rules.specs.Equations.{AllP, In, Pairs, pair}
 use Rattle.types_rules.specs.Types.{Ty, Term, unknown, under, Each}
-use Rattle.checker_rules.specs.Unknowns.{Table}
+use Rattle.checker_rules.specs.Unknowns.{Valuation}
 use Rattle.checker_rules.specs.Items.{Items, _⨾_, fresh, equate, select, Known, Meets, Agree, Passes, Refuses}
 use Rattle.checker_pieces.specs.Piece.{Solution, Matches, SameOn, Local, Goes, Stops, Piece, Denotes, Later}
 use Rattle.checker_pieces.proofs.Updates.{put, put-hit, put-miss}
@@ -17,7 +17,7 @@ use Rattle.checker_pieces.proofs.Equating.{under-same}
 
 module _ (s d : List ℕ) (n : ℕ) (P₀ : Pairs ℕ) (H t : Items) (U₀ U : List ℕ) (ρ : Pairs ℕ) (Q : Piece s d n P₀ H t U₀ U ρ) where
   -- ITEMS THAT HOLD ANYWAY: 36 of equal types, 38 of small ones.
-  pub noted : (c : Items) → ((τ : Table) → Meets (H ⨾ t) τ → Meets c τ) → ((τ τ′ : Table) → Agree c τ τ′) → Piece s d n P₀ H (t ⨾ c) U₀ U ρ
+  pub noted : (c : Items) → ((τ : Valuation) → Meets (H ⨾ t) τ → Meets c τ) → ((τ τ′ : Valuation) → Agree c τ τ′) → Piece s d n P₀ H (t ⨾ c) U₀ U ρ
   unfolding Meets Agree
   noted c holds agrees = record {
     L = Q .L;
@@ -35,31 +35,31 @@ module _ (s d : List ℕ) (n : ℕ) (P₀ : Pairs ℕ) (H t : Items) (U₀ U : L
   }
 
   -- AN UNKNOWN DEFINED: x is new, and the item q asks just that it has the type of cell c.
-  module _ (x : ℕ) (new : In x U → ⊥) (c : ℕ) (lc : c < n) (q : Items) (agrees : (τ τ′ : Table) → Agree q τ τ′) (lq : Local q (x ∷ U))
-      (to : (τ : Table) → Meets (H ⨾ t) τ → (σ : ℕ → Ty) → Solution s d n P₀ σ → Matches ρ τ σ → Meets q τ → τ x ≡ σ c)
-      (from : (τ : Table) → Meets (H ⨾ t) τ → (σ : ℕ → Ty) → Solution s d n P₀ σ → Matches ρ τ σ → τ x ≡ σ c → Meets q τ) where
+  module _ (x : ℕ) (new : In x U → ⊥) (c : ℕ) (lc : c < n) (q : Items) (agrees : (τ τ′ : Valuation) → Agree q τ τ′) (lq : Local q (x ∷ U))
+      (to : (τ : Valuation) → Meets (H ⨾ t) τ → (σ : ℕ → Ty) → Solution s d n P₀ σ → Matches ρ τ σ → Meets q τ → τ x ≡ σ c)
+      (from : (τ : Valuation) → Meets (H ⨾ t) τ → (σ : ℕ → Ty) → Solution s d n P₀ σ → Matches ρ τ σ → τ x ≡ σ c → Meets q τ) where
     apart : (y : ℕ) → In y U → y ≡ x → ⊥
     apart y i e = new (subst (λ z. In z U) e i)
 
     abbrev item : Items
     item = fresh x ⨾ q
 
-    met : (τ : Table) → Meets (H ⨾ t) τ → Meets q τ → Meets (H ⨾ (t ⨾ item)) τ
+    met : (τ : Valuation) → Meets (H ⨾ t) τ → Meets q τ → Meets (H ⨾ (t ⨾ item)) τ
     unfolding Meets
     met τ h k = (h .0, (h .1, (tt, k)))
 
-    asked : (τ : Table) → Meets (H ⨾ (t ⨾ item)) τ → Meets q τ
+    asked : (τ : Valuation) → Meets (H ⨾ (t ⨾ item)) τ → Meets q τ
     unfolding Meets
     asked τ h = h .1 .1 .1
 
-    agree′ : (τ τ′ : Table) → Agree (t ⨾ item) τ τ′ ↔ AllP (λ y i. τ y ≡ τ′ y) (pair x c ρ)
+    agree′ : (τ τ′ : Valuation) → Agree (t ⨾ item) τ τ′ ↔ AllP (λ y i. τ y ≡ τ′ y) (pair x c ρ)
     unfolding Agree
     agree′ τ τ′ = (λ h. (h .1 .0, Q .agree τ τ′ .0 (h .0)), λ h. (Q .agree τ τ′ .1 (h .1), (h .0, agrees τ τ′)))
 
-    complete′ : (σ : ℕ → Ty) → Solution s d n P₀ σ → (τ₀ : Table) → Meets H τ₀ → (τ : Table) × Meets (H ⨾ (t ⨾ item)) τ × Matches (pair x c ρ) τ σ × SameOn U₀ τ τ₀
+    complete′ : (σ : ℕ → Ty) → Solution s d n P₀ σ → (τ₀ : Valuation) → Meets H τ₀ → (τ : Valuation) × Meets (H ⨾ (t ⨾ item)) τ × Matches (pair x c ρ) τ σ × SameOn U₀ τ τ₀
     complete′ σ S τ₀ h =
         let p = Q .complete σ S τ₀ h in
-        let τ : Table = put x (σ c) (p .0) in
+        let τ : Valuation = put x (σ c) (p .0) in
         let m = Q .local (p .0) τ (λ y i. sym (put-miss x (σ c) (p .0) y (apart y i))) (p .1) in
         let k : Matches ρ τ σ = all-zip ρ (λ y i z e. put-miss x (σ c) (p .0) y (apart y (z .0)) ∙ e) (Q .tracked) (p .2) in
         let e = put-hit x (σ c) (p .0) in
@@ -81,7 +81,7 @@ module _ (s d : List ℕ) (n : ℕ) (P₀ : Pairs ℕ) (H t : Items) (U₀ U : L
       open-cells = λ i l e. ⊎-elim (λ z. inl (z .0, inr (z .1))) inr (Q .open-cells i l e);
     }
 
-    pub defined-table : (τ : Table) × Meets (H ⨾ (t ⨾ item)) τ
+    pub defined-table : (τ : Valuation) × Meets (H ⨾ (t ⨾ item)) τ
     defined-table = let p = complete′ (Q .some .0) (Q .some .1) (Q .start .0) (Q .start .1) in (p .0, p .1)
 
     pub defined-later : Later s s d n n P₀ P₀ H t (t ⨾ item) ρ (pair x c ρ)
@@ -92,7 +92,7 @@ module _ (s d : List ℕ) (n : ℕ) (P₀ : Pairs ℕ) (H t : Items) (U₀ U : L
     abbrev typing : Items
     typing = fresh x ⨾ equate f m (unknown x) a
 
-    agrees : (τ τ′ : Table) → Agree (equate f m (unknown x) a) τ τ′
+    agrees : (τ τ′ : Valuation) → Agree (equate f m (unknown x) a) τ τ′
     unfolding Agree
     agrees τ τ′ = tt
 
@@ -100,11 +100,11 @@ module _ (s d : List ℕ) (n : ℕ) (P₀ : Pairs ℕ) (H t : Items) (U₀ U : L
     unfolding Meets under
     lq τ τ′ h k = sym (h x (inl refl)) ∙ k ∙ under-same U τ τ′ (λ y i. h y (inr i)) a Ea
 
-    to : (τ : Table) → Meets (H ⨾ t) τ → (σ : ℕ → Ty) → Solution s d n P₀ σ → Matches ρ τ σ → Meets (equate f m (unknown x) a) τ → τ x ≡ σ c
+    to : (τ : Valuation) → Meets (H ⨾ t) τ → (σ : ℕ → Ty) → Solution s d n P₀ σ → Matches ρ τ σ → Meets (equate f m (unknown x) a) τ → τ x ≡ σ c
     unfolding Meets under
     to τ k σ S e q = q ∙ sym (Da τ k σ S e)
 
-    from : (τ : Table) → Meets (H ⨾ t) τ → (σ : ℕ → Ty) → Solution s d n P₀ σ → Matches ρ τ σ → τ x ≡ σ c → Meets (equate f m (unknown x) a) τ
+    from : (τ : Valuation) → Meets (H ⨾ t) τ → (σ : ℕ → Ty) → Solution s d n P₀ σ → Matches ρ τ σ → τ x ≡ σ c → Meets (equate f m (unknown x) a) τ
     unfolding Meets under
     from τ k σ S e q = q ∙ Da τ k σ S e
 
@@ -124,7 +124,7 @@ module _ (s d : List ℕ) (n : ℕ) (P₀ : Pairs ℕ) (H t : Items) (U₀ U : L
     selecting = fresh x ⨾ select m id a x
 
     module _ (c : ℕ) (lc : c < n) (is : (σ : ℕ → Ty) → Solution s d n P₀ σ → componentType id (σ i) ≡ some (σ c)) where
-      agrees′ : (τ τ′ : Table) → Agree (select m id a x) τ τ′
+      agrees′ : (τ τ′ : Valuation) → Agree (select m id a x) τ τ′
       unfolding Agree
       agrees′ τ τ′ = tt
 
@@ -132,18 +132,18 @@ module _ (s d : List ℕ) (n : ℕ) (P₀ : Pairs ℕ) (H t : Items) (U₀ U : L
       unfolding Meets
       lq′ τ τ′ h k = ap (componentType id) (sym (under-same U τ τ′ (λ y j. h y (inr j)) a Ea)) ∙ k ∙ ap some (h x (inl refl))
 
-      to′ : (τ : Table) → Meets (H ⨾ t) τ → (σ : ℕ → Ty) → Solution s d n P₀ σ → Matches ρ τ σ → Meets (select m id a x) τ → τ x ≡ σ c
+      to′ : (τ : Valuation) → Meets (H ⨾ t) τ → (σ : ℕ → Ty) → Solution s d n P₀ σ → Matches ρ τ σ → Meets (select m id a x) τ → τ x ≡ σ c
       unfolding Meets
       to′ τ k σ S e q = let z = sym (is σ S) ∙ ap (componentType id) (Da τ k σ S e) ∙ q in let y : σ c ≡ τ x = cc in sym y
 
-      from′ : (τ : Table) → Meets (H ⨾ t) τ → (σ : ℕ → Ty) → Solution s d n P₀ σ → Matches ρ τ σ → τ x ≡ σ c → Meets (select m id a x) τ
+      from′ : (τ : Valuation) → Meets (H ⨾ t) τ → (σ : ℕ → Ty) → Solution s d n P₀ σ → Matches ρ τ σ → τ x ≡ σ c → Meets (select m id a x) τ
       unfolding Meets
       from′ τ k σ S e q = ap (componentType id) (sym (Da τ k σ S e)) ∙ is σ S ∙ ap some (sym q)
 
       pub selected : Piece s d n P₀ H (t ⨾ selecting) U₀ (x ∷ U) (pair x c ρ)
       selected = defined x new c lc (select m id a x) agrees′ lq′ to′ from′
 
-      known : (τ : Table) → Meets (H ⨾ t) τ → Known (componentType id (under τ a))
+      known : (τ : Valuation) → Meets (H ⨾ t) τ → Known (componentType id (under τ a))
       unfolding Known
       known τ k = let p = Q .sound τ k in subst Known (sym (is (p .0) (p .1)) ∙ ap (componentType id) (Da τ k (p .0) (p .1) (p .2))) tt
 

@@ -11,7 +11,7 @@ use Rattle.types_rules.specs.Equations.{In, InP, pair}
 use Rattle.types_rules.specs.Finite.{fromList}
 use Rattle.types_rules.specs.Former.{Former}
 use Rattle.types_rules.specs.Types.{Ty, node, tcons, Term, Terms, unknown, con, nil, cons, under, unders, Each, Eachs}
-use Rattle.checker_rules.specs.Unknowns.{Table, slot}
+use Rattle.checker_rules.specs.Unknowns.{Valuation, slot}
 use Rattle.checker_rules.specs.Items.{Items, _⨾_, skip, fresh, equate, Meets, Agree, Passes}
 use Rattle.checker_rules.specs.Conditions.{typed}
 use Rattle.types_cells.specs.Layout.{maxPending, firstRun}
@@ -118,7 +118,7 @@ module _ (s s′ d : List ℕ) (n top top′ x : ℕ) (h : Former) (l : List ℕ
   pub built-olds : (m : List ℕ) (ts : Terms) → Cells s d n G m ts → Cells s′ d (suc n) G m ts
   built-olds = cells-built s s′ d n (suc n) top (K .builds d) G St
 
-  module _ (τ : Table) (σ : ℕ → Ty) (S : Solution s′ d (suc n) (G .equations) σ) (m : Meets (G .before ⨾ G .items) τ) (k : Matches (G .cells) τ σ) where
+  module _ (τ : Valuation) (σ : ℕ → Ty) (S : Solution s′ d (suc n) (G .equations) σ) (m : Meets (G .before ⨾ G .items) τ) (k : Matches (G .cells) τ σ) where
     parts-denote : (l : List ℕ) (ts : Terms) → Cells s′ d (suc n) G l ts → fromList (map σ l) ≡ unders τ ts
     unfolding Cells fromList under
     parts-denote [] nil C = refl

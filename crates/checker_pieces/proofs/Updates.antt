@@ -1,4 +1,4 @@
--- A table, or an assignment to cells, with one value changed.
+-- A valuation, or an assignment to cells, with one value changed.
 use mathlib.Core.Path.{_≡_, refl, ap, sym, _∙_}
 use mathlib.Core.Bool.{Bool, true, false}
 use Prim.Native.Nat.{ℕ, _<_}

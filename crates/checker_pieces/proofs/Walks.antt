@@ -5,13 +5,13 @@ use mathlib.Core.List.{List}
 use Prim.Native.Nat.{ℕ}
 use Rattle.types_rules.specs.Equations.{Pairs, AllP}
 use Rattle.types_rules.specs.Types.{Ty, Term, under}
-use Rattle.checker_rules.specs.Unknowns.{Table}
+use Rattle.checker_rules.specs.Unknowns.{Valuation}
 use Rattle.checker_rules.specs.Items.{Items, skip, _⨾_, fresh, equate, Meets, Agree, And, Passes, Refuses}
 use Rattle.checker_rules.proofs.ItemLaws.{passes-ext, refuses-ext}
 use Rattle.checker_pieces.specs.Piece.{Solution, Matches, Local, Goes, Stops, Piece, Denotes, Later}
 
 -- Items may be grouped either way.
-pub regroup : (H t a : Items) (τ : Table) → Meets (H ⨾ (t ⨾ a)) τ ↔ And (Meets (H ⨾ t)) a τ
+pub regroup : (H t a : Items) (τ : Valuation) → Meets (H ⨾ (t ⨾ a)) τ ↔ And (Meets (H ⨾ t)) a τ
 unfolding Meets
 regroup H t a τ = (λ h. ((h .0, h .1 .0), h .1 .1), λ h. (h .0 .0, (h .0 .1, h .1)))
 
@@ -29,7 +29,7 @@ stops-right H t a b f m p r = inr (p, refuses-ext b (Meets (H ⨾ (t ⨾ a))) (A
 
 -- The same items, grouped otherwise.
 abbrev pub Alike : Items → Items → Type 0
-Alike a b = ((τ : Table) → Meets a τ ↔ Meets b τ) × ((τ τ′ : Table) → Agree a τ τ′ ↔ Agree b τ τ′)
+Alike a b = ((τ : Valuation) → Meets a τ ↔ Meets b τ) × ((τ τ′ : Valuation) → Agree a τ τ′ ↔ Agree b τ τ′)
 
 pub alike-group : (t a b : Items) → Alike ((t ⨾ a) ⨾ b) (t ⨾ (a ⨾ b))
 unfolding Meets Agree
@@ -38,7 +38,7 @@ alike-group t a b = (
   λ τ τ′. (λ h. (h .0 .0, (h .0 .1, h .1)), λ h. ((h .0, h .1 .0), h .1 .1)),
 )
 
-pub meets-alike : (H t u : Items) → Alike t u → (τ : Table) → Meets (H ⨾ t) τ ↔ Meets (H ⨾ u) τ
+pub meets-alike : (H t u : Items) → Alike t u → (τ : Valuation) → Meets (H ⨾ t) τ ↔ Meets (H ⨾ u) τ
 unfolding Meets
 meets-alike H t u e τ = (λ h. (h .0, e .0 τ .0 (h .1)), λ h. (h .0, e .0 τ .1 (h .1)))
 
@@ -77,5 +77,5 @@ pub denotes-later : (s s′ d : List ℕ) (n n′ : ℕ) (P₀ P₀′ : Pairs �
     (c : ℕ) (a : Term) → Denotes s d n P₀ H t ρ c a → Denotes s′ d n′ P₀′ H t′ ρ′ c a
 denotes-later s s′ d n n′ P₀ P₀′ H t t′ ρ ρ′ A c a D τ m σ S k = D τ (A .items τ m) σ (A .solutions σ S) (A .unknowns τ σ k)
 
-pub items-earlier : (H t a : Items) (τ : Table) → Meets (H ⨾ (t ⨾ a)) τ → Meets (H ⨾ t) τ
+pub items-earlier : (H t a : Items) (τ : Valuation) → Meets (H ⨾ (t ⨾ a)) τ → Meets (H ⨾ t) τ
 items-earlier H t a τ m = regroup H t a τ .0 m .0

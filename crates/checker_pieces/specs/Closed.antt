@@ -7,19 +7,19 @@ use lib.ListN.{length}
 use Rattle.types_rules.specs.Equations.{InP, Pairs}
 use Rattle.types_rules.specs.Types.{Ty, size}
 use Rattle.types_rules.specs.Words.{words}
-use Rattle.checker_rules.specs.Unknowns.{Table}
+use Rattle.checker_rules.specs.Unknowns.{Valuation}
 use Rattle.checker_rules.specs.Items.{_⨾_, piece, Meets, Passes, Refuses}
 use Rattle.types_cells.specs.Store.{frozen}
 use Rattle.types_cells.specs.Settled.{lower}
 use Rattle.types_solver.specs.Sizes.{cap, Model}
 use Rattle.types_solver.specs.Written.{Resolved, Wrote}
 use Rattle.checker_pieces.specs.Piece.{Solution, Steady, Extends}
-use Rattle.checker_pieces.specs.Stage.{Ghost, Ready, Stands}
+use Rattle.checker_pieces.specs.Stage.{Ghost, StandsReady, Stands}
 
 -- The function does not look at the runs.
 pub record Closing (s d : List ℕ) (n : ℕ) : Type 0 where
   pub top : ℕ
-  pub ready : Ready s d n top
+  pub ready : StandsReady s d n top
 
 -- The piece G has one solution, `type`, and the store has the marks of `finite`, in which a settled cell counts 1. Any node m may close it.
 pub record Shut (s d : List ℕ) (n : ℕ) (G : Ghost) : Type 0 where
@@ -29,7 +29,7 @@ pub record Shut (s d : List ℕ) (n : ℕ) (G : Ghost) : Type 0 where
   pub extends : (m : ℕ) → Extends (G .before) (piece m (G .items)) (G .known)
   pub steady : (m : ℕ) → Steady (G .before ⨾ piece m (G .items)) (G .mentioned)
   -- the unknown x of cell c has one type
-  pub types : (m x c : ℕ) → InP x c (G .cells) → (τ : Table) → Meets (G .before ⨾ piece m (G .items)) τ → τ x ≡ type c
+  pub types : (m x c : ℕ) → InP x c (G .cells) → (τ : Valuation) → Meets (G .before ⨾ piece m (G .items)) τ → τ x ≡ type c
   pub links : Pairs ℕ
   pub model : Model s d n links type
   pub resolved : Resolved s n links

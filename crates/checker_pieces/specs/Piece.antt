@@ -1,4 +1,4 @@
--- THE INVARIANT OF A PIECE: the solutions of the store are the tables that meet the items visited so far (document 01, typing rules: "a closed piece").
+-- THE INVARIANT OF A PIECE: the solutions of the store are the valuations that meet the items visited so far (document 01, typing rules: "a closed piece").
 -- H are the items before the piece, with their unknowns U₀; t those of the piece so far, with all unknowns U. ρ pairs each unknown of the piece with its cell.
 use mathlib.Core.Path.{_≡_}
 use mathlib.Core.List.{List}
@@ -6,7 +6,7 @@ use mathlib.Core.Logic.{_⊎_, _↔_}
 use Prim.Native.Nat.{ℕ, _<_}
 use Rattle.types_rules.specs.Equations.{AllP, In, InP, Pairs, Solves}
 use Rattle.types_rules.specs.Types.{Ty, Term, under}
-use Rattle.checker_rules.specs.Unknowns.{Table}
+use Rattle.checker_rules.specs.Unknowns.{Valuation}
 use Rattle.checker_rules.specs.Items.{Items, _⨾_, Meets, Agree, Passes, Refuses}
 use Rattle.types_cells.specs.Store.{frozen, tagAt, Solved}
 use Rattle.types_cells.specs.Settled.{Pinned, Obeys, Fits}
@@ -18,16 +18,16 @@ pub record Solution (s d : List ℕ) (n : ℕ) (P₀ : Pairs ℕ) (σ : ℕ → 
   pub obeys : Obeys s d n σ
 
 -- Each unknown has the type of its cell.
-abbrev pub Matches : Pairs ℕ → Table → (ℕ → Ty) → Type 0
+abbrev pub Matches : Pairs ℕ → Valuation → (ℕ → Ty) → Type 0
 Matches ρ τ σ = AllP (λ x c. τ x ≡ σ c) ρ
 
--- Two tables agree on the unknowns U.
-abbrev pub SameOn : List ℕ → Table → Table → Type 0
+-- Two valuations agree on the unknowns U.
+abbrev pub SameOn : List ℕ → Valuation → Valuation → Type 0
 SameOn U τ τ′ = (x : ℕ) → In x U → τ x ≡ τ′ x
 
--- What the items ask of a table depends on the unknowns U alone.
+-- What the items ask of a valuation depends on the unknowns U alone.
 abbrev pub Local : Items → List ℕ → Type 0
-Local t U = (τ τ′ : Table) → SameOn U τ τ′ → Meets t τ → Meets t τ′
+Local t U = (τ τ′ : Valuation) → SameOn U τ τ′ → Meets t τ → Meets t τ′
 
 -- The items a pass after H and t, or they stop with the finding f at the node m.
 abbrev pub Goes : Items → Items → Items → Type 0
@@ -47,34 +47,34 @@ pub record Piece (s d : List ℕ) (n : ℕ) (P₀ : Pairs ℕ) (H t : Items) (U�
   pub tracked : AllP (λ x c. In x U × (c < n)) ρ
   pub more : (x : ℕ) → In x U₀ → In x U
   pub local : Local (H ⨾ t) U
-  pub sound : (τ : Table) → Meets (H ⨾ t) τ → (σ : ℕ → Ty) × Solution s d n P₀ σ × Matches ρ τ σ
-  -- every solution belongs to a table, whatever a table that meets H says of the unknowns before
-  pub complete : (σ : ℕ → Ty) → Solution s d n P₀ σ → (τ₀ : Table) → Meets H τ₀ → (τ : Table) × Meets (H ⨾ t) τ × Matches ρ τ σ × SameOn U₀ τ τ₀
+  pub sound : (τ : Valuation) → Meets (H ⨾ t) τ → (σ : ℕ → Ty) × Solution s d n P₀ σ × Matches ρ τ σ
+  -- every solution belongs to a valuation, whatever a valuation that meets H says of the unknowns before
+  pub complete : (σ : ℕ → Ty) → Solution s d n P₀ σ → (τ₀ : Valuation) → Meets H τ₀ → (τ : Valuation) × Meets (H ⨾ t) τ × Matches ρ τ σ × SameOn U₀ τ τ₀
   pub some : (σ : ℕ → Ty) × Solution s d n P₀ σ
-  pub start : (τ : Table) × Meets H τ
-  pub agree : (τ τ′ : Table) → Agree t τ τ′ ↔ AllP (λ x c. τ x ≡ τ′ x) ρ
+  pub start : (τ : Valuation) × Meets H τ
+  pub agree : (τ τ′ : Valuation) → Agree t τ τ′ ↔ AllP (λ x c. τ x ≡ τ′ x) ρ
   pub open-cells : (i : ℕ) → i < n → tagAt (frozen s) i ≡ 0 → Accounted s d n P₀ ρ i
 
--- The cell c has the type of the term a, in every solution and table that belong together.
+-- The cell c has the type of the term a, in every solution and valuation that belong together.
 abbrev pub Denotes : List ℕ → List ℕ → ℕ → Pairs ℕ → Items → Items → Pairs ℕ → ℕ → Term → Type 0
-Denotes s d n P₀ H t ρ c a = (τ : Table) → Meets (H ⨾ t) τ → (σ : ℕ → Ty) → Solution s d n P₀ σ → Matches ρ τ σ → σ c ≡ under τ a
+Denotes s d n P₀ H t ρ c a = (τ : Valuation) → Meets (H ⨾ t) τ → (σ : ℕ → Ty) → Solution s d n P₀ σ → Matches ρ τ σ → σ c ≡ under τ a
 
 -- A later state of the same piece: what held of cells and unknowns holds.
 pub record Later (s s′ d : List ℕ) (n n′ : ℕ) (P₀ P₀′ : Pairs ℕ) (H t t′ : Items) (ρ ρ′ : Pairs ℕ) : Type 0 where
   pub solutions : (σ : ℕ → Ty) → Solution s′ d n′ P₀′ σ → Solution s d n P₀ σ
-  pub items : (τ : Table) → Meets (H ⨾ t′) τ → Meets (H ⨾ t) τ
-  pub unknowns : (τ : Table) (σ : ℕ → Ty) → Matches ρ′ τ σ → Matches ρ τ σ
+  pub items : (τ : Valuation) → Meets (H ⨾ t′) τ → Meets (H ⨾ t) τ
+  pub unknowns : (τ : Valuation) (σ : ℕ → Ty) → Matches ρ′ τ σ → Matches ρ τ σ
 
--- Between pieces: some table meets the items H, and they depend on the unknowns U alone.
+-- Between pieces: some valuation meets the items H, and they depend on the unknowns U alone.
 pub record Steady (H : Items) (U : List ℕ) : Type 0 where
   pub local : Local H U
-  pub some : (τ : Table) × Meets H τ
+  pub some : (τ : Valuation) × Meets H τ
 
--- Every table that meets H can be changed outside U to one that meets c too.
+-- Every valuation that meets H can be changed outside U to one that meets c too.
 abbrev pub Extends : Items → Items → List ℕ → Type 0
-Extends H c U = (τ : Table) → Meets H τ → (τ′ : Table) × Meets (H ⨾ c) τ′ × SameOn U τ′ τ
+Extends H c U = (τ : Valuation) → Meets H τ → (τ′ : Valuation) × Meets (H ⨾ c) τ′ × SameOn U τ′ τ
 
--- ITEMS BETWEEN PIECES: c passes after H, some table meets both, and nothing said before changes. U′ are the unknowns mentioned then, the new ones Mine.
+-- ITEMS BETWEEN PIECES: c passes after H, some valuation meets both, and nothing said before changes. U′ are the unknowns mentioned then, the new ones Mine.
 pub record Walked (H c : Items) (U U′ : List ℕ) (Mine : ℕ → Type 0) : Type 0 where
   pub goes : Passes c (Meets H)
   pub steady : Steady (H ⨾ c) U′
@@ -82,6 +82,6 @@ pub record Walked (H c : Items) (U U′ : List ℕ) (Mine : ℕ → Type 0) : Ty
   pub wider : (x : ℕ) → In x U → In x U′
   pub new : (x : ℕ) → In x U′ → In x U ⊎ Mine x
 
--- The term a has the type g in every table that meets H.
+-- The term a has the type g in every valuation that meets H.
 abbrev pub Settled : Items → Term → Ty → Type 0
-Settled H a g = (τ : Table) → Meets H τ → under τ a ≡ g
+Settled H a g = (τ : Valuation) → Meets H τ → under τ a ≡ g

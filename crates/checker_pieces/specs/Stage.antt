@@ -30,14 +30,14 @@ pub record Stands (s d : List ℕ) (n top : ℕ) (G : Ghost) : Type 0 where
   pub above : Above (frozen s) n top
   pub few : length d < 2 ^ 31
 
-pub record Ready (s d : List ℕ) (n top : ℕ) : Type 0 where
+pub record StandsReady (s d : List ℕ) (n top : ℕ) : Type 0 where
   pub ghost : Ghost
   pub stands : Stands s d n top ghost
 
 -- The same where the function does not look at the runs, nor at x and y beyond their being cells.
 pub record Comparing (s d : List ℕ) (n x y : ℕ) : Type 0 where
   pub top : ℕ
-  pub ready : Ready s d n top
+  pub ready : StandsReady s d n top
   pub left : x < n
   pub right : y < n
 

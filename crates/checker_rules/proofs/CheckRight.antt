@@ -10,12 +10,12 @@ use borrow.Author.Tests.{leb-true, leb-false, le-leb, lt-leb, eq-eqb, eqb-true, 
 use Rattle.reader_rules.specs.Reading.{readOf}
 use Rattle.reader_rules.specs.Tree.{Paragraph, Document}
 use Rattle.reader_rules.specs.Decode.{treeOf}
-use Rattle.checker_rules.specs.Unknowns.{Table}
+use Rattle.checker_rules.specs.Unknowns.{Valuation}
 use Rattle.checker_rules.specs.Items.{Any, And, Passes}
 use Rattle.checker_rules.specs.Dictionary.{Dictionary, blank, dictionaryLength}
 use Rattle.checker_rules.specs.Rules.{paragraphItems}
 use Rattle.checker_rules.specs.Entries.{extend, paragraphNode}
-use Rattle.checker_rules.specs.Solving.{Solved, pass, refuse, solve, tableOf}
+use Rattle.checker_rules.specs.Solving.{Solved, pass, refuse, solve, valuationOf}
 use Rattle.checker_rules.specs.Check.{Answer, accepted, refused, fitting, settle, checkParagraphs, paragraphsOf, afterReading, checkWorkWords, checkOf}
 use Rattle.checker_rules.specs.Verdicts.{Accepts, RefusesAt, AnswersFrom, AnswersTree, Answers, OneType, Records}
 use Rattle.checker_rules.proofs.ItemLaws.{not-both, one}
@@ -24,18 +24,18 @@ use Rattle.checker_rules.proofs.OneType.{one-type, extend-same}
 use Rattle.reader_rules.specs.declared.Reading.{Reading}
 use Rattle.reader_rules.specs.declared.Reading.the-variants.{Readable, Refused}
 
--- P: the tables that count. I: what paragraphs, over the dictionary before them, must have for the solver to be right about P.
-module _ (P : Table → Type 0) (I : List Paragraph → Dictionary → Type 0)
+-- P: the valuations that count. I: what paragraphs, over the dictionary before them, must have for the solver to be right about P.
+module _ (P : Valuation → Type 0) (I : List Paragraph → Dictionary → Type 0)
     (right : (p : Paragraph) (ps : List Paragraph) (D : Dictionary) → I (p ∷ ps) D → Verdict P (paragraphItems p D) (solve (paragraphItems p D)))
-    (onward : (p : Paragraph) (ps : List Paragraph) (D : Dictionary) (τ : Table) → I (p ∷ ps) D → P τ → I ps (extend p D τ)) where
+    (onward : (p : Paragraph) (ps : List Paragraph) (D : Dictionary) (τ : Valuation) → I (p ∷ ps) D → P τ → I ps (extend p D τ)) where
   module _ (p : Paragraph) (ps : List Paragraph) (D : Dictionary) (d : ℕ) (i : I (p ∷ ps) D) where
-    shift : (τ : Table) → Passes (paragraphItems p D) P → And P (paragraphItems p D) τ → dictionaryLength (extend p D τ) ≤ d → (a : Answer) → AnswersFrom P ps (extend p D τ) d a → AnswersFrom P (p ∷ ps) D d a
+    shift : (τ : Valuation) → Passes (paragraphItems p D) P → And P (paragraphItems p D) τ → dictionaryLength (extend p D τ) ≤ d → (a : Answer) → AnswersFrom P ps (extend p D τ) d a → AnswersFrom P (p ∷ ps) D d a
     unfolding AnswersFrom Accepts RefusesAt
     shift τ h s l (accepted E) r = (h, (τ, s, l, r))
     shift τ h s l (refused f m) r = inr (h, (τ, s, inr (l, r)))
 
     module _ (k : Dictionary → Answer) (g : (E : Dictionary) → I ps E → AnswersFrom P ps E d (k E)) where
-      fit-right : (τ : Table) → Passes (paragraphItems p D) P → And P (paragraphItems p D) τ → (b : Bool) → leb (dictionaryLength (extend p D τ)) d ≡ b
+      fit-right : (τ : Valuation) → Passes (paragraphItems p D) P → And P (paragraphItems p D) τ → (b : Bool) → leb (dictionaryLength (extend p D τ)) d ≡ b
           → AnswersFrom P (p ∷ ps) D d (fitting b (paragraphNode p) (extend p D τ) k)
       unfolding fitting AnswersFrom RefusesAt
       fit-right τ h s true e = shift τ h s (leb-true _ d e) (k (extend p D τ)) (g (extend p D τ) (onward p ps D τ i (s .0)))
@@ -44,7 +44,7 @@ module _ (P : Table → Type 0) (I : List Paragraph → Dictionary → Type 0)
       settle-right : (r : Solved) → Verdict P (paragraphItems p D) r → AnswersFrom P (p ∷ ps) D d (settle r p D d k)
       unfolding settle AnswersFrom RefusesAt
       settle-right (refuse f m) v = inl v
-      settle-right (pass vs s) v = fit-right (tableOf s) (v .0) (v .2, v .1) _ refl
+      settle-right (pass vs s) v = fit-right (valuationOf s) (v .0) (v .2, v .1) _ refl
 
     module _ (k : Dictionary → Answer) (g : (E : Dictionary) → I ps E → (a : Answer) → AnswersFrom P ps E d a → k E ≡ a) where
       next-only : (X Y : Dictionary) → X ≡ Y → I ps X → dictionaryLength X ≤ d → (a : Answer) → AnswersFrom P ps X d a → fitting (leb (dictionaryLength Y) d) (paragraphNode p) Y k ≡ a
@@ -56,19 +56,19 @@ module _ (P : Table → Type 0) (I : List Paragraph → Dictionary → Type 0)
       unfolding fitting
       full-only X Y q l = ap (λ b. fitting b (paragraphNode p) Y k) (lt-leb (dictionaryLength Y) d (subst (λ Z. d < dictionaryLength Z) q l))
 
-      -- v: what the solver says of all tables
+      -- v: what the solver says of all valuations
       settle-only : (r : Solved) → Verdict P (paragraphItems p D) r → Verdict Any (paragraphItems p D) r → (a : Answer) → AnswersFrom P (p ∷ ps) D d a → settle r p D d k ≡ a
       unfolding settle AnswersFrom Accepts RefusesAt
       settle-only (refuse f m) u v (accepted E) h = absurd (not-both (paragraphItems p D) P f m (h .0) u)
       settle-only (refuse f m) u v (refused e j) (inl h) = let q = one (paragraphItems p D) P f m e j u h in ap₂ refused (q .0) (q .1)
       settle-only (refuse f m) u v (refused e j) (inr h) = absurd (not-both (paragraphItems p D) P f m (h .0) u)
       settle-only (pass vs s) u v (accepted E) (h, (τ, t, l, y)) =
-          next-only _ _ (extend-same p D (v .0) τ (tableOf s) (t .1) (v .1)) (onward p ps D τ i (t .0)) l (accepted E) y
+          next-only _ _ (extend-same p D (v .0) τ (valuationOf s) (t .1) (v .1)) (onward p ps D τ i (t .0)) l (accepted E) y
       settle-only (pass vs s) u v (refused e j) (inl h) = absurd (not-both (paragraphItems p D) P e j (u .0) h)
       settle-only (pass vs s) u v (refused e j) (inr (h, (τ, t, inl y))) =
-          full-only _ _ (extend-same p D (v .0) τ (tableOf s) (t .1) (v .1)) (y .0) ∙ ap₂ refused (sym (y .1)) (sym (y .2))
+          full-only _ _ (extend-same p D (v .0) τ (valuationOf s) (t .1) (v .1)) (y .0) ∙ ap₂ refused (sym (y .1)) (sym (y .2))
       settle-only (pass vs s) u v (refused e j) (inr (h, (τ, t, inr y))) =
-          next-only _ _ (extend-same p D (v .0) τ (tableOf s) (t .1) (v .1)) (onward p ps D τ i (t .0)) (y .0) (refused e j) (y .1)
+          next-only _ _ (extend-same p D (v .0) τ (valuationOf s) (t .1) (v .1)) (onward p ps D τ i (t .0)) (y .0) (refused e j) (y .1)
 
   paragraphs-right : (ps : List Paragraph) (D : Dictionary) (d : ℕ) → I ps D → AnswersFrom P ps D d (checkParagraphs ps D d)
   unfolding checkParagraphs AnswersFrom Accepts
@@ -129,7 +129,7 @@ module _ (P : Table → Type 0) (I : List Paragraph → Dictionary → Type 0)
       only (inl h) = ap (λ r. afterReading r rest) (h .2) ∙ sym (h .3)
       only (inr h) = ap (λ r. afterReading r rest) (h .0) ∙ tree-only (treeOf doc) d w (i (h .0)) a (h .1)
 
--- Every table counts.
+-- Every valuation counts.
 pub paragraphs-law : (ps : List Paragraph) (D : Dictionary) (d : ℕ) (a : Answer) → (checkParagraphs ps D d ≡ a) ↔ AnswersFrom Any ps D d a
 paragraphs-law ps D d a = answers-from Any (λ ps D. Unit {0}) (λ p ps D i. solve-right (paragraphItems p D)) (λ p ps D τ i c. tt) ps D d tt a
 

@@ -8,20 +8,20 @@ use lib.Dec.{ltb, eqb}
 use Rattle.reader_rules.specs.Reading.{readOf}
 use Rattle.reader_rules.specs.Tree.{Paragraph, given, axiomatic, schema, abbreviation, constraint}
 use Rattle.reader_rules.specs.Decode.{treeOf}
-use Rattle.types_rules.specs.Types.{Term, unknown, under, ℤ}
+use Rattle.types_rules.specs.Types.{Term, unknown, under, integerType}
 use Rattle.types_rules.specs.Substitution.{Substitution, empty, resolve}
 use Rattle.types_rules.specs.Unify.{Outcome, ok, clash, cycle, stuck, unify}
 use Rattle.types_rules.specs.Component.{component}
 use Rattle.types_rules.specs.Formed.{Formed, FormedType, Arity, WellFormed}
 use Rattle.types_rules.proofs.Formed.{under-fit, FitS, FitR, resolve-fit, unify-fit, sol-fit}
-use Rattle.checker_rules.specs.Unknowns.{Table, givenSet}
+use Rattle.checker_rules.specs.Unknowns.{Valuation, givenSet}
 use Rattle.checker_rules.specs.Items.{Items, skip, _⨾_, fresh, equate, select, small, refusal, piece}
 use Rattle.checker_rules.specs.Dictionary.{nameEntry, Dictionary, blank, _▸_}
 use Rattle.checker_rules.specs.Signatures.{Signature, noNames, naming}
 use Rattle.checker_rules.specs.Scopes.{globals, withParameters, textSignature, schemaSignature}
 use Rattle.checker_rules.specs.Rules.{paragraphItems}
 use Rattle.checker_rules.specs.Entries.{addGivens, addSignature, extend, paragraphNode}
-use Rattle.checker_rules.specs.Solving.{Solved, pass, refuse, andThen, answer, passIf, selected, solveFrom, unknowns, solve, tableOf}
+use Rattle.checker_rules.specs.Solving.{Solved, pass, refuse, andThen, answer, passIf, selected, solveFrom, unknowns, solve, valuationOf}
 use Rattle.checker_rules.specs.Check.{Answer, refused, fitting, settle, checkParagraphs, paragraphsOf, afterReading, checkWorkWords, checkOf}
 use Rattle.checker_rules.specs.WellFormed.{FormedDictionary, FormedAnswer}
 use Rattle.checker_rules.proofs.SolvingRight.{Keeps}
@@ -77,7 +77,7 @@ unfolding addGivens FormedDictionary FormedType Arity
 givens-formed [] D h = h
 givens-formed (i ∷ xs) D h = givens-formed xs (D ▸ nameEntry i 0 (givenSet i)) (h, (refl, ((refl, tt), tt)))
 
-module _ (τ : Table) (k : (x : ℕ) → WellFormed (τ x)) where
+module _ (τ : Valuation) (k : (x : ℕ) → WellFormed (τ x)) where
   addSignature-formed : (s : Signature) (D : Dictionary) → FormedTerms s → FormedDictionary D → FormedDictionary (addSignature s τ D)
   unfolding addSignature FormedDictionary
   addSignature-formed noNames D h d = d
@@ -92,7 +92,7 @@ module _ (τ : Table) (k : (x : ℕ) → WellFormed (τ x)) where
   extend-formed (abbreviation n i ps e) D d = (d, under-fit Arity τ k _ tt)
   extend-formed (constraint n p) D d = d
 
-pub integer-formed : WellFormed ℤ
+pub integer-formed : WellFormed integerType
 unfolding FormedType Arity
 integer-formed = (refl, tt)
 
@@ -102,9 +102,9 @@ fitting-formed true n E k h f = f E h
 fitting-formed false n E k h f = tt
 
 pub settle-formed : (r : Solved) (p : Paragraph) (D : Dictionary) (w : ℕ) (k : Dictionary → Answer) → FormedSolved r → FormedDictionary D → ((E : Dictionary) → FormedDictionary E → FormedAnswer (k E)) → FormedAnswer (settle r p D w k)
-unfolding settle tableOf
+unfolding settle valuationOf
 settle-formed (refuse f m) p D w k h d g = tt
-settle-formed (pass vs s) p D w k h d g = fitting-formed _ (paragraphNode p) _ k (extend-formed (tableOf s) (λ x. sol-fit Arity s h (λ y. ℤ) (λ y. integer-formed) x) p D d) g
+settle-formed (pass vs s) p D w k h d g = fitting-formed _ (paragraphNode p) _ k (extend-formed (valuationOf s) (λ x. sol-fit Arity s h (λ y. integerType) (λ y. integer-formed) x) p D d) g
 
 pub paragraphs-formed : (ps : List Paragraph) (D : Dictionary) (d : ℕ) → SizedParagraphs ps → FormedDictionary D → FormedAnswer (checkParagraphs ps D d)
 unfolding checkParagraphs solve SizedParagraphs

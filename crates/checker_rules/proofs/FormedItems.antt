@@ -16,7 +16,7 @@ use Rattle.types_rules.specs.Formed.{partCount, Formed, Formeds, Ascending, Ari
 use Rattle.checker_rules.specs.Strokes.{decorate, takes}
 use Rattle.checker_rules.specs.Unknowns.{unknownAt, row}
 use Rattle.checker_rules.specs.Items.{Items, skip, _⨾_, fresh, equate, select, small, refusal, piece}
-use Rattle.checker_rules.specs.Dictionary.{Dictionary, blank, Named, unnamed, ofLocal, ofGlobal, nameIn, Found, noSchema, aSchema}
+use Rattle.checker_rules.specs.Dictionary.{Dictionary, blank, Named, unnamed, ofLocal, ofGlobal, nameIn, NamedSchema, noSchema, aSchema}
 use Rattle.checker_rules.specs.Signatures.{Signature, noNames, naming, countNames, namesOf, componentsOf, termIn, merge, declare, someStroked}
 use Rattle.checker_rules.specs.Signatures.{wrongNames}
 use Rattle.checker_rules.specs.Scopes.{Scope, globals, nameAt, schemaNamed, withParameters, includeSignature, includeNode, inside, schemaSignature}
@@ -149,7 +149,7 @@ unfolding thetaSignature namesOf
 theta-names k noNames Γ = refl
 theta-names k (naming i t s) Γ = ap (_∷_ i) (theta-names k s Γ)
 
-pub thetaItems-formed : (n k : ℕ) (f : Found) (Γ : Scope) → FormedFound f → FormedScope Γ → FormedItems (thetaItems n k f Γ)
+pub thetaItems-formed : (n k : ℕ) (f : NamedSchema) (Γ : Scope) → FormedFound f → FormedScope Γ → FormedItems (thetaItems n k f Γ)
 unfolding thetaItems FormedItems FormedFound
 thetaItems-formed n k noSchema Γ w h = tt
 thetaItems-formed n k (aSchema p g) Γ w h = (
@@ -164,7 +164,7 @@ thetaItems-formed n k (aSchema p g) Γ w h = (
   ),
 )
 
-pub includeRule-formed : (f : Found) (i : Include) (acts : Items) → FormedItems acts → FormedItems (includeRule f i acts)
+pub includeRule-formed : (f : NamedSchema) (i : Include) (acts : Items) → FormedItems acts → FormedItems (includeRule f i acts)
 unfolding includeRule FormedItems
 includeRule-formed noSchema (include n s k xs rs) acts h = tt
 includeRule-formed (aSchema p g) (include n s k xs rs) acts h = cond-formed (eqb (exprsLength xs) p) (acts ⨾ refuseIf (wrongNames k rs (componentsOf (instance nil g))) 37 n) (refusal 32 n) (h, refuseIf-formed (wrongNames k rs (componentsOf (instance nil g))) 37 n) tt

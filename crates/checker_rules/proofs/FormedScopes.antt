@@ -9,7 +9,7 @@ use Rattle.types_rules.specs.Types.{Terms}
 use Rattle.types_rules.specs.Instance.{instance}
 use Rattle.types_rules.specs.Formed.{Formed, Formeds, Arity, WellFormed}
 use Rattle.checker_rules.specs.Unknowns.{unknownAt, row, powerOf, parameterOf}
-use Rattle.checker_rules.specs.Dictionary.{nameEntry, schemaEntry, Dictionary, blank, _▸_, Named, unnamed, ofLocal, ofGlobal, nameIn, Found, noSchema}
+use Rattle.checker_rules.specs.Dictionary.{nameEntry, schemaEntry, Dictionary, blank, _▸_, Named, unnamed, ofLocal, ofGlobal, nameIn, NamedSchema, noSchema}
 use Rattle.checker_rules.specs.Dictionary.{aSchema, schemaIn}
 use Rattle.checker_rules.specs.Signatures.{Signature, noNames, naming, namesOf, componentsOf, merge, declare, strokeAll}
 use Rattle.checker_rules.specs.Scopes.{Scope, globals, local, nameAt, schemaNamed, withParameters, enter, brought, includeSignature, linesSignature}
@@ -29,7 +29,7 @@ FormedNamed unnamed = Unit {0}
 FormedNamed (ofLocal t) = Formed Arity t
 FormedNamed (ofGlobal p g) = WellFormed g
 
-unfoldable pub FormedFound : Found → Type 0
+unfoldable pub FormedFound : NamedSchema → Type 0
 FormedFound noSchema = Unit {0}
 FormedFound (aSchema p g) = WellFormed g
 
@@ -49,7 +49,7 @@ unfolding nameAt FormedScope FormedNamed
 nameAt-formed i (globals D) h = nameIn-formed i D h
 nameAt-formed i (local j t Γ) h = cond-named (eqb i j) (ofLocal t) (nameAt i Γ) (h .0) (nameAt-formed i Γ (h .1))
 
-pub cond-found : (b : Bool) (a m : Found) → FormedFound a → FormedFound m → FormedFound (cond b a m)
+pub cond-found : (b : Bool) (a m : NamedSchema) → FormedFound a → FormedFound m → FormedFound (cond b a m)
 cond-found true a m h k = h
 cond-found false a m h k = k
 
@@ -64,7 +64,7 @@ unfolding schemaNamed FormedScope
 schemaNamed-formed s (globals D) h = schemaIn-formed s D h
 schemaNamed-formed s (local j t Γ) h = schemaNamed-formed s Γ (h .1)
 
-pub brought-formed : (f : Found) (r : Terms) (k : ℕ) (rs : List (ℕ × ℕ)) → FormedFound f → Formeds Arity r → FormedTerms (brought f r k rs)
+pub brought-formed : (f : NamedSchema) (r : Terms) (k : ℕ) (rs : List (ℕ × ℕ)) → FormedFound f → Formeds Arity r → FormedTerms (brought f r k rs)
 unfolding brought FormedFound
 brought-formed noSchema r k rs h hr = tt
 brought-formed (aSchema p g) r k rs h hr = rename-having (Formed Arity) rs (strokeAll k (componentsOf (instance r g))) (stroke-having (Formed Arity) k (componentsOf (instance r g)) (components-formed (instance r g) (instance-formed r g hr h)))
@@ -108,7 +108,7 @@ pub included-rising : (i : Include) (Γ : Scope) → Rising (includeSignature i 
 unfolding includeSignature
 included-rising (include n s k xs rs) Γ = go (schemaNamed s Γ)
   where
-    go : (f : Found) → Rising (brought f (row n 1 (exprsLength xs)) k rs)
+    go : (f : NamedSchema) → Rising (brought f (row n 1 (exprsLength xs)) k rs)
     go noSchema = unfold brought namesOf in tt
     go (aSchema p g) = unfold brought in rename-rising rs (strokeAll k (componentsOf (instance (row n 1 (exprsLength xs)) g)))
 

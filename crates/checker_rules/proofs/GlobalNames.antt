@@ -11,7 +11,7 @@ use Rattle.words.specs.Loops.{has}
 use Rattle.reader_rules.specs.Tree.{Text, text, Lines, end, declaration, inclusion, Paragraph, given, axiomatic, schema, abbreviation, constraint}
 use Rattle.types_rules.specs.Types.{Ty, Term, under}
 use Rattle.types_rules.proofs.Terms.{bool-no}
-use Rattle.checker_rules.specs.Unknowns.{Table, unknownAt, givenSet}
+use Rattle.checker_rules.specs.Unknowns.{Valuation, unknownAt, givenSet}
 use Rattle.checker_rules.specs.Dictionary.{nameEntry, Dictionary, _▸_, Named, ofGlobal, nameIn}
 use Rattle.checker_rules.specs.Signatures.{Signature, noNames, naming, namesOf, insertName, merge, declare}
 use Rattle.checker_rules.specs.Scopes.{Scope, globals, includeSignature, includeNode, linesSignature, textSignature}
@@ -89,7 +89,7 @@ givens-global x (i ∷ is) D =
     ∙ or-swap (has x is) (eqb i x) (isGlobal x D)
     ∙ sym (or-assoc (eqb i x) (has x is) (isGlobal x D))
 
-signature-global : (x : ℕ) (s : Signature) (τ : Table) (D : Dictionary) → isGlobal x (addSignature s τ D) ≡ (has x (namesOf s) || isGlobal x D)
+signature-global : (x : ℕ) (s : Signature) (τ : Valuation) (D : Dictionary) → isGlobal x (addSignature s τ D) ≡ (has x (namesOf s) || isGlobal x D)
 unfolding addSignature namesOf has
 signature-global x noNames τ D = refl
 signature-global x (naming i t s) τ D =
@@ -174,7 +174,7 @@ text-to : (t : Text) (Γ : Scope) (m x : ℕ) (w : Way) → TextDeclares t Γ m 
 unfolding textSignature TextDeclares
 text-to (text n p ls) Γ m x w h = lines-to ls Γ m x w noNames h
 
-one-from : (p : Paragraph) (D : Dictionary) (τ : Table) (x : ℕ) → isGlobal x (extend p D τ) ≡ true → Made p D x ⊎ (isGlobal x D ≡ true)
+one-from : (p : Paragraph) (D : Dictionary) (τ : Valuation) (x : ℕ) → isGlobal x (extend p D τ) ≡ true → Made p D x ⊎ (isGlobal x D ≡ true)
 unfolding extend Declares nameIn
 one-from (given n is) D τ x e = go (or-side (has x is) (isGlobal x D) (sym (givens-global x is D) ∙ e))
   where
@@ -195,7 +195,7 @@ one-from (abbreviation n i ps a) D τ x e = go (or-side (eqb i x) (isGlobal x D)
     go (inr h) = inr h
 one-from (constraint n p) D τ x e = inr e
 
-one-keeps : (p : Paragraph) (D : Dictionary) (τ : Table) (x : ℕ) → isGlobal x D ≡ true → isGlobal x (extend p D τ) ≡ true
+one-keeps : (p : Paragraph) (D : Dictionary) (τ : Valuation) (x : ℕ) → isGlobal x D ≡ true → isGlobal x (extend p D τ) ≡ true
 unfolding extend nameIn
 one-keeps (given n is) D τ x e = givens-global x is D ∙ or-right (has x is) (isGlobal x D) e
 one-keeps (axiomatic n t) D τ x e = signature-global x (textSignature t (globals D)) τ D ∙ or-right (has x (namesOf (textSignature t (globals D)))) (isGlobal x D) e
@@ -203,7 +203,7 @@ one-keeps (schema n s ps y) D τ x e = e
 one-keeps (abbreviation n i ps a) D τ x e = entry-global x i (length ps) (under τ (typeOf a)) D ∙ or-right (eqb i x) (isGlobal x D) e
 one-keeps (constraint n p) D τ x e = e
 
-one-to : (p : Paragraph) (D : Dictionary) (τ : Table) (m x : ℕ) (w : Way) → Declares p D m x w → isGlobal x (extend p D τ) ≡ true
+one-to : (p : Paragraph) (D : Dictionary) (τ : Valuation) (m x : ℕ) (w : Way) → Declares p D m x w → isGlobal x (extend p D τ) ≡ true
 unfolding extend Declares
 one-to (given n is) D τ m x w h = givens-global x is D ∙ or-left (has x is) (isGlobal x D) (h .1)
 one-to (axiomatic n t) D τ m x w h =

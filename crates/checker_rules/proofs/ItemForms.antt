@@ -10,9 +10,9 @@ use Rattle.reader_rules.specs.Tree.{Exprs, none, more, exprsLength}
 use Rattle.types_rules.specs.Types.{Term, nil}
 use Rattle.types_rules.specs.Instance.{instance}
 use Rattle.checker_rules.specs.Strokes.{decorate, takes}
-use Rattle.checker_rules.specs.Unknowns.{Table, row}
+use Rattle.checker_rules.specs.Unknowns.{Valuation, row}
 use Rattle.checker_rules.specs.Items.{Items, skip, _⨾_, fresh, equate, select, small, refusal, piece, Agree, And}
-use Rattle.checker_rules.specs.Dictionary.{Dictionary, Named, unnamed, ofLocal, ofGlobal, nameIn, Found, noSchema, aSchema}
+use Rattle.checker_rules.specs.Dictionary.{Dictionary, Named, unnamed, ofLocal, ofGlobal, nameIn, NamedSchema, noSchema, aSchema}
 use Rattle.checker_rules.specs.Signatures.{Signature, noNames, naming, componentsOf, termIn, countNames, someStroked}
 use Rattle.checker_rules.specs.Scopes.{Scope, nameAt}
 use Rattle.checker_rules.specs.Conditions.{refuseIf, sameType, mergeDeclared, mergeNames, newName, newNames, smallTypes, fewNames, arePowers, areMembers, freshRow, typed}
@@ -40,7 +40,7 @@ OfNode (refusal f n) = Unit {0}
 OfNode (piece n t) = ⊥
 
 -- ---- 33 at a Select: neither has one
-pub bare-selects : (t : Items) (P : Table → Type 0) → Bare t → NoSelect33 t P
+pub bare-selects : (t : Items) (P : Valuation → Type 0) → Bare t → NoSelect33 t P
 unfolding Bare NoSelect33
 bare-selects skip P h = tt
 bare-selects (a ⨾ b) P h = (bare-selects a P (h .0), λ p. bare-selects b (And P a) (h .1))
@@ -51,7 +51,7 @@ bare-selects (small n a) P h = tt
 bare-selects (refusal f n) P h = tt
 bare-selects (piece n t) P h = absurd h
 
-pub node-selects : (t : Items) (P : Table → Type 0) → OfNode t → NoSelect33 t P
+pub node-selects : (t : Items) (P : Valuation → Type 0) → OfNode t → NoSelect33 t P
 unfolding OfNode NoSelect33
 node-selects skip P h = tt
 node-selects (a ⨾ b) P h = (node-selects a P (h .0), λ p. node-selects b (And P a) (h .1))
@@ -63,7 +63,7 @@ node-selects (refusal f n) P h = tt
 node-selects (piece n t) P h = absurd h
 
 -- ---- own unknowns: bare items have none
-pub bare-agrees : (σ τ : Table) (t : Items) → Bare t → Agree t σ τ
+pub bare-agrees : (σ τ : Valuation) (t : Items) → Bare t → Agree t σ τ
 unfolding Bare Agree
 bare-agrees σ τ skip h = tt
 bare-agrees σ τ (a ⨾ b) h = (bare-agrees σ τ a (h .0), bare-agrees σ τ b (h .1))
@@ -195,7 +195,7 @@ unfolding thetaNames OfNode
 thetaNames-node n k noNames Γ = tt
 thetaNames-node n k (naming i t s) Γ = (thetaName-node (takes k i) n (nameAt (decorate k i) Γ), thetaNames-node n k s Γ)
 
-pub theta-node : (n k : ℕ) (f : Found) (Γ : Scope) → OfNode (thetaItems n k f Γ)
+pub theta-node : (n k : ℕ) (f : NamedSchema) (Γ : Scope) → OfNode (thetaItems n k f Γ)
 unfolding thetaItems OfNode
 theta-node n k noSchema Γ = tt
 theta-node n k (aSchema p g) Γ =

@@ -1,13 +1,13 @@
--- The finding is one; items that pass are met by a table; such tables agree on every piece.
+-- The finding is one; items that pass are met by a valuation; such valuations agree on every piece.
 use mathlib.Core.Path.{_≡_, sym, _∙_}
 use mathlib.Core.Logic.{_↔_, inl, inr}
 use Prim.Native.Nat.{ℕ}
 use native.Mathlib.Omega.{arith}
-use Rattle.checker_rules.specs.Unknowns.{Table}
+use Rattle.checker_rules.specs.Unknowns.{Valuation}
 use Rattle.checker_rules.specs.Items.{Items, skip, _⨾_, fresh, equate, select, small, refusal, piece, Meets, Agree, And, Passes, Refuses}
 
 -- The finding is one.
-pub not-both : (t : Items) (P : Table → Type 0) (f m : ℕ) → Passes t P → Refuses t P f m → ⊥
+pub not-both : (t : Items) (P : Valuation → Type 0) (f m : ℕ) → Passes t P → Refuses t P f m → ⊥
 unfolding Passes Refuses
 not-both skip P f m p r = r
 not-both (a ⨾ b) P f m p (inl r) = not-both a P f m (p .0) r
@@ -21,7 +21,7 @@ not-both (refusal g n) P f m p r = p
 not-both (piece n t) P f m p (inl r) = not-both t P f m (p .0) r
 not-both (piece n t) P f m p (inr r) = r .3 .4 (p .1 (r .3 .0) (r .3 .1) (r .3 .2) (r .3 .3))
 
-pub one : (t : Items) (P : Table → Type 0) (f m g k : ℕ) → Refuses t P f m → Refuses t P g k → (f ≡ g) × (m ≡ k)
+pub one : (t : Items) (P : Valuation → Type 0) (f m g k : ℕ) → Refuses t P f m → Refuses t P g k → (f ≡ g) × (m ≡ k)
 unfolding Refuses
 one skip P f m g k p r = absurd r
 one (a ⨾ b) P f m g k (inl p) (inl r) = one a P f m g k p r
@@ -41,8 +41,8 @@ one (piece n t) P f m g k (inl p) (inr r) = absurd (not-both t P f m (r .0) p)
 one (piece n t) P f m g k (inr p) (inl r) = absurd (not-both t P g k (p .0) r)
 one (piece n t) P f m g k (inr p) (inr r) = (p .1 ∙ sym (r .1), p .2 ∙ sym (r .2))
 
--- Items that pass are met by a table.
-pub table : (t : Items) (P : Table → Type 0) → Passes t P → (τ : Table) → P τ → (σ : Table) × P σ × Meets t σ
+-- Items that pass are met by a valuation.
+pub table : (t : Items) (P : Valuation → Type 0) → Passes t P → (τ : Valuation) → P τ → (σ : Valuation) × P σ × Meets t σ
 unfolding Passes Meets
 table skip P p τ h = (τ, h, tt)
 table (a ⨾ b) P p τ h = let x = table a P (p .0) τ h in let y = table b (And P a) (p .1) (x .0) (x .1, x .2) in (y .0, y .1 .0, (y .1 .1, y .2))
@@ -53,8 +53,8 @@ table (small n a) P p τ h = (τ, h, p τ h)
 table (refusal g n) P p τ h = absurd p
 table (piece n t) P p τ h = table t P (p .0) τ h
 
--- Two tables agree on the unknowns of every piece.
-unfoldable pub Agrees : Items → Table → Table → Type 0
+-- Two valuations agree on the unknowns of every piece.
+unfoldable pub Agrees : Items → Valuation → Valuation → Type 0
 Agrees skip σ τ = Unit {0}
 Agrees (a ⨾ b) σ τ = Agrees a σ τ × Agrees b σ τ
 Agrees (fresh x) σ τ = Unit {0}
@@ -64,8 +64,8 @@ Agrees (small n a) σ τ = Unit {0}
 Agrees (refusal g n) σ τ = ⊥
 Agrees (piece n t) σ τ = Agree t σ τ × Agrees t σ τ
 
--- So do all tables that meet items that pass.
-pub agreed : (t : Items) (P : Table → Type 0) (σ τ : Table) → Passes t P → And P t σ → And P t τ → Agrees t σ τ
+-- So do all valuations that meet items that pass.
+pub agreed : (t : Items) (P : Valuation → Type 0) (σ τ : Valuation) → Passes t P → And P t σ → And P t τ → Agrees t σ τ
 unfolding Passes Meets Agrees
 agreed skip P σ τ p a b = tt
 agreed (x ⨾ y) P σ τ p a b = (agreed x P σ τ (p .0) (a .0, a .1 .0) (b .0, b .1 .0), agreed y (And P x) σ τ (p .1) ((a .0, a .1 .0), a .1 .1) ((b .0, b .1 .0), b .1 .1))
@@ -76,8 +76,8 @@ agreed (small n x) P σ τ p a b = tt
 agreed (refusal g n) P σ τ p a b = p
 agreed (piece n t) P σ τ p a b = (p .1 σ τ a b, agreed t P σ τ (p .0) a b)
 
--- Only which tables meet P matters.
-pub passes-ext : (t : Items) (P Q : Table → Type 0) → ((τ : Table) → P τ ↔ Q τ) → Passes t P → Passes t Q
+-- Only which valuations meet P matters.
+pub passes-ext : (t : Items) (P Q : Valuation → Type 0) → ((τ : Valuation) → P τ ↔ Q τ) → Passes t P → Passes t Q
 unfolding Passes
 passes-ext skip P Q e p = tt
 passes-ext (a ⨾ b) P Q e p = (passes-ext a P Q e (p .0), passes-ext b (And P a) (And Q a) (λ τ. (λ h. (e τ .0 (h .0), h .1), λ h. (e τ .1 (h .0), h .1))) (p .1))
@@ -88,7 +88,7 @@ passes-ext (small n a) P Q e p = λ τ h. p τ (e τ .1 h)
 passes-ext (refusal g n) P Q e p = p
 passes-ext (piece n t) P Q e p = (passes-ext t P Q e (p .0), λ σ τ a b. p .1 σ τ (e σ .1 (a .0), a .1) (e τ .1 (b .0), b .1))
 
-pub refuses-ext : (t : Items) (P Q : Table → Type 0) (f m : ℕ) → ((τ : Table) → P τ ↔ Q τ) → Refuses t P f m → Refuses t Q f m
+pub refuses-ext : (t : Items) (P Q : Valuation → Type 0) (f m : ℕ) → ((τ : Valuation) → P τ ↔ Q τ) → Refuses t P f m → Refuses t Q f m
 unfolding Refuses
 refuses-ext skip P Q f m e r = r
 refuses-ext (a ⨾ b) P Q f m e (inl r) = inl (refuses-ext a P Q f m e r)

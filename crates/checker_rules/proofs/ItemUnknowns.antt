@@ -9,7 +9,7 @@ use Rattle.types_rules.specs.Component.{componentType}
 use Rattle.types_rules.specs.Substitution.{member}
 use Rattle.types_rules.proofs.Terms.{each-map, under-ext}
 use Rattle.types_rules.proofs.States.{or-true-r, member-head}
-use Rattle.checker_rules.specs.Unknowns.{Table}
+use Rattle.checker_rules.specs.Unknowns.{Valuation}
 use Rattle.checker_rules.specs.Items.{Items, skip, _⨾_, fresh, equate, select, small, refusal, piece, Meets}
 use Rattle.checker_rules.specs.Solving.{addUnknown, termUnknowns, termsUnknowns, unknowns}
 
@@ -99,7 +99,7 @@ over (refusal g n) l = tt
 over (piece n t) l = over t l
 
 -- Tables that agree on the unknowns of a term or of items.
-module _ (N : ℕ → Type 0) (σ τ : Table) (e : (x : ℕ) → N x → σ x ≡ τ x) where
+module _ (N : ℕ → Type 0) (σ τ : Valuation) (e : (x : ℕ) → N x → σ x ≡ τ x) where
   pub same-under : (t : Term) → Each N t → under σ t ≡ under τ t
   same-under t h = under-ext σ τ t (each-map N _ (λ y n. e y n) t h)
 

@@ -1,4 +1,4 @@
--- Unknowns that are new at a node: the tables so far, and the scope, leave the unknown of its type alone.
+-- Unknowns that are new at a node: the valuations so far, and the scope, leave the unknown of its type alone.
 use mathlib.Core.Path.{_≡_, refl, sym, ap, _∙_}
 use mathlib.Core.Bool.{Bool, true, false, _||_}
 use mathlib.Core.List.{List, [], _∷_, _++_}
@@ -16,7 +16,7 @@ use Rattle.types_rules.specs.Types.{Ty, Term, under, Each}
 use Rattle.types_rules.specs.Substitution.{update}
 use Rattle.types_rules.specs.Component.{componentType}
 use Rattle.types_rules.proofs.Terms.{update-same, update-other}
-use Rattle.checker_rules.specs.Unknowns.{Table, slot, unknownAt}
+use Rattle.checker_rules.specs.Unknowns.{Valuation, slot, unknownAt}
 use Rattle.checker_rules.specs.Items.{Items, _⨾_, fresh, select, small, piece, Known, Meets, And, Passes, Refuses}
 use Rattle.checker_rules.specs.Dictionary.{Dictionary}
 use Rattle.checker_rules.specs.Signatures.{Signature, namesOf, merge, declare}
@@ -33,14 +33,14 @@ use Rattle.checker_rules.proofs.ScopeUnknowns.{AllIn, Own, ScopeOver, S
 use Rattle.checker_rules.proofs.RuleUnknowns.{type-over, expr-over, lines-over}
 use Rattle.checker_rules.proofs.TypingLaws.{first-has, rest-has}
 
--- ---- tables that differ at x alone
+-- ---- valuations that differ at x alone
 abbrev pub Not : ℕ → ℕ → Type 0
 Not x y = y ≡ x → ⊥
 
-abbrev pub Free : ℕ → (Table → Type 0) → Type 0
-Free x P = (τ : Table) (g : Ty) → P τ → P (update τ x g)
+abbrev pub Free : ℕ → (Valuation → Type 0) → Type 0
+Free x P = (τ : Valuation) (g : Ty) → P τ → P (update τ x g)
 
-module _ (x : ℕ) (τ : Table) (g : Ty) where
+module _ (x : ℕ) (τ : Valuation) (g : Ty) where
   elsewhere : (y : ℕ) → Not x y → update τ x g y ≡ τ y
   elsewhere y n = update-other τ x g y (ne-eqb y x n)
 
@@ -48,11 +48,11 @@ module _ (x : ℕ) (τ : Table) (g : Ty) where
   met-still t o h = met-too (Not x) (update τ x g) τ elsewhere t o h
 
 -- ---- a Select whose unknown is new
-pub select-open : (n i : ℕ) (a : Term) (x : ℕ) (P : Table → Type 0) → Free x P → Each (Not x) a → (τ : Table) → P τ → (m : ℕ) → Refuses (select n i a x) P 33 m → ⊥
+pub select-open : (n i : ℕ) (a : Term) (x : ℕ) (P : Valuation → Type 0) → Free x P → Each (Not x) a → (τ : Valuation) → P τ → (m : ℕ) → Refuses (select n i a x) P 33 m → ⊥
 unfolding Refuses Known
 select-open n i a x P f e τ p m r = go r
   where
-    here : (o : Option Ty) → componentType i (under τ a) ≡ o → Known o → ((σ : Table) → P σ → componentType i (under σ a) ≡ some (σ x) → ⊥) → ⊥
+    here : (o : Option Ty) → componentType i (under τ a) ≡ o → Known o → ((σ : Valuation) → P σ → componentType i (under σ a) ≡ some (σ x) → ⊥) → ⊥
     here (some g) q k w = w (update τ x g) (f τ g p) (ap (componentType i) (same-under (Not x) (update τ x g) τ (elsewhere x τ g) a e) ∙ q ∙ ap some (sym (update-same τ x g)))
     here nothing q k w = k
 
@@ -97,38 +97,38 @@ own-not m (j ∷ l) h = (λ k u e. h (found j (slots-apart j k m 0 (omega arith)
     found : (j : ℕ) → j ≡ m → has m (j ∷ l) ≡ true
     found j e = ap (λ (z : ℕ). has m (z ∷ l)) e ∙ first-has m l
 
--- ---- what is new: for each node of the list, the tables so far and the scope leave its type's unknown alone
-abbrev pub New : List ℕ → (Table → Type 0) → Scope → Type 0
+-- ---- what is new: for each node of the list, the valuations so far and the scope leave its type's unknown alone
+abbrev pub New : List ℕ → (Valuation → Type 0) → Scope → Type 0
 New l P Γ = (m : ℕ) → has m l ≡ true → Free (slot m 0) P × ScopeOver (Not (slot m 0)) Γ
 
-pub new-left : (a b : List ℕ) (P : Table → Type 0) (Γ : Scope) → New (a ++ b) P Γ → New a P Γ
+pub new-left : (a b : List ℕ) (P : Valuation → Type 0) (Γ : Scope) → New (a ++ b) P Γ → New a P Γ
 new-left a b P Γ w m q = w m (has-left m a b q)
 
-pub new-right : (a b : List ℕ) (P : Table → Type 0) (Γ : Scope) → New (a ++ b) P Γ → New b P Γ
+pub new-right : (a b : List ℕ) (P : Valuation → Type 0) (Γ : Scope) → New (a ++ b) P Γ → New b P Γ
 new-right a b P Γ w m q = w m (has-right m a b q)
 
 -- after items of other nodes
-pub new-after : (a b : List ℕ) (t : Items) (P : Table → Type 0) (Γ : Scope) → Apart a b → ((N : ℕ → Type 0) → AllIn (Own N) a → ScopeOver N Γ → Over N t) → New b P Γ → New b (And P t) Γ
+pub new-after : (a b : List ℕ) (t : Items) (P : Valuation → Type 0) (Γ : Scope) → Apart a b → ((N : ℕ → Type 0) → AllIn (Own N) a → ScopeOver N Γ → Over N t) → New b P Γ → New b (And P t) Γ
 new-after a b t P Γ d o w m q =
     let n = o (Not (slot m 0)) (own-not m a (λ p. d m p q)) (w m q .1) in
     (λ τ g h. (w m q .0 τ g (h .0), met-still (slot m 0) τ g t n (h .1)), w m q .1)
 
 -- in a scope with other nodes' unknowns
-pub new-inside : (a b : List ℕ) (P : Table → Type 0) (Γ Δ : Scope) → Apart a b → ((N : ℕ → Type 0) → AllIn (Own N) a → ScopeOver N Γ → ScopeOver N Δ) → New b P Γ → New b P Δ
+pub new-inside : (a b : List ℕ) (P : Valuation → Type 0) (Γ Δ : Scope) → Apart a b → ((N : ℕ → Type 0) → AllIn (Own N) a → ScopeOver N Γ → ScopeOver N Δ) → New b P Γ → New b P Δ
 new-inside a b P Γ Δ d o w m q = (w m q .0, o (Not (slot m 0)) (own-not m a (λ p. d m p q)) (w m q .1))
 
--- tables there are
-abbrev pub Some : (Table → Type 0) → Type 0
-Some P = (τ : Table) × P τ
+-- valuations there are
+abbrev pub Some : (Valuation → Type 0) → Type 0
+Some P = (τ : Valuation) × P τ
 
-pub some-after : (t : Items) (P : Table → Type 0) → Some P → Passes t P → Some (And P t)
+pub some-after : (t : Items) (P : Valuation → Type 0) → Some P → Passes t P → Some (And P t)
 some-after t P s p = let x = table t P p (s .0) (s .1) in (x .0, (x .1, x .2))
 
-pub free-fresh : (x y : ℕ) (P : Table → Type 0) → Free x P → Free x (And P (fresh y))
+pub free-fresh : (x y : ℕ) (P : Valuation → Type 0) → Free x P → Free x (And P (fresh y))
 unfolding Meets
 free-fresh x y P f τ g h = (f τ g (h .0), tt)
 
-pub some-fresh : (y : ℕ) (P : Table → Type 0) → Some P → Some (And P (fresh y))
+pub some-fresh : (y : ℕ) (P : Valuation → Type 0) → Some P → Some (And P (fresh y))
 unfolding Meets
 some-fresh y P s = (s .0, (s .1, tt))
 
@@ -136,7 +136,7 @@ some-fresh y P s = (s .0, (s .1, tt))
 abbrev pub NewSig : List ℕ → Signature → Type 0
 NewSig l r = (m : ℕ) → has m l ≡ true → SigOver (Not (slot m 0)) r
 
-pub new-with : (b : List ℕ) (t : Items) (P : Table → Type 0) (Γ : Scope) → ((m : ℕ) → has m b ≡ true → Over (Not (slot m 0)) t) → New b P Γ → New b (And P t) Γ
+pub new-with : (b : List ℕ) (t : Items) (P : Valuation → Type 0) (Γ : Scope) → ((m : ℕ) → has m b ≡ true → Over (Not (slot m 0)) t) → New b P Γ → New b (And P t) Γ
 new-with b t P Γ o w m q = (λ τ g h. (w m q .0 τ g (h .0), met-still (slot m 0) τ g t (o m q) (h .1)), w m q .1)
 
 all-nil : (M : ℕ → Type 0) (a : List ℕ) → AllIn M a → AllIn M (a ++ [])
@@ -151,7 +151,7 @@ pub inclusion-over : (N : ℕ → Type 0) (i : Include) (Γ : Scope) (G : Dictio
     → Over N (linesItems (inclusion i end) Γ G r)
 inclusion-over N i Γ G r h f s k = lines-over N (inclusion i end) Γ G r (unfold linesNumbers in all-nil (Own N) (includeNumbers i) h) (unfold SizedLines in (f, tt)) s k
 
-module _ (n : ℕ) (a : Expr) (is : List ℕ) (l : List ℕ) (Γ : Scope) (G : Dictionary) (r : Signature) (P : Table → Type 0)
+module _ (n : ℕ) (a : Expr) (is : List ℕ) (l : List ℕ) (Γ : Scope) (G : Dictionary) (r : Signature) (P : Valuation → Type 0)
     (d : Apart (exprNumbers a ++ (n ∷ [])) l) (f : SizedExpr a) (w : New l P Γ) (k : NewSig l r) where
   own-decl : (m : ℕ) → has m l ≡ true → AllIn (Own (Not (slot m 0))) (exprNumbers a ++ (n ∷ []))
   own-decl m q = own-not m (exprNumbers a ++ (n ∷ [])) (λ p. d m p q)
@@ -167,7 +167,7 @@ module _ (n : ℕ) (a : Expr) (is : List ℕ) (l : List ℕ) (Γ : Scope) (G : D
   unfolding Each
   sig-declaration m q = declare-having (Each (Not (slot m 0))) is (unknownAt n 0) r (all-right (Own (Not (slot m 0))) (exprNumbers a) (n ∷ []) (own-decl m q) .0 0 (omega arith)) (k m q)
 
-module _ (i : Include) (l : List ℕ) (Γ : Scope) (G : Dictionary) (r : Signature) (P : Table → Type 0)
+module _ (i : Include) (l : List ℕ) (Γ : Scope) (G : Dictionary) (r : Signature) (P : Valuation → Type 0)
     (d : Apart (includeNumbers i) l) (f : SizedInclude i) (w : New l P Γ) (k : NewSig l r) where
   own-incl : (m : ℕ) → has m l ≡ true → AllIn (Own (Not (slot m 0))) (includeNumbers i)
   own-incl m q = own-not m (includeNumbers i) (λ p. d m p q)

@@ -1,4 +1,4 @@
--- One type and no other: two tables that meet a paragraph's items, which pass, give each expression node one type, and the dictionary the same entries.
+-- One type and no other: two valuations that meet a paragraph's items, which pass, give each expression node one type, and the dictionary the same entries.
 use mathlib.Core.Path.{_≡_, refl, ap, ap₂, _∙_, subst}
 use mathlib.Core.Bool.{Bool, true, false, cond}
 use mathlib.Core.List.{List, [], _∷_}
@@ -15,9 +15,9 @@ use Rattle.types_rules.specs.Types.{node, tcons, Term, unknown, con, Terms, nil
 use Rattle.types_rules.specs.Instance.{instance}
 use Rattle.types_rules.proofs.Solutions.{tcons-0, tcons-1, node-1}
 use Rattle.types_rules.proofs.Instance.{instance-same}
-use Rattle.checker_rules.specs.Unknowns.{Table, slot, unknownAt, row}
+use Rattle.checker_rules.specs.Unknowns.{Valuation, slot, unknownAt, row}
 use Rattle.checker_rules.specs.Items.{Items, _⨾_, refusal, Meets, Agree, Any, Passes}
-use Rattle.checker_rules.specs.Dictionary.{nameEntry, schemaEntry, Dictionary, blank, _▸_, Named, unnamed, ofLocal, ofGlobal, Found, noSchema}
+use Rattle.checker_rules.specs.Dictionary.{nameEntry, schemaEntry, Dictionary, blank, _▸_, Named, unnamed, ofLocal, ofGlobal, NamedSchema, noSchema}
 use Rattle.checker_rules.specs.Dictionary.{aSchema}
 use Rattle.checker_rules.specs.Signatures.{Signature, noNames, naming, namesOf, termsOf, bindingOf, withNames, componentsOf, merge}
 use Rattle.checker_rules.specs.Signatures.{declare, strokeAll, wrongNames}
@@ -32,7 +32,7 @@ use Rattle.checker_rules.proofs.SignatureTerms.{Having, merge-having, d
 use Rattle.checker_rules.proofs.ItemLaws.{Agrees, agreed}
 use Rattle.checker_rules.proofs.ExpressionRoot.{root}
 
-module _ (σ τ : Table) where
+module _ (σ τ : Valuation) where
   abbrev pub Same : ℕ → Type 0
   Same n = σ (slot n 0) ≡ τ (slot n 0)
 
@@ -50,7 +50,7 @@ module _ (σ τ : Table) where
   ref-same n (more e es) (ofLocal t) a b = absurd b
   ref-same n (more e es) (ofGlobal p g) a b = either-same (eqb (exprsLength (more e es)) p) n 32 n (arePowers n (more e es) 1) (instance (row n 1 p) g) a b
 
-  theta-same : (n k : ℕ) (f : Found) (Γ : Scope) → Agree (thetaItems n k f Γ) σ τ → Agrees (thetaItems n k f Γ) σ τ → Same n
+  theta-same : (n k : ℕ) (f : NamedSchema) (Γ : Scope) → Agree (thetaItems n k f Γ) σ τ → Agrees (thetaItems n k f Γ) σ τ → Same n
   unfolding thetaItems Agree Agrees
   theta-same n k noSchema Γ a b = absurd b
   theta-same n k (aSchema p g) Γ a b = a .1 .1 .1 .0
@@ -60,7 +60,7 @@ module _ (σ τ : Table) where
   either-left true t u f m h = h .0
   either-left false t u f m h = absurd h
 
-  incl-agrees : (f : Found) (i : Include) (acts : Items) → Agrees (includeRule f i acts) σ τ → Agrees acts σ τ
+  incl-agrees : (f : NamedSchema) (i : Include) (acts : Items) → Agrees (includeRule f i acts) σ τ → Agrees acts σ τ
   unfolding includeRule Agrees
   incl-agrees noSchema (include n s k xs rs) acts h = absurd h
   incl-agrees (aSchema p g) (include n s k xs rs) acts h = either-left (eqb (exprsLength xs) p) acts (refuseIf (wrongNames k rs (componentsOf (instance nil g))) 37 n) 32 n h
@@ -176,7 +176,7 @@ module _ (σ τ : Table) where
   fields-same (unknown x) e = tt
   fields-same (con h ts) e = fieldsOf-same (identifiers h) ts (node-1 _ _ _ _ e)
 
-  bring-same : (f : Found) (r : Terms) (k : ℕ) (rs : List (ℕ × ℕ)) → unders σ r ≡ unders τ r → SameNames (brought f r k rs)
+  bring-same : (f : NamedSchema) (r : Terms) (k : ℕ) (rs : List (ℕ × ℕ)) → unders σ r ≡ unders τ r → SameNames (brought f r k rs)
   unfolding brought
   bring-same noSchema r k rs e = tt
   bring-same (aSchema p g) r k rs e = rename-having OneTerm rs (strokeAll k (componentsOf (instance r g))) (stroke-having OneTerm k (componentsOf (instance r g)) (fields-same (instance r g) (instance-same σ τ r g e)))
@@ -228,8 +228,8 @@ module _ (σ τ : Table) where
   extend-same′ (constraint n p) D b = refl
 
 -- One type and no other, for a paragraph over any dictionary.
-pub one-type : (p : Paragraph) (D : Dictionary) → Passes (paragraphItems p D) Any → (σ τ : Table) → Meets (paragraphItems p D) σ → Meets (paragraphItems p D) τ → (m : ℕ) → InParagraph m p → σ (slot m 0) ≡ τ (slot m 0)
+pub one-type : (p : Paragraph) (D : Dictionary) → Passes (paragraphItems p D) Any → (σ τ : Valuation) → Meets (paragraphItems p D) σ → Meets (paragraphItems p D) τ → (m : ℕ) → InParagraph m p → σ (slot m 0) ≡ τ (slot m 0)
 one-type p D h σ τ a b = onePara σ τ p D (agreed (paragraphItems p D) Any σ τ h (tt, a) (tt, b))
 
-pub extend-same : (p : Paragraph) (D : Dictionary) → Passes (paragraphItems p D) Any → (σ τ : Table) → Meets (paragraphItems p D) σ → Meets (paragraphItems p D) τ → extend p D σ ≡ extend p D τ
+pub extend-same : (p : Paragraph) (D : Dictionary) → Passes (paragraphItems p D) Any → (σ τ : Valuation) → Meets (paragraphItems p D) σ → Meets (paragraphItems p D) τ → extend p D σ ≡ extend p D τ
 extend-same p D h σ τ a b = extend-same′ σ τ p D (agreed (paragraphItems p D) Any σ τ h (tt, a) (tt, b))

@@ -7,7 +7,7 @@ use Prim.Native.Nat.{ℕ}
 use native.Mathlib.Omega.{arith}
 use Rattle.types_rules.specs.Types.{Ty, Term, unknown, under, Each}
 use Rattle.types_rules.specs.Component.{componentType}
-use Rattle.checker_rules.specs.Unknowns.{Table}
+use Rattle.checker_rules.specs.Unknowns.{Valuation}
 use Rattle.checker_rules.specs.Items.{Items, skip, _⨾_, fresh, equate, select, small, refusal, piece, Known, Meets, Agree, Any, And, Passes, Refuses}
 use Rattle.checker_rules.specs.Pieces.{Owns}
 use Rattle.checker_rules.specs.PieceEquations.{Solves, Beside, OwnSolution, ByOwnEquations}
@@ -20,15 +20,15 @@ abbrev pub Off : Items → ℕ → Type 0
 Off w x = Owns w x → ⊥
 
 -- σ is σ′ at the own unknowns of the piece w, and τ elsewhere.
-abbrev pub Joined : Items → Table → Table → Table → Type 0
+abbrev pub Joined : Items → Valuation → Valuation → Valuation → Type 0
 Joined w σ σ′ τ = ((x : ℕ) → Owns w x → σ x ≡ σ′ x) × Beside w σ τ
 
-module _ (w : Items) (σ τ : Table) where
+module _ (w : Items) (σ τ : Valuation) where
   choose : (x : ℕ) → Owns w x ⊎ (Owns w x → ⊥) → Ty
   choose x (inl q) = σ x
   choose x (inr n) = τ x
 
-  join : Table
+  join : Valuation
   join x = choose x (owns-decide w x)
 
   chosen-own : (x : ℕ) (d : Owns w x ⊎ (Owns w x → ⊥)) → Owns w x → choose x d ≡ σ x
@@ -46,12 +46,12 @@ module _ (w : Items) (σ τ : Table) where
   joined = (λ x o. chosen-own x (owns-decide w x) o, λ x n. chosen-other x (owns-decide w x) n)
 
 -- The type of t depends on the own unknowns of w and on settled types alone.
-abbrev pub Fixed : Items → (Table → Type 0) → Term → Type 0
-Fixed w P t = (σ σ′ τ : Table) → P σ′ → P τ → Joined w σ σ′ τ → under σ t ≡ under σ′ t
+abbrev pub Fixed : Items → (Valuation → Type 0) → Term → Type 0
+Fixed w P t = (σ σ′ τ : Valuation) → P σ′ → P τ → Joined w σ σ′ τ → under σ t ≡ under σ′ t
 
 -- What is asked beside the own equations of the piece w mentions none of its unknowns: pieces inside it, 36, sizes; its own equations mention its unknowns and
--- settled types. The tables P before a piece do not depend on the piece's unknowns.
-unfoldable pub Separate : Items → Items → (Table → Type 0) → Type 0
+-- settled types. The valuations P before a piece do not depend on the piece's unknowns.
+unfoldable pub Separate : Items → Items → (Valuation → Type 0) → Type 0
 Separate skip w P = Unit {0}
 Separate (a ⨾ b) w P = Separate a w P × (Passes a P → Separate b w (And P a))
 Separate (fresh x) w P = Unit {0}
@@ -59,11 +59,11 @@ Separate (equate f n a b) w P = ((f ≡ 33) × Fixed w P a × Fixed w P b) ⊎ (
 Separate (select n i a x) w P = Fixed w P a × Fixed w P (unknown x)
 Separate (small n a) w P = Each (Off w) a
 Separate (refusal f n) w P = Unit {0}
-Separate (piece n t) w P = Over (Off w) t × ((σ τ : Table) → Beside t σ τ → P τ → P σ) × Separate t t P
+Separate (piece n t) w P = Over (Off w) t × ((σ τ : Valuation) → Beside t σ τ → P τ → P σ) × Separate t t P
 
--- With a typing τ of the items, a table beside it that solves their own equations is a typing of them too; and every typing solves them.
-module _ (w : Items) (σ τ : Table) (e : Beside w σ τ) where
-  own-meets : (t : Items) (P : Table → Type 0) → Separate t w P → Passes t P → Meets t τ → Solves t σ → Meets t σ
+-- With a typing τ of the items, a valuation beside it that solves their own equations is a typing of them too; and every typing solves them.
+module _ (w : Items) (σ τ : Valuation) (e : Beside w σ τ) where
+  own-meets : (t : Items) (P : Valuation → Type 0) → Separate t w P → Passes t P → Meets t τ → Solves t σ → Meets t σ
   unfolding Separate Passes Meets Solves
   own-meets skip P s p h q = tt
   own-meets (a ⨾ b) P s p h q = (own-meets a P (s .0) (p .0) (h .0) (q .0), own-meets b (And P a) (s .1 (p .0)) (p .1) (h .1) (q .1))
@@ -75,7 +75,7 @@ module _ (w : Items) (σ τ : Table) (e : Beside w σ τ) where
   own-meets (refusal f n) P s p h q = h
   own-meets (piece n t) P s p h q = met-too (Off w) σ τ e t (s .0) h
 
-meets-own : (t : Items) (σ : Table) → Meets t σ → Solves t σ
+meets-own : (t : Items) (σ : Valuation) → Meets t σ → Solves t σ
 unfolding Meets Solves
 meets-own skip σ h = tt
 meets-own (a ⨾ b) σ h = (meets-own a σ (h .0), meets-own b σ (h .1))
@@ -87,8 +87,8 @@ meets-own (refusal f n) σ h = tt
 meets-own (piece n t) σ h = tt
 
 -- The own types of one typing, joined with the rest of another, solve the own equations too.
-module _ (w : Items) (σ σ′ τ : Table) (j : Joined w σ σ′ τ) where
-  joined-solves : (t : Items) (P : Table → Type 0) → Separate t w P → Passes t P → And P t σ′ → And P t τ → Solves t σ
+module _ (w : Items) (σ σ′ τ : Valuation) (j : Joined w σ σ′ τ) where
+  joined-solves : (t : Items) (P : Valuation → Type 0) → Separate t w P → Passes t P → And P t σ′ → And P t τ → Solves t σ
   unfolding Separate Passes Meets Solves under
   joined-solves skip P s p g h = tt
   joined-solves (a ⨾ b) P s p g h =
@@ -101,13 +101,13 @@ module _ (w : Items) (σ σ′ τ : Table) (j : Joined w σ σ′ τ) where
   joined-solves (refusal f n) P s p g h = tt
   joined-solves (piece n t) P s p g h = tt
 
--- The tables that meet all that comes before are the solutions of the piece's own equations beside a typing; and any typing will do.
-pub record Alone (w : Items) (P E : Table → Type 0) : Type 0 where
-  pub own : (σ : Table) → P σ → E σ
-  pub all : (σ τ : Table) → P τ → OwnSolution w E τ σ → P σ
-  pub any : (σ σ′ τ : Table) → P σ′ → P τ → Joined w σ σ′ τ → E σ
+-- The valuations that meet all that comes before are the solutions of the piece's own equations beside a typing; and any typing will do.
+pub record Alone (w : Items) (P E : Valuation → Type 0) : Type 0 where
+  pub own : (σ : Valuation) → P σ → E σ
+  pub all : (σ τ : Valuation) → P τ → OwnSolution w E τ σ → P σ
+  pub any : (σ σ′ τ : Valuation) → P σ′ → P τ → Joined w σ σ′ τ → E σ
 
-alone-after : (w t : Items) (P E : Table → Type 0) → Separate t w P → Passes t P → Alone w P E → Alone w (And P t) (λ τ. E τ × Solves t τ)
+alone-after : (w t : Items) (P E : Valuation → Type 0) → Separate t w P → Passes t P → Alone w P E → Alone w (And P t) (λ τ. E τ × Solves t τ)
 alone-after w t P E s p a = record {
   own = λ σ h. (a .own σ (h .0), meets-own t σ (h .1));
   all = λ σ τ h o. (a .all σ τ (h .0) (o .0, o .1 .0), own-meets w σ τ (o .0) t P s p (h .1) (o .1 .1));
@@ -115,11 +115,11 @@ alone-after w t P E s p a = record {
 }
 
 -- before a piece there are none of its equations
-alone-start : (t : Items) (P : Table → Type 0) → ((σ τ : Table) → Beside t σ τ → P τ → P σ) → Alone t P Any
+alone-start : (t : Items) (P : Valuation → Type 0) → ((σ τ : Valuation) → Beside t σ τ → P τ → P σ) → Alone t P Any
 alone-start t P f = record { own = λ σ h. tt; all = λ σ τ h o. f σ τ (o .0) h; any = λ σ σ′ τ g h j. tt }
 
--- tables that are the same at the own unknowns of the items agree on them alike
-agree-map : (t : Items) (σ υ σ′ υ′ : Table) → ((x : ℕ) → Owns t x → σ x ≡ σ′ x) → ((x : ℕ) → Owns t x → υ x ≡ υ′ x) → Agree t σ υ → Agree t σ′ υ′
+-- valuations that are the same at the own unknowns of the items agree on them alike
+agree-map : (t : Items) (σ υ σ′ υ′ : Valuation) → ((x : ℕ) → Owns t x → σ x ≡ σ′ x) → ((x : ℕ) → Owns t x → υ x ≡ υ′ x) → Agree t σ υ → Agree t σ′ υ′
 unfolding Owns Agree
 agree-map skip σ υ σ′ υ′ e f h = tt
 agree-map (a ⨾ b) σ υ σ′ υ′ e f h = (agree-map a σ υ σ′ υ′ (λ x q. e x (inl q)) (λ x q. f x (inl q)) (h .0), agree-map b σ υ σ′ υ′ (λ x q. e x (inr q)) (λ x q. f x (inr q)) (h .1))
@@ -130,7 +130,7 @@ agree-map (small n a) σ υ σ′ υ′ e f h = tt
 agree-map (refusal g n) σ υ σ′ υ′ e f h = tt
 agree-map (piece n t) σ υ σ′ υ′ e f h = tt
 
-module _ (w : Items) (P E : Table → Type 0) (a : Alone w P E) (σ′ τ : Table) (g : P σ′) (h : P τ) where
+module _ (w : Items) (P E : Valuation → Type 0) (a : Alone w P E) (σ′ τ : Valuation) (g : P σ′) (h : P τ) where
   -- a typing's own types beside τ
   own-beside : OwnSolution w E τ (join w σ′ τ)
   own-beside = (joined w σ′ τ .1, a .any (join w σ′ τ) σ′ τ g h (joined w σ′ τ))
@@ -138,7 +138,7 @@ module _ (w : Items) (P E : Table → Type 0) (a : Alone w P E) (σ′ τ : Tabl
   same-type : (t : Term) → Fixed w P t → under (join w σ′ τ) t ≡ under σ′ t
   same-type t f = f (join w σ′ τ) σ′ τ g h (joined w σ′ τ)
 
-pub by-own : (t w : Items) (P E : Table → Type 0) → Separate t w P → Alone w P E → ByOwnEquations t w P E
+pub by-own : (t w : Items) (P E : Valuation → Type 0) → Separate t w P → Alone w P E → ByOwnEquations t w P E
 unfolding Separate ByOwnEquations Refuses
 by-own skip w P E s a = tt
 by-own (x ⨾ y) w P E s a = (by-own x w P E (s .0) a, λ p. by-own y w (And P x) (λ τ. E τ × Solves x τ) (s .1 p) (alone-after w x P E (s .0) p a))
@@ -151,7 +151,7 @@ by-own (equate f n u v) w P E (inl s) a =
 by-own (equate f n u v) w P E (inr s) a = λ i. absurd (let z = s .0 in omega (arith, z, i))
 by-own (select n i u x) w P E s a = λ τ h. (to τ h, λ r. inl (refl, refl, (r .0, a .all (r .0) τ h (r .1), r .2)))
   where
-    to : (τ : Table) → P τ → Refuses (select n i u x) P 35 n → (σ : Table) × OwnSolution w E τ σ × (Known (componentType i (under σ u)) → ⊥)
+    to : (τ : Valuation) → P τ → Refuses (select n i u x) P 35 n → (σ : Valuation) × OwnSolution w E τ σ × (Known (componentType i (under σ u)) → ⊥)
     to τ h (inl r) =
         let σ′ = r .2 .0 in
         let g = r .2 .1 in
@@ -164,8 +164,8 @@ by-own (piece n t) w P E s a = (by-own t t P Any (s .2) start, closing)
     start : Alone t P Any
     start = alone-start t P (s .1)
 
-    closing : Passes t P → (τ : Table) → And P t τ
-        → (((σ υ : Table) × And P t σ × And P t υ × (Agree t σ υ → ⊥)) ↔ ((σ υ : Table) × OwnSolution t (Solves t) τ σ × OwnSolution t (Solves t) τ υ × (Agree t σ υ → ⊥)))
+    closing : Passes t P → (τ : Valuation) → And P t τ
+        → (((σ υ : Valuation) × And P t σ × And P t υ × (Agree t σ υ → ⊥)) ↔ ((σ υ : Valuation) × OwnSolution t (Solves t) τ σ × OwnSolution t (Solves t) τ υ × (Agree t σ υ → ⊥)))
     closing p τ h =
         let b = alone-after t t P Any (s .2) p start in
         let c : Alone t (And P t) (Solves t) = record { own = λ σ k. b .own σ k .1; all = λ σ υ k o. b .all σ υ k (o .0, (tt, o .1)); any = λ σ σ′ υ k l j. b .any σ σ′ υ k l j .1 } in (
@@ -180,7 +180,7 @@ by-own (piece n t) w P E s a = (by-own t t P Any (s .2) start, closing)
         )
 
 -- ---- bare items over other unknowns
-pub bare-separate : (t w : Items) (P : Table → Type 0) → Bare t → Over (Off w) t → Separate t w P
+pub bare-separate : (t w : Items) (P : Valuation → Type 0) → Bare t → Over (Off w) t → Separate t w P
 unfolding Bare Over Separate
 bare-separate skip w P f o = tt
 bare-separate (a ⨾ b) w P f o = (bare-separate a w P (f .0) (o .0), λ p. bare-separate b w (And P a) (f .1) (o .1))
@@ -192,14 +192,14 @@ bare-separate (refusal g n) w P f o = tt
 bare-separate (piece n t) w P f o = absurd f
 
 -- ---- terms whose types are fixed
-pub fixed-own : (w : Items) (P : Table → Type 0) (t : Term) → Each (Owns w) t → Fixed w P t
+pub fixed-own : (w : Items) (P : Valuation → Type 0) (t : Term) → Each (Owns w) t → Fixed w P t
 fixed-own w P t h σ σ′ τ g k j = same-under (Owns w) σ σ′ (j .0) t h
 
-pub fixed-off : (w : Items) (P : Table → Type 0) (t : Term) → Each (Off w) t → ((σ τ : Table) → P σ → P τ → under σ t ≡ under τ t) → Fixed w P t
+pub fixed-off : (w : Items) (P : Valuation → Type 0) (t : Term) → Each (Off w) t → ((σ τ : Valuation) → P σ → P τ → under σ t ≡ under τ t) → Fixed w P t
 fixed-off w P t h s σ σ′ τ g k j = same-under (Off w) σ τ (j .1) t h ∙ s τ σ′ k g
 
 -- ---- the items of an expression's own node: unknowns, equations between fixed types, refusals
-unfoldable pub OwnNode : Items → Items → (Table → Type 0) → Type 0
+unfoldable pub OwnNode : Items → Items → (Valuation → Type 0) → Type 0
 OwnNode skip w P = Unit {0}
 OwnNode (a ⨾ b) w P = OwnNode a w P × OwnNode b w P
 OwnNode (fresh x) w P = Unit {0}
@@ -209,7 +209,7 @@ OwnNode (small n a) w P = ⊥
 OwnNode (refusal f n) w P = Unit {0}
 OwnNode (piece n t) w P = ⊥
 
-pub node-more : (t w : Items) (P Q : Table → Type 0) → ((τ : Table) → Q τ → P τ) → OwnNode t w P → OwnNode t w Q
+pub node-more : (t w : Items) (P Q : Valuation → Type 0) → ((τ : Valuation) → Q τ → P τ) → OwnNode t w P → OwnNode t w Q
 unfolding OwnNode
 node-more skip w P Q e h = tt
 node-more (a ⨾ b) w P Q e h = (node-more a w P Q e (h .0), node-more b w P Q e (h .1))
@@ -220,7 +220,7 @@ node-more (small n a) w P Q e h = h
 node-more (refusal f n) w P Q e h = tt
 node-more (piece n t) w P Q e h = h
 
-pub node-separate : (t w : Items) (P : Table → Type 0) → OwnNode t w P → Separate t w P
+pub node-separate : (t w : Items) (P : Valuation → Type 0) → OwnNode t w P → Separate t w P
 unfolding OwnNode Separate
 node-separate skip w P f = tt
 node-separate (a ⨾ b) w P f = (node-separate a w P (f .0), λ p. node-separate b w (And P a) (node-more b w P (And P a) (λ τ h. h .0) (f .1)))

@@ -13,11 +13,11 @@ use Rattle.words.proofs.Lists.{occurrences-append}
 use Rattle.reader_rules.specs.Tree.{Expr, reference, number, integers, set, tuple, product, power, application, selection, theta, schemaSet, arithmetic}
 use Rattle.reader_rules.specs.Tree.{comprehension, Exprs, none, more, exprNode, exprsLength}
 use Rattle.reader_rules.specs.TreeNumbers.{exprNumbers, exprsNumbers, textNumbers, includeNumbers}
-use Rattle.types_rules.specs.Types.{Term, nil, ℤ, ℙℤ}
+use Rattle.types_rules.specs.Types.{Term, nil, integerType, ℙℤ}
 use Rattle.types_rules.specs.Instance.{instance}
-use Rattle.checker_rules.specs.Unknowns.{Table, slot, unknownAt, row, integer, powerOf, productOf}
+use Rattle.checker_rules.specs.Unknowns.{Valuation, slot, unknownAt, row, integer, powerOf, productOf}
 use Rattle.checker_rules.specs.Items.{Items, _⨾_, refusal, Agree, And, Passes}
-use Rattle.checker_rules.specs.Dictionary.{blank, Named, unnamed, ofLocal, ofGlobal, Found, noSchema, aSchema}
+use Rattle.checker_rules.specs.Dictionary.{blank, Named, unnamed, ofLocal, ofGlobal, NamedSchema, noSchema, aSchema}
 use Rattle.checker_rules.specs.Signatures.{bindingOf, componentsOf, someStroked}
 use Rattle.checker_rules.specs.Scopes.{Scope, nameAt, schemaNamed, includeSignature, includeNode, inside}
 use Rattle.checker_rules.specs.Conditions.{typeOf, typesOf, typed, isPower, arePowers, areMembers, freshRow}
@@ -131,9 +131,9 @@ in-one n x o = (n, first-has n [], o)
 in-last : (a : List ℕ) (n x : ℕ) → OwnSlot n x → SlotIn (a ++ (n ∷ [])) x
 in-last a n x o = in-right a (n ∷ []) x (in-one n x o)
 
--- items on whose own unknowns any two tables agree have none
-pub owns-none : (t : Items) → ((σ τ : Table) → Agree t σ τ) → (x : ℕ) → Owns t x → ⊥
-owns-none t h x q = let e = owned t (λ y. ℤ) (λ y. ℙℤ) (h (λ y. ℤ) (λ y. ℙℤ)) x q in let z : _≡_ {A = ℕ} 0 1 = cc in omega arith
+-- items on whose own unknowns any two valuations agree have none
+pub owns-none : (t : Items) → ((σ τ : Valuation) → Agree t σ τ) → (x : ℕ) → Owns t x → ⊥
+owns-none t h x q = let e = owned t (λ y. integerType) (λ y. ℙℤ) (h (λ y. integerType) (λ y. ℙℤ)) x q in let z : _≡_ {A = ℕ} 0 1 = cc in omega arith
 
 bare-owns : (t : Items) → Bare t → (x : ℕ) → Owns t x → ⊥
 bare-owns t b = owns-none t (λ σ τ. bare-agrees σ τ t b)
@@ -190,7 +190,7 @@ module _ (x : ℕ) where
       go true e (inr z) = typed-owns n (instance (row n 1 p) g) z
       go false e z = absurd z
 
-  theta-owns : (n k : ℕ) (f : Found) (Γ : Scope) → Owns (thetaItems n k f Γ) x → OwnSlot n x
+  theta-owns : (n k : ℕ) (f : NamedSchema) (Γ : Scope) → Owns (thetaItems n k f Γ) x → OwnSlot n x
   unfolding thetaItems Owns
   theta-owns n k noSchema Γ q = absurd q
   theta-owns n k (aSchema p g) Γ (inl q) = absurd (bare-owns _ (thetaNames-bare n k (componentsOf (instance nil g)) Γ) x q)
@@ -246,7 +246,7 @@ module _ (x : ℕ) where
     exprs-own (more a xs) Γ f s (inr q) = in-right (ownNumbers a) (ownsNumbers xs) x (exprs-own xs Γ (f .1) s q)
 
 -- ---- the unknown of an expression's type is its piece's own, where no rule refuses the name
-reference-root : (n : ℕ) (xs : Exprs) (m : Named) (P : Table → Type 0) → Passes (referenceItems n xs m) P → Owns (referenceItems n xs m) (slot n 0)
+reference-root : (n : ℕ) (xs : Exprs) (m : Named) (P : Valuation → Type 0) → Passes (referenceItems n xs m) P → Owns (referenceItems n xs m) (slot n 0)
 unfolding referenceItems Owns Passes
 reference-root n none unnamed P p = absurd p
 reference-root n (more a xs) unnamed P p = absurd p
@@ -259,12 +259,12 @@ reference-root n (more a xs) (ofGlobal q g) P p = go (eqb (exprsLength (more a x
     go true z = inr (inl refl)
     go false z = absurd z
 
-theta-root : (n k : ℕ) (f : Found) (Γ : Scope) (P : Table → Type 0) → Passes (thetaItems n k f Γ) P → Owns (thetaItems n k f Γ) (slot n 0)
+theta-root : (n k : ℕ) (f : NamedSchema) (Γ : Scope) (P : Valuation → Type 0) → Passes (thetaItems n k f Γ) P → Owns (thetaItems n k f Γ) (slot n 0)
 unfolding thetaItems Owns Passes
 theta-root n k noSchema Γ P p = absurd p
 theta-root n k (aSchema q g) Γ P p = inr (inr (inr (inl refl)))
 
-pub root-owned : (a : Expr) (Γ : Scope) (P : Table → Type 0) → Passes (exprItems a Γ) P → Owns (exprItems a Γ) (slot (exprNode a) 0)
+pub root-owned : (a : Expr) (Γ : Scope) (P : Valuation → Type 0) → Passes (exprItems a Γ) P → Owns (exprItems a Γ) (slot (exprNode a) 0)
 unfolding exprItems exprNode Owns Passes
 root-owned (reference n i xs) Γ P p = inr (reference-root n xs (nameAt i Γ) (And P (exprsItems xs Γ)) (p .1))
 root-owned (number n v) Γ P p = inl refl
@@ -285,7 +285,7 @@ unfoldable pub RootsOwned : Items → Exprs → Type 0
 RootsOwned w none = Unit {0}
 RootsOwned w (more a xs) = Owns w (slot (exprNode a) 0) × RootsOwned w xs
 
-pub roots-owned : (xs : Exprs) (Γ : Scope) (P : Table → Type 0) (w : Items) → Passes (exprsItems xs Γ) P → ((x : ℕ) → Owns (exprsItems xs Γ) x → Owns w x) → RootsOwned w xs
+pub roots-owned : (xs : Exprs) (Γ : Scope) (P : Valuation → Type 0) (w : Items) → Passes (exprsItems xs Γ) P → ((x : ℕ) → Owns (exprsItems xs Γ) x → Owns w x) → RootsOwned w xs
 unfolding exprsItems RootsOwned Owns Passes
 roots-owned none Γ P w p f = tt
 roots-owned (more a xs) Γ P w p f = (f (slot (exprNode a) 0) (inl (root-owned a Γ P (p .0))), roots-owned xs Γ (And P (exprItems a Γ)) w (p .1) (λ x q. f x (inr q)))

@@ -13,9 +13,9 @@ use Rattle.types_rules.specs.Types.{node, Tys, Term, nil, under, Each, Eachs}
 use Rattle.types_rules.specs.Instance.{instance}
 use Rattle.types_rules.proofs.Instance.{instance-same}
 use Rattle.checker_rules.specs.Strokes.{decorate, takes}
-use Rattle.checker_rules.specs.Unknowns.{Table, slot, unknownAt, row, powerOf}
+use Rattle.checker_rules.specs.Unknowns.{Valuation, slot, unknownAt, row, powerOf}
 use Rattle.checker_rules.specs.Items.{Items, _⨾_, refusal}
-use Rattle.checker_rules.specs.Dictionary.{nameEntry, schemaEntry, Dictionary, blank, _▸_, Named, unnamed, ofLocal, ofGlobal, nameIn, Found, noSchema, aSchema}
+use Rattle.checker_rules.specs.Dictionary.{nameEntry, schemaEntry, Dictionary, blank, _▸_, Named, unnamed, ofLocal, ofGlobal, nameIn, NamedSchema, noSchema, aSchema}
 use Rattle.checker_rules.specs.Signatures.{Signature, noNames, naming, namesOf, bindingOf, componentsOf, someStroked}
 use Rattle.checker_rules.specs.Scopes.{Scope, globals, local, nameAt, withParameters, enter, inside, textSignature}
 use Rattle.checker_rules.specs.Conditions.{refuseIf, typeOf, typesOf, typed, isPower, arePowers, areMembers, freshRow}
@@ -28,8 +28,8 @@ use Rattle.checker_rules.proofs.RuleUnknowns.{thetaSig-over}
 use Rattle.checker_rules.proofs.PieceOwners.{RootsOwned}
 use Rattle.checker_rules.proofs.PieceEquations.{Off, Fixed, fixed-own, fixed-off, OwnNode}
 
--- ---- a scope whose names have the same types in two tables
-module _ (σ τ : Table) where
+-- ---- a scope whose names have the same types in two valuations
+module _ (σ τ : Valuation) where
   unfoldable pub ScopeSame : Scope → Type 0
   ScopeSame (globals D) = Unit {0}
   ScopeSame (local i t Γ) = (under σ t ≡ under τ t) × ScopeSame Γ
@@ -88,7 +88,7 @@ module _ (σ τ : Table) where
   thetaSig-same k (naming i t s) Γ h = (scoped-same (nameAt (decorate k i) Γ) (name-same (decorate k i) Γ h), thetaSig-same k s Γ h)
 
 -- ---- the own node of each kind, in the piece w
-module _ (w : Items) (P : Table → Type 0) where
+module _ (w : Items) (P : Valuation → Type 0) where
   pub root-fixed : (a : Expr) → Owns w (slot (exprNode a) 0) → Fixed w P (typeOf a)
   root-fixed a h = fixed-own w P (typeOf a) (unfold Each in h)
 
@@ -130,7 +130,7 @@ module _ (w : Items) (P : Table → Type 0) where
   powers-row n none k f = tt
   powers-row n (more a xs) k f = (f (slot n k) (inl (inl refl)), powers-row n xs (suc k) (λ x q. f x (inr q)))
 
-  pub reference-own : (n : ℕ) (xs : Exprs) (m : Named) → RootsOwned w xs → ((x : ℕ) → Owns (referenceItems n xs m) x → Owns w x) → NamedOver (Off w) m → ((σ τ : Table) → P σ → P τ → NamedSame σ τ m)
+  pub reference-own : (n : ℕ) (xs : Exprs) (m : Named) → RootsOwned w xs → ((x : ℕ) → Owns (referenceItems n xs m) x → Owns w x) → NamedOver (Off w) m → ((σ τ : Valuation) → P σ → P τ → NamedSame σ τ m)
       → OwnNode (referenceItems n xs m) w P
   unfolding referenceItems OwnNode Owns NamedOver
   reference-own n none unnamed r f o s = tt
@@ -168,7 +168,7 @@ module _ (w : Items) (P : Table → Type 0) where
   thetaNames-own n k noNames Γ = tt
   thetaNames-own n k (naming i t s) Γ = (thetaName-own (takes k i) n (nameAt (decorate k i) Γ), thetaNames-own n k s Γ)
 
-  pub theta-own : (n k : ℕ) (f : Found) (Γ : Scope) → ((x : ℕ) → Owns (thetaItems n k f Γ) x → Owns w x) → ScopeOver (Off w) Γ → ((σ τ : Table) → P σ → P τ → ScopeSame σ τ Γ) → OwnNode (thetaItems n k f Γ) w P
+  pub theta-own : (n k : ℕ) (f : NamedSchema) (Γ : Scope) → ((x : ℕ) → Owns (thetaItems n k f Γ) x → Owns w x) → ScopeOver (Off w) Γ → ((σ τ : Valuation) → P σ → P τ → ScopeSame σ τ Γ) → OwnNode (thetaItems n k f Γ) w P
   unfolding thetaItems OwnNode Owns
   theta-own n k noSchema Γ h o s = tt
   theta-own n k (aSchema p g) Γ h o s =

@@ -7,12 +7,12 @@ use Prim.Native.Nat.{ℕ}
 use native.Mathlib.Omega.{arith}
 use lib.Dec.{eqb}
 use borrow.Author.Tests.{eqb-true, eqb-false, ne-eqb}
-use Rattle.types_rules.specs.Types.{Ty, ℤ, ℙℤ}
+use Rattle.types_rules.specs.Types.{Ty, integerType, ℙℤ}
 use Rattle.types_rules.specs.Substitution.{update}
 use Rattle.types_rules.proofs.Terms.{update-same, update-other}
 use Rattle.reader_rules.specs.Tree.{Paragraph}
 use Rattle.reader_rules.specs.Decode.{treeOf}
-use Rattle.checker_rules.specs.Unknowns.{Table, slot}
+use Rattle.checker_rules.specs.Unknowns.{Valuation, slot}
 use Rattle.checker_rules.specs.Items.{Items, skip, _⨾_, fresh, equate, select, small, refusal, piece, Meets, Agree, Any, And, Passes}
 use Rattle.checker_rules.specs.Dictionary.{Dictionary, blank}
 use Rattle.checker_rules.specs.Rules.{paragraphItems}
@@ -30,7 +30,7 @@ use Rattle.checker_rules.proofs.CheckRight.{accepted-says}
 use Rattle.checker_rules.proofs.AcceptedTypes.{the-type}
 
 -- ---- every solution of a piece agrees on the piece's own unknowns with the typing τ of the whole
-pub owned : (t : Items) (σ τ : Table) → Agree t σ τ → (x : ℕ) → Owns t x → σ x ≡ τ x
+pub owned : (t : Items) (σ τ : Valuation) → Agree t σ τ → (x : ℕ) → Owns t x → σ x ≡ τ x
 unfolding Agree Owns
 owned skip σ τ h x q = absurd q
 owned (a ⨾ b) σ τ h x (inl q) = owned a σ τ (h .0) x q
@@ -42,7 +42,7 @@ owned (small n a) σ τ h x q = absurd q
 owned (refusal f n) σ τ h x q = absurd q
 owned (piece n t) σ τ h x q = absurd q
 
-each-piece : (t : Items) (P : Table → Type 0) (T : ℕ → Ty → Type 0) (τ : Table) → Passes t P → And P t τ → ((m : ℕ) → T m (τ (slot m 0))) → EachPiece t P T
+each-piece : (t : Items) (P : Valuation → Type 0) (T : ℕ → Ty → Type 0) (τ : Valuation) → Passes t P → And P t τ → ((m : ℕ) → T m (τ (slot m 0))) → EachPiece t P T
 unfolding Passes Meets EachPiece
 each-piece skip P T τ p h f = tt
 each-piece (a ⨾ b) P T τ p h f = (each-piece a P T τ (p .0) (h .0, h .1 .0) f, each-piece b (And P a) T τ (p .1) ((h .0, h .1 .0), h .1 .1) f)
@@ -55,7 +55,7 @@ each-piece (piece n t) P T τ p h f =
     (λ σ w m q. subst (T m) (sym (owned t σ τ (p .1 σ τ w h) (slot m 0) q)) (f m), each-piece t P T τ (p .0) h f)
 
 -- What has passed is settled.
-pub settled : (t : Items) (P : Table → Type 0) → Passes t P → Settled t P
+pub settled : (t : Items) (P : Valuation → Type 0) → Passes t P → Settled t P
 unfolding Passes Meets InPiece
 settled skip P p σ τ g h x q = absurd q
 settled (a ⨾ b) P p σ τ g h x (inl q) = settled a P (p .0) σ τ (g .0, g .1 .0) (h .0, h .1 .0) x q
@@ -68,7 +68,7 @@ settled (refusal f n) P p σ τ g h x q = absurd q
 settled (piece n t) P p σ τ g h x (inl q) = owned t σ τ (p .1 σ τ g h) x q
 settled (piece n t) P p σ τ g h x (inr q) = settled t P (p .0) σ τ g h x q
 
--- ---- every expression node is in a piece: tables that differ at its type alone would agree otherwise
+-- ---- every expression node is in a piece: valuations that differ at its type alone would agree otherwise
 never : ⊥ ⊎ (⊥ → ⊥)
 never = inr (λ z. z)
 
@@ -98,7 +98,7 @@ in-decide (small n a) x = never
 in-decide (refusal f n) x = never
 in-decide (piece n t) x = either _ _ (owns-decide t x) (in-decide t x)
 
-module _ (x : ℕ) (σ τ : Table) (e : (y : ℕ) → (y ≡ x → ⊥) → σ y ≡ τ y) where
+module _ (x : ℕ) (σ τ : Valuation) (e : (y : ℕ) → (y ≡ x → ⊥) → σ y ≡ τ y) where
   unowned : (t : Items) → (Owns t x → ⊥) → Agree t σ τ
   unfolding Owns Agree
   unowned skip w = tt
@@ -110,7 +110,7 @@ module _ (x : ℕ) (σ τ : Table) (e : (y : ℕ) → (y ≡ x → ⊥) → σ y
   unowned (refusal f n) w = tt
   unowned (piece n t) w = tt
 
-  outside : (t : Items) (P : Table → Type 0) → Passes t P → (InPiece t x → ⊥) → Agrees t σ τ
+  outside : (t : Items) (P : Valuation → Type 0) → Passes t P → (InPiece t x → ⊥) → Agrees t σ τ
   unfolding InPiece Agrees Passes
   outside skip P p w = tt
   outside (a ⨾ b) P p w = (outside a P (p .0) (λ z. w (inl z)), outside b (And P a) (p .1) (λ z. w (inr z)))
@@ -124,19 +124,19 @@ module _ (x : ℕ) (σ τ : Table) (e : (y : ℕ) → (y ≡ x → ⊥) → σ y
 in-piece : (p : Paragraph) (D : Dictionary) → Passes (paragraphItems p D) Any → (m : ℕ) → InParagraph m p → InPiece (paragraphItems p D) (slot m 0)
 in-piece p D h m q = go (in-decide (paragraphItems p D) (slot m 0))
   where
-    σ : Table
-    σ = λ y. ℤ
+    σ : Valuation
+    σ = λ y. integerType
 
-    τ : Table
-    τ = update (λ y. ℤ) (slot m 0) ℙℤ
+    τ : Valuation
+    τ = update (λ y. integerType) (slot m 0) ℙℤ
 
     differ : σ (slot m 0) ≡ τ (slot m 0) → ⊥
-    differ e = let r = update-same (λ y. ℤ) (slot m 0) ℙℤ in let z : _≡_ {A = ℕ} 0 1 = cc in omega arith
+    differ e = let r = update-same (λ y. integerType) (slot m 0) ℙℤ in let z : _≡_ {A = ℕ} 0 1 = cc in omega arith
 
     go : InPiece (paragraphItems p D) (slot m 0) ⊎ (InPiece (paragraphItems p D) (slot m 0) → ⊥) → InPiece (paragraphItems p D) (slot m 0)
     go (inl z) = z
     go (inr w) =
-        absurd (differ (onePara σ τ p D (outside (slot m 0) σ τ (λ y n. sym (update-other (λ y. ℤ) (slot m 0) ℙℤ y (ne-eqb y (slot m 0) n))) (paragraphItems p D) Any h w) m q))
+        absurd (differ (onePara σ τ p D (outside (slot m 0) σ τ (λ y n. sym (update-other (λ y. integerType) (slot m 0) ℙℤ y (ne-eqb y (slot m 0) n))) (paragraphItems p D) Any h w) m q))
 
 -- ---- through the document
 piece-types : (ps : List Paragraph) (D : Dictionary) (d : ℕ) (E : Dictionary) (T : ℕ → Ty → Type 0) → Accepts Any ps D d E → ((m : ℕ) (g : Ty) → HasType ps D m g → T m g) → PieceTypes ps D T

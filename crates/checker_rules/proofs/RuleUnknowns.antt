@@ -16,7 +16,7 @@ use Rattle.types_rules.specs.Instance.{instance}
 use Rattle.checker_rules.specs.Strokes.{decorate, takes}
 use Rattle.checker_rules.specs.Unknowns.{unknownAt, row, integer, powerOf, productOf}
 use Rattle.checker_rules.specs.Items.{Items, _⨾_, refusal}
-use Rattle.checker_rules.specs.Dictionary.{Dictionary, blank, Named, unnamed, ofLocal, ofGlobal, nameIn, Found, noSchema, aSchema}
+use Rattle.checker_rules.specs.Dictionary.{Dictionary, blank, Named, unnamed, ofLocal, ofGlobal, nameIn, NamedSchema, noSchema, aSchema}
 use Rattle.checker_rules.specs.Signatures.{Signature, noNames, naming, namesOf, bindingOf, componentsOf, termIn, countNames}
 use Rattle.checker_rules.specs.Signatures.{merge, declare, someStroked, wrongNames}
 use Rattle.checker_rules.specs.Scopes.{Scope, nameAt, schemaNamed, includeSignature, includeNode}
@@ -162,7 +162,7 @@ module _ (N : ℕ → Type 0) where
   thetaSig-over k noNames Γ h = tt
   thetaSig-over k (naming i t s) Γ h = (scoped-over (nameAt (decorate k i) Γ) (name-over N (decorate k i) Γ h), thetaSig-over k s Γ h)
 
-  theta-over : (n k : ℕ) (f : Found) (Γ : Scope) → Own N n → ScopeOver N Γ → Over N (thetaItems n k f Γ)
+  theta-over : (n k : ℕ) (f : NamedSchema) (Γ : Scope) → Own N n → ScopeOver N Γ → Over N (thetaItems n k f Γ)
   unfolding thetaItems Over
   theta-over n k noSchema Γ o h = tt
   theta-over n k (aSchema p g) Γ o h = (
@@ -173,7 +173,7 @@ module _ (N : ℕ → Type 0) where
     ),
   )
 
-  rule-over : (f : Found) (i : Include) (actuals : Items) → Over N actuals → Over N (includeRule f i actuals)
+  rule-over : (f : NamedSchema) (i : Include) (actuals : Items) → Over N actuals → Over N (includeRule f i actuals)
   unfolding includeRule Over
   rule-over noSchema (include n s k xs rs) actuals h = tt
   rule-over (aSchema p g) (include n s k xs rs) actuals h =

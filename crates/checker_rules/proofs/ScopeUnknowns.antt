@@ -12,7 +12,7 @@ use Rattle.types_rules.specs.Former.{Former, int, given as givenFormer, paramet
 use Rattle.types_rules.specs.Types.{Ty, node, Tys, tnil, tcons, Term, unknown, con, Terms, nil, cons, Each, Eachs}
 use Rattle.types_rules.specs.Instance.{nth, actual, instanceFormer, instance, instances}
 use Rattle.checker_rules.specs.Unknowns.{slot, unknownAt, row}
-use Rattle.checker_rules.specs.Dictionary.{nameEntry, schemaEntry, Dictionary, blank, _▸_, Named, unnamed, ofLocal, ofGlobal, nameIn, Found, noSchema, aSchema}
+use Rattle.checker_rules.specs.Dictionary.{nameEntry, schemaEntry, Dictionary, blank, _▸_, Named, unnamed, ofLocal, ofGlobal, nameIn, NamedSchema, noSchema, aSchema}
 use Rattle.checker_rules.specs.Signatures.{Signature, noNames, naming, termsOf, bindingOf, withNames, componentsOf}
 use Rattle.checker_rules.specs.Signatures.{merge, declare}
 use Rattle.checker_rules.specs.Scopes.{Scope, globals, local, nameAt, schemaNamed, withParameters, enter, brought, includeSignature}
@@ -151,7 +151,7 @@ module _ (N : ℕ → Type 0) where
   parameters-over [] k Γ h = h
   parameters-over (i ∷ is) k Γ h = parameters-over is (suc k) _ ((tt, tt), h)
 
-  brought-over : (f : Found) (ts : Terms) (k : ℕ) (rs : List (ℕ × ℕ)) → Eachs N ts → SigOver (brought f ts k rs)
+  brought-over : (f : NamedSchema) (ts : Terms) (k : ℕ) (rs : List (ℕ × ℕ)) → Eachs N ts → SigOver (brought f ts k rs)
   unfolding brought
   brought-over noSchema ts k rs h = tt
   brought-over (aSchema p g) ts k rs h = rename-having (Each N) rs _ (stroke-having (Each N) k _ (components-over (instance ts g) (instance-over ts g h)))

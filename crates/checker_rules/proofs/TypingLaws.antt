@@ -20,9 +20,9 @@ use Rattle.types_rules.specs.Instance.{nth, actual, instanceFormer, instance, i
 use Rattle.types_rules.proofs.Instance.{instance-none}
 use Rattle.types_rules.proofs.Terms.{bool-no}
 use Rattle.checker_rules.specs.Strokes.{decorate, takes}
-use Rattle.checker_rules.specs.Unknowns.{Table, slot, unknownAt, row}
+use Rattle.checker_rules.specs.Unknowns.{Valuation, slot, unknownAt, row}
 use Rattle.checker_rules.specs.Items.{Items, _⨾_, refusal, Meets}
-use Rattle.checker_rules.specs.Dictionary.{Dictionary, blank, Named, unnamed, ofLocal, ofGlobal, nameIn, Found, noSchema, aSchema}
+use Rattle.checker_rules.specs.Dictionary.{Dictionary, blank, Named, unnamed, ofLocal, ofGlobal, nameIn, NamedSchema, noSchema, aSchema}
 use Rattle.checker_rules.specs.Signatures.{Signature, noNames, naming, countNames, namesOf, termsOf, bindingOf, termIn, hasName, merge, declare}
 use Rattle.checker_rules.specs.Signatures.{strokeAll, someStroked, hasOld, wrongOld, wrongNames}
 use Rattle.checker_rules.specs.Scopes.{Scope, globals, nameAt, schemaNamed, withParameters, includeSignature, includeNode, inside, schemaSignature}
@@ -130,7 +130,7 @@ names-law k rs s = (λ e. to (wrong-names k rs s .0 e), λ h. wrong-names k rs s
     from (inr (inr c)) = inr (inr c)
 
 -- ---- a recorded type with types for its parameters
-module _ (τ : Table) where
+module _ (τ : Valuation) where
   nth-put : (ts : Terms) (i j : ℕ) (us : Terms) → under τ (actual (nth ts i) j us) ≡ orParameter (nthType (unders τ ts) i) j (unders τ us)
   unfolding nth actual under nthType orParameter
   nth-put nil i j us = refl
@@ -324,7 +324,7 @@ module _ (τ : Table) where
   theta-names k noNames Γ = refl
   theta-names k (naming i t s) Γ = ap (λ l. i ∷ l) (theta-names k s Γ)
 
-  pub theta-law : (n k : ℕ) (f : Found) (Γ : Scope) → Meets (thetaItems n k f Γ) τ ↔ ThetaTyped τ n k f Γ
+  pub theta-law : (n k : ℕ) (f : NamedSchema) (Γ : Scope) → Meets (thetaItems n k f Γ) τ ↔ ThetaTyped τ n k f Γ
   unfolding thetaItems Meets ThetaTyped under
   theta-law n k noSchema Γ = (λ h. h, λ h. h)
   theta-law n k (aSchema p g) Γ = (
@@ -361,7 +361,7 @@ module _ (τ : Table) where
       shape = unfold bindingOf under in ap (λ l. node (binding l) (unders τ (termsOf (thetaSignature k (schemaOf g) Γ)))) (theta-names k (schemaOf g) Γ)
 
   -- ---- Include
-  pub include-law : (f : Found) (i : Include) (actuals : Items) (A : Type 0) → Meets actuals τ ↔ A → Meets (includeRule f i actuals) τ ↔ SchemaTyped τ f i A
+  pub include-law : (f : NamedSchema) (i : Include) (actuals : Items) (A : Type 0) → Meets actuals τ ↔ A → Meets (includeRule f i actuals) τ ↔ SchemaTyped τ f i A
   unfolding includeRule Meets SchemaTyped
   include-law noSchema (include n s k xs rs) actuals A e = (λ h. h, λ h. h)
   include-law (aSchema p g) (include n s k xs rs) actuals A e = go (eqb (exprsLength xs) p) refl

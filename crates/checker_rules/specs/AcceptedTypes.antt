@@ -8,7 +8,7 @@ use Rattle.reader_rules.specs.Tree.{Paragraph}
 use Rattle.reader_rules.specs.Decode.{treeOf}
 use Rattle.types_rules.specs.Types.{Ty}
 use Rattle.types_rules.specs.Formed.{WellFormed}
-use Rattle.checker_rules.specs.Unknowns.{Table, slot}
+use Rattle.checker_rules.specs.Unknowns.{Valuation, slot}
 use Rattle.checker_rules.specs.Items.{Meets}
 use Rattle.checker_rules.specs.Dictionary.{Dictionary, blank}
 use Rattle.checker_rules.specs.Rules.{paragraphItems}
@@ -19,9 +19,9 @@ use Rattle.checker_rules.specs.Check.{paragraphsOf}
 unfoldable pub HasType : List Paragraph → Dictionary → ℕ → Ty → Type 0
 HasType [] D m g = ⊥
 HasType (p ∷ ps) D m g =
-    ((τ : Table) × Meets (paragraphItems p D) τ)
-    × ((InParagraph m p × ((τ : Table) → Meets (paragraphItems p D) τ → τ (slot m 0) ≡ g))
-    ⊎ ((τ : Table) → Meets (paragraphItems p D) τ → HasType ps (extend p D τ) m g))
+    ((τ : Valuation) × Meets (paragraphItems p D) τ)
+    × ((InParagraph m p × ((τ : Valuation) → Meets (paragraphItems p D) τ → τ (slot m 0) ≡ g))
+    ⊎ ((τ : Valuation) → Meets (paragraphItems p D) τ → HasType ps (extend p D τ) m g))
 
 -- The type g of the expression node m: it has it, it has no other, and it is well formed.
 pub record TheType (doc : List ℕ) (m : ℕ) (g : Ty) : Type 0 where

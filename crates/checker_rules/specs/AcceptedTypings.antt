@@ -8,7 +8,7 @@ use Rattle.reader_rules.specs.Tree.{Paragraph}
 use Rattle.reader_rules.specs.Decode.{treeOf}
 use Rattle.types_rules.specs.Types.{Ty}
 use Rattle.types_rules.specs.Formed.{WellFormed}
-use Rattle.checker_rules.specs.Unknowns.{Table, slot}
+use Rattle.checker_rules.specs.Unknowns.{Valuation, slot}
 use Rattle.checker_rules.specs.Dictionary.{Dictionary, blank}
 use Rattle.checker_rules.specs.Entries.{extend}
 use Rattle.checker_rules.specs.ExpressionNodes.{InParagraph}
@@ -18,9 +18,9 @@ use Rattle.checker_rules.specs.Typing.{TypedParagraph}
 unfoldable pub HasTyping : List Paragraph → Dictionary → ℕ → Ty → Type 0
 HasTyping [] D m g = ⊥
 HasTyping (p ∷ ps) D m g =
-    ((τ : Table) × TypedParagraph τ p D)
-    × ((InParagraph m p × ((τ : Table) → TypedParagraph τ p D → τ (slot m 0) ≡ g))
-    ⊎ ((τ : Table) → TypedParagraph τ p D → HasTyping ps (extend p D τ) m g))
+    ((τ : Valuation) × TypedParagraph τ p D)
+    × ((InParagraph m p × ((τ : Valuation) → TypedParagraph τ p D → τ (slot m 0) ≡ g))
+    ⊎ ((τ : Valuation) → TypedParagraph τ p D → HasTyping ps (extend p D τ) m g))
 
 -- The node's type in all typings, a well-formed one, and that there is no other.
 pub record TypedAs (doc : List ℕ) (m : ℕ) (g : Ty) : Type 0 where

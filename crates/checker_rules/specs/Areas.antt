@@ -9,9 +9,9 @@ use Rattle.checker_rules.specs.Check.{Answer, accepted, refused, checkOf
 use Rattle.checker_rules.specs.declared.Finding.{Finding}
 use Rattle.checker_rules.specs.declared.Finding.the-variants.{Accepted, Refused}
 
-unfoldable pub findingOf : Answer → Finding
-findingOf (accepted D) = Accepted
-findingOf (refused f m) = Refused f m
+unfoldable pub answerFinding : Answer → Finding
+answerFinding (accepted D) = Accepted
+answerFinding (refused f m) = Refused f m
 
 -- a dictionary area of d words
 unfoldable pub dictionaryAfter : Answer → ℕ → List ℕ
@@ -23,7 +23,7 @@ abbrev pub workAfter : ℕ → List ℕ
 workAfter w = replicate w 0
 
 -- The promise of the check call, given a document and areas of d and w words: its result, and the two areas after it.
-pub record Checked (doc : List ℕ) (d w : ℕ) (result : Finding) (dictionary work : List ℕ) : Type 0 where
-  pub finding : result ≡ findingOf (checkOf doc d w)
+pub record CheckCall (doc : List ℕ) (d w : ℕ) (result : Finding) (dictionary work : List ℕ) : Type 0 where
+  pub finding : result ≡ answerFinding (checkOf doc d w)
   pub recorded : dictionary ≡ dictionaryAfter (checkOf doc d w) d
   pub cleared : work ≡ workAfter w

@@ -9,7 +9,7 @@ use Rattle.reader_rules.specs.Decode.{treeOf}
 use Rattle.checker_rules.specs.Dictionary.{Dictionary, blank, dictionaryLength}
 use Rattle.checker_rules.specs.Rules.{paragraphItems}
 use Rattle.checker_rules.specs.Entries.{extend, paragraphNode}
-use Rattle.checker_rules.specs.Solving.{Solved, pass, refuse, solve, tableOf}
+use Rattle.checker_rules.specs.Solving.{Solved, pass, refuse, solve, valuationOf}
 use Rattle.reader_rules.specs.declared.Reading.{Reading}
 use Rattle.reader_rules.specs.declared.Reading.the-variants.{Readable, Refused}
 
@@ -26,7 +26,7 @@ fitting false n D k = refused 22 n
 unfoldable pub settle : Solved → Paragraph → Dictionary → ℕ → (Dictionary → Answer) → Answer
 settle (refuse f m) p D d k = refused f m
 settle (pass vs s) p D d k =
-    fitting (leb (dictionaryLength (extend p D (tableOf s))) d) (paragraphNode p) (extend p D (tableOf s)) k
+    fitting (leb (dictionaryLength (extend p D (valuationOf s))) d) (paragraphNode p) (extend p D (valuationOf s)) k
 
 -- the paragraphs in Document order, 22 after all else in each
 unfoldable pub checkParagraphs : List Paragraph → Dictionary → ℕ → Answer

@@ -57,11 +57,11 @@ nameIn i (D ▸ nameEntry j p g) = cond (eqb i j) (ofGlobal p g) (nameIn i D)
 nameIn i (D ▸ schemaEntry s p g) = nameIn i D
 
 -- What a schema name is: nothing, or a recorded schema with its parameter count and binding.
-pub data Found : Type 0 where
-  noSchema : Found
-  aSchema : ℕ → Ty → Found
+pub data NamedSchema : Type 0 where
+  noSchema : NamedSchema
+  aSchema : ℕ → Ty → NamedSchema
 
-unfoldable pub schemaIn : ℕ → Dictionary → Found
+unfoldable pub schemaIn : ℕ → Dictionary → NamedSchema
 schemaIn s blank = noSchema
 schemaIn s (D ▸ nameEntry j p g) = schemaIn s D
 schemaIn s (D ▸ schemaEntry r p g) = cond (eqb s r) (aSchema p g) (schemaIn s D)

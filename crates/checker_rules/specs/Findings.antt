@@ -10,9 +10,9 @@ use Rattle.words.specs.Loops.{has}
 use Rattle.reader_rules.specs.Tree.{Exprs, Lines, end, declaration, inclusion, Paragraph, exprsLength}
 use Rattle.types_rules.specs.Types.{Ty, Term, under, size}
 use Rattle.checker_rules.specs.Strokes.{decorate, takes}
-use Rattle.checker_rules.specs.Unknowns.{Table, unknownAt}
+use Rattle.checker_rules.specs.Unknowns.{Valuation, unknownAt}
 use Rattle.checker_rules.specs.Items.{Items, skip, _⨾_, fresh, equate, select, small, refusal, piece, Meets, Any, And, Passes, Refuses}
-use Rattle.checker_rules.specs.Dictionary.{Dictionary, Named, unnamed, ofLocal, ofGlobal, Found, noSchema, aSchema}
+use Rattle.checker_rules.specs.Dictionary.{Dictionary, Named, unnamed, ofLocal, ofGlobal, NamedSchema, noSchema, aSchema}
 use Rattle.checker_rules.specs.Signatures.{Signature, noNames, naming, countNames, namesOf, termIn, merge, declare}
 use Rattle.checker_rules.specs.Scopes.{Scope, nameAt, includeSignature, includeNode}
 use Rattle.checker_rules.specs.Conditions.{mergeDeclared, mergeNames, newNames, smallTypes, fewNames, isPower}
@@ -44,29 +44,29 @@ AbsentOrGeneric (ofGlobal (suc p) g) = Unit {0}
 abbrev pub SomeAbsent : ℕ → List ℕ → Scope → Type 0
 SomeAbsent k is Γ = (i : ℕ) × (has i is ≡ true) × (takes k i ≡ true) × AbsentOrGeneric (nameAt (decorate k i) Γ)
 
-unfoldable pub ThetaUnknown : ℕ → Found → Scope → Type 0
+unfoldable pub ThetaUnknown : ℕ → NamedSchema → Scope → Type 0
 ThetaUnknown k noSchema Γ = Unit {0}
 ThetaUnknown k (aSchema p g) Γ = SomeAbsent k (schemaNames g) Γ
 
 -- 32, Theta has 0 actuals; 37, "stroke on a stroked component"
-unfoldable pub HasParameters : Found → Type 0
+unfoldable pub HasParameters : NamedSchema → Type 0
 HasParameters noSchema = ⊥
 HasParameters (aSchema p g) = 0 < p
 
-unfoldable pub ThetaStroked : ℕ → Found → Type 0
+unfoldable pub ThetaStroked : ℕ → NamedSchema → Type 0
 ThetaStroked k noSchema = ⊥
 ThetaStroked k (aSchema p g) = Stroked k (schemaNames g)
 
 -- 32, Include: "not the count"; 37: "stroke on a stroked component; bad rename"
-unfoldable pub Counted : Found → Exprs → Type 0
+unfoldable pub Counted : NamedSchema → Exprs → Type 0
 Counted noSchema xs = ⊥
 Counted (aSchema p g) xs = exprsLength xs ≡ p
 
-unfoldable pub WrongCount : Found → Exprs → Type 0
+unfoldable pub WrongCount : NamedSchema → Exprs → Type 0
 WrongCount noSchema xs = ⊥
 WrongCount (aSchema p g) xs = exprsLength xs ≡ p → ⊥
 
-unfoldable pub IncludeNames : Found → ℕ → List (ℕ × ℕ) → Type 0
+unfoldable pub IncludeNames : NamedSchema → ℕ → List (ℕ × ℕ) → Type 0
 IncludeNames noSchema k rs = ⊥
 IncludeNames (aSchema p g) k rs = BadNames k rs (schemaOf g)
 
@@ -74,7 +74,7 @@ IncludeNames (aSchema p g) k rs = BadNames k rs (schemaOf g)
 abbrev pub GlobalTwice : List ℕ → Dictionary → Type 0
 GlobalTwice is G = (i : ℕ) × (has i is ≡ true) × (isGlobal i G ≡ true)
 
-module _ (τ : Table) where
+module _ (τ : Valuation) where
   -- 36: "merging identifiers with different types": identifiers of type g, or those of s, with r
   abbrev pub Clash : Ty → List ℕ → Signature → Type 0
   Clash g is r = (i : ℕ) × (has i is ≡ true) × (u : Term) × (termIn i r ≡ some u) × (g ≡ under τ u → ⊥)
@@ -90,27 +90,27 @@ module _ (τ : Table) where
 
 -- The findings of a Text's lines, one after the other: those of a Decl's piece or of an Include; then, by the types that any typing τ so far gives (they are
 -- settled), 36, 38, and those of the lines after it. r: what the lines before declare.
-unfoldable pub LinesFind : Lines → Scope → Dictionary → Signature → (Table → Type 0) → ℕ → ℕ → Type 0
+unfoldable pub LinesFind : Lines → Scope → Dictionary → Signature → (Valuation → Type 0) → ℕ → ℕ → Type 0
 LinesFind end Γ G r P h j = ⊥
 LinesFind (declaration n a is ls) Γ G r P h j =
     Refuses (piece n (exprItems a Γ ⨾ isPower n 0 a)) P h j
     ⊎ (Passes (piece n (exprItems a Γ ⨾ isPower n 0 a)) P
-    × ((τ : Table) × And P (piece n (exprItems a Γ ⨾ isPower n 0 a)) τ
+    × ((τ : Valuation) × And P (piece n (exprItems a Γ ⨾ isPower n 0 a)) τ
     × Or 36 n (Clash τ (typeAt τ n) is r ⊎ GlobalTwice is G) h j (Or 38 n ((32 < size (typeAt τ n)) ⊎ (16 < countNames (declare is (unknownAt n 0) r))) h j
     (LinesFind ls Γ G (declare is (unknownAt n 0) r)
     (And (And (And P (piece n (exprItems a Γ ⨾ isPower n 0 a))) (mergeDeclared n is (unknownAt n 0) r ⨾ newNames n is G)) (small n (unknownAt n 0) ⨾ fewNames n (declare is (unknownAt n 0) r))) h j))))
 LinesFind (inclusion i ls) Γ G r P h j =
     Refuses (includeItems i Γ) P h j
     ⊎ (Passes (includeItems i Γ) P
-    × ((τ : Table) × And P (includeItems i Γ) τ
+    × ((τ : Valuation) × And P (includeItems i Γ) τ
     × Or 36 (includeNode i) (Clashes τ (includeSignature i Γ) r ⊎ GlobalTwice (namesOf (includeSignature i Γ)) G) h j
     (Or 38 (includeNode i) (TooBig τ (includeSignature i Γ) ⊎ (16 < countNames (merge (includeSignature i Γ) r))) h j
     (LinesFind ls Γ G (merge (includeSignature i Γ) r)
     (And (And (And P (includeItems i Γ)) (mergeNames (includeNode i) (includeSignature i Γ) r ⨾ newNames (includeNode i) (namesOf (includeSignature i Γ)) G))
     (smallTypes (includeNode i) (includeSignature i Γ) ⨾ fewNames (includeNode i) (merge (includeSignature i Γ) r))) h j))))
 
--- 33 never comes at a Select: at none of the items' Selects that is reached, where P are the tables that meet the items before.
-unfoldable pub NoSelect33 : Items → (Table → Type 0) → Type 0
+-- 33 never comes at a Select: at none of the items' Selects that is reached, where P are the valuations that meet the items before.
+unfoldable pub NoSelect33 : Items → (Valuation → Type 0) → Type 0
 NoSelect33 skip P = Unit {0}
 NoSelect33 (a ⨾ b) P = NoSelect33 a P × (Passes a P → NoSelect33 b (And P a))
 NoSelect33 (fresh x) P = Unit {0}
@@ -123,4 +123,4 @@ NoSelect33 (piece n t) P = NoSelect33 t P
 -- through paragraphs, over the dictionary so far, with any typing of each
 unfoldable pub NeverAtSelect : List Paragraph → Dictionary → Type 0
 NeverAtSelect [] D = Unit {0}
-NeverAtSelect (p ∷ ps) D = NoSelect33 (paragraphItems p D) Any × ((τ : Table) → Meets (paragraphItems p D) τ → NeverAtSelect ps (extend p D τ))
+NeverAtSelect (p ∷ ps) D = NoSelect33 (paragraphItems p D) Any × ((τ : Valuation) → Meets (paragraphItems p D) τ → NeverAtSelect ps (extend p D τ))

@@ -7,7 +7,7 @@ use mathlib.Core.Logic.{_⊎_}
 use Prim.Native.Nat.{ℕ}
 use Rattle.words.specs.Loops.{has}
 use Rattle.reader_rules.specs.Tree.{Text, text, Lines, end, declaration, inclusion, Paragraph, given, axiomatic, schema, abbreviation, constraint}
-use Rattle.checker_rules.specs.Unknowns.{Table}
+use Rattle.checker_rules.specs.Unknowns.{Valuation}
 use Rattle.checker_rules.specs.Dictionary.{Dictionary, Named, unnamed, ofLocal, ofGlobal, nameIn}
 use Rattle.checker_rules.specs.Signatures.{namesOf}
 use Rattle.checker_rules.specs.Scopes.{Scope, globals, includeSignature, includeNode}
@@ -38,7 +38,7 @@ Declares (constraint n p) D m i w = ⊥
 
 -- Paragraphs, each with a typing; the dictionary after them; that one of them makes i global.
 abbrev pub History : Type 0
-History = List (Paragraph × Table)
+History = List (Paragraph × Valuation)
 
 unfoldable pub paragraphsIn : History → List Paragraph
 paragraphsIn [] = []

@@ -7,7 +7,7 @@ use mathlib.Core.Logic.{_⊎_}
 use Prim.Native.Nat.{ℕ, _≤_, _<_}
 use Rattle.types_rules.specs.Types.{Ty, Term, under, size}
 use Rattle.types_rules.specs.Component.{componentType}
-use Rattle.checker_rules.specs.Unknowns.{Table}
+use Rattle.checker_rules.specs.Unknowns.{Valuation}
 
 infixr 15 _⨾_
 pub data Items : Type 0 where
@@ -31,8 +31,8 @@ unfoldable pub Known : Option Ty → Type 0
 Known (some g) = Unit {0}
 Known nothing = ⊥
 
--- The table meets the items.
-unfoldable pub Meets : Items → Table → Type 0
+-- The valuation meets the items.
+unfoldable pub Meets : Items → Valuation → Type 0
 Meets skip τ = Unit {0}
 Meets (a ⨾ b) τ = Meets a τ × Meets b τ
 Meets (fresh x) τ = Unit {0}
@@ -42,8 +42,8 @@ Meets (small n a) τ = size (under τ a) ≤ 32
 Meets (refusal f n) τ = ⊥
 Meets (piece n t) τ = Meets t τ
 
--- Two tables agree on a piece's own unknowns; pieces inside it have theirs (R15).
-unfoldable pub Agree : Items → Table → Table → Type 0
+-- Two valuations agree on a piece's own unknowns; pieces inside it have theirs (R15).
+unfoldable pub Agree : Items → Valuation → Valuation → Type 0
 Agree skip σ τ = Unit {0}
 Agree (a ⨾ b) σ τ = Agree a σ τ × Agree b σ τ
 Agree (fresh x) σ τ = σ x ≡ τ x
@@ -53,36 +53,36 @@ Agree (small n a) σ τ = Unit {0}
 Agree (refusal f n) σ τ = Unit {0}
 Agree (piece n t) σ τ = Unit {0}
 
-abbrev pub Any : Table → Type 0
+abbrev pub Any : Valuation → Type 0
 Any τ = Unit {0}
 
-abbrev pub And : (Table → Type 0) → Items → Table → Type 0
+abbrev pub And : (Valuation → Type 0) → Items → Valuation → Type 0
 And P t τ = P τ × Meets t τ
 
--- The items pass, where P are the tables that meet the items before them.
-unfoldable pub Passes : Items → (Table → Type 0) → Type 0
+-- The items pass, where P are the valuations that meet the items before them.
+unfoldable pub Passes : Items → (Valuation → Type 0) → Type 0
 Passes skip P = Unit {0}
 Passes (a ⨾ b) P = Passes a P × Passes b (And P a)
 Passes (fresh x) P = Unit {0}
-Passes (equate f n a b) P = (τ : Table) × P τ × (under τ a ≡ under τ b)
+Passes (equate f n a b) P = (τ : Valuation) × P τ × (under τ a ≡ under τ b)
 Passes (select n i a x) P =
-    ((τ : Table) → P τ → Known (componentType i (under τ a))) × ((τ : Table) × P τ × (componentType i (under τ a) ≡ some (τ x)))
-Passes (small n a) P = (τ : Table) → P τ → size (under τ a) ≤ 32
+    ((τ : Valuation) → P τ → Known (componentType i (under τ a))) × ((τ : Valuation) × P τ × (componentType i (under τ a) ≡ some (τ x)))
+Passes (small n a) P = (τ : Valuation) → P τ → size (under τ a) ≤ 32
 Passes (refusal f n) P = ⊥
-Passes (piece n t) P = Passes t P × ((σ τ : Table) → And P t σ → And P t τ → Agree t σ τ)
+Passes (piece n t) P = Passes t P × ((σ τ : Valuation) → And P t σ → And P t τ → Agree t σ τ)
 
 -- The first item that does not pass gives the finding f at the node m. (33 at a Select never comes in a document, where its unknown is new: proofs/SelectFindings.)
-unfoldable pub Refuses : Items → (Table → Type 0) → ℕ → ℕ → Type 0
+unfoldable pub Refuses : Items → (Valuation → Type 0) → ℕ → ℕ → Type 0
 Refuses skip P f m = ⊥
 Refuses (a ⨾ b) P f m = Refuses a P f m ⊎ (Passes a P × Refuses b (And P a) f m)
 Refuses (fresh x) P f m = ⊥
-Refuses (equate g n a b) P f m = (f ≡ g) × (m ≡ n) × ((τ : Table) → P τ → under τ a ≡ under τ b → ⊥)
+Refuses (equate g n a b) P f m = (f ≡ g) × (m ≡ n) × ((τ : Valuation) → P τ → under τ a ≡ under τ b → ⊥)
 Refuses (select n i a x) P f m =
-    ((f ≡ 35) × (m ≡ n) × ((τ : Table) × P τ × (Known (componentType i (under τ a)) → ⊥)))
-    ⊎ ((f ≡ 33) × (m ≡ n) × ((τ : Table) → P τ → Known (componentType i (under τ a)))
-    × ((τ : Table) → P τ → componentType i (under τ a) ≡ some (τ x) → ⊥))
-Refuses (small n a) P f m = (f ≡ 38) × (m ≡ n) × ((τ : Table) × P τ × (32 < size (under τ a)))
+    ((f ≡ 35) × (m ≡ n) × ((τ : Valuation) × P τ × (Known (componentType i (under τ a)) → ⊥)))
+    ⊎ ((f ≡ 33) × (m ≡ n) × ((τ : Valuation) → P τ → Known (componentType i (under τ a)))
+    × ((τ : Valuation) → P τ → componentType i (under τ a) ≡ some (τ x) → ⊥))
+Refuses (small n a) P f m = (f ≡ 38) × (m ≡ n) × ((τ : Valuation) × P τ × (32 < size (under τ a)))
 Refuses (refusal g n) P f m = (f ≡ g) × (m ≡ n)
 Refuses (piece n t) P f m =
     Refuses t P f m
-    ⊎ (Passes t P × (f ≡ 34) × (m ≡ n) × ((σ τ : Table) × And P t σ × And P t τ × (Agree t σ τ → ⊥)))
+    ⊎ (Passes t P × (f ≡ 34) × (m ≡ n) × ((σ τ : Valuation) × And P t σ × And P t τ × (Agree t σ τ → ⊥)))

@@ -1,4 +1,4 @@
--- "A node's accepted type is that in its piece's one solution": the pieces of a paragraph, the expression nodes of each, and their types in every table that
+-- "A node's accepted type is that in its piece's one solution": the pieces of a paragraph, the expression nodes of each, and their types in every valuation that
 -- meets the piece after what comes before it.
 use mathlib.Core.Path.{_≡_}
 use mathlib.Core.List.{List, [], _∷_}
@@ -6,7 +6,7 @@ use mathlib.Core.Logic.{_⊎_}
 use Prim.Native.Nat.{ℕ}
 use Rattle.reader_rules.specs.Tree.{Paragraph}
 use Rattle.types_rules.specs.Types.{Ty}
-use Rattle.checker_rules.specs.Unknowns.{Table, slot}
+use Rattle.checker_rules.specs.Unknowns.{Valuation, slot}
 use Rattle.checker_rules.specs.Items.{Items, skip, _⨾_, fresh, equate, select, small, refusal, piece, Meets, Any, And}
 use Rattle.checker_rules.specs.Dictionary.{Dictionary}
 use Rattle.checker_rules.specs.Rules.{paragraphItems}
@@ -35,8 +35,8 @@ InPiece (small n a) x = ⊥
 InPiece (refusal f n) x = ⊥
 InPiece (piece n t) x = Owns t x ⊎ InPiece t x
 
--- P are the tables that meet the items before. T m g of the node m whose type is an unknown of a piece, with its type g in any solution of the piece.
-unfoldable pub EachPiece : Items → (Table → Type 0) → (ℕ → Ty → Type 0) → Type 0
+-- P are the valuations that meet the items before. T m g of the node m whose type is an unknown of a piece, with its type g in any solution of the piece.
+unfoldable pub EachPiece : Items → (Valuation → Type 0) → (ℕ → Ty → Type 0) → Type 0
 EachPiece skip P T = Unit {0}
 EachPiece (a ⨾ b) P T = EachPiece a P T × EachPiece b (And P a) T
 EachPiece (fresh x) P T = Unit {0}
@@ -44,7 +44,7 @@ EachPiece (equate f n a b) P T = Unit {0}
 EachPiece (select n i a x) P T = Unit {0}
 EachPiece (small n a) P T = Unit {0}
 EachPiece (refusal f n) P T = Unit {0}
-EachPiece (piece n t) P T = ((σ : Table) → And P t σ → (m : ℕ) → Owns t (slot m 0) → T m (σ (slot m 0))) × EachPiece t P T
+EachPiece (piece n t) P T = ((σ : Valuation) → And P t σ → (m : ℕ) → Owns t (slot m 0) → T m (σ (slot m 0))) × EachPiece t P T
 
 -- In each paragraph every expression node is of a piece, and T m g of each node m of a piece and its type g; so through the document.
 unfoldable pub PieceTypes : List Paragraph → Dictionary → (ℕ → Ty → Type 0) → Type 0
@@ -52,4 +52,4 @@ PieceTypes [] D T = Unit {0}
 PieceTypes (p ∷ ps) D T =
     ((m : ℕ) → InParagraph m p → InPiece (paragraphItems p D) (slot m 0))
     × EachPiece (paragraphItems p D) Any (λ m g. InParagraph m p → T m g)
-    × ((τ : Table) → Meets (paragraphItems p D) τ → PieceTypes ps (extend p D τ) T)
+    × ((τ : Valuation) → Meets (paragraphItems p D) τ → PieceTypes ps (extend p D τ) T)

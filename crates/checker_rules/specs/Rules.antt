@@ -13,7 +13,7 @@ use Rattle.types_rules.specs.Instance.{instance}
 use Rattle.checker_rules.specs.Strokes.{decorate, takes}
 use Rattle.checker_rules.specs.Unknowns.{slot, unknownAt, row, integer, powerOf, productOf, pairOf}
 use Rattle.checker_rules.specs.Items.{Items, skip, _⨾_, fresh, equate, select, small, refusal, piece}
-use Rattle.checker_rules.specs.Dictionary.{Dictionary, blank, Named, unnamed, ofLocal, ofGlobal, Found, noSchema, aSchema}
+use Rattle.checker_rules.specs.Dictionary.{Dictionary, blank, Named, unnamed, ofLocal, ofGlobal, NamedSchema, noSchema, aSchema}
 use Rattle.checker_rules.specs.Signatures.{Signature, noNames, naming, namesOf, bindingOf, componentsOf, merge, declare, someStroked, wrongNames}
 use Rattle.checker_rules.specs.Scopes.{Scope, globals, nameAt, schemaNamed, withParameters, includeSignature, includeNode, inside, schemaSignature}
 use Rattle.checker_rules.specs.Conditions.{refuseIf, mergeDeclared, mergeNames, newNames, smallTypes, fewNames, typeOf, typesOf, typed, isPower}
@@ -54,7 +54,7 @@ thetaSignature k noNames Γ = noNames
 thetaSignature k (naming i t s) Γ = naming i (typeInScope (nameAt (decorate k i) Γ)) (thetaSignature k s Γ)
 
 -- 31, 32, 37 strictly by number (R10); a Theta has 0 actuals.
-unfoldable pub thetaItems : ℕ → ℕ → Found → Scope → Items
+unfoldable pub thetaItems : ℕ → ℕ → NamedSchema → Scope → Items
 thetaItems n k noSchema Γ = refusal 31 n
 thetaItems n k (aSchema p g) Γ =
     thetaNames n k (componentsOf (instance nil g)) Γ
@@ -63,7 +63,7 @@ thetaItems n k (aSchema p g) Γ =
     ⨾ typed n (bindingOf (thetaSignature k (componentsOf (instance nil g)) Γ))
 
 -- Include looks up the name (31), compares the count (32), visits and closes each actual in turn, then looks at strokes and renames (37; R10, R11).
-unfoldable pub includeRule : Found → Include → Items → Items
+unfoldable pub includeRule : NamedSchema → Include → Items → Items
 includeRule noSchema (include n s k xs rs) actuals = refusal 31 n
 includeRule (aSchema p g) (include n s k xs rs) actuals =
     cond (eqb (exprsLength xs) p) (actuals ⨾ refuseIf (wrongNames k rs (componentsOf (instance nil g))) 37 n) (refusal 32 n)

@@ -7,7 +7,7 @@ use Rattle.reader_rules.specs.Tree.{Text, text, Lines, end, declaration, inclus
 use Rattle.types_rules.specs.Types.{Term, Terms}
 use Rattle.types_rules.specs.Instance.{instance}
 use Rattle.checker_rules.specs.Unknowns.{unknownAt, row, powerOf, parameterOf}
-use Rattle.checker_rules.specs.Dictionary.{Dictionary, Named, ofLocal, nameIn, Found, noSchema, aSchema, schemaIn}
+use Rattle.checker_rules.specs.Dictionary.{Dictionary, Named, ofLocal, nameIn, NamedSchema, noSchema, aSchema, schemaIn}
 use Rattle.checker_rules.specs.Signatures.{Signature, noNames, naming, componentsOf, merge, declare, strokeAll, renameAll}
 
 -- The identifiers of the Texts around, innermost first, then the parameters, then the earlier paragraphs.
@@ -20,7 +20,7 @@ nameAt i (globals D) = nameIn i D
 nameAt i (local j t Γ) = cond (eqb i j) (ofLocal t) (nameAt i Γ)
 
 -- schema names are found in earlier paragraphs alone
-unfoldable pub schemaNamed : ℕ → Scope → Found
+unfoldable pub schemaNamed : ℕ → Scope → NamedSchema
 schemaNamed s (globals D) = schemaIn s D
 schemaNamed s (local j t Γ) = schemaNamed s Γ
 
@@ -35,7 +35,7 @@ enter (naming i t s) Γ = enter s (local i t Γ)
 
 -- Include: the schema's signature with the stroke on each identifier, all pairs renamed at once, the actuals' element types for the parameters. The
 -- element type of the k-th actual is unknown k of the Include.
-unfoldable pub brought : Found → Terms → ℕ → List (ℕ × ℕ) → Signature
+unfoldable pub brought : NamedSchema → Terms → ℕ → List (ℕ × ℕ) → Signature
 brought noSchema actuals k rs = noNames
 brought (aSchema p g) actuals k rs = renameAll rs (strokeAll k (componentsOf (instance actuals g)))
 

@@ -6,11 +6,11 @@ use mathlib.Core.Option.{Option, some, none as nothing}
 use Prim.Native.Nat.{ℕ}
 use lib.Dec.{leb}
 use Rattle.types_rules.specs.Former.{and}
-use Rattle.types_rules.specs.Types.{Term, unknown, con, Terms, nil, cons, termSize, ℤ}
+use Rattle.types_rules.specs.Types.{Term, unknown, con, Terms, nil, cons, termSize, integerType}
 use Rattle.types_rules.specs.Substitution.{Substitution, empty, resolve, member, ground, sol}
 use Rattle.types_rules.specs.Unify.{Outcome, ok, clash, cycle, stuck, unify}
 use Rattle.types_rules.specs.Component.{component}
-use Rattle.checker_rules.specs.Unknowns.{Table}
+use Rattle.checker_rules.specs.Unknowns.{Valuation}
 use Rattle.checker_rules.specs.Items.{Items, skip, _⨾_, fresh, equate, select, small, refusal, piece}
 
 pub data Solved : Type 0 where
@@ -87,6 +87,6 @@ unknowns (piece n t) l = unknowns t l
 unfoldable pub solve : Items → Solved
 solve t = solveFrom t (unknowns t []) empty
 
--- A table that the substitution allows. Where all pieces are closed, every other one agrees with it on the unknowns of the pieces.
-unfoldable pub tableOf : Substitution → Table
-tableOf s = sol (λ y. ℤ) s
+-- A valuation that the substitution allows. Where all pieces are closed, every other one agrees with it on the unknowns of the pieces.
+unfoldable pub valuationOf : Substitution → Valuation
+valuationOf s = sol (λ y. integerType) s

@@ -1,4 +1,4 @@
--- What a typing is, kind by kind and in types, as document 01's "Typing rules" word it: no items, no order of visiting, no finding numbers. A table is
+-- What a typing is, kind by kind and in types, as document 01's "Typing rules" word it: no items, no order of visiting, no finding numbers. A valuation is
 -- a typing of a paragraph exactly where it meets the paragraph's items (specs/RuleTypings), so that the rules ask neither less than this nor more.
 use mathlib.Core.Path.{_≡_}
 use mathlib.Core.Bool.{true, false}
@@ -13,12 +13,12 @@ use Rattle.reader_rules.specs.Tree.{comprehension, Exprs, none, more, Pred, tru
 use Rattle.reader_rules.specs.Tree.{end, declaration, inclusion, Include, include, Schema, plain, from, both, Paragraph, given, axiomatic, schema}
 use Rattle.reader_rules.specs.Tree.{abbreviation, constraint, exprNode, exprsLength}
 use Rattle.types_rules.specs.Former.{Former, int, given as givenFormer, parameter, power as powerFormer, product as productFormer, binding}
-use Rattle.types_rules.specs.Types.{Ty, node, Tys, tnil, tcons, Term, nil, under, unders, size, ℤ}
+use Rattle.types_rules.specs.Types.{Ty, node, Tys, tnil, tcons, Term, nil, under, unders, size, integerType}
 use Rattle.types_rules.specs.Instance.{instance}
 use Rattle.types_rules.specs.Component.{componentType}
 use Rattle.checker_rules.specs.Strokes.{decorate, takes}
-use Rattle.checker_rules.specs.Unknowns.{Table, slot, unknownAt}
-use Rattle.checker_rules.specs.Dictionary.{Dictionary, blank, Named, unnamed, ofLocal, ofGlobal, Found, noSchema, aSchema}
+use Rattle.checker_rules.specs.Unknowns.{Valuation, slot, unknownAt}
+use Rattle.checker_rules.specs.Dictionary.{Dictionary, blank, Named, unnamed, ofLocal, ofGlobal, NamedSchema, noSchema, aSchema}
 use Rattle.checker_rules.specs.Signatures.{Signature, noNames, naming, countNames, namesOf, termsOf, componentsOf, termIn, merge, declare, strokeAll, renamed}
 use Rattle.checker_rules.specs.Scopes.{Scope, globals, nameAt, schemaNamed, withParameters, includeSignature, inside, schemaSignature}
 use Rattle.checker_rules.specs.Globals.{isGlobal}
@@ -91,7 +91,7 @@ BadNames k rs s = Stroked k (namesOf s) ⊎ (BadOld rs (namesOf (strokeAll k s))
 abbrev pub NewNames : List ℕ → Dictionary → Type 0
 NewNames is G = (i : ℕ) → has i is ≡ true → isGlobal i G ≡ false
 
-module _ (τ : Table) where
+module _ (τ : Valuation) where
   -- the type of node n, and of an expression; the type of its unknown k
   abbrev pub typeAt : ℕ → Ty
   typeAt n = τ (slot n 0)
@@ -142,14 +142,14 @@ module _ (τ : Table) where
 
   -- "Theta has type binding of the undecorated components, with the types that the decorated identifiers have in scope." Its schema has no parameters, and
   -- each component takes the stroke.
-  unfoldable pub ThetaTyped : ℕ → ℕ → Found → Scope → Type 0
+  unfoldable pub ThetaTyped : ℕ → ℕ → NamedSchema → Scope → Type 0
   ThetaTyped n k noSchema Γ = ⊥
   ThetaTyped n k (aSchema p g) Γ =
       (p ≡ 0) × (Stroked k (schemaNames g) → ⊥)
       × ((hs : Tys) × HaveInScope k (schemaNames g) Γ hs × (typeAt n ≡ node (binding (schemaNames g)) hs))
 
   -- An Include's schema is known, has as many parameters as there are actuals, and the names are right; A: its actuals are typed.
-  unfoldable pub SchemaTyped : Found → Include → Type 0 → Type 0
+  unfoldable pub SchemaTyped : NamedSchema → Include → Type 0 → Type 0
   SchemaTyped noSchema (include n s k xs rs) A = ⊥
   SchemaTyped (aSchema p g) (include n s k xs rs) A = (exprsLength xs ≡ p) × A × (BadNames k rs (schemaOf g) → ⊥)
 
@@ -173,8 +173,8 @@ module _ (τ : Table) where
   unfoldable mutual
     pub TypedExpr : Expr → Scope → Type 0
     TypedExpr (reference n i xs) Γ = TypedExprs xs Γ × NameTyped n xs (nameAt i Γ)
-    TypedExpr (number n v) Γ = typeAt n ≡ ℤ
-    TypedExpr (integers n) Γ = typeAt n ≡ ℙ ℤ
+    TypedExpr (number n v) Γ = typeAt n ≡ integerType
+    TypedExpr (integers n) Γ = typeAt n ≡ ℙ integerType
     -- "members of a Set have its element type", unknown 1; "a Set the power of its element type"
     TypedExpr (set n xs) Γ = TypedExprs xs Γ × AllOf (τ (slot n 1)) xs × (typeAt n ≡ ℙ (τ (slot n 1)))
     TypedExpr (tuple n xs) Γ = TypedExprs xs Γ × (typeAt n ≡ node productFormer (typesIn xs))
@@ -189,7 +189,7 @@ module _ (τ : Table) where
     TypedExpr (theta n s k) Γ = ThetaTyped n k (schemaNamed s Γ) Γ
     -- "SchemaSet has type power of the binding"
     TypedExpr (schemaSet n i) Γ = TypedInclude i Γ × SmallTypes (includeSignature i Γ) × (typeAt n ≡ ℙ (bindingIn (includeSignature i Γ)))
-    TypedExpr (arithmetic n o a b) Γ = TypedExpr a Γ × TypedExpr b Γ × (typeIn a ≡ ℤ) × (typeIn b ≡ ℤ) × (typeAt n ≡ ℤ)
+    TypedExpr (arithmetic n o a b) Γ = TypedExpr a Γ × TypedExpr b Γ × (typeIn a ≡ integerType) × (typeIn b ≡ integerType) × (typeAt n ≡ integerType)
     -- "power of the body's type", the body in the Text's scope
     TypedExpr (comprehension n t a) Γ = TypedText t Γ blank × TypedExpr a (inside t Γ) × (typeAt n ≡ ℙ (typeIn a))
 
@@ -202,7 +202,7 @@ module _ (τ : Table) where
     TypedPred (truth n) Γ = Unit {0}
     TypedPred (equal n a b) Γ = TypedExpr a Γ × TypedExpr b Γ × (typeIn a ≡ typeIn b)
     TypedPred (member n a b) Γ = TypedExpr a Γ × TypedExpr b Γ × (ℙ (typeIn a) ≡ typeIn b)
-    TypedPred (atMost n a b) Γ = TypedExpr a Γ × TypedExpr b Γ × (typeIn a ≡ ℤ) × (typeIn b ≡ ℤ)
+    TypedPred (atMost n a b) Γ = TypedExpr a Γ × TypedExpr b Γ × (typeIn a ≡ integerType) × (typeIn b ≡ integerType)
     TypedPred (not n p) Γ = TypedPred p Γ
     TypedPred (connected n o p q) Γ = TypedPred p Γ × TypedPred q Γ
     TypedPred (quantified n o t p) Γ = TypedText t Γ blank × TypedPred p (inside t Γ)

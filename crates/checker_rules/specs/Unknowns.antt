@@ -3,9 +3,9 @@ use Prim.Native.Nat.{ℕ, zero, suc, _+_, _*_}
 use Rattle.types_rules.specs.Former.{int, given, parameter, power, product}
 use Rattle.types_rules.specs.Types.{Ty, node, tnil, tcons, Term, unknown, con, Terms, nil, cons}
 
--- A table gives each unknown a type, an inductive `Ty` ("Types are finite"): it is a typing of the paragraph.
-abbrev pub Table : Type 0
-Table = ℕ → Ty
+-- A valuation gives each unknown a type, an inductive `Ty` ("Types are finite"): it is a typing of the paragraph.
+abbrev pub Valuation : Type 0
+Valuation = ℕ → Ty
 
 -- Unknown k of node n. 0 is the type of an expression node, or the type t that a Decl gives its identifiers; 1 to 6 are the node's other unknowns: the
 -- element type of a Set, the parameters of a generic Ref, what the operands of Power and Product and the actuals of a Ref or an Include are powers of.

@@ -6,7 +6,7 @@ use Prim.Native.Nat.{ℕ, _≤_, _<_}
 use Rattle.reader_rules.specs.Reading.{readOf}
 use Rattle.reader_rules.specs.Tree.{Paragraph, Document}
 use Rattle.reader_rules.specs.Decode.{treeOf}
-use Rattle.checker_rules.specs.Unknowns.{Table, slot}
+use Rattle.checker_rules.specs.Unknowns.{Valuation, slot}
 use Rattle.checker_rules.specs.Items.{Meets, And, Passes, Refuses}
 use Rattle.checker_rules.specs.Dictionary.{Dictionary, blank, dictionaryLength}
 use Rattle.checker_rules.specs.Rules.{paragraphItems}
@@ -15,15 +15,15 @@ use Rattle.checker_rules.specs.ExpressionNodes.{InParagraph}
 use Rattle.checker_rules.specs.Check.{Answer, accepted, refused, paragraphsOf, checkWorkWords}
 use Rattle.reader_rules.specs.declared.Reading.the-variants.{Readable, Refused}
 
--- P: the tables of types that count as solutions. `Any`: all of them. `FormedTable`: those of well-formed types alone, which gives every document's words the
+-- P: the valuations that count as solutions. `Any`: all of them. `FormedTable`: those of well-formed types alone, which gives every document's words the
 -- same answer (proofs/FormedVerdicts).
-module _ (P : Table → Type 0) where
+module _ (P : Valuation → Type 0) where
   -- Accepted with the dictionary E: the items of every paragraph pass over the dictionary so far, and its words fit the area of d words.
   unfoldable pub Accepts : List Paragraph → Dictionary → ℕ → Dictionary → Type 0
   Accepts [] D d E = D ≡ E
   Accepts (p ∷ ps) D d E =
       Passes (paragraphItems p D) P
-      × ((τ : Table) × And P (paragraphItems p D) τ × (dictionaryLength (extend p D τ) ≤ d) × Accepts ps (extend p D τ) d E)
+      × ((τ : Valuation) × And P (paragraphItems p D) τ × (dictionaryLength (extend p D τ) ≤ d) × Accepts ps (extend p D τ) d E)
 
   -- Refused with f at m: the first paragraph that does not pass refuses f at m; or the first whose dictionary does not fit is m, and f is 22.
   unfoldable pub RefusesAt : List Paragraph → Dictionary → ℕ → ℕ → ℕ → Type 0
@@ -31,7 +31,7 @@ module _ (P : Table → Type 0) where
   RefusesAt (p ∷ ps) D d f m =
       Refuses (paragraphItems p D) P f m
       ⊎ (Passes (paragraphItems p D) P
-      × ((τ : Table) × And P (paragraphItems p D) τ
+      × ((τ : Valuation) × And P (paragraphItems p D) τ
       × (((d < dictionaryLength (extend p D τ)) × (f ≡ 22) × (m ≡ paragraphNode p))
       ⊎ ((dictionaryLength (extend p D τ) ≤ d) × RefusesAt ps (extend p D τ) d f m))))
 
@@ -55,12 +55,12 @@ module _ (P : Table → Type 0) where
 unfoldable pub OneType : List Paragraph → Dictionary → Type 0
 OneType [] D = Unit {0}
 OneType (p ∷ ps) D =
-    ((τ : Table) × Meets (paragraphItems p D) τ)
-    × ((σ τ : Table) → Meets (paragraphItems p D) σ → Meets (paragraphItems p D) τ → (m : ℕ) → InParagraph m p → σ (slot m 0) ≡ τ (slot m 0))
-    × ((τ : Table) → Meets (paragraphItems p D) τ → OneType ps (extend p D τ))
+    ((τ : Valuation) × Meets (paragraphItems p D) τ)
+    × ((σ τ : Valuation) → Meets (paragraphItems p D) σ → Meets (paragraphItems p D) τ → (m : ℕ) → InParagraph m p → σ (slot m 0) ≡ τ (slot m 0))
+    × ((τ : Valuation) → Meets (paragraphItems p D) τ → OneType ps (extend p D τ))
 
 -- The dictionary's entries are those types: E is D with the entries that the typings of the paragraphs give, whichever typing is taken.
 unfoldable pub Records : List Paragraph → Dictionary → Dictionary → Type 0
 Records [] D E = D ≡ E
 Records (p ∷ ps) D E =
-    ((τ : Table) × Meets (paragraphItems p D) τ) × ((τ : Table) → Meets (paragraphItems p D) τ → Records ps (extend p D τ) E)
+    ((τ : Valuation) × Meets (paragraphItems p D) τ) × ((τ : Valuation) → Meets (paragraphItems p D) τ → Records ps (extend p D τ) E)

@@ -1,7 +1,7 @@
--- Well-formed types in dictionaries and tables: a power has one part, a product 2 to 6, a binding one for each of its ascending identifiers.
+-- Well-formed types in dictionaries and valuations: a power has one part, a product 2 to 6, a binding one for each of its ascending identifiers.
 use Prim.Native.Nat.{ℕ}
 use Rattle.types_rules.specs.Formed.{WellFormed}
-use Rattle.checker_rules.specs.Unknowns.{Table}
+use Rattle.checker_rules.specs.Unknowns.{Valuation}
 use Rattle.checker_rules.specs.Dictionary.{nameEntry, schemaEntry, Dictionary, blank, _▸_}
 use Rattle.checker_rules.specs.Check.{Answer, accepted, refused}
 
@@ -15,5 +15,5 @@ FormedAnswer (accepted E) = FormedDictionary E
 FormedAnswer (refused f m) = Unit {0}
 
 -- Typings by well-formed types alone.
-abbrev pub FormedTable : Table → Type 0
-FormedTable τ = (x : ℕ) → WellFormed (τ x)
+abbrev pub FormedValuation : Valuation → Type 0
+FormedValuation τ = (x : ℕ) → WellFormed (τ x)

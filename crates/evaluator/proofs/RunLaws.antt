@@ -14,7 +14,7 @@ use Rattle.states_rules.specs.Names.{namesOf}
 use Rattle.states_rules.specs.States.{State}
 use Rattle.states.proofs.NameLaws.{document-names}
 use Rattle.evaluator_rules.specs.Outcomes.{Outcome}
-use Rattle.evaluator_rules.specs.Scope.{empty}
+use Rattle.evaluator_rules.specs.Environment.{empty}
 use Rattle.evaluator_rules.specs.Paragraphs.{Step, onward, failed, runParagraphs, runDocument}
 use Rattle.evaluator_operations.specs.declared.worked.Worked.{Worked}
 use Rattle.evaluator_rules.specs.declared.Finding.{Finding}

@@ -32,7 +32,7 @@ use Rattle.reader_rules.proofs.TreePred.{pred-quantified}
 use Rattle.reader_rules.proofs.TreeText.{text-kind, text-law, line-range, line-declaration, line-inclusion, include-law, as-include}
 use Rattle.reader_rules.proofs.TreeLists.{lines-go, lines-end}
 use Rattle.evaluator_rules.specs.Outcomes.{Outcome, _>>=_, pure, stop, keep, after}
-use Rattle.evaluator_rules.specs.Scope.{Scope, bind, valued}
+use Rattle.evaluator_rules.specs.Environment.{Environment, bind, valued}
 use Rattle.evaluator_rules.specs.Operations.{add, asSet}
 use Rattle.evaluator_rules.specs.Assignments.{Domains, noMore, domain, domains, Body, Flow, go, halt, next, each, assign, flowOf, truthOf, gathered}
 use Rattle.evaluator_rules.specs.Rules.{evalExpr, evalPred, evalLines, overText, stopInclude}
@@ -81,7 +81,7 @@ module _ {doc work : List ℕ} {n m k : ℕ} (h : Scoping doc work n m k) where
       (omega arith, record { at = p .at; room = omega arith; wide = h .wide })
 
 -- ---- one assignment
-module _ (doc : List ℕ) (k a : ℕ) (x : a ≡ operandAt doc (operandAt doc k 1) 1) (scope : Scope) (vs : Values) where
+module _ (doc : List ℕ) (k a : ℕ) (x : a ≡ operandAt doc (operandAt doc k 1) 1) (scope : Environment) (vs : Values) where
   pub turn-stop : {r : Worked} → Told Judged r (evalPred (predAt doc a) scope) → (r .number ≡ 0 → ⊥) → Told Flowed r (turnAt doc k scope vs)
   unfolding turnAt
   turn-stop t z = rw (← x) (halt-told _ t z)
@@ -107,7 +107,7 @@ unfolding _>>=_ after
 gathered-flow (fine {a = us} z g) f = fine {a = go us} z (f z, g .held)
 gathered-flow (ceased a b c) f = ceased a b c
 
-module _ (doc : List ℕ) (k b : ℕ) (x : b ≡ operandAt doc k 2) (scope : Scope) (vs : Values) where
+module _ (doc : List ℕ) (k b : ℕ) (x : b ≡ operandAt doc k 2) (scope : Environment) (vs : Values) where
   pub gather-stop : kindAt doc k ≡ 46 → {r : Worked} → Told Valued r (evalExpr (exprAt doc b) scope) → (r .number ≡ 0 → ⊥) → Told Flowed r (bodyAt doc k scope vs)
   unfolding bodyAt bodyIf
   gather-stop q t z = rw (eq-eqb (kindAt doc k) 46 q, ← x) (halt-told _ t z)
@@ -135,7 +135,7 @@ truth-verdict forall halt r b g e = e ∙ ap not g
 truth-verdict exists (go vs) r b g e = e ∙ g .0
 truth-verdict exists halt r b g e = e ∙ g
 
-module _ {doc work w : List ℕ} {n k : ℕ} (scope : Scope) (t : ℕ) (x : t ≡ getD w 1 0) where
+module _ {doc work w : List ℕ} {n k : ℕ} (scope : Environment) (t : ℕ) (x : t ≡ getD w 1 0) where
   module _ (h : Handed doc work w predicates n k) (c : 28 ≤ kindAt doc k) (d : kindAt doc k ≤ 29) where
     pub quant-scoping : Scoping doc work n 6 k
     quant-scoping =
@@ -286,5 +286,5 @@ assigns-some doc state before after n (suc m) k c s r e x g =
           told = λ scope sc ds p vs h. pick scope sc ds p vs h;
         }
       where
-        pick : (scope : Scope) → Scoped state before n scope → (ds : Domains) → Pending before n (suc m) ds → (vs : Values) → Holds s (Value.set vs) → Told Flowed r (assign ds (turnAt doc k) scope vs)
+        pick : (scope : Environment) → Scoped state before n scope → (ds : Domains) → Pending before n (suc m) ds → (vs : Values) → Holds s (Value.set vs) → Told Flowed r (assign ds (turnAt doc k) scope vs)
         pick scope sc (domain i us ds) (more a l b d p) vs h = f .told scope sc i us ds (more a l b d p) us (rest-block before n c us l b d x) vs h

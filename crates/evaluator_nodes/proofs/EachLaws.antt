@@ -13,7 +13,7 @@ use Rattle.values.specs.Span.{span}
 use Rattle.values.specs.declared.held.Held.{Held}
 use Rattle.values.proofs.Encoding.{span-value}
 use Rattle.evaluator_rules.specs.Outcomes.{Outcome, _>>=_, pure}
-use Rattle.evaluator_rules.specs.Scope.{Scope, bind, valued}
+use Rattle.evaluator_rules.specs.Environment.{Environment, bind, valued}
 use Rattle.evaluator_rules.specs.Assignments.{Domains, noMore, domain, Flow, go, halt, next, each, assign}
 use Rattle.evaluator_nodes.specs.Turns.{turnAt}
 use Rattle.evaluator_operations.specs.declared.worked.Worked.{Worked}
@@ -32,7 +32,7 @@ unfolding each count
 each-end doc state work n m k at c s r e z f h =
     record { kept = refl; pends = λ ds p. p; told = λ scope sc i us ds p vs g ss hs. last i ds scope vs g ss hs }
   where
-    last : (i : ℕ) (ds : Domains) (scope : Scope) (vs : Values) → RestIn work n at c vs → (ss : Values) → Holds s (Value.set ss) →
+    last : (i : ℕ) (ds : Domains) (scope : Environment) (vs : Values) → RestIn work n at c vs → (ss : Values) → Holds s (Value.set ss) →
         Told Flowed r (each i vs (λ scope′ s′. assign ds (turnAt doc k) scope′ s′) scope ss)
     last i ds scope nil g ss hs = fine {a = go ss} z (f, subst (λ (u : Held). Holds u (Value.set ss)) (sym h) hs)
     last i ds scope (cons v vs) g ss hs = let q = g .counted in absurd (omega arith)
@@ -101,7 +101,7 @@ module _ (doc state w0 w1 w2 : List ℕ) (n m k at c here len : ℕ) (s : Held) 
           narrow = narrow-head v vs (g .narrow);
         }
 
-    next-scoped : (scope : Scope) → Scoped state w0 n scope → (i : ℕ) → field w0 n 0 ≡ i → Scoped state w1 (n + 1) (bind i (valued v) scope)
+    next-scoped : (scope : Environment) → Scoped state w0 n scope → (i : ℕ) → field w0 n 0 ≡ i → Scoped state w1 (n + 1) (bind i (valued v) scope)
     unfolding encodes
     next-scoped scope sc i e =
         let a = g .short in
@@ -137,7 +137,7 @@ module _ (doc state w0 w1 w2 : List ℕ) (n m k at c here len : ℕ) (s : Held) 
           narrow = narrow-tail v vs (g .narrow);
         }
 
-    next-told : (scope : Scope) → Scoped state w0 n scope → (i : ℕ) (us : Values) (ds : Domains) → Pending w0 n (suc m) (domain i us ds) → (ss : Values) → Holds s (Value.set ss) →
+    next-told : (scope : Environment) → Scoped state w0 n scope → (i : ℕ) (us : Values) (ds : Domains) → Pending w0 n (suc m) (domain i us ds) → (ss : Values) → Holds s (Value.set ss) →
         Told Flowed x (assign ds (turnAt doc k) (bind i (valued v) scope) ss)
     next-told scope sc i us ds (more e l short nr p) ss hs =
         A .told (bind i (valued v) scope) (next-scoped scope sc i e) ds

@@ -18,7 +18,7 @@ use Rattle.reader_rules.proofs.TreeShape.{AllFrom, all-at, _▹_, sub, as-made}
 use Rattle.reader_rules.proofs.TreeExpr.{expr-range, expr-number, expr-node}
 use Rattle.reader_rules.proofs.TreePred.{pred-range, pred-truth}
 use Rattle.evaluator_rules.specs.Outcomes.{Outcome, pure, stop}
-use Rattle.evaluator_rules.specs.Scope.{Scope}
+use Rattle.evaluator_rules.specs.Environment.{Environment}
 use Rattle.evaluator_rules.specs.Rules.{evalExpr, evalPred}
 use Rattle.evaluator_operations.specs.declared.worked.Worked.{Worked}
 use Rattle.evaluator_operations.specs.Worked.{Told, fine, Valued, Judged, Stops}
@@ -40,7 +40,7 @@ isRun (schemaSet n i) = false
 isRun (arithmetic n o a b) = true
 isRun (comprehension n t a) = true
 
-not-run : (e : Expr) → isRun e ≡ false → (scope : Scope) → evalExpr e scope ≡ stop 54 (exprNode e)
+not-run : (e : Expr) → isRun e ≡ false → (scope : Environment) → evalExpr e scope ≡ stop 54 (exprNode e)
 unfolding isRun evalExpr exprNode
 not-run (reference n i xs) h scope = absurd (true≢false h)
 not-run (number n k) h scope = absurd (true≢false h)
@@ -82,16 +82,16 @@ unrun-kind doc k h u =
         ▹ (λ n. absurd (n .g (omega arith) (omega arith))) ▹ (λ n. absurd (n .g (omega arith) (omega arith))) ▹ (λ n. absurd (n .g (omega arith) (omega arith)))
         ▹ (λ n. absurd (n .g (omega arith) (omega arith))) ▹ (λ n. absurd (n .g (omega arith) (omega arith))) ▹ (λ n. absurd (n .f refl)) ▹ tt
 
-pub unrun-told : (doc : List ℕ) (k : ℕ) → At doc expressions k → Unrun (kindAt doc k) → (scope : Scope) {r : Worked} → Stops r 54 k → Told Valued r (evalExpr (exprAt doc k) scope)
+pub unrun-told : (doc : List ℕ) (k : ℕ) → At doc expressions k → Unrun (kindAt doc k) → (scope : Environment) {r : Worked} → Stops r 54 k → Told Valued r (evalExpr (exprAt doc k) scope)
 unrun-told doc k h u scope {r} s =
     subst (Told Valued r) (sym (not-run (exprAt doc k) (unrun-kind doc k h u) scope ∙ ap (stop 54) (expr-node doc k h))) (stop-told s (λ z. omega arith))
 
-pub number-told : (doc : List ℕ) (k : ℕ) → At doc expressions k → kindAt doc k ≡ 31 → (z : ℕ) → z ≡ operandAt doc k 1 → (scope : Scope) {r : Worked} → Valued r (int (pos z)) → r .number ≡ 0 →
+pub number-told : (doc : List ℕ) (k : ℕ) → At doc expressions k → kindAt doc k ≡ 31 → (z : ℕ) → z ≡ operandAt doc k 1 → (scope : Environment) {r : Worked} → Valued r (int (pos z)) → r .number ≡ 0 →
     Told Valued r (evalExpr (exprAt doc k) scope)
 unfolding evalExpr
 number-told doc k h q z x scope v n = rw (expr-number doc k h q, ← x) (keep-fine k _ _ n (v .held))
 
-pub truth-told : (doc : List ℕ) (k : ℕ) → At doc predicates k → kindAt doc k ≡ 20 → (scope : Scope) {r : Worked} → r .number ≡ 0 → r .flag ≡ true → Told Judged r (evalPred (predAt doc k) scope)
+pub truth-told : (doc : List ℕ) (k : ℕ) → At doc predicates k → kindAt doc k ≡ 20 → (scope : Environment) {r : Worked} → r .number ≡ 0 → r .flag ≡ true → Told Judged r (evalPred (predAt doc k) scope)
 unfolding evalPred
 truth-told doc k h q scope n f = rw (pred-truth doc k h q) (fine n (record { flag = f }))
 

@@ -22,7 +22,7 @@ use Rattle.reader_rules.proofs.DepthLaws.{deeper}
 use Rattle.reader_rules.proofs.TreeText.{text-kind, text-law, line-range, line-declaration, line-inclusion, include-law}
 use Rattle.reader_rules.proofs.TreeLists.{lines-go, lines-end}
 use Rattle.evaluator_rules.specs.Outcomes.{Event, Outcome, done, stopped, _>>=_, pure, stop, after}
-use Rattle.evaluator_rules.specs.Scope.{Scope}
+use Rattle.evaluator_rules.specs.Environment.{Environment}
 use Rattle.evaluator_rules.specs.Operations.{asSet}
 use Rattle.evaluator_rules.specs.Assignments.{Domains, noMore, domain, domains, Flow, assign}
 use Rattle.evaluator_rules.specs.Rules.{evalExpr, evalLines, stopInclude}
@@ -64,7 +64,7 @@ pending-join w b (suc m) j {ds} {es} (more {ds = rest} e l s n p) q =
     subst (λ (x : ℕ). Pending w b x (joinDomains ds es)) y (more e l s n (pending-join w (suc b) m j p (subst (λ (x : ℕ). Pending w x j es) z q)))
 
 -- blocks that are not in scope
-hide-more : (state w : List ℕ) (n j : ℕ) {scope : Scope} → Scoped state w n scope → ((i : ℕ) → n ≤ i → i < n + j → field w i 1 ≡ 0) → Scoped state w (n + j) scope
+hide-more : (state w : List ℕ) (n j : ℕ) {scope : Environment} → Scoped state w n scope → ((i : ℕ) → n ≤ i → i < n + j → field w i 1 ≡ 0) → Scoped state w (n + j) scope
 hide-more state w n zero {scope} sc h = let z : n ≡ n + 0 = omega arith in subst (λ (x : ℕ). Scoped state w x scope) z sc
 hide-more state w n (suc j) {scope} sc h =
     let z : suc (n + j) ≡ n + suc j = omega arith in
@@ -88,7 +88,7 @@ assoc-told (stopped t n k) f g (ceased x y z) = ceased x y z
 stopped-same : {r : Worked} {t : List Event} {f w : ℕ} → Told Flowed r (stopped t f w) → Told Flowed r (stopped t f w)
 stopped-same h = h
 
-join-told : (doc : List ℕ) (k : ℕ) (scope : Scope) (ds : Domains) (ids : List ℕ) (us : Values) {r : Worked} (o : Outcome Domains) →
+join-told : (doc : List ℕ) (k : ℕ) (scope : Environment) (ds : Domains) (ids : List ℕ) (us : Values) {r : Worked} (o : Outcome Domains) →
     Told Flowed r (o >>= λ es. assign (joinDomains (joinDomains ds (domains ids us noMore)) es) (turnAt doc k) scope nil) →
     Told Flowed r (o >>= (λ es. pure (domains ids us es)) >>= λ es. assign (joinDomains ds es) (turnAt doc k) scope nil)
 unfolding _>>=_
@@ -130,18 +130,18 @@ module _ (doc : List ℕ) (k t e i : ℕ) (state work : List ℕ) (n m : ℕ) wh
       decl-count = rw (decl-tree (operandAt doc v 1) refl) (ap (λ (j : ℕ). j + declaredCount (linesFrom doc t (i + 1) (e - (i + 1)))) (length-drop 2 (part doc v)))
 
       module _ (a : ℕ) (y : a ≡ operandAt doc v 1) where
-        pub decl-stop : (r : Worked) → ((scope : Scope) → Scoped state work (n + m) scope → Told Valued r (evalExpr (exprAt doc a) scope)) → (r .number ≡ 0 → ⊥) →
+        pub decl-stop : (r : Worked) → ((scope : Environment) → Scoped state work (n + m) scope → Told Valued r (evalExpr (exprAt doc a) scope)) → (r .number ≡ 0 → ⊥) →
             LinesTold doc k (linesFrom doc t i (e - i)) state work n m r
         unfolding linesThen evalLines
         decl-stop r g z scope sc sm ds p = rw (decl-tree a y) (assoc-told _ _ _ (halt-told _ (g scope sm) z))
 
-        pub decl-other : (x′ r : Worked) → ((scope : Scope) → Scoped state work (n + m) scope → Told Valued x′ (evalExpr (exprAt doc a) scope)) → x′ .number ≡ 0 →
+        pub decl-other : (x′ r : Worked) → ((scope : Environment) → Scoped state work (n + m) scope → Told Valued x′ (evalExpr (exprAt doc a) scope)) → x′ .number ≡ 0 →
             (getD (x′ .held .words) 0 0 ≡ 3 → ⊥) → Stops r 51 v → LinesTold doc k (linesFrom doc t i (e - i)) state work n m r
         unfolding linesThen evalLines
         decl-other x′ r g z b s scope sc sm ds p =
             rw (decl-tree a y) (assoc-told _ _ _ (go-told (g scope sm) z (λ u j. assoc-told _ _ _ (rw (tag-none v u (λ w. b (held-tag _ u (j .held) ∙ w))) (at-stop _ s (λ w. omega arith))))))
 
-        pub decl-go : (w1 w2 : List ℕ) (x′ r : Worked) → ((scope : Scope) → Scoped state work (n + m) scope → Told Valued x′ (evalExpr (exprAt doc a) scope)) → x′ .number ≡ 0 →
+        pub decl-go : (w1 w2 : List ℕ) (x′ r : Worked) → ((scope : Environment) → Scoped state work (n + m) scope → Told Valued x′ (evalExpr (exprAt doc a) scope)) → x′ .number ≡ 0 →
             getD (x′ .held .words) 0 0 ≡ 3 → take (blockWords * (n + m)) w1 ≡ take (blockWords * (n + m)) work →
             Pushed w1 w2 (n + m) (length (part doc v) - 2) ((us : Values) → Holds (x′ .held) (Value.set us) → Pending w2 (n + m) (length (part doc v) - 2) (domains (drop 2 (part doc v)) us noMore)) →
             LinesTold doc k (linesFrom doc t (i + 1) (e - (i + 1))) state w2 n (m + (length (part doc v) - 2)) r →

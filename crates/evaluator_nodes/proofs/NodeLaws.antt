@@ -31,7 +31,7 @@ use Rattle.reader_rules.proofs.TreePred.{pred-range, pred-truth, pred-relation,
 use Rattle.reader_rules.proofs.TreeLists.{exprs-go, exprs-end, exprs-length}
 use Rattle.evaluator_rules.specs.Outcomes.{Outcome, _>>=_, pure, stop, keep}
 use Rattle.evaluator_rules.specs.Outcomes as Outcomes
-use Rattle.evaluator_rules.specs.Scope.{Scope, lookup, refer, hasActuals}
+use Rattle.evaluator_rules.specs.Environment.{Environment, lookup, refer, hasActuals}
 use Rattle.evaluator_rules.specs.Operations.{add, connect}
 use Rattle.evaluator_rules.specs.Rules.{evalExpr, evalExprs, evalMembers, evalPred, test}
 use Rattle.evaluator_operations.specs.Steps.{arithmeticOf, atMostOf, imageOf, decisionOf}
@@ -69,7 +69,7 @@ unfolding cell
 few-words doc s k h = omega (arith, at-most doc s k h, small-rows (kindAt doc k))
 
 -- ---- expressions one after the other
-module _ (doc : List ℕ) (k e i : ℕ) (scope : Scope) (ws : List ℕ) where
+module _ (doc : List ℕ) (k e i : ℕ) (scope : Environment) (ws : List ℕ) where
   pub parts-end : {r : Worked} {s : Held} → e ≤ i → r .number ≡ 0 → r .held ≡ s → s ≡ words ws → Told (Joined ws (e - i)) r (evalExprs (exprsFrom doc k i (e - i)) scope)
   unfolding evalExprs narrow Value.count encodes
   parts-end h z a b =
@@ -95,7 +95,7 @@ module _ (doc : List ℕ) (k e i : ℕ) (scope : Scope) (ws : List ℕ) where
   parts-go a x h t z g = rw (exprs-go doc k e i h, ← x) (go-told t z (λ v j. more-joined v (j .held .narrow) h (g v (j .held))))
 
 -- ---- members, each added as it is worked out
-module _ (doc : List ℕ) (k e i : ℕ) (scope : Scope) (vs : Values) where
+module _ (doc : List ℕ) (k e i : ℕ) (scope : Environment) (vs : Values) where
   pub adds-end : {r : Worked} → e ≤ i → r .number ≡ 0 → Holds (r .held) (Value.set vs) → Told Gathered r (evalMembers (exprsFrom doc k i (e - i)) k scope vs)
   unfolding evalMembers
   adds-end h z g = rw (exprs-end doc k e i h) (fine z (record { held = g }))
@@ -139,12 +139,12 @@ module _ {doc work w : List ℕ} {n k : ℕ} (h : Handed doc work w expressions 
     reference-tree : exprAt doc k ≡ reference k (getD w 1 0) (exprsFrom doc k 2 (length w - 2))
     reference-tree = rw (h .words) (expr-reference doc k (h .ready .at) q .tree)
 
-    pub reference-stop : (scope : Scope) {ws : List ℕ} {m : ℕ} {r : Worked} → Told (Joined ws m) r (evalExprs (exprsFrom doc k 2 (length w - 2)) scope) → (r .number ≡ 0 → ⊥) →
+    pub reference-stop : (scope : Environment) {ws : List ℕ} {m : ℕ} {r : Worked} → Told (Joined ws m) r (evalExprs (exprsFrom doc k 2 (length w - 2)) scope) → (r .number ≡ 0 → ⊥) →
         Told Valued r (evalExpr (exprAt doc k) scope)
     unfolding evalExpr
     reference-stop scope t z = rw reference-tree (halt-told _ t z)
 
-    pub reference-go : (scope : Scope) {ws : List ℕ} {m : ℕ} {r s : Worked} → Told (Joined ws m) r (evalExprs (exprsFrom doc k 2 (length w - 2)) scope) → r .number ≡ 0 →
+    pub reference-go : (scope : Environment) {ws : List ℕ} {m : ℕ} {r s : Worked} → Told (Joined ws m) r (evalExprs (exprsFrom doc k 2 (length w - 2)) scope) → r .number ≡ 0 →
         Told Valued s (refer k (exprsFrom doc k 2 (length w - 2)) (lookup (getD w 1 0) scope)) → Told Valued s (evalExpr (exprAt doc k) scope)
     unfolding evalExpr
     reference-go scope t z g = rw reference-tree (go-told t z (λ vs j. g))
@@ -154,7 +154,7 @@ module _ {doc work w : List ℕ} {n k : ℕ} (h : Handed doc work w expressions 
     has-actuals l = sym (ap hasActuals (exprs-go doc k (length w) 2 l))
 
     -- without actuals
-    module _ (scope : Scope) (l : length w ≤ 2) where
+    module _ (scope : Environment) (l : length w ≤ 2) where
       pub no-actuals : false ≡ hasActuals (exprsFrom doc k 2 (length w - 2))
       unfolding hasActuals
       no-actuals = sym (ap hasActuals (exprs-end doc k (length w) 2 l))
@@ -172,16 +172,16 @@ module _ {doc work w : List ℕ} {n k : ℕ} (h : Handed doc work w expressions 
   members-tree : (q : ℕ) → kindAt doc k ≡ q → 33 ≤ q → q ≤ 35 → exprAt doc k ≡ membersOf q k (exprsFrom doc k 1 (length w - 1))
   members-tree q e a b = rw (h .words) (expr-members doc k (h .ready .at) q e a b .tree)
 
-  pub set-told : kindAt doc k ≡ 33 → (scope : Scope) {r : Worked} → Told Gathered r (evalMembers (exprsFrom doc k 1 (length w - 1)) k scope nil) → Told Valued r (evalExpr (exprAt doc k) scope)
+  pub set-told : kindAt doc k ≡ 33 → (scope : Environment) {r : Worked} → Told Gathered r (evalMembers (exprsFrom doc k 1 (length w - 1)) k scope nil) → Told Valued r (evalExpr (exprAt doc k) scope)
   unfolding evalExpr
   set-told q scope t = rw (members-tree 33 q (omega arith) (omega arith)) (kept-set k t)
 
-  pub tuple-stop : kindAt doc k ≡ 34 → (scope : Scope) {ws : List ℕ} {m : ℕ} {r : Worked} → Told (Joined ws m) r (evalExprs (exprsFrom doc k 1 (length w - 1)) scope) → (r .number ≡ 0 → ⊥) →
+  pub tuple-stop : kindAt doc k ≡ 34 → (scope : Environment) {ws : List ℕ} {m : ℕ} {r : Worked} → Told (Joined ws m) r (evalExprs (exprsFrom doc k 1 (length w - 1)) scope) → (r .number ≡ 0 → ⊥) →
       Told Valued r (evalExpr (exprAt doc k) scope)
   unfolding evalExpr
   tuple-stop q scope t z = rw (members-tree 34 q (omega arith) (omega arith)) (halt-told _ t z)
 
-  pub tuple-go : kindAt doc k ≡ 34 → (scope : Scope) {r s : Worked} → Told (Joined (4 ∷ (length w - 1) ∷ []) (length w - 1)) r (evalExprs (exprsFrom doc k 1 (length w - 1)) scope) → r .number ≡ 0 →
+  pub tuple-go : kindAt doc k ≡ 34 → (scope : Environment) {r s : Worked} → Told (Joined (4 ∷ (length w - 1) ∷ []) (length w - 1)) r (evalExprs (exprsFrom doc k 1 (length w - 1)) scope) → r .number ≡ 0 →
       ((v : Value) → r .held ≡ words (encode v) → narrow v ≡ true → Told Valued s (keep k v)) → Told Valued s (evalExpr (exprAt doc k) scope)
   unfolding evalExpr encode narrow
   tuple-go q scope t z g =
@@ -193,14 +193,14 @@ module _ {doc work w : List ℕ} {n k : ℕ} (h : Handed doc work w expressions 
     pub apply-operands : kindAt doc k ≡ 37 → Lower doc k expressions a × Lower doc k expressions b
     apply-operands q = let l = expr-application doc k (h .ready .at) q a b (in-words h 1 a x) (in-words h 2 b y) in (l .left, l .right)
 
-    pub apply-told : kindAt doc k ≡ 37 → (scope : Scope) → {s : Worked} → Told Valued s (evalExpr (exprAt doc a) scope >>= λ u. evalExpr (exprAt doc b) scope >>= λ v. imageOf k u v) → Told Valued s (evalExpr (exprAt doc k) scope)
+    pub apply-told : kindAt doc k ≡ 37 → (scope : Environment) → {s : Worked} → Told Valued s (evalExpr (exprAt doc a) scope >>= λ u. evalExpr (exprAt doc b) scope >>= λ v. imageOf k u v) → Told Valued s (evalExpr (exprAt doc k) scope)
     unfolding evalExpr imageOf
     apply-told q scope t = rw (expr-application doc k (h .ready .at) q a b (in-words h 1 a x) (in-words h 2 b y) .tree) t
 
     pub arith-operands : 41 ≤ kindAt doc k → kindAt doc k ≤ 45 → Lower doc k expressions a × Lower doc k expressions b
     arith-operands c d = let l = expr-arithmetic doc k (h .ready .at) (kindAt doc k) refl c d a b (in-words h 1 a x) (in-words h 2 b y) in (l .left, l .right)
 
-    pub arith-told : 41 ≤ kindAt doc k → kindAt doc k ≤ 45 → (scope : Scope) → {s : Worked} → Told Valued s (evalExpr (exprAt doc a) scope >>= λ u. evalExpr (exprAt doc b) scope >>= λ v. arithmeticOf k (kindAt doc k) u v) → Told Valued s (evalExpr (exprAt doc k) scope)
+    pub arith-told : 41 ≤ kindAt doc k → kindAt doc k ≤ 45 → (scope : Environment) → {s : Worked} → Told Valued s (evalExpr (exprAt doc a) scope >>= λ u. evalExpr (exprAt doc b) scope >>= λ v. arithmeticOf k (kindAt doc k) u v) → Told Valued s (evalExpr (exprAt doc k) scope)
     unfolding evalExpr arithmeticOf
     arith-told c d scope t = rw (expr-arithmetic doc k (h .ready .at) (kindAt doc k) refl c d a b (in-words h 1 a x) (in-words h 2 b y) .tree) t
 
@@ -220,7 +220,7 @@ module _ {doc work w : List ℕ} {n k : ℕ} (h : Handed doc work w predicates n
     relation-tree : predAt doc k ≡ relationOf q k (exprAt doc a) (exprAt doc b)
     relation-tree = pred-relation doc k (h .ready .at) q e c d a b (in-words h 1 a x) (in-words h 2 b y) .tree
 
-  module _ (a b : ℕ) (x : a ≡ getD w 1 0) (y : b ≡ getD w 2 0) (scope : Scope) where
+  module _ (a b : ℕ) (x : a ≡ getD w 1 0) (y : b ≡ getD w 2 0) (scope : Environment) where
     pub equal-told : kindAt doc k ≡ 21 → {s : Worked} → Told Judged s (evalExpr (exprAt doc a) scope >>= λ u. evalExpr (exprAt doc b) scope >>= λ v. pure (sameValue u v)) → Told Judged s (evalPred (predAt doc k) scope)
     unfolding evalPred
     equal-told q t = rw (relation-tree 21 q (omega arith) (omega arith) a b x y) t
@@ -243,11 +243,11 @@ module _ {doc work w : List ℕ} {n k : ℕ} (h : Handed doc work w predicates n
     pub not-operand : Lower doc k predicates a
     not-operand = pred-not doc k (h .ready .at) q a (in-words h 1 a x) .first
 
-    pub not-stop : (scope : Scope) {r : Worked} → Told Judged r (evalPred (predAt doc a) scope) → (r .number ≡ 0 → ⊥) → Told Judged r (evalPred (predAt doc k) scope)
+    pub not-stop : (scope : Environment) {r : Worked} → Told Judged r (evalPred (predAt doc a) scope) → (r .number ≡ 0 → ⊥) → Told Judged r (evalPred (predAt doc k) scope)
     unfolding evalPred
     not-stop scope t z = rw (pred-not doc k (h .ready .at) q a (in-words h 1 a x) .tree) (halt-told _ t z)
 
-    pub not-go : (scope : Scope) {r s : Worked} (b : Bool) → Told Judged r (evalPred (predAt doc a) scope) → r .number ≡ 0 → r .flag ≡ b → s .number ≡ 0 → s .flag ≡ not b →
+    pub not-go : (scope : Environment) {r s : Worked} (b : Bool) → Told Judged r (evalPred (predAt doc a) scope) → r .number ≡ 0 → r .flag ≡ b → s .number ≡ 0 → s .flag ≡ not b →
         Told Judged s (evalPred (predAt doc k) scope)
     unfolding evalPred
     not-go scope b t z f y g = rw (pred-not doc k (h .ready .at) q a (in-words h 1 a x) .tree) (go-told t z (λ v j. fine y (record { flag = g ∙ ap not (sym f ∙ j .flag) })))
@@ -260,7 +260,7 @@ module _ {doc work w : List ℕ} {n k : ℕ} (h : Handed doc work w predicates n
     connected-tree : predAt doc k ≡ connected k (connectiveOf (kindAt doc k)) (predAt doc a) (predAt doc b)
     connected-tree = pred-connected doc k (h .ready .at) (kindAt doc k) refl c d a b (in-words h 1 a x) (in-words h 2 b y) .tree
 
-    pub connected-stop : (scope : Scope) {r : Worked} → Told Judged r (evalPred (predAt doc a) scope) → (r .number ≡ 0 → ⊥) → Told Judged r (evalPred (predAt doc k) scope)
+    pub connected-stop : (scope : Environment) {r : Worked} → Told Judged r (evalPred (predAt doc a) scope) → (r .number ≡ 0 → ⊥) → Told Judged r (evalPred (predAt doc k) scope)
     unfolding evalPred
     connected-stop scope t z = rw connected-tree (halt-told _ t z)
 
@@ -282,12 +282,12 @@ module _ {doc work w : List ℕ} {n k : ℕ} (h : Handed doc work w predicates n
     right-told implies true right e t = t
     right-told implies false right e t = let q : _≡_ {A = ℕ} 0 1 = cc in absurd (omega arith)
 
-    pub connected-known : (scope : Scope) {r s : Worked} (v : Bool) → Told Judged r (evalPred (predAt doc a) scope) → r .number ≡ 0 →
+    pub connected-known : (scope : Environment) {r s : Worked} (v : Bool) → Told Judged r (evalPred (predAt doc a) scope) → r .number ≡ 0 →
         Known v ≡ decisionOf (connectiveOf (kindAt doc k)) (r .flag) → s .number ≡ 0 → s .flag ≡ v → Told Judged s (evalPred (predAt doc k) scope)
     unfolding evalPred
     connected-known scope v t z e y f = rw connected-tree (go-told t z (λ l j. known-told _ l v _ (e ∙ ap (decisionOf (connectiveOf (kindAt doc k))) (j .flag)) y f))
 
-    pub connected-right : (scope : Scope) {r s : Worked} → Told Judged r (evalPred (predAt doc a) scope) → r .number ≡ 0 → Right ≡ decisionOf (connectiveOf (kindAt doc k)) (r .flag) →
+    pub connected-right : (scope : Environment) {r s : Worked} → Told Judged r (evalPred (predAt doc a) scope) → r .number ≡ 0 → Right ≡ decisionOf (connectiveOf (kindAt doc k)) (r .flag) →
         Told Judged s (evalPred (predAt doc b) scope) → Told Judged s (evalPred (predAt doc k) scope)
     unfolding evalPred
     connected-right scope t z e g = rw connected-tree (go-told t z (λ l j. right-told _ l _ (e ∙ ap (decisionOf (connectiveOf (kindAt doc k))) (j .flag)) g))

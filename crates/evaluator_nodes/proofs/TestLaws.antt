@@ -26,7 +26,7 @@ use Rattle.reader_rules.proofs.TreeShape.{AllFrom, all-at, _▹_, sub, as-made}
 use Rattle.reader_rules.proofs.TreeExpr.{expr-range, expr-integers, expr-power, expr-members, expr-node}
 use Rattle.reader_rules.proofs.TreeLists.{exprs-go, exprs-end, exprs-length}
 use Rattle.evaluator_rules.specs.Outcomes.{Outcome, _>>=_, pure, stop}
-use Rattle.evaluator_rules.specs.Scope.{Scope}
+use Rattle.evaluator_rules.specs.Environment.{Environment}
 use Rattle.evaluator_rules.specs.Operations.{asSet, asTuple, allPass, countIf, sameCount}
 use Rattle.evaluator_rules.specs.Rules.{evalExpr, amongMembers, testExpr, testExprs, test}
 use Rattle.evaluator_operations.specs.Steps.{integerTest}
@@ -54,7 +54,7 @@ isFormed (schemaSet n i) = false
 isFormed (arithmetic n o a b) = false
 isFormed (comprehension n t a) = false
 
-by-value : (e : Expr) → isFormed e ≡ false → (f : Scope → Outcome Value) (x : Value) (scope : Scope) → testExpr e f x scope ≡ (f scope >>= amongMembers (exprNode e) x)
+by-value : (e : Expr) → isFormed e ≡ false → (f : Environment → Outcome Value) (x : Value) (scope : Environment) → testExpr e f x scope ≡ (f scope >>= amongMembers (exprNode e) x)
 unfolding isFormed testExpr exprNode
 by-value (reference n i xs) h f x scope = refl
 by-value (number n k) h f x scope = refl
@@ -82,7 +82,7 @@ formed-kind doc k h =
     ones : AllFrom Here 30 17
     ones = refl ▹ refl ▹ refl ▹ refl ▹ refl ▹ refl ▹ refl ▹ refl ▹ refl ▹ refl ▹ refl ▹ refl ▹ refl ▹ refl ▹ refl ▹ refl ▹ refl ▹ tt
 
-module _ {doc work : List ℕ} {n k : ℕ} (h : Ready doc work expressions n k) (a : kindAt doc k ≡ 32 → ⊥) (b : kindAt doc k ≡ 35 → ⊥) (c : kindAt doc k ≡ 36 → ⊥) (x : Value) (scope : Scope) where
+module _ {doc work : List ℕ} {n k : ℕ} (h : Ready doc work expressions n k) (a : kindAt doc k ≡ 32 → ⊥) (b : kindAt doc k ≡ 35 → ⊥) (c : kindAt doc k ≡ 36 → ⊥) (x : Value) (scope : Environment) where
   value-test : test (exprAt doc k) scope x ≡ (evalExpr (exprAt doc k) scope >>= amongMembers k x)
   value-test =
       by-value (exprAt doc k) (formed-kind doc k (h .at) ∙ rw (ne-eqb (kindAt doc k) 32 a, ne-eqb (kindAt doc k) 35 b, ne-eqb (kindAt doc k) 36 c)) (evalExpr (exprAt doc k)) x scope
@@ -95,7 +95,7 @@ module _ {doc work : List ℕ} {n k : ℕ} (h : Ready doc work expressions n k) 
       Told Judged s (test (exprAt doc k) scope x)
   value-go {r} {s} t z g = subst (Told Judged s) (sym value-test) (go-told t z (λ y j. g y (j .held)))
 
-pub integers-test : {doc work : List ℕ} {n k : ℕ} → Ready doc work expressions n k → kindAt doc k ≡ 32 → (x : Value) (scope : Scope) {r : Worked} → Told Judged r (integerTest k x) →
+pub integers-test : {doc work : List ℕ} {n k : ℕ} → Ready doc work expressions n k → kindAt doc k ≡ 32 → (x : Value) (scope : Environment) {r : Worked} → Told Judged r (integerTest k x) →
     Told Judged r (test (exprAt doc k) scope x)
 unfolding testExpr integerTest
 integers-test {doc} {work} {n} {k} h q x scope t = rw (expr-integers doc k (h .at) q) t
@@ -184,7 +184,7 @@ module _ (h : Held) (at c : ℕ) (f : Value → Outcome Bool) where
         (λ y j. choose-told y (λ w. k vs (rest-more h at c v vs g len e)) (λ w. absurd (true≢false (sym b ∙ j .flag ∙ w))))
 
 -- ---- Product: part by part
-module _ (doc : List ℕ) (k e i : ℕ) (scope : Scope) (h : Held) (at : ℕ) where
+module _ (doc : List ℕ) (k e i : ℕ) (scope : Environment) (h : Held) (at : ℕ) where
   pub product-end : e ≤ i → (vs : Values) {r : Worked} → r .number ≡ 0 → r .flag ≡ true → Told Judged r (testExprs (exprsFrom doc k i (e - i)) vs scope)
   unfolding testExprs
   product-end l vs z b = rw (exprs-end doc k e i l) (fine z (record { flag = b }))
@@ -215,7 +215,7 @@ module _ (doc : List ℕ) (k e i : ℕ) (scope : Scope) (h : Held) (at : ℕ) wh
         (λ y j. choose-told y (λ w. n vs (subst (λ (d : ℕ). Rest h (at + len) d vs) c (rest-more h at (e - i) v vs g len p))) (λ w. absurd (true≢false (sym b ∙ j .flag ∙ w)))))
 
 -- ---- the nodes 35 and 36
-module _ {doc work w : List ℕ} {n k : ℕ} (h : Handed doc work w expressions n k) (v : Held) (x : Value) (hx : Holds v x) (scope : Scope) where
+module _ {doc work w : List ℕ} {n k : ℕ} (h : Handed doc work w expressions n k) (v : Held) (x : Value) (hx : Holds v x) (scope : Environment) where
   pub power-other : kindAt doc k ≡ 36 → (getD (v .words) 0 0 ≡ 3 → ⊥) → {r : Worked} → Stops r 51 k → Told Judged r (test (exprAt doc k) scope x)
   unfolding testExpr
   power-other q t s = rw (expr-power doc k (h .ready .at) q (operandAt doc k 1) refl .tree) (rw (tag-none k x (λ e. t (held-tag v x hx ∙ e))) (at-stop _ s (λ z. omega arith)))

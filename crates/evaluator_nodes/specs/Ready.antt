@@ -17,7 +17,7 @@ use Rattle.reader_rules.specs.Tree.{Lines}
 use Rattle.reader_rules.specs.Decode.{exprAt, predAt}
 use Rattle.evaluator_rules.specs.Run.{runWorkWords}
 use Rattle.evaluator_rules.specs.Outcomes.{Outcome, _>>=_}
-use Rattle.evaluator_rules.specs.Scope.{Scope}
+use Rattle.evaluator_rules.specs.Environment.{Environment}
 use Rattle.evaluator_rules.specs.Assignments.{Domains, noMore, domain, Flow, Body, assign, each}
 use Rattle.evaluator_rules.specs.Rules.{evalExpr, evalPred, evalLines}
 use Rattle.evaluator_nodes.specs.Turns.{turnAt}
@@ -53,8 +53,8 @@ pub record Scoping (doc work : List ℕ) (n m k : ℕ) : Type 0 where
   pub wide : runWorkWords ≤ length work
 
 -- what a result tells, for the scope that the blocks are
-abbrev pub Tells : {A : Type 0} → List ℕ → List ℕ → ℕ → (Worked → A → Type 0) → Worked → (Scope → Outcome A) → Type 0
-Tells state work n R r f = (scope : Scope) → Scoped state work n scope → Told R r (f scope)
+abbrev pub Tells : {A : Type 0} → List ℕ → List ℕ → ℕ → (Worked → A → Type 0) → Worked → (Environment → Outcome A) → Type 0
+Tells state work n R r f = (scope : Environment) → Scoped state work n scope → Told R r (f scope)
 
 -- node k worked out as an expression, or as a predicate
 abbrev pub Evaluates : List ℕ → ℕ → ℕ → List ℕ → List ℕ → List ℕ → Worked → Type 0
@@ -88,21 +88,21 @@ joinDomains noMore es = es
 joinDomains (domain i vs ds) es = domain i vs (joinDomains ds es)
 
 -- the lines from here on, then the assignments of all identifiers, those of ds first
-unfoldable pub linesThen : List ℕ → ℕ → Lines → Domains → Scope → Outcome Flow
+unfoldable pub linesThen : List ℕ → ℕ → Lines → Domains → Environment → Outcome Flow
 linesThen doc k ls ds scope = evalLines ls scope >>= λ es. assign (joinDomains ds es) (turnAt doc k) scope Value.nil
 
 abbrev pub LinesTold : List ℕ → ℕ → Lines → List ℕ → List ℕ → ℕ → ℕ → Worked → Type 0
 LinesTold doc k ls state work n m r =
-    (scope : Scope) → Scoped state work n scope → Scoped state work (n + m) scope → (ds : Domains) → Pending work n m ds → Told Flowed r (linesThen doc k ls ds scope)
+    (scope : Environment) → Scoped state work n scope → Scoped state work (n + m) scope → (ds : Domains) → Pending work n m ds → Told Flowed r (linesThen doc k ls ds scope)
 
 abbrev pub AssignTold : List ℕ → ℕ → List ℕ → List ℕ → ℕ → ℕ → Held → Worked → Type 0
 AssignTold doc k state work n m s r =
-    (scope : Scope) → Scoped state work n scope → (ds : Domains) → Pending work n m ds → (vs : Values) → Holds s (Value.set vs) → Told Flowed r (assign ds (turnAt doc k) scope vs)
+    (scope : Environment) → Scoped state work n scope → (ds : Domains) → Pending work n m ds → (vs : Values) → Holds s (Value.set vs) → Told Flowed r (assign ds (turnAt doc k) scope vs)
 
 abbrev pub EachTold : List ℕ → ℕ → List ℕ → List ℕ → ℕ → ℕ → ℕ → ℕ → Held → Worked → Type 0
 EachTold doc k state work n m at c s r =
-    (scope : Scope) → Scoped state work n scope → (i : ℕ) (us : Values) (ds : Domains) → Pending work n (suc m) (domain i us ds) → (vs : Values) → RestIn work n at c vs →
+    (scope : Environment) → Scoped state work n scope → (i : ℕ) (us : Values) (ds : Domains) → Pending work n (suc m) (domain i us ds) → (vs : Values) → RestIn work n at c vs →
     (ss : Values) → Holds s (Value.set ss) → Told Flowed r (each i vs (λ scope′ s′. assign ds (turnAt doc k) scope′ s′) scope ss)
 
 abbrev pub BodyTold : Body → List ℕ → List ℕ → ℕ → Held → Worked → Type 0
-BodyTold body state work n s r = (scope : Scope) → Scoped state work n scope → (vs : Values) → Holds s (Value.set vs) → Told Flowed r (body scope vs)
+BodyTold body state work n s r = (scope : Environment) → Scoped state work n scope → (vs : Values) → Holds s (Value.set vs) → Told Flowed r (body scope vs)

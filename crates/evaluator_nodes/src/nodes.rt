@@ -53,7 +53,7 @@ ghost use Rattle.reader_rules.specs.Limited.{declaredCount};
 ghost use Rattle.reader_rules.specs.Nodes.{kindAt, operandAt};
 ghost use Rattle.reader_rules.specs.Promise.{At, Lower};
 ghost use Rattle.reader_rules.specs.Decode.{exprAt, predAt, exprsFrom, linesFrom};
-ghost use Rattle.evaluator_rules.specs.Scope.{Scope};
+ghost use Rattle.evaluator_rules.specs.Environment.{Environment};
 ghost use Rattle.evaluator_rules.specs.Assignments.{Domains};
 ghost use Rattle.evaluator_rules.specs.Operations.{allPass};
 ghost use Rattle.evaluator_rules.specs.Rules.{evalExpr, evalExprs, evalMembers, evalPred, test, testExprs};

@@ -26,27 +26,27 @@ use Rattle.states_rules.specs.Names.{Name, namesAs, lineNames, paragraphNames, 
 use Rattle.states_rules.specs.States.{State}
 use Rattle.states.proofs.NameLaws.{as-length, text-line, decl-words}
 use Rattle.evaluator_rules.specs.Outcomes.{Outcome, _>>=_, pure, stop}
-use Rattle.evaluator_rules.specs.Scope.{Scope, bind, valued, generic}
+use Rattle.evaluator_rules.specs.Environment.{Environment, bind, valued, generic}
 use Rattle.evaluator_rules.specs.Rules.{evalExpr, evalPred, test, stopInclude}
 use Rattle.evaluator_rules.specs.Paragraphs.{Step, onward, failed, then, unless, bindGivens, testNames, testLines, runParagraph, runParagraphs}
 use Rattle.evaluator_operations.specs.declared.worked.Worked.{Worked}
 use Rattle.evaluator_operations.specs.Worked.{Holds, Told, fine, ceased, Valued, Judged, Stops}
 use Rattle.evaluator_scope.specs.Blocks.{Scoped}
 use Rattle.evaluator_scope.specs.Named.{Among, Declares, Extends}
-use Rattle.evaluator_paragraphs.specs.Paragraphs.{bindLines, demanded, Stepped, Failed, Tested, Steps}
+use Rattle.evaluator_paragraphs.specs.Paragraphs.{bindLines, demanded, Stepped, Failed, TestsTold, Steps}
 use Rattle.evaluator_operations.proofs.ToldLaws.{after-told, stop-told, go-told, halt-told, choose-told}
 use Rattle.evaluator_scope.proofs.NamedLaws.{among-left, among-right, among-as}
 
 -- ---- steps
-module _ (P : Scope → Type 0) {r : Worked} where
-  pub step-on : (scope : Scope) → r .number ≡ 0 → r .flag ≡ true → P scope → Told (Stepped P) r (pure (onward scope))
+module _ (P : Environment → Type 0) {r : Worked} where
+  pub step-on : (scope : Environment) → r .number ≡ 0 → r .flag ≡ true → P scope → Told (Stepped P) r (pure (onward scope))
   step-on scope z f p = fine {a = onward scope} z (f, p)
 
   pub step-failed : (k : ℕ) → Failed r k → Told (Stepped P) r (pure (failed k))
   step-failed k h = fine {a = failed k} (h .number) (h .flag, h .place)
 
-module _ {P Q : Scope → Type 0} {o : Outcome Step} (k : Scope → Outcome Step) where
-  pub then-go : {y r : Worked} → Told (Stepped P) y o → y .number ≡ 0 → y .flag ≡ true → ((scope : Scope) → P scope → Told (Stepped Q) r (k scope)) → Told (Stepped Q) r (o >>= then k)
+module _ {P Q : Environment → Type 0} {o : Outcome Step} (k : Environment → Outcome Step) where
+  pub then-go : {y r : Worked} → Told (Stepped P) y o → y .number ≡ 0 → y .flag ≡ true → ((scope : Environment) → P scope → Told (Stepped Q) r (k scope)) → Told (Stepped Q) r (o >>= then k)
   unfolding then
   then-go {y} {r} t z f m = go-told t z go
     where
@@ -63,7 +63,7 @@ module _ {P Q : Scope → Type 0} {o : Outcome Step} (k : Scope → Outcome Step
       go (failed n) g = step-failed Q n (record { number = z; flag = f; place = g .1 })
 
 -- ---- a predicate that must be true
-module _ {P : Scope → Type 0} (k : ℕ) (p : Pred) (scope : Scope) {y : Worked} (t : Told Judged y (evalPred p scope)) where
+module _ {P : Environment → Type 0} (k : ℕ) (p : Pred) (scope : Environment) {y : Worked} (t : Told Judged y (evalPred p scope)) where
   pub demand-stops : (y .number ≡ 0 → ⊥) → Told (Stepped P) y (demanded k p scope)
   unfolding demanded
   demand-stops z = halt-told _ t z
@@ -86,21 +86,21 @@ module _ {P : Scope → Type 0} (k : ℕ) (p : Pred) (scope : Scope) {y : Worked
 
 -- ---- the identifiers of a Decl
 module _ (v : ℕ) (f : Value → Outcome Bool) (x : List ℕ) (j : ℕ) (s : State) where
-  pub names-end : {r : Worked} → length x ≤ j → r .number ≡ 0 → r .flag ≡ true → Tested (bindGivens (drop j x) s) r (testNames v f (drop j x) s)
+  pub names-end : {r : Worked} → length x ≤ j → r .number ≡ 0 → r .flag ≡ true → TestsTold (bindGivens (drop j x) s) r (testNames v f (drop j x) s)
   unfolding testNames bindGivens
   names-end h z e own = rw (drop-done x j h) (step-on (λ o. o ≡ own) own z e refl)
 
   module _ (h : j < length x) {y : Worked} (t : Told Judged y (f (s (getD x j 0)))) where
-    pub names-stop : (y .number ≡ 0 → ⊥) → Tested (bindGivens (drop j x) s) y (testNames v f (drop j x) s)
+    pub names-stop : (y .number ≡ 0 → ⊥) → TestsTold (bindGivens (drop j x) s) y (testNames v f (drop j x) s)
     unfolding testNames bindGivens
     names-stop z own = rw (drop-next x j h) (halt-told _ t z)
 
-    pub names-failed : {r : Worked} → y .number ≡ 0 → y .flag ≡ false → Failed r v → Tested (bindGivens (drop j x) s) r (testNames v f (drop j x) s)
+    pub names-failed : {r : Worked} → y .number ≡ 0 → y .flag ≡ false → Failed r v → TestsTold (bindGivens (drop j x) s) r (testNames v f (drop j x) s)
     unfolding testNames bindGivens
     names-failed z e g own = rw (drop-next x j h) (go-told t z (λ b q. choose-told b (λ n. absurd (true≢false (sym n ∙ sym (q .flag) ∙ e))) (λ n. step-failed _ v g)))
 
-    pub names-go : {r : Worked} → y .number ≡ 0 → y .flag ≡ true → Tested (bindGivens (drop (j + 1) x) s) r (testNames v f (drop (j + 1) x) s) →
-        Tested (bindGivens (drop j x) s) r (testNames v f (drop j x) s)
+    pub names-go : {r : Worked} → y .number ≡ 0 → y .flag ≡ true → TestsTold (bindGivens (drop (j + 1) x) s) r (testNames v f (drop (j + 1) x) s) →
+        TestsTold (bindGivens (drop j x) s) r (testNames v f (drop j x) s)
     unfolding testNames bindGivens
     names-go z e m own =
         rw (drop-next x j h)
@@ -114,8 +114,8 @@ names-counted (declaration n a xs ls) = length-append (namesAs false xs) (lineNa
 names-counted (inclusion i ls) = names-counted ls
 
 module _ (doc : List ℕ) (t : ℕ) (s : State) where
-  pub lines-over : {r : Worked} (scope : Scope) (i e : ℕ) → e ≤ i → r .number ≡ 0 → r .flag ≡ true →
-      Tested (bindLines (linesFrom doc t i (e - i)) s) r (testLines (linesFrom doc t i (e - i)) s scope)
+  pub lines-over : {r : Worked} (scope : Environment) (i e : ℕ) → e ≤ i → r .number ≡ 0 → r .flag ≡ true →
+      TestsTold (bindLines (linesFrom doc t i (e - i)) s) r (testLines (linesFrom doc t i (e - i)) s scope)
   unfolding testLines bindLines
   lines-over scope i e h z f own = rw (lines-end doc t e i h) (step-on (λ o. o ≡ own) own z f refl)
 
@@ -149,22 +149,22 @@ module _ (doc : List ℕ) (t : ℕ) (s : State) where
     these-include : kindAt doc v ≡ 12 → these ≡ inclusion (includeAt doc v) rest
     these-include k = lines-go doc t (length (part doc t)) i q ∙ (rw (← x) (line-inclusion doc v k rest))
 
-    pub include-stop : {r : Worked} (scope : Scope) → kindAt doc v ≡ 12 → Stops r 54 v → Tested (bindLines these s) r (testLines these s scope)
+    pub include-stop : {r : Worked} (scope : Environment) → kindAt doc v ≡ 12 → Stops r 54 v → TestsTold (bindLines these s) r (testLines these s scope)
     unfolding testLines stopInclude
     include-stop scope k a own = rw (these-include k, include-law doc lines v this-line k (operandAt doc v 3) refl .tree) (stop-told a (λ z. omega arith))
 
-    module _ (k : kindAt doc v ≡ 11) (scope : Scope) {y : Worked} (d : Tested (bindGivens (drop 2 (part doc v)) s) y (testNames v (test (exprAt doc (operandAt doc v 1)) scope) (drop 2 (part doc v)) s)) where
-      pub decl-stop : (y .number ≡ 0 → ⊥) → Tested (bindLines these s) y (testLines these s scope)
+    module _ (k : kindAt doc v ≡ 11) (scope : Environment) {y : Worked} (d : TestsTold (bindGivens (drop 2 (part doc v)) s) y (testNames v (test (exprAt doc (operandAt doc v 1)) scope) (drop 2 (part doc v)) s)) where
+      pub decl-stop : (y .number ≡ 0 → ⊥) → TestsTold (bindLines these s) y (testLines these s scope)
       unfolding testLines
       decl-stop z own = rw (these-decl k) (halt-told _ (d own) z)
 
-      pub decl-failed : y .number ≡ 0 → y .flag ≡ false → Tested (bindLines these s) y (testLines these s scope)
+      pub decl-failed : y .number ≡ 0 → y .flag ≡ false → TestsTold (bindLines these s) y (testLines these s scope)
       unfolding testLines
       decl-failed z f own = rw (these-decl k) (then-failed (λ o. testLines rest s scope o) (d own) z f)
 
-      pub decl-go : {r : Worked} → y .number ≡ 0 → y .flag ≡ true → Tested (bindLines rest s) r (testLines rest s scope) → Tested (bindLines these s) r (testLines these s scope)
+      pub decl-go : {r : Worked} → y .number ≡ 0 → y .flag ≡ true → TestsTold (bindLines rest s) r (testLines rest s scope) → TestsTold (bindLines these s) r (testLines these s scope)
       unfolding testLines bindLines
-      decl-go {r} z f m own = rw (these-decl k) (then-go (λ o. testLines rest s scope o) (d own) z f (λ o e. subst (λ (z : Scope). Told (Stepped (λ a. a ≡ bindLines rest s z)) r (testLines rest s scope o)) e (m o)))
+      decl-go {r} z f m own = rw (these-decl k) (then-go (λ o. testLines rest s scope o) (d own) z f (λ o e. subst (λ (z : Environment). Told (Stepped (λ a. a ≡ bindLines rest s z)) r (testLines rest s scope o)) e (m o)))
 
     pub include-count : kindAt doc v ≡ 12 → declaredCount these ≡ declaredCount rest
     unfolding declaredCount
@@ -254,11 +254,11 @@ module _ (doc : List ℕ) (k : ℕ) (h : At doc paragraphs k) (s : State) (state
       plain-tree : paragraphAt doc k ≡ abbreviation k (operandAt doc k 1) [] (exprAt doc (operandAt doc k 3))
       plain-tree = tree ∙ rw p
 
-      pub plain-stops : {y : Worked} (scope : Scope) → Told Valued y (evalExpr (exprAt doc (operandAt doc k 3)) scope) → (y .number ≡ 0 → ⊥) → Told (Stepped (Scoped state w1 (n + 1))) y (runParagraph (paragraphAt doc k) s scope)
+      pub plain-stops : {y : Worked} (scope : Environment) → Told Valued y (evalExpr (exprAt doc (operandAt doc k 3)) scope) → (y .number ≡ 0 → ⊥) → Told (Stepped (Scoped state w1 (n + 1))) y (runParagraph (paragraphAt doc k) s scope)
       unfolding runParagraph
       plain-stops scope t z = rw plain-tree (halt-told _ t z)
 
-      pub plain-goes : {y r : Worked} (scope : Scope) → Told Valued y (evalExpr (exprAt doc (operandAt doc k 3)) scope) → y .number ≡ 0 → r .number ≡ 0 → r .flag ≡ true →
+      pub plain-goes : {y r : Worked} (scope : Environment) → Told Valued y (evalExpr (exprAt doc (operandAt doc k 3)) scope) → y .number ≡ 0 → r .number ≡ 0 → r .flag ≡ true →
           ((x : Value) → Holds (y .held) x → Scoped state w1 (n + 1) (bind (operandAt doc k 1) (valued x) scope)) → Told (Stepped (Scoped state w1 (n + 1))) r (runParagraph (paragraphAt doc k) s scope)
       unfolding runParagraph
       plain-goes scope t z a b m = rw plain-tree (go-told t z (λ x g. step-on (Scoped state w1 (n + 1)) (bind (operandAt doc k 1) (valued x) scope) a b (m x (g .held))))
@@ -285,7 +285,7 @@ module _ (doc : List ℕ) (k : ℕ) (h : At doc paragraphs k) (q : kindAt doc k 
   unfolding paragraphNames
   axiom-names = rw axiom-tree
 
-  module _ {P : Scope → Type 0} (scope : Scope) {y : Worked} (t : Tested (bindLines all s) y (testLines all s scope)) where
+  module _ {P : Environment → Type 0} (scope : Environment) {y : Worked} (t : TestsTold (bindLines all s) y (testLines all s scope)) where
     pub axiom-stops : (y .number ≡ 0 → ⊥) → Told (Stepped P) y (runParagraph (paragraphAt doc k) s scope)
     unfolding runParagraph
     axiom-stops z = rw axiom-tree (halt-told _ (t scope) z)
@@ -323,7 +323,7 @@ module _ (doc : List ℕ) (s : State) (i : ℕ) where
   abbrev size : ℕ
   size = length (part doc (count doc))
 
-  pub run-over : {r : Worked} (scope : Scope) → size ≤ i → r .number ≡ 0 → r .flag ≡ true → Told (Stepped (λ z. Unit {0})) r (runParagraphs (paragraphsFrom doc (count doc) i (size - i)) s scope)
+  pub run-over : {r : Worked} (scope : Environment) → size ≤ i → r .number ≡ 0 → r .flag ≡ true → Told (Stepped (λ z. Unit {0})) r (runParagraphs (paragraphsFrom doc (count doc) i (size - i)) s scope)
   unfolding runParagraphs
   run-over scope h z f = rw (paragraphs-end doc (count doc) size i h) (step-on (λ o. Unit {0}) scope z f tt)
 
@@ -349,16 +349,16 @@ module _ (doc : List ℕ) (s : State) (i : ℕ) where
     unfolding namesOf
     declares-others e = record { each = λ j a. (rw these-paragraphs at e) .each j (among-right (paragraphNames (paragraphAt doc v)) _ a) }
 
-    module _ {P : Scope → Type 0} (scope : Scope) {y : Worked} (t : Told (Stepped P) y (runParagraph (paragraphAt doc v) s scope)) where
-      pub run-stops : {Q : Scope → Type 0} → (y .number ≡ 0 → ⊥) → Told (Stepped Q) y (runParagraphs (paragraphsFrom doc (count doc) i (size - i)) s scope)
+    module _ {P : Environment → Type 0} (scope : Environment) {y : Worked} (t : Told (Stepped P) y (runParagraph (paragraphAt doc v) s scope)) where
+      pub run-stops : {Q : Environment → Type 0} → (y .number ≡ 0 → ⊥) → Told (Stepped Q) y (runParagraphs (paragraphsFrom doc (count doc) i (size - i)) s scope)
       unfolding runParagraphs
       run-stops z = rw these-paragraphs (halt-told _ t z)
 
-      pub run-fails : {Q : Scope → Type 0} → y .number ≡ 0 → y .flag ≡ false → Told (Stepped Q) y (runParagraphs (paragraphsFrom doc (count doc) i (size - i)) s scope)
+      pub run-fails : {Q : Environment → Type 0} → y .number ≡ 0 → y .flag ≡ false → Told (Stepped Q) y (runParagraphs (paragraphsFrom doc (count doc) i (size - i)) s scope)
       unfolding runParagraphs
       run-fails z f = rw these-paragraphs (then-failed (λ o. runParagraphs later s o) t z f)
 
-      pub run-goes : {Q : Scope → Type 0} {r : Worked} → y .number ≡ 0 → y .flag ≡ true → ((own : Scope) → P own → Told (Stepped Q) r (runParagraphs later s own)) →
+      pub run-goes : {Q : Environment → Type 0} {r : Worked} → y .number ≡ 0 → y .flag ≡ true → ((own : Environment) → P own → Told (Stepped Q) r (runParagraphs later s own)) →
           Told (Stepped Q) r (runParagraphs (paragraphsFrom doc (count doc) i (size - i)) s scope)
       unfolding runParagraphs
       run-goes z f m = rw these-paragraphs (then-go (λ o. runParagraphs later s o) t z f m)

@@ -28,14 +28,14 @@ ghost use Rattle.reader_rules.specs.Decode.{exprAt, predAt, linesFrom, paragrap
 ghost use Rattle.reader_rules.specs.Limited.{declaredCount, globalsOf, globalCount};
 ghost use Rattle.states_rules.specs.Names.{namesAs, lineNames, paragraphNames, namesOf};
 ghost use Rattle.states_rules.specs.States.{State};
-ghost use Rattle.evaluator_rules.specs.Scope.{Scope};
+ghost use Rattle.evaluator_rules.specs.Environment.{Environment};
 ghost use Rattle.evaluator_rules.specs.Rules.{test};
 ghost use Rattle.evaluator_rules.specs.Paragraphs.{bindGivens, testNames, testLines, runParagraph, runParagraphs};
 ghost use Rattle.evaluator_operations.specs.Worked.{Told};
 ghost use Rattle.evaluator_scope.specs.Blocks.{Scoped, Leaves};
 ghost use Rattle.evaluator_scope.specs.Named.{Declares, Stated, Extends, said};
 ghost use Rattle.evaluator_nodes.specs.Ready.{Ready};
-ghost use Rattle.evaluator_paragraphs.specs.Paragraphs.{demanded, Roomy, bindLines, Stepped, Failed, Tested, Steps};
+ghost use Rattle.evaluator_paragraphs.specs.Paragraphs.{demanded, Roomy, bindLines, Stepped, Failed, TestsTold, Steps};
 
 // A failure at node k.
 fn fail(k: usize) -> Worked
@@ -62,7 +62,7 @@ fn test_names(
     j: usize,
 ) -> Worked
     requires { ⌜ Stated (now doc) (now state) (now table) × Ready (now doc) (now work) expressions n (getD (now x) 1 0) × Declares (now doc) (namesAs true (drop j (now x))) × (v ≤ 1024) × (length (now x) ≤ 256) ⌝ }
-    ensures { λ r. ⌜ Leaves n (now (work .entry)) (now (work .exit)) ((scope : Scope) → Scoped (now (state .entry)) (now (work .entry)) n scope → Tested (bindGivens (drop j (now (x .entry))) (said (now (doc .entry)) (now (state .entry)))) r (testNames v (test (exprAt (now (doc .entry)) (getD (now (x .entry)) 1 0)) scope) (drop j (now (x .entry))) (said (now (doc .entry)) (now (state .entry))))) ⌝ }
+    ensures { λ r. ⌜ Leaves n (now (work .entry)) (now (work .exit)) ((scope : Environment) → Scoped (now (state .entry)) (now (work .entry)) n scope → TestsTold (bindGivens (drop j (now (x .entry))) (said (now (doc .entry)) (now (state .entry)))) r (testNames v (test (exprAt (now (doc .entry)) (getD (now (x .entry)) 1 0)) scope) (drop j (now (x .entry))) (said (now (doc .entry)) (now (state .entry))))) ⌝ }
 {
     if x.len() <= j {
         return judge(true);
@@ -96,7 +96,7 @@ fn test_lines(
     i: usize,
 ) -> Worked
     requires { ⌜ Stated (now doc) (now state) (now table) × At (now doc) texts t × (now u ≡ part (now doc) t) × (2 ≤ i) × (i ≤ 256) × Roomy (now work) n 0 × Declares (now doc) (lineNames (linesFrom (now doc) t i (length (now u) - i))) ⌝ }
-    ensures { λ r. ⌜ Leaves n (now (work .entry)) (now (work .exit)) ((scope : Scope) → Scoped (now (state .entry)) (now (work .entry)) n scope → Tested (bindLines (linesFrom (now (doc .entry)) t i (length (now (u .entry)) - i)) (said (now (doc .entry)) (now (state .entry)))) r (testLines (linesFrom (now (doc .entry)) t i (length (now (u .entry)) - i)) (said (now (doc .entry)) (now (state .entry))) scope)) ⌝ }
+    ensures { λ r. ⌜ Leaves n (now (work .entry)) (now (work .exit)) ((scope : Environment) → Scoped (now (state .entry)) (now (work .entry)) n scope → TestsTold (bindLines (linesFrom (now (doc .entry)) t i (length (now (u .entry)) - i)) (said (now (doc .entry)) (now (state .entry)))) r (testLines (linesFrom (now (doc .entry)) t i (length (now (u .entry)) - i)) (said (now (doc .entry)) (now (state .entry))) scope)) ⌝ }
 {
     if u.len() <= i {
         return judge(true);
@@ -274,7 +274,7 @@ pub fn run_from(
     i: usize,
 ) -> Worked
     requires { ⌜ Stated (now doc) (now state) (now table) × (now w ≡ part (now doc) (count (now doc))) × (1 ≤ i) × (i ≤ 256) × Roomy (now work) n (globalCount (paragraphsFrom (now doc) (count (now doc)) i (length (now w) - i))) × Declares (now doc) (namesOf (paragraphsFrom (now doc) (count (now doc)) i (length (now w) - i))) ⌝ }
-    ensures { λ r. ⌜ ((scope : Scope) → Scoped (now (state .entry)) (now (work .entry)) n scope → Told (Stepped (λ s. Unit {0})) r (runParagraphs (paragraphsFrom (now (doc .entry)) (count (now (doc .entry))) i (length (now (w .entry)) - i)) (said (now (doc .entry)) (now (state .entry))) scope)) ⌝ }
+    ensures { λ r. ⌜ ((scope : Environment) → Scoped (now (state .entry)) (now (work .entry)) n scope → Told (Stepped (λ s. Unit {0})) r (runParagraphs (paragraphsFrom (now (doc .entry)) (count (now (doc .entry))) i (length (now (w .entry)) - i)) (said (now (doc .entry)) (now (state .entry))) scope)) ⌝ }
 {
     if w.len() <= i {
         return judge(true);

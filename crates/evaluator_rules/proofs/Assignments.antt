@@ -4,7 +4,7 @@ use mathlib.Core.List.{List, [], _∷_, _++_, append-assoc, append-nil}
 use Prim.Native.Nat.{ℕ}
 use Rattle.values.specs.Value.{Values, nil, cons}
 use Rattle.evaluator_rules.specs.Outcomes.{Event, Outcome, done, stopped, after, _>>=_, pure}
-use Rattle.evaluator_rules.specs.Scope.{Scope, bind, valued}
+use Rattle.evaluator_rules.specs.Environment.{Environment, bind, valued}
 use Rattle.evaluator_rules.specs.Assignments.{Domains, noMore, domain, Flow, go, halt, Body, next, each, assign}
 use Rattle.evaluator_rules.specs.Listing.{through, assignments}
 
@@ -29,7 +29,7 @@ bind-assoc (done t a) f g = after-bind t (f a) g
 bind-assoc (stopped t w n) f g = refl
 
 -- one assignment after the other, until one halts
-unfoldable pub over : List Scope → Body → Values → Outcome Flow
+unfoldable pub over : List Environment → Body → Values → Outcome Flow
 over [] k s = pure (go s)
 over (x ∷ xs) k s = k x s >>= next (λ s′. over xs k s′)
 
@@ -55,19 +55,19 @@ pub next-go : (s : Values) (f : Values → Outcome Flow) → (pure (go s) >>= ne
 unfolding _>>=_ next
 next-go s f = after-nil (f s)
 
-over-append : (xs ys : List Scope) (k : Body) (s : Values) → over (xs ++ ys) k s ≡ (over xs k s >>= next (λ s′. over ys k s′))
+over-append : (xs ys : List Environment) (k : Body) (s : Values) → over (xs ++ ys) k s ≡ (over xs k s >>= next (λ s′. over ys k s′))
 unfolding over
 over-append [] ys k s = sym (next-go s (λ s′. over ys k s′))
 over-append (x ∷ xs) ys k s = next-same (k x s) _ _ (λ s′. over-append xs ys k s′) ∙ sym (next-next (k x s) (λ s′. over xs k s′) (λ s′. over ys k s′))
 
-each-over : (i : ℕ) (vs : Values) (k g : Body) (f : Scope → List Scope) (scope : Scope) (s : Values) → ((scope′ : Scope) (s′ : Values) → g scope′ s′ ≡ over (f scope′) k s′) → each i vs g scope s ≡ over (through i vs f scope) k s
+each-over : (i : ℕ) (vs : Values) (k g : Body) (f : Environment → List Environment) (scope : Environment) (s : Values) → ((scope′ : Environment) (s′ : Values) → g scope′ s′ ≡ over (f scope′) k s′) → each i vs g scope s ≡ over (through i vs f scope) k s
 unfolding each through over
 each-over i nil k g f scope s h = refl
 each-over i (cons v vs) k g f scope s h =
     next-same (g (bind i (valued v) scope) s) _ _ (λ s′. each-over i vs k g f scope s′ h)
     ∙ ap (λ (m : Outcome Flow). m >>= next (λ s′. over (through i vs f scope) k s′)) (h (bind i (valued v) scope) s) ∙ sym (over-append (f (bind i (valued v) scope)) (through i vs f scope) k s)
 
-pub assign-over : (ds : Domains) (k : Body) (scope : Scope) (s : Values) → assign ds k scope s ≡ over (assignments ds scope) k s
+pub assign-over : (ds : Domains) (k : Body) (scope : Environment) (s : Values) → assign ds k scope s ≡ over (assignments ds scope) k s
 unfolding assign assignments over
 assign-over noMore k scope s = sym (next-last (k scope s))
 assign-over (domain i vs ds) k scope s = each-over i vs k _ _ scope s (λ scope′ s′. assign-over ds k scope′ s′)

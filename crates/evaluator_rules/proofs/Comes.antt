@@ -12,7 +12,7 @@ use Rattle.values_integers.specs.declared.integer.Integer.the-variants.{Whole, 
 use Rattle.reader_rules.specs.Tree.{Expr, Exprs, none, more, exprNode, Operator}
 use Rattle.evaluator_rules.specs.WordCount.{wordCount}
 use Rattle.evaluator_rules.specs.Outcomes.{Event, Outcome, done, stopped, after, _>>=_, keepIf, keep}
-use Rattle.evaluator_rules.specs.Scope.{Scope, valued, generic, unknown, lookup, refer}
+use Rattle.evaluator_rules.specs.Environment.{Environment, valued, generic, unknown, lookup, refer}
 use Rattle.evaluator_rules.specs.Operations.{asInteger, asSet, asTuple, addIf, add, image, findPair, keepInteger, calculate, countIf, sameCount}
 use Rattle.evaluator_rules.specs.Rules.{testExpr, amongMembers}
 use Rattle.evaluator_rules.specs.Listing
@@ -94,21 +94,21 @@ pub other-count : (n a b : ℕ) → (a ≡ b → ⊥) → Comes (sameCount n a b
 unfolding sameCount countIf
 other-count n a b h = rw (ne-eqb a b h) ceased
 
-pub refer-unknown : (n i : ℕ) (xs : Exprs) (scope : Scope) → lookup i scope ≡ unknown → Comes (refer n xs (lookup i scope)) [] (stops 51 n)
+pub refer-unknown : (n i : ℕ) (xs : Exprs) (scope : Environment) → lookup i scope ≡ unknown → Comes (refer n xs (lookup i scope)) [] (stops 51 n)
 unfolding refer
 refer-unknown n i none scope e = rw e ceased
 refer-unknown n i (more a xs) scope e = rw e ceased
 
-pub refer-generic : (n i : ℕ) (xs : Exprs) (scope : Scope) → lookup i scope ≡ generic → Comes (refer n xs (lookup i scope)) [] (stops 54 n)
+pub refer-generic : (n i : ℕ) (xs : Exprs) (scope : Environment) → lookup i scope ≡ generic → Comes (refer n xs (lookup i scope)) [] (stops 54 n)
 unfolding refer
 refer-generic n i none scope e = rw e ceased
 refer-generic n i (more a xs) scope e = rw e ceased
 
-pub refer-actuals : (n i : ℕ) (a : Expr) (xs : Exprs) (scope : Scope) (v : Value) → lookup i scope ≡ valued v → Comes (refer n (more a xs) (lookup i scope)) [] (stops 51 n)
+pub refer-actuals : (n i : ℕ) (a : Expr) (xs : Exprs) (scope : Environment) (v : Value) → lookup i scope ≡ valued v → Comes (refer n (more a xs) (lookup i scope)) [] (stops 51 n)
 unfolding refer
 refer-actuals n i a xs scope v e = rw e ceased
 
-pub refer-valued : (n i : ℕ) (scope : Scope) (v : Value) {t : List Event} {r : Result Value} → lookup i scope ≡ valued v → Enters n v t r → Comes (refer n none (lookup i scope)) t r
+pub refer-valued : (n i : ℕ) (scope : Environment) (v : Value) {t : List Event} {r : Result Value} → lookup i scope ≡ valued v → Enters n v t r → Comes (refer n none (lookup i scope)) t r
 unfolding refer
 refer-valued n i scope v e h = rw e (enters-comes h)
 
@@ -137,7 +137,7 @@ unfolding keepInteger
 past-32 n o j k e = rw e ceased
 
 -- any other E than ℤ, Power and Product is worked out anew
-pub worked-anew : (a : Expr) (f : Scope → Outcome Value) (v : Value) (scope : Scope) → Another a → testExpr a f v scope ≡ (f scope >>= amongMembers (exprNode a) v)
+pub worked-anew : (a : Expr) (f : Environment → Outcome Value) (v : Value) (scope : Environment) → Another a → testExpr a f v scope ≡ (f scope >>= amongMembers (exprNode a) v)
 unfolding testExpr exprNode
 worked-anew _ f v scope Listing.aReference = refl
 worked-anew _ f v scope Listing.aNumber = refl

@@ -5,7 +5,7 @@ use mathlib.Core.Bool.{Bool}
 use Rattle.values.specs.Value.{Value, Values}
 use Rattle.reader_rules.specs.Tree.{Expr, Exprs, Pred, Lines}
 use Rattle.evaluator_rules.specs.Outcomes.{Event, Outcome}
-use Rattle.evaluator_rules.specs.Scope.{Scope}
+use Rattle.evaluator_rules.specs.Environment.{Environment}
 use Rattle.evaluator_rules.specs.Assignments.{Domains}
 use Rattle.evaluator_rules.specs.Rules.{evalExpr, evalExprs, evalPred, evalLines, test}
 use Rattle.evaluator_rules.specs.Listing.{Result, gives, stops, Works, WorksAll, Tells, Declares, Tests}
@@ -33,7 +33,7 @@ come Comes.finished = gave
 pub stop-come : {A : Type 0} {o : Outcome A} {w m : ℕ} {t : List Event} → Comes o t (stops w m) → Stops o w m
 stop-come Comes.ceased = broke
 
-module _ (a : Expr) (scope : Scope) where
+module _ (a : Expr) (scope : Environment) where
   pub value-said : {x : Value} → Gives (evalExpr a scope) x → Some (Works a scope) (gives x)
   value-said h = said (expr-says a scope) h
 
@@ -58,14 +58,14 @@ module _ (a : Expr) (scope : Scope) where
   pub test-stops : (v : Value) {t : List Event} {w m : ℕ} → Tests a scope v t (stops w m) → Stops (test a scope v) w m
   test-stops v h = stop-come (only-expr a .tests _ _ _ _ h)
 
-module _ (xs : Exprs) (scope : Scope) where
+module _ (xs : Exprs) (scope : Environment) where
   pub values-said : {vs : Values} → Gives (evalExprs xs scope) vs → Some (WorksAll xs scope) (gives vs)
   values-said h = said (exprs-says xs scope) h
 
   pub values-come : {t : List Event} {vs : Values} → WorksAll xs scope t (gives vs) → Gives (evalExprs xs scope) vs
   values-come h = come (only-exprs xs .works _ _ _ h)
 
-module _ (p : Pred) (scope : Scope) where
+module _ (p : Pred) (scope : Environment) where
   pub truth-said : {b : Bool} → Gives (evalPred p scope) b → Some (Tells p scope) (gives b)
   truth-said h = said (pred-says p scope) h
 
@@ -78,7 +78,7 @@ module _ (p : Pred) (scope : Scope) where
   pub truth-stops : {t : List Event} {w m : ℕ} → Tells p scope t (stops w m) → Stops (evalPred p scope) w m
   truth-stops h = stop-come (only-pred p .tells _ _ _ h)
 
-module _ (ls : Lines) (scope : Scope) where
+module _ (ls : Lines) (scope : Environment) where
   pub sets-said : {ds : Domains} → Gives (evalLines ls scope) ds → Some (Declares ls scope) (gives ds)
   sets-said h = said (lines-say ls scope) h
 

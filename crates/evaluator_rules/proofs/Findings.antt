@@ -16,7 +16,7 @@ use Rattle.reader_rules.specs.Tree as Tree
 use Rattle.values.specs.SetValues.{Image, found, misfit, undefined, applyValue}
 use Rattle.evaluator_rules.specs.WordCount.{wordCount}
 use Rattle.evaluator_rules.specs.Outcomes.{Outcome, _>>=_, stop, keepIf, keep}
-use Rattle.evaluator_rules.specs.Scope.{Scope, Meaning, valued, generic, unknown, refer}
+use Rattle.evaluator_rules.specs.Environment.{Environment, Meaning, valued, generic, unknown, refer}
 use Rattle.evaluator_rules.specs.Operations.{asInteger, asSet, asTuple, addIf, add, image, findPair, keepInteger, connect, allPass, countIf, sameCount}
 use Rattle.evaluator_rules.specs.Assignments.{Domains, noMore, domain, Flow, go, halt, Body, next, each, assign}
 use Rattle.evaluator_rules.specs.Rules.{amongMembers, stopInclude, evalExpr, evalExprs, evalMembers, evalPred, overText, evalLines, testExpr, testExprs}
@@ -126,19 +126,19 @@ include-fine (include n s k xs rs) = trouble (omega arith) (omega arith)
 
 -- assignments
 abbrev FineBody : Body → Type 0
-FineBody k = (scope : Scope) (s : Values) → Fine (k scope s)
+FineBody k = (scope : Environment) (s : Values) → Fine (k scope s)
 
 next-fine : (k : Values → Outcome Flow) (f : Flow) → ((s : Values) → Fine (k s)) → Fine (next k f)
 unfolding next
 next-fine k (go s) h = h s
 next-fine k halt h = pure-good tt
 
-each-fine : (i : ℕ) (vs : Values) (k : Body) (scope : Scope) (s : Values) → FineBody k → Fine (each i vs k scope s)
+each-fine : (i : ℕ) (vs : Values) (k : Body) (scope : Environment) (s : Values) → FineBody k → Fine (each i vs k scope s)
 unfolding each
 each-fine i nil k scope s h = pure-good tt
 each-fine i (cons v vs) k scope s h = bind-fine (h _ s) (λ f. next-fine _ f (λ s′. each-fine i vs k scope s′ h))
 
-assign-fine : (ds : Domains) (k : Body) (scope : Scope) (s : Values) → FineBody k → Fine (assign ds k scope s)
+assign-fine : (ds : Domains) (k : Body) (scope : Environment) (s : Values) → FineBody k → Fine (assign ds k scope s)
 unfolding assign
 assign-fine noMore k scope s h = h scope s
 assign-fine (domain i vs ds) k scope s h = each-fine i vs _ scope s (λ scope′ s′. assign-fine ds k scope′ s′ h)
@@ -146,7 +146,7 @@ assign-fine (domain i vs ds) k scope s h = each-fine i vs _ scope s (λ scope′
 mutual
   unfolding evalExpr sameCount
 
-  pub expr-fine : (a : Expr) (scope : Scope) → Fine (evalExpr a scope)
+  pub expr-fine : (a : Expr) (scope : Environment) → Fine (evalExpr a scope)
   expr-fine (reference n i xs) scope = bind-fine (exprs-fine xs scope) (λ vs. refer-fine n xs _)
   expr-fine (number n k) scope = keep-fine n _
   expr-fine (integers n) scope = trouble (omega arith) (omega arith)
@@ -164,15 +164,15 @@ mutual
   expr-fine (comprehension n t a) scope =
       bind-fine (text-fine t _ scope nil (λ scope′ s. bind-fine (expr-fine a scope′) (λ v. bind-fine (add-fine n v s) (λ s′. pure-good tt)))) (λ f. keep-fine n _)
 
-  pub exprs-fine : (xs : Exprs) (scope : Scope) → Fine (evalExprs xs scope)
+  pub exprs-fine : (xs : Exprs) (scope : Environment) → Fine (evalExprs xs scope)
   exprs-fine none scope = pure-good tt
   exprs-fine (more a xs) scope = bind-fine (expr-fine a scope) (λ v. bind-fine (exprs-fine xs scope) (λ vs. pure-good tt))
 
-  pub members-fine : (xs : Exprs) (n : ℕ) (scope : Scope) (s : Values) → Fine (evalMembers xs n scope s)
+  pub members-fine : (xs : Exprs) (n : ℕ) (scope : Environment) (s : Values) → Fine (evalMembers xs n scope s)
   members-fine none n scope s = pure-good tt
   members-fine (more a xs) n scope s = bind-fine (expr-fine a scope) (λ v. bind-fine (add-fine n v s) (λ s′. members-fine xs n scope s′))
 
-  pub pred-fine : (p : Pred) (scope : Scope) → Fine (evalPred p scope)
+  pub pred-fine : (p : Pred) (scope : Environment) → Fine (evalPred p scope)
   pred-fine (truth n) scope = pure-good tt
   pred-fine (equal n a b) scope = bind-fine (expr-fine a scope) (λ x. bind-fine (expr-fine b scope) (λ y. pure-good tt))
   pred-fine (member n a b) scope = bind-fine (expr-fine a scope) (λ x. test-fine b _ x scope (λ scope′. expr-fine b scope′))
@@ -182,16 +182,16 @@ mutual
   pred-fine (connected n o p q) scope = bind-fine (pred-fine p scope) (λ b. connect-fine o b _ (pred-fine q scope))
   pred-fine (quantified n q t p) scope = bind-fine (text-fine t _ scope nil (λ scope′ s. bind-fine (pred-fine p scope′) (λ b. pure-good tt))) (λ f. pure-good tt)
 
-  pub text-fine : (t : Text) (k : Body) (scope : Scope) (s : Values) → FineBody k → Fine (overText t k scope s)
+  pub text-fine : (t : Text) (k : Body) (scope : Environment) (s : Values) → FineBody k → Fine (overText t k scope s)
   text-fine (text n p ls) k scope s h =
       bind-fine (lines-fine ls scope) (λ ds. assign-fine ds _ scope s (λ scope′ s′. bind-fine (pred-fine p scope′) (λ b. choose-good b (h scope′ s′) (pure-good tt))))
 
-  pub lines-fine : (ls : Lines) (scope : Scope) → Fine (evalLines ls scope)
+  pub lines-fine : (ls : Lines) (scope : Environment) → Fine (evalLines ls scope)
   lines-fine end scope = pure-good tt
   lines-fine (declaration n a xs ls) scope = bind-fine (expr-fine a scope) (λ v. bind-fine (set-fine n v) (λ vs. bind-fine (lines-fine ls scope) (λ ds. pure-good tt)))
   lines-fine (inclusion i ls) scope = include-fine i
 
-  pub test-fine : (a : Expr) (f : Scope → Outcome Value) (v : Value) (scope : Scope) → ((scope′ : Scope) → Fine (f scope′)) → Fine (testExpr a f v scope)
+  pub test-fine : (a : Expr) (f : Environment → Outcome Value) (v : Value) (scope : Environment) → ((scope′ : Environment) → Fine (f scope′)) → Fine (testExpr a f v scope)
   test-fine (reference n i xs) f v scope h = bind-fine (h scope) (λ s. among-fine n v s)
   test-fine (number n k) f v scope h = bind-fine (h scope) (λ s. among-fine n v s)
   test-fine (integers n) f v scope h = bind-fine (integer-fine n v) (λ z. pure-good tt)
@@ -206,7 +206,7 @@ mutual
   test-fine (arithmetic n o a b) f v scope h = bind-fine (h scope) (λ s. among-fine n v s)
   test-fine (comprehension n t a) f v scope h = bind-fine (h scope) (λ s. among-fine n v s)
 
-  pub tests-fine : (xs : Exprs) (vs : Values) (scope : Scope) → Fine (testExprs xs vs scope)
+  pub tests-fine : (xs : Exprs) (vs : Values) (scope : Environment) → Fine (testExprs xs vs scope)
   tests-fine none vs scope = pure-good tt
   tests-fine (more a xs) nil scope = pure-good tt
   tests-fine (more a xs) (cons v vs) scope = bind-fine (test-fine a _ v scope (λ scope′. expr-fine a scope′)) (λ b. choose-good b (tests-fine xs vs scope) (pure-good tt))

@@ -27,7 +27,7 @@ use Rattle.reader_rules.specs.Tree as Tree
 use Rattle.reader_rules.proofs.Sized.{SizedExpr, SizedExprs, SizedPred, SizedText, SizedLines}
 use Rattle.evaluator_rules.specs.WordCount.{wordCount}
 use Rattle.evaluator_rules.specs.Outcomes.{Outcome, keepIf, keep}
-use Rattle.evaluator_rules.specs.Scope.{Scope, empty, bind, Meaning, valued, generic, unknown, pick, lookup, refer}
+use Rattle.evaluator_rules.specs.Environment.{Environment, empty, bind, Meaning, valued, generic, unknown, pick, lookup, refer}
 use Rattle.evaluator_rules.specs.Operations.{asInteger, asSet, asTuple, addIf, add, image, findPair, keepInteger, calculate, connect, allPass, countIf, sameCount}
 use Rattle.evaluator_rules.specs.Assignments.{Domains, noMore, domain, domains, Flow, go, halt, Body, next, each, assign, flowOf, gathered}
 use Rattle.evaluator_rules.specs.Rules.{amongMembers, stopInclude, evalExpr, evalExprs, evalMembers, evalPred, overText, evalLines, testExpr, testExprs}
@@ -99,7 +99,7 @@ module _ (size : ℕ → ℕ) where
   Meant generic = Unit {0}
   Meant unknown = Unit {0}
 
-  unfoldable pub Keeping : Scope → Type 0
+  unfoldable pub Keeping : Environment → Type 0
   Keeping empty = Unit {0}
   Keeping (bind i m scope) = Meant m × Keeping scope
 
@@ -108,7 +108,7 @@ module _ (size : ℕ → ℕ) where
   pick-formed true x y p q = p
   pick-formed false x y p q = q
 
-  lookup-formed : (i : ℕ) (scope : Scope) → Keeping scope → Meant (lookup i scope)
+  lookup-formed : (i : ℕ) (scope : Environment) → Keeping scope → Meant (lookup i scope)
   unfolding lookup Keeping
   lookup-formed i empty h = tt
   lookup-formed i (bind j m scope) h = pick-formed (eqb i j) m (lookup i scope) (h .0) (lookup-formed i scope (h .1))
@@ -250,21 +250,21 @@ module _ (size : ℕ → ℕ) where
   Flowing halt = Unit {0}
 
   abbrev FormedBody : Body → Type 0
-  FormedBody k = (scope : Scope) (s : Values) → Keeping scope → AscendingSet s → Keeps Flowing (k scope s)
+  FormedBody k = (scope : Environment) (s : Values) → Keeping scope → AscendingSet s → Keeps Flowing (k scope s)
 
   next-formed : (k : Values → Outcome Flow) (f : Flow) → Flowing f → ((s : Values) → AscendingSet s → Keeps Flowing (k s)) → Keeps Flowing (next k f)
   unfolding next
   next-formed k (go s) g h = h s g
   next-formed k halt g h = pure-good tt
 
-  each-formed : (i : ℕ) (vs : Values) (k : Body) (scope : Scope) (s : Values) → AllFormed vs → Keeping scope → AscendingSet s → FormedBody k → Keeps Flowing (each i vs k scope s)
+  each-formed : (i : ℕ) (vs : Values) (k : Body) (scope : Environment) (s : Values) → AllFormed vs → Keeping scope → AscendingSet s → FormedBody k → Keeps Flowing (each i vs k scope s)
   unfolding each Keeping wellFormed
   each-formed i nil k scope s r c g h = pure-good g
   each-formed i (cons v vs) k scope s r c g h =
       bind-good (h _ s (and-left (wellFormed size v) _ r, c) g)
       λ f q. next-formed _ f q (λ s′ g′. each-formed i vs k scope s′ (and-right (wellFormed size v) _ r) c g′ h)
 
-  assign-formed : (ds : Domains) (k : Body) (scope : Scope) (s : Values) → Ranged ds → Keeping scope → AscendingSet s → FormedBody k → Keeps Flowing (assign ds k scope s)
+  assign-formed : (ds : Domains) (k : Body) (scope : Environment) (s : Values) → Ranged ds → Keeping scope → AscendingSet s → FormedBody k → Keeps Flowing (assign ds k scope s)
   unfolding assign Ranged
   assign-formed noMore k scope s r c g h = h scope s c g
   assign-formed (domain i vs ds) k scope s r c g h = each-formed i vs _ scope s (r .0) c g (λ scope′ s′ c′ g′. assign-formed ds k scope′ s′ (r .1) c′ g′ h)
@@ -297,7 +297,7 @@ module _ (size : ℕ → ℕ) where
   mutual
     unfolding evalExpr sameCount SizedExpr wellFormed exprsLength count
 
-    pub expr-formed : (a : Expr) (scope : Scope) → SizedExpr a → Keeping scope → Keeps Proper (evalExpr a scope)
+    pub expr-formed : (a : Expr) (scope : Environment) → SizedExpr a → Keeping scope → Keeps Proper (evalExpr a scope)
     expr-formed (reference n i xs) scope z c = bind-good (exprs-formed xs scope z c) (λ vs _. refer-formed n xs (lookup i scope) (lookup-formed i scope c))
     expr-formed (number n k) scope z c = keep-formed n _ (number-formed k z)
     expr-formed (integers n) scope z c = stop-good tt
@@ -319,17 +319,17 @@ module _ (size : ℕ → ℕ) where
         (text-formed t _ scope nil (z .0) c empty-set (λ scope′ s c′ g. bind-good (expr-formed a scope′ (z .1) c′) λ v hv. bind-good (add-formed n v s hv g) λ s′ g′. pure-good g′))
         λ f h. keep-formed n _ (gathered-formed f h)
 
-    pub exprs-formed : (xs : Exprs) (scope : Scope) → SizedExprs xs → Keeping scope → Keeps (Parts xs) (evalExprs xs scope)
+    pub exprs-formed : (xs : Exprs) (scope : Environment) → SizedExprs xs → Keeping scope → Keeps (Parts xs) (evalExprs xs scope)
     exprs-formed none scope z c = pure-good (refl, refl)
     exprs-formed (more a xs) scope z c =
         bind-good (expr-formed a scope (z .0) c) λ v hv. bind-good (exprs-formed xs scope (z .1) c) λ vs h. pure-good (both (wellFormed size v) _ hv (h .0), ap suc (h .1))
 
-    pub members-formed : (xs : Exprs) (n : ℕ) (scope : Scope) (s : Values) → SizedExprs xs → Keeping scope → AscendingSet s → Keeps AscendingSet (evalMembers xs n scope s)
+    pub members-formed : (xs : Exprs) (n : ℕ) (scope : Environment) (s : Values) → SizedExprs xs → Keeping scope → AscendingSet s → Keeps AscendingSet (evalMembers xs n scope s)
     members-formed none n scope s z c g = pure-good g
     members-formed (more a xs) n scope s z c g =
         bind-good (expr-formed a scope (z .0) c) λ v hv. bind-good (add-formed n v s hv g) λ s′ g′. members-formed xs n scope s′ (z .1) c g′
 
-    pub pred-formed : (p : Pred) (scope : Scope) → SizedPred p → Keeping scope → Keeps Nothing (evalPred p scope)
+    pub pred-formed : (p : Pred) (scope : Environment) → SizedPred p → Keeping scope → Keeps Nothing (evalPred p scope)
     pred-formed (truth n) scope z c = pure-good tt
     pred-formed (equal n a b) scope z c = bind-good (expr-formed a scope (z .0) c) λ x hx. bind-good (expr-formed b scope (z .1) c) λ y hy. pure-good tt
     pred-formed (member n a b) scope z c =
@@ -342,18 +342,18 @@ module _ (size : ℕ → ℕ) where
     pred-formed (quantified n q t p) scope z c =
         bind-good (text-formed t _ scope nil (z .0) c empty-set (λ scope′ s c′ g. bind-good (pred-formed p scope′ (z .1) c′) λ b _. pure-good (flow-formed q b))) (λ f _. pure-good tt)
 
-    pub text-formed : (t : Text) (k : Body) (scope : Scope) (s : Values) → SizedText t → Keeping scope → AscendingSet s → FormedBody k → Keeps Flowing (overText t k scope s)
+    pub text-formed : (t : Text) (k : Body) (scope : Environment) (s : Values) → SizedText t → Keeping scope → AscendingSet s → FormedBody k → Keeps Flowing (overText t k scope s)
     text-formed (text n p ls) k scope s z c g h =
         bind-good (lines-formed ls scope (z .1) c) λ ds r.
         assign-formed ds _ scope s r c g (λ scope′ s′ c′ g′. bind-good (pred-formed p scope′ (z .0) c′) λ b _. choose-good b (h scope′ s′ c′ g′) (pure-good g′))
 
-    pub lines-formed : (ls : Lines) (scope : Scope) → SizedLines ls → Keeping scope → Keeps Ranged (evalLines ls scope)
+    pub lines-formed : (ls : Lines) (scope : Environment) → SizedLines ls → Keeping scope → Keeps Ranged (evalLines ls scope)
     lines-formed end scope z c = pure-good none-ranged
     lines-formed (declaration n a xs ls) scope z c =
         bind-good (expr-formed a scope (z .0) c) λ v hv. bind-good (set-formed n v hv) λ vs hs. bind-good (lines-formed ls scope (z .1) c) λ ds r. pure-good (domains-formed xs vs ds (members-of vs hs) r)
     lines-formed (inclusion i ls) scope z c = include-formed i
 
-    pub test-formed : (a : Expr) (f : Scope → Outcome Value) (v : Value) (scope : Scope) → SizedExpr a → Proper v → Keeping scope → ((scope′ : Scope) → Keeping scope′ → Keeps Proper (f scope′)) → Keeps Nothing (testExpr a f v scope)
+    pub test-formed : (a : Expr) (f : Environment → Outcome Value) (v : Value) (scope : Environment) → SizedExpr a → Proper v → Keeping scope → ((scope′ : Environment) → Keeping scope′ → Keeps Proper (f scope′)) → Keeps Nothing (testExpr a f v scope)
     test-formed (reference n i xs) f v scope z w c h = bind-good (h scope c) (λ s g. among-formed n v s g)
     test-formed (number n k) f v scope z w c h = bind-good (h scope c) (λ s g. among-formed n v s g)
     test-formed (integers n) f v scope z w c h = bind-good (integer-formed n v w) (λ j _. pure-good tt)
@@ -369,7 +369,7 @@ module _ (size : ℕ → ℕ) where
     test-formed (arithmetic n o a b) f v scope z w c h = bind-good (h scope c) (λ s g. among-formed n v s g)
     test-formed (comprehension n t a) f v scope z w c h = bind-good (h scope c) (λ s g. among-formed n v s g)
 
-    pub tests-formed : (xs : Exprs) (vs : Values) (scope : Scope) → SizedExprs xs → AllFormed vs → Keeping scope → Keeps Nothing (testExprs xs vs scope)
+    pub tests-formed : (xs : Exprs) (vs : Values) (scope : Environment) → SizedExprs xs → AllFormed vs → Keeping scope → Keeps Nothing (testExprs xs vs scope)
     tests-formed none vs scope z g c = pure-good tt
     tests-formed (more a xs) nil scope z g c = pure-good tt
     tests-formed (more a xs) (cons v vs) scope z g c =

@@ -17,7 +17,7 @@ use Rattle.reader_rules.proofs.SizedTree.{document-sized}
 use Rattle.states_rules.specs.Names.{documentNames}
 use Rattle.states_rules.specs.States.{State, sizesIn, stateOf}
 use Rattle.evaluator_rules.specs.Outcomes.{Event, Outcome}
-use Rattle.evaluator_rules.specs.Scope.{Scope, empty, bind, valued}
+use Rattle.evaluator_rules.specs.Environment.{Environment, empty, bind, valued}
 use Rattle.evaluator_rules.specs.Paragraphs.{Step, onward, failed, then, unless, bindGivens, testNames, testLines, runParagraph, runParagraphs, runDocument}
 use Rattle.evaluator_rules.specs.Run.{ending, runState, runWork, runRead, runOf, runWorkWords}
 use Rattle.evaluator_rules.specs.Claims as Claims
@@ -33,27 +33,27 @@ module _ (size : ℕ → ℕ) (state : State) (says : (i : ℕ) → wellFormed s
   Stepped (onward scope) = Keeping size scope
   Stepped (failed n) = Unit {0}
 
-  then-formed : (k : Scope → Outcome Step) (s : Step) → Stepped s → ((scope : Scope) → Keeping size scope → Keeps size Stepped (k scope)) → Keeps size Stepped (then k s)
+  then-formed : (k : Environment → Outcome Step) (s : Step) → Stepped s → ((scope : Environment) → Keeping size scope → Keeps size Stepped (k scope)) → Keeps size Stepped (then k s)
   unfolding then
   then-formed k (onward scope) c h = h scope c
   then-formed k (failed n) c h = pure-good tt
 
-  unless-formed : (n : ℕ) (b : Bool) (scope : Scope) → Keeping size scope → Stepped (unless n b scope)
+  unless-formed : (n : ℕ) (b : Bool) (scope : Environment) → Keeping size scope → Stepped (unless n b scope)
   unfolding unless
   unless-formed n true scope c = c
   unless-formed n false scope c = tt
 
-  givens-formed : (xs : List ℕ) (scope : Scope) → Keeping size scope → Keeping size (bindGivens xs state scope)
+  givens-formed : (xs : List ℕ) (scope : Environment) → Keeping size scope → Keeping size (bindGivens xs state scope)
   unfolding bindGivens Keeping
   givens-formed [] scope c = c
   givens-formed (i ∷ xs) scope c = givens-formed xs (bind i (valued (state i)) scope) (says i, c)
 
-  names-formed : (n : ℕ) (f : Value → Outcome Bool) (xs : List ℕ) (own : Scope) → ((v : Value) → Proper size v → Keeps size (λ b. Unit {0}) (f v)) → Keeping size own → Keeps size Stepped (testNames n f xs state own)
+  names-formed : (n : ℕ) (f : Value → Outcome Bool) (xs : List ℕ) (own : Environment) → ((v : Value) → Proper size v → Keeps size (λ b. Unit {0}) (f v)) → Keeping size own → Keeps size Stepped (testNames n f xs state own)
   unfolding testNames Keeping
   names-formed n f [] own h c = pure-good c
   names-formed n f (i ∷ xs) own h c = bind-good (h (state i) (says i)) λ b _. choose-good b (names-formed n f xs _ h (says i, c)) (pure-good tt)
 
-  axiom-formed : (ls : Lines) (scope own : Scope) → SizedLines ls → Keeping size scope → Keeping size own → Keeps size Stepped (testLines ls state scope own)
+  axiom-formed : (ls : Lines) (scope own : Environment) → SizedLines ls → Keeping size scope → Keeping size own → Keeps size Stepped (testLines ls state scope own)
   unfolding testLines SizedExpr
   axiom-formed end scope own z c d = pure-good d
   axiom-formed (declaration n a xs ls) scope own z c d =
@@ -61,7 +61,7 @@ module _ (size : ℕ → ℕ) (state : State) (says : (i : ℕ) → wellFormed s
       λ s g. then-formed _ s g (λ own′ d′. axiom-formed ls scope own′ (z .1) c d′)
   axiom-formed (inclusion i ls) scope own z c d = include-formed size i
 
-  paragraph-formed : (p : Paragraph) (scope : Scope) → SizedParagraph p → Keeping size scope → Keeps size Stepped (runParagraph p state scope)
+  paragraph-formed : (p : Paragraph) (scope : Environment) → SizedParagraph p → Keeping size scope → Keeps size Stepped (runParagraph p state scope)
   unfolding runParagraph SizedParagraph SizedExpr Keeping
   paragraph-formed (Tree.given n xs) scope z c = pure-good (givens-formed xs scope c)
   paragraph-formed (axiomatic n (text m p ls)) scope z c =
@@ -71,7 +71,7 @@ module _ (size : ℕ → ℕ) (state : State) (says : (i : ℕ) → wellFormed s
   paragraph-formed (abbreviation n i (p ∷ ps) a) scope z c = pure-good (tt, c)
   paragraph-formed (constraint n p) scope z c = bind-good (pred-formed size p scope z c) (λ b _. pure-good (unless-formed n b scope c))
 
-  paragraphs-formed : (ps : List Paragraph) (scope : Scope) → SizedParagraphs ps → Keeping size scope → Keeps size Stepped (runParagraphs ps state scope)
+  paragraphs-formed : (ps : List Paragraph) (scope : Environment) → SizedParagraphs ps → Keeping size scope → Keeps size Stepped (runParagraphs ps state scope)
   unfolding runParagraphs SizedParagraphs
   paragraphs-formed [] scope z c = pure-good c
   paragraphs-formed (p ∷ ps) scope z c = bind-good (paragraph-formed p scope (z .0) c) λ s g. then-formed _ s g (λ scope′ c′. paragraphs-formed ps scope′ (z .1) c′)

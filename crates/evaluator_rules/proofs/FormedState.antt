@@ -25,7 +25,7 @@ use Rattle.states_rules.specs.Names.{Name}
 use Rattle.states_rules.specs.Decode.{valuesFrom, valueByShape, valueAt, valueOf}
 use Rattle.states_rules.specs.States.{nameAt, sizesIn, isSize, givenNumber, valueNumber, entryFrom, entryValue, valueIn}
 use Rattle.states_rules.proofs.GivenSizes.{EntryOf, entry-found}
-use Rattle.evaluator_rules.specs.Claims.{WellFormed}
+use Rattle.evaluator_rules.specs.Claims.{WellFormedState}
 use Rattle.evaluator_rules.proofs.Decoding.{Words, words-drop, orNone, Shaped, broken, anInteger, anElement, aSet, aTuple, shaped, values-count, fits-some, value-back}
 use Rattle.evaluator_rules.proofs.StateWords.{words-part}
 use Rattle.evaluator_rules.proofs.WordOrder.{word-less, word-same}
@@ -124,7 +124,7 @@ test-passed : (b : Bool) → _≡_ {A = ℕ} (cond b 0 41) 0 → b ≡ true
 test-passed true e = refl
 test-passed false e = absurd (omega arith)
 
-module _ (ns : List Name) (state : List ℕ) (h : Words state) (f : WellFormed ns state) where
+module _ (ns : List Name) (state : List ℕ) (h : Words state) (f : WellFormedState ns state) where
   abbrev sizes : ℕ → ℕ
   sizes = sizesIn ns state
 

@@ -10,7 +10,7 @@ use Rattle.reader_rules.specs.Tree.{comprehension, Exprs, none, more, Pred, tru
 use Rattle.reader_rules.specs.Tree.{declaration, inclusion, exprNode, exprsLength}
 use Rattle.reader_rules.specs.Tree as Tree
 use Rattle.evaluator_rules.specs.Outcomes.{Event, Outcome, _>>=_, pure}
-use Rattle.evaluator_rules.specs.Scope.{Scope}
+use Rattle.evaluator_rules.specs.Environment.{Environment}
 use Rattle.evaluator_rules.specs.Operations.{asInteger, asSet, asTuple, add, connect, allPass}
 use Rattle.evaluator_rules.specs.Assignments.{Domains, Flow, go, Body, next, assign, flowOf, truthOf, gathered}
 use Rattle.evaluator_rules.specs.Rules.{amongMembers, stopInclude, evalExpr, evalExprs, evalMembers, evalPred, evalLines, testExpr, testExprs}
@@ -23,7 +23,7 @@ use Rattle.evaluator_rules.proofs.Said.{filtered, mapped}
 use Rattle.evaluator_rules.proofs.Comes.{Comes, finished, ceased, on, last, off, assoc-comes, enters-comes, no-integer, no-set, no-tuple, no-number, added, too-much, same-count, other-count}
 use Rattle.evaluator_rules.proofs.Comes.{refer-unknown, refer-generic, refer-actuals, refer-valued, pair-found, pair-misfit, pair-none, whole, no-result, past-32, worked-anew}
 
-not-run-comes : (a : Expr) (scope : Scope) → NotRun a → Comes (evalExpr a scope) [] (stops 54 (exprNode a))
+not-run-comes : (a : Expr) (scope : Environment) → NotRun a → Comes (evalExpr a scope) [] (stops 54 (exprNode a))
 not-run-comes a scope h = rw (not-run a h scope) ceased
 
 skipped : (o : Connective) (right : Outcome Bool) → Comes (connect o (deciding o) (λ _. right)) [] (gives (decided o))
@@ -54,10 +54,10 @@ unfolding stopsAt truthOf
 all-tried forall s = on _ finished finished
 all-tried exists s = on _ finished finished
 
-over-comes : {B : Type 0} (ds : Domains) (k : Body) (scope : Scope) (s : Values) (f : Flow → Outcome B) {t : List Event} {r : Result B} → Comes (over (assignments ds scope) k s >>= f) t r → Comes (assign ds k scope s >>= f) t r
+over-comes : {B : Type 0} (ds : Domains) (k : Body) (scope : Environment) (s : Values) (f : Flow → Outcome B) {t : List Event} {r : Result B} → Comes (over (assignments ds scope) k s >>= f) t r → Comes (assign ds k scope s >>= f) t r
 over-comes ds k scope s f {t = t} {r = r} h = subst (λ (o : Outcome Flow). Comes (o >>= f) t r) (sym (assign-over ds k scope s)) h
 
-anew : (a : Expr) (f : Scope → Outcome Value) (v : Value) (scope : Scope) {t : List Event} {r : Result Bool} → Another a → Comes (f scope >>= amongMembers (exprNode a) v) t r → Comes (testExpr a f v scope) t r
+anew : (a : Expr) (f : Environment → Outcome Value) (v : Value) (scope : Environment) {t : List Event} {r : Result Bool} → Another a → Comes (f scope >>= amongMembers (exprNode a) v) t r → Comes (testExpr a f v scope) t r
 anew a f v scope {t = t} {r = r} o h = subst (λ (x : Outcome Bool). Comes x t r) (sym (worked-anew a f v scope o)) h
 
 -- a quantifier's claim, a Comprehension's body
@@ -69,19 +69,19 @@ collected n a scope s = evalExpr a scope >>= λ v. add n v s >>= λ s′. pure (
 
 -- what is to be shown of each sort of tree
 pub record OnlyExpr (a : Expr) : Type 0 where
-  pub works : (scope : Scope) (t : List Event) (r : Result Value) → Works a scope t r → Comes (evalExpr a scope) t r
-  pub tests : (scope : Scope) (v : Value) (t : List Event) (r : Result Bool) → Tests a scope v t r → Comes (testExpr a (λ scope′. evalExpr a scope′) v scope) t r
+  pub works : (scope : Environment) (t : List Event) (r : Result Value) → Works a scope t r → Comes (evalExpr a scope) t r
+  pub tests : (scope : Environment) (v : Value) (t : List Event) (r : Result Bool) → Tests a scope v t r → Comes (testExpr a (λ scope′. evalExpr a scope′) v scope) t r
 
 pub record OnlyExprs (xs : Exprs) : Type 0 where
-  pub works : (scope : Scope) (t : List Event) (r : Result Values) → WorksAll xs scope t r → Comes (evalExprs xs scope) t r
-  pub fills : (n : ℕ) (scope : Scope) (s : Values) (t : List Event) (r : Result Values) → Fills xs n scope s t r → Comes (evalMembers xs n scope s) t r
-  pub tests : (scope : Scope) (vs : Values) (t : List Event) (r : Result Bool) → TestsParts xs scope vs t r → Comes (testExprs xs vs scope) t r
+  pub works : (scope : Environment) (t : List Event) (r : Result Values) → WorksAll xs scope t r → Comes (evalExprs xs scope) t r
+  pub fills : (n : ℕ) (scope : Environment) (s : Values) (t : List Event) (r : Result Values) → Fills xs n scope s t r → Comes (evalMembers xs n scope s) t r
+  pub tests : (scope : Environment) (vs : Values) (t : List Event) (r : Result Bool) → TestsParts xs scope vs t r → Comes (testExprs xs vs scope) t r
 
 pub record OnlyPred (p : Pred) : Type 0 where
-  pub tells : (scope : Scope) (t : List Event) (r : Result Bool) → Tells p scope t r → Comes (evalPred p scope) t r
+  pub tells : (scope : Environment) (t : List Event) (r : Result Bool) → Tells p scope t r → Comes (evalPred p scope) t r
 
 pub record OnlyLines (ls : Lines) : Type 0 where
-  pub declares : (scope : Scope) (t : List Event) (r : Result Domains) → Declares ls scope t r → Comes (evalLines ls scope) t r
+  pub declares : (scope : Environment) (t : List Event) (r : Result Domains) → Declares ls scope t r → Comes (evalLines ls scope) t r
 
 abbrev OnlyText : Text → Type 0
 OnlyText (text k p ls) = OnlyPred p × OnlyLines ls
@@ -120,7 +120,7 @@ BelowLines end = Unit {0}
 BelowLines (declaration n a is ls) = OnlyExpr a × OnlyLines ls
 BelowLines (inclusion i ls) = Unit {0}
 
-gathers-comes : {n : ℕ} {p : Pred} {a : Expr} {xs : List Scope} {s : Values} {t : List Event} {r : Result Values} → Gathers n p a xs s t r → OnlyPred p → OnlyExpr a → Comes (over xs (filtered p (collected n a)) s) t (mapped go r)
+gathers-comes : {n : ℕ} {p : Pred} {a : Expr} {xs : List Environment} {s : Values} {t : List Event} {r : Result Values} → Gathers n p a xs s t r → OnlyPred p → OnlyExpr a → Comes (over xs (filtered p (collected n a)) s) t (mapped go r)
 unfolding over next
 gathers-comes Listing.noneToAdd P A = finished
 gathers-comes (Listing.filterStops h) P A = off _ (off _ (P .tells _ _ _ h))
@@ -130,7 +130,7 @@ gathers-comes (Listing.bodyTooMuch {n = n} {s = s} {v = v} h k e) P A = off _ (o
 gathers-comes (Listing.bodyAdded {n = n} {s = s} {v = v} h k e j) P A =
     assoc-comes _ _ _ (on _ (P .tells _ _ _ h) (assoc-comes _ _ _ (on _ (A .works _ _ _ k) (assoc-comes _ _ _ (on _ (added n v s e) (on _ finished (gathers-comes j P A)))))))
 
-quantifies-comes : {q : Quantifier} {p b : Pred} {xs : List Scope} {t : List Event} {r : Result Bool} → Quantifies q p b xs t r → OnlyPred p → OnlyPred b → (s : Values)
+quantifies-comes : {q : Quantifier} {p b : Pred} {xs : List Environment} {t : List Event} {r : Result Bool} → Quantifies q p b xs t r → OnlyPred p → OnlyPred b → (s : Values)
     → Comes (over xs (filtered p (claimed q b)) s >>= λ f. pure (truthOf q f)) t r
 unfolding over next
 quantifies-comes (Listing.allTried {q = q}) P B s = all-tried q s
@@ -141,14 +141,14 @@ quantifies-comes (Listing.claimEnds {q = q} h k) P B s = assoc-comes _ _ _ (last
 quantifies-comes (Listing.claimGoesOn {q = q} h k j) P B s =
     assoc-comes _ _ _ (assoc-comes _ _ _ (on _ (P .tells _ _ _ h) (assoc-comes _ _ _ (on _ (B .tells _ _ _ k) (on _ finished (flow-goes q _ (quantifies-comes j P B nil)))))))
 
-members-come : {a : Expr} {scope : Scope} {vs : Values} {t : List Event} {r : Result Bool} → TestsMembers a scope vs t r → OnlyExpr a → Comes (allPass vs (λ w. testExpr a (λ scope′. evalExpr a scope′) w scope)) t r
+members-come : {a : Expr} {scope : Environment} {vs : Values} {t : List Event} {r : Result Bool} → TestsMembers a scope vs t r → OnlyExpr a → Comes (allPass vs (λ w. testExpr a (λ scope′. evalExpr a scope′) w scope)) t r
 unfolding allPass
 members-come Listing.allMembersPass A = finished
 members-come (Listing.memberTestStops h) A = off _ (A .tests _ _ _ _ h)
 members-come (Listing.memberMisses h) A = last _ (A .tests _ _ _ _ h) finished
 members-come (Listing.memberPasses h k) A = on _ (A .tests _ _ _ _ h) (members-come k A)
 
-works-comes : {a : Expr} {scope : Scope} {t : List Event} {r : Result Value} → Works a scope t r → BelowExpr a → Comes (evalExpr a scope) t r
+works-comes : {a : Expr} {scope : Environment} {t : List Event} {r : Result Value} → Works a scope t r → BelowExpr a → Comes (evalExpr a scope) t r
 unfolding evalExpr asInteger asSet gathered
 works-comes (Listing.actualsStop h) b = off _ (b .works _ _ _ h)
 works-comes (Listing.nameUnknown {n = n} {i = i} {xs = xs} h e) b = last _ (b .works _ _ _ h) (refer-unknown n i xs _ e)
@@ -177,7 +177,7 @@ works-comes (Listing.setsStop h) b = assoc-comes _ _ _ (off _ (b .0 .1 .declares
 works-comes (Listing.bodiesStop {scope = scope} {ds = ds} h k) b = assoc-comes _ _ _ (on _ (b .0 .1 .declares _ _ _ h) (over-comes ds _ scope nil _ (off _ (gathers-comes k (b .0 .0) (b .1)))))
 works-comes (Listing.allGathered {scope = scope} {ds = ds} h k e) b = assoc-comes _ _ _ (on _ (b .0 .1 .declares _ _ _ h) (over-comes ds _ scope nil _ (on _ (gathers-comes k (b .0 .0) (b .1)) (enters-comes e))))
 
-tests-come : {a : Expr} {scope : Scope} {v : Value} {t : List Event} {r : Result Bool} → Tests a scope v t r → BelowExpr a → Comes (testExpr a (λ scope′. evalExpr a scope′) v scope) t r
+tests-come : {a : Expr} {scope : Environment} {v : Value} {t : List Event} {r : Result Bool} → Tests a scope v t r → BelowExpr a → Comes (testExpr a (λ scope′. evalExpr a scope′) v scope) t r
 unfolding testExpr asInteger asSet asTuple amongMembers
 tests-come Listing.anInteger b = on _ finished finished
 tests-come (Listing.notAnInteger {n = n} {v = v} d) b = off _ (no-integer n v d)
@@ -190,28 +190,28 @@ tests-come (Listing.anewStops {a = a} {scope = scope} {v = v} o h) b = anew a _ 
 tests-come (Listing.anewNoSet {a = a} {scope = scope} {v = v} {x = x} o h d) b = anew a _ v scope o (last _ (works-comes h b) (off _ (no-set (exprNode a) x d)))
 tests-come (Listing.anewLooked {a = a} {scope = scope} {v = v} o h) b = anew a _ v scope o (last _ (works-comes h b) (on _ finished finished))
 
-all-come : {xs : Exprs} {scope : Scope} {t : List Event} {r : Result Values} → WorksAll xs scope t r → BelowExprs xs → Comes (evalExprs xs scope) t r
+all-come : {xs : Exprs} {scope : Environment} {t : List Event} {r : Result Values} → WorksAll xs scope t r → BelowExprs xs → Comes (evalExprs xs scope) t r
 unfolding evalExprs
 all-come Listing.noneLeft b = finished
 all-come (Listing.firstStops h) b = off _ (b .0 .works _ _ _ h)
 all-come (Listing.laterStops h k) b = on _ (b .0 .works _ _ _ h) (off _ (b .1 .works _ _ _ k))
 all-come (Listing.allWorked h k) b = on _ (b .0 .works _ _ _ h) (last _ (b .1 .works _ _ _ k) finished)
 
-fills-come : {xs : Exprs} {n : ℕ} {scope : Scope} {s : Values} {t : List Event} {r : Result Values} → Fills xs n scope s t r → BelowExprs xs → Comes (evalMembers xs n scope s) t r
+fills-come : {xs : Exprs} {n : ℕ} {scope : Environment} {s : Values} {t : List Event} {r : Result Values} → Fills xs n scope s t r → BelowExprs xs → Comes (evalMembers xs n scope s) t r
 unfolding evalMembers
 fills-come Listing.filled b = finished
 fills-come (Listing.memberStops h) b = off _ (b .0 .works _ _ _ h)
 fills-come (Listing.memberTooMuch {n = n} {s = s} {v = v} h e) b = last _ (b .0 .works _ _ _ h) (off _ (too-much n v s e))
 fills-come (Listing.memberAdded {n = n} {s = s} {v = v} h e k) b = on _ (b .0 .works _ _ _ h) (on _ (added n v s e) (b .1 .fills _ _ _ _ _ k))
 
-parts-come : {xs : Exprs} {scope : Scope} {vs : Values} {t : List Event} {r : Result Bool} → TestsParts xs scope vs t r → BelowExprs xs → Comes (testExprs xs vs scope) t r
+parts-come : {xs : Exprs} {scope : Environment} {vs : Values} {t : List Event} {r : Result Bool} → TestsParts xs scope vs t r → BelowExprs xs → Comes (testExprs xs vs scope) t r
 unfolding testExprs
 parts-come Listing.allPartsPass b = finished
 parts-come (Listing.partTestStops h) b = off _ (b .0 .tests _ _ _ _ h)
 parts-come (Listing.partMisses h) b = last _ (b .0 .tests _ _ _ _ h) finished
 parts-come (Listing.partPasses h k) b = on _ (b .0 .tests _ _ _ _ h) (b .1 .tests _ _ _ _ k)
 
-tells-come : {p : Pred} {scope : Scope} {t : List Event} {r : Result Bool} → Tells p scope t r → BelowPred p → Comes (evalPred p scope) t r
+tells-come : {p : Pred} {scope : Environment} {t : List Event} {r : Result Bool} → Tells p scope t r → BelowPred p → Comes (evalPred p scope) t r
 unfolding evalPred asInteger
 tells-come Listing.isTrue b = finished
 tells-come (Listing.equalLeftStops h) b = off _ (b .0 .works _ _ _ h)
@@ -231,7 +231,7 @@ tells-come (Listing.rightTold {o = o} h k) b = on _ (b .0 .tells _ _ _ h) (not-s
 tells-come (Listing.textStops h) b = assoc-comes _ _ _ (off _ (b .0 .1 .declares _ _ _ h))
 tells-come (Listing.overText {scope = scope} {ds = ds} h k) b = assoc-comes _ _ _ (on _ (b .0 .1 .declares _ _ _ h) (over-comes ds _ scope nil _ (quantifies-comes k (b .0 .0) (b .1) nil)))
 
-lines-come : {ls : Lines} {scope : Scope} {t : List Event} {r : Result Domains} → Declares ls scope t r → BelowLines ls → Comes (evalLines ls scope) t r
+lines-come : {ls : Lines} {scope : Environment} {t : List Event} {r : Result Domains} → Declares ls scope t r → BelowLines ls → Comes (evalLines ls scope) t r
 unfolding evalLines asSet stopInclude
 lines-come Listing.noLine b = finished
 lines-come (Listing.declStops h) b = off _ (b .0 .works _ _ _ h)

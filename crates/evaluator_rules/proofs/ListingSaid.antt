@@ -18,7 +18,7 @@ use Rattle.reader_rules.specs.Tree.{comprehension, Exprs, none, more, Pred, tru
 use Rattle.reader_rules.specs.Tree.{declaration, inclusion, include, exprNode, exprsLength}
 use Rattle.reader_rules.specs.Tree as Tree
 use Rattle.evaluator_rules.specs.Outcomes.{Event, Outcome, _>>=_, pure, keep}
-use Rattle.evaluator_rules.specs.Scope.{Scope, Meaning, valued, generic, unknown, lookup, refer}
+use Rattle.evaluator_rules.specs.Environment.{Environment, Meaning, valued, generic, unknown, lookup, refer}
 use Rattle.evaluator_rules.specs.Operations.{add, image, findPair, keepInteger, calculate, connect, allPass, countIf, sameCount}
 use Rattle.evaluator_rules.specs.Assignments.{Domains, Flow, go, halt, Body, next, assign, flowOf, truthOf, gathered}
 use Rattle.evaluator_rules.specs.Rules.{amongMembers, stopInclude, evalExpr, evalExprs, evalMembers, evalPred, evalLines, testExpr, testExprs}
@@ -29,7 +29,7 @@ use Rattle.evaluator_rules.proofs.Assignments.{over, assign-over}
 use Rattle.evaluator_rules.proofs.Said.{filtered, mapped, Says, pure-says, stop-says, bind-says, truth-says, other-says, assoc-says, silent-says, go-says, keep-says, integer-says, set-says, tuple-says, add-says}
 
 -- a Ref, after its actuals
-refer-says : (n i : ℕ) (xs : Exprs) (scope : Scope) (t : List Event) (vs : Values) (x : Meaning) → lookup i scope ≡ x → WorksAll xs scope t (gives vs) → Says (λ u r. Works (reference n i xs) scope (t ++ u) r) (refer n xs x)
+refer-says : (n i : ℕ) (xs : Exprs) (scope : Environment) (t : List Event) (vs : Values) (x : Meaning) → lookup i scope ≡ x → WorksAll xs scope t (gives vs) → Says (λ u r. Works (reference n i xs) scope (t ++ u) r) (refer n xs x)
 unfolding refer
 refer-says n i none scope _ _ (valued v) e Listing.noneLeft = keep-says n v (λ l r k. Listing.nameValued e k)
 refer-says n i (more a xs) scope t vs (valued v) e h = stop-says (rw append-nil (Listing.nameWithActuals h e))
@@ -59,7 +59,7 @@ count-says n a b {Q = Q} f k l = either (eqb a b) refl
     either true e = silent-says tt f (k (eqb-true a b e))
     either false e = stop-says (l (λ h. let z : true ≡ false = cc (eq-eqb a b h) in let x : _≡_ {A = ℕ} 0 1 = cc in omega arith))
 
-connect-says : (n : ℕ) (o : Connective) (p q : Pred) (scope : Scope) (t : List Event) (b : Bool) (right : Outcome Bool) → Tells p scope t (gives b) → Says (Tells q scope) right
+connect-says : (n : ℕ) (o : Connective) (p q : Pred) (scope : Environment) (t : List Event) (b : Bool) (right : Outcome Bool) → Tells p scope t (gives b) → Says (Tells q scope) right
     → Says (λ u r. Tells (connected n o p q) scope (t ++ u) r) (connect o b (λ _. right))
 unfolding connect deciding decided
 connect-says n and p q scope t true right h k = other-says k (λ u r j. Listing.rightTold h j)
@@ -69,21 +69,21 @@ connect-says n or p q scope t false right h k = other-says k (λ u r j. Listing.
 connect-says n implies p q scope t true right h k = other-says k (λ u r j. Listing.rightTold h j)
 connect-says n implies p q scope t false right h k = pure-says (rw append-nil (Listing.rightSkipped h))
 
-another-says : (a : Expr) (scope : Scope) (v : Value) {value : Outcome Value} → Another a → Says (Works a scope) value → Says (Tests a scope v) (value >>= amongMembers (exprNode a) v)
+another-says : (a : Expr) (scope : Environment) (v : Value) {value : Outcome Value} → Another a → Says (Works a scope) value → Says (Tests a scope v) (value >>= amongMembers (exprNode a) v)
 unfolding amongMembers
 another-says a scope v o h =
     bind-says h
     (λ t x k. set-says (exprNode a) x _ (λ vs e. pure-says (rw append-nil (Listing.anewLooked o (rw e at k)))) (λ no. rw append-nil (Listing.anewNoSet o k no)))
     (λ t w m k. Listing.anewStops o k)
 
-members-says : (a : Expr) (scope : Scope) (f : Value → Outcome Bool) → ((v : Value) → Says (Tests a scope v) (f v)) → (vs : Values) → Says (TestsMembers a scope vs) (allPass vs f)
+members-says : (a : Expr) (scope : Environment) (f : Value → Outcome Bool) → ((v : Value) → Says (Tests a scope v) (f v)) → (vs : Values) → Says (TestsMembers a scope vs) (allPass vs f)
 unfolding allPass
 members-says a scope f k nil = pure-says Listing.allMembersPass
 members-says a scope f k (cons v vs) =
     truth-says _ (k v) (λ t h. other-says (members-says a scope f k vs) (λ u r j. Listing.memberPasses h j)) (λ t h. pure-says (rw append-nil (Listing.memberMisses h))) (λ t w m h. Listing.memberTestStops h)
 
-module _ (p : Pred) (says : (x : Scope) → Says (Tells p x) (evalPred p x)) where
-  flow-says : (q : Quantifier) (b : Pred) (x : Scope) (xs : List Scope) (t u : List Event) (c : Bool) (rest : Values → Outcome Flow) → Tells p x t (gives true) → Tells b x u (gives c)
+module _ (p : Pred) (says : (x : Environment) → Says (Tells p x) (evalPred p x)) where
+  flow-says : (q : Quantifier) (b : Pred) (x : Environment) (xs : List Environment) (t u : List Event) (c : Bool) (rest : Values → Outcome Flow) → Tells p x t (gives true) → Tells b x u (gives c)
       → ((s : Values) → Says (λ l r. Quantifies q p b xs l (mapped (truthOf q) r)) (rest s))
       → Says (λ l r. Quantifies q p b (x ∷ xs) (t ++ (u ++ l)) (mapped (truthOf q) r)) (pure (flowOf q c) >>= next rest)
   unfolding flowOf truthOf stopsAt next _>>=_
@@ -92,7 +92,7 @@ module _ (p : Pred) (says : (x : Scope) → Says (Tells p x) (evalPred p x)) whe
   flow-says exists b x xs t u true rest h k j = silent-says halt (next rest) (pure-says (rw append-nil (Listing.claimEnds h k)))
   flow-says exists b x xs t u false rest h k j = go-says nil rest (other-says (j nil) (λ l r i. Listing.claimGoesOn h k i))
 
-  quantifies-says : (q : Quantifier) (b : Pred) → ((x : Scope) → Says (Tells b x) (evalPred b x)) → (xs : List Scope) (s : Values)
+  quantifies-says : (q : Quantifier) (b : Pred) → ((x : Environment) → Says (Tells b x) (evalPred b x)) → (xs : List Environment) (s : Values)
       → Says (λ t r. Quantifies q p b xs t (mapped (truthOf q) r)) (over xs (filtered p (λ scope s′. evalPred b scope >>= λ c. pure (flowOf q c))) s)
   unfolding over truthOf stopsAt
   quantifies-says forall b claims [] s = pure-says Listing.allTried
@@ -104,7 +104,7 @@ module _ (p : Pred) (says : (x : Scope) → Says (Tells p x) (evalPred p x)) whe
       (λ t h. go-says s _ (other-says (quantifies-says q b claims xs s) (λ u r i. Listing.passedOver h i)))
       (λ t w m h. Listing.guardStops h))
 
-  gathers-says : (n : ℕ) (a : Expr) → ((x : Scope) → Says (Works a x) (evalExpr a x)) → (xs : List Scope) (s : Values)
+  gathers-says : (n : ℕ) (a : Expr) → ((x : Environment) → Says (Works a x) (evalExpr a x)) → (xs : List Environment) (s : Values)
       → Says (λ t r. Gathers n p a xs s t (mapped gathered r)) (over xs (filtered p (λ scope s′. evalExpr a scope >>= λ v. add n v s′ >>= λ s″. pure (go s″))) s)
   unfolding over gathered
   gathers-says n a works [] s = pure-says Listing.noneToAdd
@@ -119,13 +119,13 @@ module _ (p : Pred) (says : (x : Scope) → Says (Tells p x) (evalPred p x)) whe
 
 -- what is known of a Text: its predicate and its lines
 data TextSays : Text → Type 0 where
-  textSays : {k : ℕ} {p : Pred} {ls : Lines} → ((scope : Scope) → Says (Tells p scope) (evalPred p scope)) → ((scope : Scope) → Says (Declares ls scope) (evalLines ls scope)) → TextSays (text k p ls)
+  textSays : {k : ℕ} {p : Pred} {ls : Lines} → ((scope : Environment) → Says (Tells p scope) (evalPred p scope)) → ((scope : Environment) → Says (Declares ls scope) (evalLines ls scope)) → TextSays (text k p ls)
 
 -- the runs through a Text's sets, as one run over its assignments
-over-says : {B : Type 0} (ds : Domains) (k : Body) (scope : Scope) (s : Values) {Q : List Event → Result B → Type 0} (f : Flow → Outcome B) → Says Q (over (assignments ds scope) k s >>= f) → Says Q (assign ds k scope s >>= f)
+over-says : {B : Type 0} (ds : Domains) (k : Body) (scope : Environment) (s : Values) {Q : List Event → Result B → Type 0} (f : Flow → Outcome B) → Says Q (over (assignments ds scope) k s >>= f) → Says Q (assign ds k scope s >>= f)
 over-says ds k scope s {Q = Q} f h = subst (λ (o : Outcome Flow). Says Q (o >>= f)) (sym (assign-over ds k scope s)) h
 
-quantified-says : (n : ℕ) (q : Quantifier) (x : Text) (b : Pred) → TextSays x → ((scope : Scope) → Says (Tells b scope) (evalPred b scope)) → (scope : Scope) → Says (Tells (quantified n q x b) scope) (evalPred (quantified n q x b) scope)
+quantified-says : (n : ℕ) (q : Quantifier) (x : Text) (b : Pred) → TextSays x → ((scope : Environment) → Says (Tells b scope) (evalPred b scope)) → (scope : Environment) → Says (Tells (quantified n q x b) scope) (evalPred (quantified n q x b) scope)
 unfolding evalExpr
 quantified-says n q _ b (textSays {p = p} says lines) claims scope =
     assoc-says _ _ _
@@ -133,7 +133,7 @@ quantified-says n q _ b (textSays {p = p} says lines) claims scope =
     (λ t ds h. over-says ds _ scope nil _ (bind-says (quantifies-says p says q b claims (assignments ds scope) nil) (λ u f i. pure-says (rw append-nil (Listing.overText h i))) (λ u w m i. Listing.overText h i)))
     (λ t w m h. Listing.textStops h))
 
-comprehension-says : (n : ℕ) (x : Text) (a : Expr) → TextSays x → ((scope : Scope) → Says (Works a scope) (evalExpr a scope)) → (scope : Scope) → Says (Works (comprehension n x a) scope) (evalExpr (comprehension n x a) scope)
+comprehension-says : (n : ℕ) (x : Text) (a : Expr) → TextSays x → ((scope : Environment) → Says (Works a scope) (evalExpr a scope)) → (scope : Environment) → Says (Works (comprehension n x a) scope) (evalExpr (comprehension n x a) scope)
 unfolding evalExpr
 comprehension-says n _ a (textSays {p = p} says lines) works scope =
     assoc-says _ _ _
@@ -145,7 +145,7 @@ comprehension-says n _ a (textSays {p = p} says lines) works scope =
 mutual
   unfolding evalExpr exprNode findPair stopInclude exprsLength count
 
-  pub expr-says : (a : Expr) (scope : Scope) → Says (Works a scope) (evalExpr a scope)
+  pub expr-says : (a : Expr) (scope : Environment) → Says (Works a scope) (evalExpr a scope)
   expr-says (reference n i xs) scope = bind-says (exprs-says xs scope) (λ t vs h. refer-says n i xs scope t vs _ refl h) (λ t w m h. Listing.actualsStop h)
   expr-says (number n k) scope = keep-says n _ (λ t r e. Listing.aLiteral e)
   expr-says (integers n) scope = stop-says (Listing.notRun (noIntegers n))
@@ -176,19 +176,19 @@ mutual
       (λ t w m h. Listing.leftStops h)
   expr-says (comprehension n x a) scope = comprehension-says n x a (text-says x) (λ scope′. expr-says a scope′) scope
 
-  pub exprs-says : (xs : Exprs) (scope : Scope) → Says (WorksAll xs scope) (evalExprs xs scope)
+  pub exprs-says : (xs : Exprs) (scope : Environment) → Says (WorksAll xs scope) (evalExprs xs scope)
   exprs-says none scope = pure-says Listing.noneLeft
   exprs-says (more a xs) scope =
       bind-says (expr-says a scope) (λ t v h. bind-says (exprs-says xs scope) (λ u vs k. pure-says (rw append-nil (Listing.allWorked h k))) (λ u w m k. Listing.laterStops h k)) (λ t w m h. Listing.firstStops h)
 
-  pub members-say : (xs : Exprs) (n : ℕ) (scope : Scope) (s : Values) → Says (Fills xs n scope s) (evalMembers xs n scope s)
+  pub members-say : (xs : Exprs) (n : ℕ) (scope : Environment) (s : Values) → Says (Fills xs n scope s) (evalMembers xs n scope s)
   members-say none n scope s = pure-says Listing.filled
   members-say (more a xs) n scope s =
       bind-says (expr-says a scope)
       (λ t v h. add-says n v s _ (λ e. other-says (members-say xs n scope _) (λ u r k. Listing.memberAdded h e k)) (λ e. rw append-nil (Listing.memberTooMuch h e)))
       (λ t w m h. Listing.memberStops h)
 
-  pub pred-says : (p : Pred) (scope : Scope) → Says (Tells p scope) (evalPred p scope)
+  pub pred-says : (p : Pred) (scope : Environment) → Says (Tells p scope) (evalPred p scope)
   pred-says (truth n) scope = pure-says Listing.isTrue
   pred-says (equal n a b) scope =
       bind-says (expr-says a scope) (λ t x h. bind-says (expr-says b scope) (λ u y k. pure-says (rw append-nil (Listing.compared h k))) (λ u w m k. Listing.equalRightStops h k)) (λ t w m h. Listing.equalLeftStops h)
@@ -209,7 +209,7 @@ mutual
   text-says : (x : Text) → TextSays x
   text-says (text k p ls) = textSays (λ scope. pred-says p scope) (λ scope. lines-say ls scope)
 
-  pub lines-say : (ls : Lines) (scope : Scope) → Says (Declares ls scope) (evalLines ls scope)
+  pub lines-say : (ls : Lines) (scope : Environment) → Says (Declares ls scope) (evalLines ls scope)
   lines-say end scope = pure-says Listing.noLine
   lines-say (declaration n a is ls) scope =
       bind-says (expr-says a scope)
@@ -219,7 +219,7 @@ mutual
       (λ t w m h. Listing.declStops h)
   lines-say (inclusion (include n s k xs rs) ls) scope = stop-says Listing.included
 
-  pub test-says : (a : Expr) (f : Scope → Outcome Value) (v : Value) (scope : Scope) → ((scope′ : Scope) → Says (Works a scope′) (f scope′)) → Says (Tests a scope v) (testExpr a f v scope)
+  pub test-says : (a : Expr) (f : Environment → Outcome Value) (v : Value) (scope : Environment) → ((scope′ : Environment) → Says (Works a scope′) (f scope′)) → Says (Tests a scope v) (testExpr a f v scope)
   test-says (reference n i xs) f v scope h = another-says _ scope v Listing.aReference (h scope)
   test-says (number n k) f v scope h = another-says _ scope v Listing.aNumber (h scope)
   test-says (integers n) f v scope h = integer-says n v _ (λ z e. rw e (pure-says Listing.anInteger)) (λ no. Listing.notAnInteger no)
@@ -236,7 +236,7 @@ mutual
   test-says (arithmetic n o a b) f v scope h = another-says _ scope v Listing.anArithmetic (h scope)
   test-says (comprehension n x a) f v scope h = another-says _ scope v Listing.aComprehension (h scope)
 
-  pub parts-say : (xs : Exprs) (vs : Values) (scope : Scope) → exprsLength xs ≡ count vs → Says (TestsParts xs scope vs) (testExprs xs vs scope)
+  pub parts-say : (xs : Exprs) (vs : Values) (scope : Environment) → exprsLength xs ≡ count vs → Says (TestsParts xs scope vs) (testExprs xs vs scope)
   parts-say none nil scope c = pure-says Listing.allPartsPass
   parts-say none (cons v vs) scope c = absurd (omega arith)
   parts-say (more a xs) nil scope c = absurd (omega arith)

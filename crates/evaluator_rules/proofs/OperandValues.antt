@@ -25,20 +25,20 @@ data PairFound (y v : Value) : Values → Type 0 where
   foundHere : {x : Value} {vs : Values} → sameValue x y ≡ true → PairFound y v (cons (pair x v) vs)
   foundLater : {x z : Value} {vs : Values} → sameValue x y ≡ false → PairFound y v vs → PairFound y v (cons (pair x z) vs)
 
-data Finds (y : Value) (vs : Values) : Image → Type 0 where
-  misfits : NoPairMet y vs → Finds y vs misfit
-  finds-none : NoneFound y vs → Finds y vs undefined
-  finds-pair : {v : Value} → PairFound y v vs → Finds y vs (found v)
+data FindsImage (y : Value) (vs : Values) : Image → Type 0 where
+  misfits : NoPairMet y vs → FindsImage y vs misfit
+  finds-none : NoneFound y vs → FindsImage y vs undefined
+  finds-pair : {v : Value} → PairFound y v vs → FindsImage y vs (found v)
 
-past : {x y z : Value} {vs : Values} {i : Image} → sameValue x y ≡ false → Finds y vs i → Finds y (cons (pair x z) vs) i
+past : {x y z : Value} {vs : Values} {i : Image} → sameValue x y ≡ false → FindsImage y vs i → FindsImage y (cons (pair x z) vs) i
 past e (misfits h) = misfits (metLater e h)
 past e (finds-none h) = finds-none (otherPair e h)
 past e (finds-pair h) = finds-pair (foundLater e h)
 
-first-misfit : (y v : Value) (vs : Values) → NoPair v → Finds y (cons v vs) misfit
+first-misfit : (y v : Value) (vs : Values) → NoPair v → FindsImage y (cons v vs) misfit
 first-misfit y v vs h = misfits (metHere h)
 
-finds : (y : Value) (vs : Values) → Finds y vs (applyValue y vs)
+finds : (y : Value) (vs : Values) → FindsImage y vs (applyValue y vs)
 unfolding applyValue
 finds y nil = finds-none noMember
 finds y (cons (int k) ws) = first-misfit y (int k) ws (λ x z e. let i : _≡_ {A = ℕ} 0 1 = cc in omega arith)
@@ -48,22 +48,22 @@ finds y (cons (tuple nil) ws) = first-misfit y (tuple nil) ws (λ x z e. let i :
 finds y (cons (tuple (cons u nil)) ws) = first-misfit y (tuple (cons u nil)) ws (λ x z e. let i : _≡_ {A = ℕ} 0 1 = cc in omega arith)
 finds y (cons (tuple (cons u (cons v nil))) ws) = go (sameValue u y) refl (finds y ws)
   where
-    go : (b : Bool) → sameValue u y ≡ b → Finds y ws (applyValue y ws) → Finds y (cons (pair u v) ws) (cond b (found v) (applyValue y ws))
+    go : (b : Bool) → sameValue u y ≡ b → FindsImage y ws (applyValue y ws) → FindsImage y (cons (pair u v) ws) (cond b (found v) (applyValue y ws))
     go true e h = finds-pair (foundHere e)
     go false e h = past e h
 finds y (cons (tuple (cons u (cons v (cons w r)))) ws) = first-misfit y (tuple (cons u (cons v (cons w r)))) ws (λ x z e. let i : _≡_ {A = ℕ} 0 1 = cc in omega arith)
 
-of-misfit : {y : Value} {vs : Values} {i : Image} → Finds y vs i → i ≡ misfit → NoPairMet y vs
+of-misfit : {y : Value} {vs : Values} {i : Image} → FindsImage y vs i → i ≡ misfit → NoPairMet y vs
 of-misfit (misfits h) e = h
 of-misfit (finds-none h) e = let i : _≡_ {A = ℕ} 0 1 = cc in absurd (omega arith)
 of-misfit (finds-pair h) e = let i : _≡_ {A = ℕ} 0 1 = cc in absurd (omega arith)
 
-of-none : {y : Value} {vs : Values} {i : Image} → Finds y vs i → i ≡ undefined → NoneFound y vs
+of-none : {y : Value} {vs : Values} {i : Image} → FindsImage y vs i → i ≡ undefined → NoneFound y vs
 of-none (misfits h) e = let i : _≡_ {A = ℕ} 0 1 = cc in absurd (omega arith)
 of-none (finds-none h) e = h
 of-none (finds-pair h) e = let i : _≡_ {A = ℕ} 0 1 = cc in absurd (omega arith)
 
-of-pair : {y v : Value} {vs : Values} {i : Image} → Finds y vs i → i ≡ found v → PairFound y v vs
+of-pair : {y v : Value} {vs : Values} {i : Image} → FindsImage y vs i → i ≡ found v → PairFound y v vs
 of-pair (misfits h) e = let i : _≡_ {A = ℕ} 0 1 = cc in absurd (omega arith)
 of-pair (finds-none h) e = let i : _≡_ {A = ℕ} 0 1 = cc in absurd (omega arith)
 of-pair {y = y} {v = v} {vs = vs} (finds-pair {v = u} h) e = let k : u ≡ v = cc in rw k at h

@@ -14,14 +14,14 @@ use Rattle.reader_rules.specs.Tree.{Expr, exprNode, Paragraph, abbreviation}
 use Rattle.reader_rules.specs.Tree as Tree
 use Rattle.states_rules.specs.States.{State}
 use Rattle.evaluator_rules.specs.Outcomes.{Event, Outcome, done, stopped, after, _>>=_, pure, stop}
-use Rattle.evaluator_rules.specs.Scope.{Scope}
+use Rattle.evaluator_rules.specs.Environment.{Environment}
 use Rattle.evaluator_rules.specs.Operations.{image, findPair, calculate}
 use Rattle.evaluator_rules.specs.Rules.{evalExpr}
 use Rattle.evaluator_rules.specs.Paragraphs.{Step, onward, then, runParagraph, runParagraphs}
 use Rattle.evaluator_rules.specs.Claims.{NotRun, noIntegers, noPower, noProduct, noSelect, noTheta, noSchemaSet}
 
 -- "As values ℤ, Power, Product, Select, Theta, SchemaSet .. are 54 before their operands"
-pub not-run : (a : Expr) → NotRun a → (scope : Scope) → evalExpr a scope ≡ stop 54 (exprNode a)
+pub not-run : (a : Expr) → NotRun a → (scope : Environment) → evalExpr a scope ≡ stop 54 (exprNode a)
 unfolding evalExpr exprNode
 not-run _ (noIntegers n) scope = refl
 not-run _ (noPower n a) scope = refl
@@ -42,13 +42,13 @@ unfolding findPair image applyValue sameValue
 apply-lowest n a v vs = rw (equal-same (encode a) (encode a) refl) refl
 
 -- "Abbreviation without parameters is worked out", used or not (R27)
-pub abbreviation-stops : (n i : ℕ) (a : Expr) (state : State) (scope : Scope) {t : List Event} {number node : ℕ}
+pub abbreviation-stops : (n i : ℕ) (a : Expr) (state : State) (scope : Environment) {t : List Event} {number node : ℕ}
     → evalExpr a scope ≡ stopped t number node → runParagraph (abbreviation n i [] a) state scope ≡ stopped t number node
 unfolding runParagraph _>>=_
 abbreviation-stops n i a state scope e = rw e refl
 
 -- the paragraphs after one that goes on are run too
-pub paragraphs-go-on : (p : Paragraph) (ps : List Paragraph) (state : State) (scope scope′ : Scope) {t : List Event}
+pub paragraphs-go-on : (p : Paragraph) (ps : List Paragraph) (state : State) (scope scope′ : Environment) {t : List Event}
     → runParagraph p state scope ≡ done t (onward scope′) → runParagraphs (p ∷ ps) state scope ≡ after t (runParagraphs ps state scope′)
 unfolding runParagraphs _>>=_ then
 paragraphs-go-on p ps state scope scope′ e = rw e refl

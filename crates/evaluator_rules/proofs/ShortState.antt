@@ -18,7 +18,7 @@ use Rattle.states_rules.specs.Decode.{valueByShape, valueAt, valueOf}
 use Rattle.states_rules.specs.States.{nameAt, sizesIn, isSize, givenNumber, valueNumber, entryFrom, entryValue, valueIn}
 use Rattle.states_rules.proofs.GivenSizes.{EntryOf, entry-found}
 use Rattle.evaluator_rules.specs.WordCount.{wordCount}
-use Rattle.evaluator_rules.specs.Claims.{WellFormed}
+use Rattle.evaluator_rules.specs.Claims.{WellFormedState}
 use Rattle.evaluator_rules.proofs.Decoding.{Words, value-read}
 use Rattle.evaluator_rules.proofs.StateWords.{words-part, value-fine}
 
@@ -38,7 +38,7 @@ value-short sizes ws h e =
     let b = leb-true (length ws) 64 (and-left (leb (length ws) 64) (eqb (valueLength sizes 32 ws) (length ws)) (and-right (leb 1 (length ws)) _ e)) in
     rw a b
 
-module _ (ns : List Name) (state : List ℕ) (h : Words state) (f : WellFormed ns state) where
+module _ (ns : List Name) (state : List ℕ) (h : Words state) (f : WellFormedState ns state) where
   abbrev sizes : ℕ → ℕ
   sizes = sizesIn ns state
 

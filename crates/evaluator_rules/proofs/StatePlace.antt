@@ -15,10 +15,10 @@ use Rattle.reader_rules.proofs.Scan.{scan-none, then-none, never}
 use Rattle.values.specs.Form.{isValue}
 use Rattle.states_rules.specs.Names.{Name}
 use Rattle.states_rules.specs.States.{nameAt, sizesIn, isSize, givenNumber, valueNumber, isPaired, entriesOf, stateIf, stateOf}
-use Rattle.evaluator_rules.specs.Claims.{IllFormed, pairs, given, other, WellFormed}
+use Rattle.evaluator_rules.specs.Claims.{IllFormedState, pairs, given, other, WellFormedState}
 
 -- what a scan that finds has found: the first number other than 0, and where
-pub record Found (f : ℕ → ℕ) (i m v p : ℕ) : Type 0 where
+pub record FoundFirst (f : ℕ → ℕ) (i m v p : ℕ) : Type 0 where
   pub number : f p ≡ v
   pub from : i ≤ p
   pub before : p < i + m
@@ -28,12 +28,12 @@ pub record Found (f : ℕ → ℕ) (i m v p : ℕ) : Type 0 where
 refused-same : (a b c d : ℕ) → Refused a b ≡ Refused c d → (a ≡ c) × (b ≡ d)
 refused-same a b c d e = (cc, cc)
 
-pub scan-found : (f : ℕ → ℕ) (i m v p : ℕ) → scan f i m ≡ Refused v p → Found f i m v p
+pub scan-found : (f : ℕ → ℕ) (i m v p : ℕ) → scan f i m ≡ Refused v p → FoundFirst f i m v p
 unfolding scan
 scan-found f i zero v p e = never v p (sym e)
 scan-found f i (suc m) v p e = go (f i) refl e (λ x. scan-found f (suc i) m v p x)
   where
-    go : (x : ℕ) → f i ≡ x → found x i (scan f (suc i) m) ≡ Refused v p → (scan f (suc i) m ≡ Refused v p → Found f (suc i) m v p) → Found f i (suc m) v p
+    go : (x : ℕ) → f i ≡ x → found x i (scan f (suc i) m) ≡ Refused v p → (scan f (suc i) m ≡ Refused v p → FoundFirst f (suc i) m v p) → FoundFirst f i (suc m) v p
     go zero z e later =
         let r = later e in
         let l = r .from in
@@ -99,7 +99,7 @@ module _ (ns : List Name) (state : List ℕ) where
   value-number k x e z = other-number (nameAt ns k .isGiven) (isValue (sizesIn ns state) (part state k)) x e z
 
   entries-ill : (a : Reading) → isPaired ns state ≡ true → scan (givenNumber ns state) 1 (length ns) ≡ a → (n p : ℕ) →
-      andThen a (scan (valueNumber ns state) 1 (length ns)) ≡ Refused n p → (n ≡ 41) × IllFormed ns state p
+      andThen a (scan (valueNumber ns state) 1 (length ns)) ≡ Refused n p → (n ≡ 41) × IllFormedState ns state p
   entries-ill Readable h s n p e =
       let f = scan-found (valueNumber ns state) 1 (length ns) n p e in
       let l = f .from in
@@ -114,12 +114,12 @@ module _ (ns : List Name) (state : List ℕ) where
       let v = given-number p n (f .number) (f .not-zero) in
       (v, given {k = p} h (omega arith) (omega arith) (f .number ∙ v) (λ j x y. f .none j x y))
 
-  stateIf-ill : (b : Bool) → isPaired ns state ≡ b → (n p : ℕ) → stateIf b ns state ≡ Refused n p → (n ≡ 41) × IllFormed ns state p
+  stateIf-ill : (b : Bool) → isPaired ns state ≡ b → (n p : ℕ) → stateIf b ns state ≡ Refused n p → (n ≡ 41) × IllFormedState ns state p
   unfolding stateIf entriesOf
   stateIf-ill true h n p e = entries-ill _ h refl n p e
-  stateIf-ill false h n p e = let r = refused-same 41 0 n p e in (sym (r .0), subst (IllFormed ns state) (r .1) (pairs h))
+  stateIf-ill false h n p e = let r = refused-same 41 0 n p e in (sym (r .0), subst (IllFormedState ns state) (r .1) (pairs h))
 
-  stateIf-well : (b : Bool) → isPaired ns state ≡ b → stateIf b ns state ≡ Readable → WellFormed ns state
+  stateIf-well : (b : Bool) → isPaired ns state ≡ b → stateIf b ns state ≡ Readable → WellFormedState ns state
   unfolding stateIf entriesOf
   stateIf-well true h e =
       let t = then-none _ _ e in
@@ -133,7 +133,7 @@ module _ (ns : List Name) (state : List ℕ) where
   not-41 : (x : ℕ) → x ≡ 41 → x ≡ 0 → ⊥
   not-41 x e z = omega arith
 
-  ill-from : {p : ℕ} → IllFormed ns state p → stateOf ns state ≡ Refused 41 p
+  ill-from : {p : ℕ} → IllFormedState ns state p → stateOf ns state ≡ Refused 41 p
   unfolding stateOf stateIf entriesOf
   ill-from (pairs h) = rw h
   ill-from (given {k} h l b v f) = rw h (rw (scan-first (givenNumber ns state) 1 (length ns) k (not-41 _ v) l (omega arith) f) (ap (λ (x : ℕ). Refused x k) v))
@@ -141,21 +141,21 @@ module _ (ns : List Name) (state : List ℕ) where
       rw h (rw (scan-clear (givenNumber ns state) 1 (length ns) (λ j x y. g j x (omega arith)))
       (scan-first (valueNumber ns state) 1 (length ns) k (not-41 _ v) l (omega arith) f ∙ ap (λ (x : ℕ). Refused x k) v))
 
-  well-from : WellFormed ns state → stateOf ns state ≡ Readable
+  well-from : WellFormedState ns state → stateOf ns state ≡ Readable
   unfolding stateOf stateIf entriesOf
   well-from w =
       rw (w .paired) (rw (scan-clear (givenNumber ns state) 1 (length ns) (λ j x y. w .givens j x (omega arith)))
       (scan-clear (valueNumber ns state) 1 (length ns) (λ j x y. w .others j x (omega arith))))
 
   -- 41 at p exactly where the state is ill formed at p, and no other number
-  pub state-ill : (n p : ℕ) → (stateOf ns state ≡ Refused n p) ↔ ((n ≡ 41) × IllFormed ns state p)
+  pub state-ill : (n p : ℕ) → (stateOf ns state ≡ Refused n p) ↔ ((n ≡ 41) × IllFormedState ns state p)
   unfolding stateOf
   state-ill n p = (stateIf-ill (isPaired ns state) refl n p, λ h. ill-from (h .1) ∙ ap (λ (x : ℕ). Refused x p) (sym (h .0)))
 
-  pub state-well : (stateOf ns state ≡ Readable) ↔ WellFormed ns state
+  pub state-well : (stateOf ns state ≡ Readable) ↔ WellFormedState ns state
   unfolding stateOf
   state-well = (stateIf-well (isPaired ns state) refl, well-from)
 
   -- one place
-  pub one-place : (p q : ℕ) → IllFormed ns state p → IllFormed ns state q → p ≡ q
+  pub one-place : (p q : ℕ) → IllFormedState ns state p → IllFormedState ns state q → p ≡ q
   one-place p q h k = refused-same 41 p 41 q (sym (ill-from h) ∙ ill-from k) .1

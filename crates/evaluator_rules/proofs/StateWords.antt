@@ -12,7 +12,7 @@ use Rattle.values.specs.Givens.{elements}
 use Rattle.values.specs.Form.{isValue}
 use Rattle.states_rules.specs.Names.{Name}
 use Rattle.states_rules.specs.States.{nameAt, sizesIn, valueNumber, entryFrom, entryValue, valueIn}
-use Rattle.evaluator_rules.specs.Claims.{WellFormed}
+use Rattle.evaluator_rules.specs.Claims.{WellFormedState}
 use Rattle.evaluator_rules.proofs.Decoding.{Words, words-drop, value-read}
 
 words-take : (n : ℕ) (ws : List ℕ) → Words ws → Words (take n ws)
@@ -38,7 +38,7 @@ module _ (ns : List Name) (state : List ℕ) (i : ℕ) where
   abbrev pub entry : ℕ
   entry = entryFrom ns i 1
 
-  pub state-words : Words state → WellFormed ns state → 1 ≤ entry → entry ≤ length ns → nameAt ns entry .isGiven ≡ false → encode (valueIn ns state i) ≡ part state entry
+  pub state-words : Words state → WellFormedState ns state → 1 ≤ entry → entry ≤ length ns → nameAt ns entry .isGiven ≡ false → encode (valueIn ns state i) ≡ part state entry
   unfolding valueIn entryValue valueNumber
   state-words h f l m g =
       let z : _≡_ {A = ℕ} (cond (nameAt ns entry .isGiven) 0 (cond (isValue (sizesIn ns state) (part state entry)) 0 41)) 0 = f .others entry l m in

@@ -12,7 +12,7 @@ use Rattle.values.specs.Value.{Value, Values}
 use Rattle.reader_rules.specs.Tree.{Operator, plus, minus, times, Expr, set, selection, theta, schemaSet, comprehension, Exprs, Text, Lines, Paragraph, Document, exprNode}
 use Rattle.reader_rules.specs.Tree as Tree
 use Rattle.states_rules.specs.States.{State}
-use Rattle.evaluator_rules.specs.Scope.{Scope}
+use Rattle.evaluator_rules.specs.Environment.{Environment}
 use Rattle.evaluator_rules.specs.Outcomes.{Event, Outcome, stop}
 use Rattle.evaluator_rules.specs.Rules.{evalExpr}
 use Rattle.evaluator_rules.specs.Claims.{Trouble, NotRun, noIntegers, noPower, noProduct, noSelect, noTheta, noSchemaSet}
@@ -58,19 +58,19 @@ outside-listed (Troubles.differenceOutside e) = refl
 outside-listed (Troubles.productOutside e) = refl
 
 -- the value of a Set or Comprehension is a set; what is 54 has no value
-set-set : {n : ℕ} {xs : Exprs} {scope : Scope} {t : List Event} {x : Value} → Works (set n xs) scope t (gives x) → NoSet x → ⊥
+set-set : {n : ℕ} {xs : Exprs} {scope : Environment} {t : List Event} {x : Value} → Works (set n xs) scope t (gives x) → NoSet x → ⊥
 set-set (Listing.aSet {vs = vs} h (Listing.entered l)) d = d vs refl
 
-gathered-set : {n : ℕ} {y : Text} {a : Expr} {scope : Scope} {t : List Event} {x : Value} → Works (comprehension n y a) scope t (gives x) → NoSet x → ⊥
+gathered-set : {n : ℕ} {y : Text} {a : Expr} {scope : Environment} {t : List Event} {x : Value} → Works (comprehension n y a) scope t (gives x) → NoSet x → ⊥
 gathered-set (Listing.allGathered {vs = vs} h k (Listing.entered l)) d = d vs refl
 
 stopped-gives : {A : Type 0} {o : Outcome A} {a : A} {w m : ℕ} → Gives o a → o ≡ stop w m → ⊥
 stopped-gives gave e = let z : _≡_ {A = ℕ} 0 1 = cc in omega arith
 
-unrun-gives : (a : Expr) (scope : Scope) {x : Value} → NotRun a → Gives (evalExpr a scope) x → ⊥
+unrun-gives : (a : Expr) (scope : Environment) {x : Value} → NotRun a → Gives (evalExpr a scope) x → ⊥
 unrun-gives a scope h g = stopped-gives g (not-run a h scope)
 
-anew-placed : {a : Expr} (scope : Scope) {x : Value} → Another a → Gives (evalExpr a scope) x → NoSet x → PlacedTest 51 (exprNode a) a
+anew-placed : {a : Expr} (scope : Environment) {x : Value} → Another a → Gives (evalExpr a scope) x → NoSet x → PlacedTest 51 (exprNode a) a
 unfolding PlacedTest has exprNode
 anew-placed scope Listing.aReference g d = inl (refl, refl)
 anew-placed scope Listing.aNumber g d = (refl, refl)
@@ -146,17 +146,17 @@ has-more w y l h = go (eqb y w)
     go false = h
 
 module _ (w m : ℕ) where
-  operand-placed : {scope : Scope} {xs : Exprs} {a : Expr} → Operand scope xs a → PlacedExpr w m a → PlacedExprs w m xs
+  operand-placed : {scope : Environment} {xs : Exprs} {a : Expr} → Operand scope xs a → PlacedExpr w m a → PlacedExprs w m xs
   unfolding PlacedExprs
   operand-placed Evaluations.firstOperand h = inl h
   operand-placed (Evaluations.laterOperand g k) h = inr (operand-placed k h)
 
-  member-placed : {scope : Scope} {xs : Exprs} {s s′ : Values} {a : Expr} → Adding scope xs s a s′ → PlacedExpr w m a → PlacedExprs w m xs
+  member-placed : {scope : Environment} {xs : Exprs} {s s′ : Values} {a : Expr} → Adding scope xs s a s′ → PlacedExpr w m a → PlacedExprs w m xs
   unfolding PlacedExprs
   member-placed Evaluations.firstMember h = inl h
   member-placed (Evaluations.laterMember g e k) h = inr (member-placed k h)
 
-  part-placed : {scope : Scope} {xs : Exprs} {vs : Values} {a : Expr} {v : Value} → EachPart scope xs vs a v → PlacedTest w m a → PlacedTests w m xs
+  part-placed : {scope : Environment} {xs : Exprs} {vs : Values} {a : Expr} {v : Value} → EachPart scope xs vs a v → PlacedTest w m a → PlacedTests w m xs
   unfolding PlacedTests
   part-placed Evaluations.firstPart h = inl h
   part-placed (Evaluations.laterPart g k) h = inr (part-placed k h)
@@ -217,20 +217,20 @@ module _ (w m : ℕ) where
   evaluation-placed t h = let r = within-found w m t h in (row-number (r .2), within-placed (r .1) (row-placed (r .2)))
 
   -- ---- the paragraphs
-  tested-placed : {state : State} {scope : Scope} {ls : Lines} {own : Scope} {u : Evaluation} → Tested state scope ls own u → PlacedEvaluation w m u → PlacedAxiom w m ls
+  tested-placed : {state : State} {scope : Environment} {ls : Lines} {own : Environment} {u : Evaluation} → Tested state scope ls own u → PlacedEvaluation w m u → PlacedAxiom w m ls
   unfolding PlacedAxiom PlacedEvaluation
   tested-placed (Evaluations.nameTested k) h = inl h
   tested-placed (Evaluations.laterTestedLine g k) h = inr (tested-placed k h)
   tested-placed Evaluations.includedLine h = h
 
-  begun-placed : {state : State} {p : Paragraph} {scope : Scope} {u : Evaluation} → Begins state p scope u → PlacedEvaluation w m u → PlacedParagraph w m p
+  begun-placed : {state : State} {p : Paragraph} {scope : Environment} {u : Evaluation} → Begins state p scope u → PlacedEvaluation w m u → PlacedParagraph w m p
   unfolding PlacedParagraph PlacedEvaluation
   begun-placed (Evaluations.axiomLine k) h = inl (tested-placed k h)
   begun-placed (Evaluations.axiomPredicate g) h = inr h
   begun-placed Evaluations.workedOut h = h
   begun-placed Evaluations.constrained h = h
 
-  coming-placed : {state : State} {ps : List Paragraph} {scope : Scope} {u : Evaluation} → BeginsIn state ps scope u → PlacedEvaluation w m u → PlacedParagraphs w m ps
+  coming-placed : {state : State} {ps : List Paragraph} {scope : Environment} {u : Evaluation} → BeginsIn state ps scope u → PlacedEvaluation w m u → PlacedParagraphs w m ps
   unfolding PlacedParagraphs
   coming-placed (Evaluations.thisParagraph k) h = inl (begun-placed k h)
   coming-placed (Evaluations.nextParagraph g k) h = inr (coming-placed k h)

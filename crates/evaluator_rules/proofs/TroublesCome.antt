@@ -7,7 +7,7 @@ use Rattle.values.specs.Value as Value
 use Rattle.reader_rules.specs.Tree.{Quantifier, Expr, reference, integers, set, tuple, product, power, application, arithmetic, comprehension, Exprs, more, Pred, equal, member, atMost}
 use Rattle.reader_rules.specs.Tree.{connected, quantified, text, declaration, inclusion, include, none}
 use Rattle.reader_rules.specs.Tree as Tree
-use Rattle.evaluator_rules.specs.Scope.{Scope}
+use Rattle.evaluator_rules.specs.Environment.{Environment}
 use Rattle.evaluator_rules.specs.Rules.{evalExpr, stopInclude}
 use Rattle.evaluator_rules.specs.Listing
 use Rattle.evaluator_rules.specs.Listing.{Result, stops, WorksAll, Fills, Gathers, Quantifies, TestsMembers, TestsParts}
@@ -19,29 +19,29 @@ use Rattle.evaluator_rules.proofs.OperandValues.{met-misfit, none-undef
 use Rattle.evaluator_rules.proofs.EvaluationLists.{Some, value-said, value-stop, value-stops, values-said, truth-said, truth-stop, truth-stops, sets-said, sets-stop, sets-stops, test-said, test-stop, test-stops}
 
 -- ---- lists of expressions, assignments, members and parts: what comes at the next one comes of the whole list
-operand-stops : {scope : Scope} {xs : Exprs} {a : Expr} {w m : ℕ} → Operand scope xs a → Stops (evalExpr a scope) w m → Some (WorksAll xs scope) (stops w m)
+operand-stops : {scope : Environment} {xs : Exprs} {a : Expr} {w m : ℕ} → Operand scope xs a → Stops (evalExpr a scope) w m → Some (WorksAll xs scope) (stops w m)
 operand-stops {scope = scope} (Evaluations.firstOperand {a = a}) h = (_, Listing.firstStops (value-stop a scope h .1))
 operand-stops {scope = scope} (Evaluations.laterOperand {b = b} g k) h = (_, Listing.laterStops (value-said b scope g .1) (operand-stops k h .1))
 
-fills-from : {scope : Scope} {xs : Exprs} {n : ℕ} {s s′ : Values} {a : Expr} {r : Result Values} → Adding scope xs s a s′ → ((ys : Exprs) → Some (Fills (more a ys) n scope s′) r) → Some (Fills xs n scope s) r
+fills-from : {scope : Environment} {xs : Exprs} {n : ℕ} {s s′ : Values} {a : Expr} {r : Result Values} → Adding scope xs s a s′ → ((ys : Exprs) → Some (Fills (more a ys) n scope s′) r) → Some (Fills xs n scope s) r
 fills-from (Evaluations.firstMember {xs = ys}) h = h ys
 fills-from {scope = scope} (Evaluations.laterMember {b = b} g e k) h = (_, Listing.memberAdded (value-said b scope g .1) e (fills-from k h .1))
 
-gathers-from : {n : ℕ} {p : Pred} {a : Expr} {xs : List Scope} {s s′ : Values} {x : Scope} {r : Result Values} → Gathering p a xs s x s′ → ((ys : List Scope) → Some (Gathers n p a (x ∷ ys) s′) r) → Some (Gathers n p a xs s) r
+gathers-from : {n : ℕ} {p : Pred} {a : Expr} {xs : List Environment} {s s′ : Values} {x : Environment} {r : Result Values} → Gathering p a xs s x s′ → ((ys : List Environment) → Some (Gathers n p a (x ∷ ys) s′) r) → Some (Gathers n p a xs s) r
 gathers-from (Evaluations.firstGathered {xs = ys}) h = h ys
 gathers-from {p = p} (Evaluations.leftOut {y = y} g k) h = (_, Listing.filteredOut (truth-said p y g .1) (gathers-from k h .1))
 gathers-from {p = p} {a = a} (Evaluations.added {y = y} g b e k) h = (_, Listing.bodyAdded (truth-said p y g .1) (value-said a y b .1) e (gathers-from k h .1))
 
-quantifies-from : {q : Quantifier} {p b : Pred} {xs : List Scope} {x : Scope} {r : Result Bool} → Trying q p b xs x → ((ys : List Scope) → Some (Quantifies q p b (x ∷ ys)) r) → Some (Quantifies q p b xs) r
+quantifies-from : {q : Quantifier} {p b : Pred} {xs : List Environment} {x : Environment} {r : Result Bool} → Trying q p b xs x → ((ys : List Environment) → Some (Quantifies q p b (x ∷ ys)) r) → Some (Quantifies q p b xs) r
 quantifies-from (Evaluations.firstTried {xs = ys}) h = h ys
 quantifies-from {p = p} (Evaluations.passedOver {y = y} g k) h = (_, Listing.passedOver (truth-said p y g .1) (quantifies-from k h .1))
 quantifies-from {p = p} {b = b} (Evaluations.tried {y = y} g c k) h = (_, Listing.claimGoesOn (truth-said p y g .1) (truth-said b y c .1) (quantifies-from k h .1))
 
-members-from : {a : Expr} {scope : Scope} {vs : Values} {v : Value} {r : Result Bool} → EachMember a scope vs v → ((us : Values) → Some (TestsMembers a scope (cons v us)) r) → Some (TestsMembers a scope vs) r
+members-from : {a : Expr} {scope : Environment} {vs : Values} {v : Value} {r : Result Bool} → EachMember a scope vs v → ((us : Values) → Some (TestsMembers a scope (cons v us)) r) → Some (TestsMembers a scope vs) r
 members-from (Evaluations.firstTested {vs = us}) h = h us
 members-from {a = a} {scope = scope} (Evaluations.laterTested {u = u} g k) h = (_, Listing.memberPasses (test-said a scope u g .1) (members-from k h .1))
 
-parts-from : {scope : Scope} {xs : Exprs} {vs : Values} {a : Expr} {v : Value} {r : Result Bool} → EachPart scope xs vs a v → ((ys : Exprs) (us : Values) → Some (TestsParts (more a ys) scope (cons v us)) r) → Some (TestsParts xs scope vs) r
+parts-from : {scope : Environment} {xs : Exprs} {vs : Values} {a : Expr} {v : Value} {r : Result Bool} → EachPart scope xs vs a v → ((ys : Exprs) (us : Values) → Some (TestsParts (more a ys) scope (cons v us)) r) → Some (TestsParts xs scope vs) r
 parts-from (Evaluations.firstPart {xs = ys} {vs = us}) h = h ys us
 parts-from {scope = scope} (Evaluations.laterPart {b = b} {u = u} g k) h = (_, Listing.partPasses (test-said b scope u g .1) (parts-from k h .1))
 

@@ -7,7 +7,7 @@ use Rattle.reader_rules.specs.Tree.{Expr, reference, number, integers, set, tup
 use Rattle.reader_rules.specs.Tree.{comprehension, Exprs, none, more, Pred, truth, equal, member, atMost, connected, quantified, Text, text, Lines, end}
 use Rattle.reader_rules.specs.Tree.{declaration, inclusion}
 use Rattle.reader_rules.specs.Tree as Tree
-use Rattle.evaluator_rules.specs.Scope.{Scope}
+use Rattle.evaluator_rules.specs.Environment.{Environment}
 use Rattle.evaluator_rules.specs.Evaluations
 use Rattle.evaluator_rules.specs.Evaluations.{Evaluation, working, telling, testing, declaring, including, StopsAt, Operand, Adding, EachPart, Reaches, Within, itself, further}
 use Rattle.evaluator_rules.specs.Troubles.{Row, Below}
@@ -60,17 +60,17 @@ rank (testing a scope v) = suc (2 * sizeExpr a)
 rank (declaring ls scope) = 2 * sizeLines ls
 rank (including i) = 0
 
-operand-size : {scope : Scope} {xs : Exprs} {a : Expr} → Operand scope xs a → sizeExpr a ≤ sizeExprs xs
+operand-size : {scope : Environment} {xs : Exprs} {a : Expr} → Operand scope xs a → sizeExpr a ≤ sizeExprs xs
 unfolding sizeExpr
 operand-size Evaluations.firstOperand = omega arith
 operand-size (Evaluations.laterOperand g k) = let h = operand-size k in omega arith
 
-member-size : {scope : Scope} {xs : Exprs} {s s′ : Values} {a : Expr} → Adding scope xs s a s′ → sizeExpr a ≤ sizeExprs xs
+member-size : {scope : Environment} {xs : Exprs} {s s′ : Values} {a : Expr} → Adding scope xs s a s′ → sizeExpr a ≤ sizeExprs xs
 unfolding sizeExpr
 member-size Evaluations.firstMember = omega arith
 member-size (Evaluations.laterMember g e k) = let h = member-size k in omega arith
 
-part-size : {scope : Scope} {xs : Exprs} {vs : Values} {a : Expr} {v : Value} → EachPart scope xs vs a v → sizeExpr a ≤ sizeExprs xs
+part-size : {scope : Environment} {xs : Exprs} {vs : Values} {a : Expr} {v : Value} → EachPart scope xs vs a v → sizeExpr a ≤ sizeExprs xs
 unfolding sizeExpr
 part-size Evaluations.firstPart = omega arith
 part-size (Evaluations.laterPart g k) = let h = part-size k in omega arith

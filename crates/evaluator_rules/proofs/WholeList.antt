@@ -14,11 +14,11 @@ use Rattle.reader_rules.specs.declared.Reading.the-variants.{Readable, Refused 
 use Rattle.states_rules.specs.Names.{documentNames}
 use Rattle.states_rules.specs.States.{State, stateOf, valueIn}
 use Rattle.evaluator_rules.specs.Outcomes.{Event, Outcome, _>>=_}
-use Rattle.evaluator_rules.specs.Scope.{Scope}
+use Rattle.evaluator_rules.specs.Environment.{Environment}
 use Rattle.evaluator_rules.specs.Rules.{evalExpr, testExpr, stopInclude}
 use Rattle.evaluator_rules.specs.Paragraphs.{Step, onward, failed, then, unless, testNames, testLines, runParagraph, runParagraphs, runDocument}
 use Rattle.evaluator_rules.specs.Run.{Ran, ran, ending, runState, runWork, runRead, runOf, runWorkWords}
-use Rattle.evaluator_rules.specs.Claims.{WellFormed}
+use Rattle.evaluator_rules.specs.Claims.{WellFormedState}
 use Rattle.evaluator_rules.specs.Listing.{Result, gives, stops, Tests}
 use Rattle.evaluator_rules.specs.ListingRun
 use Rattle.evaluator_rules.specs.ListingRun.{Ends, TestsNames, TestsLines, Runs, RunsAll, RunsDocument, Lists, WholeList}
@@ -31,7 +31,7 @@ use Rattle.evaluator_rules.proofs.Comes.{Comes, finished, ceased, on, l
 use Rattle.evaluator_rules.proofs.ListingOnly.{only-expr, only-pred}
 
 -- ---- what the functions give is said
-then-says : {R Q : List Event → Result Step → Type 0} {o : Outcome Step} (k : Scope → Outcome Step) → Says R o → ((t : List Event) (scope : Scope) → R t (gives (onward scope)) → Says (λ u r. Q (t ++ u) r) (k scope))
+then-says : {R Q : List Event → Result Step → Type 0} {o : Outcome Step} (k : Environment → Outcome Step) → Says R o → ((t : List Event) (scope : Environment) → R t (gives (onward scope)) → Says (λ u r. Q (t ++ u) r) (k scope))
     → ((t : List Event) (r : Result Step) → R t r → Ends r → Q t r) → Says Q (o >>= then k)
 unfolding then
 then-says {R = R} {Q = Q} k h l e = bind-says h (λ t s. after-step t s) (λ t w m j. e t (stops w m) j ListingRun.stopping)
@@ -41,20 +41,20 @@ then-says {R = R} {Q = Q} k h l e = bind-says h (λ t s. after-step t s) (λ t w
     after-step t (failed n) j = pure-says (rw append-nil (e t (gives (failed n)) j ListingRun.failing))
 
 module _ (state : State) where
-  pub names-say : (n : ℕ) (a : Expr) (scope : Scope) (f : Value → Outcome Bool) → ((v : Value) → Says (Tests a scope v) (f v)) → (is : List ℕ) (own : Scope) → Says (TestsNames state n a scope is own) (testNames n f is state own)
+  pub names-say : (n : ℕ) (a : Expr) (scope : Environment) (f : Value → Outcome Bool) → ((v : Value) → Says (Tests a scope v) (f v)) → (is : List ℕ) (own : Environment) → Says (TestsNames state n a scope is own) (testNames n f is state own)
   unfolding testNames
   names-say n a scope f k [] own = pure-says ListingRun.noName
   names-say n a scope f k (i ∷ is) own =
       truth-says _ (k (state i)) (λ t h. other-says (names-say n a scope f k is _) (λ u r j. ListingRun.namePasses h j)) (λ t h. pure-says (rw append-nil (ListingRun.nameFails h))) (λ t w m h. ListingRun.nameStops h)
 
-  pub lines-say : (ls : Lines) (scope own : Scope) → Says (TestsLines state scope ls own) (testLines ls state scope own)
+  pub lines-say : (ls : Lines) (scope own : Environment) → Says (TestsLines state scope ls own) (testLines ls state scope own)
   unfolding testLines stopInclude
   lines-say end scope own = pure-says ListingRun.noLine
   lines-say (declaration n a is ls) scope own =
       then-says _ (names-say n a scope _ (λ v. test-says a _ v scope (λ scope′. expr-says a scope′)) is own) (λ t own′ h. other-says (lines-say ls scope own′) (λ u r k. ListingRun.lineGoesOn h k)) (λ t r h e. ListingRun.lineEnds h e)
   lines-say (inclusion (include n s k xs rs) ls) scope own = stop-says ListingRun.lineIncludes
 
-  pub paragraph-says : (p : Paragraph) (scope : Scope) → Says (Runs state p scope) (runParagraph p state scope)
+  pub paragraph-says : (p : Paragraph) (scope : Environment) → Says (Runs state p scope) (runParagraph p state scope)
   unfolding runParagraph unless
   paragraph-says (given n is) scope = pure-says ListingRun.bindsGivens
   paragraph-says (axiomatic n (text k p ls)) scope =
@@ -67,7 +67,7 @@ module _ (state : State) where
   paragraph-says (constraint n p) scope =
       truth-says _ (pred-says p scope) (λ t h. pure-says (rw append-nil (ListingRun.constraintHolds h))) (λ t h. pure-says (rw append-nil (ListingRun.constraintFails h))) (λ t w m h. ListingRun.constraintStops h)
 
-  pub paragraphs-say : (ps : List Paragraph) (scope : Scope) → Says (RunsAll state ps scope) (runParagraphs ps state scope)
+  pub paragraphs-say : (ps : List Paragraph) (scope : Environment) → Says (RunsAll state ps scope) (runParagraphs ps state scope)
   unfolding runParagraphs
   paragraphs-say [] scope = pure-says ListingRun.noParagraph
   paragraphs-say (p ∷ ps) scope =
@@ -78,7 +78,7 @@ module _ (state : State) where
   document-says (document n ps) = other-says (paragraphs-say ps _) (λ t r h. ListingRun.inOrder h)
 
 module _ (doc state : List ℕ) (work : ℕ) (read : readOf doc ≡ Readable) where
-  ending-lists : runWorkWords ≤ work → WellFormed (documentNames (treeOf doc)) state → {o : Outcome Step} → Says (RunsDocument (valueIn (documentNames (treeOf doc)) state) (treeOf doc)) o → Lists doc state work (ending o)
+  ending-lists : runWorkWords ≤ work → WellFormedState (documentNames (treeOf doc)) state → {o : Outcome Step} → Says (RunsDocument (valueIn (documentNames (treeOf doc)) state) (treeOf doc)) o → Lists doc state work (ending o)
   unfolding ending
   ending-lists l w (Said.finished {a = onward scope} h) = ListingRun.holds read l w h
   ending-lists l w (Said.finished {a = failed n} h) = ListingRun.fails read l w h
@@ -107,31 +107,31 @@ unfolding runOf
 run-lists doc state work = read-lists doc state work (readOf doc) refl
 
 -- ---- what is said is what the functions give
-goes-on : {o : Outcome Step} {scope : Scope} {t u : List Event} {r : Result Step} (k : Scope → Outcome Step) → Comes o t (gives (onward scope)) → Comes (k scope) u r → Comes (o >>= then k) (t ++ u) r
+goes-on : {o : Outcome Step} {scope : Environment} {t u : List Event} {r : Result Step} (k : Environment → Outcome Step) → Comes o t (gives (onward scope)) → Comes (k scope) u r → Comes (o >>= then k) (t ++ u) r
 unfolding then
 goes-on k h j = on _ h j
 
-ends : {o : Outcome Step} {t : List Event} {r : Result Step} (k : Scope → Outcome Step) → Comes o t r → Ends r → Comes (o >>= then k) t r
+ends : {o : Outcome Step} {t : List Event} {r : Result Step} (k : Environment → Outcome Step) → Comes o t r → Ends r → Comes (o >>= then k) t r
 unfolding then
 ends k h ListingRun.failing = last _ h finished
 ends k h ListingRun.stopping = off _ h
 
 module _ (state : State) where
-  pub names-come : {n : ℕ} {a : Expr} {scope : Scope} {is : List ℕ} {own : Scope} {t : List Event} {r : Result Step} → TestsNames state n a scope is own t r → Comes (testNames n (λ v. testExpr a (λ scope′. evalExpr a scope′) v scope) is state own) t r
+  pub names-come : {n : ℕ} {a : Expr} {scope : Environment} {is : List ℕ} {own : Environment} {t : List Event} {r : Result Step} → TestsNames state n a scope is own t r → Comes (testNames n (λ v. testExpr a (λ scope′. evalExpr a scope′) v scope) is state own) t r
   unfolding testNames
   names-come ListingRun.noName = finished
   names-come {a = a} (ListingRun.nameStops h) = off _ (only-expr a .tests _ _ _ _ h)
   names-come {a = a} (ListingRun.nameFails h) = last _ (only-expr a .tests _ _ _ _ h) finished
   names-come {a = a} (ListingRun.namePasses h k) = on _ (only-expr a .tests _ _ _ _ h) (names-come k)
 
-  pub lines-come : {scope : Scope} {ls : Lines} {own : Scope} {t : List Event} {r : Result Step} → TestsLines state scope ls own t r → Comes (testLines ls state scope own) t r
+  pub lines-come : {scope : Environment} {ls : Lines} {own : Environment} {t : List Event} {r : Result Step} → TestsLines state scope ls own t r → Comes (testLines ls state scope own) t r
   unfolding testLines stopInclude
   lines-come ListingRun.noLine = finished
   lines-come (ListingRun.lineEnds h e) = ends _ (names-come h) e
   lines-come (ListingRun.lineGoesOn h k) = goes-on _ (names-come h) (lines-come k)
   lines-come ListingRun.lineIncludes = ceased
 
-  pub runs-come : {p : Paragraph} {scope : Scope} {t : List Event} {r : Result Step} → Runs state p scope t r → Comes (runParagraph p state scope) t r
+  pub runs-come : {p : Paragraph} {scope : Environment} {t : List Event} {r : Result Step} → Runs state p scope t r → Comes (runParagraph p state scope) t r
   unfolding runParagraph unless
   runs-come ListingRun.bindsGivens = finished
   runs-come (ListingRun.linesEnd h e) = ends _ (lines-come h) e
@@ -146,7 +146,7 @@ module _ (state : State) where
   runs-come (ListingRun.constraintFails {p = p} h) = last _ (only-pred p .tells _ _ _ h) finished
   runs-come (ListingRun.constraintHolds {p = p} h) = last _ (only-pred p .tells _ _ _ h) finished
 
-  pub all-come : {ps : List Paragraph} {scope : Scope} {t : List Event} {r : Result Step} → RunsAll state ps scope t r → Comes (runParagraphs ps state scope) t r
+  pub all-come : {ps : List Paragraph} {scope : Environment} {t : List Event} {r : Result Step} → RunsAll state ps scope t r → Comes (runParagraphs ps state scope) t r
   unfolding runParagraphs
   all-come ListingRun.noParagraph = finished
   all-come (ListingRun.paragraphEnds h e) = ends _ (runs-come h) e
@@ -177,7 +177,7 @@ module _ (doc state : List ℕ) (work : ℕ) (read : readOf doc ≡ Readable) wh
   unfolding runOf runRead runWork
   by-state l r e = ap (λ (x : Reading). runRead x doc state work) read ∙ ap (λ (b : Bool). runWork b (treeOf doc) state) (le-leb runWorkWords work l) ∙ ap (λ (x : Reading). runState x (treeOf doc) state) e
 
-  by-run : runWorkWords ≤ work → WellFormed (documentNames (treeOf doc)) state → {t : List Event} {r : Result Step} → RunsDocument (valueIn (documentNames (treeOf doc)) state) (treeOf doc) t r → runOf doc state work ≡ endingOf t r
+  by-run : runWorkWords ≤ work → WellFormedState (documentNames (treeOf doc)) state → {t : List Event} {r : Result Step} → RunsDocument (valueIn (documentNames (treeOf doc)) state) (treeOf doc) t r → runOf doc state work ≡ endingOf t r
   unfolding runState
   by-run l w h = by-state l Readable (state-well (documentNames (treeOf doc)) state .1 w) ∙ ending-of (document-comes _ h)
 

@@ -5,7 +5,7 @@ use Prim.Native.Nat.{ℕ}
 use Rattle.values.specs.Value.{Values, nil, cons}
 use Rattle.reader_rules.specs.Tree.{Quantifier, forall, exists}
 use Rattle.evaluator_rules.specs.Outcomes.{Outcome, _>>=_, pure}
-use Rattle.evaluator_rules.specs.Scope.{Scope, bind, valued}
+use Rattle.evaluator_rules.specs.Environment.{Environment, bind, valued}
 
 -- the identifiers with the sets that they run through
 pub data Domains : Type 0 where
@@ -23,18 +23,18 @@ pub data Flow : Type 0 where
   halt : Flow
 
 abbrev pub Body : Type 0
-Body = Scope → Values → Outcome Flow
+Body = Environment → Values → Outcome Flow
 
 unfoldable pub next : (Values → Outcome Flow) → Flow → Outcome Flow
 next k (go s) = k s
 next k halt = pure halt
 
-unfoldable pub each : ℕ → Values → Body → Scope → Values → Outcome Flow
+unfoldable pub each : ℕ → Values → Body → Environment → Values → Outcome Flow
 each i nil k scope s = pure (go s)
 each i (cons v vs) k scope s = k (bind i (valued v) scope) s >>= next (λ s′. each i vs k scope s′)
 
 -- no Decl means one assignment
-unfoldable pub assign : Domains → Body → Scope → Values → Outcome Flow
+unfoldable pub assign : Domains → Body → Environment → Values → Outcome Flow
 assign noMore k scope s = k scope s
 assign (domain i vs ds) k scope s = each i vs (λ scope′ s′. assign ds k scope′ s′) scope s
 

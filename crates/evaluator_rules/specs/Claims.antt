@@ -35,13 +35,13 @@ pub data NotRun : Expr → Type 0 where
   noSchemaSet : (n : ℕ) (i : Include) → NotRun (schemaSet n i)
 
 -- a state is ill formed at entry k, or at 0 for its pairs: all Given entries in entry order, then the others (R20)
-pub data IllFormed (ns : List Name) (state : List ℕ) : ℕ → Type 0 where
-  pairs : isPaired ns state ≡ false → IllFormed ns state 0
-  given : {k : ℕ} → isPaired ns state ≡ true → 1 ≤ k → k ≤ length ns → givenNumber ns state k ≡ 41 → ((j : ℕ) → 1 ≤ j → j < k → givenNumber ns state j ≡ 0) → IllFormed ns state k
+pub data IllFormedState (ns : List Name) (state : List ℕ) : ℕ → Type 0 where
+  pairs : isPaired ns state ≡ false → IllFormedState ns state 0
+  given : {k : ℕ} → isPaired ns state ≡ true → 1 ≤ k → k ≤ length ns → givenNumber ns state k ≡ 41 → ((j : ℕ) → 1 ≤ j → j < k → givenNumber ns state j ≡ 0) → IllFormedState ns state k
   other : {k : ℕ} → isPaired ns state ≡ true → ((j : ℕ) → 1 ≤ j → j ≤ length ns → givenNumber ns state j ≡ 0) → 1 ≤ k → k ≤ length ns → valueNumber ns state k ≡ 41 →
-      ((j : ℕ) → 1 ≤ j → j < k → valueNumber ns state j ≡ 0) → IllFormed ns state k
+      ((j : ℕ) → 1 ≤ j → j < k → valueNumber ns state j ≡ 0) → IllFormedState ns state k
 
-pub record WellFormed (ns : List Name) (state : List ℕ) : Type 0 where
+pub record WellFormedState (ns : List Name) (state : List ℕ) : Type 0 where
   pub paired : isPaired ns state ≡ true
   pub givens : (j : ℕ) → 1 ≤ j → j ≤ length ns → givenNumber ns state j ≡ 0
   pub others : (j : ℕ) → 1 ≤ j → j ≤ length ns → valueNumber ns state j ≡ 0
@@ -59,10 +59,10 @@ abbrev pub Trouble : ℕ → ℕ → Type 0
 Trouble number node = (51 ≤ number) × (number ≤ 55)
 
 -- the findings of a run, in their order: reading's, 21, 41, the paragraphs'
-pub data Finds (doc state : List ℕ) (work : ℕ) : Ran → Type 0 where
-  unreadable : {n p : ℕ} → readOf doc ≡ Unreadable n p → Finds doc state work (ran (Refused n p) [])
-  noRoom : readOf doc ≡ Readable → work < runWorkWords → Finds doc state work (ran (Refused 21 0) [])
-  illFormed : {p : ℕ} → readOf doc ≡ Readable → runWorkWords ≤ work → IllFormed (documentNames (treeOf doc)) state p → Finds doc state work (ran (Refused 41 p) [])
-  holds : {t : List Event} → readOf doc ≡ Readable → runWorkWords ≤ work → WellFormed (documentNames (treeOf doc)) state → Listed Short t → Finds doc state work (ran Holds t)
-  fails : {n : ℕ} {t : List Event} → readOf doc ≡ Readable → runWorkWords ≤ work → WellFormed (documentNames (treeOf doc)) state → Listed Short t → Finds doc state work (ran (Fails n) t)
-  troubled : {n p : ℕ} {t : List Event} → readOf doc ≡ Readable → runWorkWords ≤ work → WellFormed (documentNames (treeOf doc)) state → Listed Short t → Trouble n p → Finds doc state work (ran (Refused n p) t)
+pub data RunFinds (doc state : List ℕ) (work : ℕ) : Ran → Type 0 where
+  unreadable : {n p : ℕ} → readOf doc ≡ Unreadable n p → RunFinds doc state work (ran (Refused n p) [])
+  noRoom : readOf doc ≡ Readable → work < runWorkWords → RunFinds doc state work (ran (Refused 21 0) [])
+  illFormed : {p : ℕ} → readOf doc ≡ Readable → runWorkWords ≤ work → IllFormedState (documentNames (treeOf doc)) state p → RunFinds doc state work (ran (Refused 41 p) [])
+  holds : {t : List Event} → readOf doc ≡ Readable → runWorkWords ≤ work → WellFormedState (documentNames (treeOf doc)) state → Listed Short t → RunFinds doc state work (ran Holds t)
+  fails : {n : ℕ} {t : List Event} → readOf doc ≡ Readable → runWorkWords ≤ work → WellFormedState (documentNames (treeOf doc)) state → Listed Short t → RunFinds doc state work (ran (Fails n) t)
+  troubled : {n p : ℕ} {t : List Event} → readOf doc ≡ Readable → runWorkWords ≤ work → WellFormedState (documentNames (treeOf doc)) state → Listed Short t → Trouble n p → RunFinds doc state work (ran (Refused n p) t)

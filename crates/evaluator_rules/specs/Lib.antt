@@ -1,7 +1,7 @@
 -- Document 01, "States and runs", in reading order.
 pub mod WordCount
 pub mod Outcomes
-pub mod Scope
+pub mod Environment
 pub mod Operations
 pub mod Assignments
 pub mod Rules

@@ -4,9 +4,9 @@ use Prim.Native.Nat.{ℕ}
 use lib.IntN.{ℤ}
 use lib.Dec.{leb, eqb}
 use Rattle.values.specs.Value.{Value, int, element, set, tuple, Values, nil, cons}
-use Rattle.values_integers.specs.Integer.{findingOf, sum, difference, product, quotient, remainder}
-use Rattle.values.specs.Numbers.{findingOf as numberFinding}
-use Rattle.values.specs.Sets.{findingOf as applyFinding}
+use Rattle.values_integers.specs.Integer.{integerFinding, sum, difference, product, quotient, remainder}
+use Rattle.values.specs.Numbers.{numberFinding}
+use Rattle.values.specs.Sets.{applyFinding}
 use Rattle.values_integers.specs.declared.integer.Integer.{Integer}
 use Rattle.values_integers.specs.declared.integer.Integer.the-variants.{Whole, Undefined, Outside}
 use Rattle.values.specs.declared.numbers.Number.the-variants as Number
@@ -17,7 +17,7 @@ use Rattle.values.specs.SetValues.{insertValue, Image, found, misfit, undefined
 use Rattle.evaluator_rules.specs.WordCount.{wordCount}
 use Rattle.evaluator_rules.specs.Outcomes.{Outcome, _>>=_, pure, stop, keep}
 
--- 51: a value of a sort that the operation at node n cannot use. The numbers of answers that are enums stand in their findingOf.
+-- 51: a value of a sort that the operation at node n cannot use. The numbers of enums stand in `integerFinding`, `numberFinding`, `applyFinding`.
 unfoldable pub asInteger : ℕ → Value → Outcome ℤ
 asInteger n (int z) = pure z
 asInteger n (element g k) = stop (numberFinding Number.Misfit) n
@@ -56,8 +56,8 @@ findPair n a vs = image n (applyValue a vs)
 -- arithmetic: 52 where there is no result, then 53 where it is outside 32 bits signed (R23)
 unfoldable pub keepInteger : ℕ → Integer → Outcome Value
 keepInteger n (Whole z) = keep n (int z)
-keepInteger n Undefined = stop (findingOf Undefined) n
-keepInteger n Outside = stop (findingOf Outside) n
+keepInteger n Undefined = stop (integerFinding Undefined) n
+keepInteger n Outside = stop (integerFinding Outside) n
 
 unfoldable pub calculate : Operator → ℤ → ℤ → Integer
 calculate plus a b = sum a b

@@ -12,7 +12,7 @@ use Rattle.reader_rules.specs.Tree.{declaration, inclusion, Include, include, e
 use Rattle.reader_rules.specs.Tree as Tree
 use Rattle.values.specs.SetValues.{sameValue, isIn}
 use Rattle.evaluator_rules.specs.Outcomes.{Outcome, _>>=_, pure, stop, keep}
-use Rattle.evaluator_rules.specs.Scope.{Scope, lookup, refer}
+use Rattle.evaluator_rules.specs.Environment.{Environment, lookup, refer}
 use Rattle.evaluator_rules.specs.Operations.{asInteger, asSet, asTuple, add, findPair, keepInteger, calculate, connect, allPass, sameCount}
 use Rattle.evaluator_rules.specs.Assignments.{Domains, noMore, domains, Flow, go, Body, assign, flowOf, truthOf, gathered}
 
@@ -26,7 +26,7 @@ stopInclude (include n s k xs rs) = stop 54 n
 
 unfoldable mutual
   -- As values ℤ, Power, Product, Select, Theta, SchemaSet are 54 before their operands.
-  pub evalExpr : Expr → Scope → Outcome Value
+  pub evalExpr : Expr → Environment → Outcome Value
   evalExpr (reference n i xs) scope = evalExprs xs scope >>= λ vs. refer n xs (lookup i scope)
   evalExpr (number n k) scope = keep n (int (pos k))
   evalExpr (integers n) scope = stop 54 n
@@ -44,16 +44,16 @@ unfoldable mutual
   evalExpr (comprehension n t a) scope =
       overText t (λ scope′ s. evalExpr a scope′ >>= λ v. add n v s >>= λ s′. pure (go s′)) scope nil >>= λ f. keep n (Value.set (gathered f))
 
-  pub evalExprs : Exprs → Scope → Outcome Values
+  pub evalExprs : Exprs → Environment → Outcome Values
   evalExprs none scope = pure nil
   evalExprs (more a xs) scope = evalExpr a scope >>= λ v. evalExprs xs scope >>= λ vs. pure (cons v vs)
 
   -- a Set's members, each added to s as it is worked out (R24)
-  pub evalMembers : Exprs → ℕ → Scope → Values → Outcome Values
+  pub evalMembers : Exprs → ℕ → Environment → Values → Outcome Values
   evalMembers none n scope s = pure s
   evalMembers (more a xs) n scope s = evalExpr a scope >>= λ v. add n v s >>= λ s′. evalMembers xs n scope s′
 
-  pub evalPred : Pred → Scope → Outcome Bool
+  pub evalPred : Pred → Environment → Outcome Bool
   evalPred (truth n) scope = pure true
   evalPred (equal n a b) scope = evalExpr a scope >>= λ x. evalExpr b scope >>= λ y. pure (sameValue x y)
   evalPred (member n a b) scope = evalExpr a scope >>= λ x. testExpr b (λ scope′. evalExpr b scope′) x scope
@@ -65,14 +65,14 @@ unfoldable mutual
       overText t (λ scope′ s. evalPred p scope′ >>= λ b. pure (flowOf q b)) scope nil >>= λ f. pure (truthOf q f)
 
   -- the body, over the assignments at which the Text's predicate is true
-  pub overText : Text → Body → Scope → Values → Outcome Flow
+  pub overText : Text → Body → Environment → Values → Outcome Flow
   overText (text n p ls) body scope s =
       evalLines ls scope >>= λ ds.
       assign ds (λ scope′ s′. evalPred p scope′ >>= λ b. elim b [ true ↦ body scope′ s′ | false ↦ pure (go s′) ]) scope s
 
   -- A Text's Decl sets are worked out once, all lines; one that is no set is 51 at the Decl, before the next line (R25).
   -- The lines do not see the Text's own identifiers.
-  pub evalLines : Lines → Scope → Outcome Domains
+  pub evalLines : Lines → Environment → Outcome Domains
   evalLines end scope = pure noMore
   evalLines (declaration n a xs ls) scope =
       evalExpr a scope >>= λ v. asSet n v >>= λ vs. evalLines ls scope >>= λ ds. pure (domains xs vs ds)
@@ -81,7 +81,7 @@ unfoldable mutual
   -- Member's test of v against an expression: ℤ needs an integer, Power a set whose members pass, Product a tuple of that many parts that pass, any
   -- other E is worked out anew and must be a set; a wrong sort or number of parts is 51 at the node tested against. ℤ, Power and Product leave no
   -- entry in the list (R26). `value` is the expression's own evaluation, handed in because a structural block calls itself on operands only.
-  pub testExpr : Expr → (Scope → Outcome Value) → Value → Scope → Outcome Bool
+  pub testExpr : Expr → (Environment → Outcome Value) → Value → Environment → Outcome Bool
   testExpr (reference n i xs) value v scope = value scope >>= amongMembers n v
   testExpr (number n k) value v scope = value scope >>= amongMembers n v
   testExpr (integers n) value v scope = asInteger n v >>= λ z. pure true
@@ -97,12 +97,12 @@ unfoldable mutual
   testExpr (comprehension n t a) value v scope = value scope >>= amongMembers n v
 
   -- part by part, the first miss ends it; there are as many parts as expressions, else `sameCount` has stopped, so neither list ends first
-  pub testExprs : Exprs → Values → Scope → Outcome Bool
+  pub testExprs : Exprs → Values → Environment → Outcome Bool
   testExprs none vs scope = pure true
   testExprs (more a xs) nil scope = pure true
   testExprs (more a xs) (cons v vs) scope =
       testExpr a (λ scope′. evalExpr a scope′) v scope >>= λ b. elim b [ true ↦ testExprs xs vs scope | false ↦ pure false ]
 
 -- whether v passes the test against the expression
-abbrev pub test : Expr → Scope → Value → Outcome Bool
+abbrev pub test : Expr → Environment → Value → Outcome Bool
 test a scope v = testExpr a (evalExpr a) v scope

@@ -14,10 +14,10 @@ use Rattle.reader_rules.specs.Decode.{treeOf}
 use Rattle.reader_rules.specs.declared.Reading.the-variants.{Readable}
 use Rattle.states_rules.specs.Names.{documentNames}
 use Rattle.states_rules.specs.States.{State}
-use Rattle.evaluator_rules.specs.Scope.{Scope}
+use Rattle.evaluator_rules.specs.Environment.{Environment}
 use Rattle.evaluator_rules.specs.Paragraphs.{runParagraph}
 use Rattle.evaluator_rules.specs.Run.{runOf, runWorkWords}
-use Rattle.evaluator_rules.specs.Claims.{Trouble, WellFormed}
+use Rattle.evaluator_rules.specs.Claims.{Trouble, WellFormedState}
 use Rattle.evaluator_rules.specs.Evaluations.{Stops, Evaluation, working, telling, testing, declaring, including, StopsAt}
 use Rattle.evaluator_rules.specs.declared.Finding.the-variants.{Refused}
 
@@ -124,6 +124,6 @@ PlacedEvaluation w m (including i) = PlacedInclude w m i
 -- Every stop is 51 to 55, at a node of a kind that can get the number.
 pub record TroublePlaces : Type 0 where
   pub each : (t : Evaluation) (w m : ℕ) → StopsAt t w m → Trouble w m × PlacedEvaluation w m t
-  pub paragraph : (p : Paragraph) (state : State) (scope : Scope) (w m : ℕ) → Stops (runParagraph p state scope) w m → Trouble w m × PlacedParagraph w m p
-  pub run : (doc state : List ℕ) (work w m : ℕ) → readOf doc ≡ Readable → runWorkWords ≤ work → WellFormed (documentNames (treeOf doc)) state
+  pub paragraph : (p : Paragraph) (state : State) (scope : Environment) (w m : ℕ) → Stops (runParagraph p state scope) w m → Trouble w m × PlacedParagraph w m p
+  pub run : (doc state : List ℕ) (work w m : ℕ) → readOf doc ≡ Readable → runWorkWords ≤ work → WellFormedState (documentNames (treeOf doc)) state
       → runOf doc state work .finding ≡ Refused w m → Trouble w m × PlacedDocument w m (treeOf doc)

@@ -20,12 +20,12 @@ use Rattle.reader_rules.specs.declared.Reading.the-variants.{Readable, Refused 
 use Rattle.states_rules.specs.Names.{documentNames}
 use Rattle.states_rules.specs.States.{State, valueIn}
 use Rattle.evaluator_rules.specs.WordCount.{wordCount}
-use Rattle.evaluator_rules.specs.Scope.{Scope, empty, valued, generic, unknown, lookup}
+use Rattle.evaluator_rules.specs.Environment.{Environment, empty, valued, generic, unknown, lookup}
 use Rattle.evaluator_rules.specs.Assignments.{Domains}
 use Rattle.evaluator_rules.specs.Rules.{evalExpr, evalExprs, evalPred, evalLines}
 use Rattle.evaluator_rules.specs.Paragraphs.{runParagraph}
 use Rattle.evaluator_rules.specs.Run.{runOf, runWorkWords}
-use Rattle.evaluator_rules.specs.Claims.{NotRun, IllFormed, WellFormed}
+use Rattle.evaluator_rules.specs.Claims.{NotRun, IllFormedState, WellFormedState}
 use Rattle.evaluator_rules.specs.Listing.{NoInteger, NoSet, NoTuple, Another, assignments}
 use Rattle.evaluator_rules.specs.Evaluations.{Gives, Stops, Evaluation, working, telling, testing, declaring, including, StopsAt, Adding, Gathering, Reaches, Within, Begins, BeginsIn}
 use Rattle.evaluator_rules.specs.declared.Finding.the-variants.{Refused}
@@ -62,55 +62,55 @@ pub data Exceeds (j k : ℤ) : Operator → Type 0 where
 -- 51, "misfit: value of a sort that the operation cannot use", at the "node that uses it"
 pub data Misfit : Evaluation → ℕ → Type 0 where
   -- "Ref: .. unknown 51, .. actuals on another name 51", the actuals worked out before (R23)
-  nameUnknown : {n i : ℕ} {xs : Exprs} {vs : Values} {scope : Scope} → Gives (evalExprs xs scope) vs → lookup i scope ≡ unknown → Misfit (working (reference n i xs) scope) n
-  actualsOnName : {n i : ℕ} {a : Expr} {xs : Exprs} {vs : Values} {v : Value} {scope : Scope} → Gives (evalExprs (more a xs) scope) vs → lookup i scope ≡ valued v
+  nameUnknown : {n i : ℕ} {xs : Exprs} {vs : Values} {scope : Environment} → Gives (evalExprs xs scope) vs → lookup i scope ≡ unknown → Misfit (working (reference n i xs) scope) n
+  actualsOnName : {n i : ℕ} {a : Expr} {xs : Exprs} {vs : Values} {v : Value} {scope : Environment} → Gives (evalExprs (more a xs) scope) vs → lookup i scope ≡ valued v
       → Misfit (working (reference n i (more a xs)) scope) n
-  noFunction : {n : ℕ} {f a : Expr} {x y : Value} {scope : Scope} → Gives (evalExpr f scope) x → Gives (evalExpr a scope) y → NoSet x → Misfit (working (application n f a) scope) n
-  noPair : {n : ℕ} {f a : Expr} {vs : Values} {y : Value} {scope : Scope} → Gives (evalExpr f scope) (Value.set vs) → Gives (evalExpr a scope) y → NoPairMet y vs
+  noFunction : {n : ℕ} {f a : Expr} {x y : Value} {scope : Environment} → Gives (evalExpr f scope) x → Gives (evalExpr a scope) y → NoSet x → Misfit (working (application n f a) scope) n
+  noPair : {n : ℕ} {f a : Expr} {vs : Values} {y : Value} {scope : Environment} → Gives (evalExpr f scope) (Value.set vs) → Gives (evalExpr a scope) y → NoPairMet y vs
       → Misfit (working (application n f a) scope) n
-  noNumber : {n : ℕ} {o : Operator} {a b : Expr} {x y : Value} {scope : Scope} → Gives (evalExpr a scope) x → Gives (evalExpr b scope) y → NoInteger x ⊎ NoInteger y
+  noNumber : {n : ℕ} {o : Operator} {a b : Expr} {x y : Value} {scope : Environment} → Gives (evalExpr a scope) x → Gives (evalExpr b scope) y → NoInteger x ⊎ NoInteger y
       → Misfit (working (arithmetic n o a b) scope) n
   -- ≤
-  notNumbers : {n : ℕ} {a b : Expr} {x y : Value} {scope : Scope} → Gives (evalExpr a scope) x → Gives (evalExpr b scope) y → NoInteger x ⊎ NoInteger y → Misfit (telling (atMost n a b) scope) n
+  notNumbers : {n : ℕ} {a b : Expr} {x y : Value} {scope : Environment} → Gives (evalExpr a scope) x → Gives (evalExpr b scope) y → NoInteger x ⊎ NoInteger y → Misfit (telling (atMost n a b) scope) n
   -- the Decl of a quantifier's or Comprehension's Text (R25)
-  noSetToRun : {n : ℕ} {a : Expr} {is : List ℕ} {ls : Lines} {v : Value} {scope : Scope} → Gives (evalExpr a scope) v → NoSet v → Misfit (declaring (declaration n a is ls) scope) n
+  noSetToRun : {n : ℕ} {a : Expr} {is : List ℕ} {ls : Lines} {v : Value} {scope : Environment} → Gives (evalExpr a scope) v → NoSet v → Misfit (declaring (declaration n a is ls) scope) n
   -- "a wrong sort or number of parts is 51 at the node tested against"
-  notInteger : {n : ℕ} {v : Value} {scope : Scope} → NoInteger v → Misfit (testing (integers n) scope v) n
-  notSet : {n : ℕ} {a : Expr} {v : Value} {scope : Scope} → NoSet v → Misfit (testing (power n a) scope v) n
-  notTuple : {n : ℕ} {xs : Exprs} {v : Value} {scope : Scope} → NoTuple v → Misfit (testing (product n xs) scope v) n
-  otherCount : {n : ℕ} {xs : Exprs} {vs : Values} {scope : Scope} → (exprsLength xs ≡ count vs → ⊥) → Misfit (testing (product n xs) scope (Value.tuple vs)) n
-  noSetAnew : {a : Expr} {v x : Value} {scope : Scope} → Another a → Gives (evalExpr a scope) x → NoSet x → Misfit (testing a scope v) (exprNode a)
+  notInteger : {n : ℕ} {v : Value} {scope : Environment} → NoInteger v → Misfit (testing (integers n) scope v) n
+  notSet : {n : ℕ} {a : Expr} {v : Value} {scope : Environment} → NoSet v → Misfit (testing (power n a) scope v) n
+  notTuple : {n : ℕ} {xs : Exprs} {v : Value} {scope : Environment} → NoTuple v → Misfit (testing (product n xs) scope v) n
+  otherCount : {n : ℕ} {xs : Exprs} {vs : Values} {scope : Environment} → (exprsLength xs ≡ count vs → ⊥) → Misfit (testing (product n xs) scope (Value.tuple vs)) n
+  noSetAnew : {a : Expr} {v x : Value} {scope : Environment} → Another a → Gives (evalExpr a scope) x → NoSet x → Misfit (testing a scope v) (exprNode a)
 
 -- 52, "undefined"
 pub data NoResult : Evaluation → ℕ → Type 0 where
-  noneFound : {n : ℕ} {f a : Expr} {vs : Values} {y : Value} {scope : Scope} → Gives (evalExpr f scope) (Value.set vs) → Gives (evalExpr a scope) y → NoneFound y vs
+  noneFound : {n : ℕ} {f a : Expr} {vs : Values} {y : Value} {scope : Environment} → Gives (evalExpr f scope) (Value.set vs) → Gives (evalExpr a scope) y → NoneFound y vs
       → NoResult (working (application n f a) scope) n
   -- "a mod n .. a div n ..; n < 1 is 52"
-  noDivisor : {n : ℕ} {o : Operator} {a b : Expr} {j k : ℤ} {scope : Scope} → Gives (evalExpr a scope) (int j) → Gives (evalExpr b scope) (int k) → Divides o → ltZ k (pos 1) ≡ true
+  noDivisor : {n : ℕ} {o : Operator} {a b : Expr} {j k : ℤ} {scope : Environment} → Gives (evalExpr a scope) (int j) → Gives (evalExpr b scope) (int k) → Divides o → ltZ k (pos 1) ≡ true
       → NoResult (working (arithmetic n o a b) scope) n
 
 -- 53, "integer outside 32 bits signed"
 pub data PastBits : Evaluation → ℕ → Type 0 where
-  outside : {n : ℕ} {o : Operator} {a b : Expr} {j k : ℤ} {scope : Scope} → Gives (evalExpr a scope) (int j) → Gives (evalExpr b scope) (int k) → Exceeds j k o
+  outside : {n : ℕ} {o : Operator} {a b : Expr} {j k : ℤ} {scope : Environment} → Gives (evalExpr a scope) (int j) → Gives (evalExpr b scope) (int k) → Exceeds j k o
       → PastBits (working (arithmetic n o a b) scope) n
 
 -- 54, "not run"
 pub data Unrun : Evaluation → ℕ → Type 0 where
   -- "generic abbreviation 54", the actuals worked out before (R23)
-  nameGeneric : {n i : ℕ} {xs : Exprs} {vs : Values} {scope : Scope} → Gives (evalExprs xs scope) vs → lookup i scope ≡ generic → Unrun (working (reference n i xs) scope) n
+  nameGeneric : {n i : ℕ} {xs : Exprs} {vs : Values} {scope : Environment} → Gives (evalExprs xs scope) vs → lookup i scope ≡ generic → Unrun (working (reference n i xs) scope) n
   -- "As values ℤ, Power, Product, Select, Theta, SchemaSet, and any Include line, are 54 before their operands"
-  asValue : {a : Expr} {scope : Scope} → NotRun a → Unrun (working a scope) (exprNode a)
+  asValue : {a : Expr} {scope : Environment} → NotRun a → Unrun (working a scope) (exprNode a)
   includeLine : {n s k : ℕ} {xs : Exprs} {rs : List (ℕ × ℕ)} → Unrun (including (include n s k xs rs)) n
 
 -- 55, "value over 64 words": at a Ref and a Tuple of their value, at a Set and a Comprehension where the member being added makes the set pass 64 words
 -- (R24). No other value is too long: that of an Apply is a part of a set of at most 64 words, those of a Number and of arithmetic have two. In a run no name's
 -- value is too long either (proofs/ShortNames).
 pub data TooLong : Evaluation → ℕ → Type 0 where
-  nameTooLong : {n i : ℕ} {v : Value} {scope : Scope} → lookup i scope ≡ valued v → 64 < wordCount v → TooLong (working (reference n i none) scope) n
-  tupleTooLong : {n : ℕ} {xs : Exprs} {vs : Values} {scope : Scope} → Gives (evalExprs xs scope) vs → 64 < wordCount (Value.tuple vs) → TooLong (working (tuple n xs) scope) n
-  memberTooMuch : {n : ℕ} {xs : Exprs} {a : Expr} {s : Values} {v : Value} {scope : Scope} → Adding scope xs nil a s → Gives (evalExpr a scope) v → 64 < wordCount (Value.set (insertValue v s))
+  nameTooLong : {n i : ℕ} {v : Value} {scope : Environment} → lookup i scope ≡ valued v → 64 < wordCount v → TooLong (working (reference n i none) scope) n
+  tupleTooLong : {n : ℕ} {xs : Exprs} {vs : Values} {scope : Environment} → Gives (evalExprs xs scope) vs → 64 < wordCount (Value.tuple vs) → TooLong (working (tuple n xs) scope) n
+  memberTooMuch : {n : ℕ} {xs : Exprs} {a : Expr} {s : Values} {v : Value} {scope : Environment} → Adding scope xs nil a s → Gives (evalExpr a scope) v → 64 < wordCount (Value.set (insertValue v s))
       → TooLong (working (set n xs) scope) n
-  bodyTooMuch : {n k : ℕ} {p : Pred} {ls : Lines} {a : Expr} {ds : Domains} {s : Values} {v : Value} {scope x : Scope} → Gives (evalLines ls scope) ds → Gathering p a (assignments ds scope) nil x s
+  bodyTooMuch : {n k : ℕ} {p : Pred} {ls : Lines} {a : Expr} {ds : Domains} {s : Values} {v : Value} {scope x : Environment} → Gives (evalLines ls scope) ds → Gathering p a (assignments ds scope) nil x s
       → Gives (evalPred p x) true → Gives (evalExpr a x) v → 64 < wordCount (Value.set (insertValue v s)) → TooLong (working (comprehension n (text k p ls) a) scope) n
 
 -- the rows of the table: number, node, when
@@ -129,8 +129,8 @@ pub data InRun (state : State) : Document → Evaluation → Type 0 where
 pub data RunRefused (doc state : List ℕ) (work : ℕ) : ℕ → ℕ → Type 0 where
   unreadable : {w m : ℕ} → readOf doc ≡ Unreadable w m → RunRefused doc state work w m
   noRoom : readOf doc ≡ Readable → work < runWorkWords → RunRefused doc state work 21 0
-  illFormed : {m : ℕ} → readOf doc ≡ Readable → runWorkWords ≤ work → IllFormed (documentNames (treeOf doc)) state m → RunRefused doc state work 41 m
-  troubled : {w m : ℕ} {u : Evaluation} → readOf doc ≡ Readable → runWorkWords ≤ work → WellFormed (documentNames (treeOf doc)) state → InRun (valueIn (documentNames (treeOf doc)) state) (treeOf doc) u → Row w m u
+  illFormed : {m : ℕ} → readOf doc ≡ Readable → runWorkWords ≤ work → IllFormedState (documentNames (treeOf doc)) state m → RunRefused doc state work 41 m
+  troubled : {w m : ℕ} {u : Evaluation} → readOf doc ≡ Readable → runWorkWords ≤ work → WellFormedState (documentNames (treeOf doc)) state → InRun (valueIn (documentNames (treeOf doc)) state) (treeOf doc) u → Row w m u
       → RunRefused doc state work w m
 
 -- one that t reaches stops with w at m
@@ -144,6 +144,6 @@ pub record TroubleLaws : Type 0 where
   -- so an evaluation stops exactly where a row holds of one that it reaches, in any number of steps
   pub all : (t : Evaluation) (w m : ℕ) → StopsAt t w m ↔ ((u : Evaluation) × Within t u × Row w m u)
   -- and a paragraph where a row holds of an evaluation that is reached from one that it begins with
-  pub paragraph : (p : Paragraph) (state : State) (scope : Scope) (w m : ℕ) → Stops (runParagraph p state scope) w m ↔ ((t u : Evaluation) × Begins state p scope t × Within t u × Row w m u)
+  pub paragraph : (p : Paragraph) (state : State) (scope : Environment) (w m : ℕ) → Stops (runParagraph p state scope) w m ↔ ((t u : Evaluation) × Begins state p scope t × Within t u × Row w m u)
   -- a run is refused by reading, 21 and 41, and after them where a row holds of one of its evaluations
   pub run : (doc state : List ℕ) (work w m : ℕ) → (runOf doc state work .finding ≡ Refused w m) ↔ RunRefused doc state work w m

@@ -16,7 +16,7 @@ use lib.Seq.{sets, sets-eq, length-sets, take-append-le, take-at, drop-at, getD-
 use borrow.Author.Tests.{eq-eqb, ne-eqb, eqb-true, eqb-false}
 use Rattle.values.specs.Value.{Value, Values, encode}
 use Rattle.values.specs.Value as Value
-use Rattle.evaluator_rules.specs.Scope.{Meaning, valued, generic, unknown, Scope, empty, bind, lookup, pick, refer, hasActuals}
+use Rattle.evaluator_rules.specs.Environment.{Meaning, valued, generic, unknown, Environment, empty, bind, lookup, pick, refer, hasActuals}
 use Rattle.evaluator_rules.specs.Assignments.{Domains, noMore, domain, domains}
 use Rattle.evaluator_scope.specs.Blocks.{field, Lies, Stored, Means, inState, inWork, isGeneric, Scoped, hidden, named, Pending, more, lastBlock, headed, valueOf, Pushed, Leaves, headWords, blockWords}
 use Rattle.evaluator_scope.specs.Blocks as Blocks
@@ -65,7 +65,7 @@ module _ (state before after : List ℕ) where
       inWork (f1 ∙ c) (rw (f2, f3) l) (stored-same _ _ (rw (f2, f3) (same-part (blockWords * (b + 1)) before after e _ _ l)) s)
   means-same b e (isGeneric c) = isGeneric (same-word (blockWords * (b + 1)) before after e (blockWords * b + 1) (omega arith) ∙ c)
 
-  pub scoped-same : (n : ℕ) {scope : Scope} → take (blockWords * n) after ≡ take (blockWords * n) before → Scoped state before n scope → Scoped state after n scope
+  pub scoped-same : (n : ℕ) {scope : Environment} → take (blockWords * n) after ≡ take (blockWords * n) before → Scoped state before n scope → Scoped state after n scope
   scoped-same zero e Blocks.none = Blocks.none
   scoped-same (suc n) e (hidden s h) =
       hidden (scoped-same n (same-less (blockWords * suc n) before after e (blockWords * n) (omega arith)) s) (same-word (blockWords * suc n) before after e (blockWords * n + 1) (omega arith) ∙ h)
@@ -147,9 +147,9 @@ module _ (work : List ℕ) (b name class at len : ℕ) where
     head-length = getD-set-same w3 (blockWords * b + 3) len 0 (omega (arith, length-set work (blockWords * b) name, length-set w1 (blockWords * b + 1) class, length-set w2 (blockWords * b + 2) at))
 
 -- ---- the block of a name
-abbrev pub Found : List ℕ → List ℕ → ℕ → Meaning → Type 0
-Found state work zero m = m ≡ unknown
-Found state work (suc b) m = Means state work b m
+abbrev pub FoundBlock : List ℕ → List ℕ → ℕ → Meaning → Type 0
+FoundBlock state work zero m = m ≡ unknown
+FoundBlock state work (suc b) m = Means state work b m
 
 module _ (state work : List ℕ) (i : ℕ) where
   class-some : (b : ℕ) {m : Meaning} → Means state work b m → field work b 1 ≡ 0 → ⊥
@@ -157,19 +157,19 @@ module _ (state work : List ℕ) (i : ℕ) where
   class-some b (inWork c l s) e = omega arith
   class-some b (isGeneric c) e = omega arith
 
-  pub lookup-found : (n : ℕ) (scope : Scope) → Scoped state work n scope → Found state work (lastBlock work i n) (lookup i scope)
+  pub lookup-found : (n : ℕ) (scope : Environment) → Scoped state work n scope → FoundBlock state work (lastBlock work i n) (lookup i scope)
   unfolding lastBlock lookup pick
   lookup-found zero empty Blocks.none = refl
   lookup-found (suc n) scope (hidden s h) = rw (eq-eqb (field work n 1) 0 h) (go (eqb (field work n 0) i) (lookup-found n scope s))
     where
-      go : (t : Bool) → Found state work (lastBlock work i n) (lookup i scope) → Found state work (cond t (lastBlock work i n) (lastBlock work i n)) (lookup i scope)
+      go : (t : Bool) → FoundBlock state work (lastBlock work i n) (lookup i scope) → FoundBlock state work (cond t (lastBlock work i n) (lastBlock work i n)) (lookup i scope)
       go true f = f
       go false f = f
   lookup-found (suc n) (bind j m scope) (named s e q) =
       rw (ne-eqb (field work n 1) 0 (class-some n q)) (go (eqb i j) (eqb-true i j) (eqb-false i j) (lookup-found n scope s))
     where
-      go : (t : Bool) → (t ≡ true → i ≡ j) → (t ≡ false → i ≡ j → ⊥) → Found state work (lastBlock work i n) (lookup i scope)
-          → Found state work (cond (eqb (field work n 0) i) (suc n) (lastBlock work i n)) (pick t m (lookup i scope))
+      go : (t : Bool) → (t ≡ true → i ≡ j) → (t ≡ false → i ≡ j → ⊥) → FoundBlock state work (lastBlock work i n) (lookup i scope)
+          → FoundBlock state work (cond (eqb (field work n 0) i) (suc n) (lastBlock work i n)) (pick t m (lookup i scope))
       go true y z f = rw (eq-eqb (field work n 0) i (e ∙ sym (y refl))) q
       go false y z f = rw (ne-eqb (field work n 0) i (λ g. z refl (sym g ∙ e))) f
 
@@ -207,12 +207,12 @@ module _ (work : List ℕ) (i : ℕ) where
   block-none = refl
 
 -- ---- a Ref to the name of a block
-module _ (state work : List ℕ) (b k : ℕ) (m : Meaning) (f : Found state work b m) (xs : Exprs) (r : Worked) where
+module _ (state work : List ℕ) (b k : ℕ) (m : Meaning) (f : FoundBlock state work b m) (xs : Exprs) (r : Worked) where
   pub refer-unknown : b ≡ 0 → Stops r 51 k → Told Valued r (refer k xs m)
   unfolding refer
   refer-unknown e s = rw (unknown-of b e f) (go xs)
     where
-      unknown-of : (c : ℕ) → c ≡ 0 → Found state work c m → m ≡ unknown
+      unknown-of : (c : ℕ) → c ≡ 0 → FoundBlock state work c m → m ≡ unknown
       unknown-of zero q g = g
       unknown-of (suc c) q g = absurd (omega arith)
 
@@ -223,7 +223,7 @@ module _ (state work : List ℕ) (b k : ℕ) (m : Meaning) (f : Found state work
   means-of : (b ≡ 0 → ⊥) → Means state work (b - 1) m
   means-of h = go b h f
     where
-      go : (c : ℕ) → (c ≡ 0 → ⊥) → Found state work c m → Means state work (c - 1) m
+      go : (c : ℕ) → (c ≡ 0 → ⊥) → FoundBlock state work c m → Means state work (c - 1) m
       go zero q g = absurd (q refl)
       go (suc c) q g = let e : c ≡ suc c - 1 = omega arith in subst (λ (j : ℕ). Means state work j m) e g
 
@@ -328,7 +328,7 @@ module _ (w0 w1 w2 : List ℕ) (n name : ℕ) (v : Held) (e1 : w1 ≡ sets w0 (b
       let b : take (blockWords * n) w1 ≡ take (blockWords * n) w0 = (rw e1 (take-sets (v .words) w0 (blockWords * n) (blockWords * n + headWords) (omega arith))) in
       a ∙ b
 
-  pub bind-value : Leaves n w0 w2 ((state : List ℕ) (scope : Scope) (x : Value) → Scoped state w0 n scope → Holds v x → Scoped state w2 (n + 1) (bind name (valued x) scope))
+  pub bind-value : Leaves n w0 w2 ((state : List ℕ) (scope : Environment) (x : Value) → Scoped state w0 n scope → Holds v x → Scoped state w2 (n + 1) (bind name (valued x) scope))
   bind-value =
       let l1 : blockWords * n + headWords ≤ length w1 = omega (arith, ap length e1, length-sets w0 (blockWords * n + headWords) (v .words)) in
       let tag : field w2 n 0 ≡ name = (rw e2 (head-name w1 n name 2 (blockWords * n + headWords) (v .len) l1)) in
@@ -352,14 +352,14 @@ module _ (w0 w1 : List ℕ) (n name class at len : ℕ) (e1 : w1 ≡ headed w0 n
   head-kept : take (blockWords * n) w1 ≡ take (blockWords * n) w0
   head-kept = rw e1 (head-take w0 n name class at len)
 
-  pub bind-generic : class ≡ 3 → Leaves n w0 w1 ((state : List ℕ) (scope : Scope) → Scoped state w0 n scope → Scoped state w1 (n + 1) (bind name generic scope))
+  pub bind-generic : class ≡ 3 → Leaves n w0 w1 ((state : List ℕ) (scope : Environment) → Scoped state w0 n scope → Scoped state w1 (n + 1) (bind name generic scope))
   bind-generic c =
       let l : blockWords * n + headWords ≤ length w0 = omega arith in
       let tag : field w1 n 0 ≡ name = (rw e1 (head-name w0 n name class at len l)) in
       let kind : field w1 n 1 ≡ class = (rw e1 (head-class w0 n name class at len l)) in
       record { kept = head-kept; told = λ state scope sc. rw (add-one n) (named (scoped-same state w0 w1 n head-kept sc) tag (isGeneric (kind ∙ c))) }
 
-  pub bind-entry : class ≡ 1 → Leaves n w0 w1 ((state : List ℕ) (scope : Scope) (x : Value) → Scoped state w0 n scope → Stored (take len (drop at state)) x → Scoped state w1 (n + 1) (bind name (valued x) scope))
+  pub bind-entry : class ≡ 1 → Leaves n w0 w1 ((state : List ℕ) (scope : Environment) (x : Value) → Scoped state w0 n scope → Stored (take len (drop at state)) x → Scoped state w1 (n + 1) (bind name (valued x) scope))
   bind-entry c =
       let l : blockWords * n + headWords ≤ length w0 = omega arith in
       let tag : field w1 n 0 ≡ name = (rw e1 (head-name w0 n name class at len l)) in

@@ -19,8 +19,8 @@ use Rattle.states_rules.specs.Names.{Name, namesAs, documentNames}
 use Rattle.states_rules.specs.States.{State, stateForm, nameAt, isPaired, entryFrom, valueIn}
 use Rattle.states.proofs.NameLaws.{document-words}
 use Rattle.states.proofs.TableLaws.{mark, positive-at, positive-document, table-mark}
-use Rattle.evaluator_rules.specs.Claims.{WellFormed}
-use Rattle.evaluator_rules.specs.Scope.{bind, valued}
+use Rattle.evaluator_rules.specs.Claims.{WellFormedState}
+use Rattle.evaluator_rules.specs.Environment.{bind, valued}
 use Rattle.evaluator_rules.specs.Paragraphs.{bindGivens}
 use Rattle.evaluator_rules.proofs.Decoding.{Words}
 use Rattle.evaluator_rules.proofs.StatePlace.{state-well}
@@ -62,7 +62,7 @@ module _ (doc state table : List ℕ) (s : Stated doc state table) (i : ℕ) (a 
   abbrev k : ℕ
   k = entryFrom ns i 1
 
-  formed : WellFormed ns state
+  formed : WellFormedState ns state
   formed = state-well ns state .0 (s .formed)
 
   few : length ns ≤ 1024

@@ -26,7 +26,7 @@ use Rattle.values_forms.proofs.Elements.{elements-words}
 use Rattle.states_rules.specs.Names.{Name}
 use Rattle.states_rules.specs.Decode.{valuesFrom, valueByShape, valueAt, valueOf}
 use Rattle.states_rules.specs.States.{nameAt, sizesIn, isSize, givenNumber, valueNumber, entryFrom, entryValue, valueIn}
-use Rattle.evaluator_rules.specs.Claims.{WellFormed}
+use Rattle.evaluator_rules.specs.Claims.{WellFormedState}
 use Rattle.evaluator_operations.specs.Worked.{narrow, allNarrow, Holds}
 use Rattle.evaluator_rules.proofs.Decoding.{Words, words-drop}
 use Rattle.evaluator_rules.proofs.StateWords.{words-part, state-words, state-given}
@@ -81,7 +81,7 @@ test-fine : (b : Bool) → _≡_ {A = ℕ} (cond b 0 41) 0 → b ≡ true
 test-fine true e = refl
 test-fine false e = absurd (omega arith)
 
-module _ (ns : List Name) (state : List ℕ) (i : ℕ) (h : Words state) (f : WellFormed ns state) (l : 1 ≤ entryFrom ns i 1) where
+module _ (ns : List Name) (state : List ℕ) (i : ℕ) (h : Words state) (f : WellFormedState ns state) (l : 1 ≤ entryFrom ns i 1) where
   pub entry-holds : nameAt ns (entryFrom ns i 1) .isGiven ≡ false → (r : Held) → r ≡ keep (part state (entryFrom ns i 1)) → Holds r (valueIn ns state i)
   unfolding valueIn entryValue valueNumber isValue valueOf
   entry-holds g r e =

@@ -9,7 +9,7 @@ use lib.ListN.{length, getD, set, take, drop}
 use Rattle.values.specs.Value.{Value, Values, encode}
 use Rattle.values.specs.Value as Value
 use Rattle.values.specs.Lookup.{valueAt}
-use Rattle.evaluator_rules.specs.Scope.{Meaning, valued, generic, Scope, empty, bind}
+use Rattle.evaluator_rules.specs.Environment.{Meaning, valued, generic, Environment, empty, bind}
 use Rattle.evaluator_rules.specs.Assignments.{Domains, noMore, domain}
 use Rattle.evaluator_operations.specs.Worked.{narrow}
 
@@ -45,10 +45,10 @@ pub data Means (state work : List ℕ) (b : ℕ) : Meaning → Type 0 where
   isGeneric : field work b 1 ≡ 3 → Means state work b generic
 
 -- the first n blocks are the names of a scope
-pub data Scoped (state work : List ℕ) : ℕ → Scope → Type 0 where
+pub data Scoped (state work : List ℕ) : ℕ → Environment → Type 0 where
   none : Scoped state work 0 empty
-  hidden : {n : ℕ} {scope : Scope} → Scoped state work n scope → field work n 1 ≡ 0 → Scoped state work (suc n) scope
-  named : {n : ℕ} {scope : Scope} {i : ℕ} {m : Meaning} → Scoped state work n scope → field work n 0 ≡ i → Means state work n m →
+  hidden : {n : ℕ} {scope : Environment} → Scoped state work n scope → field work n 1 ≡ 0 → Scoped state work (suc n) scope
+  named : {n : ℕ} {scope : Environment} {i : ℕ} {m : Meaning} → Scoped state work n scope → field work n 0 ≡ i → Means state work n m →
       Scoped state work (suc n) (bind i m scope)
 
 -- the m blocks from b on are identifiers with the sets that they run through

@@ -9,7 +9,7 @@ use Rattle.reader_rules.specs.Decode.{treeOf}
 use Rattle.states_rules.specs.Names.{Name, documentNames}
 use Rattle.states_rules.specs.States.{State, stateOf, valueIn}
 use Rattle.states.specs.Table.{putNames}
-use Rattle.evaluator_rules.specs.Scope.{Scope}
+use Rattle.evaluator_rules.specs.Environment.{Environment}
 use Rattle.evaluator_scope.specs.Blocks.{Scoped}
 
 -- an identifier among names
@@ -32,5 +32,5 @@ pub record Stated (doc state table : List ℕ) : Type 0 where
   pub pairs : table ≡ putNames (documentNames (treeOf doc)) state 1 (replicate 2050 0)
 
 -- n blocks that are a scope have become m blocks that are another
-abbrev pub Extends : List ℕ → List ℕ → List ℕ → ℕ → ℕ → (Scope → Scope) → Type 0
-Extends state before after n m f = (scope : Scope) → Scoped state before n scope → Scoped state after m (f scope)
+abbrev pub Extends : List ℕ → List ℕ → List ℕ → ℕ → ℕ → (Environment → Environment) → Type 0
+Extends state before after n m f = (scope : Environment) → Scoped state before n scope → Scoped state after m (f scope)

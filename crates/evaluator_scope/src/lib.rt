@@ -22,7 +22,7 @@ ghost use lib.ListN.{length, take, drop};
 ghost use lib.Seq.{sets};
 ghost use Rattle.reader_rules.specs.Tree.{Exprs};
 ghost use Rattle.evaluator_rules.specs.Run.{runWorkWords};
-ghost use Rattle.evaluator_rules.specs.Scope.{Scope, valued, generic, bind, lookup, refer, hasActuals};
+ghost use Rattle.evaluator_rules.specs.Environment.{Environment, valued, generic, bind, lookup, refer, hasActuals};
 ghost use Rattle.evaluator_rules.specs.Assignments.{noMore, domains};
 ghost use Rattle.evaluator_operations.specs.Worked.{Holds, Told, Valued};
 ghost use Rattle.evaluator_scope.specs.Blocks.{Leaves, Stored, Scoped, Pending, Pushed, lastBlock, headed, valueOf, headWords, blockWords, blockCount};
@@ -96,7 +96,7 @@ pub fn refer<'a>(
     actuals: bool,
 ) -> Worked
     requires { ⌜ (n ≤ blockCount) × (k ≤ 1024) ⌝ }
-    ensures { λ r. ⌜ ((scope : Scope) → Scoped (now (state .entry)) (now (work .entry)) n scope → (xs : Exprs) → actuals ≡ hasActuals xs → Told Valued r (refer k xs (lookup name scope))) ⌝ }
+    ensures { λ r. ⌜ ((scope : Environment) → Scoped (now (state .entry)) (now (work .entry)) n scope → (xs : Exprs) → actuals ≡ hasActuals xs → Told Valued r (refer k xs (lookup name scope))) ⌝ }
 {
     let b = find(work, n, name);
     if b == 0 {
@@ -148,7 +148,7 @@ pub fn put_domains(work: &mut [u32], b: usize, x: &[u32], j: usize, v: Held)
 // A new name in block n, with a value by value.
 pub fn put_name(work: &mut [u32], n: usize, name: usize, v: Held)
     requires { ⌜ (blockWords * (n + 1) ≤ length (now work)) × (n < blockCount) × (name < 2 ^ 32) × (v .len < 2 ^ 32) ⌝ }
-    ensures { λ _. ⌜ Leaves n (now (work .entry)) (now (work .exit)) ((state : List ℕ) (scope : Scope) (x : Value) → Scoped state (now (work .entry)) n scope → Holds v x → Scoped state (now (work .exit)) (n + 1) (bind name (valued x) scope)) ⌝ }
+    ensures { λ _. ⌜ Leaves n (now (work .entry)) (now (work .exit)) ((state : List ℕ) (scope : Environment) (x : Value) → Scoped state (now (work .entry)) n scope → Holds v x → Scoped state (now (work .exit)) (n + 1) (bind name (valued x) scope)) ⌝ }
 {
     let len = v.len;
     put_value(work, n, v);
@@ -158,7 +158,7 @@ pub fn put_name(work: &mut [u32], n: usize, name: usize, v: Held)
 // A new name in block n, whose value lies in the state.
 pub fn put_entry(work: &mut [u32], n: usize, name: usize, at: usize, len: usize)
     requires { ⌜ (blockWords * (n + 1) ≤ length (now work)) × (n < blockCount) × (name < 2 ^ 32) × (at < 2 ^ 32) × (len < 2 ^ 32) ⌝ }
-    ensures { λ _. ⌜ Leaves n (now (work .entry)) (now (work .exit)) ((state : List ℕ) (scope : Scope) (x : Value) → Scoped state (now (work .entry)) n scope → Stored (take len (drop at state)) x → Scoped state (now (work .exit)) (n + 1) (bind name (valued x) scope)) ⌝ }
+    ensures { λ _. ⌜ Leaves n (now (work .entry)) (now (work .exit)) ((state : List ℕ) (scope : Environment) (x : Value) → Scoped state (now (work .entry)) n scope → Stored (take len (drop at state)) x → Scoped state (now (work .exit)) (n + 1) (bind name (valued x) scope)) ⌝ }
 {
     put_head(work, n, name, IN_STATE, at, len);
 }
@@ -166,7 +166,7 @@ pub fn put_entry(work: &mut [u32], n: usize, name: usize, at: usize, len: usize)
 // A new name in block n: an abbreviation with parameters.
 pub fn put_generic(work: &mut [u32], n: usize, name: usize)
     requires { ⌜ (blockWords * (n + 1) ≤ length (now work)) × (n < blockCount) × (name < 2 ^ 32) ⌝ }
-    ensures { λ _. ⌜ Leaves n (now (work .entry)) (now (work .exit)) ((state : List ℕ) (scope : Scope) → Scoped state (now (work .entry)) n scope → Scoped state (now (work .exit)) (n + 1) (bind name generic scope)) ⌝ }
+    ensures { λ _. ⌜ Leaves n (now (work .entry)) (now (work .exit)) ((state : List ℕ) (scope : Environment) → Scoped state (now (work .entry)) n scope → Scoped state (now (work .exit)) (n + 1) (bind name generic scope)) ⌝ }
 {
     put_head(work, n, name, GENERIC, 0, 0);
 }

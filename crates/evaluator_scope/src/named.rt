@@ -17,7 +17,7 @@ ghost use Rattle.values.specs.Value.{Value};
 ghost use Rattle.reader_rules.specs.Decode.{treeOf};
 ghost use Rattle.states_rules.specs.Names.{documentNames, namesAs};
 ghost use Rattle.evaluator_rules.specs.Run.{runWorkWords};
-ghost use Rattle.evaluator_rules.specs.Scope.{valued, bind};
+ghost use Rattle.evaluator_rules.specs.Environment.{valued, bind};
 ghost use Rattle.evaluator_rules.specs.Paragraphs.{bindGivens};
 ghost use Rattle.evaluator_operations.specs.Worked.{Holds};
 ghost use Rattle.evaluator_scope.specs.Named.{Among, Declares, Stated, Extends, said};

@@ -9,11 +9,11 @@ ghost use Rattle.reader_rules.specs.Reading.{readOf};
 ghost use Rattle.reader_rules.specs.Decode.{treeOf};
 ghost use Rattle.reader_rules.specs.declared.Reading.the-variants.{Readable};
 ghost use Rattle.checker_rules.specs.Dictionary.{Dictionary};
-ghost use Rattle.checker_rules.specs.Areas.{findingOf};
+ghost use Rattle.checker_rules.specs.Areas.{answerFinding};
 ghost use Rattle.states_rules.specs.Names.{documentNames};
 ghost use Rattle.states_rules.specs.States.{stateOf};
 ghost use Rattle.fitter_rules.specs.Fit.{fitState};
-ghost use Rattle.fitter_rules.specs.Areas.{Fitted};
+ghost use Rattle.fitter_rules.specs.Areas.{FitCall};
 ghost use Rattle.fitter_types.specs.Held.{Held};
 ghost use Rattle.fitter.specs.Findings.{saidBy};
 
@@ -33,7 +33,7 @@ fn finding_of(r: Reading) -> Finding
 // The finding of a state for a document that the check accepted: 41, then 42.
 fn fit_state(doc: &[u32], state: &[u32], dict: &[u32]) -> Finding
     requires { ⌜ readOf (now doc) ≡ Readable ⌝ }
-    ensures { λ r. ⌜ ((E : Dictionary) → Held (now (doc .entry)) (now (dict .entry)) E → r ≡ findingOf (fitState (stateOf (documentNames (treeOf (now (doc .entry)))) (now (state .entry))) E (documentNames (treeOf (now (doc .entry)))) (now (state .entry)))) ⌝ }
+    ensures { λ r. ⌜ ((E : Dictionary) → Held (now (doc .entry)) (now (dict .entry)) E → r ≡ answerFinding (fitState (stateOf (documentNames (treeOf (now (doc .entry)))) (now (state .entry))) E (documentNames (treeOf (now (doc .entry)))) (now (state .entry)))) ⌝ }
 {
     let formed = states::first_ill_formed(doc, state);
     match formed {
@@ -47,7 +47,7 @@ fn fit_state(doc: &[u32], state: &[u32], dict: &[u32]) -> Finding
 
 // The check of a document, then a state against its dictionary. On acceptance the dictionary stays; after a refusal both areas are zeros.
 pub fn fit(doc: &[u32], state: &[u32], dict: &mut [u32], work: &mut [u32]) -> Finding
-    ensures { λ r. ⌜ Fitted (now (doc .entry)) (now (state .entry)) (length (now (dict .entry))) (length (now (work .entry))) r (now (dict .exit)) (now (work .exit)) ⌝ }
+    ensures { λ r. ⌜ FitCall (now (doc .entry)) (now (state .entry)) (length (now (dict .entry))) (length (now (work .entry))) r (now (dict .exit)) (now (work .exit)) ⌝ }
 {
     let checked = checker::check(doc, dict, work);
     match checked {

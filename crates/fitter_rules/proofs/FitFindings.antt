@@ -21,11 +21,11 @@ use Rattle.checker_rules.specs.Check.{Answer, accepted, refused, checkOf}
 use Rattle.states_rules.specs.Names.{Name, documentNames}
 use Rattle.states_rules.specs.Decode.{valueOf}
 use Rattle.states_rules.specs.States.{nameAt, sizesIn, stateOf}
-use Rattle.evaluator_rules.specs.Claims.{WellFormed}
+use Rattle.evaluator_rules.specs.Claims.{WellFormedState}
 use Rattle.evaluator_rules.proofs.StatePlace.{scan-found, state-ill, state-well}
 use Rattle.fitter_rules.specs.Fit.{recordedWords, typeNumber, fitTypes, fitState, fitChecked, fitOf}
 use Rattle.fitter_rules.specs.HasType.{Has}
-use Rattle.fitter_rules.specs.Claims.{Finds, unchecked, illFormed, mistyped, fits}
+use Rattle.fitter_rules.specs.Claims.{FitFinds, unchecked, illFormed, mistyped, fits}
 use Rattle.fitter_rules.proofs.OfType.{of-type}
 
 one-number : (b c : Bool) (x : ℕ) → cond b 0 (cond c 0 42) ≡ x → (x ≡ 0 → ⊥) → x ≡ 42
@@ -52,7 +52,7 @@ number-right E ns state k p g b e w l =
     rw (b, e) (λ x. h .0 (z .0 x), λ x. z .1 (h .1 x))
 
 module _ (doc state : List ℕ) (d w : ℕ) (ns : List Name) where
-  types-finds : (E : Dictionary) → checkOf doc d w ≡ accepted E → WellFormed ns state → (r : Reading) → scan (typeNumber E ns state) 1 (length ns) ≡ r → Finds doc state d w ns (fitTypes r E)
+  types-finds : (E : Dictionary) → checkOf doc d w ≡ accepted E → WellFormedState ns state → (r : Reading) → scan (typeNumber E ns state) 1 (length ns) ≡ r → FitFinds doc state d w ns (fitTypes r E)
   unfolding fitTypes
   types-finds E c f Readable e = fits c f (λ k p q. scan-none (typeNumber E ns state) 1 (length ns) e k p (omega arith))
   types-finds E c f (Refused n p) e =
@@ -60,20 +60,20 @@ module _ (doc state : List ℕ) (d w : ℕ) (ns : List Name) where
       let v = type-number E ns state p n (h .number) (h .not-zero) in
       let l = h .from in
       let b = h .before in
-      subst (λ (x : ℕ). Finds doc state d w ns (refused x p)) (sym v) (mistyped {k = p} c f l (omega arith) (h .number ∙ v) (λ j x y. h .none j x y))
+      subst (λ (x : ℕ). FitFinds doc state d w ns (refused x p)) (sym v) (mistyped {k = p} c f l (omega arith) (h .number ∙ v) (λ j x y. h .none j x y))
 
-  state-finds : (E : Dictionary) → checkOf doc d w ≡ accepted E → (r : Reading) → stateOf ns state ≡ r → Finds doc state d w ns (fitState r E ns state)
+  state-finds : (E : Dictionary) → checkOf doc d w ≡ accepted E → (r : Reading) → stateOf ns state ≡ r → FitFinds doc state d w ns (fitState r E ns state)
   unfolding fitState
   state-finds E c Readable e = types-finds E c (state-well ns state .0 e) _ refl
   state-finds E c (Refused n p) e =
       let h = state-ill ns state n p .0 e in
-      subst (λ (x : ℕ). Finds doc state d w ns (refused x p)) (sym (h .0)) (illFormed c (h .1))
+      subst (λ (x : ℕ). FitFinds doc state d w ns (refused x p)) (sym (h .0)) (illFormed c (h .1))
 
-  check-finds : (a : Answer) → checkOf doc d w ≡ a → Finds doc state d w ns (fitChecked a ns state)
+  check-finds : (a : Answer) → checkOf doc d w ≡ a → FitFinds doc state d w ns (fitChecked a ns state)
   unfolding fitChecked
   check-finds (accepted E) c = state-finds E c _ refl
   check-finds (refused n p) c = unchecked c
 
-pub fit-finds : (doc state : List ℕ) (d w : ℕ) → Finds doc state d w (documentNames (treeOf doc)) (fitOf doc state d w)
+pub fit-finds : (doc state : List ℕ) (d w : ℕ) → FitFinds doc state d w (documentNames (treeOf doc)) (fitOf doc state d w)
 unfolding fitOf
 fit-finds doc state d w = check-finds doc state d w (documentNames (treeOf doc)) (checkOf doc d w) refl

@@ -35,7 +35,7 @@ use Rattle.fitter_rules.proofs.OfType.{of-type, of-has, has-of}
 use Rattle.soundness.proofs.EachName.{every-at}
 use Rattle.soundness.proofs.RecordedNames.{RecordedAs, Recording, document-recorded, formed-in}
 use Rattle.fitter_types.specs.Roles.{roleOf}
-use Rattle.fitter_types.specs.Held.{Held, Tested}
+use Rattle.fitter_types.specs.Held.{Held, TestedValue}
 use Rattle.fitter_types.specs.declared.names.Role.the-variants.{Given, Declared}
 
 -- ---- words after a recorded type change nothing
@@ -55,10 +55,10 @@ not-named : {A : Type 0} (g : Ty) (m : Named) → m ≡ unnamed → m ≡ ofGlob
 not-named g m e f = let z : _≡_ {A = ℕ} 0 1 = cc in absurd (omega arith)
 
 module _ (dict : List ℕ) (id k : ℕ) (w : List ℕ) (found : (E : Dictionary) → Holds E dict → NameFound E dict id k) where
-  pub test-absent : k ≡ 0 → Tested dict id w false
+  pub test-absent : k ≡ 0 → TestedValue dict id w false
   test-absent z = record { told = λ E v g h x l n f s. not-named g (nameIn id E) (found E h .absent z) n }
 
-  pub test-told : (k ≡ 0 → ⊥) → (r : Bool) → r ≡ hasType 32 (drop (typeAt dict k) dict) w → Tested dict id w r
+  pub test-told : (k ≡ 0 → ⊥) → (r : Bool) → r ≡ hasType 32 (drop (typeAt dict k) dict) w → TestedValue dict id w r
   test-told z r e = record { told = tell }
     where
       tell : (E : Dictionary) (v : Value) (g : Ty) → Holds E dict → encode v ≡ w → length w ≤ 64 → nameIn id E ≡ ofGlobal 0 g → Formed g → size g ≤ 32 → r ≡ isOf v (words g)
@@ -112,7 +112,7 @@ module _ (doc state dict : List ℕ) (s : stateOf (documentNames (treeOf doc)) s
       go true g = rw g
       go false g = not-declared (nameAt ns k .identifier) (rw g at e)
 
-  pub declared-number : Words state → (i : ℕ) → Declared i ≡ roleOf (nameAt ns k) → (w : List ℕ) → w ≡ part state k → (r : Bool) → Tested dict i w r → cond r 0 42 ≡ typeNumber E ns state k
+  pub declared-number : Words state → (i : ℕ) → Declared i ≡ roleOf (nameAt ns k) → (w : List ℕ) → w ≡ part state k → (r : Bool) → TestedValue dict i w r → cond r 0 42 ≡ typeNumber E ns state k
   unfolding roleOf typeNumber recordedWords RecordedAs
   declared-number ws i e w u r t = go (nameAt ns k .isGiven) refl
     where

@@ -21,6 +21,6 @@ pub record Held (doc dict : List ℕ) (E : Dictionary) : Type 0 where
   pub holds : Holds E dict
 
 -- 42's test of a value's words against the type that a dictionary records for a name
-pub record Tested (dict : List ℕ) (id : ℕ) (w : List ℕ) (r : Bool) : Type 0 where
+pub record TestedValue (dict : List ℕ) (id : ℕ) (w : List ℕ) (r : Bool) : Type 0 where
   pub told : (E : Dictionary) (v : Value) (g : Ty) → Holds E dict → encode v ≡ w → length w ≤ 64 → nameIn id E ≡ ofGlobal 0 g → WellFormed g → size g ≤ 32
       → r ≡ isOf v (words g)

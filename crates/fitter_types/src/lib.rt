@@ -23,11 +23,11 @@ ghost use Rattle.checker_rules.specs.Dictionary.{Dictionary};
 ghost use Rattle.states_rules.specs.Names.{documentNames};
 ghost use Rattle.states_rules.specs.States.{stateOf};
 ghost use Rattle.fitter_rules.specs.Fit.{typeNumber};
-ghost use Rattle.fitter_types.specs.Held.{Held, Tested};
+ghost use Rattle.fitter_types.specs.Held.{Held, TestedValue};
 
 // Whether the value with the words w is of the type that the dictionary records for a name.
 fn is_typed(dict: &[u32], id: usize, w: &[u32]) -> bool
-    ensures { λ r. ⌜ Tested (now (dict .entry)) id (now (w .entry)) r ⌝ }
+    ensures { λ r. ⌜ TestedValue (now (dict .entry)) id (now (w .entry)) r ⌝ }
 {
     let k = entry_of_name(dict, id);
     if k == 0 {

@@ -32,9 +32,9 @@ use Rattle.checker_rules.specs.Conditions.{areMembers, freshRow}
 use Rattle.checker_rules.specs.Rules.{referenceItems, thetaName, thetaNames, typeInScope, thetaSignature, thetaItems, includeRule, exprItems, schemaItems}
 use Rattle.checker_rules.specs.Rules.{paragraphItems}
 use Rattle.checker_rules.specs.Entries.{addGivens, addSignature, extend, paragraphNode}
-use Rattle.checker_rules.specs.Solving.{andThen, answer, passIf, selected, isSmall, isClosed, solveFrom, addUnknown, termUnknowns, unknowns, solve, tableOf}
+use Rattle.checker_rules.specs.Solving.{andThen, answer, passIf, selected, isSmall, isClosed, solveFrom, addUnknown, termUnknowns, unknowns, solve, valuationOf}
 use Rattle.checker_rules.specs.Check.{fitting, settle, checkParagraphs, paragraphsOf, afterReading, checkOf}
-use Rattle.checker_rules.specs.Areas.{findingOf, dictionaryAfter}
+use Rattle.checker_rules.specs.Areas.{answerFinding, dictionaryAfter}
 use Rattle.printer_rules.specs.Decimal.{digits, decimal}
 use Rattle.printer_rules.specs.Lines.{acceptedBytes, refusedBytes, atBytes, spaced, numbers, entryLine, dictionarySize, entryLines, acceptedLines}
 use Rattle.printer_rules.specs.Lines.{refusedLine}
@@ -53,7 +53,7 @@ use Rattle.evaluator_rules.specs.WordCount.{wordCount}
 use Rattle.evaluator_rules.specs.Operations.{image, asInteger, asSet, asTuple, addIf, add, findPair, keepInteger, calculate, connect, allPass, countIf}
 use Rattle.evaluator_rules.specs.Operations.{sameCount}
 use Rattle.evaluator_rules.specs.Outcomes.{after, _>>=_, keepIf, keep}
-use Rattle.evaluator_rules.specs.Scope.{pick as pick′, lookup, refer}
+use Rattle.evaluator_rules.specs.Environment.{pick as pick′, lookup, refer}
 use Rattle.evaluator_rules.specs.Assignments.{domains, next, each, assign, flowOf, truthOf, gathered}
 use Rattle.evaluator_rules.specs.Rules.{amongMembers, stopInclude, evalExpr, evalExprs, evalMembers, evalPred, overText, evalLines, testExpr, testExprs}
 use Rattle.evaluator_rules.specs.Paragraphs.{then, unless, bindGivens, testNames, testLines, runParagraph, runParagraphs, runDocument}
@@ -74,7 +74,7 @@ unfolding
     includeSignature includeNode linesSignature textSignature inside schemaSignature refuseIf sameType mergeDeclared mergeNames newName newNames
     smallTypes fewNames typesOf arePowers areMembers freshRow referenceItems thetaName thetaNames typeInScope thetaSignature thetaItems includeRule
     exprItems schemaItems paragraphItems addGivens addSignature extend paragraphNode andThen answer passIf selected isSmall isClosed solveFrom
-    addUnknown termUnknowns unknowns solve tableOf fitting settle checkParagraphs paragraphsOf afterReading checkOf findingOf dictionaryAfter digits
+    addUnknown termUnknowns unknowns solve valuationOf fitting settle checkParagraphs paragraphsOf afterReading checkOf answerFinding dictionaryAfter digits
     decimal acceptedBytes refusedBytes atBytes spaced numbers entryLine dictionarySize entryLines acceptedLines refusedLine printOf printedAnswer
     printedOf signed wordOf kept sum difference product floorDiv floorMod byDivisor quotient remainder count encode compareWord orElse′ compare isLess
     isSame same elementsFrom elements smallSize sizeFrom sizeOf elementShape groupShape shapeOf follows nextFits groupEnd byShape valueLength isValue

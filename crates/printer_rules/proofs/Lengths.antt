@@ -11,7 +11,7 @@ use Rattle.words.specs.Loops.{total, joined}
 use Rattle.layout.specs.Layout.{count, lengthAt, offsetAt, part}
 use Rattle.checker_rules.specs.Dictionary.{dictionaryWords, dictionaryLength}
 use Rattle.checker_rules.specs.Check.{Answer, accepted, refused, checkOf}
-use Rattle.checker_rules.specs.Areas.{findingOf, dictionaryAfter, Checked}
+use Rattle.checker_rules.specs.Areas.{answerFinding, dictionaryAfter, CheckCall}
 use Rattle.checker_rules.specs.declared.Finding.{Finding}
 use Rattle.printer_rules.specs.Decimal.{decimal}
 use Rattle.printer_rules.specs.Lines.{acceptedBytes, refusedBytes, atBytes, spaced, numbers, entryLine, dictionarySize, entryLines, acceptedLines, refusedLine}
@@ -99,9 +99,9 @@ refused-length n p h l =
     let b = spaced-length (word l none) in
     simp length-append (omega arith)
 
-answer-length : (a : Answer) (n : ℕ) → n < 2 ^ 32 → length (dictionaryAfter a n) ≡ n → Words (dictionaryAfter a n) → OfWords (findingOf a)
+answer-length : (a : Answer) (n : ℕ) → n < 2 ^ 32 → length (dictionaryAfter a n) ≡ n → Words (dictionaryAfter a n) → OfWords (answerFinding a)
     → length (printedAnswer a n) < enough n
-unfolding printedAnswer printOf findingOf dictionaryAfter
+unfolding printedAnswer printOf answerFinding dictionaryAfter
 answer-length (accepted D) n l e h v =
     let zs : List ℕ = replicate (n - dictionaryLength D) 0 in
     let z : length zs ≡ n - dictionaryLength D = length-replicate _ _ in
@@ -113,7 +113,7 @@ answer-length (accepted D) n l e h v =
 answer-length (refused m p) n l e h (placed x y) = let k = refused-length m p x y in omega arith
 
 -- what the check call leaves: a finding, and a dictionary area of n words
-module _ {doc dict work : List ℕ} {n w : ℕ} {f : Finding} (c : Checked doc n w f dict work) (l : n < 2 ^ 32) (e : length dict ≡ n) (h : Words dict) (v : OfWords f) where
+module _ {doc dict work : List ℕ} {n w : ℕ} {f : Finding} (c : CheckCall doc n w f dict work) (l : n < 2 ^ 32) (e : length dict ≡ n) (h : Words dict) (v : OfWords f) where
   -- its lines leave a byte of a buffer of `enough n`
   pub print-length : length (printOf f dict) < enough n
   unfolding printedAnswer

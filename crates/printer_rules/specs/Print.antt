@@ -2,7 +2,7 @@
 use mathlib.Core.List.{List}
 use Prim.Native.Nat.{ℕ}
 use Rattle.checker_rules.specs.Check.{Answer, checkOf, checkWorkWords}
-use Rattle.checker_rules.specs.Areas.{findingOf, dictionaryAfter}
+use Rattle.checker_rules.specs.Areas.{answerFinding, dictionaryAfter}
 use Rattle.checker_rules.specs.declared.Finding.{Finding}
 use Rattle.checker_rules.specs.declared.Finding.the-variants.{Accepted, Refused}
 use Rattle.printer_rules.specs.Lines.{acceptedLines, refusedLine}
@@ -13,7 +13,7 @@ printOf (Refused number place) d = refusedLine number place
 
 -- what is printed for an answer of a check with a dictionary area of n words
 unfoldable pub printedAnswer : Answer → ℕ → List ℕ
-printedAnswer a n = printOf (findingOf a) (dictionaryAfter a n)
+printedAnswer a n = printOf (answerFinding a) (dictionaryAfter a n)
 
 -- the words of the program's dictionary area
 abbrev pub dictionaryAreaWords : ℕ

@@ -21,12 +21,12 @@ use Rattle.checker_rules.proofs.CheckNumbers.{same-number, check-numbers}
 use Rattle.states_rules.specs.Names.{Name, documentNames}
 use Rattle.states_rules.specs.Decode.{valueOf}
 use Rattle.states_rules.specs.States.{nameAt, sizesIn}
-use Rattle.evaluator_rules.specs.Claims.{WellFormed}
+use Rattle.evaluator_rules.specs.Claims.{WellFormedState}
 use Rattle.evaluator_rules.proofs.StatePlace.{state-ill, state-well}
 use Rattle.fitter_rules.specs.HasType.{Has}
 use Rattle.fitter_rules.specs.Fit.{recordedWords, typeNumber}
 use Rattle.fitter_rules.specs.Recorded.{EntryFits, StateFits}
-use Rattle.fitter_rules.specs.Claims.{Finds, unchecked, illFormed, mistyped, fits}
+use Rattle.fitter_rules.specs.Claims.{FitFinds, unchecked, illFormed, mistyped, fits}
 use Rattle.fitter_rules.proofs.FitFindings.{fit-finds, number-right}
 use Rattle.soundness.specs.FitTypes.{FirstUnfit, FitByTypes}
 use Rattle.soundness.proofs.EachName.{every-at}
@@ -123,13 +123,13 @@ module _ (doc state : List ℕ) (d w : ℕ) (E : Dictionary) (check : checkOf do
       either _ is42 e = e
 
   -- where the check accepts, the fit's findings in their order give one answer
-  fits-one : (a : Answer) → Finds doc state d w ns a → WellFormed ns state → ((k : ℕ) → 1 ≤ k → k ≤ length ns → typeNumber E ns state k ≡ 0) → a ≡ accepted E
+  fits-one : (a : Answer) → FitFinds doc state d w ns a → WellFormedState ns state → ((k : ℕ) → 1 ≤ k → k ≤ length ns → typeNumber E ns state k ≡ 0) → a ≡ accepted E
   fits-one _ (unchecked {n = n} {p = p} c) f z = no-answer E n p (sym check ∙ c)
   fits-one _ (illFormed {p = p} c i) f z = absurd (let e : Readable ≡ Refused 41 p = sym (state-well ns state .1 f) ∙ state-ill ns state 41 p .1 (refl, i) in let x : _≡_ {A = ℕ} 0 1 = cc in omega arith)
   fits-one _ (mistyped {E = D} {k = k} c g l h n b) f z = absurd (let e = same-dictionary D E (sym c ∙ check) in let x = z k l h in let y : typeNumber E ns state k ≡ 42 = subst (λ (X : Dictionary). typeNumber X ns state k ≡ 42) e n in omega arith)
   fits-one _ (fits c g n) f z = sym c ∙ check
 
-  mistyped-one : (k : ℕ) (a : Answer) → Finds doc state d w ns a → WellFormed ns state → 1 ≤ k → k ≤ length ns → typeNumber E ns state k ≡ 42 → ((j : ℕ) → 1 ≤ j → j < k → typeNumber E ns state j ≡ 0) → a ≡ refused 42 k
+  mistyped-one : (k : ℕ) (a : Answer) → FitFinds doc state d w ns a → WellFormedState ns state → 1 ≤ k → k ≤ length ns → typeNumber E ns state k ≡ 42 → ((j : ℕ) → 1 ≤ j → j < k → typeNumber E ns state j ≡ 0) → a ≡ refused 42 k
   mistyped-one k _ (unchecked {n = n} {p = p} c) f l h n42 b = no-answer E n p (sym check ∙ c)
   mistyped-one k _ (illFormed {p = p} c i) f l h n42 b = absurd (let e : Readable ≡ Refused 41 p = sym (state-well ns state .1 f) ∙ state-ill ns state 41 p .1 (refl, i) in let x : _≡_ {A = ℕ} 0 1 = cc in omega arith)
   mistyped-one k _ (mistyped {E = D} {k = i} c g l′ h′ n b′) f l h n42 b =
@@ -147,8 +147,8 @@ module _ (doc state : List ℕ) (d w : ℕ) (E : Dictionary) (check : checkOf do
 
 -- what an answer of the fit call says, the check having accepted with E
 module _ (doc state : List ℕ) (d w : ℕ) (E : Dictionary) where
-  accepted-fits : (a : Answer) → Finds doc state d w (documentNames (treeOf doc)) a → a ≡ accepted E
-      → (checkOf doc d w ≡ accepted E) × WellFormed (documentNames (treeOf doc)) state × StateFits E (documentNames (treeOf doc)) state
+  accepted-fits : (a : Answer) → FitFinds doc state d w (documentNames (treeOf doc)) a → a ≡ accepted E
+      → (checkOf doc d w ≡ accepted E) × WellFormedState (documentNames (treeOf doc)) state × StateFits E (documentNames (treeOf doc)) state
   accepted-fits _ (unchecked {n = n} {p = p} c) e = no-answer E n p (sym e)
   accepted-fits _ (illFormed {p = p} c i) e = no-answer E 41 p (sym e)
   accepted-fits _ (mistyped {k = k} c f l h n b) e = no-answer E 42 k (sym e)
@@ -158,8 +158,8 @@ module _ (doc state : List ℕ) (d w : ℕ) (E : Dictionary) where
       let zeros : (k : ℕ) → 1 ≤ k → k ≤ length (documentNames (treeOf doc)) → typeNumber E (documentNames (treeOf doc)) state k ≡ 0 = subst (λ (X : Dictionary). (k : ℕ) → 1 ≤ k → k ≤ length (documentNames (treeOf doc)) → typeNumber X (documentNames (treeOf doc)) state k ≡ 0) s n in
       (check, f, record { entry = λ k l h. zero-fits doc state d w E check k l h (zeros k l h) })
 
-  refused-fits : checkOf doc d w ≡ accepted E → (k : ℕ) (a : Answer) → Finds doc state d w (documentNames (treeOf doc)) a → a ≡ refused 42 k
-      → WellFormed (documentNames (treeOf doc)) state × FirstUnfit E (documentNames (treeOf doc)) state k
+  refused-fits : checkOf doc d w ≡ accepted E → (k : ℕ) (a : Answer) → FitFinds doc state d w (documentNames (treeOf doc)) a → a ≡ refused 42 k
+      → WellFormedState (documentNames (treeOf doc)) state × FirstUnfit E (documentNames (treeOf doc)) state k
   refused-fits check k _ (unchecked {n = n} {p = p} c) e = no-answer E n p (sym check ∙ c)
   refused-fits check k _ (illFormed {p = p} c i) e = absurd (let n = same-number 41 p 42 k e in omega arith)
   refused-fits check k _ (mistyped {E = D} {k = i} c f l h n b) e =
@@ -193,8 +193,8 @@ module _ (doc state : List ℕ) (d w : ℕ) (E : Dictionary) where
       (λ z. f .unfit (subst (λ (x : Ty). Has (valueOf (sizesIn ns state) (part state k)) x) (one-type doc state d w E check (nameAt ns k .identifier) (t .type) (f .type) (t .recorded) (f .recorded)) (t .tested .0 z)))
 
 -- 42 comes after the check's acceptance: no number of the check is over 38
-mistyped-fits : (doc state : List ℕ) (d w k : ℕ) (a : Answer) → Finds doc state d w (documentNames (treeOf doc)) a → a ≡ refused 42 k
-    → (E : Dictionary) × (checkOf doc d w ≡ accepted E) × WellFormed (documentNames (treeOf doc)) state × FirstUnfit E (documentNames (treeOf doc)) state k
+mistyped-fits : (doc state : List ℕ) (d w k : ℕ) (a : Answer) → FitFinds doc state d w (documentNames (treeOf doc)) a → a ≡ refused 42 k
+    → (E : Dictionary) × (checkOf doc d w ≡ accepted E) × WellFormedState (documentNames (treeOf doc)) state × FirstUnfit E (documentNames (treeOf doc)) state k
 mistyped-fits doc state d w k _ (unchecked {n = n} {p = p} c) e = absurd (let z = same-number n p 42 k e in let l = check-numbers doc d w n p c in omega arith)
 mistyped-fits doc state d w k _ (illFormed {p = p} c i) e = absurd (let n = same-number 41 p 42 k e in omega arith)
 mistyped-fits doc state d w k _ (mistyped {E = E} {k = j} c f l h n b) e = let r = refused-fits doc state d w E c k (refused 42 j) (mistyped {k = j} c f l h n b) e in (E, c, r .0, r .1)

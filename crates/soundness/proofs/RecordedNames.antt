@@ -10,7 +10,7 @@ use Rattle.reader_rules.specs.Tree.{Lines, end, declaration, inclusion, Paragra
 use Rattle.types_rules.specs.Former as Former
 use Rattle.types_rules.specs.Types.{Ty, Term, under, size}
 use Rattle.types_rules.specs.Formed.{WellFormed}
-use Rattle.checker_rules.specs.Unknowns.{Table, unknownAt, givenSet}
+use Rattle.checker_rules.specs.Unknowns.{Valuation, unknownAt, givenSet}
 use Rattle.checker_rules.specs.Items.{Any, Meets}
 use Rattle.checker_rules.specs.Dictionary.{Dictionary, blank, _▸_, nameEntry, schemaEntry, Named, ofGlobal, nameIn}
 use Rattle.checker_rules.specs.Conditions.{mergeDeclared}
@@ -41,7 +41,7 @@ module _ (E : Dictionary) where
   given-names [] D k = none
   given-names (i ∷ xs) D k = also (k i (givenSet i) (given-recorded i xs D)) (given-names xs (D ▸ nameEntry i 0 (givenSet i)) k)
 
-  declared-names : (τ : Table) (t : Term) (n : ℕ) (xs : List ℕ) (r : Signature) → size (under τ t) ≤ 32 → Meets (mergeDeclared n xs t r) τ →
+  declared-names : (τ : Valuation) (t : Term) (n : ℕ) (xs : List ℕ) (r : Signature) → size (under τ t) ≤ 32 → Meets (mergeDeclared n xs t r) τ →
       ((i : ℕ) (w : Term) → termIn i (declare xs t r) ≡ some w → nameIn i E ≡ ofGlobal 0 (under τ w)) → Every (Recording E) (namesAs false xs)
   unfolding namesAs declare RecordedAs
   declared-names τ t n [] r l m k = none
@@ -50,7 +50,7 @@ module _ (E : Dictionary) where
       also {n = record { isGiven = false; identifier = i }} (under τ (ad .0), k i (ad .0) (names-stay i (ad .0) xs t (insertName i t r) (ad .1)), subst (λ (g : Ty). size g ≤ 32) (ad .2) l)
       (declared-names τ t n xs (insertName i t r) l (merges-next τ n i xs t r m) k)
 
-  line-names : (τ : Table) (ls : Lines) (Γ : Scope) (D : Dictionary) (r : Signature) → Meets (linesItems ls Γ D r) τ →
+  line-names : (τ : Valuation) (ls : Lines) (Γ : Scope) (D : Dictionary) (r : Signature) → Meets (linesItems ls Γ D r) τ →
       ((i : ℕ) (w : Term) → termIn i (linesSignature ls Γ r) ≡ some w → nameIn i E ≡ ofGlobal 0 (under τ w)) → Every (Recording E) (lineNames ls)
   unfolding lineNames linesItems Meets linesSignature
   line-names τ end Γ D r h k = none

@@ -11,7 +11,7 @@ use Rattle.checker_rules.specs.Dictionary.{Dictionary, ofGlobal, nameIn}
 use Rattle.checker_rules.specs.Check.{accepted, refused, checkOf}
 use Rattle.states_rules.specs.Names.{Name, documentNames}
 use Rattle.states_rules.specs.States.{nameAt}
-use Rattle.evaluator_rules.specs.Claims.{WellFormed}
+use Rattle.evaluator_rules.specs.Claims.{WellFormedState}
 use Rattle.fitter_rules.specs.HasType.{Has}
 use Rattle.fitter_rules.specs.Recorded.{entryAt, EntryFits, StateFits}
 use Rattle.fitter_rules.specs.Fit.{fitOf}
@@ -30,6 +30,6 @@ pub record FirstUnfit (E : Dictionary) (ns : List Name) (state : List ℕ) (k : 
 -- accepts, the state is well formed and k is the first entry whose value is not of its recorded type.
 pub record FitByTypes : Type 0 where
   pub accepts : (doc state : List ℕ) (d w : ℕ) (E : Dictionary)
-      → (fitOf doc state d w ≡ accepted E) ↔ ((checkOf doc d w ≡ accepted E) × WellFormed (documentNames (treeOf doc)) state × StateFits E (documentNames (treeOf doc)) state)
+      → (fitOf doc state d w ≡ accepted E) ↔ ((checkOf doc d w ≡ accepted E) × WellFormedState (documentNames (treeOf doc)) state × StateFits E (documentNames (treeOf doc)) state)
   pub mistyped : (doc state : List ℕ) (d w k : ℕ)
-      → (fitOf doc state d w ≡ refused 42 k) ↔ ((E : Dictionary) × (checkOf doc d w ≡ accepted E) × WellFormed (documentNames (treeOf doc)) state × FirstUnfit E (documentNames (treeOf doc)) state k)
+      → (fitOf doc state d w ≡ refused 42 k) ↔ ((E : Dictionary) × (checkOf doc d w ≡ accepted E) × WellFormedState (documentNames (treeOf doc)) state × FirstUnfit E (documentNames (treeOf doc)) state k)

@@ -6,7 +6,7 @@ use native.Mathlib.Omega.{arith}
 use lib.ListN.{length}
 use Rattle.checker_rules.specs.Dictionary.{Dictionary}
 use Rattle.checker_rules.specs.Check.{Answer, accepted, refused, checkOf}
-use Rattle.checker_rules.specs.Areas.{findingOf}
+use Rattle.checker_rules.specs.Areas.{answerFinding}
 use Rattle.checker_rules.specs.declared.Finding.the-variants.{Accepted}
 use Rattle.fitter_rules.specs.Fit.{fitOf}
 use Rattle.evaluator_rules.specs.Run.{ran, runOf}
@@ -23,8 +23,8 @@ record Accepting (a : Answer) : Type 0 where
   dictionary : Dictionary
   answer : a ≡ accepted dictionary
 
-accepting : (a : Answer) → Accepted ≡ findingOf a → Accepting a
-unfolding findingOf
+accepting : (a : Answer) → Accepted ≡ answerFinding a → Accepting a
+unfolding answerFinding
 accepting (accepted E) e = record { dictionary = E; answer = refl }
 accepting (refused n p) e = let z : _≡_ {A = ℕ} 0 1 = cc in absurd (omega arith)
 

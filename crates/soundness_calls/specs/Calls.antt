@@ -1,4 +1,4 @@
--- Demand 3 over the calls. Fitted, Checked and RunCall are what the calls promise (crates fitter_rules, checker_rules and evaluator).
+-- Demand 3 over the calls. FitCall, CheckCall and RunCall are what the calls promise (crates fitter_rules, checker_rules and evaluator).
 use mathlib.Core.Path.{_≡_}
 use mathlib.Core.List.{List}
 use Prim.Native.Nat.{ℕ}
@@ -6,11 +6,11 @@ use lib.ListN.{length}
 use Rattle.reader_rules.specs.Decode.{treeOf}
 use Rattle.checker_rules.specs.Dictionary.{Dictionary}
 use Rattle.checker_rules.specs.Check.{accepted, paragraphsOf, checkOf}
-use Rattle.checker_rules.specs.Areas.{Checked}
+use Rattle.checker_rules.specs.Areas.{CheckCall}
 use Rattle.checker_rules.specs.declared.Finding.the-variants.{Accepted}
 use Rattle.states_rules.specs.Names.{documentNames}
 use Rattle.fitter_rules.specs.Recorded.{StateFits}
-use Rattle.fitter_rules.specs.Areas.{Fitted}
+use Rattle.fitter_rules.specs.Areas.{FitCall}
 use Rattle.evaluator_rules.specs.Claims.{Listed}
 use Rattle.evaluator_rules.specs.Outcomes.{Event}
 use Rattle.evaluator_rules.specs.Run.{ran}
@@ -34,10 +34,10 @@ pub record OfRecordedTypes (doc state : List ℕ) (d w : ℕ) : Type 0 where
 
 -- what the fit call accepts, every run call of that document and state is sound on
 pub record FittedRuns : Type 0 where
-  pub sound : (doc state dict work before after : List ℕ) (d w : ℕ) (r : Finding) → Fitted doc state d w Accepted dict work → RunCall doc state before after r
+  pub sound : (doc state dict work before after : List ℕ) (d w : ℕ) (r : Finding) → FitCall doc state d w Accepted dict work → RunCall doc state before after r
       → SoundCall doc state before r
 
 -- the same after the check call, for a state whose values are of their recorded types; that it is well formed is no premise, since else the run is 41
 pub record CheckedRuns : Type 0 where
-  pub sound : (doc state dict work before after : List ℕ) (d w : ℕ) (r : Finding) → Checked doc d w Accepted dict work → OfRecordedTypes doc state d w
+  pub sound : (doc state dict work before after : List ℕ) (d w : ℕ) (r : Finding) → CheckCall doc d w Accepted dict work → OfRecordedTypes doc state d w
       → RunCall doc state before after r → SoundCall doc state before r

@@ -12,15 +12,15 @@ use Rattle.types_cells.specs.Layout.{firstRun, frozenSize, areaSize, maxCells}
 use Rattle.types_cells.specs.Store.{frozen, load, run}
 use Rattle.types_cells.specs.Calls.{Above, Adding, Added, Making, Made}
 use Rattle.types_unifier.specs.Merging.{Asking, Merged}
-use Rattle.types_solver.specs.Sizes.{markAt, Sized, Tested, Measuring}
+use Rattle.types_solver.specs.Sizes.{markAt, Sized, TestedFinite, Measuring}
 use Rattle.types_solver.proofs.Accepted.{start, same-pinned}
 use Rattle.types_cells.proofs.Words.{run-at, run-length, frozen-length, in-getD}
 use Rattle.types_cells.proofs.Growing.{made-load, made-above}
 use Rattle.types_solver.proofs.Extending.{added-builds, added-load, added-other, added-here, made-grows}
-use Rattle.tower.specs.Ready.{Ready, Row, Rowing, Rowed, Room, Built, Forming, Applying, Applied, Towering, Towered}
+use Rattle.tower.specs.Ready.{TowerReady, Row, Rowing, Rowed, TowerRoom, Built, Forming, Applying, Applied, Towering, Towered}
 
 -- An area with no cells.
-pub ready-start : (s d : List ℕ) → length s ≡ areaSize → Ready s d 0 firstRun 0
+pub ready-start : (s d : List ℕ) → length s ≡ areaSize → TowerReady s d 0 firstRun 0
 unfolding load
 ready-start s d e = record {
   P₀ = end;
@@ -33,11 +33,11 @@ ready-start s d e = record {
   parts = λ i l. absurd (omega arith);
 }
 
-pub adding : (s d : List ℕ) (n top k : ℕ) → Ready s d n top k → top < frozenSize → Adding s n top
+pub adding : (s d : List ℕ) (n top k : ℕ) → TowerReady s d n top k → top < frozenSize → Adding s n top
 adding s d n top k R l = record { P₀ = R .P₀; L = R .L; solved = R .solved; above = R .above; room = l }
 
 -- One part more.
-pub ready-add : (s s′ d : List ℕ) (n top k x : ℕ) → Ready s d n top k → top < frozenSize → x < n → Added s s′ n top x → Ready s′ d n (suc top) (suc k)
+pub ready-add : (s s′ d : List ℕ) (n top k x : ℕ) → TowerReady s d n top k → top < frozenSize → x < n → Added s s′ n top x → TowerReady s′ d n (suc top) (suc k)
 ready-add s s′ d n top k x R l m N =
     let A = adding s d n top k R l in
     let low = R .low in
@@ -57,7 +57,7 @@ ready-add s s′ d n top k x R l m N =
     }
 
 -- The parts are those of a new cell.
-pub making : (s d : List ℕ) (n top t a m : ℕ) → Ready s d n (top + m) m → n < maxCells → n + top + m + 1 < frozenSize → t ≤ 4 → (t < 2 → a ≡ 0) → (t ≡ 3 → a ≡ 0) → (t ≡ 3 → m ≡ 1) → (t ≡ 4 → a ≡ m) → Making s n t a top m
+pub making : (s d : List ℕ) (n top t a m : ℕ) → TowerReady s d n (top + m) m → n < maxCells → n + top + m + 1 < frozenSize → t ≤ 4 → (t < 2 → a ≡ 0) → (t ≡ 3 → a ≡ 0) → (t ≡ 3 → m ≡ 1) → (t ≡ 4 → a ≡ m) → Making s n t a top m
 making s d n top t a m R l r h p q o u =
     let low = R .low in
     record {
@@ -84,11 +84,11 @@ making s d n top t a m R l r h p q o u =
       fit = let f = R .fit in omega arith;
     }
 
-pub ready-make : (s s′ d : List ℕ) (n top t a m : ℕ) → Ready s d n (top + m) m → t ≤ 4 → Making s n t a top m → Made s s′ n t a top m → Ready s′ d (n + 1) (top + m) 0
+pub ready-make : (s s′ d : List ℕ) (n top t a m : ℕ) → TowerReady s d n (top + m) m → t ≤ 4 → Making s n t a top m → Made s s′ n t a top m → TowerReady s′ d (n + 1) (top + m) 0
 ready-make s s′ d n top t a m R h M N =
     let sn : suc n ≡ n + 1 = omega arith in
     let low = R .low in
-    subst (λ z. Ready s′ d z (top + m) 0) sn
+    subst (λ z. TowerReady s′ d z (top + m) 0) sn
     (record {
       P₀ = R .P₀;
       L = R .L;
@@ -101,7 +101,7 @@ ready-make s s′ d n top t a m R h M N =
     })
 
 -- A merge.
-pub ready-merge : (s s′ d : List ℕ) (n top x y : ℕ) → Ready s d n top 0 → x < n → y < n → Merged s s′ d x y true → Ready s′ d n top 0
+pub ready-merge : (s s′ d : List ℕ) (n top x y : ℕ) → TowerReady s d n top 0 → x < n → y < n → Merged s s′ d x y true → TowerReady s′ d n top 0
 ready-merge s s′ d n top x y R lx ly M =
     let D = M .goes refl n (R .P₀) (R .L) (R .solved) (R .pinned) lx ly in
     record {
@@ -115,11 +115,11 @@ ready-merge s s′ d n top x y R lx ly M =
       parts = λ i l. absurd (omega arith);
     }
 
-pub asking : (s d : List ℕ) (n top x y : ℕ) → Ready s d n top 0 → x < n → y < n → length d < 2 ^ 31 → Asking s d x y
+pub asking : (s d : List ℕ) (n top x y : ℕ) → TowerReady s d n top 0 → x < n → y < n → length d < 2 ^ 31 → Asking s d x y
 asking s d n top x y R lx ly f = record { n = n; P₀ = R .P₀; L = R .L; solved = R .solved; pinned = R .pinned; few = f; left = lx; right = ly }
 
 -- The test: the size of a cell may be asked for.
-pub measuring : (s s′ d : List ℕ) (n top x : ℕ) → Ready s d n top 0 → x < n → length d < 2 ^ 31 → Tested s s′ n true → Measuring s′ d x
+pub measuring : (s s′ d : List ℕ) (n top x : ℕ) → TowerReady s d n top 0 → x < n → length d < 2 ^ 31 → TestedFinite s s′ n true → Measuring s′ d x
 measuring s s′ d n top x R l f T = record {
   n = n;
   L = R .L;
@@ -132,13 +132,13 @@ measuring s s′ d n top x R l f T = record {
   few = f;
 }
 
-ready-as : (s d : List ℕ) (n n′ top top′ k k′ : ℕ) → n ≡ n′ → top ≡ top′ → k ≡ k′ → Ready s d n top k → Ready s d n′ top′ k′
-ready-as s d n n′ top top′ k k′ a b c R = subst (λ z. Ready s d z top′ k′) a (subst (λ z. Ready s d n z k′) b (subst (λ z. Ready s d n top z) c R))
+ready-as : (s d : List ℕ) (n n′ top top′ k k′ : ℕ) → n ≡ n′ → top ≡ top′ → k ≡ k′ → TowerReady s d n top k → TowerReady s d n′ top′ k′
+ready-as s d n n′ top top′ k k′ a b c R = subst (λ z. TowerReady s d z top′ k′) a (subst (λ z. TowerReady s d n z k′) b (subst (λ z. TowerReady s d n top z) c R))
 
 -- j of the m parts of a row: x is the next.
 pub record RowTo (s t : List ℕ) (n top first step x j : ℕ) : Type 0 where
   pub at : x ≡ first + j * step
-  pub ready : (d : List ℕ) (k : ℕ) → Ready s d n top k → Ready t d n (top + j) (k + j)
+  pub ready : (d : List ℕ) (k : ℕ) → TowerReady s d n top k → TowerReady t d n (top + j) (k + j)
 
 pub row-start : (s : List ℕ) (n top first step : ℕ) → RowTo s s n top first step first 0
 row-start s n top first step = record {
@@ -171,8 +171,8 @@ row-size s t n top first step m x j W T = T .ready (W .d) (W .k) (W .ready) .sol
 pub row-end : (s t : List ℕ) (n top first step m x j : ℕ) → RowTo s t n top first step x j → j ≡ m → Rowed s t n top m
 row-end s t n top first step m x j T e d k R = ready-as t d n n (top + j) (top + m) (k + j) (k + m) refl (omega arith) (omega arith) (T .ready d k R)
 
-pub tested-as : (s t : List ℕ) (n : ℕ) (a b : Bool) → a ≡ b → Tested s t n a → Tested s t n b
-tested-as s t n a b e T = subst (λ z. Tested s t n z) e T
+pub tested-as : (s t : List ℕ) (n : ℕ) (a b : Bool) → a ≡ b → TestedFinite s t n a → TestedFinite s t n b
+tested-as s t n a b e T = subst (λ z. TestedFinite s t n z) e T
 
 pub merged-as : (s t d : List ℕ) (x y : ℕ) (a b : Bool) → a ≡ b → Merged s t d x y a → Merged s t d x y b
 merged-as s t d x y a b e M = subst (λ z. Merged s t d x y z) e M
@@ -182,7 +182,7 @@ module _ (s : List ℕ) (n top t a first step m : ℕ) (F : Forming s n top t a 
   pub forming-row : Rowing s n top first step m
   forming-row = record { d = F .room .d; k = 0; ready = F .room .ready; row = F .row; short = F .short; room = let z = F .room .words in omega arith }
 
-  rowed-as : (u d : List ℕ) → Rowed s u n top m → Ready s d n top 0 → Ready u d n (top + m) m
+  rowed-as : (u d : List ℕ) → Rowed s u n top m → TowerReady s d n top 0 → TowerReady u d n (top + m) m
   rowed-as u d W R = ready-as u d n n (top + m) (top + m) (0 + m) m refl refl (omega arith) (W d 0 R)
 
   pub forming-cell : (u : List ℕ) → Rowed s u n top m → Making u n t a top m
@@ -195,14 +195,14 @@ module _ (s : List ℕ) (n top t a first step m : ℕ) (F : Forming s n top t a 
   formed u v W N d R = ready-make u v d n top t a m (rowed-as u d W R) (F .tags) (forming-cell u W) N
 
 -- A store keeps its length.
-pub built-size : (s t : List ℕ) (n top c m : ℕ) → (W : Room s n top c m) → (c′ m′ : ℕ) → Built s t n top c′ m′ → length t ≡ length s
+pub built-size : (s t : List ℕ) (n top c m : ℕ) → (W : TowerRoom s n top c m) → (c′ m′ : ℕ) → Built s t n top c′ m′ → length t ≡ length s
 built-size s t n top c m W c′ m′ B = B (W .d) (W .ready) .solved .held .size ∙ sym (W .ready .solved .held .size)
 
 -- Room for the rest of what is built, and what was built in all.
-pub room-part : (s : List ℕ) (n top c m c₁ m₁ : ℕ) → Room s n top c m → c₁ ≤ c → m₁ ≤ m → Room s n top c₁ m₁
+pub room-part : (s : List ℕ) (n top c m c₁ m₁ : ℕ) → TowerRoom s n top c m → c₁ ≤ c → m₁ ≤ m → TowerRoom s n top c₁ m₁
 room-part s n top c m c₁ m₁ W p q = record { d = W .d; ready = W .ready; cells = let z = W .cells in omega arith; words = let z = W .words in omega arith }
 
-pub room-after : (s t : List ℕ) (n top c m c₀ m₀ n′ top′ c₁ m₁ : ℕ) → Room s n top c m → Built s t n top c₀ m₀ → n′ ≡ n + c₀ → top′ ≡ top + m₀ → c₀ + c₁ ≤ c → m₀ + m₁ ≤ m → Room t n′ top′ c₁ m₁
+pub room-after : (s t : List ℕ) (n top c m c₀ m₀ n′ top′ c₁ m₁ : ℕ) → TowerRoom s n top c m → Built s t n top c₀ m₀ → n′ ≡ n + c₀ → top′ ≡ top + m₀ → c₀ + c₁ ≤ c → m₀ + m₁ ≤ m → TowerRoom t n′ top′ c₁ m₁
 room-after s t n top c m c₀ m₀ n′ top′ c₁ m₁ W B en et p q = record {
   d = W .d;
   ready = ready-as t (W .d) (n + c₀) n′ (top + m₀) top′ 0 0 (sym en) (sym et) refl (B (W .d) (W .ready));
@@ -215,7 +215,7 @@ built-on s t u n top c₀ m₀ n′ top′ c₁ m₁ c₂ m₂ B en et D ec em d
     ready-as u d (n′ + c₁) (n + c₂) (top′ + m₁) (top + m₂) 0 0 (omega arith) (omega arith) refl (D d (ready-as t d (n + c₀) n′ (top + m₀) top′ 0 0 (sym en) (sym et) refl (B d R)))
 
 -- The formers of the tower.
-pub form-plain : (s : List ℕ) (n top t : ℕ) → Room s n top 1 0 → t < 2 → Forming s n top t 0 0 0 0
+pub form-plain : (s : List ℕ) (n top t : ℕ) → TowerRoom s n top 1 0 → t < 2 → Forming s n top t 0 0 0 0
 form-plain s n top t W l = record {
   room = W;
   row = λ j q. absurd (omega arith);
@@ -227,7 +227,7 @@ form-plain s n top t W l = record {
   products = λ q. refl;
 }
 
-pub form-product : (s : List ℕ) (n top first step m : ℕ) → Room s n top 1 m → Row n first step m → step < maxCells → Forming s n top 4 m first step m
+pub form-product : (s : List ℕ) (n top first step m : ℕ) → TowerRoom s n top 1 m → Row n first step m → step < maxCells → Forming s n top 4 m first step m
 form-product s n top first step m W R l = record {
   room = W;
   row = R;
@@ -239,7 +239,7 @@ form-product s n top first step m W R l = record {
   products = λ q. refl;
 }
 
-pub form-power : (s : List ℕ) (n top x : ℕ) → Room s n top 1 1 → x < n → Forming s n top 3 0 x 0 1
+pub form-power : (s : List ℕ) (n top x : ℕ) → TowerRoom s n top 1 1 → x < n → Forming s n top 3 0 x 0 1
 form-power s n top x W l = record {
   room = W;
   row = λ j q. omega arith;
@@ -259,7 +259,7 @@ pair-row n x y l m (suc (suc j)) q = absurd (omega arith)
 
 -- A level: f's type, the type for its argument, and the merge.
 module _ (s d : List ℕ) (n top x : ℕ) (A : Applying s d n top x) where
-  pub level-room : Room s n top 11 34
+  pub level-room : TowerRoom s n top 11 34
   level-room = record { d = d; ready = A .ready; cells = A .cells; words = let z = A .words in omega arith }
 
   module _ (t u : List ℕ) (B : Built s t n top 8 31) (D : Built t u (n + 8) (top + 31) 3 3) where
@@ -274,7 +274,7 @@ module _ (s d : List ℕ) (n top x : ℕ) (A : Applying s d n top x) where
 
 -- The levels: i of them are built, and x is the type so far.
 pub record Levels (s d : List ℕ) (n top x i : ℕ) : Type 0 where
-  pub ready : Ready s d n top 0
+  pub ready : TowerReady s d n top 0
   pub cells : n ≡ 1 + 11 * i
   pub words : top ≡ firstRun + 34 * i
   pub made : x < n

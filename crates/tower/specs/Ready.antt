@@ -11,7 +11,7 @@ use Rattle.types_cells.specs.Calls.{Above}
 use Rattle.types_cells.specs.Settled.{Pinned}
 
 -- The store s of n cells, whose runs end at `top`: the last k words of the runs are cells, the parts of the next one.
-pub record Ready (s d : List ℕ) (n top k : ℕ) : Type 0 where
+pub record TowerReady (s d : List ℕ) (n top k : ℕ) : Type 0 where
   pub P₀ : Pairs ℕ
   pub L : Pairs ℕ
   pub solved : Solved s n P₀ L
@@ -28,28 +28,28 @@ Row n first step m = (j : ℕ) → j < m → first + j * step < n
 pub record Rowing (s : List ℕ) (n top first step m : ℕ) : Type 0 where
   pub d : List ℕ
   pub k : ℕ
-  pub ready : Ready s d n top k
+  pub ready : TowerReady s d n top k
   pub row : Row n first step m
   pub short : step < maxCells
   pub room : top + m ≤ frozenSize
 
 abbrev pub Rowed : List ℕ → List ℕ → ℕ → ℕ → ℕ → Type 0
-Rowed s s′ n top m = (d : List ℕ) (k : ℕ) → Ready s d n top k → Ready s′ d n (top + m) (k + m)
+Rowed s s′ n top m = (d : List ℕ) (k : ℕ) → TowerReady s d n top k → TowerReady s′ d n (top + m) (k + m)
 
 -- Room for c cells more, with m parts.
-pub record Room (s : List ℕ) (n top c m : ℕ) : Type 0 where
+pub record TowerRoom (s : List ℕ) (n top c m : ℕ) : Type 0 where
   pub d : List ℕ
-  pub ready : Ready s d n top 0
+  pub ready : TowerReady s d n top 0
   pub cells : n + c ≤ maxCells
   pub words : n + top + c + m < frozenSize
 
 -- They are made.
 abbrev pub Built : List ℕ → List ℕ → ℕ → ℕ → ℕ → ℕ → Type 0
-Built s s′ n top c m = (d : List ℕ) → Ready s d n top 0 → Ready s′ d (n + c) (top + m) 0
+Built s s′ n top c m = (d : List ℕ) → TowerReady s d n top 0 → TowerReady s′ d (n + c) (top + m) 0
 
 -- A former over a row of cells, but no binding.
 pub record Forming (s : List ℕ) (n top t a first step m : ℕ) : Type 0 where
-  pub room : Room s n top 1 m
+  pub room : TowerRoom s n top 1 m
   pub row : Row n first step m
   pub short : step < maxCells
   pub tags : t ≤ 4
@@ -60,14 +60,14 @@ pub record Forming (s : List ℕ) (n top t a first step m : ℕ) : Type 0 where
 
 -- The application to cell x.
 pub record Applying (s d : List ℕ) (n top x : ℕ) : Type 0 where
-  pub ready : Ready s d n top 0
+  pub ready : TowerReady s d n top 0
   pub cells : n + 11 ≤ maxCells
   pub words : n + top + 45 < frozenSize
   pub made : x < n
   pub few : length d < 2 ^ 31
 
 abbrev pub Applied : List ℕ → List ℕ → List ℕ → ℕ → ℕ → Bool → Type 0
-Applied s s′ d n top fine = fine ≡ true → Ready s d n top 0 → Ready s′ d (n + 11) (top + 34) 0
+Applied s s′ d n top fine = fine ≡ true → TowerReady s d n top 0 → TowerReady s′ d (n + 11) (top + 34) 0
 
 -- A tower of so many levels over ℤ (1) or an unknown (0).
 pub record Towering (s d : List ℕ) (start levels : ℕ) : Type 0 where
@@ -78,11 +78,11 @@ pub record Towering (s d : List ℕ) (start levels : ℕ) : Type 0 where
   pub within : levels ≤ 32
 
 abbrev pub Towered : List ℕ → List ℕ → ℕ → Bool → Type 0
-Towered s d levels fine = fine ≡ true → Ready s d (1 + 11 * levels) (firstRun + 34 * levels) 0
+Towered s d levels fine = fine ≡ true → TowerReady s d (1 + 11 * levels) (firstRun + 34 * levels) 0
 
 -- The store is built, and x one of its cells.
 pub record Asked (s d : List ℕ) (n x : ℕ) : Type 0 where
   pub top : ℕ
-  pub ready : Ready s d n top 0
+  pub ready : TowerReady s d n top 0
   pub made : x < n
   pub few : length d < 2 ^ 31

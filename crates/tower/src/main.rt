@@ -6,7 +6,7 @@ use types_cells::area::AREA;
 use types_cells::area::FIRST_RUN;
 use types_solver::sizes::OVER;
 ghost use Prim.Native.Nat.{_<_};
-ghost use Rattle.tower.specs.Ready.{Rowing, Rowed, Room, Built, Forming, Applying, Applied, Towering, Towered, Asked};
+ghost use Rattle.tower.specs.Ready.{Rowing, Rowed, TowerRoom, Built, Forming, Applying, Applied, Towering, Towered, Asked};
 
 const LEVELS: usize = 9;
 
@@ -78,7 +78,7 @@ fn former(
 
 // The type ℙ (X × (X⁶ × X⁶ × X⁶ × X⁶)) of f: X is cell n.
 fn generic(a: &mut [u32], n: usize, top: usize)
-    requires { ⌜ Room (now a) n top 8 31 ⌝ }
+    requires { ⌜ TowerRoom (now a) n top 8 31 ⌝ }
     ensures { λ _. ⌜ Built (now (a .entry)) (now (a .exit)) n top 8 31 ⌝ }
 {
     former(a, n, top, UNKNOWN, 0, 0, 0, 0);
@@ -93,7 +93,7 @@ fn generic(a: &mut [u32], n: usize, top: usize)
 
 // The type ℙ (x × R) that f must have for an argument of the type of cell x: R, the type of the application, is cell n.
 fn applied(a: &mut [u32], n: usize, top: usize, x: usize)
-    requires { ⌜ (Room (now a) n top 3 3) × (x < n) ⌝ }
+    requires { ⌜ (TowerRoom (now a) n top 3 3) × (x < n) ⌝ }
     ensures { λ _. ⌜ Built (now (a .entry)) (now (a .exit)) n top 3 3 ⌝ }
 {
     former(a, n, top, UNKNOWN, 0, 0, 0, 0);

@@ -155,7 +155,7 @@ pub record Entered (s s′ d : List ℕ) (n p : ℕ) : Type 0 where
   pub above : (top : ℕ) → Above (frozen s) n top → Above (frozen s′) (suc n) top
 
 -- The type of the option stands at r.
-pub record Found (H : List ℕ) (r : ℕ) (o : Option Ty) : Type 0 where
+pub record FoundType (H : List ℕ) (r : ℕ) (o : Option Ty) : Type 0 where
   pub type : Ty
   pub is : o ≡ some type
   pub reads : Reads H r type
@@ -163,4 +163,4 @@ pub record Found (H : List ℕ) (r : ℕ) (o : Option Ty) : Type 0 where
 -- The component id of the type at p: r is the place of its type, and 0 where there is none (the place 0 is never the type of a component).
 pub record Component (s d : List ℕ) (p id r : ℕ) : Type 0 where
   pub none : r ≡ 0 → (g : Ty) → Reads (heap s d) p g → componentType id g ≡ none
-  pub some : (r ≡ 0 → ⊥) → (g : Ty) → Reads (heap s d) p g → Found (heap s d) r (componentType id g)
+  pub some : (r ≡ 0 → ⊥) → (g : Ty) → Reads (heap s d) p g → FoundType (heap s d) r (componentType id g)

@@ -7,7 +7,7 @@ use mathlib.Core.Option.{Option, some, none}
 use mathlib.Core.Path.{_≡_, refl, ap, subst}
 use native.Mathlib.Omega.{arith}
 use Rattle.types_rules.specs.Former.{identifiers}
-use Rattle.types_rules.specs.Types.{Ty, Term, Terms, unknown, con, nil, cons, under, unders, Each, Eachs, ℤ}
+use Rattle.types_rules.specs.Types.{Ty, Term, Terms, unknown, con, nil, cons, under, unders, Each, Eachs, integerType}
 use Rattle.types_rules.specs.Component.{pick, pickType, component, componentType}
 
 some-inj : (a b : Term) → some a ≡ some b → a ≡ b
@@ -41,10 +41,10 @@ pick-none σ c (i ∷ is) nil e = refl
 pick-none σ c (i ∷ is) (cons t ts) e = pick-n t (under σ t) (pick c is ts) (pickType c is (unders σ ts)) (eqb i c) (pick-none σ c is ts) e
 
 -- Without the component in the term: none where each unknown is ℤ.
-pub component-none : (c : ℕ) (t : Term) → component c t ≡ none → componentType c (under (λ y. ℤ) t) ≡ none
+pub component-none : (c : ℕ) (t : Term) → component c t ≡ none → componentType c (under (λ y. integerType) t) ≡ none
 unfolding component componentType under pickType identifiers
 component-none c (unknown x) e = refl
-component-none c (con h ts) e = pick-none (λ y. ℤ) c (identifiers h) ts e
+component-none c (con h ts) e = pick-none (λ y. integerType) c (identifiers h) ts e
 
 each-c : (P : ℕ → Type 0) (t u : Term) (o : Option Term) (b : Bool) → Each P t → (o ≡ some u → Each P u) → (elim b as (λ x. Option Term) [ true ↦ some t | false ↦ o ]) ≡ some u → Each P u
 each-c P t u o true h k e = subst (Each P) (some-inj t u e) h

@@ -4,7 +4,7 @@ use mathlib.Core.Option.{Option, some, none}
 use mathlib.Core.Path.{_≡_, refl, ap, ap₂, _∙_, subst}
 use native.Mathlib.Omega.{arith}
 use Rattle.types_rules.specs.Former.{Former, int, given, parameter, power, product, binding, identifiers}
-use Rattle.types_rules.specs.Types.{Ty, Tys, node, tnil, tcons, Term, Terms, unknown, con, nil, cons, under, unders, Each, Eachs, ℤ}
+use Rattle.types_rules.specs.Types.{Ty, Tys, node, tnil, tcons, Term, Terms, unknown, con, nil, cons, under, unders, Each, Eachs, integerType}
 use Rattle.types_rules.specs.Instance.{nth, actual, instanceFormer, instance, instances}
 
 nth-same : (σ τ : ℕ → Ty) (r : Terms) (i : ℕ) (ts : Terms) → unders σ r ≡ unders τ r → unders σ ts ≡ unders τ ts → under σ (actual (nth r i) i ts) ≡ under τ (actual (nth r i) i ts)
@@ -30,7 +30,7 @@ former-same σ τ (binding l) r ts e f = ap (node (binding l)) f
 mutual
   unfolding instance under
 
-  -- Two tables that agree on the row agree on the type.
+  -- Two valuations that agree on the row agree on the type.
   pub instance-same : (σ τ : ℕ → Ty) (r : Terms) (g : Ty) → unders σ r ≡ unders τ r → under σ (instance r g) ≡ under τ (instance r g)
   instance-same σ τ r (node h fromList) e = former-same σ τ h r (instances r fromList) e (instances-same σ τ r fromList e)
 

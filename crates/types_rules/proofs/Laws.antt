@@ -4,7 +4,7 @@ use mathlib.Core.Bool.{Bool, true, false}
 use mathlib.Core.List.{List}
 use mathlib.Core.Logic.{_↔_, _⊎_, inl, inr}
 use mathlib.Core.Path.{_≡_, refl, subst}
-use Rattle.types_rules.specs.Types.{Ty, Term, under, Each, ℤ}
+use Rattle.types_rules.specs.Types.{Ty, Term, under, Each, integerType}
 use Rattle.types_rules.specs.Substitution.{Substitution, Respects, resolve, ground, sol, State}
 use Rattle.types_rules.specs.Unify.{Outcome, ok, clash, cycle, stuck, unify, Spec, Good}
 use Rattle.types_rules.specs.Component.{has, hasType}
@@ -32,7 +32,7 @@ failed N vs s a b h ea eb = (λ f σ. to f σ, λ f. from (unify vs s a b) refl 
     to (inr e) σ = subst (λ r. Spec σ r (Both s a b σ)) e (unify-spec σ vs s a b)
 
     from : (r : Outcome) → unify vs s a b ≡ r → Good N r → ((σ : ℕ → Ty) → Both s a b σ → ⊥) → Failed r
-    from (ok vs′ s′) e g f = let τ : ℕ → Ty = sol (λ y. ℤ) s′ in absurd (f τ (kept vs s a b vs′ s′ e τ .0 (sol-sat N vs′ s′ g (λ y. ℤ))))
+    from (ok vs′ s′) e g f = let τ : ℕ → Ty = sol (λ y. integerType) s′ in absurd (f τ (kept vs s a b vs′ s′ e τ .0 (sol-sat N vs′ s′ g (λ y. integerType))))
     from clash e g f = inl refl
     from cycle e g f = inr refl
     from stuck e g f = absurd g

@@ -14,7 +14,7 @@ use Rattle.types_rules.specs.Component.{has, hasType}
 use Rattle.types_rules.specs.Equations.{Pairs, end, pair}
 use Rattle.types_rules.specs.Former.{and, identifiers, sameFormer}
 use Rattle.types_rules.specs.Substitution.{Base, Respects, State, Substitution, Tri, bind, empty, ground, grounds, member, occurs, occursAny, or, resolve, sol, update, without}
-use Rattle.types_rules.specs.Types.{Each, Eachs, Term, Terms, Ty, con, cons, nil, termSize, termSizes, under, unders, unknown, ℙℤ, ℤ}
+use Rattle.types_rules.specs.Types.{Each, Eachs, Term, Terms, Ty, con, cons, nil, termSize, termSizes, under, unders, unknown, ℙℤ, integerType}
 use Rattle.types_rules.specs.Unify.{EachE, Good, Next, Outcome, flex, isUnknown, replaceAll, rigid, stuck, unify, unifyLevel, unifyLevels, unifyStep, weight, zipTerms}
 
 pub or-true-r : (a b : Bool) → b ≡ true → or a b ≡ true
@@ -281,27 +281,27 @@ pub unique : (s : Substitution) (t : Term) → ground (resolve s t) ≡ true →
 unique s t e σ τ p q =
     sym (resolve-eq σ s t p) ∙ under-ext σ τ (resolve s t) (each-map _ _ (λ y f. absurd f) (resolve s t) (ground-each (resolve s t) e)) ∙ resolve-eq τ s t q
 
-pub resolved : (s : Substitution) (t : Term) → ground (resolve s t) ≡ true → (σ : ℕ → Ty) → Respects σ s → under σ t ≡ under (λ y. ℤ) (resolve s t)
+pub resolved : (s : Substitution) (t : Term) → ground (resolve s t) ≡ true → (σ : ℕ → Ty) → Respects σ s → under σ t ≡ under (λ y. integerType) (resolve s t)
 resolved s t e σ p =
-    sym (resolve-eq σ s t p) ∙ under-ext σ (λ y. ℤ) (resolve s t) (each-map _ _ (λ y f. absurd f) (resolve s t) (ground-each (resolve s t) e))
+    sym (resolve-eq σ s t p) ∙ under-ext σ (λ y. integerType) (resolve s t) (each-map _ _ (λ y f. absurd f) (resolve s t) (ground-each (resolve s t) e))
 
 -- A term with an unknown y has two types: with ℤ for every unknown, and with ℙ ℤ for y.
 pub two-types : (N : ℕ → Type 0) (vs : List ℕ) (s : Substitution) (t : Term) → State N vs s → Each N t → ground (resolve s t) ≡ false →
-    (y : ℕ) × (under (sol (λ z. ℤ) s) t ≡ under (sol (update (λ z. ℤ) y ℙℤ) s) t → ⊥)
+    (y : ℕ) × (under (sol (λ z. integerType) s) t ≡ under (sol (update (λ z. integerType) y ℙℤ) s) t → ⊥)
 two-types N vs s t h e g =
     let r = open-has (resolve s t) g in
-    let one : ℕ → Ty = λ y. ℤ in
+    let one : ℕ → Ty = λ y. integerType in
     let two : ℕ → Ty = update one (r .0) ℙℤ in
     (r .0, λ q. differ (occurs-inj one two (r .0) (resolve s t) (r .1) (sym (sol-at N vs s t h e one) ∙ q ∙ sol-at N vs s t h e two) ∙ update-same one (r .0) ℙℤ))
   where
-    differ : ℤ ≡ ℙℤ → ⊥
+    differ : integerType ≡ ℙℤ → ⊥
     differ q = let z : _≡_ {A = ℕ} 0 1 = cc in omega arith
 
 pub several : (N : ℕ → Type 0) (vs : List ℕ) (s : Substitution) (t : Term) → State N vs s → Each N t → ground (resolve s t) ≡ false →
     (σ : ℕ → Ty) × (τ : ℕ → Ty) × Respects σ s × Respects τ s × (under σ t ≡ under τ t → ⊥)
 several N vs s t h e g =
     let r = two-types N vs s t h e g in
-    let one : ℕ → Ty = λ y. ℤ in
+    let one : ℕ → Ty = λ y. integerType in
     let two : ℕ → Ty = update one (r .0) ℙℤ in
     (sol one s, sol two s, sol-sat N vs s h one, sol-sat N vs s h two, r .1)
 
@@ -310,7 +310,7 @@ unfolding has hasType under
 has-yes c (unknown x) σ e = absurd (bool-no false e refl)
 has-yes c (con h ts) σ e = e
 
-has-no : (c : ℕ) (t : Term) → has c t ≡ false → hasType c (under (λ y. ℤ) t) ≡ false
+has-no : (c : ℕ) (t : Term) → has c t ≡ false → hasType c (under (λ y. integerType) t) ≡ false
 unfolding has hasType under identifiers member
 has-no c (unknown x) e = refl
 has-no c (con h ts) e = e
@@ -321,7 +321,7 @@ select-yes s t c e σ q = subst (λ g. hasType c g ≡ true) (resolve-eq σ s t 
 pub select-no : (N : ℕ → Type 0) (vs : List ℕ) (s : Substitution) (t : Term) (c : ℕ) → State N vs s → Each N t → has c (resolve s t) ≡ false →
     (σ : ℕ → Ty) × Respects σ s × (hasType c (under σ t) ≡ false)
 select-no N vs s t c h e g =
-    let one : ℕ → Ty = λ y. ℤ in
+    let one : ℕ → Ty = λ y. integerType in
     (sol one s, sol-sat N vs s h one, subst (λ z. hasType c z ≡ false) (sym (sol-at N vs s t h e one)) (has-no c (resolve s t) g))
 
 pub member-head : (y : ℕ) (vs : List ℕ) → member y (y ∷ vs) ≡ true

@@ -58,8 +58,8 @@ unfoldable mutual
   Eachs P nil = Unit {0}
   Eachs P (cons t ts) = Each P t × Eachs P ts
 
-abbrev pub ℤ : Ty
-ℤ = node int tnil
+abbrev pub integerType : Ty
+integerType = node int tnil
 
 abbrev pub ℙℤ : Ty
-ℙℤ = node power (tcons ℤ tnil)
+ℙℤ = node power (tcons integerType tnil)

@@ -15,7 +15,7 @@ use Rattle.types_rules.specs.Types.{Ty, size}
 use Rattle.types_cells.specs.Layout.{maxCells, settledFrom, areaSize}
 use Rattle.types_cells.specs.Store.{frozen, tagAt, view, load, Held, Solved}
 use Rattle.types_cells.specs.Settled.{heap, wordAt, Reads, Readable, Pinned, Obeys, Fits}
-use Rattle.types_solver.specs.Sizes.{markAt, Sized, Same, Tested, Model, Least}
+use Rattle.types_solver.specs.Sizes.{markAt, Sized, Same, TestedFinite, Model, Least}
 use Rattle.types_solver.specs.Answers.{SolutionOf}
 use Rattle.types_solver.specs.Written.{Resolved}
 use Rattle.types_cells.proofs.LinkLaws.{stop-rep}
@@ -59,7 +59,7 @@ module _ (s s′ d : List ℕ) (n : ℕ) (K : Same s s′) (few : n ≤ maxCells
       O i l (omega arith) g (subst (λ z. Reads (heap s d) (z - settledFrom) g) e (subst (λ z. Reads z (wordAt s′ i - settledFrom) g) low-heap R))
 
 -- `finite` true: each solution is one of the marked store.
-pub model : (s s′ d : List ℕ) (n : ℕ) → Tested s s′ n true → (P₀ L : Pairs ℕ) → Solved s n P₀ L → Pinned s d n → (X : SolutionOf s d n P₀) → Model s′ d n L (X .σ)
+pub model : (s s′ d : List ℕ) (n : ℕ) → TestedFinite s s′ n true → (P₀ L : Pairs ℕ) → Solved s n P₀ L → Pinned s d n → (X : SolutionOf s d n P₀) → Model s′ d n L (X .σ)
 model s s′ d n T P₀ L S P X =
     let f = S .held .few in
     record {

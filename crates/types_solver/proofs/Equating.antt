@@ -18,7 +18,7 @@ use Rattle.types_cells.specs.Flat.{Sound, Kept, Direct, Flattened}
 use Rattle.types_cells.proofs.Flat.{refers-pinned, refers-to, refers-from}
 use Rattle.types_cells.proofs.Growing.{lt-or-ge}
 use Rattle.types_cells.proofs.Words.{link-part, link-none}
-use Rattle.types_solver.specs.Sizes.{markAt, Sized, Same, Read, Tested}
+use Rattle.types_solver.specs.Sizes.{markAt, Sized, Same, Read, TestedFinite}
 use Rattle.types_solver.specs.Answers.{SolutionOf}
 use Rattle.types_solver.specs.Equation.{Equating, Equation}
 use Rattle.types_solver.proofs.Accepted.{same-pinned, same-obeys}
@@ -77,7 +77,7 @@ module _ (s d : List ℕ) (n x y : ℕ) (E : Equating s d n x y) where
         pinned-t : (P₀ L : Pairs ℕ) → Solved s n P₀ L → Pinned s d n → Pinned t d n
         pinned-t P₀ L S P = refers-pinned u t d n (F .refers) (F .still) (same P₀ L S P .pinned)
 
-        module _ (v : List ℕ) (r : Bool) (T : Tested t v n r) where
+        module _ (v : List ℕ) (r : Bool) (T : TestedFinite t v n r) where
           back : Same v t
           back = same-back t v (T .same)
 
@@ -90,7 +90,7 @@ module _ (s d : List ℕ) (n x y : ℕ) (E : Equating s d n x y) where
           some-v : r ≡ true → (P₀ L : Pairs ℕ) → Solved s n P₀ L → Pinned s d n → SolutionOf v d n (pair x y P₀)
           some-v q P₀ L S P =
               let K = kept P₀ L S P in
-              let X = finite-some t v d n (subst (Tested t v n) q T) (pair x y P₀) (K .L′) (K .solved) (pinned-t P₀ L S P) in
+              let X = finite-some t v d n (subst (TestedFinite t v n) q T) (pair x y P₀) (K .L′) (K .solved) (pinned-t P₀ L S P) in
               record {
                 σ = X .σ;
                 fits = subst (λ w. Fits w n (X .σ)) (sym (T .still)) (X .fits);
@@ -101,7 +101,7 @@ module _ (s d : List ℕ) (n x y : ℕ) (E : Equating s d n x y) where
           none-v : r ≡ false → (P₀ L : Pairs ℕ) → Solved s n P₀ L → Pinned s d n → Merging.NoSolution s d n (pair x y P₀)
           none-v q P₀ L S P σ f h o =
               let K = kept P₀ L S P in
-              finite-none t v d n (subst (Tested t v n) q T) (pair x y P₀) (K .L′) (K .solved)
+              finite-none t v d n (subst (TestedFinite t v n) q T) (pair x y P₀) (K .L′) (K .solved)
               (record { σ = σ; fits = subst (λ w. Fits w n σ) (sym (F .still ∙ M .still)) f; sat = h; obeys = to P₀ L S P σ f h o })
 
           pub equation : Equation s v d n x y r

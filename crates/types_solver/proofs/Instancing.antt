@@ -21,7 +21,7 @@ use Rattle.types_cells.specs.Store.{frozen, load, run, view, Solved}
 use Rattle.types_cells.specs.Calls.{Above, Adding, Added, Making, Made}
 use Rattle.types_cells.specs.Parts.{Names, Rest}
 use Rattle.types_cells.specs.Settled.{lower, heap, leadWords, nameWords, partsOf, Areas, Ends, Fits, Reading, Reads}
-use Rattle.types_solver.specs.Growth.{argOf, unknowns, Builds, Forming, Formed, Grows, InRow, Instance, Instanced, Instances, InstancedParts, Instancing, InstancingParts, Putting, PutPart, Room}
+use Rattle.types_solver.specs.Growth.{argOf, unknowns, Builds, Forming, Formed, Grows, InRow, Instance, Instanced, Instances, InstancedParts, Instancing, InstancingParts, Putting, PutPart, EnteringRoom}
 use Rattle.types_cells.proofs.Words.{frozen-length, run-cons}
 use Rattle.types_cells.proofs.Growing.{made-above, made-load, run-frame}
 use Rattle.types_cells.proofs.SettlingLaws.{heap-kept}
@@ -29,7 +29,7 @@ use Rattle.types_cells.proofs.Reading.{Part, heap-length, is-binding, lead-1, l
 use Rattle.types_solver.proofs.Extending.{above-wide, added-above, added-builds, added-here, added-load, added-other, builds-on, builds-refl, fits-old, former-builds, former-type}
 
 -- Room for more is room for less. A type in the dictionary has at most 32 formers (finding 38), so room for 32 is enough.
-pub room-less : (s d : List ℕ) (n top x y row k : ℕ) → x ≤ y → Room s d n top y row k → Room s d n top x row k
+pub room-less : (s d : List ℕ) (n top x y row k : ℕ) → x ≤ y → EnteringRoom s d n top y row k → EnteringRoom s d n top x row k
 room-less s d n top x y row k l A = record {
   P₀ = A .P₀;
   L = A .L;
@@ -196,7 +196,7 @@ module _ (s d : List ℕ) (n top p row k : ℕ) (I : Instancing s d n top p row 
       count : (h : Former) (gs : Tys) → Reads (heap s d) p (node h gs) → m ≡ partCountType gs
       count h gs R = em ∙ ap (λ z. partsOf z (getD (heap s d) (p + 1) 0)) (et ∙ tag-at (heap s d) p h gs R) ∙ parts-are (heap s d) p h gs R
 
-      ask-c : (g : Ty) → Reads (heap s d) p g → Room s d n top (size g) row k → InstancingParts s d n top at w m 0 row k
+      ask-c : (g : Ty) → Reads (heap s d) p g → EnteringRoom s d n top (size g) row k → InstancingParts s d n top at w m 0 row k
       unfolding size
       ask-c (node h gs) R A = record {
         l = identifiers h;
@@ -223,7 +223,7 @@ module _ (s d : List ℕ) (n top p row k : ℕ) (I : Instancing s d n top p row 
         tag-t : (h : Former) (gs : Tys) → Reads (heap s d) p (node h gs) → t ≡ tag h
         tag-t h gs R = et ∙ tag-at (heap s d) p h gs R
 
-        making-c : (g : Ty) → Reads (heap s d) p g → Room s d n top (size g) row k → Forming s₁ n₁ T t v m
+        making-c : (g : Ty) → Reads (heap s d) p g → EnteringRoom s d n top (size g) row k → Forming s₁ n₁ T t v m
         unfolding size
         making-c (node h gs) R A =
             let J = inner h gs R in
@@ -390,7 +390,7 @@ module _ (s d : List ℕ) (n top at w m j row k : ℕ) (A : InstancingParts s d 
   parts-none le = record { builds = builds-refl s d n; above = A .room .above; are = none-c le }
 
   module _ (lt : j < m) where
-    first-c : (l : List ℕ) (gs : Tys) (e : ℕ) → Rest (heap s d) w at l gs e → partCountType gs + j ≡ m → Room s d n top (sizes gs) row k → Instancing s d n top (at + w) row k
+    first-c : (l : List ℕ) (gs : Tys) (e : ℕ) → Rest (heap s d) w at l gs e → partCountType gs + j ≡ m → EnteringRoom s d n top (sizes gs) row k → Instancing s d n top (at + w) row k
     unfolding size
     first-c l tnil e R q A′ = absurd (omega arith)
     first-c l (tcons g gs) e R q A′ = record {
@@ -422,7 +422,7 @@ module _ (s d : List ℕ) (n top at w m j row k : ℕ) (A : InstancingParts s d 
             let q = E .is g (subst (λ z. Reads z (at + w) g) (sym eh) (P .reads)) in
             subst (λ z. Rest z w e₁ (P .tail) gs e) (sym eh) (subst (λ z. Rest (heap s d) w z (P .tail) gs e) (sym q) (P .rest))
 
-        rest-c : (l : List ℕ) (gs : Tys) (e : ℕ) → Rest (heap s d) w at l gs e → partCountType gs + j ≡ m → Room s d n top (sizes gs) row k → top + 2 * sizes gs + 2 * j ≤ frozenSize →
+        rest-c : (l : List ℕ) (gs : Tys) (e : ℕ) → Rest (heap s d) w at l gs e → partCountType gs + j ≡ m → EnteringRoom s d n top (sizes gs) row k → top + 2 * sizes gs + 2 * j ≤ frozenSize →
             InstancingParts s₁ d n₁ top₁ e₁ w m (j + 1) row k
         unfolding size
         rest-c l tnil e R q A′ h = absurd (omega arith)

@@ -13,13 +13,13 @@ use Rattle.types_rules.specs.Component.{pickType, componentType}
 use Rattle.types_rules.specs.Equations.{In, Pairs, Solves}
 use Rattle.types_rules.specs.Finite.{fromList}
 use Rattle.types_rules.specs.Former.{Former, binding, given, identifiers, int, parameter, power, product}
-use Rattle.types_rules.specs.Types.{Ty, Tys, node, tcons, tnil, ℤ}
+use Rattle.types_rules.specs.Types.{Ty, Tys, node, tcons, tnil, integerType}
 use mathlib.Core.Logic.{_⊎_, inl, inr}
 use Rattle.types_cells.specs.Layout.{maxCells, settledFrom}
 use Rattle.types_cells.specs.Store.{frozen, linkAt, tagAt, argAt, firstAt, countAt, run, partsAt, formerAt, Held, Solved}
 use Rattle.types_cells.specs.Calls.{Known, Root}
 use Rattle.types_solver.specs.Sizes.{Solution}
-use Rattle.types_cells.specs.Settled.{heap, wordAt, Reads, Readable, Pinned, Found, Component}
+use Rattle.types_cells.specs.Settled.{heap, wordAt, Reads, Readable, Pinned, FoundType, Component}
 use Rattle.types_solver.specs.Answers.{Finite, SolutionOf, Without, Looking, LookingRoot, Looked}
 use Rattle.types_cells.proofs.LinkLaws.{rep-below, stop-rep}
 use Rattle.types_cells.proofs.Words.{run-at, run-length, getD-in}
@@ -83,7 +83,7 @@ module _ (s d : List ℕ) (r id : ℕ) (root : linkAt s r ≡ 0) where
     settled = λ e. absurd (omega arith);
     place = λ e. absurd (omega arith);
     absent = λ e n P₀ L S P l F.
-        let X = solution-with s d n P₀ L S P F ℤ in
+        let X = solution-with s d n P₀ L S P F integerType in
         record { solution = X; lacks = ap (componentType id) (former-type n P₀ L S l p X) ∙ none-of id (formerAt w r) _ (h n L (S .held) l) };
   }
 
@@ -123,7 +123,7 @@ module _ (s d : List ℕ) (r id : ℕ) (root : linkAt s r ≡ 0) where
       let f = H .few in
       omega arith
 
-  none-type : componentType id ℤ ≡ none
+  none-type : componentType id integerType ≡ none
   unfolding componentType identifiers pickType
   none-type = refl
 
@@ -134,9 +134,9 @@ module _ (s d : List ℕ) (r id : ℕ) (root : linkAt s r ≡ 0) where
     settled = λ e. absurd (omega arith);
     place = λ e. absurd (omega arith);
     absent = λ e n P₀ L S P l F.
-        let X = solution-with s d n P₀ L S P F ℤ in
+        let X = solution-with s d n P₀ L S P F integerType in
         let q = self n L (S .held) l in
-        record { solution = X; lacks = ap (componentType id) (open-type s d n P₀ L S P F ℤ r l (ap (tagAt w) q ∙ t) (subst (λ z. wordAt s z < settledFrom) (sym q) v)) ∙ none-type };
+        record { solution = X; lacks = ap (componentType id) (open-type s d n P₀ L S P F integerType r l (ap (tagAt w) q ∙ t) (subst (λ z. wordAt s z < settledFrom) (sym q) v)) ∙ none-type };
   }
 
   module _ (v : settledFrom ≤ wordAt s r) (p : ℕ) (C : Component s d (wordAt s r - settledFrom) id p) where
@@ -147,7 +147,7 @@ module _ (s d : List ℕ) (r id : ℕ) (root : linkAt s r ≡ 0) where
       settled = λ e. absurd (omega arith);
       place = λ e. absurd (omega arith);
       absent = λ e n P₀ L S P l F.
-          let X = solution-with s d n P₀ L S P F ℤ in
+          let X = solution-with s d n P₀ L S P F integerType in
           let D = P .reads r l v in
           record { solution = X; lacks = ap (componentType id) (X .obeys r l v (D .type) (D .reads)) ∙ C .none z (D .type) (D .reads) };
     }
@@ -158,8 +158,8 @@ module _ (s d : List ℕ) (r id : ℕ) (root : linkAt s r ≡ 0) where
       below = λ c e b. absurd (omega arith);
       settled = λ e n P₀ L S P l X.
           let D = P .reads r l v in
-          subst (λ k. Found (heap s d) k (componentType id (X .σ r))) (omega arith)
-          (subst (λ g. Found (heap s d) p (componentType id g)) (sym (X .obeys r l v (D .type) (D .reads))) (C .some z (D .type) (D .reads)));
+          subst (λ k. FoundType (heap s d) k (componentType id (X .σ r))) (omega arith)
+          (subst (λ g. FoundType (heap s d) p (componentType id g)) (sym (X .obeys r l v (D .type) (D .reads))) (C .some z (D .type) (D .reads)));
       place = λ e n L H P l.
           let D = P .reads r l v in
           let f = C .some z (D .type) (D .reads) in
@@ -195,7 +195,7 @@ module _ (s d : List ℕ) (i r id v : ℕ) (Q : Root s i r) (K : Looked s d r id
   looked-root = record {
     found = λ c e b n P₀ L S l X. sym (ap (componentType id) (same-type n P₀ L S l X)) ∙ K .found c e b n P₀ L S (below-r n L (S .held) l) X;
     below = λ c e b n L H l. K .below c e b n L H (below-r n L H l);
-    settled = λ e n P₀ L S P l X. subst (λ g. Found (heap s d) (v - settledFrom) (componentType id g)) (same-type n P₀ L S l X) (K .settled e n P₀ L S P (below-r n L (S .held) l) X);
+    settled = λ e n P₀ L S P l X. subst (λ g. FoundType (heap s d) (v - settledFrom) (componentType id g)) (same-type n P₀ L S l X) (K .settled e n P₀ L S P (below-r n L (S .held) l) X);
     place = λ e n L H P l. K .place e n L H P (below-r n L H l);
     absent = λ e n P₀ L S P l F.
         let a = K .absent e n P₀ L S P (below-r n L (S .held) l) F in

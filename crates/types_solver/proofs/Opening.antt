@@ -15,11 +15,11 @@ use Rattle.types_rules.specs.Classes.{rep}
 use Rattle.types_rules.specs.Equations.{In, Pairs, Solves}
 use Rattle.types_rules.specs.Finite.{bounded, boundedView, fromList, typeOf}
 use Rattle.types_rules.specs.Follows.{View, shape, unk}
-use Rattle.types_rules.specs.Types.{Ty, Tys, node, ℤ, ℙℤ}
+use Rattle.types_rules.specs.Types.{Ty, Tys, node, integerType, ℙℤ}
 use Rattle.types_cells.specs.Layout.{linksAt, settledFrom}
 use Rattle.types_cells.specs.Store.{frozen, linkAt, linkPart, tagAt, view, Held, Solved}
 use Rattle.types_cells.specs.Calls.{Root}
-use Rattle.types_solver.specs.Sizes.{Solution, Tested}
+use Rattle.types_solver.specs.Sizes.{Solution, TestedFinite}
 use Rattle.types_solver.specs.Answers.{Finite, SolutionOf, Differ, Left}
 use Rattle.types_cells.specs.Settled.{heap, Reads, Readable, wordAt, Pinned, Obeys, Fits}
 use Rattle.types_cells.proofs.LinkLaws.{rep-below, stop-rep}
@@ -96,12 +96,12 @@ module _ (s d : List ℕ) (n : ℕ) (P₀ L : Pairs ℕ) (S : Solved s n P₀ L)
 
   pub two-left : (i : ℕ) → i < n → tagAt w i ≡ 0 → tagAt w (r i) ≡ 0 → wordAt s (r i) < settledFrom → Differ s d n P₀
   two-left i l bare e v = record {
-    one = solution-with ℤ;
+    one = solution-with integerType;
     other = solution-with ℙℤ;
     cell = i;
     made = l;
     bare = bare;
-    differ = λ q. let p : ℤ ≡ ℙℤ = sym (open-type ℤ i l e v) ∙ q ∙ open-type ℙℤ i l e v in let z : _≡_ {A = ℕ} 0 1 = cc in omega arith;
+    differ = λ q. let p : integerType ≡ ℙℤ = sym (open-type integerType i l e v) ∙ q ∙ open-type ℙℤ i l e v in let z : _≡_ {A = ℕ} 0 1 = cc in omega arith;
   }
 
   module _ (settled : (i : ℕ) → i < n → tagAt w (r i) ≡ 0 → settledFrom ≤ wordAt s (r i)) (X Y : SolutionOf s d n P₀) where
@@ -168,8 +168,8 @@ scan-next s n i x l Q d h = below-next (λ j. (L : Pairs ℕ) → Held s n L →
         ⊎-elim (λ z. absurd (d (sym (ap (tagAt (frozen s)) q) ∙ e, subst (λ y. wordAt s y < settledFrom) q z))) (λ z. z) (lt-or-ge (wordAt s (rep eqb L i)) settledFrom)
 
 -- `finite` and settled cells: true, there is a solution that gives them their types; false, there is none.
-pub finite-some : (s s′ d : List ℕ) (n : ℕ) → Tested s s′ n true → (P₀ L : Pairs ℕ) → Solved s n P₀ L → Pinned s d n → SolutionOf s d n P₀
-finite-some s s′ d n T P₀ L S P = solution-with s d n P₀ L S P (λ i l. T .sizes refl P₀ L S i l .finite) ℤ
+pub finite-some : (s s′ d : List ℕ) (n : ℕ) → TestedFinite s s′ n true → (P₀ L : Pairs ℕ) → Solved s n P₀ L → Pinned s d n → SolutionOf s d n P₀
+finite-some s s′ d n T P₀ L S P = solution-with s d n P₀ L S P (λ i l. T .sizes refl P₀ L S i l .finite) integerType
 
-pub finite-none : (s s′ d : List ℕ) (n : ℕ) → Tested s s′ n false → (P₀ L : Pairs ℕ) → Solved s n P₀ L → SolutionOf s d n P₀ → ⊥
+pub finite-none : (s s′ d : List ℕ) (n : ℕ) → TestedFinite s s′ n false → (P₀ L : Pairs ℕ) → Solved s n P₀ L → SolutionOf s d n P₀ → ⊥
 finite-none s s′ d n T P₀ L S X = T .endless refl P₀ L S (record { σ = X .σ; fits = X .fits; sat = X .sat })

@@ -13,7 +13,7 @@ use Rattle.types_rules.specs.Types.{size, sizes}
 use Rattle.types_cells.specs.Layout.{maxCells, marksAt, areaSize}
 use Rattle.types_cells.specs.Store.{frozen, partsAt, Held, Solved}
 use Rattle.types_cells.specs.Calls.{Known}
-use Rattle.types_solver.specs.Sizes.{markAt, Sized, Marks, Same, Read, Falls, Visited, Calm, Visits, Cleared, Solution, Tested}
+use Rattle.types_solver.specs.Sizes.{markAt, Sized, Marks, Same, Read, Falls, Visited, Calm, Visits, Cleared, Solution, TestedFinite}
 use Rattle.types_cells.proofs.Heads.{view-shape}
 use Rattle.types_solver.proofs.Marking.{by-rep, solve, same-refl, same-on, same-held, same-solved, mark-same, mark-hit, mark-miss}
 use Rattle.types_solver.proofs.Summing.{part-size}
@@ -103,7 +103,7 @@ module _ (s t u : List ℕ) (n : ℕ) (C : Cleared s t n) (fine : Bool) (Y : Vis
   same-through : Same s u
   same-through = same-on s t u (C .same) (Y .same)
 
-  pub tested : Tested s u n fine
+  pub tested : TestedFinite s u n fine
   tested = record {
     same = same-through;
     still = same-through .still;

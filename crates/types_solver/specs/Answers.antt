@@ -14,14 +14,14 @@ use Rattle.types_rules.specs.Types.{Ty}
 use Rattle.types_cells.specs.Layout.{settledFrom}
 use Rattle.types_cells.specs.Store.{frozen, linkAt, tagAt, view, Held, Solved}
 use Rattle.types_solver.specs.Written.{Resolved}
-use Rattle.types_cells.specs.Settled.{heap, Readable, Pinned, Obeys, Fits, Found}
+use Rattle.types_cells.specs.Settled.{heap, Readable, Pinned, Obeys, Fits, FoundType}
 
 -- All cells have finite types.
 abbrev pub Finite : List ℕ → ℕ → Pairs ℕ → Type 0
 Finite w n L = (i : ℕ) → i < n → bounded (rep eqb L) (view w n) n i ≡ true
 
 -- r is the first place of x in the list of k words, and k where it is not there.
-pub record Placed (l : List ℕ) (k x r : ℕ) : Type 0 where
+pub record FirstPlace (l : List ℕ) (k x r : ℕ) : Type 0 where
   pub within : r ≤ k
   pub hit : r < k → getD l r 0 ≡ x
   pub first : (j : ℕ) → j < r → getD l j 0 ≡ x → ⊥
@@ -73,6 +73,6 @@ pub record LookingRoot (s d : List ℕ) (i : ℕ) : Type 0 where
 pub record Looked (s d : List ℕ) (i id v : ℕ) : Type 0 where
   pub found : (c : ℕ) → v ≡ suc c → v < settledFrom → (n : ℕ) (P₀ L : Pairs ℕ) → Solved s n P₀ L → i < n → (X : SolutionOf s d n P₀) → componentType id (X .σ i) ≡ some (X .σ c)
   pub below : (c : ℕ) → v ≡ suc c → v < settledFrom → (n : ℕ) (L : Pairs ℕ) → Held s n L → i < n → c < n
-  pub settled : settledFrom ≤ v → (n : ℕ) (P₀ L : Pairs ℕ) → Solved s n P₀ L → Pinned s d n → i < n → (X : SolutionOf s d n P₀) → Found (heap s d) (v - settledFrom) (componentType id (X .σ i))
+  pub settled : settledFrom ≤ v → (n : ℕ) (P₀ L : Pairs ℕ) → Solved s n P₀ L → Pinned s d n → i < n → (X : SolutionOf s d n P₀) → FoundType (heap s d) (v - settledFrom) (componentType id (X .σ i))
   pub place : settledFrom ≤ v → (n : ℕ) (L : Pairs ℕ) → Held s n L → Pinned s d n → i < n → Readable (heap s d) (v - settledFrom)
   pub absent : v ≡ 0 → (n : ℕ) (P₀ L : Pairs ℕ) → Solved s n P₀ L → Pinned s d n → i < n → Finite (frozen s) n L → Without s d n P₀ i id

@@ -91,7 +91,7 @@ pub record PutPart (s s′ d : List ℕ) (n top m j w at c : ℕ) : Type 0 where
   pub others : (q : ℕ) → (q ≡ top + j → ⊥) → (q ≡ top + m + j → ⊥) → getD (frozen s′) q 0 ≡ getD (frozen s) q 0
 
 -- What entering asks of the store of n cells, whose runs end at `top`: room for x formers, and the k cells of the row.
-pub record Room (s d : List ℕ) (n top x row k : ℕ) : Type 0 where
+pub record EnteringRoom (s d : List ℕ) (n top x row k : ℕ) : Type 0 where
   pub P₀ : Pairs ℕ
   pub L : Pairs ℕ
   pub solved : Solved s n P₀ L
@@ -106,7 +106,7 @@ pub record Room (s d : List ℕ) (n top x row k : ℕ) : Type 0 where
 pub record Instancing (s d : List ℕ) (n top p row k : ℕ) : Type 0 where
   pub type : Ty
   pub reads : Reads (heap s d) p type
-  pub room : Room s d n top (size type) row k
+  pub room : EnteringRoom s d n top (size type) row k
 
 -- ENTER: cell `cell` stands for the type g, with the row's cells for its parameters (document 01: a Ref has its name's type, and each parameter of a generic Ref
 -- without actuals is an unknown type).
@@ -129,7 +129,7 @@ pub record InstancingParts (s d : List ℕ) (n top at w m j row k : ℕ) : Type 
   pub e : ℕ
   pub rest : Rest (heap s d) w at l gs e
   pub count : partCountType gs + j ≡ m
-  pub room : Room s d n top (sizes gs) row k
+  pub room : EnteringRoom s d n top (sizes gs) row k
   pub ahead : top + 2 * sizes gs + 2 * j ≤ frozenSize
 
 -- Their cells stand at top′ + j, and their identifiers at top′ + m + j.

@@ -111,7 +111,7 @@ pub record Solution (w : List ℕ) (n : ℕ) (P₀ : Pairs ℕ) : Type 0 where
   pub sat : Solves σ P₀
 
 -- THE TEST FOR FINITE TYPES. True: each cell has its size, where a cell without a former counts 1. False: the equations have no solution.
-pub record Tested (s s′ : List ℕ) (n : ℕ) (fine : Bool) : Type 0 where
+pub record TestedFinite (s s′ : List ℕ) (n : ℕ) (fine : Bool) : Type 0 where
   pub same : Same s s′
   pub still : frozen s′ ≡ frozen s
   pub grown : (P₀ L : Pairs ℕ) → Solved s n P₀ L → Solved s′ n P₀ L

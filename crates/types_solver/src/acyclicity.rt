@@ -14,7 +14,7 @@ ghost use mathlib.Core.Path.{_≡_};
 ghost use Prim.Native.Nat.{_<_, _^_};
 ghost use Rattle.types_cells.specs.Layout.{maxCells};
 ghost use Rattle.types_cells.specs.Store.{frozen};
-ghost use Rattle.types_solver.specs.Sizes.{arityAt, Read, Visited, Visits, Cleared, Tested};
+ghost use Rattle.types_solver.specs.Sizes.{arityAt, Read, Visited, Visits, Cleared, TestedFinite};
 ghost use Rattle.types_cells.specs.Calls.{Known};
 
 // The mark of a cell that is being visited, past every size.
@@ -98,7 +98,7 @@ fn clear_marks(a: &mut [u32], n: usize)
 // Do all n cells have finite types? Each is visited once; visits nest at most as deep as there are cells.
 pub fn finite(a: &mut [u32], n: usize) -> bool
     requires { ⌜ Read (now a) n ⌝ }
-    ensures { λ r. ⌜ Tested (now (a .entry)) (now (a .exit)) n r ⌝ }
+    ensures { λ r. ⌜ TestedFinite (now (a .entry)) (now (a .exit)) n r ⌝ }
 {
     clear_marks(a, n);
     visit_all(a, n)

@@ -17,7 +17,7 @@ ghost use mathlib.Core.Path.{_≡_};
 ghost use Prim.Native.Nat.{_<_};
 ghost use Rattle.types_cells.specs.Store.{frozen, tagAt, run};
 ghost use Rattle.types_cells.specs.Settled.{Reading, Component};
-ghost use Rattle.types_solver.specs.Answers.{Placed, LookingRoot, Looking, Looked};
+ghost use Rattle.types_solver.specs.Answers.{FirstPlace, LookingRoot, Looking, Looked};
 ghost use Rattle.types_cells.specs.Calls.{Runs};
 
 // The place of the type of the component id in the type at p, and 0 where there is none.
@@ -44,7 +44,7 @@ fn settled_component(a: &[u32], d: &[u32], p: usize, id: usize) -> usize
 // The place of x among the k words at p: its number, and k where it is not there.
 fn place(a: &[u32], p: usize, k: usize, x: usize) -> usize
     requires { ⌜ Runs (frozen (now a)) p p k ⌝ }
-    ensures { λ r. ⌜ Placed (run (frozen (now (a .entry))) p k) k x r ⌝ }
+    ensures { λ r. ⌜ FirstPlace (run (frozen (now (a .entry))) p k) k x r ⌝ }
 {
     let mut j = 0;
     while j < k {

@@ -14,5 +14,5 @@ unfoldable pub keep : List ℕ → Held
 keep ws = cond (leb (length ws) 64) (record { words = ws ++ replicate (64 - length ws) 0; len = length ws }) over
 
 -- 55 for a value of over 64 words, 0 for one that is held
-unfoldable pub findingOf : Held → ℕ
-findingOf v = cond (leb (v .len) 64) 0 55
+unfoldable pub heldFinding : Held → ℕ
+heldFinding v = cond (leb (v .len) 64) 0 55

@@ -13,7 +13,7 @@ ghost use Rattle.values.specs.Value.{int, encode};
 // The tag as a word.
 const INTEGER: u32 = value_tags::INTEGER as u32;
 
-// What a value is as an integer. `findingOf` of specs/Numbers.antt has each case's number.
+// What a value is as an integer. `numberFinding` of specs/Numbers.antt has each case's number.
 pub enum Number {
     Integer(i32),
     Misfit,

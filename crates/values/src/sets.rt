@@ -25,7 +25,7 @@ pub enum Place {
     Already,
 }
 
-// What Apply finds: the place and the number of words of a value. `findingOf` of specs/Sets.antt has each case's number.
+// What Apply finds: the place and the number of words of a value. `applyFinding` of specs/Sets.antt has each case's number.
 pub enum Applied {
     Found { at: usize, len: usize },
     Misfit,

@@ -21,10 +21,10 @@ abbrev pub in32 : ℤ → Bool
 in32 z = ltb (mag z) (2 ^ 31)
 
 -- the finding of each answer; a whole number has none
-abbrev pub findingOf : Integer → ℕ
-findingOf (Whole z) = 0
-findingOf Undefined = 52
-findingOf Outside = 53
+abbrev pub integerFinding : Integer → ℕ
+integerFinding (Whole z) = 0
+integerFinding Undefined = 52
+integerFinding Outside = 53
 
 unfoldable pub kept : ℤ → Integer
 kept z = cond (in32 z) (Whole z) Outside

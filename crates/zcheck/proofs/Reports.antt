@@ -9,7 +9,7 @@ use lib.Seq.{take-at, take-all}
 use lib.Dec.{eqb, leb}
 use borrow.Author.Tests.{lt-ltb, lt-leb, leb-true, leb-false}
 use Rattle.checker_rules.specs.Check.{checkOf}
-use Rattle.checker_rules.specs.Areas.{Checked}
+use Rattle.checker_rules.specs.Areas.{CheckCall}
 use Rattle.checker_rules.specs.declared.Finding.{Finding}
 use Rattle.checker_rules.specs.declared.Finding.the-variants.{Refused}
 use Rattle.printer_rules.specs.Print.{printOf, printedAnswer, printedOf}
@@ -36,7 +36,7 @@ text-prints {text} {out} {size} {r} l p =
     record { size = q; written = ap (take r) (p .bytes) ∙ rw fits (take-at text (replicate (size - length text) 0) r (sym q)) }
 
 -- the finding that the check call left, in a buffer that suffices
-pub check-prints : {doc dict work out : List ℕ} {f : Finding} {d w n r : ℕ} → Areas d w n → Checked doc d w f dict work → length dict ≡ d
+pub check-prints : {doc dict work out : List ℕ} {f : Finding} {d w n r : ℕ} → Areas d w n → CheckCall doc d w f dict work → length dict ≡ d
     → ((i : ℕ) → getD dict i 0 < 2 ^ 32) → OfWords f → Printed (printOf f dict) n r out → Prints (printedOf doc) r out
 unfolding printedOf printedAnswer
 check-prints {doc} {dict} {out = out} {f} {d} {w} {r = r} a c e h v p =

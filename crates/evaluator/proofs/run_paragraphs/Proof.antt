@@ -2,7 +2,7 @@ use lib.ListN.{length}
 use Rattle.layout.specs.Layout.{part}
 use Rattle.reader_rules.proofs.NameCounts.{globals-counted}
 use Rattle.states.proofs.NameLaws.{document-words}
-use Rattle.evaluator_rules.specs.Scope as Scope
+use Rattle.evaluator_rules.specs.Environment as Scope
 use Rattle.evaluator_scope.specs.Blocks as Blocks
 use Rattle.evaluator_scope.specs.Named.{said}
 use Rattle.evaluator.proofs.RunLaws.{all-declared, run-ending}

@@ -2,7 +2,7 @@ use mathlib.Core.Path.{_≡_, refl, sym, ap, ap₂, subst, _∙_}
 use Prim.Native.Nat.{ℕ, suc, _+_, _-_, _≤_, _<_}
 use native.Mathlib.Omega.{arith}
 use Rattle.types_cells.specs.Store.{frozen, tagAt, argAt, firstAt, countAt, run}
-use Rattle.types_solver.specs.Answers.{Placed}
+use Rattle.types_solver.specs.Answers.{FirstPlace}
 use Rattle.types_cells.proofs.Words.{frozen-length}
 use Rattle.types_solver.proofs.Looking.{former-other, former-lacks, former-some, part-few, looking-few}
 use borrow.Author.Needs.{needs}
@@ -49,9 +49,9 @@ returns c =
     let r = s .args .r in
     let a = c .before .before .before .before .field2 .ensures .0 in
     let b = c .before .before .before .field3 .ensures .0 in
-    let p : Placed (run w (argAt w r) (countAt w r)) (countAt w r) (s .args .id) (c .before .before .place .result) =
-    subst (λ z. Placed (run w (argAt w r) z) z (s .args .id) (c .before .before .place .result)) b
-    (subst (λ z. Placed (run w z (c .before .before .before .field3 .result)) (c .before .before .before .field3 .result) (s .args .id) (c .before .before .place .result)) a (c .before .before .place .ensures)) in
+    let p : FirstPlace (run w (argAt w r) (countAt w r)) (countAt w r) (s .args .id) (c .before .before .place .result) =
+    subst (λ z. FirstPlace (run w (argAt w r) z) z (s .args .id) (c .before .before .place .result)) b
+    (subst (λ z. FirstPlace (run w z (c .before .before .before .field3 .result)) (c .before .before .before .field3 .result) (s .args .id) (c .before .before .place .result)) a (c .before .before .place .ensures)) in
     let q : c .before .before .place .result < countAt w r = let t = c .before .if2 .taken in omega arith in
     let K = s .pre .0 .looking in
     let f = part-few _ (s .args .d .now) _ (s .args .id) (s .pre .0 .root) (K .n) (K .L) (K .held) (K .made) (c .before .before .place .result) q in
@@ -65,9 +65,9 @@ returns-2 c =
     let r = s .args .r in
     let a = c .before .before .before .field2 .ensures .0 in
     let b = c .before .before .field3 .ensures .0 in
-    let p : Placed (run w (argAt w r) (countAt w r)) (countAt w r) (s .args .id) (c .before .place .result) =
-    subst (λ z. Placed (run w (argAt w r) z) z (s .args .id) (c .before .place .result)) b
-    (subst (λ z. Placed (run w z (c .before .before .field3 .result)) (c .before .before .field3 .result) (s .args .id) (c .before .place .result)) a (c .before .place .ensures)) in
+    let p : FirstPlace (run w (argAt w r) (countAt w r)) (countAt w r) (s .args .id) (c .before .place .result) =
+    subst (λ z. FirstPlace (run w (argAt w r) z) z (s .args .id) (c .before .place .result)) b
+    (subst (λ z. FirstPlace (run w z (c .before .before .field3 .result)) (c .before .before .field3 .result) (s .args .id) (c .before .place .result)) a (c .before .place .ensures)) in
     former-lacks _ _ _ _ (s .pre .0 .root) (sym (c .before .before .before .before .before .field .ensures .0) ∙ c .before .before .before .before .if1 .taken) (p .none (let t = c .if2 .left in let u = p .within in omega arith))
 
 returns-3 : tie.Need-returns-3

@@ -1,4 +1,4 @@
-use Rattle.evaluator_rules.specs.Scope.{empty}
+use Rattle.evaluator_rules.specs.Environment.{empty}
 use mathlib.Core.Path.{_≡_, refl, sym, ap, subst, _∙_}
 use mathlib.Core.Bool.{true, false, true≢false}
 use Prim.Native.Nat.{ℕ, _+_}

@@ -3,7 +3,7 @@ use Prim.Native.Nat.{ℕ, _+_}
 use native.Mathlib.Omega.{arith}
 use Rattle.reader_rules.specs.Decode.{quantifierOf}
 use Rattle.evaluator_operations.specs.Steps.{verdictOf}
-use Rattle.evaluator_rules.specs.Scope.{empty}
+use Rattle.evaluator_rules.specs.Environment.{empty}
 use Rattle.evaluator_scope.specs.Blocks.{Scoped}
 use Rattle.evaluator_scope.specs.Blocks as Blocks
 use Rattle.evaluator_rules.specs.Assignments.{noMore}

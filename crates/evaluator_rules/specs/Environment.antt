@@ -1,5 +1,5 @@
--- The names of a run, innermost first: a Text's identifiers over those of earlier paragraphs (document 01, "Ref: scope as in typing"). Parameters stand
--- in no scope here: no paragraph with parameters is worked out.
+-- The environment of a run: names with their meanings, innermost first, a Text's identifiers over those of earlier paragraphs (document 01, "Ref: scope
+-- as in typing"). Parameters stand in none: no paragraph with parameters is worked out.
 use mathlib.Core.Bool.{Bool, true, false}
 use Prim.Native.Nat.{ℕ}
 use lib.Dec.{eqb}
@@ -12,15 +12,15 @@ pub data Meaning : Type 0 where
   generic : Meaning
   unknown : Meaning
 
-pub data Scope : Type 0 where
-  empty : Scope
-  bind : ℕ → Meaning → Scope → Scope
+pub data Environment : Type 0 where
+  empty : Environment
+  bind : ℕ → Meaning → Environment → Environment
 
 unfoldable pub pick : Bool → Meaning → Meaning → Meaning
 pick true a b = a
 pick false a b = b
 
-unfoldable pub lookup : ℕ → Scope → Meaning
+unfoldable pub lookup : ℕ → Environment → Meaning
 lookup i empty = unknown
 lookup i (bind j m scope) = pick (eqb i j) m (lookup i scope)
 
