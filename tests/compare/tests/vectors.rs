@@ -30,6 +30,11 @@ fn table() {
 }
 
 #[test]
+fn examples_of_the_page() {
+    vectors::page().into_iter().for_each(answers);
+}
+
+#[test]
 fn printed_inputs() {
     let Ok(path) = std::env::var("Z_PROGRAM") else { return };
     for (input, printed) in prints::inputs() {

@@ -37,9 +37,14 @@ fn answer(vector: &Vector) -> Answered {
     }
 }
 
+/// The table, and the examples of docs/FINDINGS.md.
+fn all() -> impl Iterator<Item = Vector> {
+    vectors::table().into_iter().chain(vectors::page())
+}
+
 #[test]
 fn answers() {
-    for vector in vectors::table() {
+    for vector in all() {
         let (found, dictionary) = answer(&vector);
         let parts = |word: u64| (word >> 32, word as u32);
         assert_eq!(parts(found), parts(vector.answer), "{}", vector.name);
@@ -51,7 +56,7 @@ fn answers() {
 
 #[test]
 fn lists() {
-    for vector in vectors::table() {
+    for vector in all() {
         let Some(listed) = &vector.listed else { continue };
         let Vector { document, state, work, name, .. } = &vector;
         let list = run(document, state, *work, STEPS).list;

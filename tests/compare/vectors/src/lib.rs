@@ -6,6 +6,7 @@
 mod fits;
 mod marked;
 mod nodes;
+mod page;
 pub mod prints;
 mod reading;
 mod run_nodes;
@@ -16,9 +17,10 @@ mod typing;
 mod values;
 mod write;
 
+pub use page::page;
 pub use table::{Listed, Table, Vector};
 
-/// All of them.
+/// All of them but the examples of docs/FINDINGS.md, which are `page`.
 pub fn table() -> Vec<Vector> {
     let mut table = Table::default();
     marked::rows(&mut table);

@@ -44,7 +44,7 @@ pub struct Table {
 }
 
 /// A finding as the calls give it; (0, 0) where there is none.
-fn code((number, place): (u32, u32)) -> u64 {
+pub fn code((number, place): (u32, u32)) -> u64 {
     u64::from(number) << 32 | u64::from(place)
 }
 
