@@ -1,3 +1,4 @@
+-- The answers of `abbreviation`. Places: s the start, u after its parameters are pushed, v after the visit of its expression.
 use Rattle.checker_paragraphs.proofs.AbbreviationNodes.{abbreviation-parameters, expr-ask, abbreviation-asked, abbreviation-told}
 use Rattle.checker_paragraphs.proofs.ParagraphNodes.{all-parameters}
 use borrow.Author.Needs.{needs}
@@ -22,10 +23,17 @@ word-requires-2 : tie.Need-word-requires-2
 word-requires-2 c κs = search needs
 
 expr-requires : tie.Need-expr-requires
-expr-requires c κs = expr-ask (c .before .before .before .before .before .before .before .before .before .before .before .before .before .before .before .before .pre .0) (c .before .before .before .before .before .before .before .before .before .before .before .before .before .before .before .before .pre .2) (c .before .before .before .before .before .before .before .before .before .before .word .ensures .0) (c .before .before .before .before .before .before .before .before .before .before .before .before .before .before .before .before .pre .1) (c .word2 .ensures .0) (all-parameters (c .before .before .before .before .before .before .before .before .before .before .before .before .before .before .before .before .args .p .now) (c .before .before .before .before .before .before .before .push-parameters .ensures))
+expr-requires c κs =
+    let u = c .before .before .before .before .before .before .before in
+    let s = u .before .before .before .before .before .before .before .before .before in
+    expr-ask (s .pre .0) (s .pre .2) (u .before .before .before .word .ensures .0) (s .pre .1) (c .word2 .ensures .0) (all-parameters (s .args .p .now) (u .push-parameters .ensures))
 
 abbreviated-requires : tie.Need-abbreviated-requires
-abbreviated-requires c κs = abbreviation-asked (c .before .before .before .before .before .before .before .before .before .before .before .before .before .before .before .before .before .before .before .before .before .before .before .pre .0) (c .before .before .before .before .before .before .before .before .before .before .before .before .before .before .before .before .before .before .before .before .before .before .before .pre .2) (c .before .before .before .before .before .before .before .before .before .before .before .before .before .before .before .before .before .word .ensures .0) (c .before .before .before .before .before .before .before .before .before .before .before .before .before .before .before .before .before .before .before .before .before .before .before .pre .1) (c .before .before .before .before .before .before .before .word2 .ensures .0) (all-parameters (c .before .before .before .before .before .before .before .before .before .before .before .before .before .before .before .before .before .before .before .before .before .before .before .args .p .now) (c .before .before .before .before .before .before .before .before .before .before .before .before .before .before .push-parameters .ensures)) (c .before .before .before .before .before .before .expr .ensures)
+abbreviated-requires c κs =
+    let v = c .before .before .before .before .before .before in
+    let u = v .before .before .before .before .before .before .before .before in
+    let s = u .before .before .before .before .before .before .before .before .before in
+    abbreviation-asked (s .pre .0) (s .pre .2) (u .before .before .before .word .ensures .0) (s .pre .1) (v .before .word2 .ensures .0) (all-parameters (s .args .p .now) (u .push-parameters .ensures)) (v .expr .ensures)
 
 same-length : tie.Need-same-length
 same-length c = search needs
@@ -34,7 +42,11 @@ same-length-2 : tie.Need-same-length-2
 same-length-2 c = search needs
 
 returns : tie.Need-returns
-returns c = abbreviation-told (c .before .before .before .before .before .before .before .before .before .before .before .before .before .before .before .before .before .before .before .before .before .before .before .before .before .before .before .before .pre .0) (c .before .before .before .before .before .before .before .before .before .before .before .before .before .before .before .before .before .before .before .before .before .before .before .before .before .before .before .before .pre .2) (c .before .before .before .before .before .before .before .before .before .before .before .before .before .before .before .before .before .before .before .before .before .before .word .ensures .0) (c .before .before .before .before .before .before .before .before .before .before .before .before .before .before .before .before .before .before .before .before .before .before .before .before .before .before .before .before .pre .1) (c .before .before .before .before .before .before .before .before .before .before .before .before .word2 .ensures .0) (all-parameters (c .before .before .before .before .before .before .before .before .before .before .before .before .before .before .before .before .before .before .before .before .before .before .before .before .before .before .before .before .args .p .now) (c .before .before .before .before .before .before .before .before .before .before .before .before .before .before .before .before .before .before .before .push-parameters .ensures)) (c .before .before .before .before .before .before .before .before .before .before .before .expr .ensures) (c .before .before .before .before .abbreviated .ensures)
+returns c =
+    let v = c .before .before .before .before .before .before .before .before .before .before .before in
+    let u = v .before .before .before .before .before .before .before .before in
+    let s = u .before .before .before .before .before .before .before .before .before in
+    abbreviation-told (s .pre .0) (s .pre .2) (u .before .before .before .word .ensures .0) (s .pre .1) (v .before .word2 .ensures .0) (all-parameters (s .args .p .now) (u .push-parameters .ensures)) (v .expr .ensures) (c .before .before .before .before .abbreviated .ensures)
 
 pub abbreviation-spec : {M : Type 1} → statement M
 abbreviation-spec =

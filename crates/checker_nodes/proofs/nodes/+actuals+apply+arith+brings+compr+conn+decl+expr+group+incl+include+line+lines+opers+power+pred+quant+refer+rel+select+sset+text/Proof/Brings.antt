@@ -1,4 +1,4 @@
--- The answers of `brings`.
+-- The answers of `brings`. Places: s the start, v after the visit of the Include.
 use mathlib.Core.Path.{refl, sym}
 use native.Mathlib.Omega.{arith}
 use Rattle.checker_contracts.proofs.Bringing.{brings-ask}
@@ -26,8 +26,9 @@ brings-slice-aggregate-brought t c = search sym
 
 brings-brought-requires : (t : ℕ) → brings-lts.Need-brought-requires (brings-calls t) (brings-at t) brings.Post
 brings-brought-requires t c κs =
-    let s = c .before .before .before .before .before .before .before .before .before .before .before .before .before .before .before .before .before in
-    node-brings-brought (s .pre .1 .0) (c .before .before .before .before .before .before .before .before .before .before .before .before .part .ensures) (s .pre .1 .1) (c .before .before .before .before .before .before .before .before .include .ensures)
+    let v = c .before .before .before .before .before .before .before .before in
+    let s = v .before .before .before .before .before .before .before .before .before in
+    node-brings-brought (s .pre .1 .0) (v .before .before .before .before .part .ensures) (s .pre .1 .1) (v .include .ensures)
 
 brings-same-length : (t : ℕ) → brings-lts.Need-same-length (brings-calls t) (brings-at t) brings.Post
 brings-same-length t c = search needs
@@ -37,8 +38,9 @@ brings-same-length-2 t c = search needs
 
 brings-returns : (t : ℕ) → brings-lts.Need-returns (brings-calls t) (brings-at t) brings.Post
 brings-returns t c =
-    let s = c .before .before .before .before .before .before .before .before .before .before .before .before .before .before .before .before .before .before .before .before .before .before in
-    node-brings-told (s .pre .1 .0) (c .before .before .before .before .before .before .before .before .before .before .before .before .before .before .before .before .before .part .ensures) (s .pre .1 .1) (c .before .before .before .before .before .before .before .before .before .before .before .before .before .include .ensures) (c .before .before .before .before .brought .ensures)
+    let v = c .before .before .before .before .before .before .before .before .before .before .before .before .before in
+    let s = v .before .before .before .before .before .before .before .before .before in
+    node-brings-told (s .pre .1 .0) (v .before .before .before .before .part .ensures) (s .pre .1 .1) (v .include .ensures) (c .before .before .before .before .brought .ensures)
 
 pub brings-closed : {M : Type 1} (t : ℕ) → brings-lts.Closed (brings-calls t) (brings-at t) brings.Post M
 brings-closed t =

@@ -1,4 +1,4 @@
--- The answers of `incl`.
+-- The answers of `incl`. Places: s the start, v after the visit of the Include.
 use mathlib.Core.Path.{refl, sym}
 use native.Mathlib.Omega.{arith}
 use Rattle.checker_nodes.proofs.InclNodes.{node-incl-at, node-incl-ask, node-incl-included, node-incl-told}
@@ -22,8 +22,9 @@ incl-slice-aggregate-included t c = search sym
 
 incl-included-requires : (t : ℕ) → incl-lts.Need-included-requires (incl-calls t) (incl-at t) incl.Post
 incl-included-requires t c κs =
-    let s = c .before .before .before .before .before .before .before .before .before .before .before .before .before .before .before .before .before in
-    node-incl-included (s .pre .1 .0) (s .pre .1 .1) (s .pre .1 .2) (s .args .global) (c .before .before .before .before .before .before .before .before .include .ensures)
+    let v = c .before .before .before .before .before .before .before .before in
+    let s = v .before .before .before .before .before .before .before .before .before in
+    node-incl-included (s .pre .1 .0) (s .pre .1 .1) (s .pre .1 .2) (s .args .global) (v .include .ensures)
 
 incl-same-length : (t : ℕ) → incl-lts.Need-same-length (incl-calls t) (incl-at t) incl.Post
 incl-same-length t c = search needs
@@ -33,8 +34,9 @@ incl-same-length-2 t c = search needs
 
 incl-returns : (t : ℕ) → incl-lts.Need-returns (incl-calls t) (incl-at t) incl.Post
 incl-returns t c =
-    let s = c .before .before .before .before .before .before .before .before .before .before .before .before .before .before .before .before .before .before .before .before .before .before in
-    node-incl-told (s .pre .1 .0) (s .pre .1 .1) (s .pre .1 .2) (s .args .global) (c .before .before .before .before .before .before .before .before .before .before .before .before .before .include .ensures) (c .before .before .before .before .included .ensures)
+    let v = c .before .before .before .before .before .before .before .before .before .before .before .before .before in
+    let s = v .before .before .before .before .before .before .before .before .before in
+    node-incl-told (s .pre .1 .0) (s .pre .1 .1) (s .pre .1 .2) (s .args .global) (v .include .ensures) (c .before .before .before .before .included .ensures)
 
 pub incl-closed : {M : Type 1} (t : ℕ) → incl-lts.Closed (incl-calls t) (incl-at t) incl.Post M
 incl-closed t =
