@@ -5,7 +5,7 @@ use mathlib.Core.List.{List}
 use Prim.Native.Nat.{ℕ, _-_}
 use lib.ListN.{length, replicate}
 use lib.Seq.{sets}
-use Rattle.checker_pieces.specs.Closed.{Closing, Closed}
+use Rattle.checker_pieces.specs.Closed.{Closed}
 use Rattle.checker_kinds.specs.Equations.{Related}
 use Rattle.checker_closing.specs.Leaves.{relationItems}
 use Rattle.checker_closing.specs.Nodes.{VerdictAt}

@@ -2,26 +2,26 @@
 use mathlib.Core.Path.{_≡_, refl, sym, ap, subst, _∙_}
 use mathlib.Core.Bool.{Bool, true, false}
 use mathlib.Core.List.{List, [], _∷_}
-use Prim.Native.Nat.{ℕ, suc, _+_, _*_, _-_, _≤_, _<_, _^_}
+use Prim.Native.Nat.{ℕ, suc, _+_, _-_, _≤_, _<_, _^_}
 use native.Mathlib.Omega.{arith}
 use lib.ListN.{length, getD, set, length-set}
 use lib.Seq.{getD-set-same, getD-set-other}
 use Rattle.reader_rules.specs.Decode.{exprAt, exprsFrom}
 use Rattle.reader_rules.specs.Kinds.{expressions, includes}
 use Rattle.reader_rules.specs.Nodes.{operandAt}
-use Rattle.reader_rules.specs.Promise.{At, Lower}
+use Rattle.reader_rules.specs.Promise.{Lower}
 use Rattle.reader_rules.specs.Tree.{Exprs, none, more, exprsLength}
 use Rattle.reader_rules.proofs.TreeLists.{exprs-go, exprs-end}
 use Rattle.reader_rules.proofs.Sized.{SizedExpr}
 use Rattle.checker_pieces.specs.Building.{Powered, Working}
-use Rattle.checker_pieces.specs.Closed.{Closing, Closed, Sizing}
+use Rattle.checker_pieces.specs.Closed.{Closing, Closed}
 use Rattle.checker_includes.specs.Storing.{StoreAsk, TypeStored}
 use Rattle.checker_contracts.specs.Expressions.{ExprAsk, ExprDone}
 use Rattle.checker_contracts.specs.Includes.{ActualsAsk, ActualsDone}
 use Rattle.checker_contracts.proofs.Actuals.{actuals-none, actual-ask, actual-stopped, actual-working, actual-unequal, actual-closing, actual-several, actual-sizing, actual-size, actual-clean}
 use Rattle.checker_contracts.proofs.Actuals.{actual-gap, actual-room, actuals-ask, actuals-then}
-use Rattle.checker_closing.specs.Actuals.{ActualAsk, ActualTold, stopped, went, PlacedTold, refused, fits}
-use Rattle.checker_closing.specs.Elements.{TypeKept, ClosedTold, several, one, ElementTold, no-power, power}
+use Rattle.checker_closing.specs.Actuals.{ActualAsk, ActualTold, stopped, went, refused, fits}
+use Rattle.checker_closing.specs.Elements.{several, one, ElementTold, no-power, power}
 use Rattle.checker_closing.specs.Nodes.{Node, LinedAt}
 use Rattle.checker_closing.specs.declared.results.Lined.{Lined}
 use Rattle.checker_nodes.proofs.LineNodes.{word-of}

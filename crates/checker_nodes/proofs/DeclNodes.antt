@@ -3,7 +3,7 @@ use mathlib.Core.Path.{_≡_, refl, sym, ap, subst, _∙_}
 use mathlib.Core.Bool.{Bool, true, false}
 use mathlib.Core.List.{List, [], _∷_, _++_}
 use mathlib.Core.Logic.{inl}
-use Prim.Native.Nat.{ℕ, suc, _+_, _*_, _-_, _≤_, _<_, _^_}
+use Prim.Native.Nat.{ℕ, _+_, _*_, _-_, _≤_, _<_, _^_}
 use native.Mathlib.Omega.{arith}
 use lib.ListN.{length, getD, drop, replicate, length-drop}
 use lib.Seq.{sets}
@@ -11,20 +11,19 @@ use Rattle.reader_rules.specs.Decode.{exprAt, lineAt}
 use Rattle.reader_rules.specs.Kinds.{expressions, lines, cell}
 use Rattle.layout.specs.Layout.{part}
 use Rattle.reader_rules.specs.Nodes.{kindAt}
-use Rattle.reader_rules.specs.Promise.{At, Lower}
+use Rattle.reader_rules.specs.Promise.{Lower}
 use Rattle.reader_rules.specs.Tree.{Lines, end, declaration}
 use Rattle.reader_rules.specs.TreeNumbers.{exprNumbers, linesNumbers}
-use Rattle.reader_rules.proofs.TreeCounts.{at-most, at-least}
+use Rattle.reader_rules.proofs.TreeCounts.{at-most}
 use Rattle.reader_rules.proofs.TreeShape.{One}
 use Rattle.reader_rules.proofs.TreeText.{line-declaration}
-use Rattle.types_rules.specs.Types.{Ty}
 use Rattle.reader_rules.proofs.Sized.{SizedExpr}
 use Rattle.types_cells.specs.Layout.{firstRun, typeWords}
-use Rattle.types_cells.specs.Settled.{heap, Reads, Readable}
+use Rattle.types_cells.specs.Settled.{heap, Reads}
 use Rattle.checker_signatures.specs.Rows.{rows, declareRows}
 use Rattle.checker_signatures.specs.Tables.{Table, tableWords}
 use Rattle.types_instances.proofs.Moving.{lower-words}
-use Rattle.checker_merging.specs.Merging.{Rows, DeclaredAsk}
+use Rattle.checker_merging.specs.Merging.{DeclaredAsk}
 use Rattle.checker_pieces.specs.Building.{Powered, Working}
 use Rattle.checker_pieces.specs.Closed.{Closing, Closed, Sizing, SizeIs}
 use Rattle.checker_includes.specs.Storing.{Stored, StoreAsk, TypeStored}
@@ -34,12 +33,12 @@ use Rattle.checker_contracts.specs.Texts.{LinesAsk, LinesDone}
 use Rattle.checker_contracts.proofs.Nodes.{once-left, once-apart, fresh-left, unvisited, last-in}
 use Rattle.checker_contracts.proofs.Scopes.{stored-reads}
 use Rattle.checker_contracts.proofs.TableRows.{rows-ready}
-use Rattle.checker_contracts.proofs.Elements.{ElementNew, element-done}
+use Rattle.checker_contracts.proofs.Elements.{element-done}
 use Rattle.checker_contracts.proofs.Declaring.{decl-ask, decl-stopped, decl-working, decl-unequal, decl-closing, decl-several, decl-sizing, decl-size, decl-clean, decl-gap, decl-room}
 use Rattle.checker_contracts.proofs.Declaring.{decl-clash, decl-global, decl-large, decl-many, decl-done, decl-kept}
 use Rattle.checker_closing.specs.Declarations.{OwnTold, clash, known, large, none, EnterAsk, EnterTold, many, none-new, some-new}
-use Rattle.checker_closing.specs.Declarations.{TypedAsk, TypedTold, untyped, refused, fits, SetAsk, SetTold, DeclAsk, DeclTold, stopped, went}
-use Rattle.checker_closing.specs.Elements.{TypeKept, ClosedTold, several, one, ElementTold, no-power, power}
+use Rattle.checker_closing.specs.Declarations.{TypedAsk, TypedTold, untyped, refused, fits, DeclAsk, DeclTold, stopped, went}
+use Rattle.checker_closing.specs.Elements.{TypeKept, several, one, ElementTold, no-power, power}
 use Rattle.checker_closing.specs.Leaves.{FitsTold, NewIfTold}
 use Rattle.checker_closing.specs.Nodes.{Node, LinedAt}
 use Rattle.checker_closing.specs.declared.results.Lined.{Lined}

@@ -24,7 +24,7 @@ use Rattle.checker_contracts.proofs.Relations.{Relation, equal-relation, member
 use Rattle.checker_contracts.proofs.Sides.{Sides, left-ask, right-ask, sides-ask, sides-low, close-ask}
 use Rattle.checker_closing.specs.Leaves.{relationItems}
 use Rattle.checker_closing.specs.Nodes.{Node}
-use Rattle.checker_closing.specs.Relations.{RelationAsk, RelationTold, stopped, went, RuleTold, refused, fits, EndTold, several, one}
+use Rattle.checker_closing.specs.Relations.{RelationAsk, RelationTold, stopped, went, refused, fits, several, one}
 use Rattle.checker_closing.specs.declared.results.Verdict.{Verdict}
 use Rattle.checker_nodes.proofs.PredLaws.{word-at, kind-at, pred-told}
 use Rattle.types_cells.specs.Layout.{firstRun, poolSize}
