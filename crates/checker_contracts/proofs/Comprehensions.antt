@@ -21,7 +21,7 @@ use Rattle.types_cells.specs.Settled.{lower}
 use Rattle.types_solver.specs.Written.{Wrote}
 use Rattle.checker_signatures.specs.Rows.{stack}
 use Rattle.checker_signatures.proofs.ScopeLaws.{stacked-other}
-use Rattle.types_instances.specs.Moved.{saved, restored}
+use Rattle.types_instances.specs.Moved.{saved, restored, SaveAsk, RestoreAsk}
 use Rattle.checker_pieces.specs.Stage.{Ghost, Cell, nodeCells}
 use Rattle.checker_pieces.specs.Building.{Building}
 use Rattle.checker_pieces.proofs.Stages.{building, one-cell, placed-cell}
@@ -103,7 +103,7 @@ module _ (s d w : List ℕ) (rows n top at free : ℕ) (k : ℕ) (t : Text) (a :
   done s′ w′ number place cell n′ top′ at′ E =
       expr-done s s′ d w w′ rows n top at free (comprehension k t a) k (λ Γ. textItems t Γ blank ⨾ bodyItems Γ) (l ++ rest) number place cell n′ top′ at′ items numbers node E
 
-  pub compr-save-asked : (length s ≡ areaSize) × (n ≤ maxCells) × (firstRun ≤ top) × (top ≤ frozenSize) × (free < 2 ^ 39)
+  pub compr-save-asked : SaveAsk s n top free
   compr-save-asked = save-asked s d w w rows n top at free (K .height) free l rest compr-visiting some deep
 
   module _ (w₁ : List ℕ) (e : ℕ) (S : Wrote w w₁ free e (saved s n top)) where
@@ -125,7 +125,7 @@ module _ (s d w : List ℕ) (rows n top at free : ℕ) (k : ℕ) (t : Text) (a :
           (waiting-stops s d w w₁ rows n top at free (K .height) e l rest compr-visiting some deep S w₂ (T .done .still) (λ Γ. textItems t Γ blank) s₁ 0 number place 0 n′ top′ at′ ne (λ H U Z Γ D C f. T .done .stops ne H U Z Γ D C tt f)))
 
       module _ (z : number ≡ 0) where
-        pub compr-restore-asked : (n ≤ maxCells) × (firstRun ≤ top) × (top ≤ frozenSize) × (free < 2 ^ 39) × (free + (5 * n + (top - firstRun)) ≤ length w₂)
+        pub compr-restore-asked : RestoreAsk w₂ n top free
         compr-restore-asked = restore-asked s d w w₁ rows n top at free (K .height) e l rest compr-visiting some deep S w₂ (T .done .still)
 
         reach : at₁ < poolSize

@@ -26,11 +26,6 @@ use Rattle.checker_contracts.specs.Includes.{actualCount, IncludeAsk, In
 use Rattle.checker_contracts.proofs.Including.{include-absent, include-count, actuals-ask, include-refused, components-ask, bring-ask, include-wrong, include-done}
 use Rattle.types_cells.specs.Layout.{dictionaryAt}
 
--- An Include that is a line is one.
-pub line-include : (doc : List ℕ) (k : ℕ) → At doc lines k → kindAt doc k ≡ 12 → At doc includes k
-unfolding ofSort
-line-include doc k N q = record { read = N .read; some = N .some; most = N .most; small = N .small; sort = eq-eqb (kindAt doc k) 12 q }
-
 -- Its node, and the number of its actuals.
 pub included-node : (doc : List ℕ) (k : ℕ) → At doc includes k → includeNode (includeAt doc k) ≡ k
 unfolding includeNode

@@ -65,9 +65,6 @@ owned-node k x s = (k, inl refl, s)
 pub owned-in : (k : ℕ) (l : List ℕ) → In k l → (x : ℕ) → SlotOf k x → Owned l x
 owned-in k l i x s = (k, i, s)
 
-pub owned-parts : (l m : List ℕ) (x : ℕ) → Owned (l ++ m) x → Owned l x ⊎ Owned m x
-owned-parts l m x o = ⊎-elim (λ i. inl (o .0, i, o .2)) (λ i. inr (o .0, i, o .2)) (in-parts (o .0) l m (o .1))
-
 -- Unknowns of different nodes differ.
 pub slots-same : (k m x : ℕ) → SlotOf k x → SlotOf m x → k ≡ m
 slots-same k m x a b = slots-apart k (a .0) m (b .0) (a .1) (b .1) (sym (a .2) ∙ b .2) .0

@@ -94,14 +94,6 @@ between-part w w′ rows rows′ at at′ free free′ h h′ b b′ B e p q o l
     let k = B .few in
     record { wide = omega arith; stack = omega arith; low = l; frames = omega arith; some = o; pool = omega arith; few = omega arith }
 
--- Beside a Text, one node lower: its rows are in the scope, its types in the pool, its table among the frames.
-pub between-next : (w w′ : List ℕ) (rows m at at′ free free′ h b b′ : ℕ) → Between w rows at free (suc h) b → length w′ ≡ length w → b′ ≤ b → m ≤ 16 →
-    at ≤ at′ → at′ ≤ at + pathTypeWords → free ≤ free′ → free′ ≤ free + frameWords → Between w′ (rows + m) at′ free′ h b′
-between-next w w′ rows m at at′ free free′ h b b′ B e q p x y u v =
-    let o = B .some in
-    let l = B .low in
-    between-part w w′ rows (rows + m) at at′ free free′ (suc h) h b b′ B e (omega arith) q (omega arith) (omega arith) (omega arith) (omega arith) (omega arith)
-
 -- A PIECE BEGINS, in a store without cells.
 pub begin-inside : (s w : List ℕ) (rows at free h b nodes : ℕ) → Between w rows at free h b → nodes ≤ b → Inside s w rows 0 firstRun at free h nodes
 unfolding load
@@ -135,10 +127,6 @@ suspended-room s w rows n top at free h x t I =
     let u = I .store .cells in
     let v = I .store .words in
     (I .left - 1, omega arith, record { wide = I .wide; stack = omega arith; low = omega arith; frames = omega arith; some = I .some; pool = omega arith; few = omega arith })
-
--- The saved words have their place in the work area.
-pub saved-room : (s w : List ℕ) (rows n top at free h x : ℕ) → firstRun ≤ top → Inside s w rows n top at free (suc h) (suc x) → free + (5 * n + (top - firstRun)) ≤ framesEnd
-saved-room s w rows n top at free h x t I = let B = suspended-room s w rows n top at free h x t I in let f = B .2 .frames in omega arith
 
 -- CROWDS of parts.
 pub crowd-part : (b : ℕ) (l m : List ℕ) → Crowd b l → length m ≤ length l → Crowd b m

@@ -26,7 +26,7 @@ use Rattle.types_solver.specs.Written.{Wrote}
 use Rattle.checker_signatures.specs.Rows.{rows as rowsOf}
 use Rattle.checker_signatures.specs.Carried.{Carries}
 use Rattle.checker_signatures.proofs.CarryLaws.{carries-other}
-use Rattle.types_instances.specs.Moved.{saved, restored}
+use Rattle.types_instances.specs.Moved.{saved, restored, SaveAsk, RestoreAsk}
 use Rattle.checker_pieces.specs.Piece.{Stops}
 use Rattle.checker_pieces.specs.Stage.{Ghost, Stands, Room, nodeCells}
 use Rattle.checker_pieces.specs.Building.{Introduced}
@@ -137,7 +137,7 @@ module _ (s d w : List ℕ) (rows n top at free : ℕ) (k : ℕ) (i : Include) (
     stops = λ ne G St Γ D C f. stops-group (G .before) (G .items) (includeItems i Γ) (smallTypes (includeNode i) (includeSignature i Γ)) (own Γ) number place (E .stops ne G St Γ D C f tt);
   }
 
-  pub sset-save-asked : (length s ≡ areaSize) × (n ≤ maxCells) × (firstRun ≤ top) × (top ≤ frozenSize) × (free < 2 ^ 39)
+  pub sset-save-asked : SaveAsk s n top free
   sset-save-asked = save-asked s d w w rows n top at free (K .height) free l (k ∷ []) sset-visiting (omega arith) deep
 
   module _ (w₁ : List ℕ) (e : ℕ) (S : Wrote w w₁ free e (saved s n top)) where
@@ -158,7 +158,7 @@ module _ (s d w : List ℕ) (rows n top at free : ℕ) (k : ℕ) (i : Include) (
           (waiting-stops s d w w₁ rows n top at free (K .height) e l (k ∷ []) sset-visiting (omega arith) deep S w₂ (T .done .still) inner s₁ 0 number place 0 n′ top′ at′ ne (λ H U Z Γ D C f. T .done .stops ne H U Z Γ D C tt f)))
 
       module _ (z : number ≡ 0) where
-        pub sset-restore-asked : (n ≤ maxCells) × (firstRun ≤ top) × (top ≤ frozenSize) × (free < 2 ^ 39) × (free + (5 * n + (top - firstRun)) ≤ length w₂)
+        pub sset-restore-asked : RestoreAsk w₂ n top free
         sset-restore-asked = restore-asked s d w w₁ rows n top at free (K .height) e l (k ∷ []) sset-visiting (omega arith) deep S w₂ (T .done .still)
 
         reach : at₁ < poolSize

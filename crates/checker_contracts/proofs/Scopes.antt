@@ -102,11 +102,6 @@ pub scoped-idle : (s d w : List ℕ) (n : ℕ) (Γ : Scope) (D : Dictionary) (G 
 unfolding Meets
 scoped-idle s d w n Γ D G C = scoped-later s d w n Γ D G (idle (G .before ⨾ G .items) (G .mentioned)) (λ x i. i) (λ τ m. m .0) C
 
-pub scoped-piece : (s d w : List ℕ) (n : ℕ) (Γ : Scope) (D : Dictionary) (H : Items) (U : List ℕ) (G : Ghost) → ((x : ℕ) → In x U → In x (G .mentioned)) →
-    ((τ : Valuation) → Meets (G .before ⨾ G .items) τ → Meets H τ) → Scoped s d w n (idle H U) Γ D → Scoped s d w n G Γ D
-unfolding Meets
-scoped-piece s d w n Γ D H U G wider says C = scoped-later s d w n Γ D (idle H U) G wider (λ τ m. (says τ m, tt)) C
-
 -- Between pieces.
 pub scoped-walked : (s d w : List ℕ) (n : ℕ) (Γ : Scope) (D : Dictionary) (H c : Items) (U U′ : List ℕ) (M : ℕ → Type 0) → Walked H c U U′ M →
     Scoped s d w n (idle H U) Γ D → Scoped s d w n (idle (H ⨾ c) U′) Γ D

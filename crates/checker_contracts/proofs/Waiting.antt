@@ -18,7 +18,7 @@ use Rattle.types_cells.specs.Settled.{lower}
 use Rattle.types_solver.specs.Written.{Wrote}
 use Rattle.types_cells.proofs.Growing.{load-same}
 use Rattle.types_cells.proofs.Words.{run-at, run-length}
-use Rattle.types_instances.specs.Moved.{saved, restored, Resumed}
+use Rattle.types_instances.specs.Moved.{saved, restored, Resumed, SaveAsk, RestoreAsk}
 use Rattle.types_instances.proofs.AlikeLaws.{alike-fits, alike-fits-back}
 use Rattle.types_instances.proofs.CleanLaws.{clean-all-below}
 use Rattle.types_instances.proofs.Moving.{sets-before}
@@ -73,7 +73,7 @@ module _ (s d w w₁ : List ℕ) (rows n top at free h e : ℕ) (l rest : List �
   bounded = suspended-room s w rows n top at free (h - 1) (length l) low inside₁
 
   -- what `save` asks
-  pub save-asked : (length s ≡ areaSize) × (n ≤ maxCells) × (firstRun ≤ top) × (top ≤ frozenSize) × (free < 2 ^ 39)
+  pub save-asked : SaveAsk s n top free
   save-asked = let f = K .room .frames in (K .size, few, low, high, omega arith)
 
   module _ (S : Wrote w w₁ free e (saved s n top)) where
@@ -122,7 +122,7 @@ module _ (s d w w₁ : List ℕ) (rows n top at free h e : ℕ) (l rest : List �
 
     -- THE STORE IS TAKEN UP AGAIN, after types were written from `at` on and words from e on.
     module _ (w₂ : List ℕ) (W : Spared w₁ w₂ rows e) where
-      pub restore-asked : (n ≤ maxCells) × (firstRun ≤ top) × (top ≤ frozenSize) × (free < 2 ^ 39) × (free + (5 * n + (top - firstRun)) ≤ length w₂)
+      pub restore-asked : RestoreAsk w₂ n top free
       restore-asked = let q = save-asked in let f = saved-fit in let z = W .size in (q .1, q .2, q .3, q .4, omega arith)
 
       pub waiting-spared : Spared w w₂ rows free

@@ -17,16 +17,11 @@ use Rattle.types_cells.specs.Layout.{typeWords}
 use Rattle.types_cells.specs.Settled.{heap, Reads, Reading}
 use Rattle.types_solver.specs.Written.{Wrote, Copied}
 use Rattle.checker_signatures.specs.Rows.{rows, identifiersOf}
-use Rattle.checker_signatures.proofs.RowLaws.{rows-kept, getD-below, rows-length}
+use Rattle.checker_signatures.proofs.RowLaws.{rows-kept, getD-below, rows-length, set-sets}
 use Rattle.checker_dictionary.specs.Waiting.{waiting}
 use Rattle.checker_entries.specs.Entries.{TypesAt, AllSmall, nameEntries, givenEntries, entryWaits, schemaOf, TypeAsk, TableAsk}
 
 -- SETS.
-set-sets : (vs w : List ℕ) (i k x : ℕ) → k < i → set (sets w i vs) k x ≡ sets (set w k x) i vs
-set-sets [] w i k x h = refl
-set-sets (v ∷ vs) w i k x h =
-    set-sets vs (set w i v) (suc i) k x (omega arith) ∙ ap (λ (u : List ℕ). sets u (suc i) vs) (set-comm w i k v x (λ e. omega arith))
-
 -- Words after others, ..
 pub sets-on : (us vs w : List ℕ) (i : ℕ) → sets (sets w i us) (i + length us) vs ≡ sets w i (us ++ vs)
 sets-on [] vs w i = ap (λ (k : ℕ). sets w k vs) (let z : i + 0 ≡ i = omega arith in z)

@@ -19,10 +19,9 @@ use Rattle.checker_pieces.specs.Piece.{Stops}
 use Rattle.checker_pieces.specs.Stage.{Ghost, StandsReady, Stands, Comparing, Cell, Unvisited, SlotOf, Advanced, Room, Uses, Equated}
 use Rattle.checker_pieces.specs.Building.{Integer, Built, Introduced, Working}
 use Rattle.checker_pieces.proofs.Components.{advanced-moved, room-still}
-use Rattle.checker_pieces.proofs.Stages.{plain-making, no-cells, built-stands, built-old, built-cell, later-built, equal-advanced, next, next-stands, next-cell, advance-then, stop-then, introduced-typed, introduce-then, next-unvisited, introduced-wider, wider-mine, rule-goes, rule-stops}
+use Rattle.checker_pieces.proofs.Stages.{plain-making, no-cells, built-stands, built-old, built-cell, later-built, equal-advanced, next, next-stands, next-cell, advance-then, stop-then, introduce-then, next-unvisited, wider-mine, rule-goes, rule-stops, typed-here}
 use Rattle.checker_pieces.proofs.Walks.{stops-left}
 use Rattle.checker_kinds.specs.Equations.{Relating, Both, BothPass, Related, Combined, Nothing, comparisonItems, arithmeticItems}
-use Rattle.checker_kinds.proofs.Concluding.{own-slot}
 use Rattle.checker_kinds.proofs.Operands.{operands}
 use Rattle.checker_kinds.proofs.Grouping.{introduced-group, stops-group}
 
@@ -141,13 +140,6 @@ module _ (s u d : List ℕ) (n x y : ℕ) (A : Relating s d n x y 1) (I : Intege
           goes = λ f top G S k p q K M. second-goes top G S k p q K M f;
           stops = λ f top G S k p q K M. second-stops top G S k p q K M f;
         }
-
--- The type of node k, by its own unknown.
-typed-here : (s d : List ℕ) (n top : ℕ) (G : Ghost) → Stands s d n top G → (c : ℕ) (t : Term) → Cell s d n G c t → (k : ℕ) → (In (slot k 0) (G .mentioned) → ⊥) →
-    Introduced s s d n top n top G (typed k t) (SlotOf k) (slot k 0) c
-typed-here s d n top G S c t C k new =
-    let I = introduced-typed s d n top G S c t C k new in
-    introduced-wider s s d n top n top G (typed k t) (λ y. y ≡ slot k 0) (I .advanced) (SlotOf k) (own-slot k 0 (omega arith)) (slot k 0) c (I .placed)
 
 -- ≤ and arithmetic.
 module _ (s w d : List ℕ) (n x y : ℕ) (b : Bool) (T : Both s w d n x y b) where

@@ -17,10 +17,10 @@ use Rattle.checker_pieces.specs.Piece.{Goes, Stops}
 use Rattle.checker_pieces.specs.Stage.{Ghost, Stands, Cell, Room, Unvisited, SlotOf, Advanced, nodeCells}
 use Rattle.checker_pieces.specs.Building.{Introduced}
 use Rattle.checker_pieces.proofs.Walks.{Alike, piece-alike}
-use Rattle.checker_pieces.proofs.Stages.{next, next-stands, next-cell, introduce-then, rule-goes, rule-stops, room-less}
+use Rattle.checker_pieces.proofs.Stages.{next, next-stands, next-cell, introduce-then, rule-goes, rule-stops, room-less, typed-here}
 use Rattle.checker_lookup.specs.References.{RowMade, InstanceAsked, InstanceOf, RecordedAt, Actuals, powerEquations, ActualsAt, EquatingActuals, ActualsEquated, ApplyingAt, AppliedAt}
 use Rattle.checker_lookup.proofs.RowLaws.{alike-later}
-use Rattle.checker_lookup.proofs.ReferenceLaws.{introduced-enlarged, new-typing, row-uses, A, G₁, row-stands, row-cell, row-unvisited}
+use Rattle.checker_lookup.proofs.ReferenceLaws.{introduced-enlarged, row-uses, A, G₁, row-stands, row-cell, row-unvisited}
 use Rattle.checker_lookup.proofs.ActualLaws.{actuals-kept}
 use Rattle.checker_lookup.proofs.PowerItems.{powers-alike, goes-first, stops-first}
 
@@ -170,7 +170,7 @@ module _ (s d : List ℕ) (n top p m : ℕ) (parts : List ℕ) (B : ApplyingAt s
             introduce-then s s₁ d n top (n + m) top G (freshRow k 1 m) (SlotOf k) (V₁ G S k U xs acts cnt) (powerEquations k xs 1 ⨾ typed k t) s₃ n′ top′ (slot k 0) cell
             (introduce-then s₁ s₂ d (n + m) top n₂ top₂ (X₁ G S k U xs acts cnt) (powerEquations k xs 1) (SlotOf k) (V₂ G S k U xs acts cnt) (typed k t) s₃ n′ top′ (slot k 0) cell
             (introduced-enlarged s₂ s₃ s₃ d n₂ top₂ n′ top′ n′ top′ 32 H (typed k t) (SlotOf k) (slot k 0) cell (I .enlarged) T
-            (new-typing s₃ d n′ top′ H (I .enlarged .stands H T) cell t (I .denoted H T g (reads₂ g Q) k (cell₂ G S k U xs acts cnt)) k (unvisited₂ G S k U xs acts cnt))))
+            (typed-here s₃ d n′ top′ H (I .enlarged .stands H T) cell t (I .denoted H T g (reads₂ g Q) k (cell₂ G S k U xs acts cnt)) k (unvisited₂ G S k U xs acts cnt))))
 
         pub applied : AppliedAt s s₃ d n top p m parts 0 cell n′ top′
         applied = record {

@@ -15,7 +15,7 @@ use Rattle.types_cells.proofs.SettlingLaws.{heap-kept}
 use Rattle.checker_pieces.specs.Stage.{Ghost, Stands, Cell, Uses, Unvisited, SlotOf, Advanced, nodeCells}
 use Rattle.checker_pieces.specs.Building.{Introduced}
 use Rattle.checker_pieces.proofs.Walks.{later-on}
-use Rattle.checker_pieces.proofs.Stages.{next, next-stands, placed-cell, introduce-then, introduced-typed, room-less}
+use Rattle.checker_pieces.proofs.Stages.{next, next-stands, placed-cell, introduce-then, room-less, typed-here}
 use Rattle.checker_lookup.specs.Enlarged.{Enlarged}
 use Rattle.checker_lookup.specs.References.{RowAsked, RowOf, RowMade, InstanceAsked, InstanceOf, TypedAt, RecordedAt, Generic}
 use Rattle.checker_lookup.proofs.Standing.{settled-enlarged}
@@ -43,32 +43,6 @@ introduced-enlarged r s s′ d m bottom n top n′ top′ z G own M x c E S I =
       placed = I .placed;
     }
 
-introduced-mine : (s s′ d : List ℕ) (n top n′ top′ : ℕ) (G : Ghost) (own : Items) (M N : ℕ → Type 0) (x c : ℕ) → ((y : ℕ) → M y → N y) → Introduced s s′ d n top n′ top′ G own M x c →
-    Introduced s s′ d n top n′ top′ G own N x c
-introduced-mine s s′ d n top n′ top′ G own M N x c f I =
-    let A = I .advanced in
-    record {
-      advanced = record {
-        equations = A .equations;
-        mentioned = A .mentioned;
-        cells = A .cells;
-        wide = A .wide;
-        goes = A .goes;
-        piece = A .piece;
-        above = A .above;
-        later = A .later;
-        wider = A .wider;
-        new = λ y i. ⊎-elim inl (λ j. inr (f y j)) (A .new y i);
-      };
-      placed = I .placed;
-    }
-
--- THE TYPE OF NODE k is that of a cell.
-pub new-typing : (s d : List ℕ) (n top : ℕ) (G : Ghost) → Stands s d n top G → (c : ℕ) (t : Term) → Cell s d n G c t → (k : ℕ) → (In (slot k 0) (G .mentioned) → ⊥) →
-    Introduced s s d n top n top G (typed k t) (SlotOf k) (slot k 0) c
-new-typing s d n top G S c t C k new =
-    introduced-mine s s d n top n top G (typed k t) (λ y. y ≡ slot k 0) (SlotOf k) (slot k 0) c (λ y e. (0, omega arith, e)) (introduced-typed s d n top G S c t C k new)
-
 -- A SETTLED TYPE.
 module _ (s s′ d : List ℕ) (n top p : ℕ) (A : Entering s d n p) (N : Entered s s′ d n p) where
   pub typed-at : TypedAt s s′ d n top p n (n + 1) top
@@ -81,7 +55,7 @@ module _ (s s′ d : List ℕ) (n top p : ℕ) (A : Entering s d n p) (N : Enter
         uses = E .uses;
         typed = λ G S t T k U.
             introduced-enlarged s s′ s′ d n top (suc n) top (suc n) top 1 G (typed k t) (SlotOf k) (slot k 0) n E S
-            (new-typing s′ d (suc n) top G (E .stands G S) n t
+            (typed-here s′ d (suc n) top G (E .stands G S) n t
             (record {
               made = omega arith;
               denotes = λ τ h σ X q. N .type (T .type) (T .reads) σ (X .obeys) ∙ sym (T .means τ h);
@@ -168,5 +142,5 @@ module _ (s d : List ℕ) (n top p m : ℕ) (B : RecordedAt s d n top p m) where
           let t = instance (row k 1 m) g in
           introduce-then s s₁ d n top (n + m) top G (freshRow k 1 m) (SlotOf k) (A G S k U) (typed k t) s₂ n′ top′ (slot k 0) cell
           (introduced-enlarged s₁ s₂ s₂ d (n + m) top n′ top′ n′ top′ 32 H (typed k t) (SlotOf k) (slot k 0) cell E T
-          (new-typing s₂ d n′ top′ H (E .stands H T) cell t (I .denoted H T g (kept g Q) k (row-cell G S k U)) k (row-unvisited G S k U)));
+          (typed-here s₂ d n′ top′ H (E .stands H T) cell t (I .denoted H T g (kept g Q) k (row-cell G S k U)) k (row-unvisited G S k U)));
     }

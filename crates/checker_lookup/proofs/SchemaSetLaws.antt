@@ -10,11 +10,11 @@ use Rattle.checker_rules.specs.Signatures.{bindingOf}
 use Rattle.checker_rules.specs.Unknowns.{slot, powerOf}
 use Rattle.checker_pieces.specs.Stage.{SlotOf}
 use Rattle.checker_pieces.specs.Building.{Building, Built}
-use Rattle.checker_pieces.proofs.Stages.{building, built-cell, one-cell}
+use Rattle.checker_pieces.proofs.Stages.{building, built-cell, one-cell, typed-here}
 use Rattle.checker_lookup.specs.Enlarged.{Enlarged}
 use Rattle.checker_lookup.specs.Bindings.{Bound, SchemaSetAsked, SchemaSetTyped}
 use Rattle.checker_lookup.proofs.Standing.{enlarged-on, built-enlarged}
-use Rattle.checker_lookup.proofs.ReferenceLaws.{introduced-enlarged, new-typing}
+use Rattle.checker_lookup.proofs.ReferenceLaws.{introduced-enlarged}
 
 module _ (s d w : List ℕ) (base m n top : ℕ) (B : SchemaSetAsked s d w base m n top) (s₁ : List ℕ) (c cell end : ℕ) (D : Bound s s₁ d w base m n top c cell end) where
   pub power-asked : Building s₁ cell end 1 (c ∷ [])
@@ -35,7 +35,7 @@ module _ (s d w : List ℕ) (base m n top : ℕ) (B : SchemaSetAsked s d w base 
         typed = λ G S r C k U.
             let t = powerOf (bindingOf r) in
             introduced-enlarged s s₂ s₂ d n top (suc cell) (end + 1) (suc cell) (end + 1) (suc m + 1) G (typed k t) (SlotOf k) (slot k 0) cell F S
-            (new-typing s₂ d (suc cell) (end + 1) G (F .stands G S) cell t
+            (typed-here s₂ d (suc cell) (end + 1) G (F .stands G S) cell t
             (built-cell s₁ s₂ d cell end (end + 1) 1 power (c ∷ []) K G (D .enlarged .stands G S) (cons (bindingOf r) nil) (one-cell s₁ d cell G c (bindingOf r) (D .denoted G S r C)))
             k (U 0 (omega arith)));
       })

@@ -32,7 +32,7 @@ use Rattle.checker_signatures.proofs.ScopeLaws.{stacked-schema}
 use Rattle.checker_signatures.proofs.TableLaws.{table-length}
 use Rattle.checker_pieces.specs.Stage.{Ghost, SlotOf, Ruled, nodeCells}
 use Rattle.checker_pieces.specs.Building.{Introduced}
-use Rattle.checker_pieces.proofs.Stages.{rule-goes, rule-stops, room-less}
+use Rattle.checker_pieces.proofs.Stages.{rule-goes, rule-stops, room-less, typed-here}
 use Rattle.checker_lookup.specs.Bindings.{Binding, Bound}
 use Rattle.checker_lookup.specs.Components.{Component, ComponentsAsked, ComponentsOf, ComponentRows}
 use Rattle.checker_lookup.specs.Scoped.{SettledAt, SchemaType, Limited, DictionaryHeld, Scoped}
@@ -42,7 +42,7 @@ use Rattle.checker_lookup.proofs.IdleLaws.{introduced-idle}
 use Rattle.checker_lookup.proofs.LookingUp.{dictionary-reads}
 use Rattle.checker_lookup.proofs.LookingUpApplied.{stopped}
 use Rattle.checker_lookup.proofs.PlacedLaws.{scoped-below}
-use Rattle.checker_lookup.proofs.ReferenceLaws.{introduced-enlarged, new-typing}
+use Rattle.checker_lookup.proofs.ReferenceLaws.{introduced-enlarged}
 
 -- The type of a recorded schema.
 unfoldable OfSchema : NamedSchema → Type 0
@@ -254,5 +254,5 @@ module _ (s d w : List ℕ) (n top rows base id k : ℕ) (B : ThetaAsked s d w n
                 (rule-goes s s′ d n top node 0 cell n′ top′ G (thetaItems node k (aSchema p g) Γ) refl
                 (theta-introduced s s′ d n top n′ top′ G node k p g Γ w₂ base m F cell
                 (introduced-enlarged s s′ s′ d n top n′ top′ n′ top′ (suc m) G (typed node t) (SlotOf node) (slot node 0) cell E S
-                (new-typing s′ d n′ top′ G (E .stands G S) cell t (X .denoted G S sig (F .carries)) node (U 0 (omega arith))))));
+                (typed-here s′ d n′ top′ G (E .stands G S) cell t (X .denoted G S sig (F .carries)) node (U 0 (omega arith))))));
           }

@@ -24,9 +24,9 @@ use Rattle.checker_closing.specs.Actuals.{ActualAsk, ActualTold, stopped, went,
 use Rattle.checker_closing.specs.Elements.{several, one, ElementTold, no-power, power}
 use Rattle.checker_closing.specs.Nodes.{Node, LinedAt}
 use Rattle.checker_closing.specs.declared.results.Lined.{Lined}
-use Rattle.checker_nodes.proofs.LineNodes.{word-of}
 use Rattle.checker_nodes.proofs.SizedNodes.{expr-sized}
 use Rattle.types_cells.specs.Layout.{firstRun}
+use Rattle.checker_nodes.proofs.NodeWords.{word-at}
 
 -- The promise in the words of the result.
 actuals-told : {s s′ d w w′ places places′ : List ℕ} {stack at free k j number place count end′ : ℕ} {xs : Exprs} {r : Lined} → LinedAt r number place count end′ →
@@ -90,7 +90,7 @@ module _ {doc p s d w places : List ℕ} {stack at free k : ℕ} (j q : ℕ) (N 
     rest = exprsFrom doc k (j + 1 + 4) (q - (j + 1))
 
     tree : exprsFrom doc k (j + 4) (q - j) ≡ more (exprAt doc a) rest
-    tree = actuals-go doc k j q some ∙ ap (λ z. more (exprAt doc z) rest) (sym (word-of N (j + 4) a word))
+    tree = actuals-go doc k j q some ∙ ap (λ z. more (exprAt doc z) rest) (sym (word-at N (j + 4) a word))
 
     abbrev Q : ActualsAsk s d w stack at free k j (more (exprAt doc a) rest) places
     Q = subst (λ z. ActualsAsk s d w stack at free k j z places) tree K

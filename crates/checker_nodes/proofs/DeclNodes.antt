@@ -42,14 +42,15 @@ use Rattle.checker_closing.specs.Elements.{TypeKept, several, one, ElementTold,
 use Rattle.checker_closing.specs.Leaves.{FitsTold, NewIfTold}
 use Rattle.checker_closing.specs.Nodes.{Node, LinedAt}
 use Rattle.checker_closing.specs.declared.results.Lined.{Lined}
-use Rattle.checker_nodes.proofs.LineNodes.{lines-told, word-of}
+use Rattle.checker_nodes.proofs.LineNodes.{lines-told}
 use Rattle.checker_nodes.proofs.SizedNodes.{expr-sized}
 use Rattle.checker_rules.specs.Check.{checkWorkWords}
+use Rattle.checker_nodes.proofs.NodeWords.{word-at}
 
 module _ {doc p s d w : List ℕ} {stack base m at free k : ℕ} (N : Node doc p lines k) (q : kindAt doc k ≡ 11) (a : ℕ) (word : a ≡ getD p 1 0)
     (K : LinesAsk s d w stack base m at free (lineAt doc k end)) (global : Bool) where
   O : One doc k expressions a ((ls : Lines) → lineAt doc k ls ≡ declaration k (exprAt doc a) (drop 2 (part doc k)) ls)
-  O = line-declaration doc k (N .at) q a (word-of N 1 a word)
+  O = line-declaration doc k (N .at) q a (word-at N 1 a word)
 
   tree : lineAt doc k end ≡ declaration k (exprAt doc a) (drop 2 p) end
   tree = O .tree end ∙ ap (λ z. declaration k (exprAt doc a) (drop 2 z) end) (sym (N .words))

@@ -1,3 +1,4 @@
+pub mod NodeWords
 pub mod ExprNodes
 pub mod ListNodes
 pub mod WaitingNodes

@@ -20,6 +20,7 @@ use Rattle.checker_contracts.specs.Texts.{LinesAsk, LinesDone}
 use Rattle.checker_contracts.proofs.Lining.{Before, lines-none, decl-before, incl-before, line-ask, line-refused, lines-ask, lines-then}
 use Rattle.checker_closing.specs.Nodes.{Node, LinedAt}
 use Rattle.checker_closing.specs.declared.results.Lined.{Lined}
+use Rattle.checker_nodes.proofs.NodeWords.{word-at}
 
 -- The promise in the words of the result.
 pub lines-told : {s s′ d w w′ : List ℕ} {stack base m at free number place count end′ : ℕ} {ls : Lines} {global : Bool} {r : Lined} → LinedAt r number place count end′ →
@@ -29,9 +30,6 @@ lines-told {s} {s′} {d} {w} {w′} {stack} {base} {m} {at} {free} {number} {pl
     (subst (λ z. LinesDone s s′ d w w′ stack base m at free ls global number z (r .count) (r .at)) (sym (L .place-is))
     (subst (λ z. LinesDone s s′ d w w′ stack base m at free ls global number place z (r .at)) (sym (L .count-is))
     (subst (λ z. LinesDone s s′ d w w′ stack base m at free ls global number place count z) (sym (L .at-is)) T)))
-
-pub word-of : {doc p : List ℕ} {q k : ℕ} → Node doc p q k → (j x : ℕ) → x ≡ getD p j 0 → x ≡ operandAt doc k j
-word-of N j x e = e ∙ ap (λ (l : List ℕ). getD l j 0) (N .words)
 
 -- A line is a Decl or an Include.
 pub not-eleven : (doc : List ℕ) (k : ℕ) → At doc lines k → (kindAt doc k ≡ 11 → ⊥) → kindAt doc k ≡ 12
@@ -73,7 +71,7 @@ module _ {doc p s d w : List ℕ} {stack base m at free k : ℕ} (i : ℕ) (N : 
     rest = linesFrom doc k (i + 1) (length p - (i + 1))
 
     tree : linesFrom doc k i (length p - i) ≡ lineAt doc a rest
-    tree = lines-go doc k (length p) i some ∙ ap (λ z. lineAt doc z rest) (sym (word-of N i a word))
+    tree = lines-go doc k (length p) i some ∙ ap (λ z. lineAt doc z rest) (sym (word-at N i a word))
 
     K′ : LinesAsk s d w stack base m at free (lineAt doc a rest)
     K′ = subst (LinesAsk s d w stack base m at free) tree K
@@ -106,6 +104,3 @@ line-lower doc p k i h e l = subst (Lower doc k lines) (sym e) (h i (omega arith
 -- The kind of a node is its first word.
 pub kind-of : (doc p : List ℕ) (k : ℕ) → p ≡ part doc k → {x : ℕ} → x ≡ getD p 0 0 → kindAt doc k ≡ x
 kind-of doc p k P e = sym (e ∙ ap (λ (l : List ℕ). getD l 0 0) P)
-
-pub node-of : {doc p : List ℕ} {q k : ℕ} → At doc q k → p ≡ part doc k → Node doc p q k
-node-of h e = record { at = h; words = e }

@@ -18,15 +18,7 @@ use Rattle.checker_contracts.specs.Predicates.{PredAsk, PredDone}
 use Rattle.checker_contracts.proofs.Connecting.{truth-done, not-part, not-done, connected-first, connected-stopped, connected-second, connected-done}
 use Rattle.checker_closing.specs.Nodes.{Node, VerdictAt}
 use Rattle.checker_closing.specs.declared.results.Verdict.{Verdict}
-
-pub node-of : {doc p : List ℕ} {q k : ℕ} → At doc q k → p ≡ part doc k → Node doc p q k
-node-of h e = record { at = h; words = e }
-
-pub word-at : {doc p : List ℕ} {q k : ℕ} → Node doc p q k → (j x : ℕ) → x ≡ getD p j 0 → x ≡ operandAt doc k j
-word-at B j x e = e ∙ ap (λ (l : List ℕ). getD l j 0) (B .words)
-
-pub kind-at : {doc p : List ℕ} {q k : ℕ} → Node doc p q k → (x : ℕ) → x ≡ getD p 0 0 → kindAt doc k ≡ x
-kind-at B x e = sym (word-at B 0 x e)
+use Rattle.checker_nodes.proofs.NodeWords.{word-at}
 
 -- The next kind.
 pub beyond : (q n : ℕ) → n ≤ q → (q ≡ n → ⊥) → n < q

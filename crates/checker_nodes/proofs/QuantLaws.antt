@@ -16,7 +16,7 @@ use Rattle.checker_contracts.specs.Predicates.{PredAsk, PredDone}
 use Rattle.checker_contracts.specs.Texts.{TextAsk, TextDone}
 use Rattle.checker_contracts.proofs.Quantifying.{quantified-text, quantified-stopped, quantified-body, quantified-refused, quantified-done}
 use Rattle.checker_closing.specs.Nodes.{Node}
-use Rattle.checker_nodes.proofs.PredLaws.{word-at}
+use Rattle.checker_nodes.proofs.NodeWords.{word-at}
 
 module _ {doc p : List ℕ} {k : ℕ} (B : Node doc p predicates k) {s d w : List ℕ} {rows at free : ℕ} (A : PredAsk s d w rows at free (predAt doc k))
     (least : 28 ≤ kindAt doc k) (most : kindAt doc k ≤ 29) (x y : ℕ) (e : x ≡ getD p 1 0) (f : y ≡ getD p 2 0) where

@@ -26,8 +26,9 @@ use Rattle.checker_closing.specs.Leaves.{relationItems}
 use Rattle.checker_closing.specs.Nodes.{Node}
 use Rattle.checker_closing.specs.Relations.{RelationAsk, RelationTold, stopped, went, refused, fits, several, one}
 use Rattle.checker_closing.specs.declared.results.Verdict.{Verdict}
-use Rattle.checker_nodes.proofs.PredLaws.{word-at, kind-at, pred-told}
+use Rattle.checker_nodes.proofs.PredLaws.{pred-told}
 use Rattle.types_cells.specs.Layout.{firstRun, poolSize}
+use Rattle.checker_nodes.proofs.NodeWords.{word-at, kind-at}
 
 relation-of : (q k : ℕ) (a b : Expr) → 21 ≤ q → q ≤ 23 → Relation (relationOf q k a b) k a b (relationItems q)
 relation-of q k a b l m =

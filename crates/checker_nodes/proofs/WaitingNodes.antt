@@ -13,7 +13,7 @@ use Rattle.reader_rules.specs.Tree.{comprehension, schemaSet, number, integers,
 use Rattle.reader_rules.proofs.TreeExpr.{expr-number, expr-integers, expr-theta, expr-schemaSet, expr-comprehension}
 use Rattle.reader_rules.proofs.TreeWords.{theta-words}
 use Rattle.types_solver.specs.Written.{Wrote}
-use Rattle.types_instances.specs.Moved.{saved, restored}
+use Rattle.types_instances.specs.Moved.{saved, restored, SaveAsk, RestoreAsk}
 use Rattle.checker_pieces.specs.Stage.{nodeCells}
 use Rattle.checker_pieces.specs.Building.{Building}
 use Rattle.checker_kinds.specs.Formers.{DerivedList, Derived, comprehensionItems, numberItems, integersItems}
@@ -49,7 +49,7 @@ module _ {doc s d w : List ℕ} {rows n top at free k t b : ℕ} (O : ComprNode 
   compr : ExprAsk s d w rows n top at free (comprehension k (textAt doc t) (exprAt doc b))
   compr = subst (ExprAsk s d w rows n top at free) (O .tree) K
 
-  pub compr-save : (length s ≡ areaSize) × (n ≤ maxCells) × (firstRun ≤ top) × (top ≤ frozenSize) × (free < 2 ^ 39)
+  pub compr-save : SaveAsk s n top free
   compr-save = compr-save-asked s d w rows n top at free k (textAt doc t) (exprAt doc b) compr
 
   module _ {w₁ : List ℕ} {e : ℕ} (S : Wrote w w₁ free e (saved s n top)) where
@@ -62,7 +62,7 @@ module _ {doc s d w : List ℕ} {rows n top at free k t b : ℕ} (O : ComprNode 
       compr-stop ne A = visit-done A (rw (O .tree) (compr-text-stops s d w rows n top at free k (textAt doc t) (exprAt doc b) compr w₁ e S s₁ w₂ number place m at₁ T ne 0 0 0 0))
 
       module _ (z : number ≡ 0) where
-        pub compr-restore : (n ≤ maxCells) × (firstRun ≤ top) × (top ≤ frozenSize) × (free < 2 ^ 39) × (free + (5 * n + (top - firstRun)) ≤ length w₂)
+        pub compr-restore : RestoreAsk w₂ n top free
         compr-restore = compr-restore-asked s d w rows n top at free k (textAt doc t) (exprAt doc b) compr w₁ e S s₁ w₂ number place m at₁ T z
 
         -- rows of the scope are few
@@ -102,7 +102,7 @@ module _ {doc s d w : List ℕ} {rows n top at free k i : ℕ} (O : SsetNode doc
   sset : ExprAsk s d w rows n top at free (schemaSet k (includeAt doc i))
   sset = subst (ExprAsk s d w rows n top at free) (O .tree) K
 
-  pub sset-save : (length s ≡ areaSize) × (n ≤ maxCells) × (firstRun ≤ top) × (top ≤ frozenSize) × (free < 2 ^ 39)
+  pub sset-save : SaveAsk s n top free
   sset-save = sset-save-asked s d w rows n top at free k (includeAt doc i) sset
 
   module _ {w₁ : List ℕ} {e : ℕ} (S : Wrote w w₁ free e (saved s n top)) where
@@ -115,7 +115,7 @@ module _ {doc s d w : List ℕ} {rows n top at free k i : ℕ} (O : SsetNode doc
       sset-stop ne A = visit-done A (rw (O .tree) (sset-include-stops s d w rows n top at free k (includeAt doc i) sset w₁ e S s₁ w₂ number place m at₁ T ne 0 0 0 0))
 
       module _ (z : number ≡ 0) where
-        pub sset-restore : (n ≤ maxCells) × (firstRun ≤ top) × (top ≤ frozenSize) × (free < 2 ^ 39) × (free + (5 * n + (top - firstRun)) ≤ length w₂)
+        pub sset-restore : RestoreAsk w₂ n top free
         sset-restore = sset-restore-asked s d w rows n top at free k (includeAt doc i) sset w₁ e S s₁ w₂ number place m at₁ T z
 
         module _ {s₂ : List ℕ} (R : s₂ ≡ restored s₁ n top w₂ free) where

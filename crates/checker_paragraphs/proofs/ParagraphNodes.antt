@@ -54,9 +54,6 @@ agreeing false e = sym e
 pub all-parameters : {s s′ w w′ : List ℕ} (p : List ℕ) {n at : ℕ} → ParametersPushed s s′ w w′ (take (n - 0) (drop (0 + 3) p)) 0 n at → ParametersPushed s s′ w w′ (take n (drop 3 p)) 0 n at
 all-parameters {s} {s′} {w} {w′} p {n} {at} P = subst (λ j. ParametersPushed s s′ w w′ (take j (drop 3 p)) 0 n at) (let z : n - 0 ≡ n = omega arith in z) P
 
-pub node-of : {doc p : List ℕ} {k s : ℕ} → At doc s k → p ≡ part doc k → Node doc p s k
-node-of a e = record { at = a; words = e }
-
 pub kind-is : (doc p : List ℕ) (k q m : ℕ) → p ≡ part doc k → q ≡ getD p 0 0 → q ≡ m → kindAt doc k ≡ m
 kind-is doc p k q m e h i = sym (ap (λ z. getD z 0 0) e) ∙ sym h ∙ i
 

@@ -349,6 +349,11 @@ module _ (s d : List ℕ) (n top : ℕ) (G : Ghost) (St : Stands s d n top G) (c
     placed = inl (refl, refl);
   }
 
+  -- by the node's own unknown
+  pub typed-here : Introduced s s d n top n top G (typed k t) (SlotOf k) (slot k 0) c
+  typed-here =
+      introduced-wider s s d n top n top G (typed k t) (λ y. y ≡ slot k 0) (introduced-typed .advanced) (SlotOf k) (λ y e. (0, omega arith, e)) (slot k 0) c (introduced-typed .placed)
+
 -- A rule's promise from either way that it ends.
 pub rule-goes : (s s′ d : List ℕ) (n top k number cell n′ top′ : ℕ) (G : Ghost) (own : Items) → number ≡ 0 → Introduced s s′ d n top n′ top′ G own (SlotOf k) (slot k 0) cell →
     Ruled s s′ d n top k number cell n′ top′ G own

@@ -29,7 +29,7 @@ pub drop-sets : (vs w : List ℕ) (i n : ℕ) → i + length vs ≤ n → drop n
 drop-sets [] w i n h = refl
 drop-sets (v ∷ vs) w i n h = drop-sets vs (set w i v) (suc i) n (omega arith) ∙ drop-set-lt n w i v (omega arith)
 
-set-sets : (vs w : List ℕ) (i k x : ℕ) → k < i → set (sets w i vs) k x ≡ sets (set w k x) i vs
+pub set-sets : (vs w : List ℕ) (i k x : ℕ) → k < i → set (sets w i vs) k x ≡ sets (set w k x) i vs
 set-sets [] w i k x h = refl
 set-sets (v ∷ vs) w i k x h =
     set-sets vs (set w i v) (suc i) k x (omega arith) ∙ ap (λ (u : List ℕ). sets u (suc i) vs) (set-comm w i k v x (λ e. omega arith))

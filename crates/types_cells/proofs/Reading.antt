@@ -104,9 +104,9 @@ pub record Part (H : List ℕ) (w at : ℕ) (l : List ℕ) (g : Ty) (gs : Tys) (
   pub name : (w ≡ 0 → ⊥) → l ≡ getD H at 0 ∷ tail
   pub none : w ≡ 0 → (l ≡ []) × (tail ≡ [])
 
-next-part : (H : List ℕ) (w at : ℕ) (l : List ℕ) (g : Ty) (gs : Tys) (e : ℕ) → Rest H w at l (tcons g gs) e → Part H w at l g gs e
+pub part-next : (H : List ℕ) (w at : ℕ) (l : List ℕ) (g : Ty) (gs : Tys) (e : ℕ) → Rest H w at l (tcons g gs) e → Part H w at l g gs e
 unfolding partWords words FormedType
-next-part H zero at [] g gs e R =
+part-next H zero at [] g gs e R =
     let z : at + 0 ≡ at = omega arith in
     let q : drop (at + 0) H ≡ words g ++ (partWords [] gs ++ R .after) = ap (λ k. drop k H) z ∙ R .words-at ∙ append-assoc (words g) (partWords [] gs) (R .after) in
     record {
@@ -116,9 +116,9 @@ next-part H zero at [] g gs e R =
       name = λ d. absurd (d refl);
       none = λ d. (refl, refl);
     }
-next-part H zero at (i ∷ l) g gs e R = let z : _≡_ {A = ℕ} 0 1 = (let n = R .names in cc) in absurd (omega arith)
-next-part H (suc w) at [] g gs e R = let n = R .names .1 in absurd (omega arith)
-next-part H (suc w) at (i ∷ l) g gs e R =
+part-next H zero at (i ∷ l) g gs e R = let z : _≡_ {A = ℕ} 0 1 = (let n = R .names in cc) in absurd (omega arith)
+part-next H (suc w) at [] g gs e R = let n = R .names .1 in absurd (omega arith)
+part-next H (suc w) at (i ∷ l) g gs e R =
     let w0 = R .names .0 in
     let n = R .names .1 in
     let z : at + suc w ≡ at + length {A = ℕ} (i ∷ []) = omega arith in
@@ -132,9 +132,6 @@ next-part H (suc w) at (i ∷ l) g gs e R =
       name = λ d. ap (λ x. x ∷ l) (sym (ap (λ k. getD H k 0) y ∙ sym (getD-drop at H 0 0) ∙ ap (λ m. getD m 0 0) a));
       none = λ d. absurd (omega arith);
     }
-
-pub part-next : (H : List ℕ) (w at : ℕ) (l : List ℕ) (g : Ty) (gs : Tys) (e : ℕ) → Rest H w at l (tcons g gs) e → Part H w at l g gs e
-part-next = next-part
 
 pub rest-done : (H : List ℕ) (w at : ℕ) (l : List ℕ) (e : ℕ) → Rest H w at l tnil e → e ≡ at
 unfolding partWords

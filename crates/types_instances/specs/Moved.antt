@@ -2,17 +2,24 @@
 use mathlib.Core.Path.{_≡_}
 use mathlib.Core.List.{List, _++_}
 use mathlib.Core.Logic.{_⊎_}
-use Prim.Native.Nat.{ℕ, _+_, _*_, _-_, _≤_, _<_}
+use Prim.Native.Nat.{ℕ, _+_, _*_, _-_, _≤_, _<_, _^_}
 use lib.ListN.{length, getD}
 use lib.Seq.{sets}
 use Rattle.types_rules.specs.Types.{Ty}
 use Rattle.types_rules.specs.Words.{words}
 use Rattle.types_rules.specs.Equations.{Pairs}
-use Rattle.types_cells.specs.Layout.{poolSize, linksAt, recordsAt, settledFrom, firstRun, runsAt}
+use Rattle.types_cells.specs.Layout.{maxCells, poolSize, linksAt, recordsAt, settledFrom, firstRun, frozenSize, runsAt, areaSize}
 use Rattle.types_cells.specs.Store.{frozen, fieldAt, run, Solved}
 use Rattle.types_cells.specs.Calls.{Above}
 use Rattle.types_cells.specs.Settled.{heap, wordAt, Reads, Pinned, Obeys}
 use Rattle.types_solver.specs.Answers.{SolutionOf}
+
+-- What saving the first n cells and the runs up to `top` asks, to the place `at`; and what restoring them from the words `from` asks.
+abbrev pub SaveAsk : List ℕ → ℕ → ℕ → ℕ → Type 0
+SaveAsk s n top at = (length s ≡ areaSize) × (n ≤ maxCells) × (firstRun ≤ top) × (top ≤ frozenSize) × (at < 2 ^ 39)
+
+abbrev pub RestoreAsk : List ℕ → ℕ → ℕ → ℕ → Type 0
+RestoreAsk from n top at = (n ≤ maxCells) × (firstRun ≤ top) × (top ≤ frozenSize) × (at < 2 ^ 39) × (at + (5 * n + (top - firstRun)) ≤ length from)
 
 -- The words of g at p lie below `at`, or in the dictionary.
 abbrev pub Below : ℕ → ℕ → Ty → Type 0

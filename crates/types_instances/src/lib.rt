@@ -24,7 +24,7 @@ ghost use Rattle.types_cells.specs.Store.{run};
 ghost use Rattle.types_cells.specs.Settled.{heap};
 ghost use Rattle.types_solver.specs.Written.{Wrote};
 ghost use Rattle.types_instances.specs.Filled.{placeOf, Actuals, ActualSize, Filling, FilledSize, FillWriting, FillWrote};
-ghost use Rattle.types_instances.specs.Moved.{saved, restored};
+ghost use Rattle.types_instances.specs.Moved.{saved, restored, SaveAsk, RestoreAsk};
 
 // The words of a parameter: the tag, the number.
 const PARAMETER_WORDS: usize = 2;
@@ -161,7 +161,7 @@ pub fn wipe(a: &mut [u32], from: usize, to: usize)
 
 // The store of n cells whose runs end at top: link words, cells and runs, in out from `at` on. Where they end.
 pub fn save(a: &[u32], n: usize, top: usize, out: &mut [u32], at: usize) -> usize
-    requires { ⌜ (length (now a) ≡ areaSize) × (n ≤ maxCells) × (firstRun ≤ top) × (top ≤ frozenSize) × (at < 2 ^ 39) ⌝ }
+    requires { ⌜ SaveAsk (now a) n top at ⌝ }
     ensures { λ e. ⌜ Wrote (now (out .entry)) (now (out .exit)) at e (saved (now (a .entry)) n top) ⌝ }
 {
     let m = CELL_WORDS * n;
@@ -174,7 +174,7 @@ pub fn save(a: &[u32], n: usize, top: usize, out: &mut [u32], at: usize) -> usiz
 
 // The store that `save` wrote, back in its place.
 pub fn restore(a: &mut [u32], n: usize, top: usize, from: &[u32], at: usize)
-    requires { ⌜ (n ≤ maxCells) × (firstRun ≤ top) × (top ≤ frozenSize) × (at < 2 ^ 39) × (at + (5 * n + (top - firstRun)) ≤ length (now from)) ⌝ }
+    requires { ⌜ RestoreAsk (now from) n top at ⌝ }
     ensures { λ _. ⌜ now (a .exit) ≡ restored (now (a .entry)) n top (now (from .entry)) at ⌝ }
 {
     let m = CELL_WORDS * n;

@@ -1,4 +1,4 @@
-use Rattle.checker_paragraphs.proofs.ParagraphNodes.{node-of, kind-is, kind-last}
+use Rattle.checker_paragraphs.proofs.ParagraphNodes.{kind-is, kind-last}
 use mathlib.Core.Path.{refl}
 use native.Mathlib.Omega.{arith}
 use borrow.Author.Needs.{needs}
@@ -13,6 +13,7 @@ use Rattle.checker_paragraphs.proofs.paragraphs.given.Reads as given-re
 use Rattle.checker_paragraphs.proofs.paragraphs.schema_paragraph.Reads as schema-paragraph-reads
 use Rattle.layout.proofs.part.Reads as part-reads
 use Rattle.words.proofs.word.Reads as word-reads
+use Rattle.checker_nodes.proofs.NodeWords.{node-of}
 
 -- src/paragraphs.rt:172:9
 part-requires : tie.Need-part-requires

@@ -1,7 +1,7 @@
 -- The answers of `line`.
 use mathlib.Core.Path.{_≡_, refl, sym, _∙_}
 use native.Mathlib.Omega.{arith}
-use Rattle.checker_nodes.proofs.LineNodes.{node-of, kind-of, not-eleven}
+use Rattle.checker_nodes.proofs.LineNodes.{kind-of, not-eleven}
 use borrow.Author.Needs.{needs}
 use Prim.Native.Nat.{_+_, _*_, _-_}
 use Prim.Native.Nat.{ℕ, _<_}
@@ -10,6 +10,7 @@ use borrow.Fn.PlainCycle.{Measures, is, falls, and}
 use Rattle.checker_nodes.proofs.nodes.line.Reads as line
 use Rattle.checker_nodes.proofs.nodes.+actuals+apply+arith+brings+compr+conn+decl+expr+group+incl+include+line+lines+opers+power+pred+quant+refer+rel+select+sset+text.Lts-line as line-lts
 use Rattle.checker_nodes.proofs.nodes.+actuals+apply+arith+brings+compr+conn+decl+expr+group+incl+include+line+lines+opers+power+pred+quant+refer+rel+select+sset+text.Proof.Env.{line-at, line-calls}
+use Rattle.checker_nodes.proofs.NodeWords.{node-of}
 
 line-part-requires : (t : ℕ) → line-lts.Need-part-requires (line-calls t) (line-at t) line.Post
 line-part-requires t c κs = search needs

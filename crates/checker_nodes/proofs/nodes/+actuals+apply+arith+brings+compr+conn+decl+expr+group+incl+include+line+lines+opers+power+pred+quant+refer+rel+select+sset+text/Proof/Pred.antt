@@ -5,11 +5,12 @@ use Prim.Native.Nat.{ℕ, _≤_}
 use native.Mathlib.Omega.{arith}
 use Rattle.reader_rules.specs.Nodes.{kindAt}
 use Rattle.reader_rules.proofs.TreePred.{pred-range}
-use Rattle.checker_nodes.proofs.PredLaws.{node-of, kind-at, beyond, at-truth, at-not-ask, at-not}
+use Rattle.checker_nodes.proofs.PredLaws.{beyond, at-truth, at-not-ask, at-not}
 use borrow.Author.Needs.{needs}
 use Rattle.checker_nodes.proofs.nodes.pred.Reads as pred
 use Rattle.checker_nodes.proofs.nodes.+actuals+apply+arith+brings+compr+conn+decl+expr+group+incl+include+line+lines+opers+power+pred+quant+refer+rel+select+sset+text.Lts-pred as pred-lts
 use Rattle.checker_nodes.proofs.nodes.+actuals+apply+arith+brings+compr+conn+decl+expr+group+incl+include+line+lines+opers+power+pred+quant+refer+rel+select+sset+text.Proof.Env.{pred-at, pred-calls}
+use Rattle.checker_nodes.proofs.NodeWords.{node-of, kind-at}
 
 pred-verdict-at-requires : (t : ℕ) → pred-lts.Need-verdict-at-requires (pred-calls t) (pred-at t) pred.Post
 pred-verdict-at-requires t c κs =

@@ -2,12 +2,12 @@
 use mathlib.Core.Path.{refl, _∙_}
 use Prim.Native.Nat.{ℕ}
 use native.Mathlib.Omega.{arith}
-use Rattle.checker_nodes.proofs.PredLaws.{node-of}
 use Rattle.checker_nodes.proofs.TextLaws.{text-told, each-line, at-lines, at-lines-stopped, at-push, at-text-body, at-text-refused, at-text-done}
 use borrow.Author.Needs.{needs}
 use Rattle.checker_nodes.proofs.nodes.text.Reads as text
 use Rattle.checker_nodes.proofs.nodes.+actuals+apply+arith+brings+compr+conn+decl+expr+group+incl+include+line+lines+opers+power+pred+quant+refer+rel+select+sset+text.Lts-text as text-lts
 use Rattle.checker_nodes.proofs.nodes.+actuals+apply+arith+brings+compr+conn+decl+expr+group+incl+include+line+lines+opers+power+pred+quant+refer+rel+select+sset+text.Proof.Env.{text-at, text-calls}
+use Rattle.checker_nodes.proofs.NodeWords.{node-of}
 
 text-add-lines : (t : ℕ) → text-lts.Need-add-lines (text-calls t) (text-at t) text.Post
 text-add-lines t c =
