@@ -56,7 +56,7 @@ const PARAGRAPHS: u16 = sorts::PARAGRAPHS as u16;
 
 const INCLUDES: u16 = sorts::INCLUDES as u16;
 
-// The rows, for each kind from 0 on.
+// The rows, for each kind from 0 on. Document 01, forms: "The kinds fall in ranges, so decide the sort of a kind" takes its form with ask 4.
 const TABLE: [u16; COLUMNS * KINDS] = [
     // 0: not listed.
     0,
