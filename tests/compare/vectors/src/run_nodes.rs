@@ -16,34 +16,15 @@ const EXPRESSIONS: &[(Entries, (u32, u32), (u32, &[i32]))] = &[
     (&[&[32]], (54, 1), (0, &[])),
     // 5 div 0
     (&[&[31, 5], &[31, 0], &[44, 1, 2]], (52, 3), (2, &[1, 0])),
-    // {(1, 5), (2, 6)} applied to 2
-    (APPLY_TO_2, (0, 0), (9, &[1, 6])),
-    // {(1, 5), (2, 6)} applied to 3
-    (APPLY_TO_3, (52, 9), (8, &[1, 3])),
 ];
 
-const APPLY_TO_2: Entries = &[
-    &[31, 1],
-    &[31, 5],
-    &[34, 1, 2],
-    &[31, 2],
-    &[31, 6],
-    &[34, 4, 5],
-    &[33, 3, 6],
-    &[31, 2],
-    &[37, 7, 8],
-];
-const APPLY_TO_3: Entries = &[
-    &[31, 1],
-    &[31, 5],
-    &[34, 1, 2],
-    &[31, 2],
-    &[31, 6],
-    &[34, 4, 5],
-    &[33, 3, 6],
-    &[31, 3],
-    &[37, 7, 8],
-];
+/// {(1, 5), (2, 6)}, the last node.
+const PAIRS: Entries =
+    &[&[31, 1], &[31, 5], &[34, 1, 2], &[31, 2], &[31, 6], &[34, 4, 5], &[33, 3, 6]];
+
+/// It applied to a number: the number, finding, last value.
+const APPLICATIONS: &[(u32, (u32, u32), (u32, &[i32]))] =
+    &[(2, (0, 0), (9, &[1, 6])), (3, (52, 9), (8, &[1, 3]))];
 
 /// [A]; x : ℤ
 const GIVEN_FIRST: Entries =
@@ -134,7 +115,7 @@ const RUNS: &[(Entries, Entries, (u32, u32), (u32, &[i32]))] = &[
 
 /// The document that keeps the last of these nodes, an expression, as an
 /// abbreviation.
-fn keeping(nodes: Entries) -> Vec<u32> {
+fn keeping(nodes: &[&[u32]]) -> Vec<u32> {
     let last = nodes.len() as u32;
     coded(&[nodes, &[&[5, A, 0, last], &[1, last + 1]]].concat())
 }
@@ -146,6 +127,10 @@ pub fn rows(t: &mut Table) {
     };
     for &(nodes, finding, last) in EXPRESSIONS {
         runs(&keeping(nodes), &[0], finding, last);
+    }
+    for &(argument, finding, last) in APPLICATIONS {
+        let applied: &[&[u32]] = &[&[31, argument], &[37, 7, 8]];
+        runs(&keeping(&[PAIRS, applied].concat()), &[0], finding, last);
     }
     for &(document, state, finding, last) in RUNS {
         runs(&coded(document), &coded(state), finding, last);
