@@ -10,9 +10,10 @@ use borrow.Author.Tests.{eqb-false, ltb-true, ltb-false}
 use Rattle.types_rules.specs.Former.{Former, int, given, parameter, power, product, binding, identifiers}
 use Rattle.types_rules.specs.Types.{Term, unknown, con, Terms, nil, cons}
 use Rattle.types_rules.specs.Formed.{partCount, Formed, Formeds, Ascending, Arity}
+use Rattle.checker_rules.specs.Strokes.{decorate}
 use Rattle.checker_rules.specs.Unknowns.{unknownAt}
 use Rattle.checker_rules.specs.Signatures.{Signature, noNames, naming, namesOf, termsOf, bindingOf, withNames, componentsOf}
-use Rattle.checker_rules.specs.Signatures.{insertName, merge, declare, renamed, renameAll}
+use Rattle.checker_rules.specs.Signatures.{insertName, merge, declare, strokeAll, renamed, renameAll}
 use Rattle.checker_rules.proofs.SignatureTerms.{Having, declare-having}
 
 abbrev pub FormedTerms : Signature → Type 0
@@ -88,6 +89,12 @@ pub declare-rising : (is : List ℕ) (t : Term) (r : Signature) → Rising r →
 unfolding declare
 declare-rising [] t r h = h
 declare-rising (i ∷ is) t r h = declare-rising is t (insertName i t r) (insert-rising i t r h)
+
+pub stroke-rising : (k : ℕ) (s : Signature) → Rising s → Rising (strokeAll k s)
+unfolding strokeAll namesOf decorate
+stroke-rising k noNames h = tt
+stroke-rising k (naming i t noNames) h = tt
+stroke-rising k (naming i t (naming j u s)) h = (omega (arith, h .0), stroke-rising k (naming j u s) (h .1))
 
 pub rename-rising : (rs : List (ℕ × ℕ)) (s : Signature) → Rising (renameAll rs s)
 unfolding renameAll namesOf

@@ -12,7 +12,7 @@ use Rattle.checker_rules.specs.Dictionary.{Dictionary, blank, dictionary
 use Rattle.checker_rules.specs.Rules.{paragraphItems}
 use Rattle.checker_rules.specs.Entries.{extend, paragraphNode}
 use Rattle.checker_rules.specs.ExpressionNodes.{InParagraph}
-use Rattle.checker_rules.specs.Check.{Answer, accepted, refused, paragraphsOf, checkWorkWords}
+use Rattle.checker_rules.specs.Check.{Answer, accepted, refused, paragraphsOf}
 use Rattle.reader_rules.specs.declared.Reading.the-variants.{Readable, Refused}
 
 -- P: the valuations that count as solutions. `Any`: all of them. `FormedTable`: those of well-formed types alone, which gives every document's words the
@@ -42,8 +42,8 @@ module _ (P : Valuation → Type 0) where
   -- A readable document, by the lengths of its two areas: 21, then 22 at 0, then the paragraphs.
   unfoldable pub AnswersTree : Document → ℕ → ℕ → Answer → Type 0
   AnswersTree t d w a =
-      ((w < checkWorkWords) × (a ≡ refused 21 0))
-      ⊎ ((checkWorkWords ≤ w) × (((d ≡ 0) × (a ≡ refused 22 0)) ⊎ ((0 < d) × AnswersFrom (paragraphsOf t) blank d a)))
+      ((w < 16384) × (a ≡ refused 21 0))
+      ⊎ ((16384 ≤ w) × (((d ≡ 0) × (a ≡ refused 22 0)) ⊎ ((0 < d) × AnswersFrom (paragraphsOf t) blank d a)))
 
   -- The answer to a document's words: reading's finding where there is one.
   unfoldable pub Answers : List ℕ → ℕ → ℕ → Answer → Type 0
