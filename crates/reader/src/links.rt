@@ -2,9 +2,9 @@
 use codes::findings;
 use codes::kinds;
 use layout::part;
-use reader_nodes::kinds::operand_count;
-use reader_nodes::kinds::sort_at;
+use reader_nodes::counts::operand_count;
 use reader_nodes::nodes::kind_at;
+use reader_nodes::operands::sort_at;
 use reader_nodes::sorts;
 use reader_rules::Reading;
 use words::store;

@@ -1,11 +1,10 @@
 // Findings 12 to 14, node by node.
-use crate::kinds::TOO_MANY;
-use crate::kinds::column;
-use crate::kinds::count_ok;
+use crate::counts::count_ok;
+use crate::counts::is_listed;
+use crate::counts::operand_count;
 use crate::kinds::of_sort;
-use crate::kinds::operand_count;
-use crate::kinds::plain_ok;
-use crate::kinds::sort_at;
+use crate::operands::sort_at;
+use crate::plain::plain_ok;
 use crate::sorts;
 use codes::findings;
 use layout::part;
@@ -90,8 +89,7 @@ fn lower_nodes(doc: &[u32], k: usize, w: &[u32]) -> bool
 fn number_of(doc: &[u32], k: usize, w: &[u32]) -> u32
     ensures { λ r. ⌜ r ≡ numberOf (now (doc .entry)) k (now (w .entry)) ⌝ }
 {
-    let limit = column(word(w, 0), TOO_MANY);
-    if 0 < limit {
+    if is_listed(word(w, 0)) {
         if count_ok(w) {
             if plain_words(w) {
                 if lower_nodes(doc, k, w) {

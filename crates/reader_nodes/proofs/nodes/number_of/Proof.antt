@@ -1,4 +1,3 @@
-use borrow.Author.Tests.{lt-ltb, le-ltb}
 use borrow.Author.Needs.{needs}
 use Rattle.reader_nodes.proofs.nodes.number_of.Statement.{statement}
 use Rattle.reader_nodes.proofs.nodes.number_of.Tie as tie
@@ -6,25 +5,25 @@ use Rattle.reader_nodes.proofs.nodes.number_of.Tie as tie
 returns : tie.Need-returns
 returns c =
     let b = c .before .before .before .before .before .before in
-    rw (← (c .before .lower-nodes .ensures), c .if4 .taken, ← (c .before .before .before .plain-words .ensures), c .before .before .if3 .taken, ← (c .before .before .before .before .before .count-ok .ensures), c .before .before .before .before .if2 .taken, ← (b .before .before .word .ensures .0), ← (b .before .column .ensures), lt-ltb 0 (b .before .column .result) (b .if1 .taken))
+    rw (← (c .before .lower-nodes .ensures), c .if4 .taken, ← (c .before .before .before .plain-words .ensures), c .before .before .if3 .taken, ← (c .before .before .before .before .before .count-ok .ensures), c .before .before .before .before .if2 .taken, ← (b .before .before .word .ensures .0), ← (b .before .is-listed .ensures), b .if1 .taken)
 
 returns-2 : tie.Need-returns-2
 returns-2 c =
     let b = c .before .before .before .before .before .before in
-    rw (← (c .before .lower-nodes .ensures), c .if4 .left, ← (c .before .before .before .plain-words .ensures), c .before .before .if3 .taken, ← (c .before .before .before .before .before .count-ok .ensures), c .before .before .before .before .if2 .taken, ← (b .before .before .word .ensures .0), ← (b .before .column .ensures), lt-ltb 0 (b .before .column .result) (b .if1 .taken))
+    rw (← (c .before .lower-nodes .ensures), c .if4 .left, ← (c .before .before .before .plain-words .ensures), c .before .before .if3 .taken, ← (c .before .before .before .before .before .count-ok .ensures), c .before .before .before .before .if2 .taken, ← (b .before .before .word .ensures .0), ← (b .before .is-listed .ensures), b .if1 .taken)
 
 returns-3 : tie.Need-returns-3
 returns-3 c =
     let b = c .before .before .before .before in
-    rw (← (c .before .plain-words .ensures), c .if3 .left, ← (c .before .before .before .count-ok .ensures), c .before .before .if2 .taken, ← (b .before .before .word .ensures .0), ← (b .before .column .ensures), lt-ltb 0 (b .before .column .result) (b .if1 .taken))
+    rw (← (c .before .plain-words .ensures), c .if3 .left, ← (c .before .before .before .count-ok .ensures), c .before .before .if2 .taken, ← (b .before .before .word .ensures .0), ← (b .before .is-listed .ensures), b .if1 .taken)
 
 returns-4 : tie.Need-returns-4
 returns-4 c =
     let b = c .before .before in
-    rw (← (c .before .count-ok .ensures), c .if2 .left, ← (b .before .before .word .ensures .0), ← (b .before .column .ensures), lt-ltb 0 (b .before .column .result) (b .if1 .taken))
+    rw (← (c .before .count-ok .ensures), c .if2 .left, ← (b .before .before .word .ensures .0), ← (b .before .is-listed .ensures), b .if1 .taken)
 
 returns-5 : tie.Need-returns-5
-returns-5 c = rw (← (c .before .before .word .ensures .0), ← (c .before .column .ensures), le-ltb 0 (c .before .column .result) (c .if1 .left))
+returns-5 c = rw (← (c .before .before .word .ensures .0), ← (c .before .is-listed .ensures), c .if1 .left)
 
 pub number-of-spec : {M : Type 1} → statement M
 number-of-spec =
