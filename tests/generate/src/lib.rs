@@ -56,7 +56,8 @@ pub fn case(seed: u64, index: u64) -> Case {
 
 fn some_document(rng: &mut Rng) -> (&'static str, Vec<u32>) {
     match rng.below(100) {
-        0..=3 => ("raw words", raw::raw_words(rng)),
+        0..=2 => ("raw words", raw::raw_words(rng)),
+        3 => ("any kind", raw::any_kind(rng)),
         4..=6 => {
             let sound = sound_document(rng);
             ("damaged layout", raw::damage_layout(rng, &sound))

@@ -1,7 +1,7 @@
 //! Raw words and damaged layouts.
 
 use crate::rng::Rng;
-use reference::kinds::{has_sort, is_listed, slots, Slot};
+use reference::kinds::{has_sort, in_range, is_listed, slots, Slot, Sort};
 
 /// Words at the ends of ranges, where comparisons go wrong.
 pub const EDGES: [u32; 26] = [
@@ -73,6 +73,77 @@ fn small_nodes(rng: &mut Rng) -> Vec<u32> {
     };
     let nodes: Vec<Vec<u32>> = (0..count).map(|_| node(rng)).collect();
     coding::join(&nodes)
+}
+
+/// The ends of the ranges in which the kinds fall, and the words next to them.
+const KIND_ENDS: [u32; 20] =
+    [0, 1, 2, 6, 7, 9, 10, 12, 13, 14, 15, 16, 19, 20, 29, 30, 46, 47, 48, u32::MAX];
+
+/// One node of each sort, a node whose kind is any word, and a node that uses
+/// it as one of some sort.
+pub fn any_kind(rng: &mut Rng) -> Vec<u32> {
+    let mut nodes = vec![
+        vec![20],
+        vec![32],
+        vec![31, 7],
+        vec![11, 2, 4],
+        vec![10, 1],
+        vec![12, 1, 0, 0],
+        vec![15, 5, 6],
+        vec![2, 4],
+    ];
+    let kind = match rng.below(8) {
+        0 => odd_word(rng, 46),
+        1..=2 => *rng.pick(&KIND_ENDS),
+        _ => rng.from(1, 46) as u32,
+    };
+    let node = some_operands(rng, &nodes, kind);
+    nodes.push(node);
+    let at = nodes.len() as u32;
+    let users = [
+        (Sort::Predicate, vec![24, at]),
+        (Sort::Expression, vec![36, at]),
+        (Sort::Text, vec![3, at]),
+        (Sort::Include, vec![40, at]),
+        (Sort::Line, vec![10, 1, at]),
+        (Sort::Schema, vec![4, 1, 0, at]),
+        (Sort::Paragraph, vec![1, at]),
+    ];
+    let (fitting, others): (Vec<_>, Vec<_>) =
+        users.into_iter().partition(|(sort, _)| has_sort(kind, *sort));
+    let from = if fitting.is_empty() || rng.percent(30) { others } else { fitting };
+    nodes.push(rng.pick(&from).1.clone());
+    coding::join(&nodes)
+}
+
+/// A node of this kind: in most cases with a number of operands that the kind
+/// takes, and each what the kind asks for.
+fn some_operands(rng: &mut Rng, nodes: &[Vec<u32>], kind: u32) -> Vec<u32> {
+    let any = |rng: &mut Rng| {
+        let lengths = [16, 17, 19, 20, 255, 256];
+        let length = if rng.percent(5) { *rng.pick(&lengths) } else { rng.below(9) };
+        let operands = (0..length).map(|_| rng.below(9) as u32);
+        std::iter::once(kind).chain(operands).collect::<Vec<u32>>()
+    };
+    let mut node = any(rng);
+    if !is_listed(kind) || rng.percent(20) {
+        return node;
+    }
+    while slots(&node).is_none() {
+        node = any(rng);
+    }
+    for (i, slot) in slots(&node).expect("tested above").into_iter().enumerate() {
+        let fits = |word: u32| match slot {
+            Slot::Node(sort) => word > 0 && has_sort(nodes[word as usize - 1][0], sort),
+            Slot::Count => word == node[i + 1],
+            _ => in_range(slot, word),
+        };
+        let fitting: Vec<u32> = (0..=8).filter(|&word| fits(word)).collect();
+        if rng.percent(97) {
+            node[i + 1] = *rng.pick(&fitting);
+        }
+    }
+    node
 }
 
 /// A coded document with one thing of its layout broken.
