@@ -1,60 +1,40 @@
 -- THE ROWS OF THE LIST OF KINDS AND THE CHOICES OVER RANGES ARE ONE FUNCTION ON ALL WORDS (rows-chosen); what follows for the numbers in which the code
--- has the choices, and for the sort of a kind.
+-- has the choices.
 use mathlib.Core.Path.{_≡_, refl, sym, _∙_, ap, fun-ext}
-use mathlib.Core.Bool.{Bool, true, false, not}
+use mathlib.Core.Bool.{Bool, true, false}
 use mathlib.Core.List.{List, [], _∷_}
 use Prim.Native.Nat.{ℕ, _+_, _*_, _/_, _%_, _≤_, _<_}
 use native.Mathlib.Omega.{arith}
 use lib.Dec.{ltb}
 use lib.ListN.{getD, List·getD-eq-default}
-use borrow.Author.Tests.{ltb-true, ltb-false, ne-eqb}
+use borrow.Author.Tests.{ltb-true, ltb-false}
 use Rattle.words.specs.Loops.{every}
 use Rattle.reader_rules.specs.Kinds.{table, cell}
-use Rattle.reader_nodes.specs.Choices.{byRanges, operands, paragraphCounts, predicateCounts, expressionCounts, otherCounts, chosenCounts, countsNumber, one, paragraphSorts, predicateSorts, expressionSorts, otherSorts, chosenSorts, sortsNumber, rowOf, chosenRow}
-use Rattle.reader_nodes.proofs.RangeLaws.{over, outside, sameWords, alike}
-
--- the kinds outside the three ranges that are not listed
-module _ (q : ℕ) (a : q ≡ 1 → ⊥) (b : q ≡ 10 → ⊥) (c : q ≡ 11 → ⊥) (d : q ≡ 12 → ⊥) (e : q ≡ 15 → ⊥) where
-  pub no-counts : otherCounts q ≡ operands 0 0
-  unfolding otherCounts
-  no-counts = rw (ne-eqb q 1 a, ne-eqb q 10 b, ne-eqb q 11 c, ne-eqb q 12 d, ne-eqb q 15 e)
-
-  pub no-sorts : otherSorts q ≡ one 0
-  unfolding otherSorts
-  no-sorts = rw (ne-eqb q 1 a, ne-eqb q 10 b, ne-eqb q 11 c, ne-eqb q 12 d, ne-eqb q 15 e)
+use Rattle.reader_nodes.specs.Choices.{byRanges, byKind, fromBelow, paragraphCounts, predicateCounts, expressionCounts, otherCounts, chosenCounts, countsNumber, nothing, paragraphSorts, predicateSorts, expressionSorts, otherSorts, chosenSorts, sortsNumber, rowOf, chosenRow}
+use Rattle.reader_nodes.proofs.RangeLaws.{past, sameWords, alike}
 
 -- the kinds from 47 on
 module _ (q : ℕ) (h : 47 ≤ q) where
-  past : (j : ℕ) → j < 6 → cell q j ≡ 0
+  past-cell : (j : ℕ) → j < 6 → cell q j ≡ 0
   unfolding cell
-  past j l = List·getD-eq-default table 0 {n = 6 * q + j} (omega arith)
+  past-cell j l = List·getD-eq-default table 0 {n = 6 * q + j} (omega arith)
 
-  not-this : (k : ℕ) → k < 47 → q ≡ k → ⊥
-  not-this k l e = omega arith
+  past-counts : chosenCounts q ≡ fromBelow 0 0
+  unfolding chosenCounts otherCounts
+  past-counts = past paragraphCounts predicateCounts expressionCounts _ _ _ _ _ _ q h
 
-  past-ranges : {A : Type 0} (p r e o : ℕ → A) → byRanges p r e o q ≡ o q
-  past-ranges p r e o = sym (outside p r e o q (over 2 q 6 (omega arith)) (over 20 q 29 (omega arith)) (over 30 q 46 h))
-
-  past-counts : chosenCounts q ≡ operands 0 0
-  unfolding chosenCounts
-  past-counts =
-      past-ranges paragraphCounts predicateCounts expressionCounts otherCounts
-      ∙ no-counts q (not-this 1 (omega arith)) (not-this 10 (omega arith)) (not-this 11 (omega arith)) (not-this 12 (omega arith)) (not-this 15 (omega arith))
-
-  past-sorts : chosenSorts q ≡ one 0
-  unfolding chosenSorts
-  past-sorts =
-      past-ranges paragraphSorts predicateSorts expressionSorts otherSorts
-      ∙ no-sorts q (not-this 1 (omega arith)) (not-this 10 (omega arith)) (not-this 11 (omega arith)) (not-this 12 (omega arith)) (not-this 15 (omega arith))
+  past-sorts : chosenSorts q ≡ nothing
+  unfolding chosenSorts otherSorts
+  past-sorts = past paragraphSorts predicateSorts expressionSorts _ _ _ _ _ _ q h
 
   past-rows : rowOf q ≡ chosenRow q
   unfolding rowOf chosenRow
   past-rows =
-      rw (past 0 (omega arith), past 1 (omega arith), past 2 (omega arith), past 3 (omega arith), past 4 (omega arith), past 5 (omega arith), past-counts, past-sorts)
+      rw (past-cell 0 (omega arith), past-cell 1 (omega arith), past-cell 2 (omega arith), past-cell 3 (omega arith), past-cell 4 (omega arith), past-cell 5 (omega arith), past-counts, past-sorts)
 
 -- the kinds below 47
 listed-rows : every (λ q. sameWords (rowOf q) (chosenRow q)) 0 47 ≡ true
-unfolding every rowOf cell chosenRow chosenCounts chosenSorts byRanges paragraphCounts predicateCounts expressionCounts otherCounts paragraphSorts predicateSorts expressionSorts otherSorts
+unfolding every rowOf cell chosenRow chosenCounts chosenSorts byRanges byKind paragraphCounts predicateCounts expressionCounts otherCounts paragraphSorts predicateSorts expressionSorts otherSorts
 listed-rows = refl
 
 -- THE LIST AND THE CHOICE
@@ -73,7 +53,7 @@ numbered : ℕ → List ℕ
 numbered q = columns (countsNumber (chosenCounts q)) (sortsNumber (chosenSorts q))
 
 listed-numbers : every (λ q. sameWords (numbered q) (chosenRow q)) 0 47 ≡ true
-unfolding numbered countsNumber sortsNumber every chosenRow chosenCounts chosenSorts byRanges paragraphCounts predicateCounts expressionCounts otherCounts paragraphSorts predicateSorts expressionSorts otherSorts
+unfolding numbered countsNumber sortsNumber every chosenRow chosenCounts chosenSorts byRanges byKind paragraphCounts predicateCounts expressionCounts otherCounts paragraphSorts predicateSorts expressionSorts otherSorts
 listed-numbers = refl
 
 module _ (q : ℕ) where

@@ -8,8 +8,8 @@ use borrow.Author.Tests.{ltb-true, ltb-false, lt-ltb, ne-eqb}
 use Rattle.words.specs.Loops.{every}
 use Rattle.words.proofs.Loops.{every-at}
 use Rattle.reader_rules.specs.Kinds.{ofSort}
-use Rattle.reader_nodes.specs.Choices.{byRanges, otherSort, chosenSort, within}
-use Rattle.reader_nodes.proofs.RangeLaws.{over, outside}
+use Rattle.reader_nodes.specs.Choices.{byRanges, byKind, otherSort, chosenSort, within}
+use Rattle.reader_nodes.proofs.RangeLaws.{over, past}
 
 -- both tests pass, or neither
 abbrev bothOrNeither : Bool → Bool → Bool
@@ -24,7 +24,7 @@ both-or-neither false false e = refl
 
 -- the listed kinds and the sorts
 listed-sorts : every (λ q. every (λ s. bothOrNeither (within (chosenSort q) s) (ofSort s q)) 0 13) 0 47 ≡ true
-unfolding every within chosenSort byRanges otherSort ofSort
+unfolding every within chosenSort byRanges byKind otherSort ofSort
 listed-sorts = refl
 
 -- a number from 13 on is no sort
@@ -48,9 +48,7 @@ module _ (q : ℕ) (h : 47 ≤ q) where
 
   past-sort : chosenSort q ≡ 0
   unfolding chosenSort otherSort
-  past-sort =
-      sym (outside _ _ _ otherSort q (over 2 q 6 (omega arith)) (over 20 q 29 (omega arith)) (over 30 q 46 h))
-      ∙ rw (other-kind 10 (omega arith), other-kind 11 (omega arith), other-kind 12 (omega arith), other-kind 15 (omega arith))
+  past-sort = past _ _ _ _ _ _ _ _ _ q h
 
   nothing : (b x : Bool) → x ≡ false → cond b false x ≡ false
   nothing true x e = refl
@@ -76,7 +74,7 @@ module _ (q : ℕ) (h : 47 ≤ q) where
       go true e = rw (e, ne-eqb s 0 (λ z. omega (arith, ltb-true 5 s e))) (both (eqb s 7) (eqb s 10))
 
 sort-bounds : every (λ q. ltb (chosenSort q) 13) 0 47 ≡ true
-unfolding every chosenSort byRanges otherSort
+unfolding every chosenSort byRanges byKind otherSort
 sort-bounds = refl
 
 pub sorts-chosen : (s q : ℕ) → within (chosenSort q) s ≡ ofSort s q

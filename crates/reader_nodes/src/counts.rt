@@ -7,7 +7,7 @@ ghost use mathlib.Core.Path.{_≡_};
 ghost use Prim.Native.Nat.{_-_, _≤_, _<_, _^_};
 ghost use lib.ListN.{length};
 ghost use Rattle.reader_rules.specs.Kinds.{listed, countRow, countBy, countOk};
-ghost use Rattle.reader_nodes.specs.Choices.{countsNumber, operands, paragraphCounts, predicateCounts, expressionCounts, otherCounts, chosenCounts};
+ghost use Rattle.reader_nodes.specs.Choices.{countsNumber, fromBelow, paragraphCounts, predicateCounts, expressionCounts, otherCounts, chosenCounts};
 
 // A choice is one number: the first number of operands that is too large, and in the last digit the fewest.
 const DIGIT: usize = 16;
@@ -23,9 +23,9 @@ const BESIDE_PARAMETERS: usize = 3;
 // The identifiers of an Include's rename pairs.
 const RENAME_IDENTIFIERS: usize = 2 * limits::RENAMES;
 
-fn operands(fewest: usize, limit: usize) -> usize
+fn from_below(fewest: usize, limit: usize) -> usize
     requires { ⌜ (fewest < 16) × (limit ≤ 256) ⌝ }
-    ensures { λ r. ⌜ r ≡ countsNumber (operands fewest limit) ⌝ }
+    ensures { λ r. ⌜ r ≡ countsNumber (fromBelow fewest limit) ⌝ }
 {
     limit * DIGIT + fewest
 }
@@ -34,9 +34,9 @@ fn paragraph(q: usize) -> usize
     ensures { λ r. ⌜ r ≡ countsNumber (paragraphCounts q) ⌝ }
 {
     match q {
-        kinds::GIVEN => operands(1, 17),
-        kinds::SCHEMA..=kinds::ABBREVIATION => operands(3, 8),
-        _ => operands(1, 2),
+        kinds::GIVEN => from_below(1, 17),
+        kinds::SCHEMA..=kinds::ABBREVIATION => from_below(3, 8),
+        _ => from_below(1, 2),
     }
 }
 
@@ -44,9 +44,9 @@ fn predicate(q: usize) -> usize
     ensures { λ r. ⌜ r ≡ countsNumber (predicateCounts q) ⌝ }
 {
     match q {
-        kinds::TRUE => operands(0, 1),
-        kinds::NOT => operands(1, 2),
-        _ => operands(2, 3),
+        kinds::TRUE => from_below(0, 1),
+        kinds::NOT => from_below(1, 2),
+        _ => from_below(2, 3),
     }
 }
 
@@ -56,9 +56,9 @@ fn name_or_number(q: usize) -> usize
     ensures { λ r. ⌜ r ≡ countsNumber (expressionCounts q) ⌝ }
 {
     match q {
-        kinds::REF => operands(1, 6),
-        kinds::NUMBER => operands(1, 2),
-        _ => operands(0, 1),
+        kinds::REF => from_below(1, 6),
+        kinds::NUMBER => from_below(1, 2),
+        _ => from_below(0, 1),
     }
 }
 
@@ -68,9 +68,9 @@ fn collection(q: usize) -> usize
     ensures { λ r. ⌜ r ≡ countsNumber (expressionCounts q) ⌝ }
 {
     if q == kinds::SET {
-        return operands(0, 7);
+        return from_below(0, 7);
     }
-    operands(2, 7)
+    from_below(2, 7)
 }
 
 fn expression(q: usize) -> usize
@@ -80,9 +80,9 @@ fn expression(q: usize) -> usize
     match q {
         kinds::REF..=kinds::INTEGERS => name_or_number(q),
         kinds::SET..=kinds::PRODUCT => collection(q),
-        kinds::POWER => operands(1, 2),
-        kinds::SCHEMA_SET => operands(1, 2),
-        _ => operands(2, 3),
+        kinds::POWER => from_below(1, 2),
+        kinds::SCHEMA_SET => from_below(1, 2),
+        _ => from_below(2, 3),
     }
 }
 
@@ -92,9 +92,9 @@ fn text(q: usize) -> usize
     ensures { λ r. ⌜ r ≡ countsNumber (otherCounts q) ⌝ }
 {
     match q {
-        kinds::TEXT => operands(1, 8),
-        kinds::DECL => operands(2, 8),
-        _ => operands(3, 20),
+        kinds::TEXT => from_below(1, 8),
+        kinds::DECL => from_below(2, 8),
+        _ => from_below(3, 20),
     }
 }
 
@@ -103,9 +103,9 @@ fn other(q: usize) -> usize
     ensures { λ r. ⌜ r ≡ countsNumber (otherCounts q) ⌝ }
 {
     match q {
-        kinds::DOCUMENT => operands(0, 256),
+        kinds::DOCUMENT => from_below(0, 256),
         kinds::TEXT..=kinds::INCLUDE => text(q),
-        kinds::CONJUNCTION => operands(2, 3),
+        kinds::CONJUNCTION => from_below(2, 3),
         _ => UNLISTED,
     }
 }

@@ -7,7 +7,7 @@ use words::word;
 ghost use mathlib.Core.Path.{_≡_};
 ghost use Prim.Native.Nat.{_≤_, _<_, _^_};
 ghost use Rattle.reader_rules.specs.Kinds.{cell, sortRow, sortInclude, sortIn, sortAt};
-ghost use Rattle.reader_nodes.specs.Choices.{sortsNumber, sorts, each, two, one, paragraphSorts, predicateSorts, expressionSorts, otherSorts, chosenSorts};
+ghost use Rattle.reader_nodes.specs.Choices.{sortsNumber, byPlace, each, two, one, paragraphSorts, predicateSorts, expressionSorts, otherSorts, chosenSorts};
 
 // A choice is one number with a digit for each sort: of the first operand, of the second, of every other, and of the last where it differs.
 const DIGIT: usize = 16;
@@ -20,9 +20,9 @@ const FIRST: usize = DIGIT * SECOND;
 
 const NOTHING: usize = 0;
 
-fn row(first: usize, second: usize, others: usize, last: usize) -> usize
+fn by_place(first: usize, second: usize, others: usize, last: usize) -> usize
     requires { ⌜ (first < 16) × (second < 16) × (others < 16) × (last < 16) ⌝ }
-    ensures { λ r. ⌜ r ≡ sortsNumber (sorts first second others last) ⌝ }
+    ensures { λ r. ⌜ r ≡ sortsNumber (byPlace first second others last) ⌝ }
 {
     first * FIRST + second * SECOND + others * OTHERS + last
 }
@@ -31,14 +31,14 @@ fn each(s: usize) -> usize
     requires { ⌜ s < 16 ⌝ }
     ensures { λ r. ⌜ r ≡ sortsNumber (each s) ⌝ }
 {
-    row(s, s, s, sorts::NONE)
+    by_place(s, s, s, sorts::NONE)
 }
 
 fn two(first: usize, second: usize) -> usize
     requires { ⌜ (first < 16) × (second < 16) ⌝ }
     ensures { λ r. ⌜ r ≡ sortsNumber (two first second) ⌝ }
 {
-    row(first, second, sorts::NONE, sorts::NONE)
+    by_place(first, second, sorts::NONE, sorts::NONE)
 }
 
 fn one(s: usize) -> usize
@@ -65,14 +65,14 @@ fn definition(q: usize) -> usize
     ensures { λ r. ⌜ r ≡ sortsNumber (paragraphSorts q) ⌝ }
 {
     if q == kinds::SCHEMA {
-        return row(
+        return by_place(
             sorts::SCHEMA_NAMES,
             sorts::COUNTS,
             sorts::IDENTIFIERS,
             sorts::SCHEMA_EXPRESSIONS,
         );
     }
-    row(
+    by_place(
         sorts::IDENTIFIERS,
         sorts::COUNTS,
         sorts::IDENTIFIERS,
@@ -110,7 +110,7 @@ fn name_or_number(q: usize) -> usize
     ensures { λ r. ⌜ r ≡ sortsNumber (expressionSorts q) ⌝ }
 {
     match q {
-        kinds::REF => row(
+        kinds::REF => by_place(
             sorts::IDENTIFIERS,
             sorts::EXPRESSIONS,
             sorts::EXPRESSIONS,
@@ -153,14 +153,14 @@ fn text(q: usize) -> usize
     ensures { λ r. ⌜ r ≡ sortsNumber (otherSorts q) ⌝ }
 {
     match q {
-        kinds::TEXT => row(sorts::PREDICATES, sorts::LINES, sorts::LINES, sorts::NONE),
-        kinds::DECL => row(
+        kinds::TEXT => by_place(sorts::PREDICATES, sorts::LINES, sorts::LINES, sorts::NONE),
+        kinds::DECL => by_place(
             sorts::EXPRESSIONS,
             sorts::IDENTIFIERS,
             sorts::IDENTIFIERS,
             sorts::NONE,
         ),
-        _ => row(
+        _ => by_place(
             sorts::SCHEMA_NAMES,
             sorts::STROKES,
             sorts::COUNTS,
@@ -195,14 +195,14 @@ fn sorts_of(q: usize) -> usize
 fn sort_row(q: usize, i: usize) -> usize
     ensures { λ r. ⌜ r ≡ sortRow q i ⌝ }
 {
-    let row = sorts_of(q);
+    let chosen = sorts_of(q);
     if i == 1 {
-        return row / FIRST;
+        return chosen / FIRST;
     }
     if i == 2 {
-        return row / SECOND % DIGIT;
+        return chosen / SECOND % DIGIT;
     }
-    row / OTHERS % DIGIT
+    chosen / OTHERS % DIGIT
 }
 
 // The sort of the last operand where it differs, else 0.

@@ -9,7 +9,7 @@ use Rattle.reader_nodes.proofs.counts.paragraph.Tie as tie
 
 returns : tie.Need-returns
 unfolding paragraphCounts
-returns c = rw (c .before .match .keys1) (c .operands .ensures)
+returns c = rw (c .before .match .keys1) (c .from-below .ensures)
 
 returns-2 : tie.Need-returns-2
 unfolding paragraphCounts
@@ -22,7 +22,7 @@ unfolding paragraphCounts
 returns-3 c =
     let s = c .before .before .before .args in
     let r = c .before .before .match .rest in
-    rw (ne-eqb (s .q) 2 (r .1), ⊎-elim (λ t. under 4 (s .q) 5 (t .taken)) (λ p. over 4 (s .q) 5 (p .1 .left)) (c .before .if1 .came)) (c .operands3 .ensures)
+    rw (ne-eqb (s .q) 2 (r .1), ⊎-elim (λ t. under 4 (s .q) 5 (t .taken)) (λ p. over 4 (s .q) 5 (p .1 .left)) (c .before .if1 .came)) (c .from-below3 .ensures)
 
 pub paragraph-spec : {M : Type 1} → statement M
 paragraph-spec = tie.close (tie.spec (λ c κs. search needs) (λ c κs. search needs) (λ c κs. search needs) returns returns-2 returns-3)

@@ -8,7 +8,7 @@ use Rattle.reader_nodes.proofs.operands.name_or_number.Tie as tie
 
 returns : tie.Need-returns
 unfolding expressionSorts
-returns c = rw (c .before .match .keys1) (c .row .ensures)
+returns c = rw (c .before .match .keys1) (c .by-place .ensures)
 
 returns-2 : tie.Need-returns-2
 unfolding expressionSorts
