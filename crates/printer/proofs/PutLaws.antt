@@ -5,21 +5,16 @@ use mathlib.Core.Bool.{Bool, true, false, cond}
 use Prim.Native.Nat.{ℕ, zero, suc, _+_, _-_, _≤_, _<_, min}
 use native.Mathlib.Omega.{arith}
 use lib.Dec.{ltb}
-use lib.ListN.{length, set, drop, replicate, length-append, length-replicate}
+use lib.ListN.{length, drop, replicate, length-append, length-replicate}
 use lib.Seq.{sets, length-sets, set-out, sets-eq}
 use borrow.Author.Tests.{ltb-true, ltb-false, lt-ltb, le-ltb}
+use Rattle.words.proofs.Lists.{sets-append}
 use Rattle.printer_rules.specs.Buffer.{printedBytes, printedLength, Printed}
 use Rattle.printer.specs.Buffer.{Put}
 
 sets-out : (l vs : List ℕ) (i : ℕ) → length l ≤ i → sets l i vs ≡ l
 sets-out l [] i h = refl
 sets-out l (x ∷ vs) i h = ap (λ (z : List ℕ). sets z (suc i) vs) (set-out l i x h) ∙ sets-out l vs (suc i) (omega arith)
-
-sets-append : (l : List ℕ) (i : ℕ) (a b : List ℕ) → sets l i (a ++ b) ≡ sets (sets l i a) (i + length a) b
-sets-append l i [] b = let e : i ≡ i + 0 = omega arith in ap (λ (k : ℕ). sets l k b) e
-sets-append l i (x ∷ a) b =
-    let e : suc i + length a ≡ i + suc (length a) = omega arith in
-    sets-append (set l i x) (suc i) a b ∙ ap (λ (k : ℕ). sets (sets (set l i x) (suc i) a) k b) e
 
 -- a position past the end is as good as the end
 sets-clipped : (l vs : List ℕ) (i : ℕ) → sets l (min i (length l)) vs ≡ sets l i vs

@@ -5,6 +5,7 @@ use Prim.Native.Nat.{ℕ, zero, suc, _+_, _≤_, _<_}
 use native.Mathlib.Omega.{arith}
 use lib.ListN.{length, getD, take, drop, length-append}
 use lib.Seq.{sets, take-at}
+use Rattle.words.proofs.Lists.{sets-append}
 use Rattle.types_rules.specs.Former.{Former, int, given, parameter, power, product, binding, tag, identifiers}
 use Rattle.types_rules.specs.Types.{Ty, Tys, node, tnil, tcons}
 use Rattle.types_rules.specs.Formed.{partCountType}
@@ -15,7 +16,6 @@ use Rattle.types_solver.specs.Written.{lead, Wrote}
 use Rattle.types_cells.specs.Parts.{Names, Rest}
 use Rattle.types_cells.proofs.Reading.{rest-start, Part, part-next, parts-are, tag-at, inside, place-low}
 use Rattle.types_cells.proofs.Words.{run-cons, run-length}
-use Rattle.types_solver.proofs.Writer.{sets-append}
 use Rattle.types_instances.specs.Fill.{fill, fills}
 use Rattle.types_instances.proofs.FillLaws.{fills-count, fill-node}
 

@@ -5,6 +5,7 @@ use Prim.Native.Nat.{ℕ, _+_, _*_, _-_, _≤_, _<_}
 use native.Mathlib.Omega.{arith}
 use lib.ListN.{length, getD, length-append, List·getD-append}
 use lib.Seq.{sets, length-sets, getD-append-add, ext-getD}
+use Rattle.words.proofs.Lists.{sets-append}
 use Rattle.types_cells.specs.Layout.{maxCells, poolSize, linksAt, recordsAt, firstRun, frozenSize, runsAt, areaSize}
 use Rattle.types_cells.specs.Store.{frozen, fieldAt, run}
 use Rattle.types_cells.specs.Calls.{Above}
@@ -13,7 +14,6 @@ use Rattle.types_solver.specs.Written.{Wrote}
 use Rattle.types_cells.proofs.Words.{run-at, run-length}
 use Rattle.types_cells.proofs.Reading.{lower-length}
 use Rattle.types_cells.proofs.Growing.{frozen-at}
-use Rattle.types_solver.proofs.Writer.{sets-append}
 use Rattle.types_instances.specs.Moved.{AllBelow, StillRead, Alike, saved, restored, Resumed}
 use Rattle.types_instances.proofs.Moving.{sets-before, sets-in, sets-run, lower-at}
 use Rattle.types_instances.proofs.AlikeLaws.{still-read, alike-solved, alike-above, alike-pinned, alike-below, alike-obeys, alike-obeys-back, alike-solution, alike-solution-back}

@@ -9,6 +9,7 @@ use lib.Dec.{eqb}
 use lib.ListN.{length, getD, set, length-append}
 use lib.Seq.{sets}
 use borrow.Author.Tests.{eqb-true, eqb-false, eq-eqb, ne-eqb}
+use Rattle.words.proofs.Lists.{sets-append}
 use Rattle.types_rules.proofs.Finite.{bounded-mono, tree-same}
 use Rattle.types_rules.specs.Classes.{rep}
 use Rattle.types_rules.specs.Equations.{In, Pairs}
@@ -31,10 +32,6 @@ use Rattle.types_solver.proofs.Marking.{cap-low, cap-high}
 use Rattle.types_cells.proofs.Growing.{lt-or-ge}
 use Rattle.types_solver.proofs.Summing.{part-size}
 use Rattle.types_cells.specs.Calls.{Root}
-
-pub sets-append : (l : List ℕ) (i : ℕ) (a b : List ℕ) → sets l i (a ++ b) ≡ sets (sets l i a) (i + length a) b
-sets-append l i [] b = ap (λ k. sets l k b) (let e : i ≡ i + 0 = omega arith in e)
-sets-append l i (x ∷ a) b = sets-append (set l i x) (suc i) a b ∙ ap (λ k. sets (sets (set l i x) (suc i) a) k b) (let e : suc i + length a ≡ i + suc (length a) = omega arith in e)
 
 lead-of : (t a : ℕ) (l : List ℕ) (k : ℕ) → (t ≡ 4 → a ≡ k) → lead (formerOf t a l) k ≡ leadOf t a k
 unfolding formerOf leadOf tag second

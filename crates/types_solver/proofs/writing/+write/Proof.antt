@@ -6,6 +6,7 @@ use Prim.Native.Nat.{suc, _+_, _-_, _≤_}
 use native.Mathlib.Omega.{arith}
 use lib.ListN.{length, getD}
 use lib.Seq.{sets}
+use Rattle.words.proofs.Lists.{sets-append}
 use Rattle.types_rules.specs.Types.{Ty}
 use Rattle.types_rules.specs.Words.{words}
 use Rattle.types_rules.specs.Equations.{Pairs}
@@ -14,7 +15,7 @@ use Rattle.types_cells.specs.Store.{frozen, tagAt, firstAt, countAt}
 use Rattle.types_cells.specs.Settled.{heap, wordAt, Reads, Readable}
 use Rattle.types_solver.specs.Sizes.{markAt, Model}
 use Rattle.types_solver.specs.Written.{leadAt, nameAt, rest, Resolved, Copied, Wrote, Writing, Leading}
-use Rattle.types_solver.proofs.Writer.{sets-append, split-length, step-area, step-end, rest-end, r-few, r-cell, r-part, m-words, m-length, m-settled, m-readable, r-settled}
+use Rattle.types_solver.proofs.Writer.{split-length, step-area, step-end, rest-end, r-few, r-cell, r-part, m-words, m-length, m-settled, m-readable, r-settled}
 use borrow.Author.Needs.{needs}
 use Prim.Native.Nat.{ℕ, _<_}
 use borrow.Fn.Kinds.{In}
