@@ -51,9 +51,10 @@ module _ (s d w : List ℕ) (free m n at end k : ℕ) where
     plain = subst (λ z. RowsKept s s′ d w w₁ free m (free + tableWords) n z at end (free + frameWords) last) er (subst (λ z. RowsKept s s′ d w w₁ free m (free + tableWords) n row at end z last) ef K)
 
     module _ (b : Bool) (T : RowsTold s d w free m (free + tableWords) n b) (eb : b ≡ true) (w₂ : List ℕ) (total : ℕ) (M : Table w₁ w₂ free (mergeRows (rows w₁ (free + tableWords) n) (rows w₁ free m)) total) (r : Lined) where
-      pub join-many : 16 < total → LinedAt r 38 k 0 0 → Joined s s′ d w w₂ free m n at end k (r .number) (r .place) (r .count) (r .at)
-      join-many l L = record {
-        place-is = L .place-is;
+      join-with : r .place ≡ k → ((r .number ≡ 38) × (16 < total)) ⊎ ((r .number ≡ 0) × (total ≤ 16) × (r .count ≡ total) × (r .at ≡ last)) →
+          Joined s s′ d w w₂ free m n at end k (r .number) (r .place) (r .count) (r .at)
+      join-with p o = record {
+        place-is = p;
         found = inr (record {
           told = subst (RowsTold s d w free m (free + tableWords) n) eb T;
           between = w₁;
@@ -61,23 +62,15 @@ module _ (s d w : List ℕ) (free m n at end k : ℕ) where
           kept = plain;
           total = total;
           merged = M;
-          outcome = inl (L .number-is, l);
+          outcome = o;
         });
       }
 
+      pub join-many : 16 < total → LinedAt r 38 k 0 0 → Joined s s′ d w w₂ free m n at end k (r .number) (r .place) (r .count) (r .at)
+      join-many l L = join-with (L .place-is) (inl (L .number-is, l))
+
       pub join-done : total ≤ 16 → LinedAt r 0 k total last → Joined s s′ d w w₂ free m n at end k (r .number) (r .place) (r .count) (r .at)
-      join-done l L = record {
-        place-is = L .place-is;
-        found = inr (record {
-          told = subst (RowsTold s d w free m (free + tableWords) n) eb T;
-          between = w₁;
-          last = last;
-          kept = plain;
-          total = total;
-          merged = M;
-          outcome = inr (L .number-is, l, L .count-is, L .at-is);
-        });
-      }
+      join-done l L = join-with (L .place-is) (inr (L .number-is, l, L .count-is, L .at-is))
 
 -- A SCHEMA EXPRESSION. q is its kind, p its words.
 module _ (doc p : List ℕ) (k q : ℕ) (N : At doc schemaExpressions k) (ep : p ≡ part doc k) (eq : q ≡ getD p 0 0) (s d w : List ℕ) (stack at free : ℕ) (A : SchemaAsk s d w stack at free (schemaAt doc k)) where
