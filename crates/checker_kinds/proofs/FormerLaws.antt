@@ -1,5 +1,5 @@
 -- What the rules that only build promise: Number, the set ℤ, Tuple, Comprehension.
-use mathlib.Core.Path.{_≡_, refl, subst}
+use mathlib.Core.Path.{_≡_, subst}
 use mathlib.Core.List.{List, [], _∷_}
 use mathlib.Core.Logic.{inl, inr}
 use Prim.Native.Nat.{ℕ, suc, _+_, _≤_, _<_}
@@ -10,38 +10,17 @@ use Rattle.types_rules.specs.Types.{nil, cons}
 use Rattle.checker_rules.specs.Conditions.{typesOf}
 use Rattle.checker_rules.specs.Unknowns.{integer, powerOf, productOf}
 use Rattle.types_cells.specs.Layout.{firstRun}
-use Rattle.types_cells.specs.Store.{run}
 use Rattle.types_cells.specs.Calls.{Making}
 use Rattle.types_solver.proofs.Extending.{builds-on}
 use Rattle.checker_pieces.specs.Stage.{Ghost, Stands, Cell}
 use Rattle.checker_pieces.specs.Building.{Building, Built, Integer}
-use Rattle.checker_pieces.proofs.Stages.{built-stands, built-cell, one-cell, no-cells, uses-on}
+use Rattle.checker_pieces.proofs.Stages.{leaf-making, built-stands, built-cell, one-cell, no-cells, uses-on}
 use Rattle.checker_kinds.specs.Formers.{DerivedList, Derived, numberItems, integersItems, tupleItems, comprehensionItems}
 use Rattle.checker_kinds.proofs.Concluding.{listed, derived}
 
 -- ℤ may be made.
 pub integer-making : (s : List ℕ) (n top x : ℕ) (l : List ℕ) → Building s n top x l → 1 ≤ x → Making s n 1 0 firstRun 0
-unfolding run
-integer-making s n top x l B f =
-    let u = B .room .cells in
-    let w = B .room .fit in
-    record {
-      P₀ = B .P₀;
-      L = B .L;
-      solved = B .solved;
-      few = omega arith;
-      tags = omega arith;
-      plain = λ z. refl;
-      powers = λ z. refl;
-      products = λ z. refl;
-      one = λ z. absurd (omega arith);
-      low = omega arith;
-      room = omega arith;
-      named-low = λ z. absurd (omega arith);
-      named = λ z. absurd (omega arith);
-      older = λ k i. absurd i;
-      fit = omega arith;
-    }
+integer-making s n top x l B f = leaf-making s n top x (B .P₀) (B .L) (B .solved) (B .room) f 1 (omega arith)
 
 -- NUMBER.
 pub number-ruled : (s s′ : List ℕ) (n top : ℕ) → Building s n top 1 [] → Integer s s′ n int [] → (d : List ℕ) → DerivedList s s′ d n top [] 0 n (n + 1) top 1 numberItems

@@ -7,7 +7,7 @@ use Prim.Native.Nat.{ℕ, suc, _+_, _*_, _≤_, _<_, _^_}
 use native.Mathlib.Omega.{arith}
 use lib.ListN.{length}
 use Rattle.types_rules.proofs.Terms.{each-map}
-use Rattle.types_rules.specs.Equations.{In, InP, pair}
+use Rattle.types_rules.specs.Equations.{In, InP, Pairs, pair}
 use Rattle.types_rules.specs.Finite.{fromList}
 use Rattle.types_rules.specs.Former.{Former}
 use Rattle.types_rules.specs.Types.{Ty, node, tcons, Term, Terms, unknown, con, nil, cons, under, unders, Each, Eachs}
@@ -15,7 +15,7 @@ use Rattle.checker_rules.specs.Unknowns.{Valuation, slot}
 use Rattle.checker_rules.specs.Items.{Items, _⨾_, skip, fresh, equate, Meets, Agree, Passes}
 use Rattle.checker_rules.specs.Conditions.{typed}
 use Rattle.types_cells.specs.Layout.{maxPending, firstRun}
-use Rattle.types_cells.specs.Store.{frozen, load, run}
+use Rattle.types_cells.specs.Store.{frozen, load, run, Solved}
 use Rattle.types_cells.specs.Calls.{Above, Making, Made}
 use Rattle.types_solver.specs.Growth.{Builds}
 use Rattle.types_cells.proofs.Growing.{made-above, made-load}
@@ -84,15 +84,15 @@ building s d n top x G St R l ts K = record {
 }
 
 -- An unknown, and ℤ.
-pub plain-making : (s d : List ℕ) (n top x : ℕ) (G : Ghost) → Stands s d n top G → Room s n top x → 1 ≤ x → (t : ℕ) → t < 2 → Making s n t 0 firstRun 0
+pub leaf-making : (s : List ℕ) (n top x : ℕ) (P₀ L : Pairs ℕ) → Solved s n P₀ L → Room s n top x → 1 ≤ x → (t : ℕ) → t < 2 → Making s n t 0 firstRun 0
 unfolding run
-plain-making s d n top x G St R f t l =
+leaf-making s n top x P₀ L S R f t l =
     let u = R .cells in
     let w = R .fit in
     record {
-      P₀ = G .equations;
-      L = St .piece .L;
-      solved = St .piece .solved;
+      P₀ = P₀;
+      L = L;
+      solved = S;
       few = omega arith;
       tags = omega arith;
       plain = λ z. refl;
@@ -106,6 +106,9 @@ plain-making s d n top x G St R f t l =
       older = λ k i. absurd i;
       fit = omega arith;
     }
+
+pub plain-making : (s d : List ℕ) (n top x : ℕ) (G : Ghost) → Stands s d n top G → Room s n top x → 1 ≤ x → (t : ℕ) → t < 2 → Making s n t 0 firstRun 0
+plain-making s d n top x G St R f t l = leaf-making s n top x (G .equations) (St .piece .L) (St .piece .solved) R f t l
 
 -- THE NEW CELL denotes its former of what its parts denote.
 module _ (s s′ d : List ℕ) (n top top′ x : ℕ) (h : Former) (l : List ℕ) (K : Built s s′ n top top′ x h l) (G : Ghost) (St : Stands s d n top G) where
