@@ -7,13 +7,13 @@ use Prim.Native.Nat.{ℕ, _+_, _≤_}
 use native.Mathlib.Omega.{arith}
 use lib.ListN.{length, take}
 use Rattle.reader_rules.specs.Decode.{pairsFrom}
-use Rattle.reader_rules.specs.Tree.{Include}
+use Rattle.reader_rules.specs.Tree.{Include, includeNode}
 use Rattle.reader_rules.specs.TreeNumbers.{includeNumbers}
 use Rattle.checker_rules.specs.Conditions.{smallTypes, mergeNames, sameType}
 use Rattle.checker_rules.specs.Dictionary.{Dictionary}
 use Rattle.checker_rules.specs.Items.{Items, _⨾_, Meets, Refuses}
 use Rattle.checker_rules.specs.Rules.{includeItems}
-use Rattle.checker_rules.specs.Scopes.{Scope, includeNode, includeSignature}
+use Rattle.checker_rules.specs.Scopes.{Scope, includeSignature}
 use Rattle.checker_rules.specs.Signatures.{Signature, noNames, naming, termIn}
 use Rattle.checker_rules.specs.Unknowns.{Valuation}
 use Rattle.checker_signatures.specs.Tables.{tableWords}

@@ -4,11 +4,11 @@ use mathlib.Core.List.{List}
 use Prim.Native.Nat.{ℕ, suc, _≤_}
 use native.Mathlib.Omega.{arith}
 use lib.ListN.{length, getD, take}
-use Rattle.reader_rules.specs.Tree.{Include}
+use Rattle.reader_rules.specs.Tree.{Include, includeNode}
 use Rattle.reader_rules.specs.TreeNumbers.{includeNumbers}
 use Rattle.checker_rules.specs.Items.{Items, Meets}
 use Rattle.checker_rules.specs.Unknowns.{Valuation, row}
-use Rattle.checker_rules.specs.Scopes.{includeNode, includeSignature}
+use Rattle.checker_rules.specs.Scopes.{includeSignature}
 use Rattle.types_instances.specs.Clean.{Clean}
 use Rattle.checker_includes.specs.Components.{ActualTypes}
 use Rattle.checker_includes.specs.Filling.{RowsAsk}

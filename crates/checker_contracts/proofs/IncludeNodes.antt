@@ -11,12 +11,11 @@ use Rattle.reader_rules.specs.Decode.{includeAt, exprsFrom}
 use Rattle.reader_rules.specs.Kinds.{ofSort, lines, includes, expressions}
 use Rattle.reader_rules.specs.Nodes.{kindAt, operandAt}
 use Rattle.reader_rules.specs.Promise.{At, Lower}
-use Rattle.reader_rules.specs.Tree.{include, exprsLength}
+use Rattle.reader_rules.specs.Tree.{include, exprsLength, includeNode}
 use Rattle.reader_rules.proofs.TreeLists.{exprs-length}
 use Rattle.reader_rules.proofs.TreeWords.{included-words}
 use Rattle.reader_rules.proofs.TreeText.{Included, include-kind, include-law}
 use Rattle.checker_rules.specs.Dictionary.{Dictionary}
-use Rattle.checker_rules.specs.Scopes.{includeNode}
 use Rattle.checker_dictionary.specs.Holds.{Holds}
 use Rattle.checker_dictionary.specs.Lookup.{parametersAt, typeAt, SchemaFound}
 use Rattle.checker_signatures.specs.Rows.{renames}

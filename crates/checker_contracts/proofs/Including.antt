@@ -10,7 +10,7 @@ use native.Mathlib.Omega.{arith}
 use lib.ListN.{length, getD, drop}
 use lib.Seq.{sets, length-sets}
 use Rattle.reader_rules.specs.Limited.{LimitedInclude}
-use Rattle.reader_rules.specs.Tree.{Include, include, Exprs, exprsLength}
+use Rattle.reader_rules.specs.Tree.{Include, include, Exprs, exprsLength, includeNode}
 use Rattle.reader_rules.specs.TreeNumbers.{includeNumbers, exprsNumbers}
 use Rattle.types_rules.specs.Former.{binding}
 use Rattle.types_rules.specs.Formed.{FormedType, Arity, Ascending}
@@ -20,7 +20,7 @@ use Rattle.checker_rules.specs.Conditions.{refuseIf}
 use Rattle.checker_rules.specs.Dictionary.{Dictionary, NamedSchema, noSchema, aSchema, schemaIn}
 use Rattle.checker_rules.specs.Items.{Items, skip, _⨾_, refusal, Meets, Refuses}
 use Rattle.checker_rules.specs.Rules.{includeRule, includeItems, actualItems}
-use Rattle.checker_rules.specs.Scopes.{Scope, schemaNamed, brought, includeSignature, includeNode}
+use Rattle.checker_rules.specs.Scopes.{Scope, schemaNamed, brought, includeSignature}
 use Rattle.checker_rules.specs.Signatures.{Signature, componentsOf, strokeAll, renameAll, wrongNames}
 use Rattle.checker_rules.specs.Unknowns.{row}
 use Rattle.types_cells.specs.Layout.{dictionaryAt, areaSize}

@@ -7,7 +7,7 @@ use Prim.Native.Nat.{ℕ, _+_, _*_, _≤_, _<_}
 use native.Mathlib.Omega.{arith}
 use lib.ListN.{length, getD, take}
 use Rattle.reader_rules.specs.Limited.{LimitedLines}
-use Rattle.reader_rules.specs.Tree.{Include, Lines, end, inclusion}
+use Rattle.reader_rules.specs.Tree.{Include, Lines, end, inclusion, includeNode}
 use Rattle.reader_rules.specs.TreeNumbers.{includeNumbers, linesNumbers}
 use Rattle.types_rules.specs.Formed.{Ascending}
 use Rattle.types_rules.specs.Types.{Ty}
@@ -15,7 +15,7 @@ use Rattle.checker_rules.specs.Conditions.{mergeNames, newNames, smallTypes, fe
 use Rattle.checker_rules.specs.Dictionary.{Dictionary}
 use Rattle.checker_rules.specs.Items.{Items, skip, _⨾_, Meets, Refuses}
 use Rattle.checker_rules.specs.Rules.{includeItems, linesItems}
-use Rattle.checker_rules.specs.Scopes.{Scope, includeNode, includeSignature, linesSignature}
+use Rattle.checker_rules.specs.Scopes.{Scope, includeSignature, linesSignature}
 use Rattle.checker_rules.specs.Signatures.{Signature, namesOf, countNames, merge}
 use Rattle.checker_rules.specs.Unknowns.{Valuation, row}
 use Rattle.types_cells.specs.Layout.{poolSize}

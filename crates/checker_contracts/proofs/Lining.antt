@@ -7,13 +7,13 @@ use Prim.Native.Nat.{ℕ, _+_, _*_, _-_, _≤_, _<_}
 use native.Mathlib.Omega.{arith}
 use lib.ListN.{length, length-append}
 use Rattle.reader_rules.specs.Limited.{LimitedLines}
-use Rattle.reader_rules.specs.Tree.{Expr, Lines, end, declaration, inclusion, Include}
+use Rattle.reader_rules.specs.Tree.{Expr, Lines, end, declaration, inclusion, Include, includeNode}
 use Rattle.reader_rules.specs.TreeNumbers.{exprNumbers, linesNumbers, includeNumbers}
 use Rattle.checker_rules.specs.Conditions.{mergeDeclared, mergeNames, newNames, smallTypes, fewNames, isPower}
 use Rattle.checker_rules.specs.Dictionary.{Dictionary}
 use Rattle.checker_rules.specs.Items.{Items, skip, _⨾_, small, piece, Meets, Passes, Refuses}
 use Rattle.checker_rules.specs.Rules.{exprItems, linesItems, includeItems}
-use Rattle.checker_rules.specs.Scopes.{Scope, linesSignature, includeSignature, includeNode}
+use Rattle.checker_rules.specs.Scopes.{Scope, linesSignature, includeSignature}
 use Rattle.checker_rules.specs.Signatures.{Signature, namesOf, declare, merge}
 use Rattle.checker_rules.specs.Unknowns.{unknownAt}
 use Rattle.checker_signatures.specs.Rows.{rows}

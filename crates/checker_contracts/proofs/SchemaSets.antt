@@ -6,7 +6,7 @@ use Prim.Native.Nat.{ℕ, suc, _+_, _*_, _-_, _≤_, _<_, _^_}
 use native.Mathlib.Omega.{arith}
 use lib.ListN.{length, length-append}
 use Rattle.reader_rules.specs.Limited.{LimitedExpr}
-use Rattle.reader_rules.specs.Tree.{schemaSet, Include, include, from, exprNode}
+use Rattle.reader_rules.specs.Tree.{schemaSet, Include, include, from, exprNode, includeNode}
 use Rattle.reader_rules.specs.TreeNumbers.{exprNumbers, exprsNumbers, includeNumbers}
 use Rattle.types_rules.specs.Types.{Term}
 use Rattle.types_rules.proofs.Terms.{each-map}
@@ -17,7 +17,7 @@ use Rattle.checker_rules.specs.Conditions.{typed, smallTypes}
 use Rattle.checker_rules.specs.Dictionary.{Dictionary}
 use Rattle.checker_rules.specs.Items.{Items, _⨾_, Meets, Agree, And, Passes, Refuses}
 use Rattle.checker_rules.specs.Rules.{exprItems, includeItems, schemaItems}
-use Rattle.checker_rules.specs.Scopes.{Scope, includeSignature, includeNode}
+use Rattle.checker_rules.specs.Scopes.{Scope, includeSignature}
 use Rattle.checker_rules.specs.Signatures.{Signature, bindingOf}
 use Rattle.checker_rules.specs.Unknowns.{Valuation, slot, powerOf}
 use Rattle.types_cells.specs.Layout.{firstRun, frozenSize, areaSize, poolSize, maxCells}

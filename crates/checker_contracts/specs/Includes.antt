@@ -6,7 +6,7 @@ use mathlib.Core.List.{List, [], _∷_}
 use Prim.Native.Nat.{ℕ, suc, _+_, _*_, _≤_, _<_}
 use lib.ListN.{length, getD, take}
 use Rattle.reader_rules.specs.Limited.{LimitedInclude, LimitedExprs}
-use Rattle.reader_rules.specs.Tree.{Include, include, Exprs, exprsLength}
+use Rattle.reader_rules.specs.Tree.{Include, include, Exprs, exprsLength, includeNode}
 use Rattle.reader_rules.specs.TreeNumbers.{includeNumbers, exprsNumbers}
 use Rattle.types_rules.specs.Equations.{In}
 use Rattle.types_rules.specs.Formed.{Ascending}
@@ -15,7 +15,7 @@ use Rattle.checker_rules.specs.Conditions.{smallTypes}
 use Rattle.checker_rules.specs.Dictionary.{Dictionary}
 use Rattle.checker_rules.specs.Items.{Items, _⨾_}
 use Rattle.checker_rules.specs.Rules.{includeItems, actualItems}
-use Rattle.checker_rules.specs.Scopes.{Scope, includeSignature, includeNode}
+use Rattle.checker_rules.specs.Scopes.{Scope, includeSignature}
 use Rattle.checker_rules.specs.Unknowns.{slot, unknownAt, row}
 use Rattle.types_cells.specs.Layout.{dictionaryAt, typeWords}
 use Rattle.types_cells.specs.Settled.{heap, Reads}

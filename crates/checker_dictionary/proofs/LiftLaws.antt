@@ -5,6 +5,7 @@ use Prim.Native.Nat.{ℕ, zero, suc, _+_, _-_, _≤_, _<_}
 use native.Mathlib.Omega.{arith}
 use lib.ListN.{length, getD, set, take, drop, replicate, length-append, length-drop, take-append-drop, List·getD-append}
 use lib.Seq.{length-take-le, take-suc, take-append-seam, take-append-add, drop-append-seam, drop-append-add, getD-take, getD-drop, set-at, take-at, sets, sets-eq}
+use Rattle.words.proofs.Lists.{zeros-dropped}
 use Rattle.checker_dictionary.specs.Growth.{lifted}
 
 -- one turn, and none
@@ -93,5 +94,4 @@ sets-seam X Z W n e h =
     ∙ ap (λ (w : List ℕ). X ++ (W ++ w)) (ap (λ (j : ℕ). drop j (X ++ Z)) s ∙ drop-append-add X Z (length W))
 
 pub drop-zeros : (m k : ℕ) → drop m (replicate (m + k) 0) ≡ replicate {A = ℕ} k 0
-drop-zeros zero k = let e : 0 + k ≡ k = omega arith in ap (λ (n : ℕ). replicate n 0) e
-drop-zeros (suc m) k = let e : suc m + k ≡ suc (m + k) = omega arith in ap (λ (n : ℕ). drop (suc m) (replicate n 0)) e ∙ drop-zeros m k
+drop-zeros m k = let e : m + k - m ≡ k = omega arith in zeros-dropped m (m + k) ∙ ap (λ (n : ℕ). replicate n 0) e

@@ -9,14 +9,13 @@ use Rattle.layout.specs.Layout.{count, part}
 use Rattle.reader_rules.specs.Kinds.{paragraphs}
 use Rattle.reader_rules.specs.Nodes.{kindAt}
 use Rattle.reader_rules.specs.Promise.{At, Lower}
-use Rattle.reader_rules.specs.Tree.{Paragraph}
+use Rattle.reader_rules.specs.Tree.{Paragraph, paragraphNode}
 use Rattle.reader_rules.specs.Decode.{gather, paragraphAt, paragraphsFrom}
 use Rattle.reader_rules.specs.Limited.{LimitedParagraph, LimitedParagraphs, Limited, LimitedDocument}
 use Rattle.reader_rules.proofs.LimitedTree.{tree-limited}
 use Rattle.reader_rules.proofs.TreeShape.{all-at, _▹_}
 use Rattle.reader_rules.proofs.TreeParagraph.{paragraph-range, paragraph-given, paragraph-axiomatic, paragraph-schema, paragraph-abbreviation, paragraph-constraint, document-law}
 use Rattle.checker_rules.specs.Check.{paragraphsOf}
-use Rattle.checker_rules.specs.Entries.{paragraphNode}
 use Rattle.reader_rules.proofs.Sized.{SizedParagraph, SizedParagraphs}
 use Rattle.checker_rules.proofs.SizedTree.{tree-sized}
 use Rattle.types_cells.proofs.Growing.{lt-or-ge}

@@ -7,7 +7,7 @@ use native.Mathlib.Omega.{arith}
 use lib.Dec.{ltb, eqb}
 use borrow.Author.Tests.{ltb-false}
 use Rattle.reader_rules.specs.Tree.{Text, text, Lines, end, declaration, inclusion, Schema, plain, from, both}
-use Rattle.reader_rules.specs.Tree.{Paragraph, given, axiomatic, schema, abbreviation, constraint}
+use Rattle.reader_rules.specs.Tree.{Paragraph, given, axiomatic, schema, abbreviation, constraint, includeNode}
 use Rattle.types_rules.specs.Types.{Term, under, unders, size}
 use Rattle.types_rules.specs.Formed.{partCountType}
 use Rattle.checker_rules.specs.Unknowns.{Valuation, unknownAt, givenSet}
@@ -15,7 +15,7 @@ use Rattle.checker_rules.specs.Items.{Meets}
 use Rattle.checker_rules.specs.Conditions.{refuseIf, smallTypes, fewNames}
 use Rattle.checker_rules.specs.Dictionary.{Dictionary, blank, _▸_, nameEntry}
 use Rattle.checker_rules.specs.Signatures.{Signature, noNames, naming, countNames, namesOf, termsOf, bindingOf, insertName, merge, declare}
-use Rattle.checker_rules.specs.Scopes.{Scope, globals, withParameters, includeSignature, includeNode, linesSignature, textSignature, schemaSignature}
+use Rattle.checker_rules.specs.Scopes.{Scope, globals, withParameters, includeSignature, linesSignature, textSignature, schemaSignature}
 use Rattle.checker_rules.specs.Rules.{textItems, linesItems, schemaItems, paragraphItems}
 use Rattle.checker_rules.specs.Entries.{addGivens, addSignature, extend}
 use Rattle.checker_lookup.specs.Scoped.{SchemaType, Limited}

@@ -9,9 +9,8 @@ use Rattle.reader_rules.specs.Decode.{lineAt, includeAt}
 use Rattle.reader_rules.specs.Kinds.{lines, includes}
 use Rattle.reader_rules.specs.Nodes.{kindAt}
 use Rattle.reader_rules.specs.Promise.{At}
-use Rattle.reader_rules.specs.Tree.{Include, end, inclusion}
+use Rattle.reader_rules.specs.Tree.{Include, end, inclusion, includeNode}
 use Rattle.reader_rules.proofs.TreeText.{as-include, line-inclusion}
-use Rattle.checker_rules.specs.Scopes.{includeNode}
 use Rattle.checker_includes.specs.Filling.{AgreeAsk, AgreeTold, SmallTold}
 use Rattle.checker_includes.specs.Storing.{KeepAsk, RowsKept}
 use Rattle.checker_contracts.specs.Includes.{actualCount, IncludeAsk, IncludeDone}

@@ -1,101 +1,29 @@
 -- The numbers of a check's refusals are 38 at most: 41 and 42 are the fit's, 51 to 55 the run's.
 use mathlib.Core.Path.{_≡_, refl}
-use mathlib.Core.Bool.{Bool, true, false, _||_, _&&_, cond, false≢true}
+use mathlib.Core.Bool.{Bool, true, _&&_, false≢true}
 use mathlib.Core.List.{List, [], _∷_}
 use mathlib.Core.Logic.{inl, inr, ⊎-elim}
-use Prim.Native.Nat.{ℕ, zero, suc, _≤_}
+use Prim.Native.Nat.{ℕ, _≤_}
 use native.Mathlib.Omega.{arith}
-use lib.Dec.{leb, ltb, eqb}
+use lib.Dec.{leb, eqb}
 use borrow.Author.Tests.{eqb-true, leb-true}
-use lib.ListN.{getD}
 use Rattle.words.specs.Loops.{has}
 use Rattle.words.proofs.Loops.{and-left, and-right}
-use Rattle.layout.specs.Layout.{count, laidOut, part}
 use Rattle.reader_rules.specs.Tree.{Expr, reference, number, integers, set, tuple, product, power, application, selection, theta, schemaSet, arithmetic}
 use Rattle.reader_rules.specs.Tree.{comprehension, Exprs, none, more, Pred, truth, equal, member, atMost, not, connected, quantified, Text, text, Lines}
 use Rattle.reader_rules.specs.Tree.{end, declaration, inclusion, Include, include, Schema, plain, from, both, Paragraph, given, axiomatic, schema}
-use Rattle.reader_rules.specs.Tree.{abbreviation, constraint}
-use Rattle.reader_rules.specs.Kinds.{listed, countOk}
-use Rattle.reader_rules.specs.Nodes.{documentForm, kindAt, uses}
-use Rattle.reader_rules.specs.Findings.{found, scan, andThen, plainWords, lowerNodes, nodeNumber, useNumber}
-use Rattle.reader_rules.specs.Repeats.{repeats, repeatNumber}
-use Rattle.reader_rules.specs.Limits.{tooDeep, tooNested, tooWide, tooCrowded, tooMany, limitNumber}
-use Rattle.reader_rules.specs.Reading.{readOf}
-use Rattle.reader_rules.specs.declared.Reading.{Reading}
-use Rattle.reader_rules.specs.declared.Reading.the-variants.{Readable, Refused}
+use Rattle.reader_rules.specs.Tree.{abbreviation, constraint, includeNode, paragraphNode}
 use Rattle.checker_rules.specs.Dictionary.{blank}
-use Rattle.checker_rules.specs.Scopes.{includeNode}
-use Rattle.checker_rules.specs.Entries.{paragraphNode}
 use Rattle.checker_rules.specs.Check.{refused, checkOf, paragraphsOf}
 use Rattle.checker_rules.specs.Items.{Any}
 use Rattle.checker_rules.specs.Verdicts.{AnswersFrom, AnswersTree, Answers}
 use Rattle.reader_rules.specs.Places.{At}
+use Rattle.reader_rules.proofs.ReadNumbers.{read-number}
 use Rattle.checker_rules.specs.Places.{PlacedExpr, PlacedExprs, PlacedPred, PlacedText, PlacedLines, PlacedInclude, PlacedSchema, PlacedParagraph}
 use Rattle.checker_rules.specs.Places.{PlacedParagraphs}
 use Rattle.checker_rules.proofs.CheckRight.{check-right}
 use Rattle.checker_rules.proofs.GlobalNames.{or-side}
 use Rattle.checker_rules.proofs.PlaceLaws.{refusal-placed}
-
--- ---- reading: 11 to 17
-abbrev Low : Reading → Type 0
-Low Readable = Unit {0}
-Low (Refused n p) = n ≤ 38
-
-low-found : (x k : ℕ) (r : Reading) → x ≤ 38 → Low r → Low (found x k r)
-low-found zero k r h l = l
-low-found (suc x) k r h l = h
-
-low-scan : (f : ℕ → ℕ) → ((k : ℕ) → f k ≤ 38) → (k m : ℕ) → Low (scan f k m)
-unfolding scan
-low-scan f h k zero = tt
-low-scan f h k (suc m) = low-found (f k) k _ (h k) (low-scan f h (suc k) m)
-
-low-then : (a b : Reading) → Low a → Low b → Low (andThen a b)
-low-then Readable b h k = k
-low-then (Refused n p) b h k = h
-
-low-or : (b : Bool) (r q : Reading) → Low r → Low q → Low (cond b r q)
-low-or true r q h k = h
-low-or false r q h k = k
-
-low-if : (b : Bool) (x y : ℕ) → x ≤ 38 → y ≤ 38 → cond b x y ≤ 38
-low-if true x y h k = h
-low-if false x y h k = k
-
-node-low : (doc : List ℕ) (k : ℕ) → nodeNumber doc k ≤ 38
-node-low doc k =
-    let w = part doc k in
-    low-if (listed (getD w 0 0)) _ 12 (low-if (countOk w) _ 13 (low-if (plainWords w) _ 13 (low-if (lowerNodes doc k w) 0 14 (omega arith) (omega arith)) (omega arith)) (omega arith)) (omega arith)
-
-use-low : (doc : List ℕ) (k : ℕ) → useNumber doc k ≤ 38
-unfolding useNumber
-use-low doc k =
-    low-if (ltb k (count doc)) _ _ (low-if (eqb (uses doc k) 1) _ 15 (low-if (eqb (kindAt doc k) 1) 15 0 (omega arith) (omega arith)) (omega arith)) (low-if (eqb (kindAt doc k) 1) 0 15 (omega arith) (omega arith))
-
-repeat-low : (doc : List ℕ) (k : ℕ) → repeatNumber doc k ≤ 38
-unfolding repeatNumber
-repeat-low doc k = low-if (repeats doc k) 16 0 (omega arith) (omega arith)
-
-limit-low : (doc : List ℕ) (k : ℕ) → limitNumber doc k ≤ 38
-unfolding limitNumber
-limit-low doc k = low-if (tooDeep doc k || (tooNested doc k || (tooWide doc k || (tooCrowded doc k || tooMany doc k)))) 17 0 (omega arith) (omega arith)
-
-read-low : (doc : List ℕ) → Low (readOf doc)
-unfolding readOf
-read-low doc =
-    let a = scan (nodeNumber doc) 1 (count doc) in
-    let b = scan (useNumber doc) 1 (count doc) in
-    let c = scan (repeatNumber doc) 1 (count doc) in
-    let d = scan (limitNumber doc) 1 (count doc) in
-    low-or (laidOut documentForm doc) (andThen a (andThen b (andThen c d))) (Refused 11 0)
-    (low-then a (andThen b (andThen c d)) (low-scan (nodeNumber doc) (node-low doc) 1 (count doc))
-    (low-then b (andThen c d) (low-scan (useNumber doc) (use-low doc) 1 (count doc))
-    (low-then c d (low-scan (repeatNumber doc) (repeat-low doc) 1 (count doc)) (low-scan (limitNumber doc) (limit-low doc) 1 (count doc)))))
-    (omega arith)
-
-refused-low : (r : Reading) → Low r → (n p : ℕ) → r ≡ Refused n p → n ≤ 38
-refused-low Readable h n p e = let z : _≡_ {A = ℕ} 0 1 = cc in absurd (omega arith)
-refused-low (Refused m q) h n p e = let z : m ≡ n = cc in omega arith
 
 -- ---- the rules: a refusal has a place (proofs/PlaceLaws), and no place takes a number over 38
 small : List ℕ → Bool
@@ -177,7 +105,7 @@ same-number n p m q e = cc
 
 answers-few : (doc : List ℕ) (d w n p : ℕ) → Answers Any doc d w (refused n p) → n ≤ 38
 unfolding Answers AnswersTree AnswersFrom
-answers-few doc d w n p (inl (f, m, e, s)) = let z = same-number n p f m s in let l = refused-low (readOf doc) (read-low doc) f m e in omega arith
+answers-few doc d w n p (inl (f, m, e, s)) = let z = same-number n p f m s in let l = read-number doc f m e in omega arith
 answers-few doc d w n p (inr (r, inl h)) = let z = same-number n p 21 0 (h .1) in omega arith
 answers-few doc d w n p (inr (r, inr (l, inl h))) = let z = same-number n p 22 0 (h .1) in omega arith
 answers-few doc d w n p (inr (r, inr (l, inr h))) = paragraphs-few n p (paragraphsOf _) (refusal-placed n p _ blank d (h .1))

@@ -8,13 +8,13 @@ use native.Mathlib.Omega.{arith}
 use lib.Dec.{leb, ltb, eqb}
 use borrow.Author.Tests.{leb-true, leb-false, le-leb, lt-leb, eq-eqb, eqb-true, eqb-false, lt-ltb, le-ltb, ltb-true, ltb-false, ne-eqb}
 use Rattle.reader_rules.specs.Reading.{readOf}
-use Rattle.reader_rules.specs.Tree.{Paragraph, Document}
+use Rattle.reader_rules.specs.Tree.{Paragraph, Document, paragraphNode}
 use Rattle.reader_rules.specs.Decode.{treeOf}
 use Rattle.checker_rules.specs.Unknowns.{Valuation}
 use Rattle.checker_rules.specs.Items.{Any, And, Passes}
 use Rattle.checker_rules.specs.Dictionary.{Dictionary, blank, dictionaryLength}
 use Rattle.checker_rules.specs.Rules.{paragraphItems}
-use Rattle.checker_rules.specs.Entries.{extend, paragraphNode}
+use Rattle.checker_rules.specs.Entries.{extend}
 use Rattle.checker_rules.specs.Solving.{Solved, pass, refuse, solve, valuationOf}
 use Rattle.checker_rules.specs.Check.{Answer, accepted, refused, fitting, settle, checkParagraphs, paragraphsOf, afterReading, checkWorkWords, checkOf}
 use Rattle.checker_rules.specs.Verdicts.{Accepts, RefusesAt, AnswersFrom, AnswersTree, Answers, OneType, Records}

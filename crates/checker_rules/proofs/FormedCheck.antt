@@ -6,7 +6,7 @@ use mathlib.Core.Option.{Option, some, none as nothing}
 use Prim.Native.Nat.{ℕ}
 use lib.Dec.{ltb, eqb}
 use Rattle.reader_rules.specs.Reading.{readOf}
-use Rattle.reader_rules.specs.Tree.{Paragraph, given, axiomatic, schema, abbreviation, constraint}
+use Rattle.reader_rules.specs.Tree.{Paragraph, given, axiomatic, schema, abbreviation, constraint, paragraphNode}
 use Rattle.reader_rules.specs.Decode.{treeOf}
 use Rattle.types_rules.specs.Types.{Term, unknown, under, integerType}
 use Rattle.types_rules.specs.Substitution.{Substitution, empty, resolve}
@@ -20,7 +20,7 @@ use Rattle.checker_rules.specs.Dictionary.{nameEntry, Dictionary, blank,
 use Rattle.checker_rules.specs.Signatures.{Signature, noNames, naming}
 use Rattle.checker_rules.specs.Scopes.{globals, withParameters, textSignature, schemaSignature}
 use Rattle.checker_rules.specs.Rules.{paragraphItems}
-use Rattle.checker_rules.specs.Entries.{addGivens, addSignature, extend, paragraphNode}
+use Rattle.checker_rules.specs.Entries.{addGivens, addSignature, extend}
 use Rattle.checker_rules.specs.Solving.{Solved, pass, refuse, andThen, answer, passIf, selected, solveFrom, unknowns, solve, valuationOf}
 use Rattle.checker_rules.specs.Check.{Answer, refused, fitting, settle, checkParagraphs, paragraphsOf, afterReading, checkWorkWords, checkOf}
 use Rattle.checker_rules.specs.WellFormed.{FormedDictionary, FormedAnswer}

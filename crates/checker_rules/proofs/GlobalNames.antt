@@ -8,13 +8,13 @@ use lib.Dec.{ltb, eqb}
 use lib.ListN.{length}
 use borrow.Author.Tests.{eq-eqb, eqb-true, eqb-false, ne-eqb}
 use Rattle.words.specs.Loops.{has}
-use Rattle.reader_rules.specs.Tree.{Text, text, Lines, end, declaration, inclusion, Paragraph, given, axiomatic, schema, abbreviation, constraint}
+use Rattle.reader_rules.specs.Tree.{Text, text, Lines, end, declaration, inclusion, Paragraph, given, axiomatic, schema, abbreviation, constraint, includeNode}
 use Rattle.types_rules.specs.Types.{Ty, Term, under}
 use Rattle.types_rules.proofs.Terms.{bool-no}
 use Rattle.checker_rules.specs.Unknowns.{Valuation, unknownAt, givenSet}
 use Rattle.checker_rules.specs.Dictionary.{nameEntry, Dictionary, _▸_, Named, ofGlobal, nameIn}
 use Rattle.checker_rules.specs.Signatures.{Signature, noNames, naming, namesOf, insertName, merge, declare}
-use Rattle.checker_rules.specs.Scopes.{Scope, globals, includeSignature, includeNode, linesSignature, textSignature}
+use Rattle.checker_rules.specs.Scopes.{Scope, globals, includeSignature, linesSignature, textSignature}
 use Rattle.checker_rules.specs.Conditions.{typeOf}
 use Rattle.checker_rules.specs.Entries.{addGivens, addSignature, extend}
 use Rattle.checker_rules.specs.Globals.{Way, written, included, LinesDeclare, TextDeclares, Declares, History, dictionaryFrom, Earlier, isNamed}

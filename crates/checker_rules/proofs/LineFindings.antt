@@ -8,13 +8,13 @@ use Prim.Native.Nat.{ℕ, _≤_, _<_}
 use lib.Dec.{ltb}
 use borrow.Author.Tests.{ltb-true, ltb-false}
 use Rattle.words.specs.Loops.{has}
-use Rattle.reader_rules.specs.Tree.{Expr, schemaSet, Lines, end, declaration, inclusion, Include, Schema, from, both, given, abbreviation, exprNode}
+use Rattle.reader_rules.specs.Tree.{Expr, schemaSet, Lines, end, declaration, inclusion, Include, Schema, from, both, given, abbreviation, exprNode, includeNode}
 use Rattle.types_rules.specs.Types.{size, under}
 use Rattle.checker_rules.specs.Unknowns.{Valuation, unknownAt, powerOf}
 use Rattle.checker_rules.specs.Items.{Items, _⨾_, small, piece, Meets, Agree, And, Passes, Refuses}
 use Rattle.checker_rules.specs.Dictionary.{Dictionary}
 use Rattle.checker_rules.specs.Signatures.{Signature, noNames, naming, countNames, namesOf, bindingOf, merge, declare}
-use Rattle.checker_rules.specs.Scopes.{Scope, globals, withParameters, includeSignature, includeNode, schemaSignature}
+use Rattle.checker_rules.specs.Scopes.{Scope, globals, withParameters, includeSignature, schemaSignature}
 use Rattle.checker_rules.specs.Conditions.{mergeDeclared, mergeNames, newNames, smallTypes, fewNames, typeOf, typed, isPower}
 use Rattle.checker_rules.specs.Rules.{exprItems, linesItems, includeItems, schemaItems, paragraphItems}
 use Rattle.checker_rules.specs.Globals.{isGlobal}

@@ -7,14 +7,14 @@ use Prim.Native.Nat.{ℕ}
 use lib.Dec.{eqb}
 use lib.ListN.{length}
 use Rattle.words.specs.Loops.{has}
-use Rattle.reader_rules.specs.Tree.{Text, text, Lines, end, declaration, inclusion, Paragraph, given, axiomatic, schema, abbreviation, constraint}
+use Rattle.reader_rules.specs.Tree.{Text, text, Lines, end, declaration, inclusion, Paragraph, given, axiomatic, schema, abbreviation, constraint, includeNode}
 use Rattle.types_rules.specs.Types.{Ty, under}
 use Rattle.types_rules.proofs.Terms.{bool-no}
 use Rattle.checker_rules.specs.Unknowns.{Valuation, unknownAt, givenSet}
 use Rattle.checker_rules.specs.Items.{Any, Passes}
 use Rattle.checker_rules.specs.Dictionary.{nameEntry, Dictionary, _▸_, ofGlobal, nameIn}
 use Rattle.checker_rules.specs.Signatures.{Signature, noNames, naming, namesOf, merge, declare}
-use Rattle.checker_rules.specs.Scopes.{Scope, globals, includeSignature, includeNode, linesSignature, textSignature}
+use Rattle.checker_rules.specs.Scopes.{Scope, globals, includeSignature, linesSignature, textSignature}
 use Rattle.checker_rules.specs.Conditions.{newNames, typeOf}
 use Rattle.checker_rules.specs.Rules.{textItems, linesItems, paragraphItems}
 use Rattle.checker_rules.specs.Entries.{addGivens, addSignature, extend}

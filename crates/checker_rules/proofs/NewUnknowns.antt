@@ -10,7 +10,7 @@ use borrow.Author.Tests.{ne-eqb}
 use Rattle.words.specs.Loops.{has, occurrences}
 use Rattle.words.proofs.Lists.{has-append, occurrences-append, has-once}
 use Rattle.reader_rules.specs.Tree.{Expr}
-use Rattle.reader_rules.specs.Tree.{end, declaration, inclusion, Include}
+use Rattle.reader_rules.specs.Tree.{end, declaration, inclusion, Include, includeNode}
 use Rattle.reader_rules.specs.TreeNumbers.{exprNumbers, linesNumbers, includeNumbers}
 use Rattle.types_rules.specs.Types.{Ty, Term, under, Each}
 use Rattle.types_rules.specs.Substitution.{update}
@@ -20,7 +20,7 @@ use Rattle.checker_rules.specs.Unknowns.{Valuation, slot, unknownAt}
 use Rattle.checker_rules.specs.Items.{Items, _⨾_, fresh, select, small, piece, Known, Meets, And, Passes, Refuses}
 use Rattle.checker_rules.specs.Dictionary.{Dictionary}
 use Rattle.checker_rules.specs.Signatures.{Signature, namesOf, merge, declare}
-use Rattle.checker_rules.specs.Scopes.{Scope, includeSignature, includeNode}
+use Rattle.checker_rules.specs.Scopes.{Scope, includeSignature}
 use Rattle.checker_rules.specs.Conditions.{mergeDeclared, mergeNames, newNames, smallTypes, fewNames, isPower}
 use Rattle.checker_rules.specs.Rules.{exprItems}
 use Rattle.checker_rules.specs.Rules.{linesItems, includeItems}

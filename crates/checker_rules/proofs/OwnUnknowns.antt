@@ -3,14 +3,14 @@ use mathlib.Core.Bool.{Bool, true, false, cond}
 use Prim.Native.Nat.{ℕ, suc}
 use lib.Dec.{eqb}
 use Rattle.reader_rules.specs.Tree.{Exprs, none, more, Pred, truth, equal, member, atMost, not, connected, quantified, Text, text, Lines, end, declaration, inclusion}
-use Rattle.reader_rules.specs.Tree.{Include, include, Schema, plain, from, both, exprsLength}
+use Rattle.reader_rules.specs.Tree.{Include, include, Schema, plain, from, both, exprsLength, includeNode}
 use Rattle.types_rules.specs.Types.{nil}
 use Rattle.types_rules.specs.Instance.{instance}
 use Rattle.checker_rules.specs.Unknowns.{Valuation, unknownAt}
 use Rattle.checker_rules.specs.Items.{Items, _⨾_, refusal, Agree}
 use Rattle.checker_rules.specs.Dictionary.{Dictionary, blank, NamedSchema, noSchema, aSchema}
 use Rattle.checker_rules.specs.Signatures.{Signature, noNames, namesOf, componentsOf, merge, declare, wrongNames}
-use Rattle.checker_rules.specs.Scopes.{Scope, schemaNamed, includeSignature, includeNode, inside, schemaSignature}
+use Rattle.checker_rules.specs.Scopes.{Scope, schemaNamed, includeSignature, inside, schemaSignature}
 use Rattle.checker_rules.specs.Conditions.{refuseIf}
 use Rattle.checker_rules.proofs.ItemForms.{bare-agrees, refuseIf-bare, smalls-bare, declared-new, names-new, small-few, smalls-few, names-few}
 use Rattle.checker_rules.specs.Rules.{includeRule, predItems, textItems, linesItems, includeItems, actualItems, schemaItems}

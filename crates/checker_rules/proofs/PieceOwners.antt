@@ -11,7 +11,7 @@ use borrow.Author.Tests.{eqb-true}
 use Rattle.words.specs.Loops.{has, occurrences}
 use Rattle.words.proofs.Lists.{occurrences-append}
 use Rattle.reader_rules.specs.Tree.{Expr, reference, number, integers, set, tuple, product, power, application, selection, theta, schemaSet, arithmetic}
-use Rattle.reader_rules.specs.Tree.{comprehension, Exprs, none, more, exprNode, exprsLength}
+use Rattle.reader_rules.specs.Tree.{comprehension, Exprs, none, more, exprNode, exprsLength, includeNode}
 use Rattle.reader_rules.specs.TreeNumbers.{exprNumbers, exprsNumbers, textNumbers, includeNumbers}
 use Rattle.types_rules.specs.Types.{Term, nil, integerType, ℙℤ}
 use Rattle.types_rules.specs.Instance.{instance}
@@ -19,7 +19,7 @@ use Rattle.checker_rules.specs.Unknowns.{Valuation, slot, unknownAt, row
 use Rattle.checker_rules.specs.Items.{Items, _⨾_, refusal, Agree, And, Passes}
 use Rattle.checker_rules.specs.Dictionary.{blank, Named, unnamed, ofLocal, ofGlobal, NamedSchema, noSchema, aSchema}
 use Rattle.checker_rules.specs.Signatures.{bindingOf, componentsOf, someStroked}
-use Rattle.checker_rules.specs.Scopes.{Scope, nameAt, schemaNamed, includeSignature, includeNode, inside}
+use Rattle.checker_rules.specs.Scopes.{Scope, nameAt, schemaNamed, includeSignature, inside}
 use Rattle.checker_rules.specs.Conditions.{typeOf, typesOf, typed, isPower, arePowers, areMembers, freshRow}
 use Rattle.checker_rules.specs.Rules.{referenceItems, thetaSignature, thetaItems, exprItems, exprsItems, textItems, includeItems}
 use Rattle.checker_rules.specs.Pieces.{Owns}

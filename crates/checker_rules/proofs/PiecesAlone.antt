@@ -3,7 +3,7 @@
 use mathlib.Core.Path.{_≡_, refl, ap}
 use Rattle.types_rules.specs.Former.{power as powerFormer}
 use Rattle.types_rules.specs.Types.{Ty, node, tnil, tcons, Term, under, Each}
-use Rattle.reader_rules.specs.Tree.{exprNode, exprsLength, Expr, reference, number, integers, set, tuple, product, power, application, selection, theta, schemaSet, arithmetic, comprehension, Exprs, none, more, Pred, truth, equal, member, atMost, not, connected, quantified, Text, text, Lines, end, declaration, inclusion, Include, include, Schema, plain, from, both, Paragraph, given, axiomatic, schema, abbreviation, constraint}
+use Rattle.reader_rules.specs.Tree.{exprNode, exprsLength, Expr, reference, number, integers, set, tuple, product, power, application, selection, theta, schemaSet, arithmetic, comprehension, Exprs, none, more, Pred, truth, equal, member, atMost, not, connected, quantified, Text, text, Lines, end, declaration, inclusion, Include, include, Schema, plain, from, both, Paragraph, given, axiomatic, schema, abbreviation, constraint, includeNode}
 use Rattle.checker_rules.specs.Unknowns.{Valuation, slot, unknownAt, row, integer, powerOf, productOf, pairOf}
 use Rattle.checker_rules.specs.Items.{_⨾_, fresh, equate, And, Items, skip, small, piece, Any}
 use Rattle.checker_rules.specs.Signatures.{bindingOf, Signature, noNames, namesOf, merge, declare}
@@ -24,7 +24,7 @@ use Rattle.reader_rules.specs.Reading.{readOf}
 use Rattle.reader_rules.specs.Decode.{treeOf}
 use Rattle.reader_rules.specs.TreeNumbers.{exprNumbers, exprsNumbers, predNumbers, textNumbers, linesNumbers, includeNumbers, schemaNumbers, paragraphNumbers, paragraphsNumbers}
 use Rattle.checker_rules.specs.Dictionary.{Dictionary, blank}
-use Rattle.checker_rules.specs.Scopes.{Scope, globals, nameAt, schemaNamed, withParameters, includeSignature, includeNode, inside, schemaSignature}
+use Rattle.checker_rules.specs.Scopes.{Scope, globals, nameAt, schemaNamed, withParameters, includeSignature, inside, schemaSignature}
 use Rattle.checker_rules.specs.Rules.{referenceItems, thetaItems, exprItems, exprsItems, predItems, textItems, linesItems, includeItems, actualItems, schemaItems, paragraphItems}
 use Rattle.checker_rules.specs.Entries.{extend}
 use Rattle.checker_rules.specs.Check.{paragraphsOf}

@@ -10,7 +10,7 @@ use Rattle.words.specs.Loops.{has}
 use Rattle.reader_rules.specs.Tree.{Expr, reference, number, integers, set, tuple, product, power, application, selection, theta, schemaSet, arithmetic}
 use Rattle.reader_rules.specs.Tree.{comprehension, Exprs, none, more, Pred, truth, equal, member, atMost, not, connected, quantified, Text, text, Lines}
 use Rattle.reader_rules.specs.Tree.{end, declaration, inclusion, Include, include, Schema, plain, from, both, Paragraph, given, axiomatic, schema}
-use Rattle.reader_rules.specs.Tree.{abbreviation, constraint, exprsLength}
+use Rattle.reader_rules.specs.Tree.{abbreviation, constraint, exprsLength, includeNode, paragraphNode}
 use Rattle.types_rules.specs.Types.{Term}
 use Rattle.types_rules.specs.Instance.{instance}
 use Rattle.checker_rules.specs.Strokes.{decorate, takes}
@@ -18,12 +18,12 @@ use Rattle.checker_rules.specs.Unknowns.{Valuation, slot, unknownAt, row
 use Rattle.checker_rules.specs.Items.{Items, _⨾_, fresh, equate, small, refusal, piece, Any, And, Refuses}
 use Rattle.checker_rules.specs.Dictionary.{Dictionary, blank, Named, unnamed, ofLocal, ofGlobal, nameIn, NamedSchema, noSchema, aSchema}
 use Rattle.checker_rules.specs.Signatures.{Signature, noNames, naming, countNames, namesOf, termIn, merge, declare, someStroked, wrongNames}
-use Rattle.checker_rules.specs.Scopes.{Scope, globals, nameAt, schemaNamed, withParameters, includeSignature, includeNode, inside, schemaSignature}
+use Rattle.checker_rules.specs.Scopes.{Scope, globals, nameAt, schemaNamed, withParameters, includeSignature, inside, schemaSignature}
 use Rattle.checker_rules.specs.Conditions.{refuseIf, sameType, mergeDeclared, mergeNames, newName, newNames, smallTypes, fewNames, typed, isPower, arePowers}
 use Rattle.checker_rules.specs.Conditions.{areMembers, freshRow, typeOf}
 use Rattle.checker_rules.specs.Rules.{referenceItems, thetaName, thetaNames, thetaItems, includeRule, exprItems, exprsItems, predItems}
 use Rattle.checker_rules.specs.Rules.{textItems, linesItems, includeItems, actualItems, schemaItems, paragraphItems}
-use Rattle.checker_rules.specs.Entries.{extend, paragraphNode}
+use Rattle.checker_rules.specs.Entries.{extend}
 use Rattle.checker_rules.specs.Verdicts.{RefusesAt}
 use Rattle.checker_rules.specs.Typing.{schemaOf}
 use Rattle.reader_rules.specs.Places.{At}

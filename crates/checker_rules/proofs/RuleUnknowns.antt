@@ -9,7 +9,7 @@ use lib.Dec.{ltb, eqb}
 use borrow.Author.Tests.{eqb-true}
 use Rattle.reader_rules.specs.Tree.{Expr, reference, number, integers, set, tuple, product, power, application, selection, theta, schemaSet, arithmetic}
 use Rattle.reader_rules.specs.Tree.{comprehension, Exprs, none, more, Pred, truth, equal, member, atMost, not, connected, quantified, Text, text, Lines}
-use Rattle.reader_rules.specs.Tree.{end, declaration, inclusion, Include, include, Schema, plain, from, both, exprNode, exprsLength}
+use Rattle.reader_rules.specs.Tree.{end, declaration, inclusion, Include, include, Schema, plain, from, both, exprNode, exprsLength, includeNode}
 use Rattle.reader_rules.specs.TreeNumbers.{exprNumbers, exprsNumbers, predNumbers, textNumbers, linesNumbers, includeNumbers, schemaNumbers}
 use Rattle.types_rules.specs.Types.{Term, nil, Each, Eachs}
 use Rattle.types_rules.specs.Instance.{instance}
@@ -19,7 +19,7 @@ use Rattle.checker_rules.specs.Items.{Items, _⨾_, refusal}
 use Rattle.checker_rules.specs.Dictionary.{Dictionary, blank, Named, unnamed, ofLocal, ofGlobal, nameIn, NamedSchema, noSchema, aSchema}
 use Rattle.checker_rules.specs.Signatures.{Signature, noNames, naming, namesOf, bindingOf, componentsOf, termIn, countNames}
 use Rattle.checker_rules.specs.Signatures.{merge, declare, someStroked, wrongNames}
-use Rattle.checker_rules.specs.Scopes.{Scope, nameAt, schemaNamed, includeSignature, includeNode}
+use Rattle.checker_rules.specs.Scopes.{Scope, nameAt, schemaNamed, includeSignature}
 use Rattle.checker_rules.specs.Scopes.{inside, schemaSignature}
 use Rattle.checker_rules.specs.Conditions.{refuseIf, sameType, mergeDeclared, mergeNames, newName, newNames, smallTypes, fewNames, typeOf, typesOf, typed}
 use Rattle.checker_rules.specs.Conditions.{arePowers, areMembers}

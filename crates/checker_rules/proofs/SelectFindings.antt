@@ -8,7 +8,7 @@ use Rattle.checker_rules.specs.Dictionary.{NamedSchema, noSchema, aSchem
 use Rattle.checker_rules.specs.Signatures.{componentsOf, wrongNames, Signature, noNames, naming, namesOf, merge, declare}
 use Rattle.checker_rules.specs.Conditions.{refuseIf, mergeDeclared, mergeNames, newNames, smallTypes, fewNames, typeOf, isPower, arePowers, areMembers}
 use Rattle.checker_rules.specs.Rules.{includeRule, referenceItems, thetaItems, exprItems, exprsItems, predItems, textItems, linesItems, includeItems, actualItems, schemaItems, paragraphItems}
-use Rattle.reader_rules.specs.Tree.{exprsLength, Expr, reference, number, integers, set, tuple, product, power, application, selection, theta, schemaSet, arithmetic, comprehension, Exprs, none, more, Pred, truth, equal, member, atMost, not, connected, quantified, Text, text, Lines, end, declaration, inclusion, Include, include, Schema, plain, from, both, Paragraph, given, axiomatic, schema, abbreviation, constraint}
+use Rattle.reader_rules.specs.Tree.{exprsLength, Expr, reference, number, integers, set, tuple, product, power, application, selection, theta, schemaSet, arithmetic, comprehension, Exprs, none, more, Pred, truth, equal, member, atMost, not, connected, quantified, Text, text, Lines, end, declaration, inclusion, Include, include, Schema, plain, from, both, Paragraph, given, axiomatic, schema, abbreviation, constraint, includeNode}
 use mathlib.Core.Path.{_≡_}
 use mathlib.Core.List.{List, [], _∷_, _++_}
 use Prim.Native.Nat.{ℕ, suc, _+_, _≤_}
@@ -19,7 +19,7 @@ use Rattle.reader_rules.specs.Decode.{treeOf}
 use Rattle.reader_rules.specs.TreeNumbers.{exprNumbers, exprsNumbers, predNumbers, textNumbers, linesNumbers, includeNumbers, schemaNumbers, paragraphNumbers, paragraphsNumbers}
 use Rattle.reader_rules.specs.Limited.{FewParameters}
 use Rattle.checker_rules.specs.Unknowns.{Valuation, slot, unknownAt, givenSet}
-use Rattle.checker_rules.specs.Scopes.{Scope, globals, nameAt, schemaNamed, withParameters, includeSignature, includeNode, inside, textSignature, schemaSignature}
+use Rattle.checker_rules.specs.Scopes.{Scope, globals, nameAt, schemaNamed, withParameters, includeSignature, inside, textSignature, schemaSignature}
 use Rattle.checker_rules.specs.Entries.{addGivens, addSignature, extend}
 use Rattle.checker_rules.specs.Check.{paragraphsOf}
 use Rattle.checker_rules.specs.Findings.{NoSelect33, NeverAtSelect}

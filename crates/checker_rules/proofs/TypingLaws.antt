@@ -13,7 +13,7 @@ use Rattle.words.specs.Loops.{has}
 use Rattle.reader_rules.specs.Tree.{Expr, reference, number, integers, set, tuple, product, power, application, selection, theta, schemaSet, arithmetic}
 use Rattle.reader_rules.specs.Tree.{comprehension, Exprs, none, more, Pred, truth, equal, member, atMost, not, connected, quantified, Text, text, Lines}
 use Rattle.reader_rules.specs.Tree.{end, declaration, inclusion, Include, include, Schema, plain, from, both, Paragraph, given, axiomatic, schema}
-use Rattle.reader_rules.specs.Tree.{abbreviation, constraint, exprNode, exprsLength}
+use Rattle.reader_rules.specs.Tree.{abbreviation, constraint, exprNode, exprsLength, includeNode}
 use Rattle.types_rules.specs.Former.{Former, int, given as givenFormer, parameter, power as powerFormer, product as productFormer, binding}
 use Rattle.types_rules.specs.Types.{Ty, node, Tys, tnil, tcons, Term, Terms, nil, cons, under, unders}
 use Rattle.types_rules.specs.Instance.{nth, actual, instanceFormer, instance, instances}
@@ -25,7 +25,7 @@ use Rattle.checker_rules.specs.Items.{Items, _⨾_, refusal, Meets}
 use Rattle.checker_rules.specs.Dictionary.{Dictionary, blank, Named, unnamed, ofLocal, ofGlobal, nameIn, NamedSchema, noSchema, aSchema}
 use Rattle.checker_rules.specs.Signatures.{Signature, noNames, naming, countNames, namesOf, termsOf, bindingOf, termIn, hasName, merge, declare}
 use Rattle.checker_rules.specs.Signatures.{strokeAll, someStroked, hasOld, wrongOld, wrongNames}
-use Rattle.checker_rules.specs.Scopes.{Scope, globals, nameAt, schemaNamed, withParameters, includeSignature, includeNode, inside, schemaSignature}
+use Rattle.checker_rules.specs.Scopes.{Scope, globals, nameAt, schemaNamed, withParameters, includeSignature, inside, schemaSignature}
 use Rattle.checker_rules.specs.Conditions.{refuseIf, sameType, mergeDeclared, mergeNames, newName, newNames, smallTypes, fewNames, typesOf, arePowers}
 use Rattle.checker_rules.specs.Conditions.{areMembers, freshRow, typed}
 use Rattle.checker_rules.specs.Rules.{referenceItems, thetaName, thetaNames, typeInScope, thetaSignature, thetaItems, includeRule, exprItems, exprsItems}

@@ -4,11 +4,11 @@ use mathlib.Core.List.{List, [], _∷_}
 use Prim.Native.Nat.{ℕ}
 use lib.Dec.{leb, ltb, eqb}
 use Rattle.reader_rules.specs.Reading.{readOf}
-use Rattle.reader_rules.specs.Tree.{Paragraph, Document, document}
+use Rattle.reader_rules.specs.Tree.{Paragraph, Document, document, paragraphNode}
 use Rattle.reader_rules.specs.Decode.{treeOf}
 use Rattle.checker_rules.specs.Dictionary.{Dictionary, blank, dictionaryLength}
 use Rattle.checker_rules.specs.Rules.{paragraphItems}
-use Rattle.checker_rules.specs.Entries.{extend, paragraphNode}
+use Rattle.checker_rules.specs.Entries.{extend}
 use Rattle.checker_rules.specs.Solving.{Solved, pass, refuse, solve, valuationOf}
 use Rattle.reader_rules.specs.declared.Reading.{Reading}
 use Rattle.reader_rules.specs.declared.Reading.the-variants.{Readable, Refused}

@@ -25,10 +25,3 @@ extend (axiomatic n t) D τ = addSignature (textSignature t (globals D)) τ D
 extend (schema n s ps x) D τ = D ▸ schemaEntry s (length ps) (under τ (bindingOf (schemaSignature x (withParameters ps 1 (globals D)))))
 extend (abbreviation n i ps a) D τ = D ▸ nameEntry i (length ps) (under τ (typeOf a))
 extend (constraint n p) D τ = D
-
-unfoldable pub paragraphNode : Paragraph → ℕ
-paragraphNode (given n is) = n
-paragraphNode (axiomatic n t) = n
-paragraphNode (schema n s ps x) = n
-paragraphNode (abbreviation n i ps a) = n
-paragraphNode (constraint n p) = n

@@ -6,13 +6,13 @@ use mathlib.Core.Bool.{true}
 use mathlib.Core.List.{List}
 use mathlib.Core.Logic.{_⊎_, _↔_}
 use Prim.Native.Nat.{ℕ, _<_}
-use Rattle.reader_rules.specs.Tree.{Expr, reference, theta, schemaSet, Exprs, Lines, Include, include, Schema, from, both, given, abbreviation}
+use Rattle.reader_rules.specs.Tree.{Expr, reference, theta, schemaSet, Exprs, Lines, Include, include, Schema, from, both, given, abbreviation, includeNode}
 use Rattle.types_rules.specs.Types.{size}
 use Rattle.checker_rules.specs.Unknowns.{Valuation, powerOf}
 use Rattle.checker_rules.specs.Items.{piece, And, Passes, Refuses}
 use Rattle.checker_rules.specs.Dictionary.{Dictionary, unnamed, noSchema}
 use Rattle.checker_rules.specs.Signatures.{noNames, bindingOf, countNames, merge}
-use Rattle.checker_rules.specs.Scopes.{Scope, globals, nameAt, schemaNamed, withParameters, includeSignature, includeNode, schemaSignature}
+use Rattle.checker_rules.specs.Scopes.{Scope, globals, nameAt, schemaNamed, withParameters, includeSignature, schemaSignature}
 use Rattle.checker_rules.specs.Conditions.{smallTypes, typed}
 use Rattle.checker_rules.specs.Rules.{exprItems, exprsItems, linesItems, includeItems, actualItems, schemaItems, paragraphItems}
 use Rattle.checker_rules.specs.Globals.{isGlobal}

@@ -7,14 +7,14 @@ use mathlib.Core.Option.{some}
 use mathlib.Core.Logic.{_⊎_}
 use Prim.Native.Nat.{ℕ, zero, suc, _<_}
 use Rattle.words.specs.Loops.{has}
-use Rattle.reader_rules.specs.Tree.{Exprs, Lines, end, declaration, inclusion, Paragraph, exprsLength}
+use Rattle.reader_rules.specs.Tree.{Exprs, Lines, end, declaration, inclusion, Paragraph, exprsLength, includeNode}
 use Rattle.types_rules.specs.Types.{Ty, Term, under, size}
 use Rattle.checker_rules.specs.Strokes.{decorate, takes}
 use Rattle.checker_rules.specs.Unknowns.{Valuation, unknownAt}
 use Rattle.checker_rules.specs.Items.{Items, skip, _⨾_, fresh, equate, select, small, refusal, piece, Meets, Any, And, Passes, Refuses}
 use Rattle.checker_rules.specs.Dictionary.{Dictionary, Named, unnamed, ofLocal, ofGlobal, NamedSchema, noSchema, aSchema}
 use Rattle.checker_rules.specs.Signatures.{Signature, noNames, naming, countNames, namesOf, termIn, merge, declare}
-use Rattle.checker_rules.specs.Scopes.{Scope, nameAt, includeSignature, includeNode}
+use Rattle.checker_rules.specs.Scopes.{Scope, nameAt, includeSignature}
 use Rattle.checker_rules.specs.Conditions.{mergeDeclared, mergeNames, newNames, smallTypes, fewNames, isPower}
 use Rattle.checker_rules.specs.Rules.{exprItems, includeItems, paragraphItems}
 use Rattle.checker_rules.specs.Entries.{extend}

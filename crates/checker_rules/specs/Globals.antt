@@ -6,11 +6,11 @@ use mathlib.Core.List.{List, [], _∷_}
 use mathlib.Core.Logic.{_⊎_}
 use Prim.Native.Nat.{ℕ}
 use Rattle.words.specs.Loops.{has}
-use Rattle.reader_rules.specs.Tree.{Text, text, Lines, end, declaration, inclusion, Paragraph, given, axiomatic, schema, abbreviation, constraint}
+use Rattle.reader_rules.specs.Tree.{Text, text, Lines, end, declaration, inclusion, Paragraph, given, axiomatic, schema, abbreviation, constraint, includeNode}
 use Rattle.checker_rules.specs.Unknowns.{Valuation}
 use Rattle.checker_rules.specs.Dictionary.{Dictionary, Named, unnamed, ofLocal, ofGlobal, nameIn}
 use Rattle.checker_rules.specs.Signatures.{namesOf}
-use Rattle.checker_rules.specs.Scopes.{Scope, globals, includeSignature, includeNode}
+use Rattle.checker_rules.specs.Scopes.{Scope, globals, includeSignature}
 use Rattle.checker_rules.specs.Entries.{extend}
 
 -- written in a Given, an Axiom Decl or an Abbreviation; or brought by an Axiom's Include

@@ -6,10 +6,8 @@ use Prim.Native.Nat.{ℕ}
 use Rattle.reader_rules.specs.Tree.{Expr, reference, number, integers, set, tuple, product, power, application, selection, theta, schemaSet, arithmetic}
 use Rattle.reader_rules.specs.Tree.{comprehension, Exprs, none, more, Pred, truth, equal, member, atMost, not, connected, quantified, Text, text, Lines}
 use Rattle.reader_rules.specs.Tree.{end, declaration, inclusion, Include, include, Schema, plain, from, both, Paragraph, given, axiomatic, schema}
-use Rattle.reader_rules.specs.Tree.{abbreviation, constraint}
+use Rattle.reader_rules.specs.Tree.{abbreviation, constraint, includeNode, paragraphNode}
 use Rattle.reader_rules.specs.Places.{At}
-use Rattle.checker_rules.specs.Scopes.{includeNode}
-use Rattle.checker_rules.specs.Entries.{paragraphNode}
 
 unfoldable mutual
   pub PlacedExpr : ℕ → ℕ → Expr → Type 0

@@ -7,7 +7,7 @@ use lib.Dec.{ltb, eqb}
 use Rattle.reader_rules.specs.Tree.{Expr, reference, number, integers, set, tuple, product, power, application, selection, theta, schemaSet, arithmetic}
 use Rattle.reader_rules.specs.Tree.{comprehension, Exprs, none, more, Pred, truth, equal, member, atMost, not, connected, quantified, Text, text, Lines}
 use Rattle.reader_rules.specs.Tree.{end, declaration, inclusion, Include, include, Schema, plain, from, both, Paragraph, given, axiomatic, schema}
-use Rattle.reader_rules.specs.Tree.{abbreviation, constraint, exprsLength}
+use Rattle.reader_rules.specs.Tree.{abbreviation, constraint, exprsLength, includeNode}
 use Rattle.types_rules.specs.Types.{Term, nil}
 use Rattle.types_rules.specs.Instance.{instance}
 use Rattle.checker_rules.specs.Strokes.{decorate, takes}
@@ -15,7 +15,7 @@ use Rattle.checker_rules.specs.Unknowns.{slot, unknownAt, row, integer, 
 use Rattle.checker_rules.specs.Items.{Items, skip, _⨾_, fresh, equate, select, small, refusal, piece}
 use Rattle.checker_rules.specs.Dictionary.{Dictionary, blank, Named, unnamed, ofLocal, ofGlobal, NamedSchema, noSchema, aSchema}
 use Rattle.checker_rules.specs.Signatures.{Signature, noNames, naming, namesOf, bindingOf, componentsOf, merge, declare, someStroked, wrongNames}
-use Rattle.checker_rules.specs.Scopes.{Scope, globals, nameAt, schemaNamed, withParameters, includeSignature, includeNode, inside, schemaSignature}
+use Rattle.checker_rules.specs.Scopes.{Scope, globals, nameAt, schemaNamed, withParameters, includeSignature, inside, schemaSignature}
 use Rattle.checker_rules.specs.Conditions.{refuseIf, mergeDeclared, mergeNames, newNames, smallTypes, fewNames, typeOf, typesOf, typed, isPower}
 use Rattle.checker_rules.specs.Conditions.{arePowers, areMembers, freshRow}
 

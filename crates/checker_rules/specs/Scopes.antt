@@ -42,9 +42,6 @@ brought (aSchema p g) actuals k rs = renameAll rs (strokeAll k (componentsOf (in
 unfoldable pub includeSignature : Include → Scope → Signature
 includeSignature (include n s k xs rs) Γ = brought (schemaNamed s Γ) (row n 1 (exprsLength xs)) k rs
 
-unfoldable pub includeNode : Include → ℕ
-includeNode (include n s k xs rs) = n
-
 -- A Text declares what its lines do, each line with the scope around the Text: lines do not see its identifiers.
 unfoldable pub linesSignature : Lines → Scope → Signature → Signature
 linesSignature end Γ r = r

@@ -4,13 +4,13 @@ use mathlib.Core.List.{List, [], _∷_}
 use mathlib.Core.Logic.{_⊎_}
 use Prim.Native.Nat.{ℕ, _≤_, _<_}
 use Rattle.reader_rules.specs.Reading.{readOf}
-use Rattle.reader_rules.specs.Tree.{Paragraph, Document}
+use Rattle.reader_rules.specs.Tree.{Paragraph, Document, paragraphNode}
 use Rattle.reader_rules.specs.Decode.{treeOf}
 use Rattle.checker_rules.specs.Unknowns.{Valuation, slot}
 use Rattle.checker_rules.specs.Items.{Meets, And, Passes, Refuses}
 use Rattle.checker_rules.specs.Dictionary.{Dictionary, blank, dictionaryLength}
 use Rattle.checker_rules.specs.Rules.{paragraphItems}
-use Rattle.checker_rules.specs.Entries.{extend, paragraphNode}
+use Rattle.checker_rules.specs.Entries.{extend}
 use Rattle.checker_rules.specs.ExpressionNodes.{InParagraph}
 use Rattle.checker_rules.specs.Check.{Answer, accepted, refused, paragraphsOf}
 use Rattle.reader_rules.specs.declared.Reading.the-variants.{Readable, Refused}

@@ -11,7 +11,7 @@ use Rattle.layout.specs.Layout.{part}
 use Rattle.reader_rules.specs.Findings.{found, scan, andThen}
 use Rattle.reader_rules.specs.declared.Reading.{Reading}
 use Rattle.reader_rules.specs.declared.Reading.the-variants.{Readable, Refused}
-use Rattle.reader_rules.proofs.Scan.{scan-none, then-none, never}
+use Rattle.reader_rules.proofs.Scan.{found-zero, found-not, scan-none, scan-clear, then-none, never}
 use Rattle.values.specs.Form.{isValue}
 use Rattle.states_rules.specs.Names.{Name}
 use Rattle.states_rules.specs.States.{nameAt, sizesIn, isSize, givenNumber, valueNumber, isPaired, entriesOf, stateIf, stateOf}
@@ -56,25 +56,12 @@ scan-found f i (suc m) v p e = go (f i) refl e (λ x. scan-found f (suc i) m v p
           not-zero = λ y. absurd (omega (arith, s .0));
         }
 
-found-zero : (x k : ℕ) (r : Reading) → x ≡ 0 → found x k r ≡ r
-found-zero zero k r e = refl
-found-zero (suc x) k r e = absurd (omega arith)
-
-found-some : (x k : ℕ) (r : Reading) → (x ≡ 0 → ⊥) → found x k r ≡ Refused x k
-found-some zero k r e = absurd (e refl)
-found-some (suc x) k r e = refl
-
-scan-clear : (f : ℕ → ℕ) (i m : ℕ) → ((j : ℕ) → i ≤ j → j < i + m → f j ≡ 0) → scan f i m ≡ Readable
-unfolding scan
-scan-clear f i zero h = refl
-scan-clear f i (suc m) h = found-zero (f i) i _ (h i (omega arith) (omega arith)) ∙ scan-clear f (suc i) m (λ j p q. h j (omega arith) (omega arith))
-
 scan-first : (f : ℕ → ℕ) (i m p : ℕ) → (f p ≡ 0 → ⊥) → i ≤ p → p < i + m → ((j : ℕ) → i ≤ j → j < p → f j ≡ 0) → scan f i m ≡ Refused (f p) p
 unfolding scan
 scan-first f i zero p z l b h = absurd (omega arith)
 scan-first f i (suc m) p z l b h =
     ⊎-elim
-    (λ s. subst (λ (q : ℕ). found (f i) i (scan f (suc i) m) ≡ Refused (f q) q) s (found-some (f i) i _ (λ y. z (subst (λ (q : ℕ). f q ≡ 0) s y))))
+    (λ s. subst (λ (q : ℕ). found (f i) i (scan f (suc i) m) ≡ Refused (f q) q) s (found-not (f i) i _ (λ y. z (subst (λ (q : ℕ). f q ≡ 0) s y))))
     (λ s. found-zero (f i) i _ (h i (omega arith) s) ∙ scan-first f (suc i) m p z s (omega arith) (λ j x y. h j (omega arith) y))
     (eq-or-lt-of-le l)
 

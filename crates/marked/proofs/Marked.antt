@@ -2,7 +2,7 @@
 use mathlib.Core.Path.{refl}
 use Rattle.words.specs.Loops.{every, some, total, joined, run, has, occurrences}
 use Rattle.layout.specs.Layout.{chain, laidOut, part}
-use Rattle.reader_rules.specs.Tree.{exprNode, exprsLength}
+use Rattle.reader_rules.specs.Tree.{exprNode, exprsLength, includeNode, paragraphNode}
 use Rattle.reader_rules.specs.Identifiers.{nameOf, strokeOf, isIdentifier}
 use Rattle.reader_rules.specs.Kinds.{ofSort, plainOk, cell, sortIn, countBy}
 use Rattle.reader_rules.specs.LowerNodes.{tower, meaning}
@@ -25,13 +25,13 @@ use Rattle.checker_rules.specs.Unknowns.{slot, row}
 use Rattle.checker_rules.specs.Dictionary.{entryWords, entries, entryPairs, allWords, laidOutWords, dictionaryWords, nameIn, schemaIn}
 use Rattle.checker_rules.specs.Signatures.{countNames, namesOf, termsOf, bindingOf, withNames, componentsOf, orElse, termIn, hasName, insertName, merge}
 use Rattle.checker_rules.specs.Signatures.{declare, strokeAll, renamed, renameAll, someStroked, hasOld, wrongOld, wrongNames}
-use Rattle.checker_rules.specs.Scopes.{nameAt, schemaNamed, withParameters, enter, brought, includeSignature, includeNode, linesSignature, textSignature}
+use Rattle.checker_rules.specs.Scopes.{nameAt, schemaNamed, withParameters, enter, brought, includeSignature, linesSignature, textSignature}
 use Rattle.checker_rules.specs.Scopes.{inside, schemaSignature}
 use Rattle.checker_rules.specs.Conditions.{refuseIf, sameType, mergeDeclared, mergeNames, newName, newNames, smallTypes, fewNames, typesOf, arePowers}
 use Rattle.checker_rules.specs.Conditions.{areMembers, freshRow}
 use Rattle.checker_rules.specs.Rules.{referenceItems, thetaName, thetaNames, typeInScope, thetaSignature, thetaItems, includeRule, exprItems, schemaItems}
 use Rattle.checker_rules.specs.Rules.{paragraphItems}
-use Rattle.checker_rules.specs.Entries.{addGivens, addSignature, extend, paragraphNode}
+use Rattle.checker_rules.specs.Entries.{addGivens, addSignature, extend}
 use Rattle.checker_rules.specs.Solving.{andThen, answer, passIf, selected, isSmall, isClosed, solveFrom, addUnknown, termUnknowns, unknowns, solve, valuationOf}
 use Rattle.checker_rules.specs.Check.{fitting, settle, checkParagraphs, paragraphsOf, afterReading, checkOf}
 use Rattle.checker_rules.specs.Areas.{answerFinding, dictionaryAfter}

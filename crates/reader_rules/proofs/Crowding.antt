@@ -14,12 +14,13 @@ use Rattle.layout.specs.Layout.{count}
 use Rattle.reader_rules.specs.Nodes.{kindAt, parent, ancestors, children}
 use Rattle.reader_rules.specs.Repeats.{declared, declaredIn, globals}
 use Rattle.reader_rules.specs.Limits.{isClosing, belowUpTo, anyCrowded, declaredUpTo}
+use Rattle.reader_rules.specs.Below.{flat, numbersAt}
 use Rattle.reader_rules.proofs.Accepted.{Document}
 use Rattle.reader_rules.proofs.Parents.{child-lower}
 use Rattle.reader_rules.proofs.DepthLaws.{ancestors-child}
 use Rattle.reader_rules.proofs.WithinLimits.{neither, within-limits}
-use Rattle.reader_rules.proofs.Occurrences.{AllIn, all-in-map, sumOf, flat}
-use Rattle.reader_rules.proofs.TreeChildren.{numbersAt, numbers-at}
+use Rattle.reader_rules.proofs.Occurrences.{AllIn, all-in-map, sumOf}
+use Rattle.reader_rules.proofs.TreeChildren.{numbers-at}
 use Rattle.reader_rules.proofs.SumsBelow.{sum-ones, total-capped, all-children, all-below, sum-at, sum-under, sum-all}
 
 module _ (doc : List ℕ) (d : Document doc) where

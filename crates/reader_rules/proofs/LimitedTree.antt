@@ -21,6 +21,7 @@ use Rattle.reader_rules.specs.Decode.{membersOf, relationOf}
 use Rattle.reader_rules.specs.TreeNumbers.{exprNumbers, exprsNumbers, predNumbers, paragraphNumbers}
 use Rattle.reader_rules.specs.Limited.{textDeclares, FewNodes, LimitedExpr, LimitedExprs, LimitedPred, LimitedText, LimitedLines, LimitedInclude}
 use Rattle.reader_rules.specs.Limited.{LimitedSchema, LimitedParagraph, LimitedParagraphs, LimitedDocument}
+use Rattle.reader_rules.specs.Below.{numbersAt}
 use Rattle.reader_rules.proofs.Accepted.{readable, last-document}
 use Rattle.reader_rules.proofs.PathLaws.{node-left, text-left, nodes-next, texts-same, texts-next, all-left}
 use Rattle.reader_rules.proofs.TreeShape.{all-at, _▹_, gather-keeps}
@@ -31,7 +32,6 @@ use Rattle.reader_rules.proofs.TreeText.{as-include, text-kind, include
 use Rattle.reader_rules.proofs.TreeText.{schema-kinds, schema-plain, schema-from, schema-both}
 use Rattle.reader_rules.proofs.TreeParagraph.{paragraph-range, paragraph-given, paragraph-axiomatic, paragraph-schema, paragraph-abbreviation}
 use Rattle.reader_rules.proofs.TreeParagraph.{paragraph-constraint, document-law}
-use Rattle.reader_rules.proofs.TreeChildren.{numbersAt}
 use Rattle.reader_rules.proofs.TreeNodes.{each-numbered}
 use Rattle.reader_rules.proofs.Crowding.{few-below}
 use Rattle.reader_rules.proofs.NameCounts.{text-few, globals-counted}

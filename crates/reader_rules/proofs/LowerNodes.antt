@@ -4,10 +4,13 @@ use mathlib.Core.Bool.{Bool, true, false, cond}
 use Prim.Native.Nat.{ℕ, zero, suc, _<_}
 use native.Mathlib.Omega.{arith}
 use lib.Dec.{ltb}
-use borrow.Author.Tests.{ltb-true}
+use borrow.Author.Tests.{lt-ltb, ltb-true}
 use Rattle.reader_rules.specs.LowerNodes.{lower, tower, meaning}
 
 module _ {A : Type 0} (bot : A) where
+  pub lower-lt : (k : ℕ) (sub : ℕ → A) (j : ℕ) → j < k → lower bot k sub j ≡ sub j
+  lower-lt k sub j h = rw (lt-ltb j k h)
+
   same-lower : (k : ℕ) (f g : ℕ → A) → ((j : ℕ) → j < k → f j ≡ g j) → lower bot k f ≡ lower bot k g
   same-lower k f g h = fun-ext (λ j. go j (ltb j k) (ltb-true j k))
     where

@@ -16,6 +16,7 @@ use Rattle.reader_rules.specs.Tree.{Lines, end}
 use Rattle.reader_rules.specs.Decode.{exprAt, predAt, textAt, includeAt, lineAt, paragraphAt, linesFrom, paragraphsFrom, treeOf}
 use Rattle.reader_rules.specs.TreeNumbers.{exprNumbers, predNumbers, linesNumbers, includeNumbers, paragraphNumbers, paragraphsNumbers, nodeNumbers}
 use Rattle.reader_rules.specs.Limited.{declaredCount, textDeclares, globalsOf, globalCount}
+use Rattle.reader_rules.specs.Below.{numbersAt}
 use Rattle.reader_rules.proofs.Accepted.{readable}
 use Rattle.reader_rules.proofs.DepthLaws.{operand-parent}
 use Rattle.reader_rules.proofs.Occurrences.{sumOf, sum-append}
@@ -23,7 +24,6 @@ use Rattle.reader_rules.proofs.TreeShape.{all-at, _▹_, gather-keeps}
 use Rattle.reader_rules.proofs.TreeText.{as-text, text-kind, line-range, text-law, line-declaration, line-inclusion}
 use Rattle.reader_rules.proofs.TreeParagraph.{paragraph-range, paragraph-given, paragraph-axiomatic, paragraph-schema, paragraph-abbreviation}
 use Rattle.reader_rules.proofs.TreeParagraph.{paragraph-constraint, document-law}
-use Rattle.reader_rules.proofs.TreeChildren.{numbersAt}
 use Rattle.reader_rules.proofs.TreeNodes.{each-numbered, tree-numbers}
 use Rattle.reader_rules.proofs.Crowding.{declared-under, globals-few}
 

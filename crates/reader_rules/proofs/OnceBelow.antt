@@ -11,9 +11,10 @@ use Rattle.reader_rules.specs.Kinds.{between, expressions, schemaExpress
 use Rattle.reader_rules.specs.Promise.{At}
 use Rattle.reader_rules.specs.Decode.{exprAt, predAt, textAt, includeAt, schemaAt, paragraphAt}
 use Rattle.reader_rules.specs.TreeNumbers.{exprNumbers, predNumbers, textNumbers, includeNumbers, schemaNumbers, paragraphNumbers}
+use Rattle.reader_rules.specs.Below.{numbersAt}
 use Rattle.reader_rules.proofs.Accepted.{readable}
 use Rattle.reader_rules.proofs.Occurrences.{sumOf}
-use Rattle.reader_rules.proofs.TreeChildren.{numbersAt, once}
+use Rattle.reader_rules.proofs.TreeChildren.{once}
 use Rattle.reader_rules.proofs.SumsBelow.{sum-under, sum-all}
 use Rattle.reader_rules.proofs.TreeNodes.{each-numbered}
 

@@ -1,5 +1,5 @@
 -- Laws of `scan`: one turn of a loop over nodes, and what it means that nothing is found.
-use mathlib.Core.Path.{_≡_, refl, sym, subst}
+use mathlib.Core.Path.{_≡_, refl, sym, _∙_, subst}
 use mathlib.Core.Bool.{Bool, true, false, cond}
 use mathlib.Core.Logic.{⊎-elim}
 use Prim.Native.Nat.{ℕ, zero, suc, _+_, _-_, _≤_, _<_}
@@ -11,7 +11,11 @@ use Rattle.reader_rules.specs.Findings.{found, scan, andThen}
 use Rattle.reader_rules.specs.declared.Reading.{Reading}
 use Rattle.reader_rules.specs.declared.Reading.the-variants.{Readable, Refused}
 
-found-not : (v k : ℕ) (r : Reading) → (v ≡ 0 → ⊥) → found v k r ≡ Refused v k
+pub found-zero : (v k : ℕ) (r : Reading) → v ≡ 0 → found v k r ≡ r
+found-zero zero k r e = refl
+found-zero (suc v) k r e = absurd (omega arith)
+
+pub found-not : (v k : ℕ) (r : Reading) → (v ≡ 0 → ⊥) → found v k r ≡ Refused v k
 found-not zero k r e = absurd (e refl)
 found-not (suc v) k r e = refl
 
@@ -42,6 +46,11 @@ scan-none f i zero e j p q = absurd (omega arith)
 scan-none f i (suc m) e j p q =
     let h = found-none (f i) i (scan f (suc i) m) e in
     ⊎-elim (λ x. subst (λ (n : ℕ). f n ≡ 0) x (h .0)) (λ l. scan-none f (suc i) m (h .1) j l (omega arith)) (eq-or-lt-of-le p)
+
+pub scan-clear : (f : ℕ → ℕ) (i m : ℕ) → ((j : ℕ) → i ≤ j → j < i + m → f j ≡ 0) → scan f i m ≡ Readable
+unfolding scan
+scan-clear f i zero h = refl
+scan-clear f i (suc m) h = found-zero (f i) i _ (h i (omega arith) (omega arith)) ∙ scan-clear f (suc i) m (λ j p q. h j (omega arith) (omega arith))
 
 pub then-none : (a b : Reading) → andThen a b ≡ Readable → (a ≡ Readable) × (b ≡ Readable)
 then-none Readable b e = (refl, e)

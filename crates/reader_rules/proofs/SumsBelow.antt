@@ -8,26 +8,18 @@ use native.Mathlib.Omega.{arith}
 use native.Mathlib.Nat.{eq-or-lt-of-le, one-mul}
 use lib.Dec.{eqb}
 use lib.ListN.{length}
-use borrow.Author.Tests.{eqb-true, eq-eqb, le-leb}
+use borrow.Author.Tests.{eqb-true, le-leb}
 use Rattle.words.specs.Loops.{total, has, occurrences}
 use Rattle.words.proofs.Lists.{total-upto}
 use Rattle.layout.specs.Layout.{count}
 use Rattle.reader_rules.specs.Nodes.{children, parent}
+use Rattle.reader_rules.specs.Below.{flat, numbersAt}
 use Rattle.reader_rules.proofs.Accepted.{Document, used-once}
 use Rattle.reader_rules.proofs.Parents.{child-lower, parent-some, parent-most, parent-above}
-use Rattle.reader_rules.proofs.Occurrences.{AllIn, all-in-append, sumOf, flat, sum-append, sum-count, total-same}
-use Rattle.reader_rules.proofs.TreeChildren.{numbersAt, numbers-at, once}
+use Rattle.reader_rules.proofs.Occurrences.{AllIn, all-in-has, all-in-append, sumOf, sum-append, sum-count, total-same}
+use Rattle.reader_rules.proofs.TreeChildren.{numbers-at, once}
 
 -- lists
-all-has : (P : ℕ → Type 0) (l : List ℕ) → ((v : ℕ) → has v l ≡ true → P v) → AllIn P l
-unfolding has
-all-has P [] h = tt
-all-has P (x ∷ xs) h = (h x (rw (eq-eqb x x refl)), all-has P xs (λ v e. h v (later v (eqb x v) e)))
-  where
-    later : (v : ℕ) (b : Bool) → has v xs ≡ true → (b || has v xs) ≡ true
-    later v true e = refl
-    later v false e = e
-
 all-in-flat : (P : ℕ → Type 0) (g : ℕ → List ℕ) (l : List ℕ) → AllIn (λ v. AllIn P (g v)) l → AllIn P (flat g l)
 unfolding flat
 all-in-flat P g [] h = tt
@@ -72,7 +64,7 @@ module _ (doc : List ℕ) (d : Document doc) where
   N = count doc
 
   pub all-children : (P : ℕ → Type 0) (k : ℕ) → ((v : ℕ) → has v (children doc k) ≡ true → AllIn P (numbersAt doc v)) → AllIn P (flat (numbersAt doc) (children doc k))
-  all-children P k h = all-in-flat P (numbersAt doc) (children doc k) (all-has (λ v. AllIn P (numbersAt doc v)) (children doc k) h)
+  all-children P k h = all-in-flat P (numbersAt doc) (children doc k) (all-in-has (λ v. AllIn P (numbersAt doc v)) (children doc k) h)
 
   -- what each node hands to its children holds at all nodes below
   module _ (P : ℕ → Type 0) (s : (k v : ℕ) → 1 ≤ k → k ≤ N → has v (children doc k) ≡ true → P k → P v) where

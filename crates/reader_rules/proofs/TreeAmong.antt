@@ -13,12 +13,12 @@ use Rattle.reader_rules.specs.Kinds.{cell, sortAt, sortIn, isNodeSort}
 use Rattle.reader_rules.specs.Nodes.{kindAt, operandAt, nodesAmong, children}
 use Rattle.reader_rules.specs.Promise.{At}
 use Rattle.reader_rules.specs.Decode.{gather}
+use Rattle.reader_rules.specs.Below.{flat, numbersAt}
 use Rattle.reader_rules.proofs.Accepted.{readable}
 use Rattle.reader_rules.proofs.Operands.{cond-same}
-use Rattle.reader_rules.proofs.Occurrences.{flat}
 use Rattle.reader_rules.proofs.TreeShape.{AllFrom, all-at}
 use Rattle.reader_rules.proofs.TreeCounts.{at-least, at-most}
-use Rattle.reader_rules.proofs.TreeChildren.{numbersAt, numbers-at}
+use Rattle.reader_rules.proofs.TreeChildren.{numbers-at}
 
 pub among-none : (w : List ℕ) (i m : ℕ) → ((j : ℕ) → i ≤ j → j < i + m → isNodeSort (sortAt w j) ≡ false) → nodesAmong w i m ≡ []
 unfolding nodesAmong

@@ -16,10 +16,11 @@ use Rattle.layout.specs.Layout.{count, part}
 use Rattle.reader_rules.specs.Kinds.{isNodeSort, sortAt, ofSort, between}
 use Rattle.reader_rules.specs.Nodes.{kindAt, nodesAmong, children, uses}
 use Rattle.reader_rules.specs.Findings.{lowerAt}
-use Rattle.reader_rules.specs.LowerNodes.{lower, meaning}
+use Rattle.reader_rules.specs.LowerNodes.{lower}
+use Rattle.reader_rules.specs.Below.{flat, numbersAt}
 use Rattle.reader_rules.proofs.LowerNodes.{meaning-eq}
 use Rattle.reader_rules.proofs.Accepted.{Sound, Document, used-once}
-use Rattle.reader_rules.proofs.Occurrences.{AllIn, all-in-joined, all-in-map, sumOf, flat, flat-same, occurrences-flat}
+use Rattle.reader_rules.proofs.Occurrences.{AllIn, all-in-joined, all-in-map, sumOf, flat-same, occurrences-flat}
 use Rattle.reader_rules.proofs.Occurrences.{sum-joined, total-same, total-add, total-last, total-none, total-one, sum-count}
 
 abbrev Below : ℕ → ℕ → Type 0
@@ -43,10 +44,6 @@ among-below doc k w i (suc m) e =
 children-below : (doc : List ℕ) (k : ℕ) → Sound doc k → AllIn (Below k) (children doc k)
 unfolding children
 children-below doc k s = among-below doc k (part doc k) 1 (length (part doc k) - 1) (s .lower)
-
--- the numbers of node k and of all below it: operands before their node, in operand order
-unfoldable pub numbersAt : List ℕ → ℕ → List ℕ
-numbersAt doc = meaning [] (λ k sub. flat sub (children doc k) ++ (k ∷ []))
 
 pub numbers-at : (doc : List ℕ) (k : ℕ) → Sound doc k → numbersAt doc k ≡ flat (numbersAt doc) (children doc k) ++ (k ∷ [])
 unfolding numbersAt

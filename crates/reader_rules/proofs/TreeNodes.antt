@@ -20,16 +20,16 @@ use Rattle.reader_rules.specs.Tree.{Lines, end}
 use Rattle.reader_rules.specs.Decode.{exprAt, predAt, textAt, includeAt, lineAt, schemaAt, paragraphAt, exprsFrom, linesFrom, paragraphsFrom, treeOf}
 use Rattle.reader_rules.specs.TreeNumbers.{exprNumbers, exprsNumbers, predNumbers, textNumbers, linesNumbers, includeNumbers, schemaNumbers}
 use Rattle.reader_rules.specs.TreeNumbers.{paragraphNumbers, paragraphsNumbers, nodeNumbers}
+use Rattle.reader_rules.specs.Below.{flat, numbersAt}
 use Rattle.reader_rules.proofs.Accepted.{readable, last-document}
 use Rattle.reader_rules.proofs.Operands.{cond-same}
-use Rattle.reader_rules.proofs.Occurrences.{flat}
 use Rattle.reader_rules.proofs.TreeCounts.{at-least}
 use Rattle.reader_rules.proofs.TreeShape.{all-at, _▹_}
 use Rattle.reader_rules.proofs.TreeText.{text-kind, include-kind, line-range, text-law, line-declaration, actual-sort, include-law, line-inclusion}
 use Rattle.reader_rules.proofs.TreeText.{schema-kinds, schema-plain, schema-from, schema-both}
 use Rattle.reader_rules.proofs.TreeParagraph.{paragraph-range, paragraph-given, paragraph-axiomatic, paragraph-schema, paragraph-abbreviation}
 use Rattle.reader_rules.proofs.TreeParagraph.{paragraph-constraint, document-sort, document-law}
-use Rattle.reader_rules.proofs.TreeChildren.{numbersAt, numbers-at, once}
+use Rattle.reader_rules.proofs.TreeChildren.{numbers-at, once}
 use Rattle.reader_rules.proofs.TreeAmong.{among-none, gathered, by-children, one-numbers, two-numbers, first-child, last-child, middle-children}
 use Rattle.reader_rules.proofs.TreeAmong.{same-sort, no-node}
 use Rattle.reader_rules.proofs.TreeNumbered.{Numbered, below-expr, below-pred, below-text, listed-exprs, expr-numbered, pred-numbered}

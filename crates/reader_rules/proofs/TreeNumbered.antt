@@ -17,14 +17,13 @@ use Rattle.reader_rules.specs.Tree.{Expr, Exprs, none, more, Lines}
 use Rattle.reader_rules.specs.Decode.{exprAt, predAt, textAt, includeAt, lineAt, schemaAt, paragraphAt, exprsFrom, relationOf, membersOf}
 use Rattle.reader_rules.specs.TreeNumbers.{exprNumbers, exprsNumbers, predNumbers, textNumbers, linesNumbers, includeNumbers, schemaNumbers}
 use Rattle.reader_rules.specs.TreeNumbers.{paragraphNumbers}
+use Rattle.reader_rules.specs.Below.{flat, numbersAt}
 use Rattle.reader_rules.proofs.Operands.{cond-same}
-use Rattle.reader_rules.proofs.Occurrences.{flat}
 use Rattle.reader_rules.proofs.TreeCounts.{at-least}
 use Rattle.reader_rules.proofs.TreeShape.{all-at, _▹_}
 use Rattle.reader_rules.proofs.TreeExpr.{expr-range, expr-reference, expr-number, expr-integers, expr-members, expr-power, expr-application}
 use Rattle.reader_rules.proofs.TreeExpr.{expr-selection, expr-theta, expr-schemaSet, expr-arithmetic, expr-comprehension}
 use Rattle.reader_rules.proofs.TreePred.{pred-range, pred-truth, pred-relation, pred-not, pred-connected, pred-quantified}
-use Rattle.reader_rules.proofs.TreeChildren.{numbersAt}
 use Rattle.reader_rules.proofs.TreeAmong.{twoChildren, gathered, by-children, exactly, leaf-numbers, one-numbers, two-numbers, first-plain}
 use Rattle.reader_rules.proofs.TreeAmong.{same-sort}
 

@@ -9,6 +9,7 @@ pub mod Reading
 pub mod Promise
 pub mod LowerNodes
 pub mod Tree
+pub mod Below
 pub mod Decode
 pub mod TreeNumbers
 pub mod Limited

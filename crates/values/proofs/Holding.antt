@@ -2,12 +2,13 @@
 use mathlib.Core.Path.{_≡_, refl, ap, _∙_}
 use mathlib.Core.Bool.{Bool, true, false}
 use mathlib.Core.List.{List, _++_}
-use Prim.Native.Nat.{ℕ, zero, suc, _+_, _-_, _≤_, _<_}
+use Prim.Native.Nat.{ℕ, _+_, _-_, _≤_, _<_}
 use native.Mathlib.Omega.{arith}
 use lib.Dec.{leb}
-use lib.ListN.{length, take, drop, replicate, length-append, length-replicate}
+use lib.ListN.{length, take, replicate, length-append, length-replicate}
 use lib.Seq.{sets, sets-eq, take-at, drop-append-add}
 use borrow.Author.Tests.{le-leb, lt-leb, leb-true, leb-false}
+use Rattle.words.proofs.Lists.{zeros-dropped}
 use Rattle.values.specs.declared.held.Held.{Held}
 use Rattle.values.specs.Held.{over, keep}
 
@@ -21,11 +22,6 @@ keep-fits ws h = rw (le-leb (length ws) 64 h)
 
 abbrev zeros : ℕ → List ℕ
 zeros n = replicate n 0
-
-drop-replicate : (m n : ℕ) → drop m (zeros n) ≡ zeros (n - m)
-drop-replicate zero n = let e : n ≡ n - 0 = omega arith in ap zeros e
-drop-replicate (suc m) zero = let e : 0 ≡ 0 - suc m = omega arith in ap zeros e
-drop-replicate (suc m) (suc n) = let e : n - m ≡ suc n - suc m = omega arith in drop-replicate m n ∙ ap zeros e
 
 -- what a kept value says of its list
 module _ (v : Held) (ws : List ℕ) (e : v ≡ keep ws) where
@@ -58,7 +54,7 @@ appended ws w h =
     let l : length (ws ++ z) ≡ 64 = length-append ws z ∙ omega (arith, length-replicate {A = ℕ} (64 - length ws) 0) in
     let k : 64 - length ws - length w ≡ 64 - length (ws ++ w) = omega (arith, length-append ws w) in
     sets-eq w (ws ++ z) (length ws) (omega arith)
-    ∙ rw (take-at ws z (length ws) refl, drop-append-add ws z (length w), drop-replicate (length w) (64 - length ws), k)
+    ∙ rw (take-at ws z (length ws) refl, drop-append-add ws z (length w), zeros-dropped (length w) (64 - length ws), k)
 
 -- the words that are held, back as a list
 pub held-part : (v : Held) (ws : List ℕ) → v ≡ keep ws → length ws ≤ 64 → take (v .len) (v .words) ≡ ws
