@@ -1,0 +1,11 @@
+pub mod CheckMaps
+pub mod EvaluationMaps
+pub mod ItemMaps
+pub mod MapItems
+pub mod MapOutcomes
+pub mod Rewriting
+pub mod SameChecks
+pub mod SameFits
+pub mod SameRuns
+pub mod SizedMaps
+pub mod TermMaps

@@ -1,0 +1,2 @@
+pub mod MapAnswers
+pub mod Rewritten
