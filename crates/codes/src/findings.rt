@@ -22,6 +22,9 @@ pub const WORK_AREA: u32 = 21;
 
 pub const DICTIONARY_AREA: u32 = 22;
 
+// Writing in the one coding: an output area too short for the result.
+pub const OUTPUT_AREA: u32 = 27;
+
 // The check:
 pub const UNKNOWN_NAME: u32 = 31;
 
