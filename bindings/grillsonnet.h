@@ -4,8 +4,8 @@
  * and is not NULL, also where the length is 0. No call keeps a pointer, uses the heap or touches anything but its areas, so calls on different
  * areas may run at the same time. Areas that a call writes to overlap no other area of that call.
  *
- * A finding is one number: 0 where there is none, else number * 2^32 + place. Z_NUMBER and Z_PLACE take it apart. Number and place are document
- * 01's, but for number 1 of a run that fails: a node of the document, an entry of the state, or 0. */
+ * A finding is one number: 0 where there is none, else number * 2^32 + place. Z_NUMBER and Z_PLACE take it apart. Number and place are those of
+ * documents 01 and 02, but for number 1 of a run that fails: a node of the document, an entry of the state, or 0. */
 #ifndef GRILLSONNET_H
 #define GRILLSONNET_H
 
@@ -39,6 +39,12 @@ uint64_t z_fit(const uint32_t *document, size_t words, const uint32_t *state, si
 /* A run of a document on a state: reading's finding; then 21 where the work area has under 16384 words; then 41 as z_state; then that of the
  * paragraphs: 0 where the run holds, number 1 with the node where it fails, 51 to 55 with the node. The work area is zero after it. */
 uint64_t z_run(const uint32_t *document, size_t words, const uint32_t *state, size_t state_words, uint32_t *work, size_t work_words);
+
+/* One coding of a document's tree: a readable document written again, whether or not the check would accept it, with its nodes numbered from 1
+ * on, operands before their node, in the order of the operand words, depth first. So two documents with one tree give the same words. The finding:
+ * reading's; then 27 at 0 where the output area has fewer words than the document, since the result has as many; 0 where it is written. The output
+ * area then holds the result with zeros after it, after a refusal zeros. */
+uint64_t z_canonical(const uint32_t *document, size_t words, uint32_t *output, size_t output_words);
 
 /* Bytes that always suffice to print a check with a dictionary area of this many words. */
 #define Z_PRINT_SIZE(dictionary_words) (11 * (size_t)(dictionary_words) + 34)

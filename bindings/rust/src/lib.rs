@@ -79,6 +79,16 @@ pub fn run(document: &[u32], state: &[u32], work: &mut [u32]) -> Result<Ending, 
     })
 }
 
+/// A readable document written again in the one numbering that its tree has:
+/// reading's finding, then 27 at 0 where the output area has fewer words than
+/// the document. The output area holds the result, which has as many words as
+/// the document, with zeros after it; after a refusal zeros.
+pub fn canonical(document: &[u32], output: &mut [u32]) -> Result<(), Finding> {
+    answer::of_finding(unsafe {
+        raw::z_canonical(document.as_ptr(), document.len(), output.as_mut_ptr(), output.len())
+    })
+}
+
 /// The lines of a check's answer and its dictionary area; nothing where the
 /// words are no dictionary of a check and print longer than one could.
 pub fn print(checked: Result<(), Finding>, dictionary: &[u32]) -> Option<String> {

@@ -40,6 +40,13 @@ extern "C" {
         work_words: usize,
     ) -> u64;
 
+    pub fn z_canonical(
+        document: *const u32,
+        words: usize,
+        output: *mut u32,
+        output_words: usize,
+    ) -> u64;
+
     pub fn z_print(
         finding: u64,
         dictionary: *const u32,

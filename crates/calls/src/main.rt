@@ -1,6 +1,7 @@
 // Each call from a Rattle program, on a few documents: stdout holds the findings. The table of vectors is tests/compare/vectors.
 use codes::limits;
 use libc::STDOUT_FILENO;
+use words::word;
 
 // Words of the areas.
 const DICTIONARY: usize = limits::DICTIONARY_AREA_WORDS;
@@ -8,6 +9,9 @@ const DICTIONARY: usize = limits::DICTIONARY_AREA_WORDS;
 const CHECK_WORK: usize = limits::CHECK_WORK_WORDS;
 
 const RUN_WORK: usize = limits::RUN_WORK_WORDS;
+
+// Words of the output area: those of INTEGER.
+const WORDS: usize = 25;
 
 // Bytes of the buffer: enough for each of these findings.
 const OUTPUT: usize = 1024;
@@ -171,6 +175,22 @@ fn run(doc: &[u32], state: &[u32]) {
     show_run(evaluator::run(doc, state, &mut work));
 }
 
+fn show_words(area: &[u32]) {
+    io::write_all(STDOUT_FILENO, b"words");
+    for i in 0..area.len() {
+        io::write_all(STDOUT_FILENO, b" ");
+        io::print_decimal(STDOUT_FILENO, word(area, i) as u64);
+    }
+    io::write_all(STDOUT_FILENO, b"\n");
+}
+
+// Written again, in an area of WORDS words, whether or not there is room.
+fn rewrite(doc: &[u32]) {
+    let mut output = [1u32; WORDS];
+    show_reading(canonical::canonical(doc, &mut output));
+    show_words(&output);
+}
+
 fn main() {
     show_reading(reader::read(&GIVEN));
     show_reading(reader::read(&NO_KIND));
@@ -183,4 +203,6 @@ fn main() {
     run(&INTEGER, &SEVEN);
     run(&DESCENDING, &NO_NAMES);
     run(&DESCENDING, &THREE);
+    rewrite(&INTEGER);
+    rewrite(&UNEQUAL);
 }

@@ -12,7 +12,7 @@ ghost use Rattle.fitter_rules.specs.Fit.{fitOf};
 ghost use Rattle.printer_rules.specs.Print.{printOf};
 ghost use Rattle.printer_rules.specs.Buffer.{Printed};
 ghost use Rattle.capi_codes.specs.Code.{codeOf, codeFinding};
-ghost use Rattle.capi.specs.Areas.{Decided, RunDecided};
+ghost use Rattle.capi.specs.Areas.{Decided, RunDecided, CanonicalDecided};
 
 // Reading: 0 where the document is readable, else one of 11 to 17 with its place.
 #[no_mangle]
@@ -28,6 +28,15 @@ pub extern "C" fn z_state(doc: &[u32], state: &[u32]) -> u64
     ensures { λ n. ⌜ n ≡ codeOf (stateCheckOf (now (doc .entry)) (now (state .entry))) ⌝ }
 {
     code_of(states::check_state(doc, state))
+}
+
+// A document written again in the one coding: reading's finding first, then 27 at 0 where the output area is too short. The output area then holds the
+// result and zeros after it, after a refusal zeros.
+#[no_mangle]
+pub extern "C" fn z_canonical(doc: &[u32], output: &mut [u32]) -> u64
+    ensures { λ n. ⌜ CanonicalDecided (now (doc .entry)) (length (now (output .entry))) n (now (output .exit)) ⌝ }
+{
+    code_of(canonical::canonical(doc, output))
 }
 
 // The check of a document: reading's finding first, then 21, then 22 at 0 where the dictionary area has no words; then, paragraph by paragraph, 31 to 38
