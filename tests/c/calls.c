@@ -40,6 +40,25 @@ static void same_fit(const uint32_t *document, size_t words, const uint32_t *sta
     same_finding("z_fit", z_fit(document, words, state, state_words, dictionary, WORDS(dictionary), work, WORDS(work)), number, place);
 }
 
+/* Writes into an output area of so many words: the result with zeros after it, a word after the area that must stay, and the document as it was. */
+static void same_written(const uint32_t *document, size_t words, size_t output_words, uint32_t number, uint32_t place, const uint32_t *result,
+                         size_t count) {
+    uint32_t area[24], given[24];
+    memset(area, 0xff, sizeof area);
+    memcpy(given, document, words * sizeof *document);
+    same_finding("z_canonical", z_canonical(given, words, area, output_words), number, place);
+    for (size_t i = 0; i < WORDS(area); i++) {
+        if (area[i] != (i >= output_words ? UINT32_MAX : i < count ? result[i] : 0)) {
+            printf("z_canonical into %zu words: word %zu is %u\n", output_words, i, area[i]);
+            differences++;
+        }
+    }
+    if (memcmp(given, document, words * sizeof *document) != 0) {
+        printf("z_canonical: the document was written to\n");
+        differences++;
+    }
+}
+
 /* Prints into a buffer of this size, with a byte after it that must stay. */
 static void same_text(uint64_t finding, const uint32_t *dictionary, size_t words, size_t size, const char *wanted) {
     char buffer[Z_PRINT_SIZE(16) + 1];
@@ -60,6 +79,8 @@ int main(void) {
     const uint32_t state[] = {0};
     const uint32_t sized[] = {1, 3, 1, 20};
     const uint32_t dictionary[] = {1, 3, 6, 1, 4, 0, 3, 2, 4, 0, 0};
+    const uint32_t paragraphs[] = {3, 7, 2, 9, 2, 11, 3, 2, 4, 2, 8, 1, 2, 1};   /* [B]; [A], the second paragraph numbered first */
+    const uint32_t canonical[] = {3, 7, 2, 9, 2, 11, 3, 2, 8, 2, 4, 1, 1, 2};
     const char *lines = "accepted 9 1\n1 4 0 : 3 2 4\n";
     same_finding("z_read", z_read(document, WORDS(document)), 0, 0);
     same_finding("z_read of no words", z_read(document, 0), 11, 0);
@@ -68,6 +89,12 @@ int main(void) {
     same_check(document, 0, 11, 0, dictionary, 0);
     same_fit(document, WORDS(document), state, WORDS(state), 41, 0);
     same_fit(document, WORDS(document), sized, WORDS(sized), 0, 0);
+    same_written(paragraphs, WORDS(paragraphs), WORDS(paragraphs), 0, 0, canonical, WORDS(canonical));
+    same_written(paragraphs, WORDS(paragraphs), 20, 0, 0, canonical, WORDS(canonical));
+    same_written(canonical, WORDS(canonical), 23, 0, 0, canonical, WORDS(canonical));
+    same_written(paragraphs, WORDS(paragraphs), WORDS(paragraphs) - 1, 27, 0, canonical, 0);
+    same_written(paragraphs, WORDS(paragraphs), 0, 27, 0, canonical, 0);
+    same_written(paragraphs, WORDS(paragraphs) - 1, 5, 11, 0, canonical, 0);
     same_text(0, dictionary, WORDS(dictionary), Z_PRINT_SIZE(WORDS(dictionary)), lines);
     same_text(0, dictionary, WORDS(dictionary), strlen(lines) + 1, lines);
     same_text(0, dictionary, WORDS(dictionary), strlen(lines), "");

@@ -55,9 +55,10 @@ impl Call {
         format!(
             "    Call {{ name: \"{symbol}\", function: call_{symbol}, expected: crate::expected::{symbol}, \
              reference: crate::timed::{symbol}, \
-             dictionary: {}, work: {}, numbers: &[{}] }},\n",
+             dictionary: {}, work: {}, output: {}, numbers: &[{}] }},\n",
             self.has("dictionary"),
             self.has("work"),
+            self.has("output"),
             numbers.join(", ")
         )
     }

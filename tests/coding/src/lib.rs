@@ -103,6 +103,32 @@ pub fn encode(tree: &Tree) -> Vec<u32> {
     join(&nodes)
 }
 
+/// Codes a tree with operands first, depth first, each node's operands visited
+/// in the order into which `arrange` brings their places.
+pub fn encode_arranged(tree: &Tree, arrange: &mut dyn FnMut(&mut [usize])) -> Vec<u32> {
+    fn walk(tree: &Tree, arrange: &mut dyn FnMut(&mut [usize]), nodes: &mut Vec<Vec<u32>>) -> u32 {
+        let is_node = |&at: &usize| matches!(tree.operands[at], Operand::Node(_));
+        let mut places: Vec<usize> = (0..tree.operands.len()).filter(is_node).collect();
+        arrange(&mut places);
+        let mut numbers = vec![0; tree.operands.len()];
+        for at in places {
+            if let Operand::Node(child) = &tree.operands[at] {
+                numbers[at] = walk(child, arrange, nodes);
+            }
+        }
+        let word = |(operand, number)| match operand {
+            &Operand::Word(word) => word,
+            Operand::Node(_) => number,
+        };
+        let operands = tree.operands.iter().zip(numbers).map(word);
+        nodes.push(std::iter::once(tree.kind).chain(operands).collect());
+        nodes.len() as u32
+    }
+    let mut nodes = Vec::new();
+    walk(tree, arrange, &mut nodes);
+    join(&nodes)
+}
+
 /// Codes a tree in another order in which operands are lower: of the nodes
 /// whose operands are all numbered, oldest first, `pick` chooses the next.
 pub fn encode_in_order(tree: &Tree, pick: &mut dyn FnMut(usize) -> usize) -> Vec<u32> {

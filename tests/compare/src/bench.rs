@@ -25,7 +25,7 @@ fn main() -> ExitCode {
         sets.push((name.to_string(), vec![case]));
     }
     println!(
-        "{:<9}{:<34}{:>12}{:>12}{:>9}",
+        "{:<13}{:<34}{:>12}{:>12}{:>9}",
         "call", "documents", "library µs", "reference", "ratio"
     );
     let chosen = |option: &str, name: &str| {
@@ -63,23 +63,22 @@ fn mixed(seed: u64, count: u64) -> Vec<Case> {
 /// Prints one line of the table and gives its ratio.
 fn measure(call: &Call, name: &str, cases: &[Case]) -> f64 {
     let area = |taken: bool| vec![0; if taken { 16_384 } else { 0 }];
-    let (mut dictionary, mut work) = (area(call.dictionary), area(call.work));
+    let mut areas = [area(call.dictionary), area(call.work), area(call.output)];
     let mut time = |function: fn(&mut Slices) -> u64| {
-        let rounds = (0..ROUNDS).map(|_| one_round(function, cases, &mut dictionary, &mut work));
+        let rounds = (0..ROUNDS).map(|_| one_round(function, cases, &mut areas));
         rounds.fold(f64::INFINITY, f64::min)
     };
     let (library, reference) = (time(call.function), time(call.reference));
     let ratio = library / reference;
-    println!("{:<9}{name:<34}{library:>12.2}{reference:>12.2}{ratio:>9.2}", call.name);
+    println!("{:<13}{name:<34}{library:>12.2}{reference:>12.2}{ratio:>9.2}", call.name);
     ratio
 }
 
-/// Microseconds a call.
+/// Microseconds a call, with the areas of dictionary, work and output.
 fn one_round(
     function: fn(&mut Slices) -> u64,
     cases: &[Case],
-    dictionary: &mut [u32],
-    work: &mut [u32],
+    [dictionary, work, output]: &mut [Vec<u32>; 3],
 ) -> f64 {
     let start = Instant::now();
     let mut calls = 0;
@@ -87,8 +86,9 @@ fn one_round(
         for case in cases {
             dictionary.fill(0);
             work.fill(0);
+            output.fill(0);
             let (document, state) = (&case.document[..], &case.state[..]);
-            let slices = &mut Slices { document, state, dictionary, work };
+            let slices = &mut Slices { document, state, dictionary, work, output };
             std::hint::black_box(function(std::hint::black_box(slices)));
             calls += 1;
         }

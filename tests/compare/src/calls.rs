@@ -11,6 +11,7 @@ pub struct Slices<'a> {
     pub state: &'a [u32],
     pub dictionary: &'a mut [u32],
     pub work: &'a mut [u32],
+    pub output: &'a mut [u32],
 }
 
 /// One call of the library.
@@ -23,6 +24,7 @@ pub struct Call {
     pub reference: fn(&mut Slices) -> u64,
     pub dictionary: bool,
     pub work: bool,
+    pub output: bool,
     /// The finding numbers that a comparison must reach.
     pub numbers: &'static [u32],
 }
@@ -53,13 +55,19 @@ impl Call {
     pub fn difference(&self, case: &Case, expected: &Expected) -> Option<Difference> {
         let document = Guarded::new(&case.document, case.dirt);
         let state = Guarded::new(&case.state, case.dirt.rotate_left(7));
-        let mut dictionary = Area::new(case.dictionary, case.dirt.rotate_left(13));
-        let mut work = Area::new(case.work, case.dirt.rotate_left(19));
+        // An area that the call does not take has no words.
+        let area = |taken: bool, words: usize, turn: u32| {
+            Area::new(if taken { words } else { 0 }, case.dirt.rotate_left(turn))
+        };
+        let mut dictionary = area(self.dictionary, case.dictionary, 13);
+        let mut work = area(self.work, case.work, 19);
+        let mut output = area(self.output, case.output, 25);
         let answer = (self.function)(&mut Slices {
             document: document.words(),
             state: state.words(),
             dictionary: dictionary.words(),
             work: work.words(),
+            output: output.words(),
         });
         if answer != expected.answer {
             return Some(Difference::answers(answer, expected.answer));
@@ -68,12 +76,14 @@ impl Call {
             let text = "the document or the state was written to".to_string();
             return Some(Difference { numbers: None, text });
         }
-        let dictionary = self.dictionary.then(|| dictionary.difference(&expected.dictionary));
-        let work = self.work.then(|| work.difference(&[]));
-        let in_area = |name: &str, found: Option<Option<String>>| {
-            let text = format!("{name} area: {}", found.flatten()?);
+        let found = [
+            ("dictionary", dictionary.difference(&expected.dictionary)),
+            ("work", work.difference(&[])),
+            ("output", output.difference(&expected.output)),
+        ];
+        found.into_iter().find_map(|(name, difference)| {
+            let text = format!("{name} area: {}", difference?);
             Some(Difference { numbers: None, text })
-        };
-        in_area("dictionary", dictionary).or(in_area("work", work))
+        })
     }
 }

@@ -8,11 +8,13 @@ use reference::{Ending, Finding};
 /// the same case is then not compared.
 const STEPS: u64 = 20_000;
 
-/// A call's answer, and the dictionary's words after it; the words after them,
-/// and the work area, are zero.
+/// A call's answer, and the words of the dictionary and of the output after
+/// it; the words after them, and the work area, are zero.
+#[derive(Default)]
 pub struct Expected {
     pub answer: u64,
     pub dictionary: Vec<u32>,
+    pub output: Vec<u32>,
 }
 
 fn answer<T>(found: Result<T, Finding>) -> u64 {
@@ -20,7 +22,7 @@ fn answer<T>(found: Result<T, Finding>) -> u64 {
 }
 
 fn finding_only<T>(found: Result<T, Finding>) -> Option<Expected> {
-    Some(Expected { answer: answer(found), dictionary: Vec::new() })
+    Some(Expected { answer: answer(found), ..Expected::default() })
 }
 
 fn with_dictionary(found: Result<reference::Checked, Finding>) -> Option<Expected> {
@@ -28,7 +30,7 @@ fn with_dictionary(found: Result<reference::Checked, Finding>) -> Option<Expecte
         Ok(checked) => checked.dictionary.words(),
         Err(_) => Vec::new(),
     };
-    Some(Expected { answer: answer(found), dictionary })
+    Some(Expected { answer: answer(found), dictionary, ..Expected::default() })
 }
 
 pub fn z_read(case: &Case) -> Option<Expected> {
@@ -56,7 +58,14 @@ pub fn z_run(case: &Case) -> Option<Expected> {
         Ending::Refused(finding) => finding.word(),
         Ending::OutOfSteps => return None,
     };
-    Some(Expected { answer, dictionary: Vec::new() })
+    Some(Expected { answer, ..Expected::default() })
+}
+
+pub fn z_canonical(case: &Case) -> Option<Expected> {
+    Some(match reference::canonical(&case.document, case.output) {
+        Ok(output) => Expected { output, ..Expected::default() },
+        Err(finding) => Expected { answer: finding.word(), ..Expected::default() },
+    })
 }
 
 /// The finding number of an answer.
@@ -68,7 +77,7 @@ pub fn number(answer: u64) -> u32 {
 pub fn in_words(answer: u64) -> String {
     let place = answer as u32;
     match number(answer) {
-        0 if place == 0 => "0 (accepted, or holds)".to_string(),
+        0 if place == 0 => "0 (accepted, holds or written)".to_string(),
         1 => format!("fails at {place}"),
         number => format!("{number} at {place}"),
     }

@@ -3,6 +3,7 @@
 pub mod areas;
 pub mod calls;
 pub mod expected;
+pub mod numberings;
 pub mod printed;
 pub mod program;
 pub mod show;

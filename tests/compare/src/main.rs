@@ -11,7 +11,7 @@
 
 use compare::calls::{Call, Difference, ARCHIVE, CALLS, NOT_LINKED};
 use compare::expected::number;
-use compare::{printed, program, show, shrink};
+use compare::{numberings, printed, program, show, shrink};
 use generate::Case;
 use std::collections::BTreeMap;
 use std::process::ExitCode;
@@ -62,47 +62,46 @@ fn main() -> ExitCode {
         }
     }
     let short = summary(&tallies, &options, start);
-    let printed = printed_lines(&options) && printed_findings(&options);
-    ExitCode::from(u8::from(differences > 0 || short || !printed))
+    let seldom = seldom_compared(&options);
+    ExitCode::from(u8::from(differences > 0 || short || !seldom))
 }
 
-/// Compares the lines of z_print on each tenth case; false where one differs.
-fn printed_lines(options: &Options) -> bool {
-    let mut compared = 0;
-    for index in (options.from..options.from + options.count).step_by(10) {
-        let case = generate::case(options.seed, index);
-        if let Some(difference) = printed::difference(&case) {
-            println!("z_print differs at seed {}, case {index}:", options.seed);
-            print!("{}", show::document(&case.document));
-            println!("{difference}");
-            return false;
-        }
-        compared += 1;
-    }
-    println!("z_print: {compared} printed findings compared");
-    true
-}
-
-/// Compares the printed finding of the program that Z_PROGRAM names, on each
-/// tenth case; false where one differs.
-fn printed_findings(options: &Options) -> bool {
+/// What is compared on each tenth case alone: the lines of z_print, the words
+/// of two numberings, and the printed finding of the program that Z_PROGRAM
+/// names; false where one differs.
+fn seldom_compared(options: &Options) -> bool {
+    let printed = each_tenth(options, "z_print", |case, _| printed::difference(case));
+    let canonical = CALLS.iter().find(|call| call.name == "z_canonical");
+    let numbered = canonical.map_or(true, |call| {
+        let difference = |case: &Case, _| numberings::difference(call, case);
+        each_tenth(options, "z_canonical, two numberings", difference)
+    });
     let Ok(path) = std::env::var("Z_PROGRAM") else {
         println!("Z_PROGRAM names no program: the printed finding is not compared");
-        return true;
+        return printed && numbered;
     };
+    let difference = |case: &Case, index| program::difference(&path, &program::input(case, index));
+    printed && numbered && each_tenth(options, &path, difference)
+}
+
+/// Compares something on each tenth case; false where one differs.
+fn each_tenth(
+    options: &Options,
+    name: &str,
+    difference: impl Fn(&Case, u64) -> Option<String>,
+) -> bool {
     let mut compared = 0;
     for index in (options.from..options.from + options.count).step_by(10) {
         let case = generate::case(options.seed, index);
-        let input = program::input(&case, index);
-        if let Some(difference) = program::difference(&path, &input) {
-            println!("{path} differs at seed {}, case {index}:", options.seed);
+        if let Some(difference) = difference(&case, index) {
+            println!("{name} differs at seed {}, case {index}:", options.seed);
             print!("{}", show::document(&case.document));
             println!("{difference}");
             return false;
         }
         compared += 1;
     }
-    println!("{path}: {compared} printed findings compared");
+    println!("{name}: {compared} cases compared");
     true
 }
 
@@ -147,7 +146,8 @@ fn report(call: &Call, case: &Case, seed: u64, index: u64) {
     println!("{name} differs at seed {seed}, case {index} ({}), shrunk:", case.family);
     print!("{}", show::document(&small.document));
     println!("  state:\n{}", show::state(&small.state));
-    println!("  dictionary area {} words, work area {} words", small.dictionary, small.work);
+    let (dictionary, work, output) = (small.dictionary, small.work, small.output);
+    println!("  areas: dictionary {dictionary} words, work {work}, output {output}");
     println!("  {}\n", differs(call, &small).map_or(String::new(), |found| found.text));
 }
 

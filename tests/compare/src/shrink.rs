@@ -9,6 +9,8 @@ use std::collections::BTreeMap;
 
 /// The most cases that one shrinking tries.
 const TRIES: usize = 6_000;
+/// Words of an area whose length does not matter.
+const AREA: usize = 16_384;
 
 type Nodes = Vec<Vec<u32>>;
 type Lazy<'a, T> = Box<dyn Iterator<Item = T> + 'a>;
@@ -31,7 +33,8 @@ pub fn shrink(case: &Case, differs: &dyn Fn(&Case) -> bool) -> Case {
 
 /// What shrinking makes less: words, then their sum.
 fn weight(case: &Case) -> (usize, u64) {
-    let plain = usize::from(case.dictionary != 16_384) + usize::from(case.work != 16_384);
+    let areas = [case.dictionary, case.work, case.output];
+    let plain = areas.into_iter().filter(|&words| words != AREA).count();
     let sum = |words: &[u32]| words.iter().map(|&word| u64::from(word)).sum::<u64>();
     let words = case.document.len() + case.state.len() + plain;
     (words, sum(&case.document) + sum(&case.state) + u64::from(case.dirt))
@@ -39,8 +42,9 @@ fn weight(case: &Case) -> (usize, u64) {
 
 fn smaller_cases(case: &Case) -> Lazy<'_, Case> {
     let plain = vec![
-        Case { dictionary: 16_384, ..case.clone() },
-        Case { work: 16_384, ..case.clone() },
+        Case { dictionary: AREA, ..case.clone() },
+        Case { work: AREA, ..case.clone() },
+        Case { output: AREA, ..case.clone() },
         Case { dirt: 0, ..case.clone() },
         Case { state: vec![0], ..case.clone() },
     ];
@@ -51,9 +55,10 @@ fn smaller_cases(case: &Case) -> Lazy<'_, Case> {
                 smaller_trees(nodes).flat_map(|nodes| with_document(case, coding::join(&nodes))),
             )
         }
-        None => Box::new(
-            fewer_words(case.document.clone()).map(|document| Case { document, ..case.clone() }),
-        ),
+        None => Box::new(fewer_words(case.document.clone()).map(|document| {
+            let output = followed(case, document.len());
+            Case { document, output, ..case.clone() }
+        })),
     };
     let states = smaller_states(&case.state).map(|state| Case { state, ..case.clone() });
     Box::new(plain.into_iter().chain(documents).chain(states))
@@ -63,8 +68,18 @@ fn smaller_cases(case: &Case) -> Lazy<'_, Case> {
 /// still asks for or the state as it is.
 fn with_document(case: &Case, document: Vec<u32>) -> [Case; 2] {
     let state = refitted(case, &document);
-    let fitted = Case { document: document.clone(), state, ..case.clone() };
-    [fitted, Case { document, ..case.clone() }]
+    let output = followed(case, document.len());
+    let as_it_is = Case { document, output, ..case.clone() };
+    [Case { state, ..as_it_is.clone() }, as_it_is]
+}
+
+/// The output area's length for a document of so many words: where it is not
+/// the usual one, as many words more or less than the document as before.
+fn followed(case: &Case, words: usize) -> usize {
+    match case.output {
+        AREA => AREA,
+        output => (output + words).saturating_sub(case.document.len()),
+    }
 }
 
 /// Stretches of so many things, from halves down to single ones.

@@ -34,3 +34,7 @@ pub fn z_run(s: &mut Slices) -> u64 {
         Ending::OutOfSteps => u64::MAX,
     }
 }
+
+pub fn z_canonical(s: &mut Slices) -> u64 {
+    answer(reference::canonical_into(s.document, s.output))
+}

@@ -8,7 +8,7 @@ use generate::Case;
 fn case_of(paragraphs: Vec<coding::Tree>) -> Case {
     let document = coding::encode(&document(paragraphs));
     let state = vec![0];
-    Case { family: "test", document, state, dictionary: 17, work: 16_385, dirt: 7 }
+    Case { family: "test", document, state, dictionary: 17, work: 16_385, output: 3, dirt: 7 }
 }
 
 #[test]
@@ -44,7 +44,15 @@ fn shrinking_keeps_what_matters() {
     let small = shrink::shrink(&case, &|case| has_seven(case) && readable(case));
     assert!(has_seven(&small) && readable(&small));
     assert!(small.document[0] <= 5, "{}", show::document(&small.document));
-    assert_eq!((small.dictionary, small.work), (16_384, 16_384));
+    assert_eq!((small.dictionary, small.work, small.output), (16_384, 16_384, 16_384));
+}
+
+#[test]
+fn shrinking_keeps_an_output_area_one_word_short() {
+    let mut case = case_of((0..20).map(|_| constraint(not(truth()))).collect());
+    case.output = case.document.len() - 1;
+    let small = shrink::shrink(&case, &|case| case.output + 1 == case.document.len());
+    assert_eq!((small.document.len(), small.output), (4, 3));
 }
 
 #[test]

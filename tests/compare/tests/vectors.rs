@@ -9,17 +9,18 @@ use grillsonnet::Finding;
 use vectors::{prints, Vector};
 
 /// The call answers what the row says; where the row does not say which
-/// dictionary it leaves, the reference does.
+/// dictionary it leaves or which words it writes, the reference does.
 fn answers(vector: Vector) {
-    let Vector { name, document, state, dictionary, work, answer, .. } = vector;
+    let Vector { name, document, state, dictionary, work, output, answer, .. } = vector;
     let linked = CALLS.iter().find(|call| call.name == vector.call);
     let call = linked.unwrap_or_else(|| panic!("{name}: {} is not linked", vector.call));
-    let case = Case { family: "vector", document, state, dictionary, work, dirt: 77 };
+    let case = Case { family: "vector", document, state, dictionary, work, output, dirt: 77 };
     let reference = (call.expected)(&case).expect("few steps");
     let (theirs, ours) = (in_words(reference.answer), in_words(answer));
     assert_eq!(reference.answer, answer, "{name}: reference {theirs}, wanted {ours}");
     let dictionary = vector.recorded.unwrap_or(reference.dictionary);
-    if let Some(difference) = call.difference(&case, &Expected { answer, dictionary }) {
+    let output = vector.written.unwrap_or(reference.output);
+    if let Some(difference) = call.difference(&case, &Expected { answer, dictionary, output }) {
         panic!("{name}: {}", difference.text.replace("reference:", "wanted:"));
     }
 }

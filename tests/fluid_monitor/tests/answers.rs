@@ -128,8 +128,9 @@ fn a_whole_clock_holds_far_from_the_start() {
 fn the_library_answers_the_same() {
     for ticks in [NEAR, FAR] {
         let (document, state) = (files::document(), files::recorded_after(ticks));
-        let (dictionary, work, dirt) = (AREA, WORK_WORDS, ticks | 1);
-        let case = Case { family: "fluid monitor", document, state, dictionary, work, dirt };
+        let (dictionary, work, output, dirt) = (AREA, WORK_WORDS, AREA, ticks | 1);
+        let family = "fluid monitor";
+        let case = Case { family, document, state, dictionary, work, output, dirt };
         for call in CALLS {
             let expected = (call.expected)(&case).expect("few steps");
             let difference = call.difference(&case, &expected).map(|found| found.text);

@@ -5,6 +5,7 @@ pub mod documents;
 pub mod inject;
 pub mod limits;
 pub mod number;
+pub mod numberings;
 pub mod orders;
 pub mod pinned;
 pub mod raw;
@@ -31,6 +32,7 @@ pub struct Case {
     pub state: Vec<u32>,
     pub dictionary: usize,
     pub work: usize,
+    pub output: usize,
     /// Fills the areas before a call.
     pub dirt: u32,
 }
@@ -51,11 +53,12 @@ pub fn case(seed: u64, index: u64) -> Case {
         }
     };
     let (dictionary, work) = areas(&mut rng, &document);
-    Case { family, document, state, dictionary, work, dirt: rng.word() }
+    let output = output_area(&mut rng, document.len());
+    Case { family, document, state, dictionary, work, output, dirt: rng.word() }
 }
 
 fn some_document(rng: &mut Rng) -> (&'static str, Vec<u32>) {
-    match rng.below(100) {
+    match rng.below(103) {
         0..=2 => ("raw words", raw::raw_words(rng)),
         3 => ("any kind", raw::any_kind(rng)),
         4..=6 => {
@@ -88,10 +91,11 @@ fn some_document(rng: &mut Rng) -> (&'static str, Vec<u32>) {
             ("order of troubles", number::encode_somehow(rng, &tree))
         }
         89..=93 => ("runnable, with errors", with_error(rng, Aim::Run)),
-        _ => {
+        94..=99 => {
             let tree = runnable::arithmetic_document(rng);
             ("values at their ends", number::encode_somehow(rng, &tree))
         }
+        _ => ("numberings", numberings::renumbered(rng)),
     }
 }
 
@@ -163,4 +167,18 @@ fn areas(rng: &mut Rng, document: &[u32]) -> (usize, usize) {
         _ => 16_384,
     };
     (dictionary, work)
+}
+
+/// Length of the output area for a document of so many words: mostly as the
+/// document, one word short or as the other areas, else odd.
+fn output_area(rng: &mut Rng, words: usize) -> usize {
+    match rng.below(20) {
+        0..=4 => words,
+        5..=7 => words.saturating_sub(1),
+        8 => 0,
+        9 => rng.below(words),
+        10..=12 => words + 1 + rng.below(30),
+        13 => 16_385 + 2 * rng.below(500),
+        _ => 16_384,
+    }
 }

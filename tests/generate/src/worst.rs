@@ -3,14 +3,23 @@
 
 use crate::Case;
 use coding::make::*;
-use coding::{encode, Tree};
+use coding::{encode, encode_in_order, Tree};
 
 const X: u32 = 20;
 const Y: u32 = 24;
 
 /// Each case with what it is.
 pub fn cases() -> Vec<(&'static str, Case)> {
-    let trees = [
+    let leaves_first = encode_in_order(&largest(), &mut |_| 0);
+    let name = "1,024 nodes, leaves first";
+    let renumbered = (name, case(name, leaves_first));
+    let numbered = trees().into_iter().map(|(name, tree)| (name, case(name, encode(&tree))));
+    numbered.chain([renumbered]).collect()
+}
+
+/// Each tree with what it is.
+pub fn trees() -> Vec<(&'static str, Tree)> {
+    vec![
         ("1,024 nodes", largest()),
         ("255 paragraphs", paragraphs()),
         ("12 deep, sets in sets", deepest()),
@@ -24,8 +33,7 @@ pub fn cases() -> Vec<(&'static str, Case)> {
         ("8 SchemaSets of 16 in a piece", schema_sets()),
         ("dictionary near 16,384 words", long_dictionary()),
         ("45,000 assignments", assignments()),
-    ];
-    trees.into_iter().map(|(name, tree)| (name, case(name, &tree))).collect()
+    ]
 }
 
 /// Documents that reading refuses as late as it can.
@@ -34,7 +42,7 @@ pub fn refused_cases() -> Vec<(&'static str, Case)> {
         ("1,022 predicates deep, refused", (0..1_020).fold(truth(), |p, _| not(p))),
         ("200 quantifiers deep, refused", (0..200).fold(truth(), nested_text)),
     ];
-    let refused = |(name, tree)| (name, case(name, &document(vec![constraint(tree)])));
+    let refused = |(name, tree)| (name, case(name, encode(&document(vec![constraint(tree)]))));
     trees.into_iter().map(refused).collect()
 }
 
@@ -43,13 +51,12 @@ fn nested_text(inner: Tree, _: u32) -> Tree {
     forall(text(inner, vec![decl(integers(), &[4, 8, 12, 16, X, Y])]), truth())
 }
 
-fn case(family: &'static str, tree: &Tree) -> Case {
-    let document = encode(tree);
+fn case(family: &'static str, document: Vec<u32>) -> Case {
     let state = match reference::read(&document) {
         Ok(read) => coding::join(&vec![vec![1, 1]; reference::state::roles(&read).len()]),
         Err(_) => vec![0],
     };
-    Case { family, document, state, dictionary: 16_384, work: 16_384, dirt: 1 }
+    Case { family, document, state, dictionary: 16_384, work: 16_384, output: 16_384, dirt: 1 }
 }
 
 /// 1,024 nodes: relations of 24 nodes each.

@@ -1,8 +1,10 @@
 //! A checker and evaluator for coded Z documents, written from document 01 and
-//! READINGS.md alone. The proved library is compared with it, so nothing here
-//! is taken from the proved definitions. Clear before fast.
+//! READINGS.md alone, and from document 02 for the requests that have landed.
+//! The proved library is compared with it, so nothing here is taken from the
+//! proved definitions. Clear before fast.
 
 pub mod build;
+pub mod canonical;
 pub mod check;
 pub mod check_expr;
 pub mod check_schema;
@@ -27,6 +29,7 @@ pub mod types;
 pub mod unify;
 pub mod values;
 
+pub use canonical::{canonical, canonical_into};
 pub use check::{check, check_into, Checked};
 pub use finding::Finding;
 pub use fit::fit;

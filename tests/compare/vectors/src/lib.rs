@@ -3,6 +3,7 @@
 //! `compare` against the proved library too. Document 01's marked cases stand
 //! in it beside others; they are also proved (crate `marked`).
 
+mod codings;
 mod fits;
 mod marked;
 mod nodes;
@@ -32,6 +33,7 @@ pub fn table() -> Vec<Vector> {
     values::rows(&mut table);
     runs::rows(&mut table);
     run_nodes::rows(&mut table);
+    codings::rows(&mut table);
     table.vectors
 }
 
@@ -44,7 +46,8 @@ mod tests {
         let mut names = HashMap::new();
         let mut twice = vec![];
         for v in crate::table() {
-            let case = (v.call, v.document, v.state, v.dictionary, v.work);
+            let areas = (v.dictionary, v.work, v.output);
+            let case = (v.call, v.document, v.state, areas);
             if let Some(first) = names.insert(case, v.name.clone()) {
                 twice.push(format!("{} is {first}", v.name));
             }

@@ -18,11 +18,12 @@ pub fn page() -> Vec<Vector> {
 fn vector(line: &str) -> Option<Vector> {
     let line = line.replace("\\|", "¦");
     let cells: Vec<&str> = line.trim_matches('|').split('|').map(str::trim).collect();
-    let [first, .., nodes, call, answer] = cells[..] else { panic!("{line}: too few columns") };
-    if answer == "Answer" {
+    let [first, .., nodes, call, said] = cells[..] else { panic!("{line}: too few columns") };
+    if said == "Answer" {
         return None;
     }
-    let (answer, listed) = told(answer);
+    let (answer, listed) = told(said);
+    let after = |what: &str| said.strip_prefix(what);
     let state = match call.split_once("entries ") {
         Some((_, entries)) => coding::join(&words(entries)),
         None => vec![0],
@@ -34,8 +35,10 @@ fn vector(line: &str) -> Option<Vector> {
         state,
         dictionary: area(call, "dictionary area of "),
         work: area(call, "work area of "),
+        output: area(call, "output area of "),
         answer,
-        recorded: recorded(cells[cells.len() - 1]),
+        recorded: after("accepted, dictionary ").map(|dictionary| words(dictionary).concat()),
+        written: after("written as ").map(|nodes| coding::join(&words(nodes))),
         listed,
     })
 }
@@ -45,6 +48,7 @@ fn symbol(call: &str) -> &'static str {
         Some("check") => "z_check",
         Some("fit") => "z_fit",
         Some("run") => "z_run",
+        Some("canonical") => "z_canonical",
         _ => panic!("{call}: no call"),
     }
 }
@@ -78,16 +82,11 @@ fn told(answer: &str) -> (u64, Option<Listed>) {
         let value = words(value).concat().into_iter().map(|word| word as i32).collect();
         return (0, Some(Listed::Last(place(node), value)));
     }
-    if answer.starts_with("accepted") {
+    if answer.starts_with("accepted") || answer.starts_with("written") {
         return (0, None);
     }
     let (number, node) = answer.split_once(" at ").expect("a number at a place");
     (code((place(number), place(node))), None)
-}
-
-/// The dictionary, where the answer says it.
-fn recorded(answer: &str) -> Option<Vec<u32>> {
-    answer.strip_prefix("accepted, dictionary ").map(|text| words(text).concat())
 }
 
 #[cfg(test)]
@@ -96,7 +95,7 @@ mod tests {
     /// 1 is a run that fails. Finding 11 is words that are no nodes.
     const NUMBERS: [&[u64]; 5] = [
         &[0, 1],
-        &[12, 13, 14, 15, 16, 17, 21, 22],
+        &[12, 13, 14, 15, 16, 17, 21, 22, 27],
         &[31, 32, 33, 34, 35, 36, 37, 38],
         &[41, 42],
         &[51, 52, 53, 54, 55],

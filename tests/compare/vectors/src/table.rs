@@ -28,11 +28,15 @@ pub struct Vector {
     pub dictionary: usize,
     /// Words of the work area.
     pub work: usize,
-    /// Number * 2^32 + place; 0 where accepted or where the run holds; 2^32 +
-    /// node where it fails.
+    /// Words of the output area.
+    pub output: usize,
+    /// Number * 2^32 + place; 0 where accepted, where the run holds or
+    /// where the document is written; 2^32 + node where the run fails.
     pub answer: u64,
     /// The dictionary's words, where the row says them.
     pub recorded: Option<Vec<u32>>,
+    /// The words that are written, where the row says them.
+    pub written: Option<Vec<u32>>,
     pub listed: Option<Listed>,
 }
 
@@ -69,8 +73,10 @@ impl Table {
             state: state.to_vec(),
             dictionary: AREA,
             work: AREA,
+            output: AREA,
             answer: code(finding),
             recorded: None,
+            written: None,
             listed: None,
         });
         self.vectors.last_mut().expect("a row was pushed")
@@ -150,5 +156,17 @@ impl Table {
         let document = doc(vec![abbreviation(A, &[], expression)]);
         let body = document[0] - 2;
         self.runs(&document, &[0], (0, 0)).listed = Some(Listed::Last(body, words.to_vec()));
+    }
+
+    /// The document in its one coding is these words, which fit exactly.
+    pub fn writes(&mut self, document: &[u32], written: &[u32]) {
+        let row = self.row("z_canonical", (document, &[0]), (0, 0));
+        row.output = written.len();
+        row.written = Some(written.to_vec());
+    }
+
+    /// It is not written into an output area of so many words.
+    pub fn writes_not(&mut self, document: &[u32], output: usize, finding: (u32, u32)) {
+        self.row("z_canonical", (document, &[0]), finding).output = output;
     }
 }
