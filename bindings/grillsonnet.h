@@ -4,6 +4,8 @@
  * and is not NULL, also where the length is 0. No call keeps a pointer, uses the heap or touches anything but its areas, so calls on different
  * areas may run at the same time. Areas that a call writes to overlap no other area of that call.
  *
+ * z_read and z_canonical take under 128 KiB of stack, whatever they are given (tested on the worst documents, not proved).
+ *
  * A finding is one number: 0 where there is none, else number * 2^32 + place. Z_NUMBER and Z_PLACE take it apart. Number and place are those of
  * documents 01 and 02, but for number 1 of a run that fails: a node of the document, an entry of the state, or 0. */
 #ifndef GRILLSONNET_H
