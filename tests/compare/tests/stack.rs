@@ -30,10 +30,12 @@ fn answer_on(stack: usize, call: &'static Call, case: &Case) -> u64 {
 #[test]
 fn the_headers_bound_is_enough() {
     let cases: Vec<_> = worst::cases().into_iter().chain(worst::refused_cases()).collect();
-    for call in CALLS.iter().filter(|call| BOUNDED.contains(&call.name)) {
+    for bounded in BOUNDED {
+        let linked = CALLS.iter().find(|call| call.name == bounded);
+        let call = linked.unwrap_or_else(|| panic!("{bounded} is not linked"));
         for (name, case) in &cases {
             let expected = (call.expected)(case).expect("no run").answer;
-            assert_eq!(answer_on(BOUND, call, case), expected, "{} of {name}", call.name);
+            assert_eq!(answer_on(BOUND, call, case), expected, "{bounded} of {name}");
         }
     }
 }
