@@ -28,7 +28,7 @@ use Rattle.states_rules.proofs.GivenSizes.{EntryOf, entry-found}
 use Rattle.evaluator_rules.specs.Claims.{WellFormedState}
 use Rattle.evaluator_rules.proofs.Decoding.{Words, words-drop, orNone, Shaped, broken, anInteger, anElement, aSet, aTuple, shaped, values-count, fits-some, value-back}
 use Rattle.evaluator_rules.proofs.StateWords.{words-part}
-use Rattle.evaluator_rules.proofs.WordOrder.{word-less, word-same}
+use Rattle.values.proofs.WordOrder.{word-less, word-same}
 
 -- ---- words that are a value
 follows-less : (a : Bool) (p m : List ℕ) → follows a p m ≡ true → a ≡ true → isLess (compare p m) ≡ true

@@ -5,7 +5,6 @@ pub mod StateWords
 pub mod StatePlace
 pub mod RunFindings
 pub mod RuleLaws
-pub mod WordOrder
 pub mod FormedState
 pub mod FormedRules
 pub mod FormedRun

@@ -13,7 +13,7 @@ use Rattle.words.proofs.Loops.{and-left, and-right}
 use Rattle.evaluator_rules.specs.Outcomes.{pure}
 use Rattle.evaluator_rules.specs.Operations.{image, findPair}
 use Rattle.evaluator_rules.specs.Troubles.{pair}
-use Rattle.evaluator_rules.proofs.WordOrder.{less-trans}
+use Rattle.values.proofs.WordOrder.{less-trans}
 
 -- ---- members
 unfoldable pub Among : Value → Values → Type 0

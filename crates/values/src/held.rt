@@ -7,7 +7,7 @@ ghost use Prim.Native.Nat.{ℕ};
 ghost use Rattle.values.specs.Held.{over, keep};
 
 // The length of a value that is not held.
-const OVER: usize = limits::VALUE + 1;
+pub const OVER: usize = limits::VALUE + 1;
 
 pub struct Held {
     pub words: [u32; limits::VALUE],

@@ -1,13 +1,14 @@
 // Sets on words: membership, insertion, Apply. Members are passed one by one, by their spans.
+use super::building::built;
+use super::building::put;
 use super::held::Held;
-use super::held::append;
-use super::held::empty;
 use super::held::hold;
 use super::order::Order;
 use super::order::compare;
 use super::order::same;
 use super::span::HEAD;
 use super::span::span;
+use codes::limits;
 use codes::value_tags;
 use words::from;
 use words::word;
@@ -81,10 +82,12 @@ fn insert_at(p: usize, s: &[u32], m: &[u32]) -> Held
     ensures { λ r. ⌜ r ≡ keep (insertAt (Place.At p) (now (s .entry)) (now (m .entry))) ⌝ }
 {
     let head = [SET, std::num::wrapping_add_u32(word(s, 1) as u32, 1)];
-    let a = append(empty(), &head);
-    let b = append(a, from(words::span(s, 0, p), HEAD));
-    let c = append(b, m);
-    append(c, from(s, p))
+    let mut u = [0u32; limits::VALUE];
+    let a = put(&mut u, 0, &head);
+    let b = put(&mut u, a, from(words::span(s, 0, p), HEAD));
+    let c = put(&mut u, b, m);
+    let d = put(&mut u, c, from(s, p));
+    built(u, d)
 }
 
 // The set s with the member m; over 64 words is finding 55.

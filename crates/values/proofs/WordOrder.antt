@@ -1,16 +1,19 @@
--- The order of word sequences is transitive.
+-- The order of word sequences: transitive, and Same is a congruence.
 use mathlib.Core.Path.{_≡_, refl, sym, ap, subst, _∙_}
 use mathlib.Core.Bool.{Bool, true, false, cond, false≢true}
 use mathlib.Core.List.{List, [], _∷_}
-use Prim.Native.Nat.{ℕ}
+use Prim.Native.Nat.{ℕ, _<_, _^_}
+use mir.Syntax.{w32}
+use mir.Val.{Fits, ofZ}
+use mir.ValLaws.{ofZ-toZ, toZ-pos}
 use native.Mathlib.Omega.{arith}
 use lib.IntN.{ℤ, pos, negsuc}
 use lib.Signed.{ltZ}
 use borrow.Author.Tests.{ltb-true, ltb-false, lt-ltb, le-ltb}
 use Rattle.values_integers.specs.Integer.{signed}
 use Rattle.values.specs.Order.{compareWord, orElse, compare, isLess}
 use Rattle.values.specs.declared.order.Order.{Order}
 use Rattle.values.specs.declared.order.Order.the-variants.{Less, Same, Greater}
 
 below-trans : (x y z : ℤ) → ltZ x y ≡ true → ltZ y z ≡ true → ltZ x z ≡ true
 below-trans (pos a) (pos b) (pos c) p q = lt-ltb a c (omega (arith, ltb-true a b p, ltb-true b c q))
@@ -72,3 +75,42 @@ less-trans (x ∷ a) (y ∷ b) (z ∷ c) h k = go (less-trans a b c) (compareWor
     go ih o (alike e) p (alike f) h k = rw (word-same x z (e ∙ f)) (ih h k)
     go ih o (alike e) p higher h k = absurd (false≢true k)
     go ih o higher p q h k = absurd (false≢true h)
+
+pub word-itself : (x : ℕ) → compareWord x x ≡ Same
+word-itself x = word-same x x refl
+
+-- Same words of 32 bits are equal
+pub word-alike : (x y : ℕ) → x < 2 ^ 32 → y < 2 ^ 32 → compareWord x y ≡ Same → x ≡ y
+unfolding signed
+word-alike x y hx hy e = go (compareWord x y) (ordered x y) e
+  where
+    go : (o : Order) → Ordered x y o → o ≡ Same → x ≡ y
+    go o (lower l) e = let z : _≡_ {A = ℕ} 0 1 = cc in absurd (omega arith)
+    go o (alike q) e =
+        let fx : Fits w32 x = record { fits = hx } in
+        let fy : Fits w32 y = record { fits = hy } in
+        sym (ofZ-toZ w32 x fx) ∙ ap (ofZ w32) q ∙ ofZ-toZ w32 y fy
+    go o higher e = let z : _≡_ {A = ℕ} 0 1 = cc in absurd (omega arith)
+
+-- two same words are the same to any third
+word-same-left : (x y z : ℕ) → signed x ≡ signed y → compareWord x z ≡ compareWord y z
+unfolding compareWord
+word-same-left x y z e = rw e
+
+pub same-left : (a b c : List ℕ) → compare a b ≡ Same → compare a c ≡ compare b c
+unfolding compare orElse
+same-left [] [] c h = refl
+same-left [] (y ∷ b) c h = let z : _≡_ {A = ℕ} 0 1 = cc in absurd (omega arith)
+same-left (x ∷ a) [] c h = let z : _≡_ {A = ℕ} 0 1 = cc in absurd (omega arith)
+same-left (x ∷ a) (y ∷ b) [] h = refl
+same-left (x ∷ a) (y ∷ b) (z ∷ c) h = go (same-left a b c) (compareWord x y) (ordered x y) h
+  where
+    go : (compare a b ≡ Same → compare a c ≡ compare b c) → (o : Order) → Ordered x y o → orElse o (compare a b) ≡ Same → orElse (compareWord x z) (compare a c) ≡ orElse (compareWord y z) (compare b c)
+    go ih o (lower l) h = let z : _≡_ {A = ℕ} 0 1 = cc in absurd (omega arith)
+    go ih o (alike e) h = rw (word-same-left x y z e, ih h)
+    go ih o higher h = let z : _≡_ {A = ℕ} 0 1 = cc in absurd (omega arith)
+
+-- counts are not negative
+pub small-less : (x y : ℕ) → x < y → y < 2 ^ 31 → compareWord x y ≡ Less
+unfolding signed
+small-less x y h l = word-less x y (rw (toZ-pos w32 x (omega arith), toZ-pos w32 y (omega arith)) (lt-ltb x y h))

@@ -1,0 +1,10 @@
+pub mod Rows
+pub mod Powers
+pub mod Products
+pub mod HasRow
+pub mod Memberships
+pub mod Enumerates
+pub mod Counting
+pub mod Kept
+pub mod OnWords
+pub mod Examples
