@@ -14,10 +14,11 @@ use Rattle.reader_rules.specs.Tree.{comprehension, Exprs, none, more, Pred, tru
 use Rattle.reader_rules.specs.Tree.{declaration, inclusion, Include, include, exprsLength, Connective, and, or, implies}
 use Rattle.reader_rules.specs.Tree.{Paragraph, given, axiomatic, schema, abbreviation, constraint, Document, document}
 use Rattle.reader_rules.specs.Tree as Tree
+use Rattle.enumeration_rules.specs.Enumeration.{subsets, tuples}
 use Rattle.evaluator_rules.specs.WordCount.{wordCount}
 use Rattle.evaluator_rules.specs.Outcomes.{Event, worked, Outcome, done, stopped, after, _>>=_, pure, stop, keepIf, keep}
 use Rattle.evaluator_rules.specs.Environment.{Meaning, valued, generic, unknown, Environment, bind, empty, lookup, refer}
-use Rattle.evaluator_rules.specs.Operations.{asInteger, asSet, asTuple, addIf, add, image, findPair, keepInteger, calculate, connect, allPass, countIf, sameCount}
+use Rattle.evaluator_rules.specs.Operations.{asInteger, asSet, asSets, asTuple, addIf, add, image, findPair, keepInteger, calculate, connect, allPass, countIf, sameCount}
 use Rattle.evaluator_rules.specs.Assignments.{Domains, noMore, domain, domains, Flow, go, halt, Body, next, each, assign, flowOf, truthOf, gathered}
 use Rattle.evaluator_rules.specs.Rules.{amongMembers, stopInclude, evalExpr, evalExprs, evalMembers, evalPred, overText, evalLines, testExpr, testExprs}
 use Rattle.evaluator_rules.specs.Paragraphs.{Step, onward, failed, then, unless, testNames, testLines, runParagraph, runParagraphs, runDocument}
@@ -89,6 +90,11 @@ module _ (f : ℕ → ℕ) where
   setM n (element g k) = stopM _ n
   setM n (set vs) = pureM vs
   setM n (tuple vs) = stopM _ n
+
+  setsM : (n : ℕ) (vs : Values) → Maps same (asSets n vs) (asSets (f n) vs)
+  unfolding asSets
+  setsM n nil = pureM []
+  setsM n (cons v vs) = bindM (setM n v) λ ws. bindM (setsM n vs) λ wss. pureM (ws ∷ wss)
 
   tupleM : (n : ℕ) (v : Value) → Maps same (asTuple n v) (asTuple (f n) v)
   unfolding asTuple
@@ -199,8 +205,8 @@ module _ (f : ℕ → ℕ) where
     exprM (integers n) scope = stopM _ n
     exprM (Tree.set n xs) scope = bindM (membersM xs n scope nil) λ vs. keepM n (set vs)
     exprM (Tree.tuple n xs) scope = bindM (exprsM xs scope) λ vs. keepM n (tuple vs)
-    exprM (product n xs) scope = stopM _ n
-    exprM (power n a) scope = stopM _ n
+    exprM (product n xs) scope = bindM (exprsM xs scope) λ vs. bindM (setsM n vs) λ vss. keepM n (set (tuples vss))
+    exprM (power n a) scope = bindM (exprM a scope) λ v. bindM (setM n v) λ vs. keepM n (set (subsets vs))
     exprM (application n g a) scope = bindM (exprM g scope) λ x. bindM (exprM a scope) λ y. bindM (setM n x) λ vs. bindM (pairM n y vs) λ v. keepM n v
     exprM (selection n a i) scope = stopM _ n
     exprM (theta n s k) scope = stopM _ n

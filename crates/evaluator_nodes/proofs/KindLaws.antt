@@ -31,8 +31,8 @@ isRun (number n k) = true
 isRun (integers n) = false
 isRun (Tree.set n xs) = true
 isRun (Tree.tuple n xs) = true
-isRun (product n xs) = false
-isRun (power n a) = false
+isRun (product n xs) = true
+isRun (power n a) = true
 isRun (application n f a) = true
 isRun (selection n a i) = false
 isRun (theta n s k) = false
@@ -47,8 +47,8 @@ not-run (number n k) h scope = absurd (true≢false h)
 not-run (integers n) h scope = refl
 not-run (Tree.set n xs) h scope = absurd (true≢false h)
 not-run (Tree.tuple n xs) h scope = absurd (true≢false h)
-not-run (product n xs) h scope = refl
-not-run (power n a) h scope = refl
+not-run (product n xs) h scope = absurd (true≢false h)
+not-run (power n a) h scope = absurd (true≢false h)
 not-run (application n f a) h scope = absurd (true≢false h)
 not-run (selection n a i) h scope = refl
 not-run (theta n s k) h scope = refl
@@ -56,15 +56,17 @@ not-run (schemaSet n i) h scope = refl
 not-run (arithmetic n o a b) h scope = absurd (true≢false h)
 not-run (comprehension n t a) h scope = absurd (true≢false h)
 
--- none of the kinds that are worked out: 30, 31, 33, 34, 37, 41 to 45, 46
+-- none of the kinds that are worked out: 30, 31, 33 to 37, 41 to 45, 46
 pub record Unrun (q : ℕ) : Type 0 where
   pub a : q ≡ 30 → ⊥
   pub b : q ≡ 31 → ⊥
   pub c : q ≡ 33 → ⊥
   pub d : q ≡ 34 → ⊥
-  pub e : q ≡ 37 → ⊥
-  pub f : q ≡ 46 → ⊥
-  pub g : 41 ≤ q → q ≤ 45 → ⊥
+  pub e : q ≡ 35 → ⊥
+  pub f : q ≡ 36 → ⊥
+  pub g : q ≡ 37 → ⊥
+  pub h : q ≡ 46 → ⊥
+  pub i : 41 ≤ q → q ≤ 45 → ⊥
 
 unrun-kind : (doc : List ℕ) (k : ℕ) → At doc expressions k → Unrun (kindAt doc k) → isRun (exprAt doc k) ≡ false
 unfolding isRun exprAt makers
@@ -77,10 +79,10 @@ unrun-kind doc k h u =
 
     ones : AllFrom Here 30 17
     ones =
-        (λ n. absurd (n .a refl)) ▹ (λ n. absurd (n .b refl)) ▹ (λ n. refl) ▹ (λ n. absurd (n .c refl)) ▹ (λ n. absurd (n .d refl)) ▹ (λ n. refl) ▹ (λ n. refl)
-        ▹ (λ n. absurd (n .e refl)) ▹ (λ n. refl) ▹ (λ n. refl) ▹ (λ n. refl)
-        ▹ (λ n. absurd (n .g (omega arith) (omega arith))) ▹ (λ n. absurd (n .g (omega arith) (omega arith))) ▹ (λ n. absurd (n .g (omega arith) (omega arith)))
-        ▹ (λ n. absurd (n .g (omega arith) (omega arith))) ▹ (λ n. absurd (n .g (omega arith) (omega arith))) ▹ (λ n. absurd (n .f refl)) ▹ tt
+        (λ n. absurd (n .a refl)) ▹ (λ n. absurd (n .b refl)) ▹ (λ n. refl) ▹ (λ n. absurd (n .c refl)) ▹ (λ n. absurd (n .d refl)) ▹ (λ n. absurd (n .e refl)) ▹ (λ n. absurd (n .f refl))
+        ▹ (λ n. absurd (n .g refl)) ▹ (λ n. refl) ▹ (λ n. refl) ▹ (λ n. refl)
+        ▹ (λ n. absurd (n .i (omega arith) (omega arith))) ▹ (λ n. absurd (n .i (omega arith) (omega arith))) ▹ (λ n. absurd (n .i (omega arith) (omega arith)))
+        ▹ (λ n. absurd (n .i (omega arith) (omega arith))) ▹ (λ n. absurd (n .i (omega arith) (omega arith))) ▹ (λ n. absurd (n .h refl)) ▹ tt
 
 pub unrun-told : (doc : List ℕ) (k : ℕ) → At doc expressions k → Unrun (kindAt doc k) → (scope : Environment) {r : Worked} → Stops r 54 k → Told Valued r (evalExpr (exprAt doc k) scope)
 unrun-told doc k h u scope {r} s =

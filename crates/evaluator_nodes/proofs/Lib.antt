@@ -1,4 +1,5 @@
 pub mod NodeLaws
+pub mod FactorLaws
 pub mod TestLaws
 pub mod AssignLaws
 pub mod EachLaws

@@ -169,7 +169,7 @@ module _ {doc work w : List ℕ} {n k : ℕ} (h : Handed doc work w expressions 
       let o = expr-members doc k (h .ready .at) q e a b in
       record { each = λ j p r. o .each j p (subst (λ (l : List ℕ). j < length l) (h .words) r) _ (in-words h j _ refl) }
 
-  members-tree : (q : ℕ) → kindAt doc k ≡ q → 33 ≤ q → q ≤ 35 → exprAt doc k ≡ membersOf q k (exprsFrom doc k 1 (length w - 1))
+  pub members-tree : (q : ℕ) → kindAt doc k ≡ q → 33 ≤ q → q ≤ 35 → exprAt doc k ≡ membersOf q k (exprsFrom doc k 1 (length w - 1))
   members-tree q e a b = rw (h .words) (expr-members doc k (h .ready .at) q e a b .tree)
 
   pub set-told : kindAt doc k ≡ 33 → (scope : Environment) {r : Worked} → Told Gathered r (evalMembers (exprsFrom doc k 1 (length w - 1)) k scope nil) → Told Valued r (evalExpr (exprAt doc k) scope)

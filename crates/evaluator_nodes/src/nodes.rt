@@ -5,6 +5,7 @@ use codes::findings;
 use codes::kinds;
 use codes::limits;
 use codes::value_tags;
+use enumeration::products::unit;
 use evaluator_operations::collections::added;
 use evaluator_operations::collections::among;
 use evaluator_operations::collections::applied;
@@ -17,6 +18,9 @@ use evaluator_operations::collections::length_at;
 use evaluator_operations::collections::member_at;
 use evaluator_operations::collections::tag_of;
 use evaluator_operations::collections::tuple_head;
+use evaluator_operations::enumerations::crossed;
+use evaluator_operations::enumerations::multiplied;
+use evaluator_operations::enumerations::powered;
 use evaluator_operations::logic::Decision;
 use evaluator_operations::logic::decides;
 use evaluator_operations::logic::verdict;
@@ -58,7 +62,7 @@ ghost use Rattle.evaluator_rules.specs.Assignments.{Domains};
 ghost use Rattle.evaluator_rules.specs.Operations.{allPass};
 ghost use Rattle.evaluator_rules.specs.Rules.{evalExpr, evalExprs, evalMembers, evalPred, test, testExprs};
 ghost use Rattle.evaluator_nodes.specs.Turns.{bodyAt, turnAt};
-ghost use Rattle.evaluator_operations.specs.Worked.{Holds, Told, Valued, Judged, Gathered, Joined};
+ghost use Rattle.evaluator_operations.specs.Worked.{Holds, Told, Valued, Judged, Gathered, Joined, Tuples, Crossed};
 ghost use Rattle.evaluator_scope.specs.Blocks.{Scoped, Leaves};
 ghost use Rattle.evaluator_nodes.specs.Ready.{Ready, Handed, Operands, Scoping, Assigns, Tells, Rest, Evaluates, Decides, LinesTold, AssignTold, EachTold, BodyTold};
 
@@ -145,6 +149,58 @@ fn tuple(doc: &[u32], state: &[u32], work: &mut [u32], n: usize, k: usize, w: &[
     kept(k, h)
 }
 
+// 36 Power as a value.
+fn subsets(doc: &[u32], state: &[u32], work: &mut [u32], n: usize, k: usize, w: &[u32]) -> Worked
+    requires { ⌜ Handed (now doc) (now work) (now w) expressions n k × (kindAt (now doc) k ≡ 36) ⌝ }
+    ensures { λ r. ⌜ Evaluates (now (doc .entry)) k n (now (state .entry)) (now (work .entry)) (now (work .exit)) r ⌝ }
+{
+    let x = expr(doc, state, work, n, word(w, 1));
+    if x.number != 0 {
+        return x;
+    }
+    let h = x.held;
+    powered(k, h)
+}
+
+// 35 Product as a value.
+fn tuples(doc: &[u32], state: &[u32], work: &mut [u32], n: usize, k: usize, w: &[u32]) -> Worked
+    requires { ⌜ Handed (now doc) (now work) (now w) expressions n k × (kindAt (now doc) k ≡ 35) ⌝ }
+    ensures { λ r. ⌜ Evaluates (now (doc .entry)) k n (now (state .entry)) (now (work .entry)) (now (work .exit)) r ⌝ }
+{
+    let x = factors(doc, state, work, n, k, w, 1, unit(), false);
+    if x.number != 0 {
+        return x;
+    }
+    multiplied(k, x)
+}
+
+// The operands from i on, each crossed with the tuples s of those before it; `misfit` says that one of those was no set.
+fn factors(
+    doc: &[u32],
+    state: &[u32],
+    work: &mut [u32],
+    n: usize,
+    k: usize,
+    w: &[u32],
+    i: usize,
+    s: Held,
+    misfit: bool,
+) -> Worked
+    requires { ⌜ Handed (now doc) (now work) (now w) expressions n k × Operands (now doc) (now w) k expressions i × (i ≤ 256) ⌝ }
+    ensures { λ r. ⌜ Leaves n (now (work .entry)) (now (work .exit)) ((rs : List Values) → Tuples s misfit rs → Tells (now (state .entry)) (now (work .entry)) n (Crossed misfit rs) r (evalExprs (exprsFrom (now (doc .entry)) k i (length (now (w .entry)) - i)))) ⌝ }
+{
+    if w.len() <= i {
+        return go(s, misfit);
+    }
+    let x = expr(doc, state, work, n, word(w, i));
+    if x.number != 0 {
+        return x;
+    }
+    let h = x.held;
+    let t = crossed(s, misfit, h);
+    factors(doc, state, work, n, k, w, i + 1, t.held, t.flag)
+}
+
 // 37 Apply.
 fn apply(doc: &[u32], state: &[u32], work: &mut [u32], n: usize, k: usize, w: &[u32]) -> Worked
     requires { ⌜ Handed (now doc) (now work) (now w) expressions n k × (kindAt (now doc) k ≡ 37) ⌝ }
@@ -210,6 +266,8 @@ pub fn expr(doc: &[u32], state: &[u32], work: &mut [u32], n: usize, k: usize) ->
         kinds::NUMBER => number_value(word(w, 1)),
         kinds::SET => adds(doc, state, work, n, k, w, 1, empty_set()),
         kinds::TUPLE => tuple(doc, state, work, n, k, w),
+        kinds::PRODUCT => tuples(doc, state, work, n, k, w),
+        kinds::POWER => subsets(doc, state, work, n, k, w),
         kinds::APPLY => apply(doc, state, work, n, k, w),
         kinds::PLUS..=kinds::MOD => arith(doc, state, work, n, k, w),
         kinds::COMPREHENSION => compr(doc, state, work, n, k, w),

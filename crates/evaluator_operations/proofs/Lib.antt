@@ -1,2 +1,3 @@
 pub mod ToldLaws
 pub mod OperationLaws
+pub mod EnumerationLaws

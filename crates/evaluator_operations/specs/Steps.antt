@@ -2,11 +2,12 @@
 use mathlib.Core.Bool.{Bool, true, false, not}
 use Prim.Native.Nat.{ℕ}
 use lib.Signed.{leZ}
-use Rattle.values.specs.Value.{Value}
+use Rattle.values.specs.Value.{Value, set, Values}
+use Rattle.enumeration_rules.specs.Enumeration.{subsets, tuples}
 use Rattle.reader_rules.specs.Tree.{Connective, and, or, implies, Quantifier, forall, exists}
 use Rattle.reader_rules.specs.Decode.{operatorOf}
 use Rattle.evaluator_rules.specs.Outcomes.{Outcome, _>>=_, pure, keep}
-use Rattle.evaluator_rules.specs.Operations.{asInteger, asSet, findPair, keepInteger, calculate}
+use Rattle.evaluator_rules.specs.Operations.{asInteger, asSet, asSets, findPair, keepInteger, calculate}
 use Rattle.evaluator_operations.specs.declared.logic.Decision.{Decision}
 use Rattle.evaluator_operations.specs.declared.logic.Decision.the-variants.{Known, Right}
 
@@ -22,6 +23,13 @@ integerTest k x = asInteger k x >>= λ z. pure true
 
 unfoldable pub imageOf : ℕ → Value → Value → Outcome Value
 imageOf k x y = asSet k x >>= λ vs. findPair k y vs >>= λ v. keep k v
+
+-- Power; Product, of all its operands' values
+unfoldable pub powerOf : ℕ → Value → Outcome Value
+powerOf k x = asSet k x >>= λ vs. keep k (set (subsets vs))
+
+unfoldable pub productOf : ℕ → Values → Outcome Value
+productOf k vs = asSets k vs >>= λ vss. keep k (set (tuples vss))
 
 -- what the left side of and, or, implies decides
 unfoldable pub decisionOf : Connective → Bool → Decision

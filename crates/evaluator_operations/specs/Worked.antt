@@ -1,6 +1,7 @@
 -- What the code's functions give by value, and how it tells the outcome of the evaluation rules. The list of values is no part of it.
 use mathlib.Core.Path.{_≡_}
-use mathlib.Core.List.{List, _++_}
+use mathlib.Core.List.{List, [], _∷_, _++_}
+use mathlib.Core.Logic.{_⊎_}
 use mathlib.Core.Bool.{Bool, true, false, _&&_}
 use Prim.Native.Nat.{ℕ, _≤_}
 use lib.ListN.{length}
@@ -8,7 +9,10 @@ use Rattle.values_integers.specs.Integer.{in32}
 use Rattle.values.specs.Value.{Value, int, element, set, tuple, Values, nil, cons, count, encode, encodes}
 use Rattle.values.specs.Held.{keep}
 use Rattle.values.specs.declared.held.Held.{Held}
+use Rattle.enumeration_rules.specs.Enumeration.{each}
+use Rattle.enumeration_rules.specs.OnWords.{grow, grown}
 use Rattle.evaluator_rules.specs.Outcomes.{Event, Outcome, done, stopped}
+use Rattle.evaluator_rules.specs.Listing.{NoSet, SomeNoSet, AllSets}
 use Rattle.evaluator_rules.specs.Assignments.{Flow, go, halt}
 use Rattle.evaluator_operations.specs.declared.worked.Worked.{Worked}
 
@@ -53,6 +57,25 @@ pub record Gathered (r : Worked) (vs : Values) : Type 0 where
 pub record Joined (ws : List ℕ) (n : ℕ) (r : Worked) (vs : Values) : Type 0 where
   pub counted : count vs ≡ n
   pub words : r .held ≡ keep (ws ++ encodes vs)
+  pub narrow : allNarrow vs ≡ true
+
+-- the tuples of the rows rs, perhaps over 64 words, unless an operand was no set
+pub record Tuples (h : Held) (misfit : Bool) (rs : List Values) : Type 0 where
+  pub words : misfit ≡ false → h ≡ keep (encode (set (each tuple rs)))
+
+-- the rows of no operand: one, of no parts
+abbrev pub noParts : List Values
+noParts = nil ∷ []
+
+-- the rows rs with the value x as the next operand
+pub data Crosses (rs : List Values) (misfit : Bool) (r : Worked) : Value → Type 0 where
+  aSet : {vs : Values} → r .flag ≡ misfit → Tuples (r .held) misfit (grow rs vs) → Crosses rs misfit r (set vs)
+  noSet : {x : Value} → NoSet x → r .flag ≡ true → Crosses rs misfit r x
+
+-- the rows rs with the values vs as the next operands, one after the other
+pub record Crossed (misfit : Bool) (rs : List Values) (r : Worked) (vs : Values) : Type 0 where
+  pub sets : r .flag ≡ false → (vss : List Values) × AllSets vs vss × (misfit ≡ false) × (r .held ≡ keep (encode (set (each tuple (grown rs vss)))))
+  pub some : r .flag ≡ true → (misfit ≡ true) ⊎ SomeNoSet vs
   pub narrow : allNarrow vs ≡ true
 
 -- a stop, and what goes on

@@ -13,10 +13,10 @@ use Rattle.reader_rules.specs.Tree.{Expr, Exprs, none, more, exprNode, Operator
 use Rattle.evaluator_rules.specs.WordCount.{wordCount}
 use Rattle.evaluator_rules.specs.Outcomes.{Event, Outcome, done, stopped, after, _>>=_, keepIf, keep}
 use Rattle.evaluator_rules.specs.Environment.{Environment, valued, generic, unknown, lookup, refer}
-use Rattle.evaluator_rules.specs.Operations.{asInteger, asSet, asTuple, addIf, add, image, findPair, keepInteger, calculate, countIf, sameCount}
+use Rattle.evaluator_rules.specs.Operations.{asInteger, asSet, asSets, asTuple, addIf, add, image, findPair, keepInteger, calculate, countIf, sameCount}
 use Rattle.evaluator_rules.specs.Rules.{testExpr, amongMembers}
 use Rattle.evaluator_rules.specs.Listing
-use Rattle.evaluator_rules.specs.Listing.{Result, gives, stops, NoInteger, NoSet, NoTuple, Enters, entered, tooLong, Another}
+use Rattle.evaluator_rules.specs.Listing.{Result, gives, stops, NoInteger, NoSet, NoTuple, SomeNoSet, thisNoSet, laterNoSet, AllSets, noSets, oneSet, Enters, entered, tooLong, Another}
 use Rattle.evaluator_rules.proofs.Assignments.{bind-assoc}
 
 pub data Comes {A : Type 0} : Outcome A → List Event → Result A → Type 0 where
@@ -68,6 +68,20 @@ no-tuple n (int z) h = ceased
 no-tuple n (element g k) h = ceased
 no-tuple n (Value.set vs) h = ceased
 no-tuple n (Value.tuple vs) h = absurd (h vs refl)
+
+-- a Product's operands, which must all be sets
+pub some-no-set : (n : ℕ) {vs : Values} → SomeNoSet vs → Comes (asSets n vs) [] (stops 51 n)
+unfolding asSets asSet
+some-no-set n (thisNoSet {v = v} d) = off _ (no-set n v d)
+some-no-set n (laterNoSet {v = int z} d) = off _ ceased
+some-no-set n (laterNoSet {v = element g k} d) = off _ ceased
+some-no-set n (laterNoSet {v = Value.set vs} d) = on _ finished (off _ (some-no-set n d))
+some-no-set n (laterNoSet {v = Value.tuple vs} d) = off _ ceased
+
+pub all-sets : (n : ℕ) {vs : Values} {vss : List Values} → AllSets vs vss → Comes (asSets n vs) [] (gives vss)
+unfolding asSets asSet
+all-sets n noSets = finished
+all-sets n (oneSet h) = on _ finished (on _ (all-sets n h) finished)
 
 -- two operands that are to be integers
 pub no-number : {B : Type 0} (n : ℕ) (x y : Value) (f : ℤ → ℤ → Outcome B) → NoInteger x ⊎ NoInteger y → Comes (asInteger n x >>= λ j. asInteger n y >>= λ k. f j k) [] (stops 51 n)

@@ -17,7 +17,7 @@ use Rattle.values.specs.SetValues.{Image, found, misfit, undefined, applyValue}
 use Rattle.evaluator_rules.specs.WordCount.{wordCount}
 use Rattle.evaluator_rules.specs.Outcomes.{Outcome, _>>=_, stop, keepIf, keep}
 use Rattle.evaluator_rules.specs.Environment.{Environment, Meaning, valued, generic, unknown, refer}
-use Rattle.evaluator_rules.specs.Operations.{asInteger, asSet, asTuple, addIf, add, image, findPair, keepInteger, connect, allPass, countIf, sameCount}
+use Rattle.evaluator_rules.specs.Operations.{asInteger, asSet, asSets, asTuple, addIf, add, image, findPair, keepInteger, connect, allPass, countIf, sameCount}
 use Rattle.evaluator_rules.specs.Assignments.{Domains, noMore, domain, Flow, go, halt, Body, next, each, assign}
 use Rattle.evaluator_rules.specs.Rules.{amongMembers, stopInclude, evalExpr, evalExprs, evalMembers, evalPred, overText, evalLines, testExpr, testExprs}
 use Rattle.evaluator_rules.specs.Claims.{empty, entry, Good, finished, Short, Trouble}
@@ -64,6 +64,11 @@ set-fine n (int z) = trouble (omega arith) (omega arith)
 set-fine n (element g k) = trouble (omega arith) (omega arith)
 set-fine n (Value.set vs) = pure-good tt
 set-fine n (Value.tuple vs) = trouble (omega arith) (omega arith)
+
+sets-fine : (n : ℕ) (vs : Values) → Fine (asSets n vs)
+unfolding asSets
+sets-fine n nil = pure-good tt
+sets-fine n (cons v vs) = bind-fine (set-fine n v) (λ ws. bind-fine (sets-fine n vs) (λ wss. pure-good tt))
 
 tuple-fine : (n : ℕ) (v : Value) → Fine (asTuple n v)
 unfolding asTuple
@@ -152,8 +157,8 @@ mutual
   expr-fine (integers n) scope = trouble (omega arith) (omega arith)
   expr-fine (set n xs) scope = bind-fine (members-fine xs n scope nil) (λ vs. keep-fine n _)
   expr-fine (tuple n xs) scope = bind-fine (exprs-fine xs scope) (λ vs. keep-fine n _)
-  expr-fine (product n xs) scope = trouble (omega arith) (omega arith)
-  expr-fine (power n a) scope = trouble (omega arith) (omega arith)
+  expr-fine (product n xs) scope = bind-fine (exprs-fine xs scope) (λ vs. bind-fine (sets-fine n vs) (λ vss. keep-fine n _))
+  expr-fine (power n a) scope = bind-fine (expr-fine a scope) (λ v. bind-fine (set-fine n v) (λ vs. keep-fine n _))
   expr-fine (application n f a) scope =
       bind-fine (expr-fine f scope) (λ x. bind-fine (expr-fine a scope) (λ y. bind-fine (set-fine n x) (λ vs. bind-fine (pair-fine n y vs) (λ v. keep-fine n v))))
   expr-fine (selection n a i) scope = trouble (omega arith) (omega arith)

@@ -7,7 +7,8 @@ use native.Mathlib.Omega.{arith}
 use native.Mathlib.Nat.{mod-lt, div-le-self, zero-lt-suc}
 use lib.IntN.{ℤ, pos, negsuc}
 use lib.Dec.{leb, eqb}
-use borrow.Author.Tests.{ltb-true, lt-ltb, le-leb}
+use lib.ListN.{length}
+use borrow.Author.Tests.{ltb-true, lt-ltb, leb-true, le-leb}
 use Rattle.values_integers.specs.Integer.{in32, kept, sum, difference, floorDiv, floorMod, byDivisor, quotient, remainder}
 use Rattle.values_integers.specs.Integer as Integers
 use Rattle.values.specs.Value.{Value, int, element, Values, nil, cons, count}
@@ -19,6 +20,8 @@ use Rattle.values_integers.specs.declared.integer.Integer.the-variants.{Whole, 
 use Rattle.words.proofs.Loops.{and-left, and-right}
 use Rattle.values.proofs.Unique.{both}
 use Rattle.values.proofs.Inserting.{insert-wellFormed}
+use Rattle.enumeration_rules.proofs.Rows.{All, also}
+use Rattle.enumeration_rules.proofs.Kept.{power-kept, product-kept}
 use Rattle.reader_rules.specs.Tree.{Operator, plus, minus, times, Connective, and, or, implies, Quantifier, forall, exists}
 use Rattle.reader_rules.specs.Tree.{Expr, reference, number, integers, set, tuple, product, power, application, selection, theta, schemaSet, arithmetic}
 use Rattle.reader_rules.specs.Tree.{comprehension, Exprs, none, more, Pred, truth, equal, member, atMost, connected, quantified, Text, text, Lines, end}
@@ -28,7 +31,7 @@ use Rattle.reader_rules.proofs.Sized.{SizedExpr, SizedExprs, SizedPred, SizedTe
 use Rattle.evaluator_rules.specs.WordCount.{wordCount}
 use Rattle.evaluator_rules.specs.Outcomes.{Outcome, keepIf, keep}
 use Rattle.evaluator_rules.specs.Environment.{Environment, empty, bind, Meaning, valued, generic, unknown, pick, lookup, refer}
-use Rattle.evaluator_rules.specs.Operations.{asInteger, asSet, asTuple, addIf, add, image, findPair, keepInteger, calculate, connect, allPass, countIf, sameCount}
+use Rattle.evaluator_rules.specs.Operations.{asInteger, asSet, asSets, asTuple, addIf, add, image, findPair, keepInteger, calculate, connect, allPass, countIf, sameCount}
 use Rattle.evaluator_rules.specs.Assignments.{Domains, noMore, domain, domains, Flow, go, halt, Body, next, each, assign, flowOf, gathered}
 use Rattle.evaluator_rules.specs.Rules.{amongMembers, stopInclude, evalExpr, evalExprs, evalMembers, evalPred, overText, evalLines, testExpr, testExprs}
 use Rattle.evaluator_rules.specs.Claims as Claims
@@ -122,6 +125,15 @@ module _ (size : ℕ → ℕ) where
       go true = finished (entry h Claims.empty) h
       go false = stop-good tt
 
+  -- where only a value of at most 64 words is known to be well formed
+  kept-formed : (n : ℕ) (v : Value) → (length (Value.encode v) ≤ 64 → Proper v) → Keeps Proper (keep n v)
+  unfolding keep keepIf wordCount
+  kept-formed n v h = go (leb (wordCount v) 64) refl
+    where
+      go : (b : Bool) → leb (wordCount v) 64 ≡ b → Keeps Proper (keepIf b n v)
+      go true e = let p = h (leb-true (wordCount v) 64 e) in finished (entry p Claims.empty) p
+      go false e = stop-good tt
+
   refer-formed : (n : ℕ) (xs : Exprs) (m : Meaning) → Meant m → Keeps Proper (refer n xs m)
   unfolding refer
   refer-formed n none (valued v) h = keep-formed n v h
@@ -144,6 +156,12 @@ module _ (size : ℕ → ℕ) where
   set-formed n (element g k) h = stop-good tt
   set-formed n (Value.set vs) h = pure-good h
   set-formed n (Value.tuple vs) h = stop-good tt
+
+  sets-formed : (n : ℕ) (vs : Values) → AllFormed vs → Keeps (λ vss. All AscendingSet vss × (length vss ≡ count vs)) (asSets n vs)
+  unfolding asSets wellFormed count
+  sets-formed n nil h = pure-good (All.none, refl)
+  sets-formed n (cons v vs) h =
+      bind-good (set-formed n v (and-left (wellFormed size v) _ h)) λ ws g. bind-good (sets-formed n vs (and-right (wellFormed size v) _ h)) λ wss k. pure-good (also g (k .0), ap suc (k .1))
 
   tuple-formed : (n : ℕ) (v : Value) → Proper v → Keeps AllFormed (asTuple n v)
   unfolding asTuple wellFormed
@@ -303,8 +321,10 @@ module _ (size : ℕ → ℕ) where
     expr-formed (integers n) scope z c = stop-good tt
     expr-formed (set n xs) scope z c = bind-good (members-formed xs n scope nil z c empty-set) (λ vs h. keep-formed n _ h)
     expr-formed (tuple n xs) scope z c = bind-good (exprs-formed xs scope (z .1) c) (λ vs h. keep-formed n _ (tuple-of xs vs (z .0 .0) (z .0 .1) h))
-    expr-formed (product n xs) scope z c = stop-good tt
-    expr-formed (power n a) scope z c = stop-good tt
+    expr-formed (product n xs) scope z c =
+        bind-good (exprs-formed xs scope (z .1) c) λ vs h. bind-good (sets-formed n vs (h .0)) λ vss g.
+        kept-formed n _ (λ l. product-kept size vss (g .0) (omega (arith, z .0 .0, h .1, g .1)) (omega (arith, z .0 .1, h .1, g .1)) l)
+    expr-formed (power n a) scope z c = bind-good (expr-formed a scope z c) λ v h. bind-good (set-formed n v h) λ vs g. kept-formed n _ (power-kept size vs g)
     expr-formed (application n f a) scope z c =
         bind-good (expr-formed f scope (z .0) c) λ x hx. bind-good (expr-formed a scope (z .1) c) λ y hy.
         bind-good (set-formed n x hx) λ vs hs. bind-good (pair-formed n y vs hs) λ v hv. keep-formed n v hv

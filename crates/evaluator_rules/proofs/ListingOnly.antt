@@ -20,7 +20,7 @@ use Rattle.evaluator_rules.specs.Listing.{Result, gives, stops, Another,
 use Rattle.evaluator_rules.proofs.RuleLaws.{not-run}
 use Rattle.evaluator_rules.proofs.Assignments.{over, assign-over}
 use Rattle.evaluator_rules.proofs.Said.{filtered, mapped}
-use Rattle.evaluator_rules.proofs.Comes.{Comes, finished, ceased, on, last, off, assoc-comes, enters-comes, no-integer, no-set, no-tuple, no-number, added, too-much, same-count, other-count}
+use Rattle.evaluator_rules.proofs.Comes.{Comes, finished, ceased, on, last, off, assoc-comes, enters-comes, no-integer, no-set, some-no-set, all-sets, no-tuple, no-number, added, too-much, same-count, other-count}
 use Rattle.evaluator_rules.proofs.Comes.{refer-unknown, refer-generic, refer-actuals, refer-valued, pair-found, pair-misfit, pair-none, whole, no-result, past-32, worked-anew}
 
 not-run-comes : (a : Expr) (scope : Environment) → NotRun a → Comes (evalExpr a scope) [] (stops 54 (exprNode a))
@@ -161,6 +161,12 @@ works-comes (Listing.membersStop h) b = off _ (b .fills _ _ _ _ _ h)
 works-comes (Listing.aSet h k) b = on _ (b .fills _ _ _ _ _ h) (enters-comes k)
 works-comes (Listing.partsStop h) b = off _ (b .works _ _ _ h)
 works-comes (Listing.aTuple h k) b = on _ (b .works _ _ _ h) (enters-comes k)
+works-comes (Listing.baseStops h) b = off _ (b .works _ _ _ h)
+works-comes (Listing.noBase {n = n} {x = x} h d) b = last _ (b .works _ _ _ h) (off _ (no-set n x d))
+works-comes (Listing.aPower h k) b = on _ (b .works _ _ _ h) (on _ finished (enters-comes k))
+works-comes (Listing.factorsStop h) b = off _ (b .works _ _ _ h)
+works-comes (Listing.noFactor {n = n} h d) b = last _ (b .works _ _ _ h) (off _ (some-no-set n d))
+works-comes (Listing.aProduct {n = n} h e k) b = on _ (b .works _ _ _ h) (on _ (all-sets n e) (enters-comes k))
 works-comes (Listing.functionStops h) b = off _ (b .0 .works _ _ _ h)
 works-comes (Listing.argumentStops h k) b = on _ (b .0 .works _ _ _ h) (off _ (b .1 .works _ _ _ k))
 works-comes (Listing.noFunction {n = n} {x = x} h k d) b = on _ (b .0 .works _ _ _ h) (last _ (b .1 .works _ _ _ k) (off _ (no-set n x d)))

@@ -22,11 +22,11 @@ use Rattle.evaluator_rules.specs.Environment.{Environment, Meaning, valu
 use Rattle.evaluator_rules.specs.Operations.{add, image, findPair, keepInteger, calculate, connect, allPass, countIf, sameCount}
 use Rattle.evaluator_rules.specs.Assignments.{Domains, Flow, go, halt, Body, next, assign, flowOf, truthOf, gathered}
 use Rattle.evaluator_rules.specs.Rules.{amongMembers, stopInclude, evalExpr, evalExprs, evalMembers, evalPred, evalLines, testExpr, testExprs}
-use Rattle.evaluator_rules.specs.Claims.{noIntegers, noPower, noProduct, noSelect, noTheta, noSchemaSet}
+use Rattle.evaluator_rules.specs.Claims.{noIntegers, noSelect, noTheta, noSchemaSet}
 use Rattle.evaluator_rules.specs.Listing
 use Rattle.evaluator_rules.specs.Listing.{Result, gives, stops, Another, Works, WorksAll, Fills, Tells, Declares, Gathers, Quantifies, Tests, TestsMembers, TestsParts, deciding, decided, stopsAt, assignments}
 use Rattle.evaluator_rules.proofs.Assignments.{over, assign-over}
-use Rattle.evaluator_rules.proofs.Said.{filtered, mapped, Says, pure-says, stop-says, bind-says, truth-says, other-says, assoc-says, silent-says, go-says, keep-says, integer-says, set-says, tuple-says, add-says}
+use Rattle.evaluator_rules.proofs.Said.{filtered, mapped, Says, pure-says, stop-says, bind-says, truth-says, other-says, assoc-says, silent-says, go-says, keep-says, integer-says, set-says, sets-say, tuple-says, add-says}
 
 -- a Ref, after its actuals
 refer-says : (n i : ℕ) (xs : Exprs) (scope : Environment) (t : List Event) (vs : Values) (x : Meaning) → lookup i scope ≡ x → WorksAll xs scope t (gives vs) → Says (λ u r. Works (reference n i xs) scope (t ++ u) r) (refer n xs x)
@@ -151,8 +151,10 @@ mutual
   expr-says (integers n) scope = stop-says (Listing.notRun (noIntegers n))
   expr-says (set n xs) scope = bind-says (members-say xs n scope nil) (λ t vs h. keep-says n _ (λ u r e. Listing.aSet h e)) (λ t w m h. Listing.membersStop h)
   expr-says (tuple n xs) scope = bind-says (exprs-says xs scope) (λ t vs h. keep-says n _ (λ u r e. Listing.aTuple h e)) (λ t w m h. Listing.partsStop h)
-  expr-says (product n xs) scope = stop-says (Listing.notRun (noProduct n xs))
-  expr-says (power n a) scope = stop-says (Listing.notRun (noPower n a))
+  expr-says (product n xs) scope =
+      bind-says (exprs-says xs scope) (λ t vs h. sets-say n vs _ (λ vss e. keep-says n _ (λ u r k. Listing.aProduct h e k)) (λ no. rw append-nil (Listing.noFactor h no))) (λ t w m h. Listing.factorsStop h)
+  expr-says (power n a) scope =
+      bind-says (expr-says a scope) (λ t x h. set-says n x _ (λ vs e. keep-says n _ (λ u r k. Listing.aPower (rw e at h) k)) (λ no. rw append-nil (Listing.noBase h no))) (λ t w m h. Listing.baseStops h)
   expr-says (application n f a) scope =
       bind-says (expr-says f scope)
       (λ t x h. bind-says (expr-says a scope)

@@ -18,14 +18,12 @@ use Rattle.evaluator_rules.specs.Environment.{Environment}
 use Rattle.evaluator_rules.specs.Operations.{image, findPair, calculate}
 use Rattle.evaluator_rules.specs.Rules.{evalExpr}
 use Rattle.evaluator_rules.specs.Paragraphs.{Step, onward, then, runParagraph, runParagraphs}
-use Rattle.evaluator_rules.specs.Claims.{NotRun, noIntegers, noPower, noProduct, noSelect, noTheta, noSchemaSet}
+use Rattle.evaluator_rules.specs.Claims.{NotRun, noIntegers, noSelect, noTheta, noSchemaSet}
 
--- "As values ℤ, Power, Product, Select, Theta, SchemaSet .. are 54 before their operands"
+-- "As values ℤ, .. Select, Theta, SchemaSet .. are 54 before their operands"
 pub not-run : (a : Expr) → NotRun a → (scope : Environment) → evalExpr a scope ≡ stop 54 (exprNode a)
 unfolding evalExpr exprNode
 not-run _ (noIntegers n) scope = refl
-not-run _ (noPower n a) scope = refl
-not-run _ (noProduct n xs) scope = refl
 not-run _ (noSelect n a i) scope = refl
 not-run _ (noTheta n s k) scope = refl
 not-run _ (noSchemaSet n i) scope = refl

@@ -1,22 +1,22 @@
 -- An outcome is said by the sentences of the list (specs/Listing): one law for each way to put outcomes together.
 use mathlib.Core.Path.{_≡_, refl, sym, subst}
-use mathlib.Core.List.{List, [], _++_}
+use mathlib.Core.List.{List, [], _∷_, _++_}
 use mathlib.Core.Bool.{Bool, true, false}
 use Prim.Native.Nat.{ℕ, _≤_, _<_}
 use native.Mathlib.Omega.{arith}
 use lib.IntN.{ℤ}
 use lib.Dec.{leb}
 use borrow.Author.Tests.{leb-true, leb-false}
-use Rattle.values.specs.Value.{Value, int, element, Values}
+use Rattle.values.specs.Value.{Value, int, element, Values, nil, cons}
 use Rattle.values.specs.Value as Value
 use Rattle.values.specs.SetValues.{insertValue}
 use Rattle.reader_rules.specs.Tree.{Pred}
 use Rattle.evaluator_rules.specs.WordCount.{wordCount}
 use Rattle.evaluator_rules.specs.Outcomes.{Event, Outcome, done, stopped, after, _>>=_, pure, stop, keepIf, keep}
-use Rattle.evaluator_rules.specs.Operations.{asInteger, asSet, asTuple, addIf, add}
+use Rattle.evaluator_rules.specs.Operations.{asInteger, asSet, asSets, asTuple, addIf, add}
 use Rattle.evaluator_rules.specs.Assignments.{Flow, go, Body, next}
 use Rattle.evaluator_rules.specs.Rules.{evalPred}
-use Rattle.evaluator_rules.specs.Listing.{Result, gives, stops, NoInteger, NoSet, NoTuple, Enters, entered, tooLong}
+use Rattle.evaluator_rules.specs.Listing.{Result, gives, stops, NoInteger, NoSet, NoTuple, SomeNoSet, thisNoSet, laterNoSet, AllSets, noSets, oneSet, Enters, entered, tooLong}
 use Rattle.evaluator_rules.proofs.Assignments.{after-nil, bind-assoc, next-go}
 
 pub data Says {A : Type 0} (R : List Event → Result A → Type 0) : Outcome A → Type 0 where
@@ -91,6 +91,16 @@ tuple-says n (int z) f k s = ceased (s (λ vs e. let x : _≡_ {A = ℕ} 0 1 = c
 tuple-says n (element g i) f k s = ceased (s (λ vs e. let x : _≡_ {A = ℕ} 0 1 = cc in omega arith))
 tuple-says n (Value.set vs) f k s = ceased (s (λ vs e. let x : _≡_ {A = ℕ} 0 1 = cc in omega arith))
 tuple-says n (Value.tuple vs) f k s = silent-says vs f (k vs refl)
+
+-- a Product's operands, which must all be sets
+pub sets-say : {B : Type 0} (n : ℕ) (vs : Values) {Q : List Event → Result B → Type 0} (f : List Values → Outcome B) → ((vss : List Values) → AllSets vs vss → Says Q (f vss)) → (SomeNoSet vs → Q [] (stops 51 n)) → Says Q (asSets n vs >>= f)
+unfolding asSets
+sets-say n nil f k s = silent-says [] f (k [] noSets)
+sets-say n (cons v vs) f k s =
+    assoc-says _ _ _
+    (set-says n v _
+    (λ ws e. assoc-says _ _ _ (sets-say n vs _ (λ wss h. silent-says (ws ∷ wss) f (k (ws ∷ wss) (rw e (oneSet h)))) (λ d. s (laterNoSet d))))
+    (λ d. s (thisNoSet d)))
 
 pub add-says : {B : Type 0} (n : ℕ) (v : Value) (s : Values) {Q : List Event → Result B → Type 0} (f : Values → Outcome B)
     → (wordCount (Value.set (insertValue v s)) ≤ 64 → Says Q (f (insertValue v s))) → (64 < wordCount (Value.set (insertValue v s)) → Q [] (stops 55 n)) → Says Q (add n v s >>= f)

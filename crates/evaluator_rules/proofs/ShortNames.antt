@@ -126,6 +126,8 @@ unfolding ShortTurn
 reached-short (Evaluations.actual k) c = c
 reached-short (Evaluations.setMember k) c = c
 reached-short (Evaluations.tuplePart k) c = c
+reached-short Evaluations.powerBase c = c
+reached-short (Evaluations.productFactor k) c = c
 reached-short Evaluations.function c = c
 reached-short (Evaluations.argument g) c = c
 reached-short Evaluations.leftNumber c = c

@@ -15,7 +15,7 @@ use Rattle.states_rules.specs.States.{State}
 use Rattle.evaluator_rules.specs.Environment.{Environment}
 use Rattle.evaluator_rules.specs.Outcomes.{Event, Outcome, stop}
 use Rattle.evaluator_rules.specs.Rules.{evalExpr}
-use Rattle.evaluator_rules.specs.Claims.{Trouble, NotRun, noIntegers, noPower, noProduct, noSelect, noTheta, noSchemaSet}
+use Rattle.evaluator_rules.specs.Claims.{Trouble, NotRun, noIntegers, noSelect, noTheta, noSchemaSet}
 use Rattle.evaluator_rules.specs.Listing
 use Rattle.evaluator_rules.specs.Listing.{gives, NoSet, Another, Works}
 use Rattle.evaluator_rules.specs.Evaluations
@@ -89,6 +89,8 @@ misfit-placed (Troubles.nameUnknown g e) = inl (refl, refl)
 misfit-placed (Troubles.actualsOnName g e) = inl (refl, refl)
 misfit-placed (Troubles.noFunction g h d) = inl (refl, refl)
 misfit-placed (Troubles.noPair g h d) = inl (refl, refl)
+misfit-placed (Troubles.noBase g d) = inl (refl, refl)
+misfit-placed (Troubles.noFactor g d) = inl (refl, refl)
 misfit-placed (Troubles.noNumber {o = o} g h d) = inl (refl, misfit-listed o)
 misfit-placed (Troubles.notNumbers g h d) = inl (refl, refl)
 misfit-placed (Troubles.noSetToRun g d) = inl (refl, refl)
@@ -110,8 +112,6 @@ outside-placed (Troubles.outside g h d) = inl (refl, outside-listed d)
 value-placed : {a : Expr} → NotRun a → PlacedExpr 54 (exprNode a) a
 unfolding PlacedExpr has exprNode
 value-placed (noIntegers n) = (refl, refl)
-value-placed (noPower n a) = (refl, refl)
-value-placed (noProduct n xs) = (refl, refl)
 value-placed (noSelect n a i) = (refl, refl)
 value-placed (noTheta n s k) = (refl, refl)
 value-placed (noSchemaSet n i) = (refl, refl)
@@ -126,6 +126,8 @@ long-placed : {t : Evaluation} {m : ℕ} → TooLong t m → PlacedEvaluation 55
 unfolding PlacedEvaluation PlacedExpr has
 long-placed (Troubles.nameTooLong e l) = inl (refl, refl)
 long-placed (Troubles.tupleTooLong g l) = inl (refl, refl)
+long-placed (Troubles.powerTooLong g l) = inl (refl, refl)
+long-placed (Troubles.productTooLong g e l) = inl (refl, refl)
 long-placed (Troubles.memberTooMuch k g l) = inl (refl, refl)
 long-placed (Troubles.bodyTooMuch g k c b l) = inl (refl, refl)
 
@@ -183,6 +185,8 @@ module _ (w m : ℕ) where
   reached-placed (Evaluations.actual k) h = inr (operand-placed k h)
   reached-placed (Evaluations.setMember k) h = inr (member-placed k h)
   reached-placed (Evaluations.tuplePart k) h = inr (operand-placed k h)
+  reached-placed Evaluations.powerBase h = inr h
+  reached-placed (Evaluations.productFactor k) h = inr (operand-placed k h)
   reached-placed Evaluations.function h = inr (inl h)
   reached-placed (Evaluations.argument g) h = inr (inr h)
   reached-placed Evaluations.leftNumber h = inr (inl h)

@@ -52,6 +52,8 @@ reached-stops w m (Evaluations.actual {n = n} {i = i} {xs = xs} {scope = scope} 
 reached-stops w m (Evaluations.setMember {n = n} {xs = xs} {a = a} {scope = scope} k) h =
     value-stops (set n xs) scope (Listing.membersStop (fills-from k (λ ys. (_, Listing.memberStops (value-stop a scope h .1))) .1))
 reached-stops w m (Evaluations.tuplePart {n = n} {xs = xs} {scope = scope} k) h = value-stops (tuple n xs) scope (Listing.partsStop (operand-stops k h .1))
+reached-stops w m (Evaluations.powerBase {n = n} {a = a} {scope = scope}) h = value-stops (power n a) scope (Listing.baseStops (value-stop a scope h .1))
+reached-stops w m (Evaluations.productFactor {n = n} {xs = xs} {scope = scope} k) h = value-stops (product n xs) scope (Listing.factorsStop (operand-stops k h .1))
 reached-stops w m (Evaluations.function {n = n} {f = f} {a = a} {scope = scope}) h = value-stops (application n f a) scope (Listing.functionStops (value-stop f scope h .1))
 reached-stops w m (Evaluations.argument {n = n} {f = f} {a = a} {scope = scope} g) h = value-stops (application n f a) scope (Listing.argumentStops (value-said f scope g .1) (value-stop a scope h .1))
 reached-stops w m (Evaluations.leftNumber {n = n} {o = o} {a = a} {b = b} {scope = scope}) h = value-stops (arithmetic n o a b) scope (Listing.leftStops (value-stop a scope h .1))
@@ -91,6 +93,8 @@ misfit-stops (Troubles.nameUnknown {n = n} {i = i} {xs = xs} {scope = scope} g e
 misfit-stops (Troubles.actualsOnName {n = n} {i = i} {a = a} {xs = xs} {scope = scope} g e) = value-stops (reference n i (more a xs)) scope (Listing.nameWithActuals (values-said (more a xs) scope g .1) e)
 misfit-stops (Troubles.noFunction {n = n} {f = f} {a = a} {scope = scope} g h d) = value-stops (application n f a) scope (Listing.noFunction (value-said f scope g .1) (value-said a scope h .1) d)
 misfit-stops (Troubles.noPair {n = n} {f = f} {a = a} {scope = scope} g h d) = value-stops (application n f a) scope (Listing.noPair (value-said f scope g .1) (value-said a scope h .1) (met-misfit d))
+misfit-stops (Troubles.noBase {n = n} {a = a} {scope = scope} g d) = value-stops (power n a) scope (Listing.noBase (value-said a scope g .1) d)
+misfit-stops (Troubles.noFactor {n = n} {xs = xs} {scope = scope} g d) = value-stops (product n xs) scope (Listing.noFactor (values-said xs scope g .1) d)
 misfit-stops (Troubles.noNumber {n = n} {o = o} {a = a} {b = b} {scope = scope} g h d) = value-stops (arithmetic n o a b) scope (Listing.noNumber (value-said a scope g .1) (value-said b scope h .1) d)
 misfit-stops (Troubles.notNumbers {n = n} {a = a} {b = b} {scope = scope} g h d) = truth-stops (atMost n a b) scope (Listing.notNumbers (value-said a scope g .1) (value-said b scope h .1) d)
 misfit-stops (Troubles.noSetToRun {n = n} {a = a} {is = is} {ls = ls} {scope = scope} g d) = sets-stops (declaration n a is ls) scope (Listing.declNoSet (value-said a scope g .1) d)
@@ -121,6 +125,8 @@ long-stops : {t : Evaluation} {m : ℕ} → Troubles.TooLong t m → StopsAt t 5
 unfolding StopsAt
 long-stops (Troubles.nameTooLong {n = n} {i = i} {scope = scope} e l) = value-stops (reference n i none) scope (Listing.nameValued e (Listing.tooLong l))
 long-stops (Troubles.tupleTooLong {n = n} {xs = xs} {scope = scope} g l) = value-stops (tuple n xs) scope (Listing.aTuple (values-said xs scope g .1) (Listing.tooLong l))
+long-stops (Troubles.powerTooLong {n = n} {a = a} {scope = scope} g l) = value-stops (power n a) scope (Listing.aPower (value-said a scope g .1) (Listing.tooLong l))
+long-stops (Troubles.productTooLong {n = n} {xs = xs} {scope = scope} g e l) = value-stops (product n xs) scope (Listing.aProduct (values-said xs scope g .1) e (Listing.tooLong l))
 long-stops (Troubles.memberTooMuch {n = n} {xs = xs} {a = a} {scope = scope} k g l) =
     value-stops (set n xs) scope (Listing.membersStop (fills-from k (λ ys. (_, Listing.memberTooMuch (value-said a scope g .1) l)) .1))
 long-stops (Troubles.bodyTooMuch {n = n} {k = k} {p = p} {ls = ls} {a = a} {scope = scope} {x = x} g j c b l) =

@@ -117,6 +117,8 @@ value-short (Listing.nameValued e (Listing.entered l)) = l
 value-short (Listing.aLiteral (Listing.entered l)) = l
 value-short (Listing.aSet h (Listing.entered l)) = l
 value-short (Listing.aTuple h (Listing.entered l)) = l
+value-short (Listing.aPower h (Listing.entered l)) = l
+value-short (Listing.aProduct h e (Listing.entered l)) = l
 value-short (Listing.applied h k e (Listing.entered l)) = l
 value-short (Listing.calculated h k e (Listing.entered l)) = l
 value-short (Listing.allGathered h k (Listing.entered l)) = l
@@ -156,6 +158,12 @@ works-found (Listing.membersStop h) = set-found (fills-found h)
 works-found (Listing.aSet {vs = vs} h (Listing.tooLong l)) = never vs (fills-fit h nil-fits) l
 works-found (Listing.partsStop h) = let r = all-found h in below (Evaluations.tuplePart (r .1)) (r .2)
 works-found (Listing.aTuple {xs = xs} h (Listing.tooLong l)) = inr (row55 (Troubles.tupleTooLong (values-come xs _ h) l))
+works-found (Listing.baseStops {a = a} h) = below Evaluations.powerBase (value-stops a _ h)
+works-found (Listing.noBase {a = a} h d) = inr (row51 (Troubles.noBase (value-comes a _ h) d))
+works-found (Listing.aPower {a = a} h (Listing.tooLong l)) = inr (row55 (Troubles.powerTooLong (value-comes a _ h) l))
+works-found (Listing.factorsStop h) = let r = all-found h in below (Evaluations.productFactor (r .1)) (r .2)
+works-found (Listing.noFactor {xs = xs} h d) = inr (row51 (Troubles.noFactor (values-come xs _ h) d))
+works-found (Listing.aProduct {xs = xs} h e (Listing.tooLong l)) = inr (row55 (Troubles.productTooLong (values-come xs _ h) e l))
 works-found (Listing.functionStops {f = f} h) = below Evaluations.function (value-stops f _ h)
 works-found (Listing.argumentStops {f = f} {a = a} h k) = below (Evaluations.argument (value-comes f _ h)) (value-stops a _ k)
 works-found (Listing.noFunction {f = f} {a = a} h k d) = inr (row51 (Troubles.noFunction (value-comes f _ h) (value-comes a _ k) d))

@@ -80,6 +80,8 @@ unfolding rank sizeExpr
 smaller (Evaluations.actual k) = let h = operand-size k in omega arith
 smaller (Evaluations.setMember k) = let h = member-size k in omega arith
 smaller (Evaluations.tuplePart k) = let h = operand-size k in omega arith
+smaller Evaluations.powerBase = omega arith
+smaller (Evaluations.productFactor k) = let h = operand-size k in omega arith
 smaller Evaluations.function = omega arith
 smaller (Evaluations.argument g) = omega arith
 smaller Evaluations.leftNumber = omega arith

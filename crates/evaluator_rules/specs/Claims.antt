@@ -6,7 +6,7 @@ use Prim.Native.Nat.{ℕ, _≤_, _<_}
 use lib.ListN.{length}
 use Rattle.values.specs.Value.{Value}
 use Rattle.values.specs.WellFormed.{wellFormed}
-use Rattle.reader_rules.specs.Tree.{Expr, Exprs, Include, integers, product, power, selection, theta, schemaSet}
+use Rattle.reader_rules.specs.Tree.{Expr, Include, integers, selection, theta, schemaSet}
 use Rattle.reader_rules.specs.Reading.{readOf}
 use Rattle.reader_rules.specs.Decode.{treeOf}
 use Rattle.reader_rules.specs.declared.Reading.the-variants.{Readable, Refused as Unreadable}
@@ -28,8 +28,6 @@ pub data Good (E : ℕ → Value → Type 0) (S : ℕ → ℕ → Type 0) {A : T
 -- the expressions that are 54 as values (R23)
 pub data NotRun : Expr → Type 0 where
   noIntegers : (n : ℕ) → NotRun (integers n)
-  noPower : (n : ℕ) (a : Expr) → NotRun (power n a)
-  noProduct : (n : ℕ) (xs : Exprs) → NotRun (product n xs)
   noSelect : (n : ℕ) (a : Expr) (i : ℕ) → NotRun (selection n a i)
   noTheta : (n s k : ℕ) → NotRun (theta n s k)
   noSchemaSet : (n : ℕ) (i : Include) → NotRun (schemaSet n i)

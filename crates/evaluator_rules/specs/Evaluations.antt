@@ -81,11 +81,13 @@ pub data EachPart (scope : Environment) : Exprs → Values → Expr → Value �
   firstPart : {a : Expr} {xs : Exprs} {v : Value} {vs : Values} → EachPart scope (more a xs) (cons v vs) a v
   laterPart : {a b : Expr} {xs : Exprs} {u v : Value} {vs : Values} → Gives (test b scope u) true → EachPart scope xs vs a v → EachPart scope (more b xs) (cons u vs) a v
 
--- ℤ, Power, Product, Select, Theta and SchemaSet as values reach nothing: they are 54 "before their operands".
+-- ℤ, Select, Theta and SchemaSet as values reach nothing: they are 54 "before their operands".
 pub data Reaches : Evaluation → Evaluation → Type 0 where
   actual : {n i : ℕ} {xs : Exprs} {a : Expr} {scope : Environment} → Operand scope xs a → Reaches (working (reference n i xs) scope) (working a scope)
   setMember : {n : ℕ} {xs : Exprs} {a : Expr} {s : Values} {scope : Environment} → Adding scope xs nil a s → Reaches (working (set n xs) scope) (working a scope)
   tuplePart : {n : ℕ} {xs : Exprs} {a : Expr} {scope : Environment} → Operand scope xs a → Reaches (working (tuple n xs) scope) (working a scope)
+  powerBase : {n : ℕ} {a : Expr} {scope : Environment} → Reaches (working (power n a) scope) (working a scope)
+  productFactor : {n : ℕ} {xs : Exprs} {a : Expr} {scope : Environment} → Operand scope xs a → Reaches (working (product n xs) scope) (working a scope)
   function : {n : ℕ} {f a : Expr} {scope : Environment} → Reaches (working (application n f a) scope) (working f scope)
   argument : {n : ℕ} {f a : Expr} {x : Value} {scope : Environment} → Gives (evalExpr f scope) x → Reaches (working (application n f a) scope) (working a scope)
   leftNumber : {n : ℕ} {o : Operator} {a b : Expr} {scope : Environment} → Reaches (working (arithmetic n o a b) scope) (working a scope)

@@ -13,6 +13,7 @@ use Rattle.values.specs.Value.{Value, int, Values, nil, cons, count}
 use Rattle.values.specs.Value as Value
 use Rattle.values.specs.SetValues.{sameValue, isIn, insertValue, found, misfit, undefined, applyValue}
 use Rattle.values_integers.specs.declared.integer.Integer.the-variants.{Whole, Undefined, Outside}
+use Rattle.enumeration_rules.specs.Enumeration.{subsets, tuples}
 use Rattle.reader_rules.specs.Tree.{Connective, and, or, implies, Quantifier, forall, exists, Operator}
 use Rattle.reader_rules.specs.Tree.{Expr, reference, number, integers, set, tuple, product, power, application, selection, theta, schemaSet, arithmetic}
 use Rattle.reader_rules.specs.Tree.{comprehension, Exprs, none, more, Pred, truth, equal, member, atMost, connected, quantified, Text, text, Lines, end}
@@ -39,6 +40,15 @@ NoSet v = (vs : Values) → v ≡ Value.set vs → ⊥
 
 abbrev pub NoTuple : Value → Type 0
 NoTuple v = (vs : Values) → v ≡ Value.tuple vs → ⊥
+
+-- one of the values is no set; or they are the sets of these members
+pub data SomeNoSet : Values → Type 0 where
+  thisNoSet : {v : Value} {vs : Values} → NoSet v → SomeNoSet (cons v vs)
+  laterNoSet : {v : Value} {vs : Values} → SomeNoSet vs → SomeNoSet (cons v vs)
+
+pub data AllSets : Values → List Values → Type 0 where
+  noSets : AllSets nil []
+  oneSet : {ws vs : Values} {vss : List Values} → AllSets vs vss → AllSets (cons (Value.set ws) vs) (ws ∷ vss)
 
 -- node n's own entry, its value being v; "value over 64 words" 55
 pub data Enters (n : ℕ) (v : Value) : List Event → Result Value → Type 0 where
@@ -94,12 +104,20 @@ mutual
         → Works (reference n i (more a xs)) scope t (stops 51 n)
     nameValued : {n i : ℕ} {scope : Environment} {t : List Event} {r : Result Value} {v : Value} → lookup i scope ≡ valued v → Enters n v t r → Works (reference n i none) scope t r
     aLiteral : {n k : ℕ} {scope : Environment} {t : List Event} {r : Result Value} → Enters n (int (pos k)) t r → Works (number n k) scope t r
-    -- "As values ℤ, Power, Product, Select, Theta, SchemaSet .. are 54 before their operands"
+    -- "As values ℤ, .. Select, Theta, SchemaSet .. are 54 before their operands"
     notRun : {a : Expr} {scope : Environment} → NotRun a → Works a scope [] (stops 54 (exprNode a))
     membersStop : {n : ℕ} {xs : Exprs} {scope : Environment} {t : List Event} {w m : ℕ} → Fills xs n scope nil t (stops w m) → Works (set n xs) scope t (stops w m)
     aSet : {n : ℕ} {xs : Exprs} {scope : Environment} {t u : List Event} {vs : Values} {r : Result Value} → Fills xs n scope nil t (gives vs) → Enters n (Value.set vs) u r → Works (set n xs) scope (t ++ u) r
     partsStop : {n : ℕ} {xs : Exprs} {scope : Environment} {t : List Event} {w m : ℕ} → WorksAll xs scope t (stops w m) → Works (tuple n xs) scope t (stops w m)
     aTuple : {n : ℕ} {xs : Exprs} {scope : Environment} {t u : List Event} {vs : Values} {r : Result Value} → WorksAll xs scope t (gives vs) → Enters n (Value.tuple vs) u r → Works (tuple n xs) scope (t ++ u) r
+    -- "Work out Power and Product as values": all operands first, then one that is no set is 51 at the node (document 02, ask 1)
+    baseStops : {n : ℕ} {a : Expr} {scope : Environment} {t : List Event} {w m : ℕ} → Works a scope t (stops w m) → Works (power n a) scope t (stops w m)
+    noBase : {n : ℕ} {a : Expr} {scope : Environment} {t : List Event} {x : Value} → Works a scope t (gives x) → NoSet x → Works (power n a) scope t (stops 51 n)
+    aPower : {n : ℕ} {a : Expr} {scope : Environment} {t u : List Event} {vs : Values} {r : Result Value} → Works a scope t (gives (Value.set vs)) → Enters n (Value.set (subsets vs)) u r → Works (power n a) scope (t ++ u) r
+    factorsStop : {n : ℕ} {xs : Exprs} {scope : Environment} {t : List Event} {w m : ℕ} → WorksAll xs scope t (stops w m) → Works (product n xs) scope t (stops w m)
+    noFactor : {n : ℕ} {xs : Exprs} {scope : Environment} {t : List Event} {vs : Values} → WorksAll xs scope t (gives vs) → SomeNoSet vs → Works (product n xs) scope t (stops 51 n)
+    aProduct : {n : ℕ} {xs : Exprs} {scope : Environment} {t u : List Event} {vs : Values} {vss : List Values} {r : Result Value} → WorksAll xs scope t (gives vs) → AllSets vs vss → Enters n (Value.set (tuples vss)) u r
+        → Works (product n xs) scope (t ++ u) r
     -- "Apply takes the lowest pair whose first part equals the argument; members that are not pairs, met before it, are 51; none found is 52"
     functionStops : {n : ℕ} {f a : Expr} {scope : Environment} {t : List Event} {w m : ℕ} → Works f scope t (stops w m) → Works (application n f a) scope t (stops w m)
     argumentStops : {n : ℕ} {f a : Expr} {scope : Environment} {t u : List Event} {x : Value} {w m : ℕ} → Works f scope t (gives x) → Works a scope u (stops w m) → Works (application n f a) scope (t ++ u) (stops w m)

@@ -1,5 +1,6 @@
 -- What the operations do with the values of their operands.
 use mathlib.Core.Bool.{Bool, true, false}
+use mathlib.Core.List.{List, [], _∷_}
 use Prim.Native.Nat.{ℕ}
 use lib.IntN.{ℤ}
 use lib.Dec.{leb, eqb}
@@ -35,6 +36,11 @@ asTuple n (int z) = stop 51 n
 asTuple n (element g k) = stop 51 n
 asTuple n (set vs) = stop 51 n
 asTuple n (tuple vs) = pure vs
+
+-- a Product's operands, which must all be sets
+unfoldable pub asSets : ℕ → Values → Outcome (List Values)
+asSets n nil = pure []
+asSets n (cons v vs) = asSet n v >>= λ ws. asSets n vs >>= λ wss. pure (ws ∷ wss)
 
 -- Set members are added one at a time (R24): 55 at node n where the set passes 64 words
 unfoldable pub addIf : Bool → ℕ → Values → Outcome Values

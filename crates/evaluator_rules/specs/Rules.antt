@@ -11,9 +11,10 @@ use Rattle.reader_rules.specs.Tree.{comprehension, Exprs, none, more, Pred, tru
 use Rattle.reader_rules.specs.Tree.{declaration, inclusion, Include, include, exprsLength}
 use Rattle.reader_rules.specs.Tree as Tree
 use Rattle.values.specs.SetValues.{sameValue, isIn}
+use Rattle.enumeration_rules.specs.Enumeration.{subsets, tuples}
 use Rattle.evaluator_rules.specs.Outcomes.{Outcome, _>>=_, pure, stop, keep}
 use Rattle.evaluator_rules.specs.Environment.{Environment, lookup, refer}
-use Rattle.evaluator_rules.specs.Operations.{asInteger, asSet, asTuple, add, findPair, keepInteger, calculate, connect, allPass, sameCount}
+use Rattle.evaluator_rules.specs.Operations.{asInteger, asSet, asSets, asTuple, add, findPair, keepInteger, calculate, connect, allPass, sameCount}
 use Rattle.evaluator_rules.specs.Assignments.{Domains, noMore, domains, Flow, go, Body, assign, flowOf, truthOf, gathered}
 
 -- Member against any other E than ℤ, Power, Product: s is its value, which must be a set, 51 at its node n (R26: words are compared)
@@ -25,15 +26,15 @@ unfoldable pub stopInclude : {A : Type 0} → Include → Outcome A
 stopInclude (include n s k xs rs) = stop 54 n
 
 unfoldable mutual
-  -- As values ℤ, Power, Product, Select, Theta, SchemaSet are 54 before their operands.
+  -- As values ℤ, Select, Theta, SchemaSet are 54 before their operands.
   pub evalExpr : Expr → Environment → Outcome Value
   evalExpr (reference n i xs) scope = evalExprs xs scope >>= λ vs. refer n xs (lookup i scope)
   evalExpr (number n k) scope = keep n (int (pos k))
   evalExpr (integers n) scope = stop 54 n
   evalExpr (set n xs) scope = evalMembers xs n scope nil >>= λ vs. keep n (Value.set vs)
   evalExpr (tuple n xs) scope = evalExprs xs scope >>= λ vs. keep n (Value.tuple vs)
-  evalExpr (product n xs) scope = stop 54 n
-  evalExpr (power n a) scope = stop 54 n
+  evalExpr (product n xs) scope = evalExprs xs scope >>= λ vs. asSets n vs >>= λ vss. keep n (Value.set (tuples vss))
+  evalExpr (power n a) scope = evalExpr a scope >>= λ v. asSet n v >>= λ vs. keep n (Value.set (subsets vs))
   evalExpr (application n f a) scope =
       evalExpr f scope >>= λ x. evalExpr a scope >>= λ y. asSet n x >>= λ vs. findPair n y vs >>= λ v. keep n v
   evalExpr (selection n a i) scope = stop 54 n

@@ -40,8 +40,8 @@ unfoldable mutual
   PlacedExpr w m (integers n) = At w m n (54 ∷ [])
   PlacedExpr w m (set n xs) = At w m n (55 ∷ []) ⊎ PlacedExprs w m xs
   PlacedExpr w m (tuple n xs) = At w m n (55 ∷ []) ⊎ PlacedExprs w m xs
-  PlacedExpr w m (product n xs) = At w m n (54 ∷ [])
-  PlacedExpr w m (power n a) = At w m n (54 ∷ [])
+  PlacedExpr w m (product n xs) = At w m n (51 ∷ 55 ∷ []) ⊎ PlacedExprs w m xs
+  PlacedExpr w m (power n a) = At w m n (51 ∷ 55 ∷ []) ⊎ PlacedExpr w m a
   PlacedExpr w m (application n f a) = At w m n (51 ∷ 52 ∷ []) ⊎ (PlacedExpr w m f ⊎ PlacedExpr w m a)
   PlacedExpr w m (selection n a i) = At w m n (54 ∷ [])
   PlacedExpr w m (theta n s k) = At w m n (54 ∷ [])

@@ -11,6 +11,7 @@ use Rattle.values.specs.Value.{Value, int, Values, nil, cons, count}
 use Rattle.values.specs.Value as Value
 use Rattle.values.specs.SetValues.{sameValue, insertValue}
 use Rattle.values_integers.specs.Integer.{in32}
+use Rattle.enumeration_rules.specs.Enumeration.{subsets, tuples}
 use Rattle.reader_rules.specs.Tree.{Operator, plus, minus, times, quotient, remainder, Expr, reference, integers, set, tuple, product, power, application}
 use Rattle.reader_rules.specs.Tree.{arithmetic, comprehension, Exprs, none, more, Pred, atMost, text, Lines, declaration, include}
 use Rattle.reader_rules.specs.Tree.{Paragraph, Document, document, exprNode, exprsLength}
@@ -26,7 +27,7 @@ use Rattle.evaluator_rules.specs.Rules.{evalExpr, evalExprs, evalPred, e
 use Rattle.evaluator_rules.specs.Paragraphs.{runParagraph}
 use Rattle.evaluator_rules.specs.Run.{runOf, runWorkWords}
 use Rattle.evaluator_rules.specs.Claims.{NotRun, IllFormedState, WellFormedState}
-use Rattle.evaluator_rules.specs.Listing.{NoInteger, NoSet, NoTuple, Another, assignments}
+use Rattle.evaluator_rules.specs.Listing.{NoInteger, NoSet, NoTuple, SomeNoSet, AllSets, Another, assignments}
 use Rattle.evaluator_rules.specs.Evaluations.{Gives, Stops, Evaluation, working, telling, testing, declaring, including, StopsAt, Adding, Gathering, Reaches, Within, Begins, BeginsIn}
 use Rattle.evaluator_rules.specs.declared.Finding.the-variants.{Refused}
 
@@ -68,6 +69,9 @@ pub data Misfit : Evaluation → ℕ → Type 0 where
   noFunction : {n : ℕ} {f a : Expr} {x y : Value} {scope : Environment} → Gives (evalExpr f scope) x → Gives (evalExpr a scope) y → NoSet x → Misfit (working (application n f a) scope) n
   noPair : {n : ℕ} {f a : Expr} {vs : Values} {y : Value} {scope : Environment} → Gives (evalExpr f scope) (Value.set vs) → Gives (evalExpr a scope) y → NoPairMet y vs
       → Misfit (working (application n f a) scope) n
+  -- "Work out Power and Product as values" (document 02, ask 1): all operands first
+  noBase : {n : ℕ} {a : Expr} {x : Value} {scope : Environment} → Gives (evalExpr a scope) x → NoSet x → Misfit (working (power n a) scope) n
+  noFactor : {n : ℕ} {xs : Exprs} {vs : Values} {scope : Environment} → Gives (evalExprs xs scope) vs → SomeNoSet vs → Misfit (working (product n xs) scope) n
   noNumber : {n : ℕ} {o : Operator} {a b : Expr} {x y : Value} {scope : Environment} → Gives (evalExpr a scope) x → Gives (evalExpr b scope) y → NoInteger x ⊎ NoInteger y
       → Misfit (working (arithmetic n o a b) scope) n
   -- ≤
@@ -98,16 +102,19 @@ pub data PastBits : Evaluation → ℕ → Type 0 where
 pub data Unrun : Evaluation → ℕ → Type 0 where
   -- "generic abbreviation 54", the actuals worked out before (R23)
   nameGeneric : {n i : ℕ} {xs : Exprs} {vs : Values} {scope : Environment} → Gives (evalExprs xs scope) vs → lookup i scope ≡ generic → Unrun (working (reference n i xs) scope) n
-  -- "As values ℤ, Power, Product, Select, Theta, SchemaSet, and any Include line, are 54 before their operands"
+  -- "As values ℤ, .. Select, Theta, SchemaSet, and any Include line, are 54 before their operands"
   asValue : {a : Expr} {scope : Environment} → NotRun a → Unrun (working a scope) (exprNode a)
   includeLine : {n s k : ℕ} {xs : Exprs} {rs : List (ℕ × ℕ)} → Unrun (including (include n s k xs rs)) n
 
--- 55, "value over 64 words": at a Ref and a Tuple of their value, at a Set and a Comprehension where the member being added makes the set pass 64 words
+-- 55, "value over 64 words": at a Ref, a Tuple, a Power and a Product of their value, at a Set and a Comprehension where the member being added makes the set pass 64 words
 -- (R24). No other value is too long: that of an Apply is a part of a set of at most 64 words, those of a Number and of arithmetic have two. In a run no name's
 -- value is too long either (proofs/ShortNames).
 pub data TooLong : Evaluation → ℕ → Type 0 where
   nameTooLong : {n i : ℕ} {v : Value} {scope : Environment} → lookup i scope ≡ valued v → 64 < wordCount v → TooLong (working (reference n i none) scope) n
   tupleTooLong : {n : ℕ} {xs : Exprs} {vs : Values} {scope : Environment} → Gives (evalExprs xs scope) vs → 64 < wordCount (Value.tuple vs) → TooLong (working (tuple n xs) scope) n
+  powerTooLong : {n : ℕ} {a : Expr} {vs : Values} {scope : Environment} → Gives (evalExpr a scope) (Value.set vs) → 64 < wordCount (Value.set (subsets vs)) → TooLong (working (power n a) scope) n
+  productTooLong : {n : ℕ} {xs : Exprs} {vs : Values} {vss : List Values} {scope : Environment} → Gives (evalExprs xs scope) vs → AllSets vs vss → 64 < wordCount (Value.set (tuples vss))
+      → TooLong (working (product n xs) scope) n
   memberTooMuch : {n : ℕ} {xs : Exprs} {a : Expr} {s : Values} {v : Value} {scope : Environment} → Adding scope xs nil a s → Gives (evalExpr a scope) v → 64 < wordCount (Value.set (insertValue v s))
       → TooLong (working (set n xs) scope) n
   bodyTooMuch : {n k : ℕ} {p : Pred} {ls : Lines} {a : Expr} {ds : Domains} {s : Values} {v : Value} {scope x : Environment} → Gives (evalLines ls scope) ds → Gathering p a (assignments ds scope) nil x s

@@ -2,6 +2,7 @@
 //! every machine.
 
 pub mod documents;
+pub mod enumerated;
 pub mod inject;
 pub mod limits;
 pub mod number;
@@ -58,7 +59,7 @@ pub fn case(seed: u64, index: u64) -> Case {
 }
 
 fn some_document(rng: &mut Rng) -> (&'static str, Vec<u32>) {
-    match rng.below(103) {
+    match rng.below(108) {
         0..=2 => ("raw words", raw::raw_words(rng)),
         3 => ("any kind", raw::any_kind(rng)),
         4..=6 => {
@@ -94,6 +95,10 @@ fn some_document(rng: &mut Rng) -> (&'static str, Vec<u32>) {
         94..=99 => {
             let tree = runnable::arithmetic_document(rng);
             ("values at their ends", number::encode_somehow(rng, &tree))
+        }
+        100..=104 => {
+            let tree = enumerated::enumerated_document(rng);
+            ("powers and products", number::encode_somehow(rng, &tree))
         }
         _ => ("numberings", numberings::renumbered(rng)),
     }

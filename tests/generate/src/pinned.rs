@@ -2,6 +2,7 @@
 //! value shows in the run's finding. The values are the reference's.
 
 use crate::documents::typed_document;
+use crate::enumerated::enumerated_document;
 use crate::number::encode_somehow;
 use crate::rng::Rng;
 use crate::runnable::arithmetic_document;
@@ -33,9 +34,10 @@ pub fn pinned_case(rng: &mut Rng) -> (Vec<u32>, Vec<u32>) {
 }
 
 fn some_tree(rng: &mut Rng) -> Tree {
-    match rng.percent(50) {
-        true => typed_document(rng, Aim::Run),
-        false => arithmetic_document(rng),
+    match rng.below(9) {
+        0..=3 => typed_document(rng, Aim::Run),
+        4 => enumerated_document(rng),
+        _ => arithmetic_document(rng),
     }
 }
 

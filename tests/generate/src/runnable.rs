@@ -55,7 +55,7 @@ fn division(rng: &mut Rng) -> Tree {
 }
 
 /// {0, ..., n - 1} by a Comprehension over digits.
-fn below(n: usize) -> Tree {
+pub fn below(n: usize) -> Tree {
     let six = set((0..6).map(number).collect());
     let value = || arithmetic(41, arithmetic(43, reference(X), number(6)), reference(Z));
     let small = at_most(value(), number(n as u32 - 1));

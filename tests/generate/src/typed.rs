@@ -295,9 +295,18 @@ impl<'a> Typed<'a> {
         Some(generic(id, given))
     }
 
+    /// How often a set is a Power, a Product or a SchemaSet: in runnable
+    /// documents seldom, since most of these have over 64 words.
+    fn listed_percent(&self) -> usize {
+        match self.aim {
+            Aim::Check => 45,
+            Aim::Run => 12,
+        }
+    }
+
     /// An E of type power t.
     fn set_of(&mut self, t: &Ty, room: usize) -> Option<Tree> {
-        if self.rng.percent(45) && self.may_be_unrunnable() {
+        if self.rng.percent(self.listed_percent()) {
             match t {
                 Ty::Power(part) => {
                     return Some(power(self.expr(&power_of((**part).clone()), room)?))
@@ -306,7 +315,7 @@ impl<'a> Typed<'a> {
                     let sets: Vec<Ty> = parts.iter().cloned().map(power_of).collect();
                     return Some(product(self.each(&sets, room)?));
                 }
-                Ty::Binding(_) => return self.schema_set(t, room),
+                Ty::Binding(_) if self.may_be_unrunnable() => return self.schema_set(t, room),
                 _ => {}
             }
         }

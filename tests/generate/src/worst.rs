@@ -33,6 +33,12 @@ pub fn trees() -> Vec<(&'static str, Tree)> {
         ("8 SchemaSets of 16 in a piece", schema_sets()),
         ("dictionary near 16,384 words", long_dictionary()),
         ("45,000 assignments", assignments()),
+        ("forall over the power of 3", over(power(numbers(3)))),
+        ("forall over 2 times 5", over(product(vec![numbers(2), numbers(5)]))),
+        ("forall over 5 times 5, 55", over(product(vec![numbers(5), numbers(5)]))),
+        ("36 sets of 3", listed(|set| set)),
+        ("36 powers of 3", listed(|set| power(set))),
+        ("36 products of 3 and 3", listed(|set| product(vec![set.clone(), set]))),
     ]
 }
 
@@ -61,7 +67,6 @@ fn case(family: &'static str, document: Vec<u32>) -> Case {
 
 /// 1,024 nodes: relations of 24 nodes each.
 fn largest() -> Tree {
-    let numbers = |n: usize| set((0..n).map(|i| number(i as u32)).collect());
     let side = || set(vec![numbers(4), numbers(5)]);
     let mut paragraphs: Vec<Tree> = (0..38).map(|_| constraint(equal(side(), side()))).collect();
     let count = |all: &[Tree]| 1 + all.iter().map(Tree::count).sum::<usize>();
@@ -73,6 +78,25 @@ fn largest() -> Tree {
         paragraphs.push(constraint((0..left - 2).fold(truth(), |p, _| not(p))));
     }
     document(paragraphs)
+}
+
+/// The first n whole numbers.
+fn numbers(n: u32) -> Tree {
+    set((0..n).map(number).collect())
+}
+
+/// A quantifier over the members of a set.
+fn over(all: Tree) -> Tree {
+    let each = text(truth(), vec![decl(all, &[X])]);
+    document(vec![constraint(forall(each, equal(reference(X), reference(X))))])
+}
+
+/// 36 assignments that each make a set of three and list from it.
+fn listed(list: fn(Tree) -> Tree) -> Tree {
+    let y = arithmetic(41, reference(Y), number(6));
+    let all = list(set(vec![number(12), reference(X), y]));
+    let each = text(truth(), vec![decl(numbers(6), &[X, Y])]);
+    document(vec![constraint(forall(each, not(equal(set(vec![]), all))))])
 }
 
 fn paragraphs() -> Tree {

@@ -16,12 +16,11 @@ impl Run {
         Ok(value)
     }
 
-    fn exprs(&mut self, exprs: &[Expr]) -> Result<Vec<Value>, Stop> {
+    pub fn exprs(&mut self, exprs: &[Expr]) -> Result<Vec<Value>, Stop> {
         exprs.iter().map(|expr| self.expr(expr)).collect()
     }
 
-    /// As values ℤ, Power, Product, Select, Theta and SchemaSet are 54 before
-    /// their operands.
+    /// As values ℤ, Select, Theta and SchemaSet are 54 before their operands.
     fn expr_kind(&mut self, expr: &Expr) -> Result<Value, Stop> {
         let node = expr.node;
         match &expr.kind {
@@ -46,9 +45,9 @@ impl Run {
                 arithmetic(node, *operator, &left, &right)
             }
             ExprKind::Comprehension(text, body) => self.comprehension(node, text, body),
+            ExprKind::Power(operand) => self.power(node, operand),
+            ExprKind::Product(operands) => self.product(node, operands),
             ExprKind::Integers
-            | ExprKind::Product(_)
-            | ExprKind::Power(_)
             | ExprKind::Select(..)
             | ExprKind::Theta(..)
             | ExprKind::SchemaSet(_) => trouble(54, node),

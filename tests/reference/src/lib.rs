@@ -9,6 +9,7 @@ pub mod check;
 pub mod check_expr;
 pub mod check_schema;
 pub mod dictionary;
+pub mod enumerate;
 pub mod evaluate;
 pub mod finding;
 pub mod fit;

@@ -4,6 +4,7 @@
 //! in it beside others; they are also proved (crate `marked`).
 
 mod codings;
+mod enumerated;
 mod fits;
 mod marked;
 mod nodes;
@@ -33,6 +34,7 @@ pub fn table() -> Vec<Vector> {
     values::rows(&mut table);
     runs::rows(&mut table);
     run_nodes::rows(&mut table);
+    enumerated::rows(&mut table);
     codings::rows(&mut table);
     table.vectors
 }

@@ -177,8 +177,8 @@ fn r26_member(t: &mut Table) {
 
 fn r27_unused_abbreviation(t: &mut Table) {
     t.group("R27, an Abbreviation that nobody uses");
-    t.stops(worked(power(reference(B))), 54, 36, 0);
-    t.stops(worked(product(vec![reference(B), int()])), 54, 35, 0);
+    t.stops(worked(power(reference(B))), 51, 30, 0);
+    t.stops(worked(product(vec![reference(B), int()])), 51, 30, 0);
     t.stops(worked(theta(1, 0)), 54, 39, 0);
     t.stops(worked(schema_set(include(1, 0, vec![], &[]))), 54, 40, 0);
 }

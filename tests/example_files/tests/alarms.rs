@@ -1,0 +1,108 @@
+//! The files of examples/alarms are those that are made here, and the
+//! reference and the proved library answer on them what README.md says.
+
+use compare::calls::CALLS;
+use example_files::alarms::documents::{alarms, numbers};
+use example_files::alarms::files::{self, FEW, MANY};
+use example_files::alarms::states::{closed, four, gap, words};
+use example_files::written::directory;
+use generate::Case;
+use reference::tree::NodeNumber;
+use reference::values::{Value, MOST_WORDS};
+use reference::{fit, run, Ending, Outcome, WORK_WORDS};
+
+/// Words of the dictionary area.
+const AREA: usize = 16_384;
+/// More steps than these runs take.
+const STEPS: u64 = 20_000;
+/// The ℙ alarm of the quantifier.
+const QUANTIFIED: NodeNumber = 11;
+/// The state of a document without names.
+const NO_NAMES: [u32; 1] = [0];
+
+fn file(name: &str) -> Vec<u8> {
+    let path = directory("alarms").join(name);
+    std::fs::read(&path).unwrap_or_else(|error| panic!("{}: {error}", path.display()))
+}
+
+fn text(name: &str) -> String {
+    String::from_utf8(file(name)).expect("text")
+}
+
+/// How a run ended, as the files *.expected say it.
+fn in_words(ending: Ending) -> String {
+    match ending {
+        Ending::Holds => "holds\n".to_string(),
+        Ending::FailsAt(node) => format!("fails at {node}\n"),
+        Ending::Refused(finding) => format!("refused {} at {}\n", finding.number, finding.place),
+        Ending::OutOfSteps => panic!("more than {STEPS} steps"),
+    }
+}
+
+/// Each document with a state and the file that says how its run ends.
+fn cases() -> Vec<(Vec<u32>, Vec<u32>, &'static str)> {
+    let (of_alarms, of_numbers) = (|| coding::encode(&alarms()), |n| coding::encode(&numbers(n)));
+    vec![
+        (of_alarms(), words(&closed()), "closed.expected"),
+        (of_alarms(), words(&gap()), "gap.expected"),
+        (of_alarms(), words(&four()), "four.expected"),
+        (of_numbers(MANY), NO_NAMES.to_vec(), "of-four.expected"),
+    ]
+}
+
+#[test]
+fn files_are_as_made() {
+    for (name, bytes) in files::all() {
+        assert!(file(name) == bytes, "{name}: 'cargo run -p example_files' in tests/ writes it");
+    }
+}
+
+#[test]
+fn the_document_is_accepted_and_the_states_fit() {
+    assert_eq!(reference::print(&file("alarms.z")), text("alarms.expected"));
+    for state in [closed(), gap(), four()] {
+        assert!(fit(&coding::encode(&alarms()), &words(&state), AREA, WORK_WORDS).is_ok());
+    }
+}
+
+#[test]
+fn runs_end_as_the_files_and_the_readme_say() {
+    let readme = text("README.md");
+    for (document, state, expected) in cases() {
+        let ending = in_words(run(&document, &state, WORK_WORDS, STEPS).ending);
+        assert_eq!(ending, text(expected));
+        let row = format!("run: {} (`{expected}`)", ending.trim_end());
+        assert!(readme.contains(&row), "{row}");
+    }
+}
+
+/// The lists that the axiom runs through, and that of three numbers.
+#[test]
+fn powers_have_as_many_words_as_the_readme_says() {
+    let longest = |outcome: Outcome| {
+        outcome.list.iter().map(|(_, value)| value.length()).max().expect("values")
+    };
+    let of_three = coding::encode(&numbers(FEW));
+    assert_eq!(longest(run(&of_three, &NO_NAMES, WORK_WORDS, STEPS)), 42);
+    let document = coding::encode(&alarms());
+    let outcome = run(&document, &words(&closed()), WORK_WORDS, STEPS);
+    let power = |(node, _): &&(NodeNumber, Value)| *node == QUANTIFIED;
+    let (_, power) = outcome.list.iter().find(power).expect("the power");
+    assert!(matches!(power, Value::Set(members) if members.len() == 8), "{power:?}");
+    assert_eq!(power.length(), 54);
+    assert!(power.length() <= MOST_WORDS);
+}
+
+/// Every call that the proved library has answers as the reference does.
+#[test]
+fn the_library_answers_the_same() {
+    for (document, state, name) in cases() {
+        let (dictionary, work, output, dirt) = (AREA, WORK_WORDS, AREA, 1);
+        let case = Case { family: "alarms", document, state, dictionary, work, output, dirt };
+        for call in CALLS {
+            let expected = (call.expected)(&case).expect("few steps");
+            let difference = call.difference(&case, &expected).map(|found| found.text);
+            assert_eq!(difference, None, "{}: {name}", call.name);
+        }
+    }
+}
