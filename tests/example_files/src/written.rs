@@ -2,6 +2,7 @@
 
 use coding::join;
 use reference::values::Value;
+use reference::Ending;
 use std::path::PathBuf;
 
 /// Each file's name and bytes.
@@ -21,4 +22,32 @@ pub fn bytes(words: &[u32]) -> Vec<u8> {
 pub fn state(values: &[&Value]) -> Vec<u32> {
     let coded = |value: &&Value| value.words().iter().map(|&word| word as u32).collect();
     join(&values.iter().map(coded).collect::<Vec<_>>())
+}
+
+/// A file of an example, as it stands there.
+pub fn file(example: &str, name: &str) -> Vec<u8> {
+    let path = directory(example).join(name);
+    std::fs::read(&path).unwrap_or_else(|error| panic!("{}: {error}", path.display()))
+}
+
+pub fn text(example: &str, name: &str) -> String {
+    String::from_utf8(file(example, name)).expect("text")
+}
+
+/// The files of an example are as they are made.
+pub fn assert_made(example: &str, files: Files) {
+    for (name, bytes) in files {
+        let made = file(example, name) == bytes;
+        assert!(made, "{name}: 'cargo run -p example_files' in tests/ writes it");
+    }
+}
+
+/// How a run ended, as the files *.expected say it.
+pub fn in_words(ending: Ending) -> String {
+    match ending {
+        Ending::Holds => "holds\n".to_string(),
+        Ending::FailsAt(node) => format!("fails at {node}\n"),
+        Ending::Refused(finding) => format!("refused {} at {}\n", finding.number, finding.place),
+        Ending::OutOfSteps => panic!("more steps than were allowed"),
+    }
 }

@@ -5,7 +5,7 @@ use compare::calls::CALLS;
 use example_files::alarms::documents::{alarms, numbers};
 use example_files::alarms::files::{self, FEW, MANY};
 use example_files::alarms::states::{closed, four, gap, words};
-use example_files::written::directory;
+use example_files::written::{self, in_words};
 use generate::Case;
 use reference::tree::NodeNumber;
 use reference::values::{Value, MOST_WORDS};
@@ -21,22 +21,11 @@ const QUANTIFIED: NodeNumber = 11;
 const NO_NAMES: [u32; 1] = [0];
 
 fn file(name: &str) -> Vec<u8> {
-    let path = directory("alarms").join(name);
-    std::fs::read(&path).unwrap_or_else(|error| panic!("{}: {error}", path.display()))
+    written::file("alarms", name)
 }
 
 fn text(name: &str) -> String {
-    String::from_utf8(file(name)).expect("text")
-}
-
-/// How a run ended, as the files *.expected say it.
-fn in_words(ending: Ending) -> String {
-    match ending {
-        Ending::Holds => "holds\n".to_string(),
-        Ending::FailsAt(node) => format!("fails at {node}\n"),
-        Ending::Refused(finding) => format!("refused {} at {}\n", finding.number, finding.place),
-        Ending::OutOfSteps => panic!("more than {STEPS} steps"),
-    }
+    written::text("alarms", name)
 }
 
 /// Each document with a state and the file that says how its run ends.
@@ -52,9 +41,7 @@ fn cases() -> Vec<(Vec<u32>, Vec<u32>, &'static str)> {
 
 #[test]
 fn files_are_as_made() {
-    for (name, bytes) in files::all() {
-        assert!(file(name) == bytes, "{name}: 'cargo run -p example_files' in tests/ writes it");
-    }
+    written::assert_made("alarms", files::all());
 }
 
 #[test]

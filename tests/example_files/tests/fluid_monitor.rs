@@ -5,6 +5,7 @@ use compare::calls::CALLS;
 use compare::printed;
 use example_files::fluid_monitor::monitor::{record, Reading, FAR, NEAR, RATE, READINGS};
 use example_files::fluid_monitor::{files, state};
+use example_files::written::{self, in_words};
 use generate::Case;
 use reference::values::Value;
 use reference::{check, fit, run, Ending, Outcome, WORK_WORDS};
@@ -17,12 +18,11 @@ const STEPS: u64 = 20_000;
 const PARAGRAPHS: usize = 6;
 
 fn file(name: &str) -> Vec<u8> {
-    let path = files::directory().join(name);
-    std::fs::read(&path).unwrap_or_else(|error| panic!("{}: {error}", path.display()))
+    written::file("fluid-monitor", name)
 }
 
 fn text(name: &str) -> String {
-    String::from_utf8(file(name)).expect("text")
+    written::text("fluid-monitor", name)
 }
 
 fn run_on(state: &[u32]) -> Outcome {
@@ -35,21 +35,9 @@ fn last_paragraph() -> u32 {
     *files::document().last().expect("words")
 }
 
-/// How a run ended, as the files *.expected say it.
-fn in_words(ending: Ending) -> String {
-    match ending {
-        Ending::Holds => "holds\n".to_string(),
-        Ending::FailsAt(node) => format!("fails at {node}\n"),
-        Ending::Refused(finding) => format!("refused {} at {}\n", finding.number, finding.place),
-        Ending::OutOfSteps => panic!("more than {STEPS} steps"),
-    }
-}
-
 #[test]
 fn files_are_as_made() {
-    for (name, bytes) in files::all() {
-        assert!(file(name) == bytes, "{name}: 'cargo run -p example_files' in tests/ writes it");
-    }
+    written::assert_made("fluid-monitor", files::all());
 }
 
 #[test]
