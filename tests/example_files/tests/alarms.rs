@@ -9,7 +9,7 @@ use example_files::written::{self, in_words};
 use generate::Case;
 use reference::tree::NodeNumber;
 use reference::values::{Value, MOST_WORDS};
-use reference::{fit, run, Ending, Outcome, WORK_WORDS};
+use reference::{fit, run, Outcome, WORK_WORDS};
 
 /// Words of the dictionary area.
 const AREA: usize = 16_384;
