@@ -36,13 +36,15 @@ fn numbers(rng: &mut Rng, most: usize) -> Tree {
 
 /// An operand: mostly a set of few words.
 fn operand(rng: &mut Rng, depth: usize) -> Tree {
-    match rng.below(20) {
+    match rng.below(21) {
         0..=7 => numbers(rng, 4),
         8..=10 => reference(GIVEN),
         11 | 12 => reference(OWN),
         13 => set((0..rng.from(1, 2)).map(|_| numbers(rng, 3)).collect()),
         14 => set((0..rng.from(1, 3)).map(|i| tuple(vec![number(i as u32), number(7)])).collect()),
         15 => below(rng.from(29, 32)),
+        // one member of 56 to 60 words, whose power has 62 to 66
+        20 => set(vec![below(rng.from(27, 29))]),
         16 => some_other(rng),
         17 => set(vec![]),
         _ if depth > 0 => listed(rng, depth - 1),
