@@ -3,7 +3,7 @@
 
 use compare::calls::CALLS;
 use example_files::alarms::documents::{alarms, numbers};
-use example_files::alarms::files::{self, FEW, MANY};
+use example_files::alarms::files::{self, FEW, MANY, NO_NAMES};
 use example_files::alarms::states::{closed, four, gap, words};
 use example_files::written::{self, in_words};
 use generate::Case;
@@ -17,8 +17,6 @@ const AREA: usize = 16_384;
 const STEPS: u64 = 20_000;
 /// The ℙ alarm of the quantifier.
 const QUANTIFIED: NodeNumber = 11;
-/// The state of a document without names.
-const NO_NAMES: [u32; 1] = [0];
 
 fn file(name: &str) -> Vec<u8> {
     written::file("alarms", name)
@@ -35,6 +33,7 @@ fn cases() -> Vec<(Vec<u32>, Vec<u32>, &'static str)> {
         (of_alarms(), words(&closed()), "closed.expected"),
         (of_alarms(), words(&gap()), "gap.expected"),
         (of_alarms(), words(&four()), "four.expected"),
+        (of_numbers(FEW), NO_NAMES.to_vec(), "of-three.expected"),
         (of_numbers(MANY), NO_NAMES.to_vec(), "of-four.expected"),
     ]
 }

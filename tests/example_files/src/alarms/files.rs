@@ -9,6 +9,9 @@ use crate::written::{bytes, Files};
 pub const FEW: u32 = 3;
 pub const MANY: u32 = 4;
 
+/// The state of a document without names.
+pub const NO_NAMES: [u32; 1] = [0];
+
 /// Each file's name and bytes.
 pub fn all() -> Files {
     let document = coding::encode(&alarms());
@@ -22,6 +25,7 @@ pub fn all() -> Files {
         ("gap.txt", listed(&gap())),
         ("four.state", bytes(&words(&four()))),
         ("of-three.z", bytes(&coding::encode(&numbers(FEW)))),
+        ("none.state", bytes(&NO_NAMES)),
         ("of-four.z", bytes(&coding::encode(&numbers(MANY)))),
     ]
 }
