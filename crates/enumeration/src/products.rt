@@ -25,6 +25,9 @@ const SET: u32 = value_tags::SET as u32;
 
 const TUPLE: u32 = value_tags::TUPLE as u32;
 
+// One more than the largest word.
+const WORDS: usize = 4294967296;
+
 // After what is built, the tuple t with the part m more.
 fn longer(u: &mut [u32], at: usize, t: &[u32], m: &[u32]) -> usize
     ensures { λ r. ⌜ ((ws : List ℕ) → Building (now (u .entry)) at ws → Building (now (u .exit)) r (ws ++ longer (now (t .entry)) (now (m .entry)))) ⌝ }
@@ -65,7 +68,7 @@ fn grow(p: &[u32], s: &[u32]) -> Held
 {
     let m = word(p, 1);
     let n = word(s, 1);
-    let head = [SET, (m * n % 4294967296) as u32];
+    let head = [SET, (m * n % WORDS) as u32];
     let mut u = [0u32; limits::VALUE];
     let a = put(&mut u, 0, &head);
     let b = tuples(&mut u, a, m, from(p, HEAD), n, from(s, HEAD));

@@ -61,10 +61,6 @@ module _ (misfit : Bool) (rs : List Values) where
         rw (exprs-end doc k e i h)
         (fine z (record { sets = λ f. ([], noSets, sym b ∙ f, a ∙ t .words (sym b ∙ f)); some = λ f. inl (sym b ∙ f); narrow = refl }))
 
-    pub factors-stop : {r : Worked} (a : ℕ) → a ≡ operandAt doc k i → i < e → Told Valued r (evalExpr (exprAt doc a) scope) → (r .number ≡ 0 → ⊥) → Told (Crossed misfit rs) r (evalExprs (exprsFrom doc k i (e - i)) scope)
-    unfolding evalExprs
-    factors-stop a x h t z = rw (exprs-go doc k e i h, ← x) (halt-told _ t z)
-
     pub factors-go : {x t r : Worked} (a : ℕ) → a ≡ operandAt doc k i → i < e → Told Valued x (evalExpr (exprAt doc a) scope) → x .number ≡ 0 → ((v : Value) → Holds (x .held) v → Crosses rs misfit t v) →
         ((qs : List Values) → Tuples (t .held) (t .flag) qs → Told (Crossed (t .flag) qs) r (evalExprs (exprsFrom doc k (i + 1) (e - (i + 1))) scope)) →
         Told (Crossed misfit rs) r (evalExprs (exprsFrom doc k i (e - i)) scope)

@@ -69,17 +69,18 @@ unfolding cell
 few-words doc s k h = omega (arith, at-most doc s k h, small-rows (kindAt doc k))
 
 -- ---- expressions one after the other
+-- one stops, whatever is to be told of their values
+pub exprs-stop : {R : Worked → Values → Type 0} (doc : List ℕ) (k e i : ℕ) (scope : Environment) {r : Worked} (a : ℕ) → a ≡ operandAt doc k i → i < e → Told Valued r (evalExpr (exprAt doc a) scope) → (r .number ≡ 0 → ⊥) →
+    Told R r (evalExprs (exprsFrom doc k i (e - i)) scope)
+unfolding evalExprs
+exprs-stop doc k e i scope a x h t z = rw (exprs-go doc k e i h, ← x) (halt-told _ t z)
+
 module _ (doc : List ℕ) (k e i : ℕ) (scope : Environment) (ws : List ℕ) where
   pub parts-end : {r : Worked} {s : Held} → e ≤ i → r .number ≡ 0 → r .held ≡ s → s ≡ words ws → Told (Joined ws (e - i)) r (evalExprs (exprsFrom doc k i (e - i)) scope)
   unfolding evalExprs narrow Value.count encodes
   parts-end h z a b =
       let m : 0 ≡ e - i = omega arith in
       rw (exprs-end doc k e i h) (fine z (record { counted = m; words = a ∙ b ∙ ap words (sym (append-nil ws)); narrow = refl }))
-
-  pub parts-stop : {r : Worked} (a : ℕ) → a ≡ operandAt doc k i → i < e → Told Valued r (evalExpr (exprAt doc a) scope) → (r .number ≡ 0 → ⊥) →
-      Told (Joined ws (e - i)) r (evalExprs (exprsFrom doc k i (e - i)) scope)
-  unfolding evalExprs
-  parts-stop a x h t z = rw (exprs-go doc k e i h, ← x) (halt-told _ t z)
 
   more-joined : {r : Worked} (v : Value) {o : Outcome Values} → narrow v ≡ true → i < e → Told (Joined (ws ++ encode v) (e - (i + 1))) r o → Told (Joined ws (e - i)) r (o >>= λ vs. pure (cons v vs))
   unfolding _>>=_ Outcomes.after encodes Value.count

@@ -17,6 +17,7 @@ pub mod ListingOnly
 pub mod WholeList
 pub mod OperandValues
 pub mod EvaluationLists
+pub mod MemberTests
 pub mod TroublesFound
 pub mod TroublesCome
 pub mod TroublesWithin

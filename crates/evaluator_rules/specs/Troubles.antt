@@ -106,8 +106,8 @@ pub data Unrun : Evaluation → ℕ → Type 0 where
   asValue : {a : Expr} {scope : Environment} → NotRun a → Unrun (working a scope) (exprNode a)
   includeLine : {n s k : ℕ} {xs : Exprs} {rs : List (ℕ × ℕ)} → Unrun (including (include n s k xs rs)) n
 
--- 55, "value over 64 words": at a Ref, a Tuple, a Power and a Product of their value, at a Set and a Comprehension where the member being added makes the set pass 64 words
--- (R24). No other value is too long: that of an Apply is a part of a set of at most 64 words, those of a Number and of arithmetic have two. In a run no name's
+-- 55, "value over 64 words": at a Ref, a Tuple, a Power and a Product of their value, at a Set and a Comprehension where the member being added makes the
+-- set pass 64 words (R24). No other value is too long: that of an Apply is a part of a set of at most 64 words, those of a Number and of arithmetic have two. In a run no name's
 -- value is too long either (proofs/ShortNames).
 pub data TooLong : Evaluation → ℕ → Type 0 where
   nameTooLong : {n i : ℕ} {v : Value} {scope : Environment} → lookup i scope ≡ valued v → 64 < wordCount v → TooLong (working (reference n i none) scope) n

@@ -1,7 +1,7 @@
-use Rattle.enumeration.proofs.Laws.{sets-none, sets-take, sets-skip}
-use Rattle.values.specs.Held.{Building}
-use Prim.Native.Nat.{_-_}
 use mathlib.Core.Path.{subst}
+use Prim.Native.Nat.{_-_}
+use Rattle.values.specs.Held.{Building}
+use Rattle.enumeration.proofs.Laws.{sets-none, sets-take, sets-skip}
 use borrow.Author.Needs.{needs}
 use Prim.Native.Nat.{ℕ, _<_}
 use borrow.Fn.Kinds.{In}

@@ -1,13 +1,13 @@
-use Rattle.enumeration.proofs.Values.{set-count, power-many, power-long, power-listed}
-use Rattle.enumeration.proofs.Laws.{twice-over}
-use Rattle.enumeration_rules.specs.OnWords.{powerOn}
-use Rattle.values.proofs.Holding.{building-none}
-use Rattle.values.specs.Held.{keep}
-use lib.ListN.{length}
-use native.Mathlib.Omega.{arith}
-use Prim.Native.Nat.{ℕ, _-_, _/_, _^_, _<_}
-use mathlib.Core.List.{List, []}
 use mathlib.Core.Path.{_≡_, ap, subst, _∙_}
+use mathlib.Core.List.{List, []}
+use Prim.Native.Nat.{ℕ, _-_, _/_, _^_, _<_}
+use native.Mathlib.Omega.{arith}
+use lib.ListN.{length}
+use Rattle.values.specs.Held.{keep}
+use Rattle.values.proofs.Holding.{building-none}
+use Rattle.enumeration_rules.specs.OnWords.{powerOn}
+use Rattle.enumeration.proofs.Laws.{twice-over}
+use Rattle.enumeration.proofs.Values.{set-count, power-many, power-long, power-listed}
 use borrow.Author.Needs.{needs}
 use Rattle.enumeration.proofs.powers.power.Statement.{statement}
 use Rattle.enumeration.proofs.powers.power.Tie as tie

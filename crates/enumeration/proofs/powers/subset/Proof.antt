@@ -1,6 +1,6 @@
-use Rattle.enumeration.proofs.Laws.{subset-joined}
-use Rattle.values.specs.Held.{Building}
 use mathlib.Core.Path.{subst}
+use Rattle.values.specs.Held.{Building}
+use Rattle.enumeration.proofs.Laws.{subset-joined}
 use borrow.Author.Needs.{needs}
 use Rattle.enumeration.proofs.powers.subset.Statement.{statement}
 use Rattle.enumeration.proofs.powers.subset.Tie as tie

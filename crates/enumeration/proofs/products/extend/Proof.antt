@@ -1,14 +1,14 @@
-use Rattle.enumeration.proofs.Values.{set-count, grow-none, grow-over, grow-long, rows-held, grow-listed}
-use Rattle.enumeration_rules.specs.OnWords.{growOn}
-use Rattle.enumeration_rules.specs.Enumeration.{each}
-use Rattle.values.proofs.Holding.{held-short, held-long, held-len, held-part}
-use Rattle.values.specs.Value.{nil, set, tuple, count, encode}
-use Rattle.values.specs.Held.{keep}
-use lib.ListN.{length}
-use Prim.Native.Nat.{ℕ}
-use native.Mathlib.Omega.{arith}
-use mathlib.Core.List.{List}
 use mathlib.Core.Path.{_≡_, sym, ap, _∙_}
+use mathlib.Core.List.{List}
+use native.Mathlib.Omega.{arith}
+use Prim.Native.Nat.{ℕ}
+use lib.ListN.{length}
+use Rattle.values.specs.Held.{keep}
+use Rattle.values.specs.Value.{nil, set, tuple, count, encode}
+use Rattle.values.proofs.Holding.{held-short, held-long, held-len, held-part}
+use Rattle.enumeration_rules.specs.Enumeration.{each}
+use Rattle.enumeration_rules.specs.OnWords.{growOn}
+use Rattle.enumeration.proofs.Values.{set-count, grow-none, grow-over, grow-long, rows-held, grow-listed}
 use borrow.Author.Needs.{needs}
 use Rattle.enumeration.proofs.products.extend.Statement.{statement}
 use Rattle.enumeration.proofs.products.extend.Tie as tie

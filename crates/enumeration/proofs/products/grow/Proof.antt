@@ -1,10 +1,10 @@
-use Rattle.enumeration_rules.specs.OnWords.{growOn}
-use Rattle.values.proofs.Holding.{building-none}
-use native.Mathlib.Omega.{arith}
-use native.Mathlib.Nat.{mul-le-mul}
-use Prim.Native.Nat.{_≤_}
-use mathlib.Core.List.{[]}
 use mathlib.Core.Path.{_∙_}
+use mathlib.Core.List.{[]}
+use Prim.Native.Nat.{_≤_}
+use native.Mathlib.Nat.{mul-le-mul}
+use native.Mathlib.Omega.{arith}
+use Rattle.values.proofs.Holding.{building-none}
+use Rattle.enumeration_rules.specs.OnWords.{growOn}
 use borrow.Author.Needs.{needs}
 use Rattle.enumeration.proofs.products.grow.Statement.{statement}
 use Rattle.enumeration.proofs.products.grow.Tie as tie

@@ -1,6 +1,6 @@
-use Rattle.enumeration.proofs.Laws.{longer-joined}
-use Rattle.values.specs.Held.{Building}
 use mathlib.Core.Path.{subst}
+use Rattle.values.specs.Held.{Building}
+use Rattle.enumeration.proofs.Laws.{longer-joined}
 use borrow.Author.Needs.{needs}
 use Rattle.enumeration.proofs.products.longer.Statement.{statement}
 use Rattle.enumeration.proofs.products.longer.Tie as tie

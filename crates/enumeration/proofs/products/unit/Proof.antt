@@ -1,5 +1,5 @@
-use Rattle.enumeration_rules.specs.Enumeration.{each}
 use Rattle.values.specs.Value.{encode, count}
+use Rattle.enumeration_rules.specs.Enumeration.{each}
 use borrow.Author.Needs.{needs}
 use Rattle.enumeration.proofs.products.unit.Statement.{statement}
 use Rattle.enumeration.proofs.products.unit.Tie as tie

@@ -1,8 +1,8 @@
-use Rattle.evaluator_operations.proofs.EnumerationLaws.{no-set-tag}
-use Rattle.evaluator_operations.proofs.OperationLaws.{held-whole, held-tag, tag-set}
-use Rattle.evaluator_operations.specs.Worked.{aSet, noSet}
-use Rattle.values.specs.Value.{encode}
 use mathlib.Core.Path.{sym, ap, _∙_}
+use Rattle.values.specs.Value.{encode}
+use Rattle.evaluator_operations.specs.Worked.{aSet, noSet}
+use Rattle.evaluator_operations.proofs.OperationLaws.{held-whole, held-tag, tag-set}
+use Rattle.evaluator_operations.proofs.EnumerationLaws.{no-set-tag}
 use borrow.Author.Needs.{needs}
 use Rattle.evaluator_operations.proofs.enumerations.crossed.Statement.{statement}
 use Rattle.evaluator_operations.proofs.enumerations.crossed.Tie as tie

@@ -1,7 +1,7 @@
-use Rattle.evaluator_operations.proofs.EnumerationLaws.{power-told, power-misfit}
-use Rattle.evaluator_operations.proofs.OperationLaws.{held-whole, held-tag, tag-set}
-use Rattle.values.specs.Value.{encode}
 use mathlib.Core.Path.{sym, ap, _∙_}
+use Rattle.values.specs.Value.{encode}
+use Rattle.evaluator_operations.proofs.OperationLaws.{held-whole, held-tag, tag-set}
+use Rattle.evaluator_operations.proofs.EnumerationLaws.{power-told, power-misfit}
 use borrow.Author.Needs.{needs}
 use Rattle.evaluator_operations.proofs.enumerations.powered.Statement.{statement}
 use Rattle.evaluator_operations.proofs.enumerations.powered.Tie as tie

@@ -1,5 +1,5 @@
-use Rattle.values.proofs.Holding.{built-keep, built-over}
 use mathlib.Core.Path.{_∙_}
+use Rattle.values.proofs.Holding.{built-keep, built-over}
 use borrow.Author.Needs.{needs}
 use Rattle.values.proofs.building.built.Statement.{statement}
 use Rattle.values.proofs.building.built.Tie as tie

@@ -1,5 +1,5 @@
-use Rattle.values.proofs.Holding.{put-past, put-over, put-fits}
 use native.Mathlib.Omega.{arith}
+use Rattle.values.proofs.Holding.{put-past, put-over, put-fits}
 use borrow.Author.Needs.{needs}
 use Rattle.values.proofs.building.put.Statement.{statement}
 use Rattle.values.proofs.building.put.Tie as tie

@@ -1,10 +1,10 @@
-use Rattle.values.proofs.Holding.{building-none}
-use Rattle.values.specs.Held.{keep}
-use Rattle.values.specs.Sets.{insertAt}
-use lib.ListN.{take, getD, drop}
-use Prim.Native.Nat.{ℕ, _+_, _%_, _^_}
-use mathlib.Core.List.{List, [], _∷_, append-assoc}
 use mathlib.Core.Path.{_∙_, ap}
+use mathlib.Core.List.{List, [], _∷_, append-assoc}
+use Prim.Native.Nat.{ℕ, _+_, _%_, _^_}
+use lib.ListN.{take, getD, drop}
+use Rattle.values.specs.Sets.{insertAt}
+use Rattle.values.specs.Held.{keep}
+use Rattle.values.proofs.Holding.{building-none}
 use borrow.Author.Needs.{needs}
 use Rattle.values.proofs.sets.insert_at.Statement.{statement}
 use Rattle.values.proofs.sets.insert_at.Tie as tie

@@ -6,8 +6,8 @@ use native.Mathlib.Omega.{arith}
 use Rattle.reader_rules.specs.Kinds.{expressions}
 use Rattle.reader_rules.specs.Promise.{Lower}
 use Rattle.evaluator_scope.proofs.BlockLaws.{scoped-same}
-use Rattle.evaluator_nodes.proofs.NodeLaws.{ready-lower, handed-same, in-words}
-use Rattle.evaluator_nodes.proofs.FactorLaws.{factors-end, factors-stop, factors-go}
+use Rattle.evaluator_nodes.proofs.NodeLaws.{ready-lower, handed-same, in-words, exprs-stop}
+use Rattle.evaluator_nodes.proofs.FactorLaws.{factors-end, factors-go}
 -- The answers of `factors`.
 use Prim.Native.Nat.{_+_, _*_, _-_}
 use borrow.Author.Needs.{needs}
@@ -35,7 +35,7 @@ factors-returns-2 t c =
     let e = c .before .before .before .before .expr .ensures in
     let s = c .before .before .before .before .before .before .before .before .before .before .before .before in
     let a = s .args in
-    record { kept = e .kept; told = λ rs u scope sc. factors-stop (a .misfit) rs (a .doc .now) (a .k) (length (a .w .now)) (a .i) scope _ (in-words (s .pre .1 .0) (a .i) _ (c .before .before .before .before .before .word .ensures .0)) (omega arith) (e .told scope sc) (c .if2 .taken) }
+    record { kept = e .kept; told = λ rs u scope sc. exprs-stop (a .doc .now) (a .k) (length (a .w .now)) (a .i) scope _ (in-words (s .pre .1 .0) (a .i) _ (c .before .before .before .before .before .word .ensures .0)) (omega arith) (e .told scope sc) (c .if2 .taken) }
 
 factors-add-factors : (t : ℕ) → factors-lts.Need-add-factors (factors-calls t) (factors-at t) factors.Post
 factors-add-factors t c = let s = c .before .before .before .before .before .before .before .before .before .before .before .before .before .before .before in record { fits = omega (arith, s .pre .1 .2) }

@@ -7,7 +7,7 @@ use Rattle.values.specs.Value.{encode}
 use Rattle.reader_rules.specs.Kinds.{expressions}
 use Rattle.reader_rules.specs.Promise.{Lower}
 use Rattle.evaluator_scope.proofs.BlockLaws.{scoped-same}
-use Rattle.evaluator_nodes.proofs.NodeLaws.{ready-lower, handed-same, in-words, parts-end, parts-stop, parts-go}
+use Rattle.evaluator_nodes.proofs.NodeLaws.{ready-lower, handed-same, in-words, exprs-stop, parts-end, parts-go}
 -- The answers of `parts`.
 use Prim.Native.Nat.{_+_, _*_, _-_}
 use borrow.Author.Needs.{needs}
@@ -35,7 +35,7 @@ parts-returns-2 t c =
     let e = c .before .before .before .before .expr .ensures in
     let s = c .before .before .before .before .before .before .before .before .before .before .before .before in
     let a = s .args in
-    record { kept = e .kept; told = λ ws x scope sc. parts-stop (a .doc .now) (a .k) (length (a .w .now)) (a .i) scope ws _ (in-words (s .pre .1 .0) (a .i) _ (c .before .before .before .before .before .word .ensures .0)) (omega arith) (e .told scope sc) (c .if2 .taken) }
+    record { kept = e .kept; told = λ ws x scope sc. exprs-stop (a .doc .now) (a .k) (length (a .w .now)) (a .i) scope _ (in-words (s .pre .1 .0) (a .i) _ (c .before .before .before .before .before .word .ensures .0)) (omega arith) (e .told scope sc) (c .if2 .taken) }
 
 parts-parts-requires : (t : ℕ) → parts-lts.Need-parts-requires (parts-calls t) (parts-at t) parts.Post
 parts-parts-requires t c κs =
