@@ -1,20 +1,17 @@
 -- The operations on words are the operations on values.
 use mathlib.Core.Path.{_≡_, refl, sym, ap, subst, _∙_}
-use mathlib.Core.Bool.{Bool, true, false, _&&_, cond, not}
-use mathlib.Core.List.{List, [], _∷_, _++_, append-nil}
-use Prim.Native.Nat.{ℕ, zero, suc, _+_, _-_, _≤_, _<_, _^_}
+use mathlib.Core.Bool.{Bool, true, false, _&&_, not}
+use mathlib.Core.List.{[], _∷_}
+use Prim.Native.Nat.{ℕ, zero, suc, _-_, _≤_, _<_}
 use native.Mathlib.Omega.{arith}
 use lib.Signed.{leZ}
-use lib.IntN.{ℤ, pos}
-use lib.ListN.{length, getD, take, drop, replicate, length-append}
-use lib.Seq.{take-at, drop-at}
+use lib.IntN.{ℤ}
+use lib.ListN.{length, getD, take, drop}
 use borrow.Author.Tests.{le-leb, lt-leb}
-use Rattle.values.specs.Value.{Value, int, element, set, tuple, Values, nil, cons, count, encode, encodes}
-use Rattle.values_integers.specs.Integer.{in32}
+use Rattle.values.specs.Value.{Value, int, element, set, tuple, Values, nil, cons, encode}
 use Rattle.values.specs.Held.{keep as words}
 use Rattle.values.specs.Numbers.{numberOf}
-use Rattle.values.specs.Span.{span}
-use Rattle.values.specs.Sets.{apply, insert}
+use Rattle.values.specs.Sets.{apply}
 use Rattle.values.specs.Order.{compare}
 use Rattle.values.specs.declared.order.Order.{Order}
 use Rattle.values.specs.declared.order.Order.the-variants.{Less, Same, Greater}
@@ -28,17 +25,17 @@ use Rattle.evaluator_operations.specs.declared.logic.Decision.the-varian
 use Rattle.evaluator_operations.specs.Steps.{decisionOf, verdictOf, arithmeticOf, atMostOf, integerTest, imageOf}
 use Rattle.evaluator_rules.specs.Rules.{amongMembers}
 use Rattle.evaluator_operations.proofs.ToldLaws.{at-stop, at-pure}
-use Rattle.values.specs.SetValues.{sameValue, isIn, insertValue, insertBy, Image, found, misfit, undefined, applyValue}
+use Rattle.values.specs.SetValues.{isIn, insertValue, insertBy, Image, found, misfit, undefined, applyValue}
 use Rattle.values.specs.declared.held.Held.{Held}
-use Rattle.values.specs.declared.numbers.Number.{Number}
 use Rattle.values.specs.declared.numbers.Number.the-variants.{Integer, Misfit}
-use Rattle.values.proofs.Holding.{held-part, held-words, held-len, keep-fits}
+use Rattle.values.proofs.Holding.{held-part, held-words}
 use Rattle.values.proofs.IntegerValues.{number-value}
 use Rattle.words.proofs.Loops.{and-left, and-right}
-use Rattle.values.proofs.Encoding.{span-value}
 use Rattle.evaluator_rules.specs.WordCount.{wordCount}
-use Rattle.evaluator_rules.specs.Outcomes.{Outcome, _>>=_, pure, stop, keepIf, keep}
+use Rattle.evaluator_rules.specs.Outcomes.{_>>=_, pure, stop, keepIf, keep}
 use Rattle.evaluator_rules.specs.Operations.{asInteger, asSet, asTuple, addIf, add, image, findPair, keepInteger, calculate}
+use Rattle.evaluator_rules.specs.Applications.{pair, Among, here, later}
+use Rattle.evaluator_rules.proofs.Images.{Finds, findsOne, finds, found-among, applied-words}
 use Rattle.evaluator_operations.specs.declared.worked.Worked.{Worked}
 use Rattle.evaluator_operations.specs.Worked.{narrow, allNarrow, Holds, Told, fine, ceased, Valued, Judged, Gathered, Stops}
 
@@ -192,48 +189,25 @@ unfolding narrow
 set-narrow vs x p q = insert-narrow vs x p q
 
 -- Apply
-applied-narrow : (y : Value) (vs : Values) (v : Value) → allNarrow vs ≡ true → applyValue y vs ≡ found v → narrow v ≡ true
-unfolding narrow applyValue
-applied-narrow y nil v h e = let q : _≡_ {A = ℕ} 0 1 = cc in absurd (omega arith)
-applied-narrow y (cons (int z) ws) v h e = let q : _≡_ {A = ℕ} 0 1 = cc in absurd (omega arith)
-applied-narrow y (cons (element g k) ws) v h e = let q : _≡_ {A = ℕ} 0 1 = cc in absurd (omega arith)
-applied-narrow y (cons (set vs) ws) v h e = let q : _≡_ {A = ℕ} 0 1 = cc in absurd (omega arith)
-applied-narrow y (cons (tuple nil) ws) v h e = let q : _≡_ {A = ℕ} 0 1 = cc in absurd (omega arith)
-applied-narrow y (cons (tuple (cons a nil)) ws) v h e = let q : _≡_ {A = ℕ} 0 1 = cc in absurd (omega arith)
-applied-narrow y (cons (tuple (cons a (cons b nil))) ws) v h e =
-    go (sameValue a y) e (λ f. applied-narrow y ws v (and-right (narrow (tuple (cons a (cons b nil)))) (allNarrow ws) h) f)
-  where
-    go : (t : Bool) → cond t (found b) (applyValue y ws) ≡ found v → (applyValue y ws ≡ found v → narrow v ≡ true) → narrow v ≡ true
-    go true f k = let q : b ≡ v = cc in rw (← q) (and-left (narrow b) true (and-right (narrow a) _ (and-left (narrow (tuple (cons a (cons b nil)))) (allNarrow ws) h)))
-    go false f k = k f
-applied-narrow y (cons (tuple (cons a (cons b (cons c d)))) ws) v h e = let q : _≡_ {A = ℕ} 0 1 = cc in absurd (omega arith)
+member-narrow : {w : Value} {vs : Values} → allNarrow vs ≡ true → Among w vs → narrow w ≡ true
+unfolding narrow
+member-narrow {w = w} h (here {vs = vs}) = and-left (narrow w) (allNarrow vs) h
+member-narrow h (later {v = v} {vs = vs} m) = member-narrow (and-right (narrow v) (allNarrow vs) h) m
 
-applied-short : (y : Value) (vs : Values) (v : Value) → applyValue y vs ≡ found v → length (encode v) ≤ length (encodes vs)
-unfolding applyValue encode
-applied-short y nil v e = let q : _≡_ {A = ℕ} 0 1 = cc in absurd (omega arith)
-applied-short y (cons (int z) ws) v e = let q : _≡_ {A = ℕ} 0 1 = cc in absurd (omega arith)
-applied-short y (cons (element g k) ws) v e = let q : _≡_ {A = ℕ} 0 1 = cc in absurd (omega arith)
-applied-short y (cons (set vs) ws) v e = let q : _≡_ {A = ℕ} 0 1 = cc in absurd (omega arith)
-applied-short y (cons (tuple nil) ws) v e = let q : _≡_ {A = ℕ} 0 1 = cc in absurd (omega arith)
-applied-short y (cons (tuple (cons a nil)) ws) v e = let q : _≡_ {A = ℕ} 0 1 = cc in absurd (omega arith)
-applied-short y (cons (tuple (cons a (cons b nil))) ws) v e = go (sameValue a y) e (λ f. applied-short y ws v f)
-  where
-    go : (t : Bool) → cond t (found b) (applyValue y ws) ≡ found v → (applyValue y ws ≡ found v → length (encode v) ≤ length (encodes ws)) → length (encode v) ≤ length (encodes (cons (tuple (cons a (cons b nil))) ws))
-    go true f k =
-        let q : b ≡ v = cc in
-        rw (← q) (omega (arith, length-append (encode a ++ (encode b ++ [])) (encodes ws), length-append (encode a) (encode b ++ []), length-append (encode b) []))
-    go false f k = omega (arith, k f, length-append (encode a ++ (encode b ++ [])) (encodes ws))
-applied-short y (cons (tuple (cons a (cons b (cons c d)))) ws) v e = let q : _≡_ {A = ℕ} 0 1 = cc in absurd (omega arith)
+second-narrow : (x z : Value) → narrow (pair x z) ≡ true → narrow z ≡ true
+unfolding narrow
+second-narrow x z h = and-left (narrow z) true (and-right (narrow x) _ h)
 
 -- the answer on a value's words says what Apply gives
 module _ (k : ℕ) (x y : Value) (r : Worked) (hs : length (encode x) ≤ 64) (hn : narrow x ≡ true) where
-  image-found : (vs : Values) (i : Image) → applyValue y vs ≡ i → allNarrow vs ≡ true → length (encode (set vs)) ≤ 64 → (at len : ℕ) → Shows (encode (set vs)) (Found at len) i
+  image-found : (vs : Values) (i : Image) → Finds y vs i → allNarrow vs ≡ true → length (encode (set vs)) ≤ 64 → (at len : ℕ) → Shows (encode (set vs)) (Found at len) i
       → r .number ≡ 0 → r .held ≡ words (take len (drop at (encode (set vs)))) → Told Valued r (image k i >>= λ v. keep k v)
-  unfolding image encode
-  image-found vs (found v) e h g at len s z w =
-      at-pure _ _ (keep-fine k v r z (record { words = w ∙ ap words s; short = omega (arith, applied-short y vs v e); narrow = applied-narrow y vs v h e }))
-  image-found vs misfit e h g at len s z w = absurd s
-  image-found vs undefined e h g at len s z w = absurd s
+  unfolding image wordCount
+  image-found vs (found v) (findsOne i) h g at len s z w =
+      let m = found-among i in
+      at-pure _ _ (keep-fine k v r z (record { words = w ∙ ap words s; short = omega (arith, applied-words i); narrow = second-narrow (m .0) v (member-narrow h (m .1 .1)) }))
+  image-found vs misfit f h g at len s z w = absurd s
+  image-found vs undefined f h g at len s z w = absurd s
 
   image-misfit : (vs : Values) (i : Image) → Shows (encode (set vs)) Sets.Misfit i → Stops r 51 k → Told Valued r (image k i >>= λ v. keep k v)
   unfolding image
@@ -257,7 +231,7 @@ module _ (k : ℕ) (x y : Value) (r : Worked) (hs : length (encode x) ≤ 64) (h
       go (set vs) q =
           let s : Shows (encode (set vs)) (Found at len) (applyValue y vs) =
           subst (λ (a : Applied). Shows (encode (set vs)) a (applyValue y vs)) (sym (e ∙ ap (λ (t : Value). apply (encode t) (encode y)) q)) (apply-value vs y (rw q at hs)) in
-          at-pure _ _ (image-found vs (applyValue y vs) refl (rw q at hn) (rw q at hs) at len s z (rw q at w))
+          at-pure _ _ (image-found vs (applyValue y vs) (finds y vs) (rw q at hn) (rw q at hs) at len s z (rw q at w))
       go (tuple vs) q = let f : _≡_ {A = ℕ} 0 1 = cc (ap (λ (t : Value). apply (encode t) (encode y)) q) in absurd (omega arith)
 
   pub apply-misfit : Sets.Misfit ≡ apply (encode x) (encode y) → Stops r 51 k → Told Valued r (imageOf k x y)

@@ -5,9 +5,9 @@ use mathlib.Core.List.{List, [], _++_, append-nil}
 use Prim.Native.Nat.{ℕ, _≤_, _<_}
 use lib.IntN.{ℤ}
 use borrow.Author.Tests.{le-leb, lt-leb, eq-eqb, ne-eqb}
-use Rattle.values.specs.Value.{Value, int, element, Values}
+use Rattle.values.specs.Value.{Value, int, element, Values, nil, cons, count}
 use Rattle.values.specs.Value as Value
-use Rattle.values.specs.SetValues.{insertValue, found, misfit, undefined, applyValue}
+use Rattle.values.specs.SetValues.{insertValue}
 use Rattle.values_integers.specs.declared.integer.Integer.the-variants.{Whole, Undefined, Outside}
 use Rattle.reader_rules.specs.Tree.{Expr, Exprs, none, more, exprNode, Operator}
 use Rattle.evaluator_rules.specs.WordCount.{wordCount}
@@ -15,9 +15,11 @@ use Rattle.evaluator_rules.specs.Outcomes.{Event, Outcome, done, stopped
 use Rattle.evaluator_rules.specs.Environment.{Environment, valued, generic, unknown, lookup, refer}
 use Rattle.evaluator_rules.specs.Operations.{asInteger, asSet, asSets, asTuple, addIf, add, image, findPair, keepInteger, calculate, countIf, sameCount}
 use Rattle.evaluator_rules.specs.Rules.{testExpr, amongMembers}
+use Rattle.evaluator_rules.specs.Applications.{SomeNoPair, Images}
 use Rattle.evaluator_rules.specs.Listing
 use Rattle.evaluator_rules.specs.Listing.{Result, gives, stops, NoInteger, NoSet, NoTuple, SomeNoSet, thisNoSet, laterNoSet, AllSets, noSets, oneSet, Enters, entered, tooLong, Another}
 use Rattle.evaluator_rules.proofs.Assignments.{bind-assoc}
+use Rattle.evaluator_rules.proofs.Images.{misfit-where, found-where, undefined-where}
 
 pub data Comes {A : Type 0} : Outcome A → List Event → Result A → Type 0 where
   finished : {t : List Event} {a : A} → Comes (done t a) t (gives a)
@@ -126,17 +128,17 @@ pub refer-valued : (n i : ℕ) (scope : Environment) (v : Value) {t : List Event
 unfolding refer
 refer-valued n i scope v e h = rw e (enters-comes h)
 
-pub pair-found : (n : ℕ) (a v : Value) (vs : Values) → applyValue a vs ≡ found v → Comes (findPair n a vs) [] (gives v)
+pub pair-found : (n : ℕ) (a v : Value) (vs : Values) → Images a vs (cons v nil) → Comes (findPair n a vs) [] (gives v)
 unfolding findPair image
-pair-found n a v vs e = rw e finished
+pair-found n a v vs i = rw (found-where i) finished
 
-pub pair-misfit : (n : ℕ) (a : Value) (vs : Values) → applyValue a vs ≡ misfit → Comes (findPair n a vs) [] (stops 51 n)
+pub pair-misfit : (n : ℕ) (a : Value) (vs : Values) → SomeNoPair vs → Comes (findPair n a vs) [] (stops 51 n)
 unfolding findPair image
-pair-misfit n a vs e = rw e ceased
+pair-misfit n a vs s = rw (misfit-where a s) ceased
 
-pub pair-none : (n : ℕ) (a : Value) (vs : Values) → applyValue a vs ≡ undefined → Comes (findPair n a vs) [] (stops 52 n)
+pub pair-not-one : (n : ℕ) (a : Value) (vs zs : Values) → Images a vs zs → (count zs ≡ 1 → ⊥) → Comes (findPair n a vs) [] (stops 52 n)
 unfolding findPair image
-pair-none n a vs e = rw e ceased
+pair-not-one n a vs zs i h = rw (undefined-where i h) ceased
 
 pub whole : (n : ℕ) (o : Operator) (j k z : ℤ) {t : List Event} {r : Result Value} → calculate o j k ≡ Whole z → Enters n (int z) t r → Comes (keepInteger n (calculate o j k)) t r
 unfolding keepInteger

@@ -14,7 +14,7 @@ use Rattle.values_integers.specs.Integer as Integers
 use Rattle.values.specs.Value.{Value, int, element, Values, nil, cons, count}
 use Rattle.values.specs.Value as Value
 use Rattle.values.specs.WellFormed.{ascends, wellFormed, allWellFormed}
-use Rattle.values.specs.SetValues.{sameValue, insertValue, Image, found, misfit, undefined, applyValue}
+use Rattle.values.specs.SetValues.{insertValue, Image}
 use Rattle.values_integers.specs.declared.integer.Integer.{Integer}
 use Rattle.values_integers.specs.declared.integer.Integer.the-variants.{Whole, Undefined, Outside}
 use Rattle.words.proofs.Loops.{and-left, and-right}
@@ -34,8 +34,10 @@ use Rattle.evaluator_rules.specs.Environment.{Environment, empty, bind, 
 use Rattle.evaluator_rules.specs.Operations.{asInteger, asSet, asSets, asTuple, addIf, add, image, findPair, keepInteger, calculate, connect, allPass, countIf, sameCount}
 use Rattle.evaluator_rules.specs.Assignments.{Domains, noMore, domain, domains, Flow, go, halt, Body, next, each, assign, flowOf, gathered}
 use Rattle.evaluator_rules.specs.Rules.{amongMembers, stopInclude, evalExpr, evalExprs, evalMembers, evalPred, overText, evalLines, testExpr, testExprs}
+use Rattle.evaluator_rules.specs.Applications.{pair, Among, here, later}
 use Rattle.evaluator_rules.specs.Claims as Claims
 use Rattle.evaluator_rules.specs.Claims.{entry, Good, finished, Formed}
+use Rattle.evaluator_rules.proofs.Images.{Finds, misfits, findsOne, findsNotOne, finds, found-among}
 use Rattle.evaluator_rules.proofs.Outcomes.{bind-good, pure-good, stop-good, choose-good}
 
 -- ---- integers of 32 bits
@@ -182,38 +184,23 @@ module _ (size : ℕ → ℕ) where
       go true = pure-good (insert-wellFormed size vs v g h)
       go false = stop-good tt
 
-  abbrev Imaged : Image → Type 0
-  Imaged (found v) = Proper v
-  Imaged misfit = Unit {0}
-  Imaged undefined = Unit {0}
+  member-formed : {w : Value} {vs : Values} → AllFormed vs → Among w vs → Proper w
+  unfolding wellFormed
+  member-formed {w = w} h here = and-left (wellFormed size w) _ h
+  member-formed h (later {v = v} m) = member-formed (and-right (wellFormed size v) _ h) m
 
-  apply-formed : (a : Value) (vs : Values) → AllFormed vs → Imaged (applyValue a vs)
-  unfolding applyValue wellFormed
-  apply-formed a nil h = tt
-  apply-formed a (cons (int z) ws) h = tt
-  apply-formed a (cons (element g k) ws) h = tt
-  apply-formed a (cons (Value.set vs) ws) h = tt
-  apply-formed a (cons (Value.tuple nil) ws) h = tt
-  apply-formed a (cons (Value.tuple (cons x nil)) ws) h = tt
-  apply-formed a (cons (Value.tuple (cons x (cons y nil))) ws) h =
-      go (sameValue x a) (apply-formed a ws (and-right (wellFormed size (Value.tuple (cons x (cons y nil)))) _ h))
-    where
-      parts : AllFormed (cons x (cons y nil))
-      parts = and-left (allWellFormed size (cons x (cons y nil))) _ (and-left (wellFormed size (Value.tuple (cons x (cons y nil)))) _ h)
-
-      go : (b : Bool) → Imaged (applyValue a ws) → Imaged (cond b (found y) (applyValue a ws))
-      go true r = and-left (wellFormed size y) _ (and-right (wellFormed size x) _ parts)
-      go false r = r
-  apply-formed a (cons (Value.tuple (cons x (cons y (cons z r)))) ws) h = tt
+  second-formed : (x z : Value) → Proper (pair x z) → Proper z
+  unfolding wellFormed
+  second-formed x z h = and-left (wellFormed size z) _ (and-right (wellFormed size x) _ (and-left (allWellFormed size (cons x (cons z nil))) _ h))
 
   pair-formed : (n : ℕ) (a : Value) (vs : Values) → AscendingSet vs → Keeps Proper (findPair n a vs)
   unfolding findPair image
-  pair-formed n a vs h = go (applyValue a vs) (apply-formed a vs (members-of vs h))
+  pair-formed n a vs h = go (finds a vs)
     where
-      go : (i : Image) → Imaged i → Keeps Proper (image n i)
-      go (found v) r = pure-good r
-      go misfit r = stop-good tt
-      go undefined r = stop-good tt
+      go : {i : Image} → Finds a vs i → Keeps Proper (image n i)
+      go (misfits s) = stop-good tt
+      go (findsOne {v = v} i) = let r = found-among i in pure-good (second-formed (r .0) v (member-formed (members-of vs h) (r .1 .1)))
+      go (findsNotOne i e) = stop-good tt
 
   whole-formed : (n : ℕ) (i : Integer) → In32 i → Keeps Proper (keepInteger n i)
   unfolding keepInteger wellFormed

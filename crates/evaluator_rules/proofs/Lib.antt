@@ -5,10 +5,10 @@ pub mod StateWords
 pub mod StatePlace
 pub mod RunFindings
 pub mod RuleLaws
+pub mod Images
 pub mod FormedState
 pub mod FormedRules
 pub mod FormedRun
-pub mod LowestPair
 pub mod Assignments
 pub mod Said
 pub mod ListingSaid
@@ -19,6 +19,7 @@ pub mod OperandValues
 pub mod EvaluationLists
 pub mod MemberTests
 pub mod TroublesFound
+pub mod OnlyPair
 pub mod TroublesCome
 pub mod TroublesWithin
 pub mod TroubleRuns

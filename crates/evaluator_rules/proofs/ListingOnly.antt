@@ -21,7 +21,7 @@ use Rattle.evaluator_rules.proofs.RuleLaws.{not-run}
 use Rattle.evaluator_rules.proofs.Assignments.{over, assign-over}
 use Rattle.evaluator_rules.proofs.Said.{filtered, mapped}
 use Rattle.evaluator_rules.proofs.Comes.{Comes, finished, ceased, on, last, off, assoc-comes, enters-comes, no-integer, no-set, some-no-set, all-sets, no-tuple, no-number, added, too-much, same-count, other-count}
-use Rattle.evaluator_rules.proofs.Comes.{refer-unknown, refer-generic, refer-actuals, refer-valued, pair-found, pair-misfit, pair-none, whole, no-result, past-32, worked-anew}
+use Rattle.evaluator_rules.proofs.Comes.{refer-unknown, refer-generic, refer-actuals, refer-valued, pair-found, pair-misfit, pair-not-one, whole, no-result, past-32, worked-anew}
 
 not-run-comes : (a : Expr) (scope : Environment) → NotRun a → Comes (evalExpr a scope) [] (stops 54 (exprNode a))
 not-run-comes a scope h = rw (not-run a h scope) ceased
@@ -171,7 +171,7 @@ works-comes (Listing.functionStops h) b = off _ (b .0 .works _ _ _ h)
 works-comes (Listing.argumentStops h k) b = on _ (b .0 .works _ _ _ h) (off _ (b .1 .works _ _ _ k))
 works-comes (Listing.noFunction {n = n} {x = x} h k d) b = on _ (b .0 .works _ _ _ h) (last _ (b .1 .works _ _ _ k) (off _ (no-set n x d)))
 works-comes (Listing.noPair {n = n} {vs = vs} {y = y} h k e) b = on _ (b .0 .works _ _ _ h) (last _ (b .1 .works _ _ _ k) (on _ finished (off _ (pair-misfit n y vs e))))
-works-comes (Listing.noneFound {n = n} {vs = vs} {y = y} h k e) b = on _ (b .0 .works _ _ _ h) (last _ (b .1 .works _ _ _ k) (on _ finished (off _ (pair-none n y vs e))))
+works-comes (Listing.notOne {n = n} {vs = vs} {zs = zs} {y = y} h k i e) b = on _ (b .0 .works _ _ _ h) (last _ (b .1 .works _ _ _ k) (on _ finished (off _ (pair-not-one n y vs zs i e))))
 works-comes (Listing.applied {n = n} {vs = vs} {y = y} {v = v} h k e j) b = on _ (b .0 .works _ _ _ h) (on _ (b .1 .works _ _ _ k) (on _ finished (on _ (pair-found n y v vs e) (enters-comes j))))
 works-comes (Listing.leftStops h) b = off _ (b .0 .works _ _ _ h)
 works-comes (Listing.rightStops h k) b = on _ (b .0 .works _ _ _ h) (off _ (b .1 .works _ _ _ k))

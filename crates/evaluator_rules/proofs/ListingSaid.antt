@@ -9,7 +9,7 @@ use lib.IntN.{ℤ}
 use lib.Dec.{eqb}
 use borrow.Author.Tests.{eqb-true, eq-eqb}
 use Rattle.values.specs.Value.{Value, int, Values, nil, cons, count}
-use Rattle.values.specs.SetValues.{Image, found, misfit, undefined, applyValue}
+use Rattle.values.specs.SetValues.{Image}
 use Rattle.values_integers.specs.declared.integer.Integer.{Integer}
 use Rattle.values_integers.specs.declared.integer.Integer.the-variants.{Whole, Undefined, Outside}
 use Rattle.reader_rules.specs.Tree.{Connective, and, or, implies, Quantifier, forall, exists}
@@ -23,8 +23,10 @@ use Rattle.evaluator_rules.specs.Operations.{add, image, findPair, keepI
 use Rattle.evaluator_rules.specs.Assignments.{Domains, Flow, go, halt, Body, next, assign, flowOf, truthOf, gathered}
 use Rattle.evaluator_rules.specs.Rules.{amongMembers, stopInclude, evalExpr, evalExprs, evalMembers, evalPred, evalLines, testExpr, testExprs}
 use Rattle.evaluator_rules.specs.Claims.{noIntegers, noSelect, noTheta, noSchemaSet}
+use Rattle.evaluator_rules.specs.Applications.{SomeNoPair, Images}
 use Rattle.evaluator_rules.specs.Listing
 use Rattle.evaluator_rules.specs.Listing.{Result, gives, stops, Another, Works, WorksAll, Fills, Tells, Declares, Gathers, Quantifies, Tests, TestsMembers, TestsParts, deciding, decided, stopsAt, assignments}
+use Rattle.evaluator_rules.proofs.Images.{Finds, misfits, findsOne, findsNotOne, finds}
 use Rattle.evaluator_rules.proofs.Assignments.{over, assign-over}
 use Rattle.evaluator_rules.proofs.Said.{filtered, mapped, Says, pure-says, stop-says, bind-says, truth-says, other-says, assoc-says, silent-says, go-says, keep-says, integer-says, set-says, sets-say, tuple-says, add-says}
 
@@ -38,12 +40,15 @@ refer-says n i (more a xs) scope t vs generic e h = stop-says (rw append-nil (Li
 refer-says n i none scope t vs unknown e h = stop-says (rw append-nil (Listing.nameUnknown h e))
 refer-says n i (more a xs) scope t vs unknown e h = stop-says (rw append-nil (Listing.nameUnknown h e))
 
-image-says : {B : Type 0} (n : ℕ) (i : Image) {Q : List Event → Result B → Type 0} (f : Value → Outcome B)
-    → ((v : Value) → i ≡ found v → Says Q (f v)) → (i ≡ misfit → Q [] (stops 51 n)) → (i ≡ undefined → Q [] (stops 52 n)) → Says Q (image n i >>= f)
-unfolding image _>>=_
-image-says n (found v) f k l m = silent-says v f (k v refl)
-image-says n misfit f k l m = stop-says (l refl)
-image-says n undefined f k l m = stop-says (m refl)
+pair-says : {B : Type 0} (n : ℕ) (a : Value) (vs : Values) {Q : List Event → Result B → Type 0} (f : Value → Outcome B)
+    → ((v : Value) → Images a vs (cons v nil) → Says Q (f v)) → (SomeNoPair vs → Q [] (stops 51 n)) → ((zs : Values) → Images a vs zs → (count zs ≡ 1 → ⊥) → Q [] (stops 52 n)) → Says Q (findPair n a vs >>= f)
+unfolding findPair image _>>=_
+pair-says n a vs {Q = Q} f k l m = go (finds a vs)
+  where
+    go : {i : Image} → Finds a vs i → Says Q (image n i >>= f)
+    go (misfits s) = stop-says (l s)
+    go (findsOne {v = v} i) = silent-says v f (k v i)
+    go (findsNotOne {zs = zs} i h) = stop-says (m zs i h)
 
 whole-says : (n : ℕ) (i : Integer) {Q : List Event → Result Value → Type 0} → ((z : ℤ) → i ≡ Whole z → Says Q (keep n (int z))) → (i ≡ Undefined → Q [] (stops 52 n)) → (i ≡ Outside → Q [] (stops 53 n)) → Says Q (keepInteger n i)
 unfolding keepInteger
@@ -143,7 +148,7 @@ comprehension-says n _ a (textSays {p = p} says lines) works scope =
     (λ t w m h. Listing.setsStop h))
 
 mutual
-  unfolding evalExpr exprNode findPair stopInclude exprsLength count
+  unfolding evalExpr exprNode stopInclude exprsLength count
 
   pub expr-says : (a : Expr) (scope : Environment) → Says (Works a scope) (evalExpr a scope)
   expr-says (reference n i xs) scope = bind-says (exprs-says xs scope) (λ t vs h. refer-says n i xs scope t vs _ refl h) (λ t w m h. Listing.actualsStop h)
@@ -159,7 +164,7 @@ mutual
       bind-says (expr-says f scope)
       (λ t x h. bind-says (expr-says a scope)
       (λ u y k. set-says n x _
-      (λ vs e. image-says n (applyValue y vs) _ (λ v g. keep-says n v (λ l r j. Listing.applied (rw e at h) k g j)) (λ g. rw append-nil (Listing.noPair (rw e at h) k g)) (λ g. rw append-nil (Listing.noneFound (rw e at h) k g)))
+      (λ vs e. pair-says n y vs _ (λ v g. keep-says n v (λ l r j. Listing.applied (rw e at h) k g j)) (λ g. rw append-nil (Listing.noPair (rw e at h) k g)) (λ zs g o. rw append-nil (Listing.notOne (rw e at h) k g o)))
       (λ no. rw append-nil (Listing.noFunction h k no)))
       (λ u w m k. Listing.argumentStops h k))
       (λ t w m h. Listing.functionStops h)

@@ -7,17 +7,14 @@ use native.Mathlib.Nat.{mod-lt, zero-lt-suc}
 use lib.IntN.{ℤ, pos, negsuc}
 use Rattle.values_integers.specs.Integer.{remainder, byDivisor, floorMod}
 use Rattle.values_integers.specs.declared.integer.Integer.the-variants.{Whole}
-use Rattle.values.specs.Value.{Value, tuple, Values, nil, cons, encode}
-use Rattle.values.specs.SetValues.{sameValue, applyValue}
-use Rattle.values.proofs.Equality.{equal-same}
 use Rattle.reader_rules.specs.Tree.{Expr, exprNode, Paragraph, abbreviation}
 use Rattle.reader_rules.specs.Tree as Tree
 use Rattle.states_rules.specs.States.{State}
-use Rattle.evaluator_rules.specs.Outcomes.{Event, Outcome, done, stopped, after, _>>=_, pure, stop}
+use Rattle.evaluator_rules.specs.Outcomes.{Event, done, stopped, after, _>>=_, stop}
 use Rattle.evaluator_rules.specs.Environment.{Environment}
-use Rattle.evaluator_rules.specs.Operations.{image, findPair, calculate}
+use Rattle.evaluator_rules.specs.Operations.{calculate}
 use Rattle.evaluator_rules.specs.Rules.{evalExpr}
-use Rattle.evaluator_rules.specs.Paragraphs.{Step, onward, then, runParagraph, runParagraphs}
+use Rattle.evaluator_rules.specs.Paragraphs.{onward, then, runParagraph, runParagraphs}
 use Rattle.evaluator_rules.specs.Claims.{NotRun, noIntegers, noSelect, noTheta, noSchemaSet}
 
 -- "As values ℤ, .. Select, Theta, SchemaSet .. are 54 before their operands"
@@ -33,11 +30,6 @@ pub mod-within : (a : ℤ) (d : ℕ) → (r : ℕ) × ((calculate Tree.remainder
 unfolding calculate remainder byDivisor floorMod
 mod-within (pos a) d = (a % suc d, (refl, mod-lt a (zero-lt-suc d)))
 mod-within (negsuc a) d = (suc d - suc (a % suc d), (refl, omega arith))
-
--- "Apply takes the lowest pair whose first part equals the argument"
-pub apply-lowest : (n : ℕ) (a v : Value) (vs : Values) → findPair n a (cons (tuple (cons a (cons v nil))) vs) ≡ pure v
-unfolding findPair image applyValue sameValue
-apply-lowest n a v vs = rw (equal-same (encode a) (encode a) refl) refl
 
 -- "Abbreviation without parameters is worked out", used or not (R27)
 pub abbreviation-stops : (n i : ℕ) (a : Expr) (state : State) (scope : Environment) {t : List Event} {number node : ℕ}

@@ -102,7 +102,7 @@ misfit-placed (Troubles.noSetAnew {scope = scope} o g d) = anew-placed scope o g
 
 none-placed : {t : Evaluation} {m : ℕ} → NoResult t m → PlacedEvaluation 52 m t
 unfolding PlacedEvaluation PlacedExpr has
-none-placed (Troubles.noneFound g h d) = inl (refl, refl)
+none-placed (Troubles.notOne g h i d) = inl (refl, refl)
 none-placed (Troubles.noDivisor g h d e) = inl (refl, none-listed d)
 
 outside-placed : {t : Evaluation} {m : ℕ} → PastBits t m → PlacedEvaluation 53 m t

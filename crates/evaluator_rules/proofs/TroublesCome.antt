@@ -15,7 +15,7 @@ use Rattle.evaluator_rules.specs.Evaluations
 use Rattle.evaluator_rules.specs.Evaluations.{Stops, broke, Evaluation, StopsAt, Operand, Adding, Gathering, Trying, EachMember, EachPart, Reaches}
 use Rattle.evaluator_rules.specs.Troubles
 use Rattle.evaluator_rules.specs.Troubles.{Row, row51, row52, row53, row54, row55}
-use Rattle.evaluator_rules.proofs.OperandValues.{met-misfit, none-undefined, undefined-by, outside-by}
+use Rattle.evaluator_rules.proofs.OperandValues.{undefined-by, outside-by}
 use Rattle.evaluator_rules.proofs.EvaluationLists.{Some, value-said, value-stop, value-stops, values-said, truth-said, truth-stop, truth-stops, sets-said, sets-stop, sets-stops, test-said, test-stop, test-stops}
 
 -- ---- lists of expressions, assignments, members and parts: what comes at the next one comes of the whole list
@@ -92,7 +92,7 @@ unfolding StopsAt
 misfit-stops (Troubles.nameUnknown {n = n} {i = i} {xs = xs} {scope = scope} g e) = value-stops (reference n i xs) scope (Listing.nameUnknown (values-said xs scope g .1) e)
 misfit-stops (Troubles.actualsOnName {n = n} {i = i} {a = a} {xs = xs} {scope = scope} g e) = value-stops (reference n i (more a xs)) scope (Listing.nameWithActuals (values-said (more a xs) scope g .1) e)
 misfit-stops (Troubles.noFunction {n = n} {f = f} {a = a} {scope = scope} g h d) = value-stops (application n f a) scope (Listing.noFunction (value-said f scope g .1) (value-said a scope h .1) d)
-misfit-stops (Troubles.noPair {n = n} {f = f} {a = a} {scope = scope} g h d) = value-stops (application n f a) scope (Listing.noPair (value-said f scope g .1) (value-said a scope h .1) (met-misfit d))
+misfit-stops (Troubles.noPair {n = n} {f = f} {a = a} {scope = scope} g h d) = value-stops (application n f a) scope (Listing.noPair (value-said f scope g .1) (value-said a scope h .1) d)
 misfit-stops (Troubles.noBase {n = n} {a = a} {scope = scope} g d) = value-stops (power n a) scope (Listing.noBase (value-said a scope g .1) d)
 misfit-stops (Troubles.noFactor {n = n} {xs = xs} {scope = scope} g d) = value-stops (product n xs) scope (Listing.noFactor (values-said xs scope g .1) d)
 misfit-stops (Troubles.noNumber {n = n} {o = o} {a = a} {b = b} {scope = scope} g h d) = value-stops (arithmetic n o a b) scope (Listing.noNumber (value-said a scope g .1) (value-said b scope h .1) d)
@@ -106,7 +106,7 @@ misfit-stops (Troubles.noSetAnew {a = a} {v = v} {scope = scope} o g d) = test-s
 
 none-stops : {t : Evaluation} {m : ℕ} → Troubles.NoResult t m → StopsAt t 52 m
 unfolding StopsAt
-none-stops (Troubles.noneFound {n = n} {f = f} {a = a} {scope = scope} g h d) = value-stops (application n f a) scope (Listing.noneFound (value-said f scope g .1) (value-said a scope h .1) (none-undefined d))
+none-stops (Troubles.notOne {n = n} {f = f} {a = a} {scope = scope} g h i d) = value-stops (application n f a) scope (Listing.notOne (value-said f scope g .1) (value-said a scope h .1) i d)
 none-stops (Troubles.noDivisor {n = n} {o = o} {a = a} {b = b} {j = j} {k = k} {scope = scope} g h d e) =
     value-stops (arithmetic n o a b) scope (Listing.noResult (value-said a scope g .1) (value-said b scope h .1) (undefined-by j k d e))
 

@@ -20,7 +20,8 @@ use Rattle.evaluator_rules.specs.Evaluations
 use Rattle.evaluator_rules.specs.Evaluations.{Gives, Stops, broke, Evaluation, working, telling, testing, declaring, including, StopsAt, RoomFor, Operand, Adding, Gathering, Trying, EachMember, EachPart, Reaches}
 use Rattle.evaluator_rules.specs.Troubles
 use Rattle.evaluator_rules.specs.Troubles.{Row, row51, row52, row53, row54, row55, Below}
-use Rattle.evaluator_rules.proofs.OperandValues.{no-pair-met, none-found, applied-words, no-divisor, exceeds}
+use Rattle.evaluator_rules.proofs.Images.{applied-words}
+use Rattle.evaluator_rules.proofs.OperandValues.{no-divisor, exceeds}
 use Rattle.evaluator_rules.proofs.EvaluationLists.{value-stop, value-comes, value-stops, values-come, truth-stop, truth-comes, truth-stops, sets-stop, sets-come, sets-stops, test-stop, test-comes, test-stops}
 
 -- ---- lists of expressions, assignments, members and parts
@@ -167,9 +168,9 @@ works-found (Listing.aProduct {xs = xs} h e (Listing.tooLong l)) = inr (row55 (T
 works-found (Listing.functionStops {f = f} h) = below Evaluations.function (value-stops f _ h)
 works-found (Listing.argumentStops {f = f} {a = a} h k) = below (Evaluations.argument (value-comes f _ h)) (value-stops a _ k)
 works-found (Listing.noFunction {f = f} {a = a} h k d) = inr (row51 (Troubles.noFunction (value-comes f _ h) (value-comes a _ k) d))
-works-found (Listing.noPair {f = f} {a = a} {vs = vs} {y = y} h k e) = inr (row51 (Troubles.noPair (value-comes f _ h) (value-comes a _ k) (no-pair-met y vs e)))
-works-found (Listing.noneFound {f = f} {a = a} {vs = vs} {y = y} h k e) = inr (row52 (Troubles.noneFound (value-comes f _ h) (value-comes a _ k) (none-found y vs e)))
-works-found (Listing.applied {vs = vs} {y = y} {v = v} h k e (Listing.tooLong l)) = let n = value-short h in let q = applied-words y v vs e in absurd (omega arith)
+works-found (Listing.noPair {f = f} {a = a} h k s) = inr (row51 (Troubles.noPair (value-comes f _ h) (value-comes a _ k) s))
+works-found (Listing.notOne {f = f} {a = a} h k i e) = inr (row52 (Troubles.notOne (value-comes f _ h) (value-comes a _ k) i e))
+works-found (Listing.applied h k i (Listing.tooLong l)) = let n = value-short h in let q = applied-words i in absurd (omega arith)
 works-found (Listing.leftStops {a = a} h) = below Evaluations.leftNumber (value-stops a _ h)
 works-found (Listing.rightStops {a = a} {b = b} h k) = below (Evaluations.rightNumber (value-comes a _ h)) (value-stops b _ k)
 works-found (Listing.noNumber {a = a} {b = b} h k d) = inr (row51 (Troubles.noNumber (value-comes a _ h) (value-comes b _ k) d))

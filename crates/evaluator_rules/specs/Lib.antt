@@ -8,6 +8,7 @@ pub mod Rules
 pub mod Paragraphs
 pub mod Run
 pub mod Claims
+pub mod Applications
 pub mod Listing
 pub mod ListingRun
 pub mod Evaluations

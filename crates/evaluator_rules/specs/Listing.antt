@@ -11,7 +11,7 @@ use lib.IntN.{ℤ, pos}
 use lib.Signed.{leZ}
 use Rattle.values.specs.Value.{Value, int, Values, nil, cons, count}
 use Rattle.values.specs.Value as Value
-use Rattle.values.specs.SetValues.{sameValue, isIn, insertValue, found, misfit, undefined, applyValue}
+use Rattle.values.specs.SetValues.{sameValue, isIn, insertValue}
 use Rattle.values_integers.specs.declared.integer.Integer.the-variants.{Whole, Undefined, Outside}
 use Rattle.enumeration_rules.specs.Enumeration.{subsets, tuples}
 use Rattle.reader_rules.specs.Tree.{Connective, and, or, implies, Quantifier, forall, exists, Operator}
@@ -25,6 +25,7 @@ use Rattle.evaluator_rules.specs.Environment.{Environment, bind, valued,
 use Rattle.evaluator_rules.specs.Operations.{calculate}
 use Rattle.evaluator_rules.specs.Assignments.{Domains, noMore, domain, domains}
 use Rattle.evaluator_rules.specs.Claims.{NotRun}
+use Rattle.evaluator_rules.specs.Applications.{SomeNoPair, Images}
 
 -- what comes of it: a value, a truth, ..; or a stop, by a finding's number at a node
 pub data Result (A : Type 0) : Type 0 where
@@ -118,15 +119,16 @@ mutual
     noFactor : {n : ℕ} {xs : Exprs} {scope : Environment} {t : List Event} {vs : Values} → WorksAll xs scope t (gives vs) → SomeNoSet vs → Works (product n xs) scope t (stops 51 n)
     aProduct : {n : ℕ} {xs : Exprs} {scope : Environment} {t u : List Event} {vs : Values} {vss : List Values} {r : Result Value} → WorksAll xs scope t (gives vs) → AllSets vs vss → Enters n (Value.set (tuples vss)) u r
         → Works (product n xs) scope (t ++ u) r
-    -- "Apply takes the lowest pair whose first part equals the argument; members that are not pairs, met before it, are 51; none found is 52"
+    -- "An application has a value only where the relation pairs the argument with exactly one result ..; a member that is not a pair is a misfit wherever it
+    -- stands. Two or more pairs for the argument are 52, as none is, and 51 goes before 52" (document 02, ask 5)
     functionStops : {n : ℕ} {f a : Expr} {scope : Environment} {t : List Event} {w m : ℕ} → Works f scope t (stops w m) → Works (application n f a) scope t (stops w m)
     argumentStops : {n : ℕ} {f a : Expr} {scope : Environment} {t u : List Event} {x : Value} {w m : ℕ} → Works f scope t (gives x) → Works a scope u (stops w m) → Works (application n f a) scope (t ++ u) (stops w m)
     noFunction : {n : ℕ} {f a : Expr} {scope : Environment} {t u : List Event} {x y : Value} → Works f scope t (gives x) → Works a scope u (gives y) → NoSet x → Works (application n f a) scope (t ++ u) (stops 51 n)
-    noPair : {n : ℕ} {f a : Expr} {scope : Environment} {t u : List Event} {vs : Values} {y : Value} → Works f scope t (gives (Value.set vs)) → Works a scope u (gives y) → applyValue y vs ≡ misfit
+    noPair : {n : ℕ} {f a : Expr} {scope : Environment} {t u : List Event} {vs : Values} {y : Value} → Works f scope t (gives (Value.set vs)) → Works a scope u (gives y) → SomeNoPair vs
         → Works (application n f a) scope (t ++ u) (stops 51 n)
-    noneFound : {n : ℕ} {f a : Expr} {scope : Environment} {t u : List Event} {vs : Values} {y : Value} → Works f scope t (gives (Value.set vs)) → Works a scope u (gives y) → applyValue y vs ≡ undefined
+    notOne : {n : ℕ} {f a : Expr} {scope : Environment} {t u : List Event} {vs zs : Values} {y : Value} → Works f scope t (gives (Value.set vs)) → Works a scope u (gives y) → Images y vs zs → (count zs ≡ 1 → ⊥)
         → Works (application n f a) scope (t ++ u) (stops 52 n)
-    applied : {n : ℕ} {f a : Expr} {scope : Environment} {t u l : List Event} {vs : Values} {y v : Value} {r : Result Value} → Works f scope t (gives (Value.set vs)) → Works a scope u (gives y) → applyValue y vs ≡ found v
+    applied : {n : ℕ} {f a : Expr} {scope : Environment} {t u l : List Event} {vs : Values} {y v : Value} {r : Result Value} → Works f scope t (gives (Value.set vs)) → Works a scope u (gives y) → Images y vs (cons v nil)
         → Enters n v l r → Works (application n f a) scope (t ++ (u ++ l)) r
     -- arithmetic: 51 before 52 before 53 (R23)
     leftStops : {n : ℕ} {o : Operator} {a b : Expr} {scope : Environment} {t : List Event} {w m : ℕ} → Works a scope t (stops w m) → Works (arithmetic n o a b) scope t (stops w m)

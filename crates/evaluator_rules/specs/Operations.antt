@@ -50,7 +50,7 @@ addIf false n vs = stop 55 n
 unfoldable pub add : ℕ → Value → Values → Outcome Values
 add n v vs = let r = insertValue v vs in addIf (leb (wordCount (set r)) 64) n r
 
--- Apply: the lowest pair whose first part equals the argument a; a member that is no pair, met before it, is 51; none found is 52
+-- Apply: a member that is no pair is 51; then the one pair whose first part is the argument a gives its second part, and none or more than one is 52
 unfoldable pub image : ℕ → Image → Outcome Value
 image n (found v) = pure v
 image n misfit = stop (applyFinding Applied.Misfit) n

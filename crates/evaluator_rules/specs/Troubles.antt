@@ -7,9 +7,9 @@ use mathlib.Core.List.{List}
 use Prim.Native.Nat.{ℕ, _<_, _≤_}
 use lib.IntN.{ℤ, pos, _+ℤ_, _-ℤ_, _*ℤ_}
 use lib.Signed.{ltZ}
-use Rattle.values.specs.Value.{Value, int, Values, nil, cons, count}
+use Rattle.values.specs.Value.{Value, int, Values, nil, count}
 use Rattle.values.specs.Value as Value
-use Rattle.values.specs.SetValues.{sameValue, insertValue}
+use Rattle.values.specs.SetValues.{insertValue}
 use Rattle.values_integers.specs.Integer.{in32}
 use Rattle.enumeration_rules.specs.Enumeration.{subsets, tuples}
 use Rattle.reader_rules.specs.Tree.{Operator, plus, minus, times, quotient, remainder, Expr, reference, integers, set, tuple, product, power, application}
@@ -27,26 +27,10 @@ use Rattle.evaluator_rules.specs.Rules.{evalExpr, evalExprs, evalPred, e
 use Rattle.evaluator_rules.specs.Paragraphs.{runParagraph}
 use Rattle.evaluator_rules.specs.Run.{runOf, runWorkWords}
 use Rattle.evaluator_rules.specs.Claims.{NotRun, IllFormedState, WellFormedState}
+use Rattle.evaluator_rules.specs.Applications.{SomeNoPair, Images}
 use Rattle.evaluator_rules.specs.Listing.{NoInteger, NoSet, NoTuple, SomeNoSet, AllSets, Another, assignments}
 use Rattle.evaluator_rules.specs.Evaluations.{Gives, Stops, Evaluation, working, telling, testing, declaring, including, StopsAt, Adding, Gathering, Reaches, Within, Begins, BeginsIn}
 use Rattle.evaluator_rules.specs.declared.Finding.the-variants.{Refused}
-
--- ---- Apply: "the lowest pair whose first part equals the argument; members that are not pairs, met before it, are 51; none found is 52"
-abbrev pub pair : Value → Value → Value
-pair x z = Value.tuple (cons x (cons z nil))
-
-abbrev pub NoPair : Value → Type 0
-NoPair v = (x z : Value) → v ≡ pair x z → ⊥
-
--- only pairs, none with the first part y
-pub data NoneFound (y : Value) : Values → Type 0 where
-  noMember : NoneFound y nil
-  otherPair : {x z : Value} {vs : Values} → sameValue x y ≡ false → NoneFound y vs → NoneFound y (cons (pair x z) vs)
-
--- a member that is no pair; before it only pairs, none with the first part y
-pub data NoPairMet (y : Value) : Values → Type 0 where
-  metHere : {v : Value} {vs : Values} → NoPair v → NoPairMet y (cons v vs)
-  metLater : {x z : Value} {vs : Values} → sameValue x y ≡ false → NoPairMet y vs → NoPairMet y (cons (pair x z) vs)
 
 -- ---- arithmetic
 pub data Divides : Operator → Type 0 where
@@ -67,7 +51,8 @@ pub data Misfit : Evaluation → ℕ → Type 0 where
   actualsOnName : {n i : ℕ} {a : Expr} {xs : Exprs} {vs : Values} {v : Value} {scope : Environment} → Gives (evalExprs (more a xs) scope) vs → lookup i scope ≡ valued v
       → Misfit (working (reference n i (more a xs)) scope) n
   noFunction : {n : ℕ} {f a : Expr} {x y : Value} {scope : Environment} → Gives (evalExpr f scope) x → Gives (evalExpr a scope) y → NoSet x → Misfit (working (application n f a) scope) n
-  noPair : {n : ℕ} {f a : Expr} {vs : Values} {y : Value} {scope : Environment} → Gives (evalExpr f scope) (Value.set vs) → Gives (evalExpr a scope) y → NoPairMet y vs
+  -- "a member that is not a pair is a misfit wherever it stands" (document 02, ask 5)
+  noPair : {n : ℕ} {f a : Expr} {vs : Values} {y : Value} {scope : Environment} → Gives (evalExpr f scope) (Value.set vs) → Gives (evalExpr a scope) y → SomeNoPair vs
       → Misfit (working (application n f a) scope) n
   -- "Work out Power and Product as values" (document 02, ask 1): all operands first
   noBase : {n : ℕ} {a : Expr} {x : Value} {scope : Environment} → Gives (evalExpr a scope) x → NoSet x → Misfit (working (power n a) scope) n
@@ -87,7 +72,8 @@ pub data Misfit : Evaluation → ℕ → Type 0 where
 
 -- 52, "undefined"
 pub data NoResult : Evaluation → ℕ → Type 0 where
-  noneFound : {n : ℕ} {f a : Expr} {vs : Values} {y : Value} {scope : Environment} → Gives (evalExpr f scope) (Value.set vs) → Gives (evalExpr a scope) y → NoneFound y vs
+  -- "Two or more pairs for the argument are 52, as none is" (document 02, ask 5)
+  notOne : {n : ℕ} {f a : Expr} {vs zs : Values} {y : Value} {scope : Environment} → Gives (evalExpr f scope) (Value.set vs) → Gives (evalExpr a scope) y → Images y vs zs → (count zs ≡ 1 → ⊥)
       → NoResult (working (application n f a) scope) n
   -- "a mod n .. a div n ..; n < 1 is 52"
   noDivisor : {n : ℕ} {o : Operator} {a b : Expr} {j k : ℤ} {scope : Environment} → Gives (evalExpr a scope) (int j) → Gives (evalExpr b scope) (int k) → Divides o → ltZ k (pos 1) ≡ true

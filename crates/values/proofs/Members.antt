@@ -1,16 +1,18 @@
 -- One turn of each loop over a set's members: n members, i of them passed, the next at the place `at` of s.
-use mathlib.Core.Path.{_≡_}
-use mathlib.Core.Bool.{true, false}
-use mathlib.Core.List.{List}
-use Prim.Native.Nat.{ℕ, _+_, _-_, _≤_, _<_}
+use mathlib.Core.Path.{_≡_, refl}
+use mathlib.Core.Bool.{true, false, cond}
+use mathlib.Core.List.{List, [], _∷_}
+use Prim.Native.Nat.{ℕ, zero, suc, _+_, _-_, _≤_, _<_}
+use native.Mathlib.Omega.{arith}
 use lib.ListN.{drop}
 use lib.Seq.{drop-drop}
 use Rattle.words.proofs.Loops.{turn, none-left}
 use Rattle.values.specs.Order.{compare, same}
 use Rattle.values.specs.Span.{span}
-use Rattle.values.specs.Sets.{first, rest, among, choose, placeFrom, isPair, second, applyFrom}
+use Rattle.values.specs.Sets.{first, rest, among, choose, placeFrom, isPair, arePairs, places, second, onlyPlace}
 use Rattle.values.specs.declared.order.Order.the-variants.{Less, Same, Greater}
 use Rattle.values.specs.declared.sets.Place.the-variants.{At, Already}
+use Rattle.values.specs.declared.sets.Applied.{Applied}
 use Rattle.values.specs.declared.sets.Applied.the-variants.{Misfit, Undefined}
 
 pub rest-at : (s : List ℕ) (at : ℕ) → rest (drop at s) ≡ drop (at + span (drop at s)) s
@@ -46,18 +48,47 @@ module _ (s m : List ℕ) (n i at : ℕ) where
   unfolding placeFrom
   place-end h = rw (none-left n i h)
 
-  pub apply-misfit : i < n → isPair (drop at s) ≡ false → Misfit ≡ applyFrom (n - i) at (drop at s) m
-  unfolding applyFrom
-  apply-misfit h e = rw (turn n i h, applyFrom, e)
+-- What Apply answers where i of n members are passed, the next at the place `at` of f, and `hits` of the passed ones are pairs whose first part is a, the last
+-- of them at the place `hit`.
+unfoldable pub seen : ℕ → ℕ → List ℕ → List ℕ
+seen zero hit more = more
+seen (suc zero) hit more = hit ∷ more
+seen (suc (suc k)) hit more = hit ∷ hit ∷ more
 
-  pub apply-hit : i < n → isPair (drop at s) ≡ true → same (first (drop 2 (drop at s))) m ≡ true → second at (drop 2 (drop at s)) ≡ applyFrom (n - i) at (drop at s) m
-  unfolding applyFrom
-  apply-hit h e f = rw (turn n i h, applyFrom, e, f)
+unfoldable pub applyFrom : List ℕ → List ℕ → ℕ → ℕ → ℕ → ℕ → Applied
+applyFrom f a left at hits hit = cond (arePairs left (drop at f)) (onlyPlace f (seen hits hit (places left at (drop at f) a))) Misfit
 
-  pub apply-go : i < n → isPair (drop at s) ≡ true → same (first (drop 2 (drop at s))) m ≡ false → (k : ℕ) → k ≡ span (drop at s) → applyFrom (n - i) at (drop at s) m ≡ applyFrom (n - (i + 1)) (at + k) (drop (at + k) s) m
-  unfolding applyFrom
-  apply-go h e f k g = rw (turn n i h, applyFrom, e, f, rest-at s at, g)
+seen-more : (f : List ℕ) (hits hit at : ℕ) (more : List ℕ) → onlyPlace f (seen hits hit (at ∷ more)) ≡ onlyPlace f (seen (suc hits) at more)
+unfolding seen onlyPlace
+seen-more f zero hit at more = refl
+seen-more f (suc zero) hit at more = refl
+seen-more f (suc (suc k)) hit at more = refl
 
-  pub apply-end : n ≤ i → Undefined ≡ applyFrom (n - i) at (drop at s) m
-  unfolding applyFrom
-  apply-end h = rw (none-left n i h)
+module _ (f a : List ℕ) (n i at hits hit : ℕ) where
+  pub apply-misfit : i < n → isPair (drop at f) ≡ false → Misfit ≡ applyFrom f a (n - i) at hits hit
+  unfolding applyFrom arePairs
+  apply-misfit h e = rw (turn n i h, arePairs, e)
+
+  module _ (h : i < n) (e : isPair (drop at f) ≡ true) (k : ℕ) (g : k ≡ span (drop at f)) where
+    pub apply-hit : same (first (drop 2 (drop at f))) a ≡ true → applyFrom f a (n - i) at hits hit ≡ applyFrom f a (n - (i + 1)) (at + k) (hits + 1) at
+    unfolding applyFrom arePairs places
+    apply-hit t =
+        let q : hits + 1 ≡ suc hits = omega arith in
+        rw (turn n i h, arePairs, places, e, t, rest-at f at, g, q, seen-more f hits hit at (places (n - (i + 1)) (at + span (drop at f)) (drop (at + span (drop at f)) f) a))
+
+    pub apply-go : same (first (drop 2 (drop at f))) a ≡ false → applyFrom f a (n - i) at hits hit ≡ applyFrom f a (n - (i + 1)) (at + k) hits hit
+    unfolding applyFrom arePairs places
+    apply-go t = rw (turn n i h, arePairs, places, e, t, rest-at f at, g)
+
+  pub apply-one : n ≤ i → hits ≡ 1 → second f hit ≡ applyFrom f a (n - i) at hits hit
+  unfolding applyFrom arePairs places seen onlyPlace
+  apply-one h e = rw (none-left n i h, e)
+
+  pub apply-none : n ≤ i → (hits ≡ 1 → ⊥) → Undefined ≡ applyFrom f a (n - i) at hits hit
+  unfolding applyFrom arePairs places seen onlyPlace
+  apply-none h e = rw (none-left n i h) (go hits e)
+    where
+      go : (k : ℕ) → (k ≡ 1 → ⊥) → Undefined ≡ onlyPlace f (seen k hit [])
+      go zero x = refl
+      go (suc zero) x = absurd (x refl)
+      go (suc (suc k)) x = refl

@@ -110,20 +110,21 @@ fn is_pair(w: &[u32]) -> bool
     false
 }
 
-// The second part of the pair at a place, from the words of its first part on.
-fn second(at: usize, w: &[u32]) -> Applied
+// The second part of the pair at a place of f.
+fn second(f: &[u32], at: usize) -> Applied
     requires { ⌜ at < 2 ^ 60 ⌝ }
-    ensures { λ r. ⌜ r ≡ second at (now (w .entry)) ⌝ }
+    ensures { λ r. ⌜ r ≡ second (now (f .entry)) at ⌝ }
 {
-    let k = span(w);
-    let len = span(from(w, k));
+    let parts = from(f, at + HEAD);
+    let k = span(parts);
+    let len = span(from(parts, k));
     Applied::Found {
         at: at + HEAD + k,
         len: len,
     }
 }
 
-// The lowest pair of f whose first part is a.
+// The second part of the one pair of f whose first part is a. Every member is looked at: one that is no pair is a misfit wherever it stands.
 pub fn apply(f: &[u32], a: &[u32]) -> Applied
     ensures { λ r. ⌜ r ≡ apply (now (f .entry)) (now (a .entry)) ⌝ }
 {
@@ -133,18 +134,23 @@ pub fn apply(f: &[u32], a: &[u32]) -> Applied
     let n = word(f, 1);
     let mut at = HEAD;
     let mut i = 0;
+    let mut hits: usize = 0;
+    let mut hit = HEAD;
     while i < n {
         let w = from(f, at);
         if is_pair(w) {
-            let parts = from(w, HEAD);
-            if same(first(parts), a) {
-                return second(at, parts);
+            if same(first(from(w, HEAD)), a) {
+                hits += 1;
+                hit = at;
             }
             at += span(w);
             i += 1;
         } else {
             return Applied::Misfit;
         }
+    }
+    if hits == 1 {
+        return second(f, hit);
     }
     Applied::Undefined
 }
