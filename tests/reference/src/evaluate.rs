@@ -84,23 +84,39 @@ impl Run {
     }
 }
 
-/// Apply takes the lowest pair whose first part equals the argument; members
-/// that are not pairs, met before it, are 51; none found is 52.
+/// Apply has a value where the function pairs the argument with exactly one
+/// result. A function that is no set of pairs is 51; no result, and several,
+/// are 52.
 fn apply(node: NodeNumber, function: &Value, argument: &Value) -> Result<Value, Stop> {
-    let Value::Set(members) = function else {
+    let Some(pairs) = pairs(function) else {
         return trouble(51, node);
     };
-    for member in members {
-        match member {
-            Value::Tuple(parts) if parts.len() == 2 => {
-                if parts[0] == *argument {
-                    return Ok(parts[1].clone());
-                }
-            }
-            _ => return trouble(51, node),
-        }
+    let paired = pairs.into_iter().filter(|(first, _)| *first == argument);
+    let results: Vec<&Value> = paired.map(|(_, second)| second).collect();
+    match results[..] {
+        [result] => Ok(result.clone()),
+        _ => trouble(52, node),
     }
-    trouble(52, node)
+}
+
+/// The members of a set of pairs; nothing where the value is no set, or any
+/// member no pair.
+fn pairs(value: &Value) -> Option<Vec<(&Value, &Value)>> {
+    match value {
+        Value::Set(members) => members.iter().map(pair).collect(),
+        _ => None,
+    }
+}
+
+/// The two parts of a pair; nothing for any other value, longer tuples included.
+fn pair(value: &Value) -> Option<(&Value, &Value)> {
+    match value {
+        Value::Tuple(parts) => match &parts[..] {
+            [first, second] => Some((first, second)),
+            _ => None,
+        },
+        _ => None,
+    }
 }
 
 /// 51 for a value that is no integer, 52 for a divisor under 1, 53 outside 32

@@ -80,7 +80,6 @@ fn sixty_four_words(t: &mut Table) {
     t.stops(one_of(28), 55, 36, 0);
     // 62 words, 66 words
     t.holds(worked(product(vec![numbers(1, 2), numbers(1, 5)])));
-    let pair = |a, b| tuple(vec![number(a), number(b)]);
     let pairs = set(vec![pair(1, 1), pair(1, 2), pair(1, 3), pair(1, 4), pair(1, 5), pair(1, 6)]);
     t.holds(worked(product(vec![pairs.clone(), numbers(1, 1)])));
     t.stops(worked(product(vec![pairs, numbers(1, 2)])), 55, 35, 0);
@@ -91,7 +90,7 @@ fn operands(t: &mut Table) {
     t.group("ask 1, operands");
     t.stops(worked(power(int())), 54, 32, 0);
     t.stops(worked(power(number(1))), 51, 36, 0);
-    t.stops(worked(power(tuple(vec![number(1), number(2)]))), 51, 36, 0);
+    t.stops(worked(power(pair(1, 2))), 51, 36, 0);
     t.stops(worked(product(vec![number(1), int()])), 54, 32, 0);
     t.stops(worked(product(vec![number(1), numbers(1, 2)])), 51, 35, 0);
     t.stops(worked(product(vec![numbers(1, 2), number(1)])), 51, 35, 0);
@@ -128,9 +127,8 @@ fn tested(t: &mut Table) {
     let is_in = |v, e| vec![constraint(member(v, e))];
     t.holds(is_in(numbers(1, 2), power(numbers(1, 6))));
     t.holds(is_in(set(vec![numbers(1, 2)]), power(power(int()))));
-    let pair = tuple(vec![number(1), number(2)]);
     let kinds = vec![31, 31, 34, 31, 31, 31, 31, 31, 33, 31, 31, 31, 31, 31, 33];
-    let words = doc(is_in(pair, product(vec![numbers(1, 5), numbers(1, 5)])));
+    let words = doc(is_in(pair(1, 2), product(vec![numbers(1, 5), numbers(1, 5)])));
     t.runs(&words, &[0], (0, 0)).listed = Some(Listed::Kinds(kinds));
 }
 

@@ -1,11 +1,14 @@
-//! Readings R23 to R28: 51 to 55 and the list of values.
+//! Readings R23 to R28 and document 02's ask 5: 51 to 55 and the list of values.
 
 use crate::table::*;
 use crate::write::*;
 
 pub fn rows(t: &mut Table) {
     r23_operands_first(t);
-    apply_takes_the_lowest_pair(t);
+    apply_takes_the_only_pair(t);
+    apply_looks_at_all_members(t);
+    apply_takes_a_long_table(t);
+    apply_compares_whole_arguments(t);
     r24_members_one_at_a_time(t);
     r25_decls(t);
     paragraphs_fail(t);
@@ -38,6 +41,10 @@ fn r23_operands_first(t: &mut Table) {
     t.stops(worked(arithmetic(45, number(1), negative(1))), 52, 45, 0);
     t.stops(vec![constraint(at_most(set(vec![]), int()))], 54, 32, 0);
     t.stops(vec![constraint(at_most(set(vec![]), number(1)))], 51, 23, 0);
+    let undefined = || arithmetic(44, number(1), number(0));
+    t.stops(worked(apply(int(), undefined())), 54, 32, 0);
+    t.stops(worked(apply(number(1), undefined())), 52, 44, 0);
+    t.stops(worked(apply(set(vec![number(1)]), undefined())), 52, 44, 0);
     let wide = abbreviation(B, &[], set((0..6).map(number).collect()));
     let long = |last: Vec<Tree>| {
         let parts = (0..5).map(|_| reference(B)).chain(last).collect();
@@ -47,18 +54,108 @@ fn r23_operands_first(t: &mut Table) {
     t.stops(long(vec![int()]), 54, 32, 0);
 }
 
-fn apply_takes_the_lowest_pair(t: &mut Table) {
-    t.group("Apply takes the lowest pair");
-    let pair = |a, b| tuple(vec![number(a), number(b)]);
-    let f = || set(vec![pair(1, 7), pair(1, 5), pair(2, 9)]);
-    t.value(apply(f(), number(1)), &[1, 5]);
-    t.stops(worked(apply(f(), number(3))), 52, 37, 0);
-    t.stops(worked(apply(number(1), number(3))), 51, 37, 0);
-    // 1 sorts below every pair; {} too; a triple after the pairs.
-    t.stops(worked(apply(set(vec![pair(1, 2), number(1)]), number(1))), 51, 37, 0);
-    let triple = tuple(vec![number(0), number(0), number(0)]);
-    t.value(apply(set(vec![triple.clone(), pair(1, 2)]), number(1)), &[1, 2]);
-    t.stops(worked(apply(set(vec![triple, pair(1, 2)]), number(2))), 51, 37, 0);
+/// Document 02, ask 5.
+fn apply_takes_the_only_pair(t: &mut Table) {
+    t.group("Apply takes the only pair");
+    let of = |pairs: &[(u32, u32)]| set(pairs.iter().map(|&(a, b)| pair(a, b)).collect());
+    t.value(apply(of(&[(1, 7)]), number(1)), &[1, 7]);
+    let three = || of(&[(1, 7), (2, 9), (3, 8)]);
+    t.value(apply(three(), number(1)), &[1, 7]);
+    t.value(apply(three(), number(2)), &[1, 9]);
+    t.value(apply(three(), number(3)), &[1, 8]);
+    t.stops(worked(apply(three(), number(4))), 52, 37, 0);
+    t.stops(worked(apply(set(vec![]), number(1))), 52, 37, 0);
+    // Two pairs for 1, none for 3; 2 has one.
+    let two = || of(&[(1, 7), (1, 5), (2, 9)]);
+    t.stops(worked(apply(two(), number(1))), 52, 37, 0);
+    t.value(apply(two(), number(2)), &[1, 9]);
+    t.stops(worked(apply(two(), number(3))), 52, 37, 0);
+    t.stops(worked(apply(of(&[(1, 7), (1, 5), (1, 6)]), number(1))), 52, 37, 0);
+    // A pair written twice is one member.
+    t.value(apply(of(&[(1, 7), (1, 7)]), number(1)), &[1, 7]);
+    // A second part is no argument.
+    t.stops(worked(apply(of(&[(7, 1)]), number(1))), 52, 37, 0);
+    t.value(apply(of(&[(7, 1), (1, 2)]), number(1)), &[1, 2]);
+}
+
+/// Integers, elements and sets sort below the pairs, longer tuples above.
+fn apply_looks_at_all_members(t: &mut Table) {
+    t.group("Apply looks at all members");
+    let triple = |a: u32| tuple(vec![number(a), number(2), number(3)]);
+    let no_pairs = || vec![number(1), set(vec![]), triple(1), tuple(vec![number(1); 6])];
+    for no_pair in no_pairs() {
+        t.stops(worked(apply(set(vec![no_pair.clone()]), number(1))), 51, 37, 0);
+        let one = set(vec![pair(1, 2), no_pair.clone()]);
+        t.stops(worked(apply(one.clone(), number(1))), 51, 37, 0);
+        t.stops(worked(apply(one, number(2))), 51, 37, 0);
+        let two = set(vec![pair(1, 2), no_pair, pair(1, 3)]);
+        t.stops(worked(apply(two, number(1))), 51, 37, 0);
+    }
+    let between = set(vec![number(0), pair(1, 2), triple(0)]);
+    t.stops(worked(apply(between, number(1))), 51, 37, 0);
+    t.stops(worked(apply(number(1), number(1))), 51, 37, 0);
+    t.stops(worked(apply(pair(1, 2), number(1))), 51, 37, 0);
+    // An element beside one pair for 1, two, none.
+    for argument in [1, 2, 3] {
+        let pairs = [pair(1, 2), pair(2, 2), pair(2, 3)];
+        let members = set(pairs.into_iter().chain([reference(X)]).collect());
+        let applied = equal(apply(members, number(argument)), number(2));
+        let each = text(truth(), vec![decl(reference(A), &[X])]);
+        let words = doc(vec![given(&[A]), constraint(exists(each, applied))]);
+        t.runs(&words, &state(&[&[1]]), (51, nth(&words, 37, 0)));
+    }
+}
+
+/// The table of a state, of ten pairs, as many as 64 words hold.
+fn apply_takes_a_long_table(t: &mut Table) {
+    t.group("Apply takes a long table");
+    let applied_to = |argument| {
+        let table = plain_axiom(vec![decl(power(product(vec![int(), int()])), &[B])]);
+        doc(vec![table, abbreviation(A, &[], apply(reference(B), number(argument)))])
+    };
+    // The keys 0 to 8 and one more, with the results 20 to 29.
+    let table = |last: i32| {
+        let keys = (0..9).chain([last]);
+        let pairs = keys.zip(20..).flat_map(|(key, result)| [4, 2, 1, key, 1, result]);
+        state(&[&[3, 10].into_iter().chain(pairs).collect::<Vec<i32>>()])
+    };
+    for (argument, result) in [(0, 20), (9, 29)] {
+        let words = applied_to(argument);
+        let last = Listed::Last(nth(&words, 37, 0), vec![1, result]);
+        t.runs(&words, &table(9), (0, 0)).listed = Some(last);
+    }
+    for argument in [8, 9] {
+        let words = applied_to(argument);
+        t.runs(&words, &table(8), (52, nth(&words, 37, 0)));
+    }
+}
+
+fn apply_compares_whole_arguments(t: &mut Table) {
+    t.group("Apply compares whole arguments");
+    let numbers = |of: &[u32]| set(of.iter().map(|&n| number(n)).collect());
+    let to = |first: Tree, second: u32| tuple(vec![first, number(second)]);
+    let of_pairs = |a, b| set(vec![to(pair(1, a), 5), to(pair(1, b), 6)]);
+    t.value(apply(of_pairs(2, 3), pair(1, 3)), &[1, 6]);
+    t.stops(worked(apply(of_pairs(2, 3), pair(1, 4))), 52, 37, 0);
+    t.stops(worked(apply(of_pairs(2, 2), pair(1, 2))), 52, 37, 0);
+    let of_sets = |a: &[u32], b: &[u32]| set(vec![to(numbers(a), 5), to(numbers(b), 6)]);
+    t.value(apply(of_sets(&[1, 2], &[1, 3]), numbers(&[3, 1])), &[1, 6]);
+    t.value(apply(of_sets(&[], &[1]), numbers(&[])), &[1, 5]);
+    t.stops(worked(apply(of_sets(&[1, 2], &[1, 3]), numbers(&[1, 4]))), 52, 37, 0);
+    t.stops(worked(apply(of_sets(&[1, 2], &[2, 1]), numbers(&[1, 2]))), 52, 37, 0);
+    t.stops(worked(apply(set(vec![pair(1, 5)]), numbers(&[1]))), 52, 37, 0);
+    // Two elements have a result each, one element that is both has two.
+    let table = set(vec![to(reference(X), 5), to(reference(Y), 6)]);
+    let applied = equal(apply(table, reference(X)), number(5));
+    let over = |guard, body| {
+        let each = text(guard, vec![decl(reference(A), &[X, Y])]);
+        doc(vec![given(&[A]), constraint(forall(each, body))])
+    };
+    let two = state(&[&[2]]);
+    let others = over(not(equal(reference(X), reference(Y))), applied.clone());
+    t.runs(&others, &two, (0, 0));
+    let all = over(truth(), applied);
+    t.runs(&all, &two, (52, nth(&all, 37, 0)));
 }
 
 fn r24_members_one_at_a_time(t: &mut Table) {
@@ -83,8 +180,7 @@ fn r24_members_one_at_a_time(t: &mut Table) {
     };
     t.holds(mixed(number(1)));
     t.stops(mixed(int()), 54, 32, 0);
-    let pair = tuple(refs(&[0, 1]));
-    let early = vec![pair, tuple(refs(&[2, 3])), tuple(refs(&[4, 5])), int()];
+    let early = vec![tuple(refs(&[0, 1])), tuple(refs(&[2, 3])), tuple(refs(&[4, 5])), int()];
     t.stops(all(early), 55, 33, 6);
 }
 
@@ -165,14 +261,13 @@ fn r26_member(t: &mut Table) {
     let is_in = |v, e| vec![constraint(member(v, e))];
     t.holds(is_in(set(vec![]), power(reference(B))));
     lists(t, is_in(number(1), int()), (0, 0), &[31]);
-    let pair = tuple(vec![number(1), number(2)]);
-    lists(t, is_in(pair.clone(), product(vec![int(), int()])), (0, 0), &[31, 31, 34]);
-    t.stops(is_in(pair, product(vec![int(), int(), int()])), 51, 35, 0);
+    lists(t, is_in(pair(1, 2), product(vec![int(), int()])), (0, 0), &[31, 31, 34]);
+    t.stops(is_in(pair(1, 2), product(vec![int(), int(), int()])), 51, 35, 0);
     t.stops(is_in(number(1), number(1)), 51, 31, 1);
     t.stops(is_in(number(1), select(int(), X)), 54, 38, 0);
     // The first miss ends it.
     let missed = product(vec![set(vec![number(9)]), number(3)]);
-    t.fails(is_in(tuple(vec![number(1), number(2)]), missed), 9);
+    t.fails(is_in(pair(1, 2), missed), 9);
 }
 
 fn r27_unused_abbreviation(t: &mut Table) {

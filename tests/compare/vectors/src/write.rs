@@ -37,6 +37,11 @@ pub fn int() -> Tree {
     integers()
 }
 
+/// The pair of two numbers.
+pub fn pair(first: u32, second: u32) -> Tree {
+    tuple(vec![number(first), number(second)])
+}
+
 /// A schema with one Text and a true predicate.
 pub fn plain_schema(name: u32, lines: Vec<Tree>) -> Tree {
     schema(name, &[], text(truth(), lines))
