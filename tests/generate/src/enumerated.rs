@@ -53,7 +53,7 @@ fn operand(rng: &mut Rng, depth: usize) -> Tree {
 }
 
 /// No set, or in trouble.
-fn some_other(rng: &mut Rng) -> Tree {
+pub fn some_other(rng: &mut Rng) -> Tree {
     match rng.below(5) {
         0 => number(1),
         1 => tuple(vec![set(vec![]), number(1)]),

@@ -1,6 +1,7 @@
 //! Documents and states by seed. The same seed and index give the same case on
 //! every machine.
 
+pub mod applied;
 pub mod documents;
 pub mod enumerated;
 pub mod inject;
@@ -59,21 +60,8 @@ pub fn case(seed: u64, index: u64) -> Case {
 }
 
 fn some_document(rng: &mut Rng) -> (&'static str, Vec<u32>) {
-    match rng.below(108) {
-        0..=2 => ("raw words", raw::raw_words(rng)),
-        3 => ("any kind", raw::any_kind(rng)),
-        4..=6 => {
-            let sound = sound_document(rng);
-            ("damaged layout", raw::damage_layout(rng, &sound))
-        }
-        7..=13 => {
-            let sound = sound_document(rng);
-            ("damaged nodes", raw::damage_nodes(rng, &sound))
-        }
-        14..=16 => {
-            let sound = sound_document(rng);
-            ("misused nodes", raw::misuse_nodes(rng, &sound))
-        }
+    match rng.below(117) {
+        0..=16 => broken(rng),
         17..=23 => ("shapes", shaped(rng)),
         24..=33 => ("limits", limits::at_a_limit(rng)),
         34..=37 => {
@@ -100,7 +88,31 @@ fn some_document(rng: &mut Rng) -> (&'static str, Vec<u32>) {
             let tree = enumerated::enumerated_document(rng);
             ("powers and products", number::encode_somehow(rng, &tree))
         }
+        105..=113 => {
+            let tree = applied::applied_document(rng);
+            ("applications", number::encode_somehow(rng, &tree))
+        }
         _ => ("numberings", numberings::renumbered(rng)),
+    }
+}
+
+/// Words with little order, and sound documents with something broken.
+fn broken(rng: &mut Rng) -> (&'static str, Vec<u32>) {
+    match rng.below(17) {
+        0..=2 => ("raw words", raw::raw_words(rng)),
+        3 => ("any kind", raw::any_kind(rng)),
+        4..=6 => {
+            let sound = sound_document(rng);
+            ("damaged layout", raw::damage_layout(rng, &sound))
+        }
+        7..=13 => {
+            let sound = sound_document(rng);
+            ("damaged nodes", raw::damage_nodes(rng, &sound))
+        }
+        _ => {
+            let sound = sound_document(rng);
+            ("misused nodes", raw::misuse_nodes(rng, &sound))
+        }
     }
 }
 

@@ -1,6 +1,7 @@
 //! Documents that say which values their abbreviations have, so that a wrong
 //! value shows in the run's finding. The values are the reference's.
 
+use crate::applied::applied_document;
 use crate::documents::typed_document;
 use crate::enumerated::enumerated_document;
 use crate::number::encode_somehow;
@@ -34,9 +35,10 @@ pub fn pinned_case(rng: &mut Rng) -> (Vec<u32>, Vec<u32>) {
 }
 
 fn some_tree(rng: &mut Rng) -> Tree {
-    match rng.below(9) {
+    match rng.below(11) {
         0..=3 => typed_document(rng, Aim::Run),
         4 => enumerated_document(rng),
+        5 | 6 => applied_document(rng),
         _ => arithmetic_document(rng),
     }
 }

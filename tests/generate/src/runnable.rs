@@ -1,5 +1,5 @@
 //! Documents whose runs work at the ends: integers near 32 bits, division of
-//! either sign, sets near 64 words, functions with gaps.
+//! either sign, sets near 64 words.
 
 use crate::rng::Rng;
 use coding::make::*;
@@ -13,13 +13,12 @@ pub fn arithmetic_document(rng: &mut Rng) -> Tree {
     let mut paragraphs = vec![axiom(text(truth(), vec![decl(integers(), &[X, Y])]))];
     for i in 0..rng.from(1, 4) {
         let name = id(100 + i as u32, 0);
-        let body = match rng.below(6) {
+        let body = match rng.below(5) {
             0 => sum(rng, 3),
             1 => division(rng),
             2 => numbers(rng),
             3 => pairs(rng),
-            4 => wide(rng),
-            _ => table(rng),
+            _ => wide(rng),
         };
         paragraphs.push(abbreviation(name, &[], body));
     }
@@ -97,21 +96,6 @@ fn wide(rng: &mut Rng) -> Tree {
             comprehension(text(at_most(reference(X), reference(Z)), lines), body)
         }
     }
-}
-
-/// A function with gaps, applied.
-fn table(rng: &mut Rng) -> Tree {
-    let n = rng.from(1, 4);
-    let pair = |rng: &mut Rng| tuple(vec![number(rng.below(4) as u32), integer(rng)]);
-    let mut members: Vec<Tree> = (0..n).map(|_| pair(rng)).collect();
-    if rng.percent(20) {
-        members.push(match rng.below(3) {
-            0 => number(1),
-            1 => tuple(vec![number(1), number(1), number(1)]),
-            _ => set(vec![]),
-        });
-    }
-    apply(set(members), number(rng.below(5) as u32))
 }
 
 fn quantified(rng: &mut Rng) -> Tree {

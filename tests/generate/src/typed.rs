@@ -245,9 +245,26 @@ impl<'a> Typed<'a> {
             return None;
         }
         let argument = self.some_type(1);
+        if self.rng.percent(50) {
+            return self.applied_pairs(&argument, t, room - 2);
+        }
         let pair = Ty::Product(vec![argument.clone(), t.clone()]);
         let function = self.expr(&power_of(pair), room.min(3))?;
         Some(apply(function, self.expr(&argument, room)?))
+    }
+
+    /// Pairs, some of which have the argument that they are applied to.
+    fn applied_pairs(&mut self, argument: &Ty, result: &Ty, room: usize) -> Option<Tree> {
+        let applied_to = self.expr(argument, room)?;
+        let mut pairs = Vec::new();
+        for _ in 0..self.rng.from(1, 3) {
+            let first = match self.rng.percent(60) {
+                true => applied_to.clone(),
+                false => self.expr(argument, room)?,
+            };
+            pairs.push(tuple(vec![first, self.expr(result, room)?]));
+        }
+        Some(apply(set(pairs), applied_to))
     }
 
     /// A component of some binding in scope.
