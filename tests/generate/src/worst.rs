@@ -39,6 +39,8 @@ pub fn trees() -> Vec<(&'static str, Tree)> {
         ("36 sets of 3", listed(|set| set)),
         ("36 powers of 3", listed(|set| power(set))),
         ("36 products of 3 and 3", listed(|set| product(vec![set.clone(), set]))),
+        ("36 applications, first of 10 pairs", applied(0)),
+        ("36 applications, last of 10 pairs", applied(9)),
     ]
 }
 
@@ -97,6 +99,17 @@ fn listed(list: fn(Tree) -> Tree) -> Tree {
     let all = list(set(vec![number(12), reference(X), y]));
     let each = text(truth(), vec![decl(numbers(6), &[X, Y])]);
     document(vec![constraint(forall(each, not(equal(set(vec![]), all))))])
+}
+
+/// 36 assignments that each apply a table of the keys 0 to 9 to one of them.
+fn applied(key: u32) -> Tree {
+    const TABLE: u32 = 100;
+    let sum = || arithmetic(41, reference(X), reference(Y));
+    let digits = vec![decl(numbers(5), &[X]), decl(set(vec![number(0), number(5)]), &[Y])];
+    let table = comprehension(text(truth(), digits), tuple(vec![sum(), sum()]));
+    let each = text(truth(), vec![decl(numbers(6), &[X, Y])]);
+    let same = equal(apply(reference(TABLE), number(key)), number(key));
+    document(vec![abbreviation(TABLE, &[], table), constraint(forall(each, same))])
 }
 
 fn paragraphs() -> Tree {
