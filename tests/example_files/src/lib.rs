@@ -1,6 +1,8 @@
 //! The documents and states of examples/, and readable listings of them.
 
 pub mod alarms;
+pub mod answers;
+pub mod entries;
 pub mod fluid_monitor;
 pub mod listing;
 pub mod names;

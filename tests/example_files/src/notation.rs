@@ -4,6 +4,10 @@ use crate::names::Names;
 use coding::{Operand, Tree};
 use reference::values::Value;
 
+/// The kinds + and ×.
+pub const PLUS: u32 = 41;
+pub const TIMES: u32 = 43;
+
 /// A node in Z notation, with what is below it.
 pub fn node(tree: &Tree, names: Names) -> String {
     let below: Vec<String> = tree.children().map(|child| node(child, names)).collect();
@@ -39,8 +43,8 @@ fn infix(kind: u32) -> &'static str {
         22 => "∈",
         23 => "≤",
         25 => "∧",
-        41 => "+",
-        43 => "×",
+        PLUS => "+",
+        TIMES => "×",
         _ => panic!("kind {kind} has no sign here"),
     }
 }

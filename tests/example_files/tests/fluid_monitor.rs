@@ -1,32 +1,26 @@
 //! The files of examples/fluid-monitor are those that are made here, and the
 //! reference and the proved library answer on them what README.md says.
 
-use compare::calls::CALLS;
-use compare::printed;
+mod library;
+
+use example_files::answers::{Run, AREA};
+use example_files::entries::words;
+use example_files::fluid_monitor::files::{self, EXAMPLE};
 use example_files::fluid_monitor::monitor::{record, Reading, FAR, NEAR, RATE, READINGS};
-use example_files::fluid_monitor::{files, state};
-use example_files::written::{self, in_words};
-use generate::Case;
+use example_files::fluid_monitor::state::entries;
 use reference::values::Value;
-use reference::{check, fit, run, Ending, Outcome, WORK_WORDS};
+use reference::{check, Ending, WORK_WORDS};
 
-/// Words of the dictionary area.
-const AREA: usize = 16_384;
-/// More steps than these runs take.
-const STEPS: u64 = 20_000;
-/// Paragraphs of the document, whose nodes are its last words.
-const PARAGRAPHS: usize = 6;
-
-fn file(name: &str) -> Vec<u8> {
-    written::file("fluid-monitor", name)
+fn run_after(ticks: u32, expected: &'static str) -> Run {
+    Run { document: files::document(), state: files::recorded_after(ticks), expected }
 }
 
-fn text(name: &str) -> String {
-    written::text("fluid-monitor", name)
+fn near() -> Run {
+    run_after(NEAR, "near.expected")
 }
 
-fn run_on(state: &[u32]) -> Outcome {
-    run(&files::document(), state, WORK_WORDS, STEPS)
+fn far() -> Run {
+    run_after(FAR, "far.expected")
 }
 
 /// The node of the last paragraph, which says that the displayed volume is the
@@ -37,7 +31,7 @@ fn last_paragraph() -> u32 {
 
 #[test]
 fn files_are_as_made() {
-    written::assert_made("fluid-monitor", files::all());
+    EXAMPLE.assert_made(files::all());
 }
 
 #[test]
@@ -50,44 +44,34 @@ fn the_clock_is_lost_far_from_the_start() {
 
 #[test]
 fn the_document_is_accepted() {
-    assert_eq!(reference::print(&file("volume.z")), text("volume.expected"));
+    EXAMPLE.assert_accepted("volume.z", "volume.expected");
 }
 
-/// README.md names the node of each paragraph, quotes the listing's last lines
-/// before the Document's, and says how the run fails.
+/// README.md names the node of each paragraph, and quotes the listing's last
+/// lines before the Document's.
 #[test]
 fn the_readme_quotes_the_files() {
-    let (readme, listing) = (text("README.md"), text("volume.txt"));
-    let document = files::document();
-    let paragraphs = &document[document.len() - PARAGRAPHS..];
-    for node in paragraphs {
-        assert!(readme.contains(&format!("node {node})")), "node {node}");
-    }
+    EXAMPLE.assert_paragraphs_named(&files::document());
+    let (readme, listing) = (EXAMPLE.text("README.md"), EXAMPLE.text("volume.txt"));
     assert!(listing.lines().rev().skip(1).take(3).all(|line| readme.contains(line)));
-    assert!(readme.contains(text("far.expected").trim_end()));
 }
 
 #[test]
 fn both_states_fit() {
-    for ticks in [NEAR, FAR] {
-        let fitted = fit(&files::document(), &files::recorded_after(ticks), AREA, WORK_WORDS);
-        let checked = check(&files::document(), AREA, WORK_WORDS).expect("accepted");
-        assert_eq!(fitted.expect("it fits").dictionary.words(), checked.dictionary.words());
+    for run in [near(), far()] {
+        let checked = check(&run.document, AREA, WORK_WORDS).expect("accepted");
+        assert_eq!(run.fitted().expect("it fits").dictionary.words(), checked.dictionary.words());
     }
 }
 
 #[test]
-fn near_the_start_the_run_holds() {
-    let ending = run_on(&files::recorded_after(NEAR)).ending;
-    assert_eq!(ending, Ending::Holds);
-    assert_eq!(in_words(ending), text("near.expected"));
+fn runs_end_as_the_files_and_the_readme_say() {
+    [near(), far()].iter().for_each(|run| EXAMPLE.assert_ends(run));
 }
 
 #[test]
 fn far_from_the_start_the_run_fails_at_the_last_paragraph() {
-    let ending = run_on(&files::recorded_after(FAR)).ending;
-    assert_eq!(ending, Ending::FailsAt(last_paragraph()));
-    assert_eq!(in_words(ending), text("far.expected"));
+    assert_eq!(far().outcome().ending, Ending::FailsAt(last_paragraph()));
 }
 
 /// The run ends with drawn(1), a portion more than what is shown.
@@ -96,7 +80,7 @@ fn the_second_tick_is_the_first_to_differ() {
     let readings = record(FAR);
     assert_eq!(readings[0].shown, readings[0].drawn);
     assert_eq!(readings[1].drawn, readings[1].shown + RATE);
-    let list = run_on(&files::recorded_after(FAR)).list;
+    let list = far().outcome().list;
     let (_, last) = list.last().expect("values");
     assert_eq!(*last, Value::Integer(readings[1].drawn));
 }
@@ -108,22 +92,11 @@ fn a_whole_clock_holds_far_from_the_start() {
     let exact =
         |(clock, reading): (i32, Reading)| Reading { clock, shown: RATE * clock, ..reading };
     let readings: Vec<Reading> = (FAR as i32..).zip(record(FAR)).map(exact).collect();
-    assert_eq!(run_on(&state::words(&state::entries(&readings))).ending, Ending::Holds);
+    let run = Run { state: words(&entries(&readings)), ..far() };
+    assert_eq!(run.outcome().ending, Ending::Holds);
 }
 
-/// Every call that the proved library has answers as the reference does.
 #[test]
 fn the_library_answers_the_same() {
-    for ticks in [NEAR, FAR] {
-        let (document, state) = (files::document(), files::recorded_after(ticks));
-        let (dictionary, work, output, dirt) = (AREA, WORK_WORDS, AREA, ticks | 1);
-        let family = "fluid monitor";
-        let case = Case { family, document, state, dictionary, work, output, dirt };
-        for call in CALLS {
-            let expected = (call.expected)(&case).expect("few steps");
-            let difference = call.difference(&case, &expected).map(|found| found.text);
-            assert_eq!(difference, None, "{} after {ticks} ticks", call.name);
-        }
-        assert_eq!(printed::difference(&case), None);
-    }
+    library::assert_answers_alike(vec![near(), far()]);
 }

@@ -1,9 +1,12 @@
 //! The files of examples/alarms that are made here.
 
 use super::documents::{alarms, numbers, NAMES};
-use super::states::{closed, four, gap, words, Entries};
+use super::states::{closed, four, gap, words};
+use crate::entries::Entries;
 use crate::listing;
-use crate::written::{bytes, Files};
+use crate::written::{bytes, Example, Files};
+
+pub const EXAMPLE: Example = Example("alarms");
 
 /// Whole numbers whose power has 42 words, and whose power has 98.
 pub const FEW: u32 = 3;

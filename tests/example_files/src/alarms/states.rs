@@ -1,16 +1,13 @@
 //! The states: how many alarms there are, and at which the pump stops.
 
 use super::documents::{ALARM, STOPS};
+use crate::entries::{set, Entries};
 use reference::values::Value;
 
 /// Alarms by number.
 pub const PRESSURE: i32 = 0;
 pub const AIR: i32 = 1;
 pub const DOOR: i32 = 2;
-
-/// What a state says of the names, in the order of their entries; a given's
-/// entry is its size.
-pub type Entries = Vec<(u32, Value)>;
 
 /// Of three alarms the pump stops at every set with air in the line.
 pub fn closed() -> Entries {
@@ -29,10 +26,8 @@ pub fn four() -> Entries {
 
 fn entries(alarms: i32, stops: &[&[i32]]) -> Entries {
     let alarm = |&number: &i32| Value::Element(ALARM, number);
-    let one = |raised: &&[i32]| Value::Set(raised.iter().map(alarm).collect());
-    let mut sets: Vec<Value> = stops.iter().map(one).collect();
-    sets.sort();
-    vec![(ALARM, Value::Integer(alarms)), (STOPS, Value::Set(sets))]
+    let sets = stops.iter().map(|raised| set(raised.iter().map(alarm)));
+    vec![(ALARM, Value::Integer(alarms)), (STOPS, set(sets))]
 }
 
 /// The state's words: a given has its size alone.

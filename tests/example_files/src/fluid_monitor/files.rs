@@ -2,15 +2,13 @@
 
 use super::monitor::{record, FAR, NEAR};
 use super::names::NAMES;
-use super::{state, volume};
+use super::state::entries;
+use super::volume;
+use crate::entries::words;
 use crate::listing;
-use crate::written::{self, bytes, Files};
-use std::path::PathBuf;
+use crate::written::{bytes, Example, Files};
 
-/// Where the files stand.
-pub fn directory() -> PathBuf {
-    written::directory("fluid-monitor")
-}
+pub const EXAMPLE: Example = Example("fluid-monitor");
 
 /// The words of the document.
 pub fn document() -> Vec<u32> {
@@ -19,15 +17,15 @@ pub fn document() -> Vec<u32> {
 
 /// The words of the state recorded after so many ticks.
 pub fn recorded_after(ticks: u32) -> Vec<u32> {
-    state::words(&state::entries(&record(ticks)))
+    words(&entries(&record(ticks)))
 }
 
 /// Each file's name and bytes.
 pub fn all() -> Files {
     let document = document();
     let listed = |ticks| {
-        let entries = state::entries(&record(ticks));
-        listing::state(&entries, &state::words(&entries), NAMES).into_bytes()
+        let recorded = entries(&record(ticks));
+        listing::state(&recorded, &words(&recorded), NAMES).into_bytes()
     };
     vec![
         ("volume.txt", listing::document(&volume::volume(), &document, NAMES).into_bytes()),

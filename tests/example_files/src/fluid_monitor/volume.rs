@@ -2,12 +2,9 @@
 //! milliseconds.
 
 use super::names::*;
+use crate::notation::{PLUS, TIMES};
 use coding::make::*;
 use coding::Tree;
-
-/// The kinds + and ×.
-const PLUS: u32 = 41;
-const TIMES: u32 = 43;
 
 /// The paragraphs in order; what the patient relies on comes last.
 pub fn volume() -> Tree {
