@@ -2,6 +2,7 @@
 
 pub mod alarms;
 pub mod answers;
+pub mod bag_table;
 pub mod entries;
 pub mod fluid_monitor;
 pub mod listing;
