@@ -128,7 +128,7 @@ image-among (otherPair e i) m = let r = image-among i m in (r .0, (r .1 .0, late
 pub found-among : {a v : Value} {vs : Values} → Images a vs (cons v nil) → (x : Value) × ((sameValue x a ≡ true) × Among (pair x v) vs)
 found-among i = image-among i here
 
-pub among-words : {w : Value} {vs : Values} → Among w vs → length (encode w) ≤ length (encodes vs)
+among-words : {w : Value} {vs : Values} → Among w vs → length (encode w) ≤ length (encodes vs)
 unfolding encode
 among-words {w = w} (here {vs = vs}) = let k = length-append (encode w) (encodes vs) in omega arith
 among-words (later {v = v} {vs = vs} m) = let k = length-append (encode v) (encodes vs) in let h = among-words m in omega arith

@@ -7,7 +7,7 @@ use Rattle.values.specs.SetValues.{sameValue}
 abbrev pub pair : Value → Value → Value
 pair x z = tuple (cons x (cons z nil))
 
--- "a tuple of other than 2 parts is no pair", nor is what is no tuple
+-- a tuple of other than 2 parts is no pair, nor is what is no tuple
 abbrev pub NoPair : Value → Type 0
 NoPair v = (x z : Value) → v ≡ pair x z → ⊥
 

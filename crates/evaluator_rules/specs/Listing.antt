@@ -119,7 +119,7 @@ mutual
     noFactor : {n : ℕ} {xs : Exprs} {scope : Environment} {t : List Event} {vs : Values} → WorksAll xs scope t (gives vs) → SomeNoSet vs → Works (product n xs) scope t (stops 51 n)
     aProduct : {n : ℕ} {xs : Exprs} {scope : Environment} {t u : List Event} {vs : Values} {vss : List Values} {r : Result Value} → WorksAll xs scope t (gives vs) → AllSets vs vss → Enters n (Value.set (tuples vss)) u r
         → Works (product n xs) scope (t ++ u) r
-    -- "An application has a value only where the relation pairs the argument with exactly one result ..; a member that is not a pair is a misfit wherever it
+    -- "In Z an application has a value only where the relation pairs the argument with exactly one result. .. a member that is not a pair is a misfit wherever it
     -- stands. Two or more pairs for the argument are 52, as none is, and 51 goes before 52" (document 02, ask 5)
     functionStops : {n : ℕ} {f a : Expr} {scope : Environment} {t : List Event} {w m : ℕ} → Works f scope t (stops w m) → Works (application n f a) scope t (stops w m)
     argumentStops : {n : ℕ} {f a : Expr} {scope : Environment} {t u : List Event} {x : Value} {w m : ℕ} → Works f scope t (gives x) → Works a scope u (stops w m) → Works (application n f a) scope (t ++ u) (stops w m)
