@@ -23,24 +23,24 @@ pair-or-not (tuple (cons u nil)) = inl (λ x z e. let i : _≡_ {A = ℕ} 0 1 = 
 pair-or-not (tuple (cons u (cons v nil))) = inr (u, (v, refl))
 pair-or-not (tuple (cons u (cons v (cons w r)))) = inl (λ x z e. let i : _≡_ {A = ℕ} 0 1 = cc in omega arith)
 
-abbrev Sorted : Value → Values → Type 0
-Sorted a vs = SomeNoPair vs ⊎ ((zs : Values) × Images a vs zs)
+abbrev pub PairsOrNot : Value → Values → Type 0
+PairsOrNot a vs = SomeNoPair vs ⊎ ((zs : Values) × Images a vs zs)
 
-one-more : (a x z : Value) (vs : Values) → Sorted a vs → Sorted a (cons (pair x z) vs)
+one-more : (a x z : Value) (vs : Values) → PairsOrNot a vs → PairsOrNot a (cons (pair x z) vs)
 one-more a x z vs (inl s) = inl (laterNoPair s)
 one-more a x z vs (inr (zs, i)) = go (sameValue x a) refl
   where
-    go : (b : Bool) → sameValue x a ≡ b → Sorted a (cons (pair x z) vs)
+    go : (b : Bool) → sameValue x a ≡ b → PairsOrNot a (cons (pair x z) vs)
     go true e = inr (cons z zs, oneImage e i)
     go false e = inr (zs, otherPair e i)
 
-pub sorted : (a : Value) (vs : Values) → SomeNoPair vs ⊎ ((zs : Values) × Images a vs zs)
-sorted a nil = inr (nil, noImages)
-sorted a (cons v vs) = go (pair-or-not v) (sorted a vs)
+pub pairs-or-not : (a : Value) (vs : Values) → PairsOrNot a vs
+pairs-or-not a nil = inr (nil, noImages)
+pairs-or-not a (cons v vs) = go (pair-or-not v) (pairs-or-not a vs)
   where
-    go : NoPair v ⊎ ((x : Value) × ((z : Value) × (v ≡ pair x z))) → Sorted a vs → Sorted a (cons v vs)
+    go : NoPair v ⊎ ((x : Value) × ((z : Value) × (v ≡ pair x z))) → PairsOrNot a vs → PairsOrNot a (cons v vs)
     go (inl n) s = inl (thisNoPair n)
-    go (inr (x, (z, e))) s = subst (λ (w : Value). Sorted a (cons w vs)) (sym e) (one-more a x z vs s)
+    go (inr (x, (z, e))) s = subst (λ (w : Value). PairsOrNot a (cons w vs)) (sym e) (one-more a x z vs s)
 
 -- ---- what Apply answers then
 no-pair-false : (v : Value) → NoPair v → isPairValue v ≡ false
@@ -101,14 +101,14 @@ pub data Finds (a : Value) (vs : Values) : Image → Type 0 where
 
 pub finds : (a : Value) (vs : Values) → Finds a vs (applyValue a vs)
 unfolding count
-finds a vs = go (sorted a vs)
+finds a vs = go (pairs-or-not a vs)
   where
     by-images : (zs : Values) → Images a vs zs → Finds a vs (applyValue a vs)
     by-images nil i = subst (Finds a vs) (sym (undefined-where i (λ e. omega arith))) (findsNotOne i (λ e. omega arith))
     by-images (cons z nil) i = subst (Finds a vs) (sym (found-where i)) (findsOne i)
     by-images (cons z (cons w ws)) i = subst (Finds a vs) (sym (undefined-where i (λ e. omega arith))) (findsNotOne i (λ e. omega arith))
 
-    go : SomeNoPair vs ⊎ ((zs : Values) × Images a vs zs) → Finds a vs (applyValue a vs)
+    go : PairsOrNot a vs → Finds a vs (applyValue a vs)
     go (inl s) = subst (Finds a vs) (sym (misfit-where a s)) (misfits s)
     go (inr (zs, i)) = by-images zs i
 

@@ -3,7 +3,7 @@
 use mathlib.Core.Path.{_≡_, refl, sym, subst, _∙_}
 use mathlib.Core.Bool.{true, false, false≢true}
 use mathlib.Core.List.{List, []}
-use mathlib.Core.Logic.{_⊎_, inl, inr, _↔_}
+use mathlib.Core.Logic.{inl, inr, _↔_}
 use Prim.Native.Nat.{ℕ}
 use native.Mathlib.Omega.{arith}
 use Rattle.values.specs.Order.{compare, isLess}
@@ -22,7 +22,7 @@ use Rattle.evaluator_rules.specs.Listing
 use Rattle.evaluator_rules.specs.Listing.{gives, Works}
 use Rattle.evaluator_rules.specs.Evaluations.{Gives, gave, Stops}
 use Rattle.evaluator_rules.specs.Applications.{pair, SomeNoPair, thisNoPair, laterNoPair, Images, oneImage, otherPair, Among, here, later, AllPairs, OnlyPair}
-use Rattle.evaluator_rules.proofs.Images.{sorted, all-pairs, image-among, found-among, applied-words}
+use Rattle.evaluator_rules.proofs.Images.{PairsOrNot, pairs-or-not, all-pairs, image-among, found-among, applied-words}
 use Rattle.evaluator_rules.proofs.EvaluationLists.{value-said, value-comes, value-stops}
 use Rattle.evaluator_rules.proofs.TroublesFound.{value-short}
 
@@ -117,9 +117,9 @@ module _ (a v : Value) (vs : Values) (h : ascends [] vs ≡ true) (o : OnlyPair 
       cc
 
   only-image : Images a vs (cons v nil)
-  only-image = go (sorted a vs)
+  only-image = go (pairs-or-not a vs)
     where
-      go : SomeNoPair vs ⊎ ((zs : Values) × Images a vs zs) → Images a vs (cons v nil)
+      go : PairsOrNot a vs → Images a vs (cons v nil)
       go (inl s) = absurd (pairs-only (o .pairs) s)
       go (inr (nil, i)) = absurd (none-other i (o .member) (o .argument))
       go (inr (cons z nil, i)) = subst (λ (w : Value). Images a vs (cons w nil)) (its-image i) i
@@ -160,9 +160,9 @@ pub two-results : (n : ℕ) (f a : Expr) (scope : Environment) (vs : Values) (y 
     → AllPairs vs → Among (pair x z) vs → sameValue x y ≡ true → Among (pair u w) vs → sameValue u y ≡ true → (pair x z ≡ pair u w → ⊥)
     → Stops (evalExpr (application n f a) scope) 52 n
 unfolding count
-two-results n f a scope vs y x z u w hf ha p m s k t d = go (sorted y vs)
+two-results n f a scope vs y x z u w hf ha p m s k t d = go (pairs-or-not y vs)
   where
-    go : SomeNoPair vs ⊎ ((zs : Values) × Images y vs zs) → Stops (evalExpr (application n f a) scope) 52 n
+    go : PairsOrNot y vs → Stops (evalExpr (application n f a) scope) 52 n
     go (inl q) = absurd (pairs-only p q)
     go (inr (nil, i)) = absurd (none-other i m s)
     go (inr (cons v nil, i)) = let o = only-from i in absurd (d (o .only x z m s ∙ sym (o .only u w k t)))

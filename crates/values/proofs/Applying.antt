@@ -27,19 +27,19 @@ Shows f Undefined misfit = ⊥
 Shows f Undefined undefined = Unit {0}
 
 -- the places ps of f are those of pairs with the second parts ys
-unfoldable Holds : List ℕ → List ℕ → Values → Type 0
-Holds f [] nil = Unit {0}
-Holds f [] (cons y ys) = ⊥
-Holds f (at ∷ ps) nil = ⊥
-Holds f (at ∷ ps) (cons y ys) = Shows f (second f at) (found y) × Holds f ps ys
+unfoldable EachShows : List ℕ → List ℕ → Values → Type 0
+EachShows f [] nil = Unit {0}
+EachShows f [] (cons y ys) = ⊥
+EachShows f (at ∷ ps) nil = ⊥
+EachShows f (at ∷ ps) (cons y ys) = Shows f (second f at) (found y) × EachShows f ps ys
 
-holds-if : (f : List ℕ) (b : Bool) (at : ℕ) (y : Value) (ps : List ℕ) (ys : Values) → Shows f (second f at) (found y) → Holds f ps ys → Holds f (cond b (at ∷ ps) ps) (cond b (cons y ys) ys)
-unfolding Holds
-holds-if f true at y ps ys h g = (h, g)
-holds-if f false at y ps ys h g = g
+each-if : (f : List ℕ) (b : Bool) (at : ℕ) (y : Value) (ps : List ℕ) (ys : Values) → Shows f (second f at) (found y) → EachShows f ps ys → EachShows f (cond b (at ∷ ps) ps) (cond b (cons y ys) ys)
+unfolding EachShows
+each-if f true at y ps ys h g = (h, g)
+each-if f false at y ps ys h g = g
 
-only-shows : (f ps : List ℕ) (ys : Values) → Holds f ps ys → Shows f (onlyPlace f ps) (onlyOne ys)
-unfolding Holds onlyPlace onlyOne
+only-shows : (f ps : List ℕ) (ys : Values) → EachShows f ps ys → Shows f (onlyPlace f ps) (onlyOne ys)
+unfolding EachShows onlyPlace onlyOne
 only-shows f [] nil h = tt
 only-shows f [] (cons y ys) h = absurd h
 only-shows f (at ∷ ps) nil h = absurd h
@@ -76,16 +76,16 @@ module _ (f : List ℕ) where
         rw (d, span-value x (encode y ++ s) hx, rest-value x (encode y ++ s) hx, span-value y s hy, second-place) (take-at (encode y) s (length (encode y)) refl)
 
   -- of the pairs vs, from the place `at` of f on, those whose first part is a
-  places-hold : (vs : Values) (a : Value) (r : List ℕ) (at : ℕ) → allPairs vs ≡ true → length (encodes vs) ≤ 64 → drop at f ≡ encodes vs ++ r
-      → Holds f (places (count vs) at (encodes vs ++ r) (encode a)) (images a vs)
-  unfolding places images allPairs isPairValue count encode sameValue Holds
-  places-hold nil a r at p h d = tt
-  places-hold (cons (int z) ws) a r at p h d = absurd (false≢true p)
-  places-hold (cons (element g k) ws) a r at p h d = absurd (false≢true p)
-  places-hold (cons (set vs) ws) a r at p h d = absurd (false≢true p)
-  places-hold (cons (tuple nil) ws) a r at p h d = absurd (false≢true p)
-  places-hold (cons (tuple (cons x nil)) ws) a r at p h d = absurd (false≢true p)
-  places-hold (cons (tuple (cons x (cons y nil))) ws) a r at p h d =
+  places-show : (vs : Values) (a : Value) (r : List ℕ) (at : ℕ) → allPairs vs ≡ true → length (encodes vs) ≤ 64 → drop at f ≡ encodes vs ++ r
+      → EachShows f (places (count vs) at (encodes vs ++ r) (encode a)) (images a vs)
+  unfolding places images allPairs isPairValue count encode sameValue EachShows
+  places-show nil a r at p h d = tt
+  places-show (cons (int z) ws) a r at p h d = absurd (false≢true p)
+  places-show (cons (element g k) ws) a r at p h d = absurd (false≢true p)
+  places-show (cons (set vs) ws) a r at p h d = absurd (false≢true p)
+  places-show (cons (tuple nil) ws) a r at p h d = absurd (false≢true p)
+  places-show (cons (tuple (cons x nil)) ws) a r at p h d = absurd (false≢true p)
+  places-show (cons (tuple (cons x (cons y nil))) ws) a r at p h d =
       let v = tuple (cons x (cons y nil)) in
       let s = encodes ws ++ r in
       let l = ((encode x ++ (encode y ++ [])) ++ encodes ws) ++ r in
@@ -99,8 +99,8 @@ module _ (f : List ℕ) where
       let dl : drop (at + 2) f ≡ encode x ++ (encode y ++ s) = sym (drop-drop 2 at f) ∙ ap (drop 2) d ∙ e in
       let first-x : first l ≡ encode x = ap first e ∙ first-value x (encode y ++ s) (omega arith) in
       rw (first-x, g, span-value v s kv, rest-value v s kv)
-      (holds-if f (sameValue x a) at y _ _ (second-shows x y s at (omega arith) (omega arith) dl) (places-hold ws a r (at + length (encode v)) p (omega arith) dv))
-  places-hold (cons (tuple (cons x (cons y (cons z u)))) ws) a r at p h d = absurd (false≢true (rw (ne-eqb (suc (suc (suc (count u)))) 2 (λ e. omega arith)) at p))
+      (each-if f (sameValue x a) at y _ _ (second-shows x y s at (omega arith) (omega arith) dl) (places-show ws a r (at + length (encode v)) p (omega arith) dv))
+  places-show (cons (tuple (cons x (cons y (cons z u)))) ws) a r at p h d = absurd (false≢true (rw (ne-eqb (suc (suc (suc (count u)))) 2 (λ e. omega arith)) at p))
 
 -- ---- the two answers together
 pub apply-other : (vs : Values) (a : Value) → allPairs vs ≡ false → applyValue a vs ≡ misfit
@@ -120,5 +120,5 @@ apply-value vs a h = rw (rw (append-nil (encodes vs)) at (pairs-values vs [] (om
 
     go : (b : Bool) → allPairs vs ≡ b → Shows f (cond b (onlyPlace f (places (count vs) 2 (encodes vs) (encode a))) Misfit) (applyValue a vs)
     go true p =
-        rw (apply-pairs vs a p) (only-shows f _ _ (rw (append-nil (encodes vs)) at (places-hold f vs a [] 2 p (omega arith) (sym (append-nil (encodes vs))))))
+        rw (apply-pairs vs a p) (only-shows f _ _ (rw (append-nil (encodes vs)) at (places-show f vs a [] 2 p (omega arith) (sym (append-nil (encodes vs))))))
     go false p = rw (apply-other vs a p) tt
