@@ -2,7 +2,7 @@
 //! argument with one result, with none or with several, members that are no
 //! pairs below and above the pairs, arguments of every sort of value.
 
-use crate::enumerated::some_other;
+use crate::enumerated::{some_other, RESULT};
 use crate::rng::Rng;
 use crate::runnable::below;
 use coding::make::*;
@@ -24,7 +24,7 @@ pub fn applied_document(rng: &mut Rng) -> Tree {
     let mut paragraphs = names(rng);
     for i in 0..rng.from(1, 3) as u32 {
         paragraphs.push(match rng.percent(50) {
-            true => abbreviation(500 + 4 * i, &[], application(rng)),
+            true => abbreviation(RESULT + id(i, 0), &[], application(rng)),
             false => constraint(claim(rng)),
         });
     }

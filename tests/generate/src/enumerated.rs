@@ -12,6 +12,8 @@ const Z: u32 = 28;
 const GIVEN: u32 = 416;
 /// A set of the state.
 const OWN: u32 = 420;
+/// The first of the names for values worked out; the next ones follow it.
+pub const RESULT: u32 = 500;
 
 pub fn enumerated_document(rng: &mut Rng) -> Tree {
     let own = if rng.percent(50) { integers() } else { reference(GIVEN) };
@@ -20,7 +22,7 @@ pub fn enumerated_document(rng: &mut Rng) -> Tree {
     for i in 0..rng.from(1, 3) as u32 {
         let paragraph = match rng.percent(50) {
             true => constraint(claim(rng)),
-            false => abbreviation(500 + 4 * i, &[], listed(rng, 2)),
+            false => abbreviation(RESULT + id(i, 0), &[], listed(rng, 2)),
         };
         paragraphs.push(paragraph);
     }

@@ -22,6 +22,7 @@ pub mod typed;
 pub mod types;
 pub mod worst;
 
+use coding::Tree;
 use rng::Rng;
 use typed::Aim;
 
@@ -64,34 +65,16 @@ fn some_document(rng: &mut Rng) -> (&'static str, Vec<u32>) {
         0..=16 => broken(rng),
         17..=23 => ("shapes", shaped(rng)),
         24..=33 => ("limits", limits::at_a_limit(rng)),
-        34..=37 => {
-            let tree = special::special_document(rng);
-            ("one rule", number::encode_somehow(rng, &tree))
-        }
-        38..=46 => {
-            let tree = orders::order_document(rng);
-            ("order of findings", number::encode_somehow(rng, &tree))
-        }
+        34..=37 => ("one rule", numbered(rng, special::special_document)),
+        38..=46 => ("order of findings", numbered(rng, orders::order_document)),
         47..=53 => ("typed", accepted(rng, Aim::Check)),
         54..=69 => ("typed, with errors", with_error(rng, Aim::Check)),
         70..=79 => ("runnable", accepted(rng, Aim::Run)),
-        80..=88 => {
-            let tree = run_orders::trouble_document(rng);
-            ("order of troubles", number::encode_somehow(rng, &tree))
-        }
+        80..=88 => ("order of troubles", numbered(rng, run_orders::trouble_document)),
         89..=93 => ("runnable, with errors", with_error(rng, Aim::Run)),
-        94..=99 => {
-            let tree = runnable::arithmetic_document(rng);
-            ("values at their ends", number::encode_somehow(rng, &tree))
-        }
-        100..=104 => {
-            let tree = enumerated::enumerated_document(rng);
-            ("powers and products", number::encode_somehow(rng, &tree))
-        }
-        105..=113 => {
-            let tree = applied::applied_document(rng);
-            ("applications", number::encode_somehow(rng, &tree))
-        }
+        94..=99 => ("values at their ends", numbered(rng, runnable::arithmetic_document)),
+        100..=104 => ("powers and products", numbered(rng, enumerated::enumerated_document)),
+        105..=113 => ("applications", numbered(rng, applied::applied_document)),
         _ => ("numberings", numberings::renumbered(rng)),
     }
 }
@@ -101,19 +84,22 @@ fn broken(rng: &mut Rng) -> (&'static str, Vec<u32>) {
     match rng.below(17) {
         0..=2 => ("raw words", raw::raw_words(rng)),
         3 => ("any kind", raw::any_kind(rng)),
-        4..=6 => {
-            let sound = sound_document(rng);
-            ("damaged layout", raw::damage_layout(rng, &sound))
-        }
-        7..=13 => {
-            let sound = sound_document(rng);
-            ("damaged nodes", raw::damage_nodes(rng, &sound))
-        }
-        _ => {
-            let sound = sound_document(rng);
-            ("misused nodes", raw::misuse_nodes(rng, &sound))
-        }
+        4..=6 => ("damaged layout", damaged(rng, raw::damage_layout)),
+        7..=13 => ("damaged nodes", damaged(rng, raw::damage_nodes)),
+        _ => ("misused nodes", damaged(rng, raw::misuse_nodes)),
     }
+}
+
+/// The words of such a document, its nodes numbered in some way.
+fn numbered(rng: &mut Rng, make: fn(&mut Rng) -> Tree) -> Vec<u32> {
+    let tree = make(rng);
+    number::encode_somehow(rng, &tree)
+}
+
+/// The words of a sound document after such damage.
+fn damaged(rng: &mut Rng, damage: fn(&mut Rng, &[u32]) -> Vec<u32>) -> Vec<u32> {
+    let sound = sound_document(rng);
+    damage(rng, &sound)
 }
 
 fn shaped(rng: &mut Rng) -> Vec<u32> {
