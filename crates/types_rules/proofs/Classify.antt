@@ -7,7 +7,7 @@ use mathlib.Core.List.{List, [], _∷_, map}
 use mathlib.Core.Logic.{_⊎_, inl, inr, ⊎-elim}
 use mathlib.Core.Path.{_∙_, _≡_, ap, ap₂, refl, subst, sym}
 use native.Mathlib.Omega.{arith}
-use Rattle.types_rules.proofs.Finite.{all-at, all-of, depth, finite-bounded, solution, solution-sat}
+use Rattle.types_rules.proofs.Finite.{all-at, all-of, depth, finite-bounded, solution, solution-sat, solution-unknown}
 use Rattle.types_rules.proofs.Follows.{apart-clash, enough, links-in, merged-closed, merged-no-clash, rep-in}
 use Rattle.types_rules.proofs.Rational.{Says, outer-says, rep-sat, shape-1}
 use Rattle.types_rules.proofs.Solutions.{tcons-0, tcons-1, node-0, node-1}
@@ -17,8 +17,8 @@ use Rattle.types_rules.specs.Classify.{Out, Right, Solvable, Verdict, ap
 use Rattle.types_rules.specs.Equations.{AllP, In, Pairs, Solves, end, pair}
 use Rattle.types_rules.specs.Finite.{allb, bounded, fromList, typeOf}
 use Rattle.types_rules.specs.Follows.{shape}
-use Rattle.types_rules.specs.Former.{Former, int, sameFormer}
-use Rattle.types_rules.specs.Types.{Term, Terms, Ty, con, cons, nil, node, size, tcons, tnil, under, unders, unknown}
+use Rattle.types_rules.specs.Former.{Former, sameFormer}
+use Rattle.types_rules.specs.Types.{Term, Terms, Ty, con, cons, nil, node, size, tcons, under, unders, unknown, integerType}
 
 mutual
   unfolding sameTerm
@@ -77,7 +77,7 @@ kid-in c nil i = absurd i
 kid-in c (cons t ts) (inl e) = in-l c (subs t) (subss ts) (subst (λ z. In z (subs t)) (sym e) (self-in t))
 kid-in c (cons t ts) (inr i) = in-r c (subs t) (subss ts) (kid-in c ts i)
 
-abbrev Kids : List Term → Type 0
+abbrev pub Kids : List Term → Type 0
 Kids l = (n : Term) (h : Former) (cs : List Term) → In n l → viewTerm n ≡ shape h cs → (c : Term) → In c cs → In c l
 
 kids-join : (xs ys : List Term) → Kids xs → Kids ys → Kids (join xs ys)
@@ -113,7 +113,7 @@ all-map : (R S : Term → Term → Type 0) → ((a b : Term) → R a b → S a b
 all-map R S f end h = tt
 all-map R S f (pair a b P) h = (f a b (h .0), all-map R S f P (h .1))
 
-univ-all : (P : Pairs Term) → AllP (λ a b. In a (univ P) × In b (univ P)) P
+pub univ-all : (P : Pairs Term) → AllP (λ a b. In a (univ P) × In b (univ P)) P
 unfolding univ
 univ-all end = tt
 univ-all (pair a b P) = (
@@ -145,10 +145,10 @@ fromList-inj (x ∷ a) [] e = let z : _≡_ {A = ℕ} 0 1 = cc in absurd (omega 
 fromList-inj (x ∷ a) (y ∷ b) e = ap₂ _∷_ (tcons-0 _ _ _ _ e) (fromList-inj a b (tcons-1 _ _ _ _ e))
 
 module _ (P : Pairs Term) where
-  abbrev us : List Term
+  abbrev pub us : List Term
   us = univ P
 
-  abbrev run : Out Term
+  abbrev pub run : Out Term
   run = mergeLevels sameTerm viewTerm (length us) end P
 
   says : (σ : ℕ → Ty) → (o : Out Term) → run ≡ o →
@@ -160,13 +160,10 @@ module _ (P : Pairs Term) where
   rep-us : (L : Pairs Term) → run ≡ merged L → (n : Term) → In n us → In (rep sameTerm L n) us
   rep-us L e n i = rep-in Term sameTerm sameTerm-eq sameTerm-ne viewTerm P us (univ-kids P) L (links-in Term sameTerm sameTerm-eq sameTerm-ne viewTerm P us (univ-kids P) L (univ-all P) e) n i
 
-  zero-τ : Term → Ty
-  zero-τ t = node int tnil
-
-  -- What the tree gives is what its values at the unknowns give.
-  module _ (L : Pairs Term) (e : run ≡ merged L) (d : ℕ) (a : (n : Term) → In n us → bounded (rep sameTerm L) viewTerm d n ≡ true) where
+  -- What the tree gives is what its values at the unknowns give. β: the types of the unknowns that stand for themselves.
+  module _ (β : Term → Ty) (L : Pairs Term) (e : run ≡ merged L) (d : ℕ) (a : (n : Term) → In n us → bounded (rep sameTerm L) viewTerm d n ≡ true) where
     abbrev σ : Term → Ty
-    σ n = typeOf (rep sameTerm L) viewTerm zero-τ d n
+    σ n = typeOf (rep sameTerm L) viewTerm β d n
 
     abbrev σ₀ : ℕ → Ty
     σ₀ x = σ (unknown x)
@@ -178,7 +175,7 @@ module _ (P : Pairs Term) where
       σ-at (unknown x) i = refl
       σ-at (con h ts) i =
           ap (node h) (σ-ats ts (λ c j. univ-kids P (con h ts) h (toList ts) i refl c j))
-          ∙ sym (solution Term sameTerm sameTerm-eq sameTerm-ne viewTerm P L (merged-closed Term sameTerm sameTerm-eq sameTerm-ne viewTerm P (length us) L e) zero-τ d (con h ts) h (toList ts) (a (con h ts) i) refl)
+          ∙ sym (solution Term sameTerm sameTerm-eq sameTerm-ne viewTerm P L (merged-closed Term sameTerm sameTerm-eq sameTerm-ne viewTerm P (length us) L e) β d (con h ts) h (toList ts) (a (con h ts) i) refl)
 
       σ-ats : (ts : Terms) → ((c : Term) → In c (toList ts) → In c us) → unders σ₀ ts ≡ fromList (map σ (toList ts))
       σ-ats nil f = refl
@@ -188,8 +185,8 @@ module _ (P : Pairs Term) where
     sat-at end h q = tt
     sat-at (pair x y Q) h q = (σ-at x (h .0 .0) ∙ q .0 ∙ sym (σ-at y (h .0 .1)), sat-at Q (h .1) (q .1))
 
-    solved : Solvable P
-    solved = (σ₀, sat-at P (univ-all P) (solution-sat Term sameTerm sameTerm-eq sameTerm-ne viewTerm P L (merged-closed Term sameTerm sameTerm-eq sameTerm-ne viewTerm P (length us) L e) zero-τ d))
+    solved : Solves (under σ₀) P
+    solved = sat-at P (univ-all P) (solution-sat Term sameTerm sameTerm-eq sameTerm-ne viewTerm P L (merged-closed Term sameTerm sameTerm-eq sameTerm-ne viewTerm P (length us) L e) β d)
 
   finite : (L : Pairs Term) → run ≡ merged L → Solvable P → allb (bounded (rep sameTerm L) viewTerm (length us)) us ≡ true
   finite L e s =
@@ -205,10 +202,39 @@ module _ (P : Pairs Term) where
   judge-right (merged L) e = go (allb (bounded (rep sameTerm L) viewTerm (length us)) us) refl
     where
       go : (b : Bool) → allb (bounded (rep sameTerm L) viewTerm (length us)) us ≡ b → Right P (elim b as (λ x. Verdict) [ true ↦ solvable | false ↦ endless ])
-      go true q = (solved L e (length us) (λ n i. all-at _ us q n i), merged-no-clash Term sameTerm sameTerm-eq sameTerm-ne viewTerm P (length us) L e)
+      go true q = ((_, solved (λ t. integerType) L e (length us) (λ n i. all-at _ us q n i)), merged-no-clash Term sameTerm sameTerm-eq sameTerm-ne viewTerm P (length us) L e)
       go false q = (merged-no-clash Term sameTerm sameTerm-eq sameTerm-ne viewTerm P (length us) L e, λ s. bool-no _ (finite L e s) q)
 
--- Ask 10: the verdict is right.
+  -- Where there is a solution, merging ends with links, and all that it has linked has finite types.
+  pub record Links : Type 0 where
+    pub L : Pairs Term
+    pub is : run ≡ merged L
+    pub bound : (n : Term) → In n us → bounded (rep sameTerm L) viewTerm (length us) n ≡ true
+
+  pub links : Solvable P → Links
+  links s = go run refl
+    where
+      go : (o : Out Term) → run ≡ o → Links
+      go apart e = absurd (says (s .0) apart e (tt, s .1))
+      go spent e = absurd (enough Term sameTerm sameTerm-eq sameTerm-ne viewTerm P us (univ-kids P) (univ-all P) e)
+      go (merged L) e = record { L = L; is = e; bound = λ n i. all-at _ us (finite L e s) n i }
+
+  -- The solution with the types β at the unknowns that stand for themselves.
+  module _ (K : Links) (β : Term → Ty) where
+    unfoldable pub solution-by : ℕ → Ty
+    solution-by x = typeOf (rep sameTerm (K .L)) viewTerm β (length us) (unknown x)
+
+    pub by-solves : Solves (under solution-by) P
+    unfolding solution-by
+    by-solves = solved β (K .L) (K .is) (length us) (K .bound)
+
+    pub by-open : (y : ℕ) → rep sameTerm (K .L) (unknown y) ≡ unknown y → solution-by y ≡ β (unknown y)
+    unfolding solution-by viewTerm
+    by-open y q =
+        solution-unknown Term sameTerm sameTerm-eq sameTerm-ne viewTerm P (K .L) (merged-closed Term sameTerm sameTerm-eq sameTerm-ne viewTerm P (length us) (K .L) (K .is)) β (length us) (unknown y)
+        (ap viewTerm q) ∙ ap β q
+
+-- The verdict is right.
 pub classify-right : (P : Pairs Term) → Right P (classify P)
 unfolding classify
 classify-right P = judge-right P _ refl

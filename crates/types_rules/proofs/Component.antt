@@ -6,7 +6,7 @@ use mathlib.Core.List.{List, [], _∷_}
 use mathlib.Core.Option.{Option, some, none}
 use mathlib.Core.Path.{_≡_, refl, ap, subst}
 use native.Mathlib.Omega.{arith}
-use Rattle.types_rules.specs.Former.{identifiers}
+use Rattle.types_rules.specs.Former.{Former, identifiers}
 use Rattle.types_rules.specs.Types.{Ty, Term, Terms, unknown, con, nil, cons, under, unders, Each, Eachs, integerType}
 use Rattle.types_rules.specs.Component.{pick, pickType, component, componentType}
 
@@ -39,6 +39,10 @@ unfolding pick pickType under
 pick-none σ c [] ts e = refl
 pick-none σ c (i ∷ is) nil e = refl
 pick-none σ c (i ∷ is) (cons t ts) e = pick-n t (under σ t) (pick c is ts) (pickType c is (unders σ ts)) (eqb i c) (pick-none σ c is ts) e
+
+pub component-former : (σ : ℕ → Ty) (c : ℕ) (h : Former) (ts : Terms) → component c (con h ts) ≡ none → componentType c (under σ (con h ts)) ≡ none
+unfolding component componentType under
+component-former σ c h ts e = pick-none σ c (identifiers h) ts e
 
 -- Without the component in the term: none where each unknown is ℤ.
 pub component-none : (c : ℕ) (t : Term) → component c t ≡ none → componentType c (under (λ y. integerType) t) ≡ none

@@ -66,7 +66,7 @@ module _ (N : Type 0) (same : N → N → Bool) (same-eq : (a b : N) → same a 
       (λ e r. subst (λ z. F n z) (sym r) (rep-follows L (h .1) n))
 
   abbrev Found : Out N → Type 0
-  Found (merged L) = Unit {0}
+  Found (merged L) = AllP F L
   Found apart = Clash view P₀
   Found spent = Unit {0}
 
@@ -78,7 +78,7 @@ module _ (N : Type 0) (same : N → N → Bool) (same-eq : (a b : N) → same a 
 
   keeps : Keeps N same same-eq same-ne view Inv Found
   keeps = record {
-    fin = λ k L i. tt;
+    fin = λ k L i. i .0;
     skip = λ k L P a b i e. (i .0, i .1 .1);
     left = λ k L P a b i ne v. ((reps L P a b i, i .0), i .1 .1);
     right = λ k L P a b i ne v. ((symmetric (reps L P a b i), i .0), i .1 .1);
@@ -102,6 +102,10 @@ module _ (N : Type 0) (same : N → N → Bool) (same-eq : (a b : N) → same a 
   -- LAW C1: `apart` only where two different formers meet.
   pub apart-clash : (k : ℕ) → mergeLevels same view k end P₀ ≡ apart → Clash view P₀
   apart-clash k e = subst Found e (outer-run N same same-eq same-ne view Inv Found keeps k end P₀ (tt, all-in F P₀ (λ a b i. stated i)))
+
+  -- Every link follows from the equations, and so does what stands for a node.
+  pub merged-follows : (k : ℕ) (L : Pairs N) → mergeLevels same view k end P₀ ≡ merged L → AllP F L
+  merged-follows k L e = subst Found e (outer-run N same same-eq same-ne view Inv Found keeps k end P₀ (tt, all-in F P₀ (λ a b i. stated i)))
 
   -- LAW C2: where it ends with links, what follows is in one class, and no two different formers meet.
   pub follows-class : (L : Pairs N) → Closed same view P₀ L end → (a b : N) → F a b → rep same L a ≡ rep same L b

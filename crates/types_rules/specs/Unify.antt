@@ -67,6 +67,17 @@ unifyLevels (suc k) vs s es = unifyLevel (λ vs′ s′ es′. unifyLevels k vs�
 unfoldable pub unify : List ℕ → Substitution → Term → Term → Outcome
 unify vs s a b = unifyLevels (length vs) vs s (pair (resolve s a) (resolve s b) end)
 
+-- Several equations, one after another.
+unfoldable pub andThen : Outcome → (List ℕ → Substitution → Outcome) → Outcome
+andThen (ok vs s) k = k vs s
+andThen clash k = clash
+andThen cycle k = cycle
+andThen stuck k = stuck
+
+unfoldable pub unifyAll : List ℕ → Substitution → Pairs Term → Outcome
+unifyAll vs s end = ok vs s
+unifyAll vs s (pair a b P) = andThen (unify vs s a b) (λ vs′ s′. unifyAll vs′ s′ P)
+
 -- What an answer says of σ, when A says that σ solves what was given.
 abbrev pub Spec : (ℕ → Ty) → Outcome → Type 0 → Type 0
 Spec σ (ok vs s) A = (Respects σ s → A) × (A → Respects σ s)
