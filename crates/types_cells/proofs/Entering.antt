@@ -10,6 +10,7 @@ use lib.ListN.{length, getD, set, take, length-set}
 use lib.Seq.{take-set-le}
 use Rattle.types_rules.specs.Equations.{Pairs, Solves}
 use Rattle.types_rules.specs.Follows.{unk}
+use Rattle.types_rules.specs.Trees.{finite}
 use Rattle.types_rules.specs.Types.{Ty}
 use Rattle.types_cells.specs.Layout.{maxCells, poolSize, linksAt, recordsAt, argumentsAt, firstsAt, countsAt, settledFrom, firstRun, areaSize}
 use Rattle.types_cells.specs.Store.{frozen, linkAt, tagAt, load, view, viewOf, Held, Solved}
@@ -127,9 +128,9 @@ module _ (s d : List ℕ) (n p : ℕ) (E : Entering s d n p) (M : Made s (put s 
     old = λ i l. ap (λ w. view w (suc n) i) (X .kept .still) ∙ M .old i l;
     new = ap (λ w. view w (suc n) n) (X .kept .still) ∙ new-unk;
     pinned = λ P. X .pinned refl (suc n) (E .making .L) H₁ (made-pinned s d n 0 0 firstRun 0 sz few P) (omega arith);
-    before = λ σ O. made-before s d n 0 0 firstRun 0 sz few σ (settled-before t d n p S few-word (suc n) σ O);
-    type = λ g R σ O. settled-type t d n p S few-word (suc n) (omega arith) g (rd g R) σ O;
-    after = λ g R σ O e. settled-after t d n p S few-word (suc n) g (rd g R) σ (made-after s d n 0 0 firstRun 0 sz few σ O) e;
+    before = λ σ O. made-before s d n 0 0 firstRun 0 sz few σ (settled-before t d n p S few-word finite (suc n) σ O);
+    type = λ g R σ O. settled-type t d n p S few-word finite (suc n) (omega arith) g (rd g R) σ O;
+    after = λ g R σ O e. settled-after t d n p S few-word finite (suc n) g (rd g R) σ (made-after s d n 0 0 firstRun 0 sz few σ O) e;
     fit = ap (λ w. load w (suc n)) (X .kept .still) ∙ made-load s t n 0 0 firstRun 0 (E .making) M ∙ (let z : load (frozen s) n + 1 + 0 ≡ load (frozen s) n + 1 = omega arith in z);
     above = λ top B. subst (λ w. Above w (suc n) top) (sym (X .kept .still)) (made-above s t n 0 0 firstRun 0 (E .making) M top B (let z = B .low in omega arith) (λ e. absurd (omega arith)));
   }

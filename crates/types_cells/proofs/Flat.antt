@@ -21,8 +21,8 @@ use Rattle.types_rules.specs.Follows.{Follows, View}
 use Rattle.types_cells.specs.Layout.{maxCells, maxPending, poolSize, linksAt, settledFrom, areaSize}
 use Rattle.types_cells.specs.Store.{frozen, linkAt, linkOf, tagAt, view, Cell, load, Both, Held, Solved}
 use Rattle.types_cells.specs.Flat.{Kept, Direct, Refers, Straight}
-use Rattle.types_rules.specs.Types.{Ty}
-use Rattle.types_cells.specs.Settled.{lower, heap, wordAt, Reads, Readable, Pinned, Obeys}
+use Rattle.types_rules.specs.Trees.{Extent, Tree}
+use Rattle.types_cells.specs.Settled.{lower, heap, wordAt, Reads, Readable, Pinned, ObeysIn}
 use Rattle.types_cells.proofs.SettlingLaws.{heap-kept}
 use Rattle.types_cells.specs.Calls.{Root}
 use Rattle.types_cells.proofs.LinkLaws.{WfN, rep-below}
@@ -269,13 +269,13 @@ module _ (s t d : List ℕ) (n : ℕ) (K : Refers s t) where
     bare = λ i l v. let e = K .from i v in ap (λ z. tagAt z i) f ∙ P .bare i l (omega arith);
   }
 
-  pub refers-to : (σ : ℕ → Ty) → Obeys s d n σ → Obeys t d n σ
-  refers-to σ O i l v g R =
+  pub refers-to : (ε : Extent) (σ : ℕ → Tree ε) → ObeysIn ε s d n σ → ObeysIn ε t d n σ
+  refers-to ε σ O i l v g R =
       let e = K .from i v in
       O i l (omega arith) g (subst (λ z. Reads (heap s d) (z - settledFrom) g) e (subst (λ z. Reads z (wordAt t i - settledFrom) g) low-heap R))
 
-  pub refers-from : (σ : ℕ → Ty) → Obeys t d n σ → Obeys s d n σ
-  refers-from σ O i l v g R =
+  pub refers-from : (ε : Extent) (σ : ℕ → Tree ε) → ObeysIn ε t d n σ → ObeysIn ε s d n σ
+  refers-from ε σ O i l v g R =
       let e = K .to i v in
       O i l (omega arith) g (subst (λ z. Reads (heap t d) (z - settledFrom) g) (sym e) (subst (λ z. Reads z (wordAt s i - settledFrom) g) (sym low-heap) R))
 

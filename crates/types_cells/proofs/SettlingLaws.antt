@@ -11,16 +11,18 @@ use lib.Seq.{getD-set-same, getD-set-other, take-set-le}
 use borrow.Author.Tests.{eqb-true, eqb-false}
 use Rattle.types_rules.proofs.Rational.{rep-sat}
 use Rattle.types_rules.proofs.Terms.{bool-no}
+use Rattle.types_rules.proofs.Trees.{whole-same}
 use Rattle.types_rules.specs.Classes.{Closed, rep}
 use Rattle.types_rules.specs.Equations.{AllP, Pairs, Solves, end}
 use Rattle.types_rules.specs.Finite.{fromList}
 use Rattle.types_rules.specs.Follows.{Follows}
 use Rattle.types_rules.specs.Former.{Former}
-use Rattle.types_rules.specs.Types.{Ty, Tys, node, tnil, tcons}
+use Rattle.types_rules.specs.Trees.{Extent, Tree, whole}
+use Rattle.types_rules.specs.Types.{Ty}
 use Rattle.types_cells.specs.Layout.{maxCells, poolSize, linksAt, settledFrom}
 use Rattle.types_cells.specs.Store.{frozen, linkAt, linkPart, tagAt, formerAt, countAt, firstAt, partsAt, run, view, Cell, Held, Solved}
 use Rattle.types_cells.specs.Calls.{Root, Tells}
-use Rattle.types_cells.specs.Settled.{lower, heap, Reads, Readable, wordAt, Pinned, Obeys, Fits, SameType, Kept, Pinning, Adds, Pin, Settling}
+use Rattle.types_cells.specs.Settled.{lower, heap, Reads, Readable, wordAt, Pinned, ObeysIn, SameType, Kept, Pinning, Pin, Settling}
 use Rattle.types_cells.proofs.Words.{frozen-set, link-none, link-part, link-same}
 use Rattle.types_cells.proofs.LinkLaws.{held-same}
 use Rattle.types_cells.proofs.Reading.{reads-one}
@@ -110,35 +112,36 @@ module _ (s d : List ℕ) (r p : ℕ) (S : Settling s d r p) where
   bare-c n Q i l false e v = let m = miss i (eqb-false i r e) in ap (λ z. tagAt z i) (kept₁ .still) ∙ Q .bare i l (omega arith)
 
   module _ (none : wordAt s r < settledFrom) where
-    pub settled-before : (n : ℕ) (σ : ℕ → Ty) → Obeys s₁ d n σ → Obeys s d n σ
-    settled-before n σ O i l v g R =
-        let ne : i ≡ r → ⊥ = λ e. let z = ap (wordAt s) e in omega arith in
+    pub settled-before : (ε : Extent) (n : ℕ) (σ : ℕ → Tree ε) → ObeysIn ε s₁ d n σ → ObeysIn ε s d n σ
+    settled-before ε n σ O i l v g R =
+        let ne : i ≡ r → ⊥ = λ q. let z = ap (wordAt s) q in omega arith in
         let m = miss i ne in
         O i l (omega arith) g (subst (λ z. Reads z (wordAt s₁ i - settledFrom) g) (sym eh) (subst (λ z. Reads (heap s d) (z - settledFrom) g) (sym m) R))
 
-    pub settled-after : (n : ℕ) (g : Ty) → Reads (heap s d) p g → (σ : ℕ → Ty) → Obeys s d n σ → σ r ≡ g → Obeys s₁ d n σ
-    settled-after n g R σ O e i l v k Q = go (eqb i r) refl
+    pub settled-after : (ε : Extent) (n : ℕ) (g : Ty) → Reads (heap s d) p g → (σ : ℕ → Tree ε) → ObeysIn ε s d n σ → σ r ≡ whole ε g → ObeysIn ε s₁ d n σ
+    settled-after ε n g R σ O f i l v k Q = go (eqb i r) refl
       where
-        go : (b : Bool) → eqb i r ≡ b → σ i ≡ k
+        go : (b : Bool) → eqb i r ≡ b → σ i ≡ whole ε k
         go true z =
             let q = eqb-true i r z in
-            ap σ q ∙ e ∙ reads-one (heap s d) p g k R (subst (λ y. Reads y p k) eh (subst (λ y. Reads (heap s₁ d) y k) (ap (λ y. wordAt s₁ y - settledFrom) q ∙ ap (λ y. y - settledFrom) hit ∙ place) Q))
+            ap σ q ∙ f
+            ∙ ap (whole ε) (reads-one (heap s d) p g k R (subst (λ y. Reads y p k) eh (subst (λ y. Reads (heap s₁ d) y k) (ap (λ y. wordAt s₁ y - settledFrom) q ∙ ap (λ y. y - settledFrom) hit ∙ place) Q)))
         go false z =
             let m = miss i (eqb-false i r z) in
             O i l (omega arith) k (subst (λ y. Reads (heap s d) (y - settledFrom) k) m (subst (λ y. Reads y (wordAt s₁ i - settledFrom) k) eh Q))
 
-    pub settled-type : (n : ℕ) → r < n → (g : Ty) → Reads (heap s d) p g → (σ : ℕ → Ty) → Obeys s₁ d n σ → σ r ≡ g
-    settled-type n l g R σ O =
+    pub settled-type : (ε : Extent) (n : ℕ) → r < n → (g : Ty) → Reads (heap s d) p g → (σ : ℕ → Tree ε) → ObeysIn ε s₁ d n σ → σ r ≡ whole ε g
+    settled-type ε n l g R σ O =
         O r l (let z = hit in omega arith) g (subst (λ z. Reads z (wordAt s₁ r - settledFrom) g) (sym eh) (subst (λ z. Reads (heap s d) z g) (sym (ap (λ z. z - settledFrom) hit ∙ place)) R))
 
     pub settled : Pin s s₁ d r p true
     settled = record {
       kept = kept₁;
       pinned = λ f n L h Q l. record { reads = λ i m. pinned-c n Q i m (eqb i r) refl; bare = λ i m. bare-c n Q i m (eqb i r) refl };
-      goes = λ f n L h Q l g R σ F Sv. record {
-        before = settled-before n σ;
-        type = settled-type n l g R σ;
-        after = settled-after n g R σ;
+      goes = λ f n L h Q l g R ε σ F Sv. record {
+        before = settled-before ε n σ;
+        type = settled-type ε n l g R σ;
+        after = settled-after ε n g R σ;
       };
       stops = λ f. absurd (bool-no true refl f);
     }
@@ -148,11 +151,11 @@ module _ (s d : List ℕ) (r p : ℕ) (S : Settling s d r p) where
   compared b v T = record {
     kept = kept-refl s;
     pinned = λ f n L h Q l. Q;
-    goes = λ f n L h Q l g R σ F Sv.
+    goes = λ f n L h Q l g R ε σ F Sv.
         let D = Q .reads r l v in
         let same : g ≡ D .type = T .tells g (D .type) R (D .reads) .holds f in
-        record { before = λ O. O; type = λ O. O r l v (D .type) (D .reads) ∙ sym same; after = λ O e. O };
-    stops = λ f n L h Q l g R σ F Sv O e.
+        record { before = λ O. O; type = λ O. O r l v (D .type) (D .reads) ∙ ap (whole ε) (sym same); after = λ O q. O };
+    stops = λ f n L h Q l g R ε σ F Sv O q.
         let D = Q .reads r l v in
-        T .tells g (D .type) R (D .reads) .fails f (sym e ∙ O r l v (D .type) (D .reads));
+        T .tells g (D .type) R (D .reads) .fails f (whole-same ε g (D .type) (sym q ∙ O r l v (D .type) (D .reads)));
   }

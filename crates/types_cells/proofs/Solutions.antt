@@ -19,6 +19,6 @@ gs-inj (x ∷ a) (y ∷ b) q = let e : x ≡ y = cc in let t : fromList a ≡ fr
 pub mk-c : (h k : Former) (a b : List Ty) → build h a ≡ build k b → a ≡ b
 mk-c h k a b q = let t : fromList a ≡ fromList b = cc in gs-inj a b t
 
-pub sat-all : (σ : ℕ → Ty) (R : ℕ → ℕ → Type 0) → ((a b : ℕ) → R a b → σ a ≡ σ b) → (L : Pairs ℕ) → AllP R L → Solves σ L
+pub sat-all : {D : Type 0} (σ : ℕ → D) (R : ℕ → ℕ → Type 0) → ((a b : ℕ) → R a b → σ a ≡ σ b) → (L : Pairs ℕ) → AllP R L → Solves σ L
 sat-all σ R f end h = tt
 sat-all σ R f (pair a b L) h = (f a b (h .0), sat-all σ R f L (h .1))

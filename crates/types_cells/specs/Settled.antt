@@ -7,13 +7,13 @@ use Prim.Native.Nat.{ℕ, zero, suc, _+_, _-_, _≤_, _<_, _^_}
 use lib.Dec.{eqb}
 use lib.ListN.{length, getD, take, drop}
 use Rattle.types_rules.specs.Former.{Former}
-use Rattle.types_rules.specs.Types.{Ty, node}
+use Rattle.types_rules.specs.Trees.{Extent, finite, Tree, build, whole}
+use Rattle.types_rules.specs.Types.{Ty}
 use Rattle.types_rules.specs.Formed.{WellFormed}
 use mathlib.Core.Option.{Option, some, none}
 use Rattle.types_rules.specs.Component.{componentType}
 use Rattle.types_rules.specs.Words.{words}
 use Rattle.types_rules.specs.Equations.{Pairs, Solves}
-use Rattle.types_rules.specs.Finite.{fromList}
 use Rattle.types_rules.specs.Follows.{View, shape, unk}
 use Rattle.types_cells.specs.Layout.{poolSize, linksAt, marksAt, settledFrom, firstRun, areaSize}
 use Rattle.types_cells.specs.Store.{frozen, linkAt, tagAt, view, load, Held, Solved}
@@ -78,13 +78,19 @@ pub record Pinned (s d : List ℕ) (n : ℕ) : Type 0 where
   pub reads : (i : ℕ) → i < n → settledFrom ≤ wordAt s i → Readable (heap s d) (wordAt s i - settledFrom)
   pub bare : (i : ℕ) → i < n → settledFrom ≤ wordAt s i → tagAt (frozen s) i ≡ 0
 
--- σ gives each settled cell the type that it refers to.
+-- σ gives each settled cell the type that it refers to. Here and below ε says whether σ gives types, or possibly infinite types (types_rules, specs/Trees).
+abbrev pub ObeysIn : (ε : Extent) → List ℕ → List ℕ → ℕ → (ℕ → Tree ε) → Type 0
+ObeysIn ε s d n σ = (i : ℕ) → i < n → settledFrom ≤ wordAt s i → (g : Ty) → Reads (heap s d) (wordAt s i - settledFrom) g → σ i ≡ whole ε g
+
 abbrev pub Obeys : List ℕ → List ℕ → ℕ → (ℕ → Ty) → Type 0
-Obeys s d n σ = (i : ℕ) → i < n → settledFrom ≤ wordAt s i → (g : Ty) → Reads (heap s d) (wordAt s i - settledFrom) g → σ i ≡ g
+Obeys s d n σ = ObeysIn finite s d n σ
 
 -- σ gives each cell with a former the type that its parts make.
+abbrev pub FitsIn : (ε : Extent) → List ℕ → ℕ → (ℕ → Tree ε) → Type 0
+FitsIn ε w n σ = (i : ℕ) (h : Former) (cs : List ℕ) → view w n i ≡ shape h cs → σ i ≡ build ε h (map σ cs)
+
 abbrev pub Fits : List ℕ → ℕ → (ℕ → Ty) → Type 0
-Fits w n σ = (i : ℕ) (h : Former) (cs : List ℕ) → view w n i ≡ shape h cs → σ i ≡ node h (fromList (map σ cs))
+Fits w n σ = FitsIn finite w n σ
 
 pub record Readings (s d : List ℕ) (p q : ℕ) : Type 0 where
   pub areas : Areas s d
@@ -114,19 +120,19 @@ pub record Pinning (s d : List ℕ) (c p : ℕ) : Type 0 where
   pub readable : Readable (heap s d) p
 
 -- σ obeys s′ exactly where it obeys s and gives c the type g.
-pub record Adds (s s′ d : List ℕ) (n : ℕ) (c : ℕ) (g : Ty) (σ : ℕ → Ty) : Type 0 where
-  pub before : Obeys s′ d n σ → Obeys s d n σ
-  pub type : Obeys s′ d n σ → σ c ≡ g
-  pub after : Obeys s d n σ → σ c ≡ g → Obeys s′ d n σ
+pub record Adds (ε : Extent) (s s′ d : List ℕ) (n : ℕ) (c : ℕ) (g : Ty) (σ : ℕ → Tree ε) : Type 0 where
+  pub before : ObeysIn ε s′ d n σ → ObeysIn ε s d n σ
+  pub type : ObeysIn ε s′ d n σ → σ c ≡ whole ε g
+  pub after : ObeysIn ε s d n σ → σ c ≡ whole ε g → ObeysIn ε s′ d n σ
 
 -- Cell c is given the type at p. True: the solutions are those before that give c this type. False: there is none.
 pub record Pin (s s′ d : List ℕ) (c p : ℕ) (fine : Bool) : Type 0 where
   pub kept : Kept s s′
   pub pinned : fine ≡ true → (n : ℕ) (L : Pairs ℕ) → Held s n L → Pinned s d n → c < n → Pinned s′ d n
   pub goes : fine ≡ true → (n : ℕ) (L : Pairs ℕ) → Held s n L → Pinned s d n → c < n → (g : Ty) → Reads (heap s d) p g →
-      (σ : ℕ → Ty) → Fits (frozen s) n σ → Solves σ L → Adds s s′ d n c g σ
+      (ε : Extent) (σ : ℕ → Tree ε) → FitsIn ε (frozen s) n σ → Solves σ L → Adds ε s s′ d n c g σ
   pub stops : fine ≡ false → (n : ℕ) (L : Pairs ℕ) → Held s n L → Pinned s d n → c < n → (g : Ty) → Reads (heap s d) p g →
-      (σ : ℕ → Ty) → Fits (frozen s) n σ → Solves σ L → Obeys s d n σ → σ c ≡ g → ⊥
+      (ε : Extent) (σ : ℕ → Tree ε) → FitsIn ε (frozen s) n σ → Solves σ L → ObeysIn ε s d n σ → σ c ≡ whole ε g → ⊥
 
 -- The same for an unknown that is its own representative.
 pub record Settling (s d : List ℕ) (r p : ℕ) : Type 0 where

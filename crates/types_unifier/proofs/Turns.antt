@@ -15,14 +15,13 @@ use Rattle.types_rules.specs.Follows.{Clash, Follows, View, matching, reflexive
 use Rattle.types_cells.specs.Layout.{maxCells, maxPending, linksAt, pairsAt, secondsAt, settledFrom, areaSize}
 use Rattle.types_cells.specs.Store.{frozen, linkAt, tagAt, countAt, view, Cell, load, weight, Both, Held, Solved, pending, Busy}
 use Rattle.types_rules.specs.Equations.{Solves}
-use Rattle.types_rules.specs.Types.{Ty}
+use Rattle.types_rules.specs.Trees.{Extent, Tree, build}
 use Rattle.types_rules.proofs.Transfer.{follows-holds}
-use Rattle.types_rules.proofs.Classify.{build}
+use Rattle.types_rules.proofs.Trees.{build-parts}
 use Rattle.types_cells.specs.Calls.{Known, Root}
-use Rattle.types_cells.specs.Settled.{lower, wordAt, Pinned, Obeys, Fits, Kept}
+use Rattle.types_cells.specs.Settled.{lower, wordAt, Pinned, FitsIn, Kept}
 use Rattle.types_unifier.specs.Comparing.{Two, Alike, Pushing, Pushed}
 use Rattle.types_unifier.specs.Merging.{Open, Next, Same, NoSolution, Turned, Popped, Tying, Tied, Drained, Asking, Merged, Done}
-use Rattle.types_cells.proofs.Solutions.{mk-c}
 use Rattle.types_unifier.proofs.Tying.{busy-solves, clash-none, unlinked-pinned, unlinked-obeys, linked-obeys, low₁, other₁, hit₁, busy-kept, alike-pinned, alike-to, alike-from, lower-front, free-pinned, free-to, free-from}
 use Rattle.types_cells.proofs.Growing.{lt-or-ge}
 use mathlib.Core.Logic.{⊎-elim}
@@ -69,7 +68,7 @@ module _ (s d : List ℕ) (k : ℕ) (o : Open s d (suc k)) where
     falls = λ t. omega arith;
     goes = λ t n P₀ L B P. skip s n P₀ L k B
         (rx .is n L (B .held) (below-a s n P₀ L k B) ∙ e ∙ sym (ry .is n L (B .held) (below-b s n P₀ L k B)));
-    same = λ t n P₀ L B P. record { pinned = P; to = λ σ F S O. O; from = λ σ F S O. O };
+    same = λ t n P₀ L B P. record { pinned = P; to = λ ε σ F S O. O; from = λ ε σ F S O. O };
     stops = λ f n P₀ L B. absurd (bool-no true refl f);
   }
 
@@ -100,15 +99,15 @@ module _ (s d : List ℕ) (k x y : ℕ) (p : Popped s d k x y) where
   few-y = let l = y-below (o .n) (o .P₀) (o .L) (o .busy) in let f = o .busy .held .few in omega arith
 
   -- Solutions make the two representatives equal.
-  one-type : (n : ℕ) (P₀ L : Pairs ℕ) → Busy s n P₀ L (suc k) → (σ : ℕ → Ty) → Fits (frozen s) n σ → Solves σ P₀ → σ x ≡ σ y
-  one-type n P₀ L B σ F S =
-      follows-holds build mk-c (view (frozen s) n) P₀ σ F S x y
+  one-type : (n : ℕ) (P₀ L : Pairs ℕ) → Busy s n P₀ L (suc k) → (ε : Extent) (σ : ℕ → Tree ε) → FitsIn ε (frozen s) n σ → Solves σ P₀ → σ x ≡ σ y
+  one-type n P₀ L B ε σ F S =
+      follows-holds (build ε) (build-parts ε) (view (frozen s) n) P₀ σ F S x y
       (meets s n P₀ L k B x y (ra n P₀ L B) (rb n P₀ L B) (p .apart) (p .left .free) (p .right .free))
 
   -- The unknown u, one of the two, is linked to v, the other.
   module _ (u v : ℕ) (fu : u < maxCells) (fv : v < maxCells) (free : linkAt s u ≡ 0)
       (below : (n : ℕ) (P₀ L : Pairs ℕ) → Busy s n P₀ L (suc k) → (u < n) × (v < n))
-      (one : (n : ℕ) (P₀ L : Pairs ℕ) → Busy s n P₀ L (suc k) → (σ : ℕ → Ty) → Fits (frozen s) n σ → Solves σ P₀ → σ u ≡ σ v)
+      (one : (n : ℕ) (P₀ L : Pairs ℕ) → Busy s n P₀ L (suc k) → (ε : Extent) (σ : ℕ → Tree ε) → FitsIn ε (frozen s) n σ → Solves σ P₀ → σ u ≡ σ v)
       (next : (n : ℕ) (P₀ L : Pairs ℕ) → Busy s n P₀ L (suc k) → Next (set s (linksAt + u) (suc v)) n P₀ k) where
     abbrev t : List ℕ
     t = set s (linksAt + u) (suc v)
@@ -119,9 +118,9 @@ module _ (s d : List ℕ) (k x y : ℕ) (p : Popped s d k x y) where
         let b = below (o .n) (o .P₀) (o .L) (o .busy) in
         record { n = o .n; L = N .L; size = size; held = N .busy .held; pinned = o .pinned; few = o .few; left = b .0; right = b .1 }
 
-    solves : (n : ℕ) (P₀ L : Pairs ℕ) (B : Busy s n P₀ L (suc k)) (σ : ℕ → Ty) → Fits (frozen s) n σ → Solves σ P₀ → Solves σ (next n P₀ L B .L) × (σ u ≡ σ v)
-    solves n P₀ L B σ F S =
-        (busy-solves t n P₀ (next n P₀ L B .L) (next n P₀ L B .busy .follows) σ (subst (λ w. Fits w n σ) (sym (still₁ s u v size fu fv)) F) S, one n P₀ L B σ F S)
+    solves : (n : ℕ) (P₀ L : Pairs ℕ) (B : Busy s n P₀ L (suc k)) (ε : Extent) (σ : ℕ → Tree ε) → FitsIn ε (frozen s) n σ → Solves σ P₀ → Solves σ (next n P₀ L B .L) × (σ u ≡ σ v)
+    solves n P₀ L B ε σ F S =
+        (busy-solves t n P₀ (next n P₀ L B .L) (next n P₀ L B .busy .follows) ε σ (subst (λ w. FitsIn ε w n σ) (sym (still₁ s u v size fu fv)) F) S, one n P₀ L B ε σ F S)
 
     tied-turned : (s′ : List ℕ) (b : Bool) → Tied s s′ d u v b → Turned s s′ d (suc k) b k
     tied-turned s′ b T = record {
@@ -142,11 +141,11 @@ module _ (s d : List ℕ) (k x y : ℕ) (p : Popped s d k x y) where
       (λ n P₀ L B. left-unk s n P₀ L k B x y (ra n P₀ L B) (rb n P₀ L B) (p .apart) (p .left .free) (p .right .free) t)
 
   pub right-tying : tagAt (frozen s) y ≡ 0 → Tying s d y x
-  right-tying t = tied-tying y x few-y few-x (p .right .free) (λ n P₀ L B. (y-below n P₀ L B, x-below n P₀ L B)) (λ n P₀ L B σ F S. sym (one-type n P₀ L B σ F S))
+  right-tying t = tied-tying y x few-y few-x (p .right .free) (λ n P₀ L B. (y-below n P₀ L B, x-below n P₀ L B)) (λ n P₀ L B ε σ F S. sym (one-type n P₀ L B ε σ F S))
       (λ n P₀ L B. right-unk s n P₀ L k B x y (ra n P₀ L B) (rb n P₀ L B) (p .apart) (p .left .free) (p .right .free) t)
 
   pub right-turned : tagAt (frozen s) y ≡ 0 → (s′ : List ℕ) (b : Bool) → Tied s s′ d y x b → Turned s s′ d (suc k) b k
-  right-turned t = tied-turned y x few-y few-x (p .right .free) (λ n P₀ L B. (y-below n P₀ L B, x-below n P₀ L B)) (λ n P₀ L B σ F S. sym (one-type n P₀ L B σ F S))
+  right-turned t = tied-turned y x few-y few-x (p .right .free) (λ n P₀ L B. (y-below n P₀ L B, x-below n P₀ L B)) (λ n P₀ L B ε σ F S. sym (one-type n P₀ L B ε σ F S))
       (λ n P₀ L B. right-unk s n P₀ L k B x y (ra n P₀ L B) (rb n P₀ L B) (p .apart) (p .left .free) (p .right .free) t)
 
   module _ (tx : 0 < tagAt (frozen s) x) (ty : 0 < tagAt (frozen s) y) where
@@ -168,8 +167,8 @@ module _ (s d : List ℕ) (k x y : ℕ) (p : Popped s d k x y) where
       falls = λ e. absurd (bool-no false e refl);
       goes = λ e n P₀ L B. absurd (bool-no false e refl);
       same = λ e n P₀ L B. absurd (bool-no false e refl);
-      stops = λ f n P₀ L B P σ F S O.
-          clash-none (frozen s) n P₀ (apart s n P₀ L k B x y (ra n P₀ L B) (rb n P₀ L B) (p .apart) (p .left .free) (p .right .free) tx ty d′) σ F S;
+      stops = λ f n P₀ L B P ε σ F S O.
+          clash-none (frozen s) n P₀ (apart s n P₀ L k B x y (ra n P₀ L B) (rb n P₀ L B) (p .apart) (p .left .free) (p .right .free) tx ty d′) ε σ F S;
     }
 
     module _ (al : Alike (frozen s) x y) where
@@ -223,8 +222,8 @@ module _ (s d : List ℕ) (k x y : ℕ) (p : Popped s d k x y) where
               tx ty al s₂ r len (q .count) (q .still) (q .front) (q .pairs);
           same = λ e n P₀ L B P. record {
             pinned = free-pinned s s₂ d n x low₂ still₂ (λ i l ne. words₂ i (small n (B .held .few) i l) ne) hit₂ (not-settled n P (x-below n P₀ L B)) P;
-            to = λ σ F S O. free-to s s₂ d n x low₂ still₂ (λ i l ne. words₂ i (small n (B .held .few) i l) ne) hit₂ (not-settled n P (x-below n P₀ L B)) σ O;
-            from = λ σ F S O. free-from s s₂ d n x low₂ still₂ (λ i l ne. words₂ i (small n (B .held .few) i l) ne) hit₂ (not-settled n P (x-below n P₀ L B)) σ O;
+            to = λ ε σ F S O. free-to s s₂ d n x low₂ still₂ (λ i l ne. words₂ i (small n (B .held .few) i l) ne) hit₂ (not-settled n P (x-below n P₀ L B)) ε σ O;
+            from = λ ε σ F S O. free-from s s₂ d n x low₂ still₂ (λ i l ne. words₂ i (small n (B .held .few) i l) ne) hit₂ (not-settled n P (x-below n P₀ L B)) ε σ O;
           };
           stops = λ f n P₀ L B. absurd (bool-no true refl f);
         }
@@ -272,8 +271,8 @@ begin-same s d n P₀ L S Pn x y P =
     let st = push-frozen s 0 x y size (omega arith) in
     record {
       pinned = alike-pinned s (pushed s 0 x y) d n lo st (words size) Pn;
-      to = λ σ F S′ O. alike-to s (pushed s 0 x y) d n lo st (words size) σ O;
-      from = λ σ F S′ O. alike-from s (pushed s 0 x y) d n lo st (words size) σ O;
+      to = λ ε σ F S′ O. alike-to s (pushed s 0 x y) d n lo st (words size) ε σ O;
+      from = λ ε σ F S′ O. alike-from s (pushed s 0 x y) d n lo st (words size) ε σ O;
     }
   where
     words : length s ≡ areaSize → (i : ℕ) → i < n → wordAt (pushed s 0 x y) i ≡ wordAt s i
@@ -282,12 +281,12 @@ begin-same s d n P₀ L S Pn x y P =
 pub same-on : (s t u d : List ℕ) (n : ℕ) (P₀ : Pairs ℕ) → frozen t ≡ frozen s → Same s t d n P₀ → Same t u d n P₀ → Same s u d n P₀
 same-on s t u d n P₀ e A B = record {
   pinned = B .pinned;
-  to = λ σ F S O. B .to σ (subst (λ w. Fits w n σ) (sym e) F) S (A .to σ F S O);
-  from = λ σ F S O. A .from σ F S (B .from σ (subst (λ w. Fits w n σ) (sym e) F) S O);
+  to = λ ε σ F S O. B .to ε σ (subst (λ w. FitsIn ε w n σ) (sym e) F) S (A .to ε σ F S O);
+  from = λ ε σ F S O. A .from ε σ F S (B .from ε σ (subst (λ w. FitsIn ε w n σ) (sym e) F) S O);
 }
 
 pub none-on : (s t d : List ℕ) (n : ℕ) (P₀ : Pairs ℕ) → frozen t ≡ frozen s → Same s t d n P₀ → NoSolution t d n P₀ → NoSolution s d n P₀
-none-on s t d n P₀ e A N σ F S O = N σ (subst (λ w. Fits w n σ) (sym e) F) S (A .to σ F S O)
+none-on s t d n P₀ e A N ε σ F S O = N ε σ (subst (λ w. FitsIn ε w n σ) (sym e) F) S (A .to ε σ F S O)
 
 pub finish : (s : List ℕ) (n : ℕ) (P₀ : Pairs ℕ) (k : ℕ) → k ≤ 0 → Next s n P₀ k → Done s n P₀
 unfolding pending
@@ -308,7 +307,7 @@ draining-start s d = record {
   still = refl;
   low = refl;
   next = λ n P₀ L B P. record { L = L; busy = B };
-  same = λ n P₀ L B P. record { pinned = P; to = λ σ F S O. O; from = λ σ F S O. O };
+  same = λ n P₀ L B P. record { pinned = P; to = λ ε σ F S O. O; from = λ ε σ F S O. O };
 }
 
 module _ (s t u d : List ℕ) (k j r : ℕ) (b : Bool) (D : Draining s t d k) (e : k ≡ suc j) (T : Turned t u d (suc j) b r) where

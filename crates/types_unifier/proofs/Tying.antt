@@ -12,34 +12,30 @@ use borrow.Author.Tests.{eqb-true, eqb-false}
 use Rattle.types_rules.proofs.Terms.{bool-no}
 use Rattle.types_rules.proofs.Follows.{map-len}
 use Rattle.types_rules.proofs.Transfer.{follows-holds}
-use Rattle.types_rules.proofs.Classify.{build}
+use Rattle.types_rules.proofs.Trees.{build-former, build-parts}
 use Rattle.types_rules.specs.Equations.{AllP, Pairs, Solves, pair}
-use Rattle.types_rules.specs.Finite.{fromList}
 use Rattle.types_rules.specs.Follows.{Clash, Follows}
-use Rattle.types_rules.specs.Former.{Former}
-use Rattle.types_rules.specs.Types.{Ty, Tys, node}
+use Rattle.types_rules.specs.Trees.{Extent, Tree, build, whole}
+use Rattle.types_rules.specs.Types.{Ty}
 use Rattle.types_cells.specs.Layout.{maxCells, poolSize, linksAt, pairsAt, secondsAt, settledFrom, areaSize}
 use Rattle.types_cells.specs.Store.{frozen, linkAt, tagAt, view, weight, Held, pending, Busy}
-use Rattle.types_cells.specs.Settled.{lower, heap, Reads, Readable, wordAt, Pinned, Obeys, Fits, Kept, Pinning, Pin}
+use Rattle.types_cells.specs.Settled.{lower, heap, Reads, Readable, wordAt, Pinned, ObeysIn, FitsIn, Kept, Pinning, Pin}
 use Rattle.types_unifier.specs.Merging.{Same, NoSolution, Tying, Tied}
 use Rattle.types_cells.proofs.Words.{frozen-set}
 use Rattle.types_unifier.proofs.Linking.{weight-same, busy}
-use Rattle.types_cells.proofs.Solutions.{mk-c, sat-all}
+use Rattle.types_cells.proofs.Solutions.{sat-all}
 use Rattle.types_cells.proofs.SettlingLaws.{heap-kept, kept-refl, kept-held}
 
 -- Solutions of the equations solve the links.
-pub busy-solves : (s : List ℕ) (n : ℕ) (P₀ L : Pairs ℕ) → AllP (Follows (view (frozen s) n) P₀) L → (σ : ℕ → Ty) → Fits (frozen s) n σ → Solves σ P₀ → Solves σ L
-busy-solves s n P₀ L f σ F S = sat-all σ _ (follows-holds build mk-c (view (frozen s) n) P₀ σ F S) L f
-
-node-0 : (h k : Former) (a b : Tys) → node h a ≡ node k b → h ≡ k
-node-0 h k a b q = cc
+pub busy-solves : (s : List ℕ) (n : ℕ) (P₀ L : Pairs ℕ) → AllP (Follows (view (frozen s) n) P₀) L → (ε : Extent) (σ : ℕ → Tree ε) → FitsIn ε (frozen s) n σ → Solves σ P₀ → Solves σ L
+busy-solves s n P₀ L f ε σ F S = sat-all σ _ (follows-holds (build ε) (build-parts ε) (view (frozen s) n) P₀ σ F S) L f
 
 -- Where two formers clash there is no solution.
-pub clash-none : (w : List ℕ) (n : ℕ) (P₀ : Pairs ℕ) → Clash (view w n) P₀ → (σ : ℕ → Ty) → Fits w n σ → Solves σ P₀ → ⊥
-clash-none w n P₀ c σ F S =
-    let e = follows-holds build mk-c (view w n) P₀ σ F S (c .n) (c .m) (c .meet) in
+pub clash-none : (w : List ℕ) (n : ℕ) (P₀ : Pairs ℕ) → Clash (view w n) P₀ → (ε : Extent) (σ : ℕ → Tree ε) → FitsIn ε w n σ → Solves σ P₀ → ⊥
+clash-none w n P₀ c ε σ F S =
+    let e = follows-holds (build ε) (build-parts ε) (view w n) P₀ σ F S (c .n) (c .m) (c .meet) in
     let q = sym (F (c .n) (c .h) (c .cs) (c .vn)) ∙ e ∙ F (c .m) (c .g) (c .ds) (c .vm) in
-    c .differ (node-0 _ _ _ _ q) (map-len σ (c .cs) (c .ds) (mk-c _ _ _ _ q))
+    c .differ (build-former ε _ _ _ _ q) (map-len σ (c .cs) (c .ds) (build-parts ε _ _ _ _ q))
 
 -- Two areas with the same link words of cells but x's, and the same heap.
 module _ (s t d : List ℕ) (n x : ℕ) (low : lower t ≡ lower s) (still : frozen t ≡ frozen s) (other : (i : ℕ) → (i ≡ x → ⊥) → wordAt t i ≡ wordAt s i) (free : wordAt t x < settledFrom) where
@@ -56,15 +52,15 @@ module _ (s t d : List ℕ) (n x : ℕ) (low : lower t ≡ lower s) (still : fro
     bare = λ i l v. let m = other i (not-x i v) in ap (λ z. tagAt z i) still ∙ P .bare i l (omega arith);
   }
 
-  pub unlinked-obeys : (σ : ℕ → Ty) → Obeys s d n σ → Obeys t d n σ
-  unlinked-obeys σ O i l v g R =
+  pub unlinked-obeys : (ε : Extent) (σ : ℕ → Tree ε) → ObeysIn ε s d n σ → ObeysIn ε t d n σ
+  unlinked-obeys ε σ O i l v g R =
       let m = other i (not-x i v) in
       O i l (omega arith) g (subst (λ z. Reads (heap s d) (z - settledFrom) g) m (subst (λ z. Reads z (wordAt t i - settledFrom) g) eh R))
 
-  pub linked-obeys : (σ : ℕ → Ty) → Obeys t d n σ → (settledFrom ≤ wordAt s x → (g : Ty) → Reads (heap s d) (wordAt s x - settledFrom) g → σ x ≡ g) → Obeys s d n σ
-  linked-obeys σ O f i l v g R = go (eqb i x) refl
+  pub linked-obeys : (ε : Extent) (σ : ℕ → Tree ε) → ObeysIn ε t d n σ → (settledFrom ≤ wordAt s x → (g : Ty) → Reads (heap s d) (wordAt s x - settledFrom) g → σ x ≡ whole ε g) → ObeysIn ε s d n σ
+  linked-obeys ε σ O f i l v g R = go (eqb i x) refl
     where
-      go : (b : Bool) → eqb i x ≡ b → σ i ≡ g
+      go : (b : Bool) → eqb i x ≡ b → σ i ≡ whole ε g
       go true e =
           let q = eqb-true i x e in
           ap σ q ∙ f (subst (λ z. settledFrom ≤ wordAt s z) q v) g (subst (λ z. Reads (heap s d) (wordAt s z - settledFrom) g) q R)
@@ -122,8 +118,8 @@ module _ (s d : List ℕ) (x y : ℕ) (T : Tying s d x y) where
     kept = kept-refl t;
     same = λ f n L H P lx ly P₀ sv. record {
       pinned = unlinked-pinned s t d n x lo st ot fr P;
-      to = λ σ F S O. unlinked-obeys s t d n x lo st ot fr σ O;
-      from = λ σ F S O. linked-obeys s t d n x lo st ot fr σ O (λ w. absurd (omega arith));
+      to = λ ε σ F S O. unlinked-obeys s t d n x lo st ot fr ε σ O;
+      from = λ ε σ F S O. linked-obeys s t d n x lo st ot fr ε σ O (λ w. absurd (omega arith));
     };
     stops = λ f. absurd (bool-no true refl f);
   }
@@ -143,8 +139,8 @@ module _ (s d : List ℕ) (x y : ℕ) (T : Tying s d x y) where
     reads-t : (g : Ty) → Reads (heap s d) (wordAt s x - settledFrom) g → Reads (heap t d) (wordAt s x - settledFrom) g
     reads-t g R = subst (λ z. Reads z (wordAt s x - settledFrom) g) (sym (heap-kept s t d lo)) R
 
-    fits-t : (n : ℕ) (σ : ℕ → Ty) → Fits (frozen s) n σ → Fits (frozen t) n σ
-    fits-t n σ F = subst (λ z. Fits z n σ) (sym st) F
+    fits-t : (n : ℕ) (ε : Extent) (σ : ℕ → Tree ε) → FitsIn ε (frozen s) n σ → FitsIn ε (frozen t) n σ
+    fits-t n ε σ F = subst (λ z. FitsIn ε z n σ) (sym st) F
 
     pub tied-some : Tied s u d x y b
     tied-some = record {
@@ -154,19 +150,19 @@ module _ (s d : List ℕ) (x y : ℕ) (T : Tying s d x y) where
           let D = P .reads x lx v in
           record {
             pinned = X .pinned f n L H Pt ly;
-            to = λ σ F S O.
-                let z = sv σ F S in
-                X .goes f n L H Pt ly (D .type) (reads-t (D .type) (D .reads)) σ (fits-t n σ F) (z .0) .after (unlinked-obeys s t d n x lo st ot fr σ O) (sym (z .1) ∙ O x lx v (D .type) (D .reads));
-            from = λ σ F S O.
-                let z = sv σ F S in
-                linked-obeys s t d n x lo st ot fr σ (X .goes f n L H Pt ly (D .type) (reads-t (D .type) (D .reads)) σ (fits-t n σ F) (z .0) .before O)
-                (λ w g R. z .1 ∙ X .goes f n L H Pt ly g (reads-t g R) σ (fits-t n σ F) (z .0) .type O);
+            to = λ ε σ F S O.
+                let z = sv ε σ F S in
+                X .goes f n L H Pt ly (D .type) (reads-t (D .type) (D .reads)) ε σ (fits-t n ε σ F) (z .0) .after (unlinked-obeys s t d n x lo st ot fr ε σ O) (sym (z .1) ∙ O x lx v (D .type) (D .reads));
+            from = λ ε σ F S O.
+                let z = sv ε σ F S in
+                linked-obeys s t d n x lo st ot fr ε σ (X .goes f n L H Pt ly (D .type) (reads-t (D .type) (D .reads)) ε σ (fits-t n ε σ F) (z .0) .before O)
+                (λ w g R. z .1 ∙ X .goes f n L H Pt ly g (reads-t g R) ε σ (fits-t n ε σ F) (z .0) .type O);
           };
-      stops = λ f n L H P lx ly P₀ sv σ F S O.
+      stops = λ f n L H P lx ly P₀ sv ε σ F S O.
           let Pt = unlinked-pinned s t d n x lo st ot fr P in
           let D = P .reads x lx v in
-          let z = sv σ F S in
-          X .stops f n L H Pt ly (D .type) (reads-t (D .type) (D .reads)) σ (fits-t n σ F) (z .0) (unlinked-obeys s t d n x lo st ot fr σ O) (sym (z .1) ∙ O x lx v (D .type) (D .reads));
+          let z = sv ε σ F S in
+          X .stops f n L H Pt ly (D .type) (reads-t (D .type) (D .reads)) ε σ (fits-t n ε σ F) (z .0) (unlinked-obeys s t d n x lo st ot fr ε σ O) (sym (z .1) ∙ O x lx v (D .type) (D .reads));
     }
 
 -- The invariant of merging is kept where only settled cells change.
@@ -195,11 +191,11 @@ module _ (s t d : List ℕ) (n : ℕ) (low : lower t ≡ lower s) (still : froze
     bare = λ i l v. let m = words i l in ap (λ z. tagAt z i) still ∙ P .bare i l (omega arith);
   }
 
-  pub alike-to : (σ : ℕ → Ty) → Obeys s d n σ → Obeys t d n σ
-  alike-to σ O i l v g R = let m = words i l in O i l (omega arith) g (subst (λ z. Reads (heap s d) (z - settledFrom) g) m (subst (λ z. Reads z (wordAt t i - settledFrom) g) eq R))
+  pub alike-to : (ε : Extent) (σ : ℕ → Tree ε) → ObeysIn ε s d n σ → ObeysIn ε t d n σ
+  alike-to ε σ O i l v g R = let m = words i l in O i l (omega arith) g (subst (λ z. Reads (heap s d) (z - settledFrom) g) m (subst (λ z. Reads z (wordAt t i - settledFrom) g) eq R))
 
-  pub alike-from : (σ : ℕ → Ty) → Obeys t d n σ → Obeys s d n σ
-  alike-from σ O i l v g R =
+  pub alike-from : (ε : Extent) (σ : ℕ → Tree ε) → ObeysIn ε t d n σ → ObeysIn ε s d n σ
+  alike-from ε σ O i l v g R =
       let m = words i l in O i l (omega arith) g (subst (λ z. Reads z (wordAt t i - settledFrom) g) (sym eq) (subst (λ z. Reads (heap s d) (z - settledFrom) g) (sym m) R))
 
 pub lower-front : (s t : List ℕ) → length t ≡ length s → ((i : ℕ) → i < pairsAt → getD t i 0 ≡ getD s i 0) → lower t ≡ lower s
@@ -230,13 +226,13 @@ module _ (s t d : List ℕ) (n x : ℕ) (low : lower t ≡ lower s) (still : fro
     bare = λ i l v. let m = other i l (no-t i v) in ap (λ z. tagAt z i) still ∙ P .bare i l (omega arith);
   }
 
-  pub free-to : (σ : ℕ → Ty) → Obeys s d n σ → Obeys t d n σ
-  free-to σ O i l v g R =
+  pub free-to : (ε : Extent) (σ : ℕ → Tree ε) → ObeysIn ε s d n σ → ObeysIn ε t d n σ
+  free-to ε σ O i l v g R =
       let m = other i l (no-t i v) in
       O i l (omega arith) g (subst (λ z. Reads (heap s d) (z - settledFrom) g) m (subst (λ z. Reads z (wordAt t i - settledFrom) g) eqh R))
 
-  pub free-from : (σ : ℕ → Ty) → Obeys t d n σ → Obeys s d n σ
-  free-from σ O i l v g R =
+  pub free-from : (ε : Extent) (σ : ℕ → Tree ε) → ObeysIn ε t d n σ → ObeysIn ε s d n σ
+  free-from ε σ O i l v g R =
       let m = other i l (no-s i v) in
       O i l (omega arith) g (subst (λ z. Reads z (wordAt t i - settledFrom) g) (sym eqh) (subst (λ z. Reads (heap s d) (z - settledFrom) g) (sym m) R))
 

@@ -1,16 +1,16 @@
 -- What merging asks and promises. The ghost values n, P₀, L are those of any reading of the area: a function asks that there is one, and promises for each.
--- The solutions of a store are the assignments σ of types to its cells that fit the formers, solve the equations P₀, and obey the settled cells.
+-- The solutions of a store are the assignments σ of types, or of possibly infinite types, to its cells that fit the formers, solve the equations P₀, and obey the settled cells.
 use mathlib.Core.Path.{_≡_}
 use mathlib.Core.Bool.{Bool, true, false}
 use mathlib.Core.List.{List}
 use Prim.Native.Nat.{ℕ, suc, _+_, _*_, _≤_, _<_, _^_}
 use lib.ListN.{length, getD, set}
 use Rattle.types_rules.specs.Equations.{Pairs, Solves, pair}
-use Rattle.types_rules.specs.Types.{Ty}
+use Rattle.types_rules.specs.Trees.{Extent, Tree}
 use Rattle.types_cells.specs.Layout.{maxCells, linksAt, pairsAt, secondsAt, areaSize}
 use Rattle.types_cells.specs.Store.{frozen, weight, Held, Solved, Busy}
 use Rattle.types_cells.specs.Calls.{Root}
-use Rattle.types_cells.specs.Settled.{lower, Pinned, Obeys, Fits, Kept}
+use Rattle.types_cells.specs.Settled.{lower, Pinned, ObeysIn, FitsIn, Kept}
 
 -- Some reading with k pending pairs.
 pub record Open (s d : List ℕ) (k : ℕ) : Type 0 where
@@ -28,12 +28,12 @@ pub record Next (s : List ℕ) (n : ℕ) (P₀ : Pairs ℕ) (k : ℕ) : Type 0 w
 -- Among the assignments that fit and solve P₀, the same obey s and s′.
 pub record Same (s s′ d : List ℕ) (n : ℕ) (P₀ : Pairs ℕ) : Type 0 where
   pub pinned : Pinned s′ d n
-  pub to : (σ : ℕ → Ty) → Fits (frozen s) n σ → Solves σ P₀ → Obeys s d n σ → Obeys s′ d n σ
-  pub from : (σ : ℕ → Ty) → Fits (frozen s) n σ → Solves σ P₀ → Obeys s′ d n σ → Obeys s d n σ
+  pub to : (ε : Extent) (σ : ℕ → Tree ε) → FitsIn ε (frozen s) n σ → Solves σ P₀ → ObeysIn ε s d n σ → ObeysIn ε s′ d n σ
+  pub from : (ε : Extent) (σ : ℕ → Tree ε) → FitsIn ε (frozen s) n σ → Solves σ P₀ → ObeysIn ε s′ d n σ → ObeysIn ε s d n σ
 
 -- No assignment fits, solves P₀ and obeys s.
 abbrev pub NoSolution : List ℕ → List ℕ → ℕ → Pairs ℕ → Type 0
-NoSolution s d n P₀ = (σ : ℕ → Ty) → Fits (frozen s) n σ → Solves σ P₀ → Obeys s d n σ → ⊥
+NoSolution s d n P₀ = (ε : Extent) (σ : ℕ → Tree ε) → FitsIn ε (frozen s) n σ → Solves σ P₀ → ObeysIn ε s d n σ → ⊥
 
 -- One turn, with k pairs pending before and r after.
 pub record Turned (s s′ d : List ℕ) (k : ℕ) (fine : Bool) (r : ℕ) : Type 0 where
@@ -66,9 +66,9 @@ pub record Tying (s d : List ℕ) (x y : ℕ) : Type 0 where
 pub record Tied (s s′ d : List ℕ) (x y : ℕ) (fine : Bool) : Type 0 where
   pub kept : Kept (set s (linksAt + x) (suc y)) s′
   pub same : fine ≡ true → (n : ℕ) (L : Pairs ℕ) → Held (set s (linksAt + x) (suc y)) n L → Pinned s d n → x < n → y < n → (P₀ : Pairs ℕ) →
-      ((σ : ℕ → Ty) → Fits (frozen s) n σ → Solves σ P₀ → Solves σ L × (σ x ≡ σ y)) → Same s s′ d n P₀
+      ((ε : Extent) (σ : ℕ → Tree ε) → FitsIn ε (frozen s) n σ → Solves σ P₀ → Solves σ L × (σ x ≡ σ y)) → Same s s′ d n P₀
   pub stops : fine ≡ false → (n : ℕ) (L : Pairs ℕ) → Held (set s (linksAt + x) (suc y)) n L → Pinned s d n → x < n → y < n → (P₀ : Pairs ℕ) →
-      ((σ : ℕ → Ty) → Fits (frozen s) n σ → Solves σ P₀ → Solves σ L × (σ x ≡ σ y)) → NoSolution s d n P₀
+      ((ε : Extent) (σ : ℕ → Tree ε) → FitsIn ε (frozen s) n σ → Solves σ P₀ → Solves σ L × (σ x ≡ σ y)) → NoSolution s d n P₀
 
 pub record Done (s : List ℕ) (n : ℕ) (P₀ : Pairs ℕ) : Type 0 where
   pub L : Pairs ℕ
