@@ -13,20 +13,13 @@ use Rattle.checker_rules.specs.Conditions.{typeOf, typesOf, areMembers}
 use Rattle.checker_rules.specs.Items.{Items, equate}
 use Rattle.checker_rules.specs.Unknowns.{unknownAt}
 use Rattle.types_cells.specs.Store.{run}
-use Rattle.types_cells.proofs.Words.{run-cons}
+use Rattle.types_cells.proofs.Words.{run-first}
 use Rattle.checker_pieces.specs.Piece.{Stops}
 use Rattle.checker_pieces.specs.Stage.{Ghost, Stands, Cell, Advanced, Comparing, Equated}
 use Rattle.checker_pieces.specs.Building.{Cells}
 use Rattle.checker_pieces.specs.Rows.{Meeting, Members}
 use Rattle.checker_pieces.proofs.Stages.{next, next-stands, next-cell, next-cells, cells-older, advance-then, skip-advanced, equal-advanced, stop-then}
 use Rattle.checker_pieces.proofs.Walks.{stops-left}
-
--- The first of q words from j on, and the others.
-pub run-first : (ps : List ℕ) (j q : ℕ) → (q ≡ 0 → ⊥) → j + q ≤ length ps → run ps j q ≡ getD ps j 0 ∷ run ps (j + 1) (q - 1)
-run-first ps j zero ne l = absurd (ne refl)
-run-first ps j (suc q) ne l =
-    run-cons ps j q (omega arith)
-    ∙ ap₂ (λ u v. getD ps j 0 ∷ run ps u v) (let z : suc j ≡ j + 1 = omega arith in z) (let z : q ≡ suc q - 1 = omega arith in z)
 
 -- A list of operands that begins with c.
 pub operand : (s d : List ℕ) (n : ℕ) (G : Ghost) (c : ℕ) (l : List ℕ) (ts : Terms) → Cells s d n G (c ∷ l) ts → (a : Term) × (us : Terms) × Cell s d n G c a × Cells s d n G l us

@@ -31,7 +31,7 @@ pub const UNKNOWN_NAME: u32 = 31;
 // Actuals that are not as many as the parameters.
 pub const WRONG_COUNT: u32 = 32;
 
-// Types that cannot be equal.
+// Types that cannot be equal: two different formers stand side by side.
 pub const UNEQUAL: u32 = 33;
 
 // A piece with several typings.
@@ -46,6 +46,9 @@ pub const CLASH: u32 = 36;
 pub const BAD_RENAME: u32 = 37;
 
 pub const TOO_LARGE: u32 = 38;
+
+// Types that could be equal only if one contained itself.
+pub const INSIDE_ITSELF: u32 = 39;
 
 // The state: an entry or its pairs ill formed, a value not of its recorded type.
 pub const ILL_FORMED: u32 = 41;

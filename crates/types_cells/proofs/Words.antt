@@ -1,8 +1,8 @@
 -- The frozen part, link words and runs.
-use mathlib.Core.Path.{_≡_, refl, sym, ap, _∙_}
+use mathlib.Core.Path.{_≡_, refl, sym, ap, ap₂, _∙_}
 use mathlib.Core.List.{List, [], _∷_}
 use mathlib.Core.Logic.{inl, inr}
-use Prim.Native.Nat.{ℕ, zero, suc, _+_, _≤_, _<_}
+use Prim.Native.Nat.{ℕ, zero, suc, _+_, _-_, _≤_, _<_}
 use native.Mathlib.Omega.{arith}
 use lib.ListN.{length, getD, take, drop, set, length-take, length-drop}
 use lib.Seq.{getD-take, getD-drop, drop-cons, drop-set-lt}
@@ -47,6 +47,13 @@ run-length w at k l = simp (length-take, length-drop) (omega arith)
 pub run-cons : (w : List ℕ) (at k : ℕ) → at < length w → run w at (suc k) ≡ getD w at 0 ∷ run w (suc at) k
 unfolding run
 run-cons w at k l = ap (take (suc k)) (drop-cons w at 0 l)
+
+-- The first of q words from j on, and the others.
+pub run-first : (ps : List ℕ) (j q : ℕ) → (q ≡ 0 → ⊥) → j + q ≤ length ps → run ps j q ≡ getD ps j 0 ∷ run ps (j + 1) (q - 1)
+run-first ps j zero ne l = absurd (ne refl)
+run-first ps j (suc q) ne l =
+    run-cons ps j q (omega arith)
+    ∙ ap₂ (λ u v. getD ps j 0 ∷ run ps u v) (let z : suc j ≡ j + 1 = omega arith in z) (let z : q ≡ suc q - 1 = omega arith in z)
 
 pub getD-in : (l : List ℕ) (j : ℕ) → j < length l → In (getD l j 0) l
 getD-in [] j q = absurd (omega arith)

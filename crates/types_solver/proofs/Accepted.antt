@@ -11,10 +11,11 @@ use Rattle.types_rules.proofs.Classify.{build}
 use Rattle.types_rules.proofs.Closed.{closed-start}
 use Rattle.types_rules.proofs.Transfer.{follows-holds}
 use Rattle.types_rules.specs.Equations.{Pairs, end}
+use Rattle.types_rules.specs.Trees.{Extent, finite, Tree}
 use Rattle.types_rules.specs.Types.{Ty, size}
 use Rattle.types_cells.specs.Layout.{maxCells, settledFrom, areaSize}
 use Rattle.types_cells.specs.Store.{frozen, tagAt, view, load, Held, Solved}
-use Rattle.types_cells.specs.Settled.{heap, wordAt, Reads, Readable, Pinned, Obeys, Fits}
+use Rattle.types_cells.specs.Settled.{heap, wordAt, Reads, Readable, Pinned, ObeysIn, Fits}
 use Rattle.types_solver.specs.Sizes.{markAt, Sized, Same, TestedFinite, Model, Least}
 use Rattle.types_solver.specs.Answers.{SolutionOf}
 use Rattle.types_solver.specs.Written.{Resolved}
@@ -53,8 +54,8 @@ module _ (s s′ d : List ℕ) (n : ℕ) (K : Same s s′) (few : n ≤ maxCells
     bare = λ i l v. let e = K .refs i (omega arith) in ap (λ z. tagAt z i) (K .still) ∙ P .bare i l (omega arith);
   }
 
-  pub same-obeys : (σ : ℕ → Ty) → Obeys s d n σ → Obeys s′ d n σ
-  same-obeys σ O i l v g R =
+  pub same-obeys : (ε : Extent) (σ : ℕ → Tree ε) → ObeysIn ε s d n σ → ObeysIn ε s′ d n σ
+  same-obeys ε σ O i l v g R =
       let e = K .refs i (omega arith) in
       O i l (omega arith) g (subst (λ z. Reads (heap s d) (z - settledFrom) g) e (subst (λ z. Reads z (wordAt s′ i - settledFrom) g) low-heap R))
 
@@ -70,7 +71,7 @@ model s s′ d n T P₀ L S P X =
       pinned = same-pinned s s′ d n (T .same) f P;
       fits = subst (λ w. Fits w n (X .σ)) (sym (T .still)) (X .fits);
       sat = sat-all (X .σ) _ (follows-holds build mk-c (view (frozen s) n) P₀ (X .σ) (X .fits) (X .sat)) L (S .follows);
-      obeys = same-obeys s s′ d n (T .same) f (X .σ) (X .obeys);
+      obeys = same-obeys s s′ d n (T .same) f finite (X .σ) (X .obeys);
     }
 
 -- With nothing left open every solution has the least sizes.

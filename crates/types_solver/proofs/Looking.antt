@@ -83,7 +83,7 @@ module _ (s d : List ℕ) (r id : ℕ) (root : linkAt s r ≡ 0) where
     settled = λ e. absurd (omega arith);
     place = λ e. absurd (omega arith);
     absent = λ e n P₀ L S P l F.
-        let X = solution-with s d n P₀ L S P F integerType in
+        let X = solution-with s d n P₀ L S P F (λ j. integerType) in
         record { solution = X; lacks = ap (componentType id) (former-type n P₀ L S l p X) ∙ none-of id (formerAt w r) _ (h n L (S .held) l) };
   }
 
@@ -134,9 +134,9 @@ module _ (s d : List ℕ) (r id : ℕ) (root : linkAt s r ≡ 0) where
     settled = λ e. absurd (omega arith);
     place = λ e. absurd (omega arith);
     absent = λ e n P₀ L S P l F.
-        let X = solution-with s d n P₀ L S P F integerType in
+        let X = solution-with s d n P₀ L S P F (λ j. integerType) in
         let q = self n L (S .held) l in
-        record { solution = X; lacks = ap (componentType id) (open-type s d n P₀ L S P F integerType r l (ap (tagAt w) q ∙ t) (subst (λ z. wordAt s z < settledFrom) (sym q) v)) ∙ none-type };
+        record { solution = X; lacks = ap (componentType id) (open-type s d n P₀ L S P F (λ j. integerType) r l (ap (tagAt w) q ∙ t) (subst (λ z. wordAt s z < settledFrom) (sym q) v)) ∙ none-type };
   }
 
   module _ (v : settledFrom ≤ wordAt s r) (p : ℕ) (C : Component s d (wordAt s r - settledFrom) id p) where
@@ -147,7 +147,7 @@ module _ (s d : List ℕ) (r id : ℕ) (root : linkAt s r ≡ 0) where
       settled = λ e. absurd (omega arith);
       place = λ e. absurd (omega arith);
       absent = λ e n P₀ L S P l F.
-          let X = solution-with s d n P₀ L S P F integerType in
+          let X = solution-with s d n P₀ L S P F (λ j. integerType) in
           let D = P .reads r l v in
           record { solution = X; lacks = ap (componentType id) (X .obeys r l v (D .type) (D .reads)) ∙ C .none z (D .type) (D .reads) };
     }

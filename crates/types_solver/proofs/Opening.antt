@@ -29,37 +29,37 @@ use Rattle.types_solver.proofs.Marking.{kids-below, by-rep, solve-with}
 use Rattle.types_cells.proofs.Reading.{reads-one, below-next}
 use Rattle.types_cells.proofs.Growing.{lt-or-ge}
 
--- The type that cell i refers to, and g where it does not.
-choose : (s d : List ℕ) (n : ℕ) → Pinned s d n → Ty → (i : ℕ) (b c : Bool) → ltb i n ≡ b → ltb (wordAt s i) settledFrom ≡ c → Ty
-choose s d n P g i true false e f = P .reads i (ltb-true i n e) (ltb-false (wordAt s i) settledFrom f) .type
-choose s d n P g i true true e f = g
-choose s d n P g i false c e f = g
+-- The type that cell i refers to, and β i where it does not.
+choose : (s d : List ℕ) (n : ℕ) → Pinned s d n → (ℕ → Ty) → (i : ℕ) (b c : Bool) → ltb i n ≡ b → ltb (wordAt s i) settledFrom ≡ c → Ty
+choose s d n P β i true false e f = P .reads i (ltb-true i n e) (ltb-false (wordAt s i) settledFrom f) .type
+choose s d n P β i true true e f = β i
+choose s d n P β i false c e f = β i
 
-pick : (s d : List ℕ) (n : ℕ) → Pinned s d n → Ty → ℕ → Ty
-pick s d n P g i = choose s d n P g i (ltb i n) (ltb (wordAt s i) settledFrom) refl refl
+pub pick : (s d : List ℕ) (n : ℕ) → Pinned s d n → (ℕ → Ty) → ℕ → Ty
+pick s d n P β i = choose s d n P β i (ltb i n) (ltb (wordAt s i) settledFrom) refl refl
 
-pinned-c : (s d : List ℕ) (n : ℕ) (P : Pinned s d n) (g : Ty) (i : ℕ) → i < n → settledFrom ≤ wordAt s i → (k : Ty) → Reads (heap s d) (wordAt s i - settledFrom) k →
-    (b c : Bool) (e : ltb i n ≡ b) (f : ltb (wordAt s i) settledFrom ≡ c) → choose s d n P g i b c e f ≡ k
+pinned-c : (s d : List ℕ) (n : ℕ) (P : Pinned s d n) (β : ℕ → Ty) (i : ℕ) → i < n → settledFrom ≤ wordAt s i → (k : Ty) → Reads (heap s d) (wordAt s i - settledFrom) k →
+    (b c : Bool) (e : ltb i n ≡ b) (f : ltb (wordAt s i) settledFrom ≡ c) → choose s d n P β i b c e f ≡ k
 unfolding choose
-pinned-c s d n P g i l v k R true false e f = let D = P .reads i (ltb-true i n e) (ltb-false (wordAt s i) settledFrom f) in reads-one (heap s d) (wordAt s i - settledFrom) (D .type) k (D .reads) R
-pinned-c s d n P g i l v k R true true e f = absurd (let z = ltb-true (wordAt s i) settledFrom f in omega arith)
-pinned-c s d n P g i l v k R false c e f = absurd (let z = ltb-false i n e in omega arith)
+pinned-c s d n P β i l v k R true false e f = let D = P .reads i (ltb-true i n e) (ltb-false (wordAt s i) settledFrom f) in reads-one (heap s d) (wordAt s i - settledFrom) (D .type) k (D .reads) R
+pinned-c s d n P β i l v k R true true e f = absurd (let z = ltb-true (wordAt s i) settledFrom f in omega arith)
+pinned-c s d n P β i l v k R false c e f = absurd (let z = ltb-false i n e in omega arith)
 
-open-c : (s d : List ℕ) (n : ℕ) (P : Pinned s d n) (g : Ty) (i : ℕ) → wordAt s i < settledFrom → (b c : Bool) (e : ltb i n ≡ b) (f : ltb (wordAt s i) settledFrom ≡ c) → choose s d n P g i b c e f ≡ g
+open-c : (s d : List ℕ) (n : ℕ) (P : Pinned s d n) (β : ℕ → Ty) (i : ℕ) → wordAt s i < settledFrom → (b c : Bool) (e : ltb i n ≡ b) (f : ltb (wordAt s i) settledFrom ≡ c) → choose s d n P β i b c e f ≡ β i
 unfolding choose
-open-c s d n P g i v true false e f = absurd (let z = ltb-false (wordAt s i) settledFrom f in omega arith)
-open-c s d n P g i v true true e f = refl
-open-c s d n P g i v false c e f = refl
+open-c s d n P β i v true false e f = absurd (let z = ltb-false (wordAt s i) settledFrom f in omega arith)
+open-c s d n P β i v true true e f = refl
+open-c s d n P β i v false c e f = refl
 
-pick-pinned : (s d : List ℕ) (n : ℕ) (P : Pinned s d n) (g : Ty) (i : ℕ) → i < n → settledFrom ≤ wordAt s i → (k : Ty) → Reads (heap s d) (wordAt s i - settledFrom) k → pick s d n P g i ≡ k
+pub pick-pinned : (s d : List ℕ) (n : ℕ) (P : Pinned s d n) (β : ℕ → Ty) (i : ℕ) → i < n → settledFrom ≤ wordAt s i → (k : Ty) → Reads (heap s d) (wordAt s i - settledFrom) k → pick s d n P β i ≡ k
 unfolding pick
-pick-pinned s d n P g i l v k R = pinned-c s d n P g i l v k R (ltb i n) (ltb (wordAt s i) settledFrom) refl refl
+pick-pinned s d n P β i l v k R = pinned-c s d n P β i l v k R (ltb i n) (ltb (wordAt s i) settledFrom) refl refl
 
-pick-open : (s d : List ℕ) (n : ℕ) (P : Pinned s d n) (g : Ty) (i : ℕ) → wordAt s i < settledFrom → pick s d n P g i ≡ g
+pick-open : (s d : List ℕ) (n : ℕ) (P : Pinned s d n) (β : ℕ → Ty) (i : ℕ) → wordAt s i < settledFrom → pick s d n P β i ≡ β i
 unfolding pick
-pick-open s d n P g i v = open-c s d n P g i v (ltb i n) (ltb (wordAt s i) settledFrom) refl refl
+pick-open s d n P β i v = open-c s d n P β i v (ltb i n) (ltb (wordAt s i) settledFrom) refl refl
 
-settled-root : (s : List ℕ) (i : ℕ) → settledFrom ≤ wordAt s i → linkAt s i ≡ 0
+pub settled-root : (s : List ℕ) (i : ℕ) → settledFrom ≤ wordAt s i → linkAt s i ≡ 0
 unfolding linkAt wordAt
 settled-root s i v = link-none (getD s (linksAt + i) 0) v
 
@@ -77,31 +77,31 @@ module _ (s d : List ℕ) (n : ℕ) (P₀ L : Pairs ℕ) (S : Solved s n P₀ L)
   unfolding solve-with
   at-unk τ i l e = solution-unknown ℕ eqb eqb-true eqb-false Vw P₀ L (S .closed) τ n i (view-unk w n (r i) (rep-below n L (S .held .inside) i l) e)
 
-  -- There is a solution, with g at the cells left open.
-  pub solution-with : Ty → SolutionOf s d n P₀
-  solution-with g =
-      let X = solve-with s n P₀ L S (pick s d n P g) F in
+  -- There is a solution, with the types β at the cells left open.
+  pub solution-with : (ℕ → Ty) → SolutionOf s d n P₀
+  solution-with β =
+      let X = solve-with s n P₀ L S (pick s d n P β) F in
       record {
         σ = X .σ;
         fits = X .fits;
         sat = X .sat;
         obeys = λ i l v k R.
             let ri = stop-rep s n L (S .held) i l (settled-root s i v) in
-            at-unk (pick s d n P g) i l (ap (tagAt w) ri ∙ P .bare i l v) ∙ ap (pick s d n P g) ri ∙ pick-pinned s d n P g i l v k R;
+            at-unk (pick s d n P β) i l (ap (tagAt w) ri ∙ P .bare i l v) ∙ ap (pick s d n P β) ri ∙ pick-pinned s d n P β i l v k R;
       }
 
-  pub open-type : (g : Ty) (i : ℕ) → i < n → tagAt w (r i) ≡ 0 → wordAt s (r i) < settledFrom → solution-with g .σ i ≡ g
+  pub open-type : (β : ℕ → Ty) (i : ℕ) → i < n → tagAt w (r i) ≡ 0 → wordAt s (r i) < settledFrom → solution-with β .σ i ≡ β (r i)
   unfolding solution-with
-  open-type g i l e v = at-unk (pick s d n P g) i l e ∙ pick-open s d n P g (r i) v
+  open-type β i l e v = at-unk (pick s d n P β) i l e ∙ pick-open s d n P β (r i) v
 
   pub two-left : (i : ℕ) → i < n → tagAt w i ≡ 0 → tagAt w (r i) ≡ 0 → wordAt s (r i) < settledFrom → Differ s d n P₀
   two-left i l bare e v = record {
-    one = solution-with integerType;
-    other = solution-with ℙℤ;
+    one = solution-with (λ j. integerType);
+    other = solution-with (λ j. ℙℤ);
     cell = i;
     made = l;
     bare = bare;
-    differ = λ q. let p : integerType ≡ ℙℤ = sym (open-type integerType i l e v) ∙ q ∙ open-type ℙℤ i l e v in let z : _≡_ {A = ℕ} 0 1 = cc in omega arith;
+    differ = λ q. let p : integerType ≡ ℙℤ = sym (open-type (λ j. integerType) i l e v) ∙ q ∙ open-type (λ j. ℙℤ) i l e v in let z : _≡_ {A = ℕ} 0 1 = cc in omega arith;
   }
 
   module _ (settled : (i : ℕ) → i < n → tagAt w (r i) ≡ 0 → settledFrom ≤ wordAt s (r i)) (X Y : SolutionOf s d n P₀) where
@@ -169,7 +169,7 @@ scan-next s n i x l Q d h = below-next (λ j. (L : Pairs ℕ) → Held s n L →
 
 -- `finite` and settled cells: true, there is a solution that gives them their types; false, there is none.
 pub finite-some : (s s′ d : List ℕ) (n : ℕ) → TestedFinite s s′ n true → (P₀ L : Pairs ℕ) → Solved s n P₀ L → Pinned s d n → SolutionOf s d n P₀
-finite-some s s′ d n T P₀ L S P = solution-with s d n P₀ L S P (λ i l. T .sizes refl P₀ L S i l .finite) integerType
+finite-some s s′ d n T P₀ L S P = solution-with s d n P₀ L S P (λ i l. T .sizes refl P₀ L S i l .finite) (λ i. integerType)
 
 pub finite-none : (s s′ d : List ℕ) (n : ℕ) → TestedFinite s s′ n false → (P₀ L : Pairs ℕ) → Solved s n P₀ L → SolutionOf s d n P₀ → ⊥
 finite-none s s′ d n T P₀ L S X = T .endless refl P₀ L S (record { σ = X .σ; fits = X .fits; sat = X .sat })

@@ -10,11 +10,11 @@ use Rattle.types_rules.specs.Classes.{rep}
 use Rattle.types_rules.specs.Component.{componentType}
 use Rattle.types_rules.specs.Equations.{In, Pairs, Solves}
 use Rattle.types_rules.specs.Finite.{bounded}
-use Rattle.types_rules.specs.Types.{Ty}
+use Rattle.types_rules.specs.Trees.{Extent, finite, Tree}
 use Rattle.types_cells.specs.Layout.{settledFrom}
 use Rattle.types_cells.specs.Store.{frozen, linkAt, tagAt, view, Held, Solved}
 use Rattle.types_solver.specs.Written.{Resolved}
-use Rattle.types_cells.specs.Settled.{heap, Readable, Pinned, Obeys, Fits, FoundType}
+use Rattle.types_cells.specs.Settled.{heap, Readable, Pinned, ObeysIn, FitsIn, FoundType}
 
 -- All cells have finite types.
 abbrev pub Finite : List ℕ → ℕ → Pairs ℕ → Type 0
@@ -27,12 +27,15 @@ pub record FirstPlace (l : List ℕ) (k x r : ℕ) : Type 0 where
   pub first : (j : ℕ) → j < r → getD l j 0 ≡ x → ⊥
   pub none : r ≡ k → In x l → ⊥
 
--- A solution of a store with settled cells.
-pub record SolutionOf (s d : List ℕ) (n : ℕ) (P₀ : Pairs ℕ) : Type 0 where
-  pub σ : ℕ → Ty
-  pub fits : Fits (frozen s) n σ
+-- A solution of a store with settled cells, of types or of possibly infinite types.
+pub record SolutionIn (ε : Extent) (s d : List ℕ) (n : ℕ) (P₀ : Pairs ℕ) : Type 0 where
+  pub σ : ℕ → Tree ε
+  pub fits : FitsIn ε (frozen s) n σ
   pub sat : Solves σ P₀
-  pub obeys : Obeys s d n σ
+  pub obeys : ObeysIn ε s d n σ
+
+abbrev pub SolutionOf : List ℕ → List ℕ → ℕ → Pairs ℕ → Type 0
+SolutionOf s d n P₀ = SolutionIn finite s d n P₀
 
 pub record Differ (s d : List ℕ) (n : ℕ) (P₀ : Pairs ℕ) : Type 0 where
   pub one : SolutionOf s d n P₀
