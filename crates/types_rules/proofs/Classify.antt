@@ -157,7 +157,7 @@ module _ (P : Pairs Term) where
       subst (λ z. Says Term sameTerm sameTerm-eq sameTerm-ne viewTerm Ty build (λ h k a b q. node-0 _ _ _ _ q) (λ h k a b q. fromList-inj a b (node-1 _ _ _ _ q)) (under σ) (under-fits σ) z (Unit {0} × Solves (under σ) P)) e
       (outer-says Term sameTerm sameTerm-eq sameTerm-ne viewTerm Ty build (λ h k a b q. node-0 _ _ _ _ q) (λ h k a b q. fromList-inj a b (node-1 _ _ _ _ q)) (under σ) (under-fits σ) (length us) end P)
 
-  rep-us : (L : Pairs Term) → run ≡ merged L → (n : Term) → In n us → In (rep sameTerm L n) us
+  pub rep-us : (L : Pairs Term) → run ≡ merged L → (n : Term) → In n us → In (rep sameTerm L n) us
   rep-us L e n i = rep-in Term sameTerm sameTerm-eq sameTerm-ne viewTerm P us (univ-kids P) L (links-in Term sameTerm sameTerm-eq sameTerm-ne viewTerm P us (univ-kids P) L (univ-all P) e) n i
 
   -- What the tree gives is what its values at the unknowns give. β: the types of the unknowns that stand for themselves.

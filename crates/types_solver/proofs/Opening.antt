@@ -55,7 +55,7 @@ pub pick-pinned : (s d : List ℕ) (n : ℕ) (P : Pinned s d n) (β : ℕ → Ty
 unfolding pick
 pick-pinned s d n P β i l v k R = pinned-c s d n P β i l v k R (ltb i n) (ltb (wordAt s i) settledFrom) refl refl
 
-pick-open : (s d : List ℕ) (n : ℕ) (P : Pinned s d n) (β : ℕ → Ty) (i : ℕ) → wordAt s i < settledFrom → pick s d n P β i ≡ β i
+pub pick-open : (s d : List ℕ) (n : ℕ) (P : Pinned s d n) (β : ℕ → Ty) (i : ℕ) → wordAt s i < settledFrom → pick s d n P β i ≡ β i
 unfolding pick
 pick-open s d n P β i v = open-c s d n P β i v (ltb i n) (ltb (wordAt s i) settledFrom) refl refl
 
@@ -89,6 +89,10 @@ module _ (s d : List ℕ) (n : ℕ) (P₀ L : Pairs ℕ) (S : Solved s n P₀ L)
             let ri = stop-rep s n L (S .held) i l (settled-root s i v) in
             at-unk (pick s d n P β) i l (ap (tagAt w) ri ∙ P .bare i l v) ∙ ap (pick s d n P β) ri ∙ pick-pinned s d n P β i l v k R;
       }
+
+  pub with-types : (β : ℕ → Ty) (i : ℕ) → solution-with β .σ i ≡ typeOf r Vw (pick s d n P β) n i
+  unfolding solution-with solve-with
+  with-types β i = refl
 
   pub open-type : (β : ℕ → Ty) (i : ℕ) → i < n → tagAt w (r i) ≡ 0 → wordAt s (r i) < settledFrom → solution-with β .σ i ≡ β (r i)
   unfolding solution-with
