@@ -2,15 +2,18 @@
 use mathlib.Core.Path.{_≡_, refl, ap, sym, _∙_, subst, fun-ext}
 use mathlib.Core.List.{List, [], _∷_}
 use mathlib.Core.Option.{some}
-use mathlib.Core.Logic.{_↔_, inl, inr}
+use mathlib.Core.Logic.{inl, inr}
 use Prim.Native.Nat.{ℕ, _/_, _%_, _≤_, _<_}
 use native.Mathlib.Omega.{arith}
 use lib.ListN.{length}
 use Rattle.reader_rules.specs.Tree.{Paragraph, given, axiomatic, schema, abbreviation, constraint}
-use Rattle.types_rules.specs.Types.{under, size}
+use Rattle.types_rules.specs.Types.{Term, under, size}
+use Rattle.types_rules.specs.Equations.{Pairs, end, pair, Solves}
+use Rattle.types_rules.specs.Infinite.{underInf}
+use Rattle.types_rules.specs.Trees.{Extent, finite, infinite, Tree, underIn, componentIn}
 use Rattle.types_rules.specs.Component.{componentType}
 use Rattle.checker_rules.specs.Unknowns.{Valuation, slot}
-use Rattle.checker_rules.specs.Items.{Items, skip, _⨾_, fresh, equate, select, small, refusal, piece, Known, Meets, Agree, Any, And, Passes, Refuses}
+use Rattle.checker_rules.specs.Items.{Items, skip, _⨾_, fresh, equations, equate, select, small, refusal, piece, Known, Small, MeetsIn, Meets, Agree, Typings, Any, And, Passes, Refuses}
 use Rattle.checker_rules.specs.Dictionary.{nameEntry, schemaEntry, Dictionary, _▸_, dictionaryLength}
 use Rattle.checker_rules.specs.Signatures.{Signature, noNames, naming, bindingOf}
 use Rattle.checker_rules.specs.Scopes.{globals, withParameters, textSignature, schemaSignature}
@@ -21,48 +24,61 @@ use Rattle.checker_rules.specs.Check.{Answer, accepted, refused, checkParagraph
 use Rattle.checker_rules.specs.Verdicts.{Accepts, RefusesAt, AnswersFrom}
 use Rattle.checker_rules.proofs.ScopeUnknowns.{FewRecorded}
 use Rattle.checker_rules.proofs.SelectFindings.{extend-few}
-use Rattle.checker_rules.proofs.ItemLaws.{passes-ext, refuses-ext}
+use Rattle.checker_rules.proofs.ItemLaws.{Alike, passes-ext, unsolved-map, refuses-ext}
 use Rattle.checker_rules.proofs.CheckRight.{paragraphs-law}
 use Rattle.canonical_rules.specs.MapNodes.{mapText, mapSchema, mapParagraph, mapParagraphs}
-use Rattle.canonical_answers.proofs.MapItems.{moveSlot, mapItems, mapSignature, pull}
+use Rattle.canonical_answers.proofs.MapItems.{moveSlot, mapPairs, mapItems, mapSignature, pull, pullIn}
 use Rattle.canonical_answers.specs.MapAnswers.{mapAnswer}
 use Rattle.reader_rules.proofs.Sized.{SizedParagraph, SizedParagraphs}
-use Rattle.canonical_answers.proofs.TermMaps.{move-slot, under-maps, binding-maps, text-signature, schema-signature}
+use Rattle.canonical_answers.proofs.TermMaps.{move-slot, under-maps, under-in, binding-maps, text-signature, schema-signature}
 use Rattle.canonical_answers.proofs.ItemMaps.{type-maps, with-scope, globals-scope, paragraph-items}
 use Rattle.canonical_rules.proofs.NodeMaps.{paragraph-node}
 
 -- Tables: what meets the mapped items, and what its restriction meets.
 module _ (f : ℕ → ℕ) where
-  abbrev Old : (Valuation → Type 0) → Valuation → Type 0
-  Old P τ = P (pull f τ)
+  abbrev Old : Typings → Typings
+  Old P w τ = P w (pullIn f w τ)
 
-  meets-to : (t : Items) (τ : Valuation) → Meets t (pull f τ) → Meets (mapItems f t) τ
-  unfolding Meets mapItems
-  meets-to skip τ h = tt
-  meets-to (a ⨾ b) τ h = (meets-to a τ (h .0), meets-to b τ (h .1))
-  meets-to (fresh x) τ h = tt
-  meets-to (equate e n a b) τ h = under-maps f τ a ∙ h ∙ sym (under-maps f τ b)
-  meets-to (select n i a x) τ h = ap (componentType i) (under-maps f τ a) ∙ h
-  meets-to (small n a) τ h = subst (λ g. size g ≤ 32) (sym (under-maps f τ a)) h
-  meets-to (refusal e n) τ h = h
-  meets-to (piece n t) τ h = meets-to t τ h
+  pairs-to : (w : Extent) (τ : ℕ → Tree w) (es : Pairs Term) → Solves (underIn w (pullIn f w τ)) es → Solves (underIn w τ) (mapPairs f es)
+  unfolding mapPairs
+  pairs-to w τ end h = tt
+  pairs-to w τ (pair a b es) h = (under-in f w τ a ∙ h .0 ∙ sym (under-in f w τ b), pairs-to w τ es (h .1))
 
-  meets-from : (t : Items) (τ : Valuation) → Meets (mapItems f t) τ → Meets t (pull f τ)
-  unfolding Meets mapItems
-  meets-from skip τ h = tt
-  meets-from (a ⨾ b) τ h = (meets-from a τ (h .0), meets-from b τ (h .1))
-  meets-from (fresh x) τ h = tt
-  meets-from (equate e n a b) τ h = sym (under-maps f τ a) ∙ h ∙ under-maps f τ b
-  meets-from (select n i a x) τ h = ap (componentType i) (sym (under-maps f τ a)) ∙ h
-  meets-from (small n a) τ h = subst (λ g. size g ≤ 32) (under-maps f τ a) h
-  meets-from (refusal e n) τ h = h
-  meets-from (piece n t) τ h = meets-from t τ h
+  pairs-from : (w : Extent) (τ : ℕ → Tree w) (es : Pairs Term) → Solves (underIn w τ) (mapPairs f es) → Solves (underIn w (pullIn f w τ)) es
+  unfolding mapPairs
+  pairs-from w τ end h = tt
+  pairs-from w τ (pair a b es) h = (sym (under-in f w τ a) ∙ h .0 ∙ under-in f w τ b, pairs-from w τ es (h .1))
+
+  meets-to : (w : Extent) (t : Items) (τ : ℕ → Tree w) → MeetsIn t w (pullIn f w τ) → MeetsIn (mapItems f t) w τ
+  unfolding MeetsIn mapItems
+  meets-to w skip τ h = tt
+  meets-to w (a ⨾ b) τ h = (meets-to w a τ (h .0), meets-to w b τ (h .1))
+  meets-to w (fresh x) τ h = tt
+  meets-to w (equations n es) τ h = pairs-to w τ es h
+  meets-to w (equate e n a b) τ h = under-in f w τ a ∙ h ∙ sym (under-in f w τ b)
+  meets-to w (select n i a x) τ h = ap (componentIn w i) (under-in f w τ a) ∙ h
+  meets-to w (small n a) τ h = subst (Small w) (sym (under-in f w τ a)) h
+  meets-to w (refusal e n) τ h = h
+  meets-to w (piece n t) τ h = meets-to w t τ h
+
+  meets-from : (w : Extent) (t : Items) (τ : ℕ → Tree w) → MeetsIn (mapItems f t) w τ → MeetsIn t w (pullIn f w τ)
+  unfolding MeetsIn mapItems
+  meets-from w skip τ h = tt
+  meets-from w (a ⨾ b) τ h = (meets-from w a τ (h .0), meets-from w b τ (h .1))
+  meets-from w (fresh x) τ h = tt
+  meets-from w (equations n es) τ h = pairs-from w τ es h
+  meets-from w (equate e n a b) τ h = sym (under-in f w τ a) ∙ h ∙ under-in f w τ b
+  meets-from w (select n i a x) τ h = ap (componentIn w i) (sym (under-in f w τ a)) ∙ h
+  meets-from w (small n a) τ h = subst (Small w) (under-in f w τ a) h
+  meets-from w (refusal e n) τ h = h
+  meets-from w (piece n t) τ h = meets-from w t τ h
 
   agree-to : (t : Items) (σ τ : Valuation) → Agree t (pull f σ) (pull f τ) → Agree (mapItems f t) σ τ
   unfolding Agree mapItems
   agree-to skip σ τ h = tt
   agree-to (a ⨾ b) σ τ h = (agree-to a σ τ (h .0), agree-to b σ τ (h .1))
   agree-to (fresh x) σ τ h = h
+  agree-to (equations n es) σ τ h = tt
   agree-to (equate e n a b) σ τ h = tt
   agree-to (select n i a x) σ τ h = tt
   agree-to (small n a) σ τ h = tt
@@ -74,14 +90,15 @@ module _ (f : ℕ → ℕ) where
   agree-from skip σ τ h = tt
   agree-from (a ⨾ b) σ τ h = (agree-from a σ τ (h .0), agree-from b σ τ (h .1))
   agree-from (fresh x) σ τ h = h
+  agree-from (equations n es) σ τ h = tt
   agree-from (equate e n a b) σ τ h = tt
   agree-from (select n i a x) σ τ h = tt
   agree-from (small n a) σ τ h = tt
   agree-from (refusal e n) σ τ h = tt
   agree-from (piece n t) σ τ h = tt
 
-  and-old : (P : Valuation → Type 0) (t : Items) (τ : Valuation) → And P t (pull f τ) ↔ And (Old P) (mapItems f t) τ
-  and-old P t τ = (λ h. (h .0, meets-to t τ (h .1)), λ h. (h .0, meets-from t τ (h .1)))
+  and-old : (P : Typings) (t : Items) → Alike (Old (And P t)) (And (Old P) (mapItems f t))
+  and-old P t w τ = (λ h. (h .0, meets-to w t τ (h .1)), λ h. (h .0, meets-from w t τ (h .1)))
 
   module _ (g : ℕ → ℕ) (inv : (n : ℕ) → g (f n) ≡ n) where
     slot-back : (x : ℕ) → moveSlot g (moveSlot f x) ≡ x
@@ -92,42 +109,56 @@ module _ (f : ℕ → ℕ) where
         same x = unfold slot in omega arith
 
     -- every table is the restriction of one
-    push : Valuation → Valuation
-    push τ = λ x. τ (moveSlot g x)
+    push : (w : Extent) → (ℕ → Tree w) → ℕ → Tree w
+    push w τ = λ x. τ (moveSlot g x)
 
-    onto : (Q : Valuation → Type 0) (τ : Valuation) → Q τ → Q (pull f (push τ))
+    ontoIn : (w : Extent) (Q : (ℕ → Tree w) → Type 0) (τ : ℕ → Tree w) → Q τ → Q (pullIn f w (push w τ))
     unfolding push
-    onto Q τ h = subst Q (fun-ext (λ x. ap τ (sym (slot-back x)))) h
+    ontoIn w Q τ h = subst Q (fun-ext (λ x. ap τ (sym (slot-back x)))) h
 
-    passes-to : (t : Items) (P : Valuation → Type 0) → Passes t P → Passes (mapItems f t) (Old P)
+    onto : (Q : Valuation → Type 0) (τ : Valuation) → Q τ → Q (pull f (push finite τ))
+    onto Q τ h = ontoIn finite Q τ h
+
+    passes-to : (t : Items) (P : Typings) → Passes t P → Passes (mapItems f t) (Old P)
     unfolding Passes mapItems
     passes-to skip P p = tt
     passes-to (a ⨾ b) P p = (passes-to a P (p .0), passes-ext (mapItems f b) (Old (And P a)) (And (Old P) (mapItems f a)) (and-old P a) (passes-to b (And P a) (p .1)))
     passes-to (fresh x) P p = tt
+    passes-to (equations n es) P p =
+        let q = onto (λ τ. P finite τ × Solves (under τ) es) (p .0) (p .1, p .2) in
+        (push finite (p .0), q .0, pairs-to finite _ es (q .1))
     passes-to (equate e n a b) P p =
-        let q = onto (λ τ. P τ × (under τ a ≡ under τ b)) (p .0) (p .1, p .2) in
-        (push (p .0), q .0, under-maps f _ a ∙ q .1 ∙ sym (under-maps f _ b))
+        let q = onto (λ τ. P finite τ × (under τ a ≡ under τ b)) (p .0) (p .1, p .2) in
+        (push finite (p .0), q .0, under-maps f _ a ∙ q .1 ∙ sym (under-maps f _ b))
     passes-to (select n i a x) P p =
-        let q = onto (λ τ. P τ × (componentType i (under τ a) ≡ some (τ x))) (p .1 .0) (p .1 .1, p .1 .2) in
-        (λ τ h. subst (λ u. Known (componentType i u)) (sym (under-maps f τ a)) (p .0 (pull f τ) h), (push (p .1 .0), q .0, ap (componentType i) (under-maps f _ a) ∙ q .1))
+        let q = onto (λ τ. P finite τ × (componentType i (under τ a) ≡ some (τ x))) (p .1 .0) (p .1 .1, p .1 .2) in
+        (λ τ h. subst (λ u. Known (componentType i u)) (sym (under-maps f τ a)) (p .0 (pull f τ) h), (push finite (p .1 .0), q .0, ap (componentType i) (under-maps f _ a) ∙ q .1))
     passes-to (small n a) P p = λ τ h. subst (λ u. size u ≤ 32) (sym (under-maps f τ a)) (p (pull f τ) h)
     passes-to (refusal e n) P p = p
     passes-to (piece n t) P p = (
       passes-to t P (p .0),
-      λ σ τ a b. agree-to t σ τ (p .1 (pull f σ) (pull f τ) (and-old P t σ .1 a) (and-old P t τ .1 b)),
+      λ σ τ a b. agree-to t σ τ (p .1 (pull f σ) (pull f τ) (and-old P t finite σ .1 a) (and-old P t finite τ .1 b)),
     )
 
-    refuses-to : (t : Items) (P : Valuation → Type 0) (e m : ℕ) → Refuses t P e m → Refuses (mapItems f t) (Old P) e (f m)
+    refuses-to : (t : Items) (P : Typings) (e m : ℕ) → Refuses t P e m → Refuses (mapItems f t) (Old P) e (f m)
     unfolding Refuses mapItems
     refuses-to skip P e m r = r
     refuses-to (a ⨾ b) P e m (inl r) = inl (refuses-to a P e m r)
     refuses-to (a ⨾ b) P e m (inr r) =
         inr (passes-to a P (r .0), refuses-ext (mapItems f b) (Old (And P a)) (And (Old P) (mapItems f a)) e (f m) (and-old P a) (refuses-to b (And P a) e m (r .1)))
     refuses-to (fresh x) P e m r = r
+    refuses-to (equations n es) P e m r = (
+      ap f (r .0),
+      λ τ h q. r .1 (pull f τ) h (pairs-from finite τ es q),
+      unsolved-map e _ _ (
+        λ z. let q = ontoIn infinite (λ ρ. P infinite ρ × Solves (underInf ρ) es) (z .0) (z .1, z .2) in (push infinite (z .0), q .0, pairs-to infinite _ es (q .1)),
+        λ z. (pullIn f infinite (z .0), z .1, pairs-from infinite (z .0) es (z .2)),
+      ) (r .2),
+    )
     refuses-to (equate d n a b) P e m r = (r .0, ap f (r .1), λ τ h q. r .2 (pull f τ) h (sym (under-maps f τ a) ∙ q ∙ under-maps f τ b))
     refuses-to (select n i a x) P e m (inl r) =
-        let q = onto (λ τ. P τ × (Known (componentType i (under τ a)) → ⊥)) (r .2 .0) (r .2 .1, r .2 .2) in
-        inl (r .0, ap f (r .1), (push (r .2 .0), q .0, λ k. q .1 (subst (λ u. Known (componentType i u)) (under-maps f _ a) k)))
+        let q = onto (λ τ. P finite τ × (Known (componentType i (under τ a)) → ⊥)) (r .2 .0) (r .2 .1, r .2 .2) in
+        inl (r .0, ap f (r .1), (push finite (r .2 .0), q .0, λ k. q .1 (subst (λ u. Known (componentType i u)) (under-maps f _ a) k)))
     refuses-to (select n i a x) P e m (inr r) =
         inr (
           r .0,
@@ -136,19 +167,19 @@ module _ (f : ℕ → ℕ) where
           λ τ h q. r .3 (pull f τ) h (ap (componentType i) (sym (under-maps f τ a)) ∙ q),
         )
     refuses-to (small n a) P e m r =
-        let q = onto (λ τ. P τ × (32 < size (under τ a))) (r .2 .0) (r .2 .1, r .2 .2) in
-        (r .0, ap f (r .1), (push (r .2 .0), q .0, subst (λ u. 32 < size u) (sym (under-maps f _ a)) (q .1)))
+        let q = onto (λ τ. P finite τ × (32 < size (under τ a))) (r .2 .0) (r .2 .1, r .2 .2) in
+        (r .0, ap f (r .1), (push finite (r .2 .0), q .0, subst (λ u. 32 < size u) (sym (under-maps f _ a)) (q .1)))
     refuses-to (refusal d n) P e m r = (r .0, ap f (r .1))
     refuses-to (piece n t) P e m (inl r) = inl (refuses-to t P e m r)
     refuses-to (piece n t) P e m (inr r) =
         let s = r .3 in
-        let R : Valuation → Valuation → Type 0 = λ σ τ. And P t σ × And P t τ × (Agree t σ τ → ⊥) in
-        let q = onto (λ σ. R σ (pull f (push (s .1)))) (s .0) (onto (λ τ. R (s .0) τ) (s .1) (s .2, s .3, s .4)) in
+        let R : Valuation → Valuation → Type 0 = λ σ τ. And P t finite σ × And P t finite τ × (Agree t σ τ → ⊥) in
+        let q = onto (λ σ. R σ (pull f (push finite (s .1)))) (s .0) (onto (λ τ. R (s .0) τ) (s .1) (s .2, s .3, s .4)) in
         inr (
           passes-to t P (r .0),
           r .1,
           ap f (r .2),
-          (push (s .0), push (s .1), and-old P t (push (s .0)) .0 (q .0), and-old P t (push (s .1)) .0 (q .1), λ k. q .2 (agree-from t (push (s .0)) (push (s .1)) k)),
+          (push finite (s .0), push finite (s .1), and-old P t finite (push finite (s .0)) .0 (q .0), and-old P t finite (push finite (s .1)) .0 (q .1), λ k. q .2 (agree-from t (push finite (s .0)) (push finite (s .1)) k)),
         )
 
   -- THE ENTRIES of the renumbered paragraph.
@@ -179,12 +210,12 @@ module _ (f g : ℕ → ℕ) (inv : (n : ℕ) → g (f n) ≡ n) (d : ℕ) where
     paragraph-refuses e m h = subst (λ t. Refuses t Any e (f m)) (sym (paragraph-items f p D s k)) (refuses-to f g inv (paragraphItems p D) Any e m h)
 
     -- a typing of the paragraph, and what holds of its entries, for the renumbered one
-    pub typing-to : (Q : Dictionary → Type 0) (τ : Valuation) → And Any (paragraphItems p D) τ → Q (extend p D τ)
-        → (σ : Valuation) × And Any (paragraphItems (mapParagraph f p) D) σ × Q (extend (mapParagraph f p) D σ)
+    pub typing-to : (Q : Dictionary → Type 0) (τ : Valuation) → And Any (paragraphItems p D) finite τ → Q (extend p D τ)
+        → (σ : Valuation) × And Any (paragraphItems (mapParagraph f p) D) finite σ × Q (extend (mapParagraph f p) D σ)
     typing-to Q τ h q =
         let r = onto f g inv (λ σ. Meets (paragraphItems p D) σ × Q (extend p D σ)) τ (h .1, q) in
-        let σ = push f g inv τ in
-        (σ, (tt, subst (λ t. Meets t σ) (sym (paragraph-items f p D s k)) (meets-to f (paragraphItems p D) σ (r .0))), subst Q (sym (extend-maps f p D σ s)) (r .1))
+        let σ = push f g inv finite τ in
+        (σ, (tt, subst (λ t. Meets t σ) (sym (paragraph-items f p D s k)) (meets-to f finite (paragraphItems p D) σ (r .0))), subst Q (sym (extend-maps f p D σ s)) (r .1))
 
   accepts-to : (ps : List Paragraph) (D E : Dictionary) → SizedParagraphs ps → FewRecorded D → Accepts Any ps D d E → Accepts Any (mapParagraphs f ps) D d E
   unfolding Accepts mapParagraphs SizedParagraphs

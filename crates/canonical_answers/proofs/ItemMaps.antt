@@ -11,22 +11,23 @@ use Rattle.reader_rules.specs.Tree.{Expr, reference, number, integers, set, tup
 use Rattle.reader_rules.specs.Tree.{comprehension, Exprs, none, more, Pred, truth, equal, member, atMost, not, connected, quantified, Text, text, Lines}
 use Rattle.reader_rules.specs.Tree.{end, declaration, inclusion, Include, include, Schema, plain, from, both, Paragraph, given, axiomatic, schema}
 use Rattle.reader_rules.specs.Tree.{abbreviation, constraint, exprsLength, exprNode, includeNode}
+use Rattle.types_rules.specs.Equations.{Pairs, pair}
 use Rattle.types_rules.specs.Types.{Term, unknown, Terms, nil, cons}
 use Rattle.types_rules.specs.Instance.{instance}
 use Rattle.checker_rules.specs.Strokes.{decorate, takes}
 use Rattle.checker_rules.specs.Unknowns.{slot, unknownAt, row, powerOf, productOf, pairOf}
-use Rattle.checker_rules.specs.Items.{Items, _⨾_, fresh, equate, select, small, refusal, piece}
+use Rattle.checker_rules.specs.Items.{Items, _⨾_, fresh, equations, select, small, refusal, piece}
 use Rattle.checker_rules.specs.Dictionary.{Dictionary, blank, Named, unnamed, ofLocal, ofGlobal, nameIn, NamedSchema, noSchema, aSchema}
 use Rattle.checker_rules.specs.Signatures.{Signature, noNames, naming, countNames, namesOf, termIn, bindingOf, componentsOf, merge, declare, someStroked, wrongNames}
 use Rattle.checker_rules.specs.Scopes.{Scope, globals, nameAt, schemaNamed, withParameters, includeSignature, inside, schemaSignature}
 use Rattle.checker_rules.specs.Conditions.{refuseIf, sameType, mergeDeclared, mergeNames, newName, newNames, smallTypes, fewNames, typeOf, typesOf, typed, isPower}
-use Rattle.checker_rules.specs.Conditions.{arePowers, areMembers, freshRow}
+use Rattle.checker_rules.specs.Conditions.{powers, arePowers, members, areMembers, equation, areNumbers, freshRow}
 use Rattle.checker_rules.specs.Rules.{referenceItems, thetaName, thetaNames, typeInScope, thetaSignature, thetaItems, includeRule, exprItems, exprsItems}
 use Rattle.checker_rules.specs.Rules.{predItems, textItems, linesItems, includeItems, actualItems, schemaItems, paragraphItems}
 use Rattle.checker_rules.proofs.ScopeUnknowns.{FewRecorded}
 use Rattle.canonical_rules.specs.MapNodes.{mapExpr, mapExprs, mapPred, mapText, mapLines, mapInclude, mapSchema, mapParagraph}
 use Rattle.canonical_rules.proofs.NodeMaps.{expr-node, include-node, length-maps}
-use Rattle.canonical_answers.proofs.MapItems.{moveSlot, mapTerm, mapTerms, mapItems, mapSignature, mapNamed, mapScope, mapOption}
+use Rattle.canonical_answers.proofs.MapItems.{moveSlot, mapTerm, mapTerms, mapPairs, mapItems, mapSignature, mapNamed, mapScope, mapOption}
 use Rattle.reader_rules.proofs.Sized.{SizedExpr, SizedExprs, SizedPred, SizedText, SizedLines, SizedInclude, SizedSchema, SizedParagraph}
 use Rattle.canonical_answers.proofs.TermMaps.{move-slot, unknown-maps, row-maps, closed-maps, row-instance, names-map, count-maps, binding-maps}
 use Rattle.canonical_answers.proofs.TermMaps.{term-maps, merge-maps, declare-maps, name-at-maps, schema-stays, parameters-map}
@@ -90,8 +91,11 @@ module _ (f : ℕ → ℕ) where
   fresh-maps n k h = ap fresh (sym (move-slot f n k h))
 
   -- congruences: mapping goes into every part of items and terms
-  equate-maps : (e n : ℕ) {a b c d : Term} → c ≡ a → d ≡ b → equate e n c d ≡ equate e n a b
-  equate-maps e n p q = ap₂ (equate e n) p q
+  equation-maps : (n : ℕ) {a b c d : Term} → c ≡ a → d ≡ b → equation n c d ≡ equation n a b
+  equation-maps n p q = ap₂ (equation n) p q
+
+  numbers-maps : (n : ℕ) {a b c d : Term} → c ≡ a → d ≡ b → areNumbers n c d ≡ areNumbers n a b
+  numbers-maps n p q = ap₂ (areNumbers n) p q
 
   power-maps : {a c : Term} → c ≡ a → powerOf c ≡ powerOf a
   power-maps p = ap powerOf p
@@ -108,28 +112,39 @@ module _ (f : ℕ → ℕ) where
   piece-maps : (n : ℕ) {t u : Items} → u ≡ t → piece n u ≡ piece n t
   piece-maps n p = ap (piece n) p
 
-  typed-maps : (n : ℕ) {t u : Term} → u ≡ t → typed (f n) u ≡ (fresh (moveSlot f (slot n 0)) ⨾ equate 33 (f n) (unknown (moveSlot f (slot n 0))) t)
+  typed-maps : (n : ℕ) {t u : Term} → u ≡ t → typed (f n) u ≡ (fresh (moveSlot f (slot n 0)) ⨾ equation (f n) (unknown (moveSlot f (slot n 0))) t)
   unfolding mapItems mapTerm
-  typed-maps n p = then-maps (fresh-maps n 0 (omega arith)) (equate-maps 33 (f n) (unknown-maps f n 0 (omega arith)) p)
+  typed-maps n p = then-maps (fresh-maps n 0 (omega arith)) (equation-maps (f n) (unknown-maps f n 0 (omega arith)) p)
 
   is-power-maps : (n k : ℕ) (a : Expr) → k < 8 → isPower (f n) k (mapExpr f a) ≡ mapItems f (isPower n k a)
-  unfolding mapItems mapTerm
-  is-power-maps n k a h = then-maps (fresh-maps n k h) (equate-maps 33 (f n) (type-maps a) (power-maps (unknown-maps f n k h)))
-
-  are-powers-maps : (xs : Exprs) (n k : ℕ) → k + exprsLength xs ≤ 8 → arePowers (f n) (mapExprs f xs) k ≡ mapItems f (arePowers n xs k)
-  unfolding arePowers mapExprs exprsLength mapItems mapTerm
-  are-powers-maps none n k h = refl
-  are-powers-maps (more a xs) n k h = ap₂ (λ x y. x ⨾ y) (is-power-maps n k a (omega arith)) (are-powers-maps xs n (suc k) (omega arith))
-
-  members-maps : (xs : Exprs) (n : ℕ) → areMembers (f n) (mapExprs f xs) ≡ mapItems f (areMembers n xs)
-  unfolding areMembers mapExprs mapItems mapTerm
-  members-maps none n = refl
-  members-maps (more a xs) n = ap₂ (λ x y. x ⨾ y) (equate-maps 33 (f n) (type-maps a) (unknown-maps f n 1 (omega arith))) (members-maps xs n)
+  unfolding mapItems mapPairs mapTerm
+  is-power-maps n k a h = then-maps (fresh-maps n k h) (equation-maps (f n) (type-maps a) (power-maps (unknown-maps f n k h)))
 
   fresh-row-maps : (p n k : ℕ) → k + p ≤ 8 → freshRow (f n) k p ≡ mapItems f (freshRow n k p)
   unfolding freshRow mapItems
   fresh-row-maps zero n k h = refl
   fresh-row-maps (suc p) n k h = ap₂ (λ x y. x ⨾ y) (fresh-maps n k (omega arith)) (fresh-row-maps p n (suc k) (omega arith))
+
+  pair-of-maps : {a b c d : Term} {es us : Pairs Term} → c ≡ a → d ≡ b → us ≡ es → pair c d us ≡ pair a b es
+  pair-of-maps {a = a} {b = b} {us = us} p q r = ap₂ (λ x y. pair x y us) p q ∙ ap (pair a b) r
+
+  powers-maps : (xs : Exprs) (n k : ℕ) → k + exprsLength xs ≤ 8 → powers (f n) (mapExprs f xs) k ≡ mapPairs f (powers n xs k)
+  unfolding powers mapExprs exprsLength mapPairs mapTerm
+  powers-maps none n k h = refl
+  powers-maps (more a xs) n k h = pair-of-maps (type-maps a) (power-maps (unknown-maps f n k (omega arith))) (powers-maps xs n (suc k) (omega arith))
+
+  are-powers-maps : (xs : Exprs) (n k : ℕ) → k + exprsLength xs ≤ 8 → arePowers (f n) (mapExprs f xs) k ≡ mapItems f (arePowers n xs k)
+  unfolding arePowers mapItems
+  are-powers-maps xs n k h = then-maps (ap (freshRow (f n) k) (length-maps f xs) ∙ fresh-row-maps (exprsLength xs) n k h) (ap (equations (f n)) (powers-maps xs n k h))
+
+  each-member-maps : (xs : Exprs) (n : ℕ) → members (f n) (mapExprs f xs) ≡ mapPairs f (members n xs)
+  unfolding members mapExprs mapPairs mapTerm
+  each-member-maps none n = refl
+  each-member-maps (more a xs) n = pair-of-maps (type-maps a) (unknown-maps f n 1 (omega arith)) (each-member-maps xs n)
+
+  members-maps : (xs : Exprs) (n : ℕ) → areMembers (f n) (mapExprs f xs) ≡ mapItems f (areMembers n xs)
+  unfolding areMembers mapItems
+  members-maps xs n = ap (equations (f n)) (each-member-maps xs n)
 
   cond-maps : (b : Bool) (x y : Items) {u v : Items} → (b ≡ true → u ≡ mapItems f x) → v ≡ mapItems f y → cond b u v ≡ mapItems f (cond b x y)
   cond-maps true x y p q = p refl
@@ -137,7 +152,7 @@ module _ (f : ℕ → ℕ) where
 
   -- rules
   reference-maps : (n : ℕ) (xs : Exprs) (m : Named) → FewNamed m → referenceItems (f n) (mapExprs f xs) (mapNamed f m) ≡ mapItems f (referenceItems n xs m)
-  unfolding referenceItems mapExprs mapNamed FewNamed mapItems mapTerm
+  unfolding referenceItems mapExprs mapNamed FewNamed mapItems mapPairs mapTerm
   reference-maps n none unnamed h = refl
   reference-maps n (more a xs) unnamed h = refl
   reference-maps n none (ofLocal t) h = typed-maps n refl
@@ -178,7 +193,7 @@ module _ (f : ℕ → ℕ) where
       ap₂ (naming i) (ap typeInScope (name-at-maps f (decorate k i) Γ) ∙ in-scope-maps (nameAt (decorate k i) Γ)) (theta-signature-maps k s Γ)
 
   theta-maps : (n k : ℕ) (d : NamedSchema) (Γ : Scope) → thetaItems (f n) k d (mapScope f Γ) ≡ mapItems f (thetaItems n k d Γ)
-  unfolding thetaItems mapItems mapTerm
+  unfolding thetaItems mapItems mapPairs mapTerm
   theta-maps n k noSchema Γ = refl
   theta-maps n k (aSchema p g) Γ =
       let s = componentsOf (instance nil g) in
@@ -239,7 +254,7 @@ module _ (f : ℕ → ℕ) where
   at-rest a xs j l = omega arith
 
   mutual
-    unfolding exprItems mapExpr SizedExpr mapItems mapTerm
+    unfolding exprItems mapExpr SizedExpr mapItems mapPairs mapTerm
 
     pub expr-items : (a : Expr) (Γ : Scope) → SizedExpr a → FewAt Γ → exprItems (mapExpr f a) (mapScope f Γ) ≡ mapItems f (exprItems a Γ)
     expr-items (reference n i xs) Γ h k =
@@ -262,7 +277,7 @@ module _ (f : ℕ → ℕ) where
         then-maps (expr-items a Γ (h .0) k)
         (then-maps (expr-items b Γ (h .1) k)
         (then-maps (fresh-maps n 0 (omega arith))
-        (equate-maps 33 (f n) (type-maps a) (power-maps (pair-maps (type-maps b) (unknown-maps f n 0 (omega arith)))))))
+        (equation-maps (f n) (type-maps a) (power-maps (pair-maps (type-maps b) (unknown-maps f n 0 (omega arith)))))))
     expr-items (selection n a i) Γ h k =
         then-maps (expr-items a Γ h k) (then-maps (fresh-maps n 0 (omega arith)) (select-maps n i a))
     expr-items (theta n s k′) Γ h k = ap (λ d. thetaItems (f n) k′ d (mapScope f Γ)) (schema-stays f s Γ) ∙ theta-maps n k′ (schemaNamed s Γ) Γ
@@ -272,7 +287,7 @@ module _ (f : ℕ → ℕ) where
     expr-items (arithmetic n o a b) Γ h k =
         then-maps (expr-items a Γ (h .0) k)
         (then-maps (expr-items b Γ (h .1) k)
-        (then-maps (equate-maps 33 (f n) (type-maps a) refl) (then-maps (equate-maps 33 (f n) (type-maps b) refl) (typed-maps n refl))))
+        (then-maps (numbers-maps (f n) (type-maps a) (type-maps b)) (typed-maps n refl)))
     expr-items (comprehension n t a) Γ h k =
         then-maps (text-items t Γ blank (h .0) k)
         (then-maps (ap (exprItems (mapExpr f a)) (inside-maps f t Γ (h .0)) ∙ expr-items a (inside t Γ) (h .1) (few-inside t Γ k)) (typed-maps n (power-maps (type-maps a))))
@@ -284,13 +299,13 @@ module _ (f : ℕ → ℕ) where
     pub pred-items : (p : Pred) (Γ : Scope) → SizedPred p → FewAt Γ → predItems (mapPred f p) (mapScope f Γ) ≡ mapItems f (predItems p Γ)
     pred-items (truth n) Γ h k = refl
     pred-items (equal n a b) Γ h k =
-        piece-maps (f n) (then-maps (expr-items a Γ (h .0) k) (then-maps (expr-items b Γ (h .1) k) (equate-maps 33 (f n) (type-maps a) (type-maps b))))
+        piece-maps (f n) (then-maps (expr-items a Γ (h .0) k) (then-maps (expr-items b Γ (h .1) k) (equation-maps (f n) (type-maps a) (type-maps b))))
     pred-items (member n a b) Γ h k =
-        piece-maps (f n) (then-maps (expr-items a Γ (h .0) k) (then-maps (expr-items b Γ (h .1) k) (equate-maps 33 (f n) (power-maps (type-maps a)) (type-maps b))))
+        piece-maps (f n) (then-maps (expr-items a Γ (h .0) k) (then-maps (expr-items b Γ (h .1) k) (equation-maps (f n) (power-maps (type-maps a)) (type-maps b))))
     pred-items (atMost n a b) Γ h k =
         piece-maps (f n)
         (then-maps (expr-items a Γ (h .0) k)
-        (then-maps (expr-items b Γ (h .1) k) (then-maps (equate-maps 33 (f n) (type-maps a) refl) (equate-maps 33 (f n) (type-maps b) refl))))
+        (then-maps (expr-items b Γ (h .1) k) (numbers-maps (f n) (type-maps a) (type-maps b))))
     pred-items (not n p) Γ h k = pred-items p Γ h k
     pred-items (connected n o p q) Γ h k = then-maps (pred-items p Γ (h .0) k) (pred-items q Γ (h .1) k)
     pred-items (quantified n o t p) Γ h k =

@@ -2,8 +2,10 @@
 use mathlib.Core.Option.{Option, some, none as nothing}
 use Prim.Native.Nat.{ℕ, _/_, _%_}
 use Rattle.types_rules.specs.Types.{Term, unknown, con, Terms, nil, cons}
+use Rattle.types_rules.specs.Equations.{Pairs, end, pair}
+use Rattle.types_rules.specs.Trees.{Extent, Tree}
 use Rattle.checker_rules.specs.Unknowns.{Valuation, slot}
-use Rattle.checker_rules.specs.Items.{Items, skip, _⨾_, fresh, equate, select, small, refusal, piece}
+use Rattle.checker_rules.specs.Items.{Items, skip, _⨾_, fresh, equations, equate, select, small, refusal, piece}
 use Rattle.checker_rules.specs.Dictionary.{Named, unnamed, ofLocal, ofGlobal}
 use Rattle.checker_rules.specs.Signatures.{Signature, noNames, naming}
 use Rattle.checker_rules.specs.Scopes.{Scope, globals, local}
@@ -22,10 +24,15 @@ module _ (f : ℕ → ℕ) where
     mapTerms nil = nil
     mapTerms (cons t ts) = cons (mapTerm t) (mapTerms ts)
 
+  unfoldable pub mapPairs : Pairs Term → Pairs Term
+  mapPairs end = end
+  mapPairs (pair a b es) = pair (mapTerm a) (mapTerm b) (mapPairs es)
+
   unfoldable pub mapItems : Items → Items
   mapItems skip = skip
   mapItems (a ⨾ b) = mapItems a ⨾ mapItems b
   mapItems (fresh x) = fresh (moveSlot f x)
+  mapItems (equations n es) = equations (f n) (mapPairs es)
   mapItems (equate e n a b) = equate e (f n) (mapTerm a) (mapTerm b)
   mapItems (select n i a x) = select (f n) i (mapTerm a) (moveSlot f x)
   mapItems (small n a) = small (f n) (mapTerm a)
@@ -49,6 +56,9 @@ module _ (f : ℕ → ℕ) where
   mapOption (some t) = some (mapTerm t)
   mapOption nothing = nothing
 
-  -- the typing that the unknowns of the tree have in a table for the other tree
+  -- the typing that the unknowns of the tree have in a table for the other tree, of types or of possibly infinite types
   abbrev pub pull : Valuation → Valuation
   pull τ = λ x. τ (moveSlot f x)
+
+  abbrev pub pullIn : (w : Extent) → (ℕ → Tree w) → ℕ → Tree w
+  pullIn w τ = λ x. τ (moveSlot f x)

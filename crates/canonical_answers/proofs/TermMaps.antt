@@ -8,6 +8,8 @@ use native.Mathlib.Omega.{arith}
 use lib.Dec.{ltb, eqb}
 use Rattle.reader_rules.specs.Tree.{exprsLength, Text, text, Lines, end, declaration, inclusion, Include, include}
 use Rattle.reader_rules.specs.Tree.{Schema, plain, from, both}
+use Rattle.types_rules.specs.Infinite.{Inf, mkI, eval, evals, underInf}
+use Rattle.types_rules.specs.Trees.{Extent, finite, infinite, Tree, underIn}
 use Rattle.types_rules.specs.Former.{Former, int, given, parameter, power, product, binding, identifiers}
 use Rattle.types_rules.specs.Types.{Ty, Tys, node, tnil, tcons, Term, unknown, con, Terms, nil, cons, under, unders}
 use Rattle.types_rules.specs.Instance.{nth, actual, instanceFormer, instance, instances}
@@ -19,7 +21,7 @@ use Rattle.checker_rules.specs.Signatures.{insertName, merge, declare, strokeAl
 use Rattle.checker_rules.specs.Scopes.{Scope, globals, local, nameAt, schemaNamed, withParameters, enter, brought, includeSignature}
 use Rattle.checker_rules.specs.Scopes.{linesSignature, textSignature, inside, schemaSignature}
 use Rattle.canonical_rules.specs.MapNodes.{mapText, mapLines, mapInclude, mapSchema}
-use Rattle.canonical_answers.proofs.MapItems.{moveSlot, mapTerm, mapTerms, mapSignature, mapNamed, mapScope, mapOption, pull}
+use Rattle.canonical_answers.proofs.MapItems.{moveSlot, mapTerm, mapTerms, mapSignature, mapNamed, mapScope, mapOption, pull, pullIn}
 use Rattle.reader_rules.proofs.Sized.{SizedText, SizedLines, SizedInclude, SizedSchema}
 use Rattle.checker_rules.proofs.ScopeUnknowns.{FewRecorded}
 use Rattle.canonical_rules.proofs.NodeMaps.{length-maps}
@@ -49,6 +51,21 @@ module _ (f : ℕ → ℕ) where
     pub unders-maps : (τ : Valuation) (ts : Terms) → unders τ (mapTerms f ts) ≡ unders (pull f τ) ts
     unders-maps τ nil = refl
     unders-maps τ (cons t ts) = ap₂ tcons (under-maps τ t) (unders-maps τ ts)
+
+  mutual
+    unfolding mapTerm eval
+
+    inf-maps : (ρ : ℕ → Inf) (t : Term) → underInf ρ (mapTerm f t) ≡ underInf (pullIn f infinite ρ) t
+    inf-maps ρ (unknown x) = refl
+    inf-maps ρ (con h ts) = ap (mkI h) (infs-maps ρ ts)
+
+    infs-maps : (ρ : ℕ → Inf) (ts : Terms) → evals mkI ρ (mapTerms f ts) ≡ evals mkI (pullIn f infinite ρ) ts
+    infs-maps ρ nil = refl
+    infs-maps ρ (cons t ts) = ap₂ _∷_ (inf-maps ρ t) (infs-maps ρ ts)
+
+  pub under-in : (w : Extent) (τ : ℕ → Tree w) (t : Term) → underIn w τ (mapTerm f t) ≡ underIn w (pullIn f w τ) t
+  under-in finite τ t = under-maps τ t
+  under-in infinite τ t = inf-maps τ t
 
   -- recorded types with terms for their parameters
   nth-maps : (ts : Terms) (i : ℕ) → nth (mapTerms f ts) i ≡ mapOption f (nth ts i)

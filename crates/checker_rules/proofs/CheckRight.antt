@@ -10,8 +10,9 @@ use borrow.Author.Tests.{leb-true, leb-false, le-leb, lt-leb, eq-eqb, eqb-true, 
 use Rattle.reader_rules.specs.Reading.{readOf}
 use Rattle.reader_rules.specs.Tree.{Paragraph, Document, paragraphNode}
 use Rattle.reader_rules.specs.Decode.{treeOf}
+use Rattle.types_rules.specs.Trees.{finite}
 use Rattle.checker_rules.specs.Unknowns.{Valuation}
-use Rattle.checker_rules.specs.Items.{Any, And, Passes}
+use Rattle.checker_rules.specs.Items.{Any, And, Passes, Typings}
 use Rattle.checker_rules.specs.Dictionary.{Dictionary, blank, dictionaryLength}
 use Rattle.checker_rules.specs.Rules.{paragraphItems}
 use Rattle.checker_rules.specs.Entries.{extend}
@@ -25,17 +26,17 @@ use Rattle.reader_rules.specs.declared.Reading.{Reading}
 use Rattle.reader_rules.specs.declared.Reading.the-variants.{Readable, Refused}
 
 -- P: the valuations that count. I: what paragraphs, over the dictionary before them, must have for the solver to be right about P.
-module _ (P : Valuation → Type 0) (I : List Paragraph → Dictionary → Type 0)
+module _ (P : Typings) (I : List Paragraph → Dictionary → Type 0)
     (right : (p : Paragraph) (ps : List Paragraph) (D : Dictionary) → I (p ∷ ps) D → Verdict P (paragraphItems p D) (solve (paragraphItems p D)))
-    (onward : (p : Paragraph) (ps : List Paragraph) (D : Dictionary) (τ : Valuation) → I (p ∷ ps) D → P τ → I ps (extend p D τ)) where
+    (onward : (p : Paragraph) (ps : List Paragraph) (D : Dictionary) (τ : Valuation) → I (p ∷ ps) D → P finite τ → I ps (extend p D τ)) where
   module _ (p : Paragraph) (ps : List Paragraph) (D : Dictionary) (d : ℕ) (i : I (p ∷ ps) D) where
-    shift : (τ : Valuation) → Passes (paragraphItems p D) P → And P (paragraphItems p D) τ → dictionaryLength (extend p D τ) ≤ d → (a : Answer) → AnswersFrom P ps (extend p D τ) d a → AnswersFrom P (p ∷ ps) D d a
+    shift : (τ : Valuation) → Passes (paragraphItems p D) P → And P (paragraphItems p D) finite τ → dictionaryLength (extend p D τ) ≤ d → (a : Answer) → AnswersFrom P ps (extend p D τ) d a → AnswersFrom P (p ∷ ps) D d a
     unfolding AnswersFrom Accepts RefusesAt
     shift τ h s l (accepted E) r = (h, (τ, s, l, r))
     shift τ h s l (refused f m) r = inr (h, (τ, s, inr (l, r)))
 
     module _ (k : Dictionary → Answer) (g : (E : Dictionary) → I ps E → AnswersFrom P ps E d (k E)) where
-      fit-right : (τ : Valuation) → Passes (paragraphItems p D) P → And P (paragraphItems p D) τ → (b : Bool) → leb (dictionaryLength (extend p D τ)) d ≡ b
+      fit-right : (τ : Valuation) → Passes (paragraphItems p D) P → And P (paragraphItems p D) finite τ → (b : Bool) → leb (dictionaryLength (extend p D τ)) d ≡ b
           → AnswersFrom P (p ∷ ps) D d (fitting b (paragraphNode p) (extend p D τ) k)
       unfolding fitting AnswersFrom RefusesAt
       fit-right τ h s true e = shift τ h s (leb-true _ d e) (k (extend p D τ)) (g (extend p D τ) (onward p ps D τ i (s .0)))

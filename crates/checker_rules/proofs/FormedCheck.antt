@@ -8,20 +8,21 @@ use lib.Dec.{ltb, eqb}
 use Rattle.reader_rules.specs.Reading.{readOf}
 use Rattle.reader_rules.specs.Tree.{Paragraph, given, axiomatic, schema, abbreviation, constraint, paragraphNode}
 use Rattle.reader_rules.specs.Decode.{treeOf}
+use Rattle.types_rules.specs.Equations.{Pairs, end, pair, AllP}
 use Rattle.types_rules.specs.Types.{Term, unknown, under, integerType}
 use Rattle.types_rules.specs.Substitution.{Substitution, empty, resolve}
-use Rattle.types_rules.specs.Unify.{Outcome, ok, clash, cycle, stuck, unify}
+use Rattle.types_rules.specs.Unify.{Outcome, ok, clash, cycle, stuck, unify, andThen as after, unifyAll}
 use Rattle.types_rules.specs.Component.{component}
 use Rattle.types_rules.specs.Formed.{Formed, FormedType, Arity, WellFormed}
 use Rattle.types_rules.proofs.Formed.{under-fit, FitS, FitR, resolve-fit, unify-fit, sol-fit}
 use Rattle.checker_rules.specs.Unknowns.{Valuation, givenSet}
-use Rattle.checker_rules.specs.Items.{Items, skip, _⨾_, fresh, equate, select, small, refusal, piece}
+use Rattle.checker_rules.specs.Items.{Items, skip, _⨾_, fresh, equations, equate, select, small, refusal, piece}
 use Rattle.checker_rules.specs.Dictionary.{nameEntry, Dictionary, blank, _▸_}
 use Rattle.checker_rules.specs.Signatures.{Signature, noNames, naming}
 use Rattle.checker_rules.specs.Scopes.{globals, withParameters, textSignature, schemaSignature}
 use Rattle.checker_rules.specs.Rules.{paragraphItems}
 use Rattle.checker_rules.specs.Entries.{addGivens, addSignature, extend}
-use Rattle.checker_rules.specs.Solving.{Solved, pass, refuse, andThen, answer, passIf, selected, solveFrom, unknowns, solve, valuationOf}
+use Rattle.checker_rules.specs.Solving.{Solved, pass, refuse, andThen, answerAll, answer, passIf, selected, solveFrom, unknowns, solve, valuationOf}
 use Rattle.checker_rules.specs.Check.{Answer, refused, fitting, settle, checkParagraphs, paragraphsOf, afterReading, checkWorkWords, checkOf}
 use Rattle.checker_rules.specs.WellFormed.{FormedDictionary, FormedAnswer}
 use Rattle.checker_rules.proofs.SolvingRight.{Keeps}
@@ -60,16 +61,36 @@ unfolding andThen
 then-formed (pass vs s) k h f = f vs s h
 then-formed (refuse g m) k h f = tt
 
-pub solve-formed : (t : Items) (vs : List ℕ) (s : Substitution) → FormedItems t → FitS Arity s → FormedSolved (solveFrom t vs s)
+-- Several equations.
+pub all-formed : (n : ℕ) (H : Items) (r : Outcome) → FitR Arity r → FormedSolved (answerAll n H r)
+unfolding answerAll
+all-formed n H (ok vs s) h = h
+all-formed n H clash h = tt
+all-formed n H cycle h = tt
+all-formed n H stuck h = tt
+
+unifyAll-formed : (vs : List ℕ) (s : Substitution) (P : Pairs Term) → FitS Arity s → AllP (λ a b. Formed Arity a × Formed Arity b) P → FitR Arity (unifyAll vs s P)
+unfolding unifyAll after
+unifyAll-formed vs s end k h = k
+unifyAll-formed vs s (pair a b P) k h = go (unify vs s a b) (unify-fit Arity vs s a b k (h .0 .0) (h .0 .1)) (λ vs′ s′ k′. unifyAll-formed vs′ s′ P k′ (h .1))
+  where
+    go : (r : Outcome) → FitR Arity r → ((vs′ : List ℕ) (s′ : Substitution) → FitS Arity s′ → FitR Arity (unifyAll vs′ s′ P)) → FitR Arity (after r (λ vs′ s′. unifyAll vs′ s′ P))
+    go (ok vs′ s′) f g = g vs′ s′ f
+    go clash f g = f
+    go cycle f g = f
+    go stuck f g = f
+
+pub solve-formed : (t H : Items) (vs : List ℕ) (s : Substitution) → FormedItems t → FitS Arity s → FormedSolved (solveFrom t H vs s)
 unfolding solveFrom FormedItems
-solve-formed skip vs s h k = k
-solve-formed (a ⨾ b) vs s h k = then-formed (solveFrom a vs s) _ (solve-formed a vs s (h .0) k) (λ vs′ s′ k′. solve-formed b vs′ s′ (h .1) k′)
-solve-formed (fresh x) vs s h k = k
-solve-formed (equate g n a b) vs s h k = answer-formed g n (unify vs s a b) (unify-fit Arity vs s a b k (h .0) (h .1))
-solve-formed (select n i a x) vs s h k = selected-formed (component i (resolve s a)) n x vs s (component-formed i (resolve s a) (resolve-fit Arity s k a h)) k
-solve-formed (small n a) vs s h k = passIf-formed _ 38 n vs s k
-solve-formed (refusal g n) vs s h k = tt
-solve-formed (piece n t) vs s h k = then-formed (solveFrom t vs s) _ (solve-formed t vs s h k) (λ vs′ s′ k′. passIf-formed _ 34 n vs′ s′ k′)
+solve-formed skip H vs s h k = k
+solve-formed (a ⨾ b) H vs s h k = then-formed (solveFrom a H vs s) _ (solve-formed a H vs s (h .0) k) (λ vs′ s′ k′. solve-formed b (H ⨾ a) vs′ s′ (h .1) k′)
+solve-formed (fresh x) H vs s h k = k
+solve-formed (equations n es) H vs s h k = all-formed n (H ⨾ equations n es) (unifyAll vs s es) (unifyAll-formed vs s es k h)
+solve-formed (equate g n a b) H vs s h k = answer-formed g n (unify vs s a b) (unify-fit Arity vs s a b k (h .0) (h .1))
+solve-formed (select n i a x) H vs s h k = selected-formed (component i (resolve s a)) n x vs s (component-formed i (resolve s a) (resolve-fit Arity s k a h)) k
+solve-formed (small n a) H vs s h k = passIf-formed _ 38 n vs s k
+solve-formed (refusal g n) H vs s h k = tt
+solve-formed (piece n t) H vs s h k = then-formed (solveFrom t H vs s) _ (solve-formed t H vs s h k) (λ vs′ s′ k′. passIf-formed _ 34 n vs′ s′ k′)
 
 -- The dictionary.
 pub givens-formed : (xs : List ℕ) (D : Dictionary) → FormedDictionary D → FormedDictionary (addGivens xs D)
@@ -111,7 +132,7 @@ unfolding checkParagraphs solve SizedParagraphs
 paragraphs-formed [] D d z h = h
 paragraphs-formed (p ∷ ps) D d z h =
     settle-formed (solve (paragraphItems p D)) p D d (λ E. checkParagraphs ps E d)
-    (solve-formed (paragraphItems p D) (unknowns (paragraphItems p D) []) empty (formedParagraph p D (z .0) h) tt)
+    (solve-formed (paragraphItems p D) skip (unknowns (paragraphItems p D) []) empty (formedParagraph p D (z .0) h) tt)
     h
     (λ E e. paragraphs-formed ps E d (z .1) e)
 

@@ -10,18 +10,19 @@ use Rattle.reader_rules.specs.Tree.{Expr, reference, number, integers, set, tup
 use Rattle.reader_rules.specs.Tree.{comprehension, Exprs, none, more, Pred, truth, equal, member, atMost, not, connected, quantified, Text, text, Lines}
 use Rattle.reader_rules.specs.Tree.{end, declaration, inclusion, Include, include, Schema, plain, from, both, Paragraph, given, axiomatic, schema}
 use Rattle.reader_rules.specs.Tree.{abbreviation, constraint, exprsLength, includeNode}
+use Rattle.types_rules.specs.Equations.{Pairs, AllP}
 use Rattle.types_rules.specs.Types.{Term, nil}
 use Rattle.types_rules.specs.Instance.{instance}
 use Rattle.types_rules.specs.Formed.{partCount, Formed, Formeds, Ascending, Arity}
 use Rattle.checker_rules.specs.Strokes.{decorate, takes}
 use Rattle.checker_rules.specs.Unknowns.{unknownAt, row}
-use Rattle.checker_rules.specs.Items.{Items, skip, _⨾_, fresh, equate, select, small, refusal, piece}
+use Rattle.checker_rules.specs.Items.{Items, skip, _⨾_, fresh, equations, equate, select, small, refusal, piece}
 use Rattle.checker_rules.specs.Dictionary.{Dictionary, blank, Named, unnamed, ofLocal, ofGlobal, nameIn, NamedSchema, noSchema, aSchema}
 use Rattle.checker_rules.specs.Signatures.{Signature, noNames, naming, countNames, namesOf, componentsOf, termIn, merge, declare, someStroked}
 use Rattle.checker_rules.specs.Signatures.{wrongNames}
 use Rattle.checker_rules.specs.Scopes.{Scope, globals, nameAt, schemaNamed, withParameters, includeSignature, inside, schemaSignature}
 use Rattle.checker_rules.specs.Conditions.{refuseIf, sameType, mergeDeclared, mergeNames, newName, newNames, smallTypes, fewNames, typesOf, typed}
-use Rattle.checker_rules.specs.Conditions.{isPower, arePowers, areMembers, freshRow}
+use Rattle.checker_rules.specs.Conditions.{isPower, powers, arePowers, members, areMembers, freshRow}
 use Rattle.checker_rules.specs.Rules.{referenceItems, thetaName, thetaNames, typeInScope, thetaSignature, thetaItems, includeRule, exprItems}
 use Rattle.checker_rules.specs.Rules.{exprsItems, predItems, textItems, linesItems, includeItems, actualItems, schemaItems, paragraphItems}
 use Rattle.checker_rules.specs.WellFormed.{FormedDictionary}
@@ -37,6 +38,7 @@ unfoldable pub FormedItems : Items → Type 0
 FormedItems skip = Unit {0}
 FormedItems (a ⨾ b) = FormedItems a × FormedItems b
 FormedItems (fresh x) = Unit {0}
+FormedItems (equations n es) = AllP (λ a b. Formed Arity a × Formed Arity b) es
 FormedItems (equate g n a b) = Formed Arity a × Formed Arity b
 FormedItems (select n i a x) = Formed Arity a
 FormedItems (small n a) = Unit {0}
@@ -90,26 +92,37 @@ fewNames-formed n s = refuseIf-formed (ltb 16 (countNames s)) 38 n
 
 pub typed-formed : (n : ℕ) (t : Term) → Formed Arity t → FormedItems (typed n t)
 unfolding FormedItems Formed
-typed-formed n t h = (tt, (tt, h))
+typed-formed n t h = (tt, ((tt, h), tt))
 
 pub isPower-formed : (n k : ℕ) (e : Expr) → FormedItems (isPower n k e)
 unfolding FormedItems Formed Arity
-isPower-formed n k e = (tt, (tt, (refl, (tt, tt))))
-
-pub areMembers-formed : (n : ℕ) (es : Exprs) → FormedItems (areMembers n es)
-unfolding areMembers FormedItems Formed
-areMembers-formed n none = tt
-areMembers-formed n (more e es) = ((tt, tt), areMembers-formed n es)
-
-pub arePowers-formed : (n : ℕ) (es : Exprs) (k : ℕ) → FormedItems (arePowers n es k)
-unfolding arePowers FormedItems
-arePowers-formed n none k = tt
-arePowers-formed n (more e es) k = (isPower-formed n k e, arePowers-formed n es (suc k))
+isPower-formed n k e = (tt, ((tt, (refl, (tt, tt))), tt))
 
 pub freshRow-formed : (n k p : ℕ) → FormedItems (freshRow n k p)
 unfolding freshRow FormedItems
 freshRow-formed n k zero = tt
 freshRow-formed n k (suc p) = (tt, freshRow-formed n (suc k) p)
+
+abbrev FormedPairs : Pairs Term → Type 0
+FormedPairs P = AllP (λ a b. Formed Arity a × Formed Arity b) P
+
+members-formed : (n : ℕ) (es : Exprs) → FormedPairs (members n es)
+unfolding members Formed
+members-formed n none = tt
+members-formed n (more e es) = ((tt, tt), members-formed n es)
+
+pub areMembers-formed : (n : ℕ) (es : Exprs) → FormedItems (areMembers n es)
+unfolding areMembers FormedItems
+areMembers-formed n es = members-formed n es
+
+powers-formed : (n : ℕ) (es : Exprs) (k : ℕ) → FormedPairs (powers n es k)
+unfolding powers Formed Arity
+powers-formed n none k = tt
+powers-formed n (more e es) k = ((tt, (refl, (tt, tt))), powers-formed n es (suc k))
+
+pub arePowers-formed : (n : ℕ) (es : Exprs) (k : ℕ) → FormedItems (arePowers n es k)
+unfolding arePowers FormedItems
+arePowers-formed n es k = (freshRow-formed n k (exprsLength es), powers-formed n es k)
 
 pub reference-formed : (n : ℕ) (xs : Exprs) (m : Named) → FormedNamed m → FormedItems (referenceItems n xs m)
 unfolding referenceItems FormedItems FormedNamed
@@ -192,27 +205,27 @@ mutual
 
   pub formedExpr : (e : Expr) (Γ : Scope) → SizedExpr e → FormedScope Γ → FormedItems (exprItems e Γ)
   formedExpr (reference n i xs) Γ z h = (formedExprs xs Γ z h, reference-formed n xs (nameAt i Γ) (nameAt-formed i Γ h))
-  formedExpr (number n k) Γ z h = (tt, (tt, (refl, tt)))
-  formedExpr (integers n) Γ z h = (tt, (tt, (refl, ((refl, tt), tt))))
-  formedExpr (set n es) Γ z h = (formedExprs es Γ z h, (tt, (areMembers-formed n es, (tt, (tt, (refl, (tt, tt)))))))
-  formedExpr (tuple n es) Γ z h = (formedExprs es Γ (z .1) h, (tt, (tt, (two-to-six (types-count es) (z .0), typesOf-formed es))))
+  formedExpr (number n k) Γ z h = (tt, ((tt, (refl, tt)), tt))
+  formedExpr (integers n) Γ z h = (tt, ((tt, (refl, ((refl, tt), tt))), tt))
+  formedExpr (set n es) Γ z h = (formedExprs es Γ z h, (tt, (areMembers-formed n es, (tt, ((tt, (refl, (tt, tt))), tt)))))
+  formedExpr (tuple n es) Γ z h = (formedExprs es Γ (z .1) h, (tt, ((tt, (two-to-six (types-count es) (z .0), typesOf-formed es)), tt)))
   formedExpr (product n es) Γ z h = (
     formedExprs es Γ (z .1) h,
-    (arePowers-formed n es 1, (tt, (tt, (refl, ((two-to-six (row-count n 1 (exprsLength es)) (z .0), row-formed n 1 (exprsLength es)), tt))))),
+    (arePowers-formed n es 1, (tt, ((tt, (refl, ((two-to-six (row-count n 1 (exprsLength es)) (z .0), row-formed n 1 (exprsLength es)), tt))), tt))),
   )
-  formedExpr (power n e) Γ z h = (formedExpr e Γ z h, (isPower-formed n 1 e, (tt, (tt, (refl, ((refl, (tt, tt)), tt))))))
+  formedExpr (power n e) Γ z h = (formedExpr e Γ z h, (isPower-formed n 1 e, (tt, ((tt, (refl, ((refl, (tt, tt)), tt))), tt))))
   formedExpr (application n f a) Γ z h =
-      (formedExpr f Γ (z .0) h, (formedExpr a Γ (z .1) h, (tt, (tt, (refl, (((omega arith, omega arith), (tt, (tt, tt))), tt))))))
+      (formedExpr f Γ (z .0) h, (formedExpr a Γ (z .1) h, (tt, ((tt, (refl, (((omega arith, omega arith), (tt, (tt, tt))), tt))), tt))))
   formedExpr (selection n e i) Γ z h = (formedExpr e Γ z h, (tt, tt))
   formedExpr (theta n s k) Γ z h = thetaItems-formed n k (schemaNamed s Γ) Γ (schemaNamed-formed s Γ h) h
   formedExpr (schemaSet n i) Γ z h = (
     formedInclude i Γ z h,
-    (smallTypes-formed (includeNode i) (includeSignature i Γ), (tt, (tt, (refl, (binding-formed (includeSignature i Γ) (included-formed i Γ h) (included-rising i Γ), tt))))),
+    (smallTypes-formed (includeNode i) (includeSignature i Γ), (tt, ((tt, (refl, (binding-formed (includeSignature i Γ) (included-formed i Γ h) (included-rising i Γ), tt))), tt))),
   )
   formedExpr (arithmetic n o a b) Γ z h =
-      (formedExpr a Γ (z .0) h, (formedExpr b Γ (z .1) h, ((tt, (refl, tt)), ((tt, (refl, tt)), (tt, (tt, (refl, tt)))))))
+      (formedExpr a Γ (z .0) h, (formedExpr b Γ (z .1) h, (((tt, (refl, tt)), ((tt, (refl, tt)), tt)), (tt, ((tt, (refl, tt)), tt)))))
   formedExpr (comprehension n t e) Γ z h =
-      (formedText t Γ blank (z .0) h, (formedExpr e (inside t Γ) (z .1) (inside-formed t Γ h), (tt, (tt, (refl, (tt, tt))))))
+      (formedText t Γ blank (z .0) h, (formedExpr e (inside t Γ) (z .1) (inside-formed t Γ h), (tt, ((tt, (refl, (tt, tt))), tt))))
 
   pub formedExprs : (es : Exprs) (Γ : Scope) → SizedExprs es → FormedScope Γ → FormedItems (exprsItems es Γ)
   formedExprs none Γ z h = tt
@@ -220,9 +233,9 @@ mutual
 
   pub formedPred : (p : Pred) (Γ : Scope) → SizedPred p → FormedScope Γ → FormedItems (predItems p Γ)
   formedPred (truth n) Γ z h = tt
-  formedPred (equal n a b) Γ z h = (formedExpr a Γ (z .0) h, (formedExpr b Γ (z .1) h, (tt, tt)))
-  formedPred (member n a b) Γ z h = (formedExpr a Γ (z .0) h, (formedExpr b Γ (z .1) h, ((refl, (tt, tt)), tt)))
-  formedPred (atMost n a b) Γ z h = (formedExpr a Γ (z .0) h, (formedExpr b Γ (z .1) h, ((tt, (refl, tt)), (tt, (refl, tt)))))
+  formedPred (equal n a b) Γ z h = (formedExpr a Γ (z .0) h, (formedExpr b Γ (z .1) h, ((tt, tt), tt)))
+  formedPred (member n a b) Γ z h = (formedExpr a Γ (z .0) h, (formedExpr b Γ (z .1) h, (((refl, (tt, tt)), tt), tt)))
+  formedPred (atMost n a b) Γ z h = (formedExpr a Γ (z .0) h, (formedExpr b Γ (z .1) h, ((tt, (refl, tt)), ((tt, (refl, tt)), tt))))
   formedPred (not n p) Γ z h = formedPred p Γ z h
   formedPred (connected n o p q) Γ z h = (formedPred p Γ (z .0) h, formedPred q Γ (z .1) h)
   formedPred (quantified n q t p) Γ z h = (formedText t Γ blank (z .0) h, formedPred p (inside t Γ) (z .1) (inside-formed t Γ h))

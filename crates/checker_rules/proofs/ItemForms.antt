@@ -1,6 +1,5 @@
--- Two forms of items: those that rules share, 36, sizes and refusals (`Bare`), and those of an expression's own node, unknowns, equations of
--- 33 and refusals (`OfNode`).
-use mathlib.Core.Path.{_≡_, refl}
+-- Two forms of items: those that rules share, 36, sizes and refusals (`Bare`), and those of an expression's own node, unknowns, equations
+-- and refusals (`OfNode`).
 use mathlib.Core.Bool.{Bool, true, false, cond}
 use mathlib.Core.List.{List, [], _∷_}
 use mathlib.Core.Option.{Option, some, none as nothing}
@@ -11,7 +10,7 @@ use Rattle.types_rules.specs.Types.{Term, nil}
 use Rattle.types_rules.specs.Instance.{instance}
 use Rattle.checker_rules.specs.Strokes.{decorate, takes}
 use Rattle.checker_rules.specs.Unknowns.{Valuation, row}
-use Rattle.checker_rules.specs.Items.{Items, skip, _⨾_, fresh, equate, select, small, refusal, piece, Agree, And}
+use Rattle.checker_rules.specs.Items.{Items, skip, _⨾_, fresh, equations, equate, select, small, refusal, piece, Agree, And, Typings}
 use Rattle.checker_rules.specs.Dictionary.{Dictionary, Named, unnamed, ofLocal, ofGlobal, nameIn, NamedSchema, noSchema, aSchema}
 use Rattle.checker_rules.specs.Signatures.{Signature, noNames, naming, componentsOf, termIn, countNames, someStroked}
 use Rattle.checker_rules.specs.Scopes.{Scope, nameAt}
@@ -23,7 +22,8 @@ unfoldable pub Bare : Items → Type 0
 Bare skip = Unit {0}
 Bare (a ⨾ b) = Bare a × Bare b
 Bare (fresh x) = ⊥
-Bare (equate f n a b) = f ≡ 36
+Bare (equations n es) = ⊥
+Bare (equate f n a b) = Unit {0}
 Bare (select n i a x) = ⊥
 Bare (small n a) = Unit {0}
 Bare (refusal f n) = Unit {0}
@@ -33,29 +33,32 @@ unfoldable pub OfNode : Items → Type 0
 OfNode skip = Unit {0}
 OfNode (a ⨾ b) = OfNode a × OfNode b
 OfNode (fresh x) = Unit {0}
-OfNode (equate f n a b) = f ≡ 33
+OfNode (equations n es) = Unit {0}
+OfNode (equate f n a b) = ⊥
 OfNode (select n i a x) = ⊥
 OfNode (small n a) = ⊥
 OfNode (refusal f n) = Unit {0}
 OfNode (piece n t) = ⊥
 
 -- ---- 33 at a Select: neither has one
-pub bare-selects : (t : Items) (P : Valuation → Type 0) → Bare t → NoSelect33 t P
+pub bare-selects : (t : Items) (P : Typings) → Bare t → NoSelect33 t P
 unfolding Bare NoSelect33
 bare-selects skip P h = tt
 bare-selects (a ⨾ b) P h = (bare-selects a P (h .0), λ p. bare-selects b (And P a) (h .1))
 bare-selects (fresh x) P h = tt
+bare-selects (equations n es) P h = tt
 bare-selects (equate f n a b) P h = tt
 bare-selects (select n i a x) P h = absurd h
 bare-selects (small n a) P h = tt
 bare-selects (refusal f n) P h = tt
 bare-selects (piece n t) P h = absurd h
 
-pub node-selects : (t : Items) (P : Valuation → Type 0) → OfNode t → NoSelect33 t P
+pub node-selects : (t : Items) (P : Typings) → OfNode t → NoSelect33 t P
 unfolding OfNode NoSelect33
 node-selects skip P h = tt
 node-selects (a ⨾ b) P h = (node-selects a P (h .0), λ p. node-selects b (And P a) (h .1))
 node-selects (fresh x) P h = tt
+node-selects (equations n es) P h = tt
 node-selects (equate f n a b) P h = tt
 node-selects (select n i a x) P h = absurd h
 node-selects (small n a) P h = tt
@@ -68,6 +71,7 @@ unfolding Bare Agree
 bare-agrees σ τ skip h = tt
 bare-agrees σ τ (a ⨾ b) h = (bare-agrees σ τ a (h .0), bare-agrees σ τ b (h .1))
 bare-agrees σ τ (fresh x) h = absurd h
+bare-agrees σ τ (equations n es) h = tt
 bare-agrees σ τ (equate f n a b) h = tt
 bare-agrees σ τ (select n i a x) h = tt
 bare-agrees σ τ (small n a) h = tt
@@ -82,7 +86,7 @@ refuseIf-bare false f n = tt
 
 sameType-bare : (n : ℕ) (t : Term) (o : Option Term) → Bare (sameType n t o)
 unfolding sameType Bare
-sameType-bare n t (some u) = refl
+sameType-bare n t (some u) = tt
 sameType-bare n t nothing = tt
 
 pub declared-bare : (n : ℕ) (is : List ℕ) (t : Term) (r : Signature) → Bare (mergeDeclared n is t r)
@@ -161,25 +165,23 @@ row-node n k (suc p) = (tt, row-node n (suc k) p)
 
 pub powers-node : (n : ℕ) (xs : Exprs) (k : ℕ) → OfNode (arePowers n xs k)
 unfolding arePowers OfNode
-powers-node n none k = tt
-powers-node n (more a xs) k = ((tt, refl), powers-node n xs (suc k))
+powers-node n xs k = (row-node n k (exprsLength xs), tt)
 
 pub members-node : (n : ℕ) (xs : Exprs) → OfNode (areMembers n xs)
 unfolding areMembers OfNode
-members-node n none = tt
-members-node n (more a xs) = (refl, members-node n xs)
+members-node n xs = tt
 
 pub reference-node : (n : ℕ) (xs : Exprs) (m : Named) → OfNode (referenceItems n xs m)
 unfolding referenceItems OfNode
 reference-node n none unnamed = tt
 reference-node n (more a xs) unnamed = tt
-reference-node n none (ofLocal t) = (tt, refl)
+reference-node n none (ofLocal t) = (tt, tt)
 reference-node n (more a xs) (ofLocal t) = tt
-reference-node n none (ofGlobal p g) = (row-node n 1 p, (tt, refl))
+reference-node n none (ofGlobal p g) = (row-node n 1 p, (tt, tt))
 reference-node n (more a xs) (ofGlobal p g) = go (eqb (exprsLength (more a xs)) p)
   where
     go : (b : Bool) → OfNode (cond b (arePowers n (more a xs) 1 ⨾ typed n (instance (row n 1 p) g)) (refusal 32 n))
-    go true = (powers-node n (more a xs) 1, (tt, refl))
+    go true = (powers-node n (more a xs) 1, (tt, tt))
     go false = tt
 
 thetaName-node : (b : Bool) (n : ℕ) (m : Named) → OfNode (thetaName b n m)
@@ -199,4 +201,4 @@ pub theta-node : (n k : ℕ) (f : NamedSchema) (Γ : Scope) → OfNode (thetaIte
 unfolding thetaItems OfNode
 theta-node n k noSchema Γ = tt
 theta-node n k (aSchema p g) Γ =
-    (thetaNames-node n k (componentsOf (instance nil g)) Γ, (refuseIf-node (ltb 0 p) 32 n, (refuseIf-node (someStroked k (componentsOf (instance nil g))) 37 n, (tt, refl))))
+    (thetaNames-node n k (componentsOf (instance nil g)) Γ, (refuseIf-node (ltb 0 p) 32 n, (refuseIf-node (someStroked k (componentsOf (instance nil g))) 37 n, (tt, tt))))

@@ -6,29 +6,36 @@ use mathlib.Core.Option.{some}
 use Prim.Native.Nat.{ℕ}
 use Rattle.types_rules.specs.Types.{Term, unknown, con, Terms, nil, cons, under, Each, Eachs}
 use Rattle.types_rules.specs.Component.{componentType}
+use Rattle.types_rules.specs.Equations.{Pairs, end, pair, AllP, Solves}
 use Rattle.types_rules.specs.Substitution.{member}
 use Rattle.types_rules.proofs.Terms.{each-map, under-ext}
 use Rattle.types_rules.proofs.States.{or-true-r, member-head}
 use Rattle.checker_rules.specs.Unknowns.{Valuation}
-use Rattle.checker_rules.specs.Items.{Items, skip, _⨾_, fresh, equate, select, small, refusal, piece, Meets}
-use Rattle.checker_rules.specs.Solving.{addUnknown, termUnknowns, termsUnknowns, unknowns}
+use Rattle.checker_rules.specs.Items.{Items, skip, _⨾_, fresh, equations, equate, select, small, refusal, piece, Meets, MeetsIn}
+use Rattle.checker_rules.specs.Solving.{addUnknown, termUnknowns, termsUnknowns, pairsUnknowns, unknowns}
 
 -- All the unknowns of the items have N.
 unfoldable pub Over : (ℕ → Type 0) → Items → Type 0
 Over N skip = Unit {0}
 Over N (a ⨾ b) = Over N a × Over N b
 Over N (fresh x) = N x
+Over N (equations n es) = AllP (λ a b. Each N a × Each N b) es
 Over N (equate g n a b) = Each N a × Each N b
 Over N (select n i a x) = Each N a × N x
 Over N (small n a) = Each N a
 Over N (refusal g n) = Unit {0}
 Over N (piece n t) = Over N t
 
+pairs-map : (N M : ℕ → Type 0) → ((y : ℕ) → N y → M y) → (P : Pairs Term) → AllP (λ a b. Each N a × Each N b) P → AllP (λ a b. Each M a × Each M b) P
+pairs-map N M f end h = tt
+pairs-map N M f (pair a b P) h = ((each-map N M f a (h .0 .0), each-map N M f b (h .0 .1)), pairs-map N M f P (h .1))
+
 over-map : (N M : ℕ → Type 0) → ((y : ℕ) → N y → M y) → (t : Items) → Over N t → Over M t
 unfolding Over
 over-map N M f skip h = tt
 over-map N M f (a ⨾ b) h = (over-map N M f a (h .0), over-map N M f b (h .1))
 over-map N M f (fresh x) h = f x h
+over-map N M f (equations n es) h = pairs-map N M f es h
 over-map N M f (equate g n a b) h = (each-map N M f a (h .0), each-map N M f b (h .1))
 over-map N M f (select n i a x) h = (each-map N M f a (h .0), f x (h .1))
 over-map N M f (small n a) h = each-map N M f a h
@@ -76,11 +83,29 @@ mutual
   hasTs nil l = tt
   hasTs (cons t ts) l = (each-map _ _ (λ y h. keepsTs ts (termUnknowns t l) y h) t (hasT t l), hasTs ts (termUnknowns t l))
 
+keepsPs : (P : Pairs Term) (l : List ℕ) (y : ℕ) → In l y → In (pairsUnknowns P l) y
+unfolding pairsUnknowns
+keepsPs end l y h = h
+keepsPs (pair a b P) l y h = keepsPs P (termUnknowns b (termUnknowns a l)) y (keepsT b (termUnknowns a l) y (keepsT a l y h))
+
+hasPs : (P : Pairs Term) (l : List ℕ) → AllP (λ a b. Each (In (pairsUnknowns P l)) a × Each (In (pairsUnknowns P l)) b) P
+unfolding pairsUnknowns
+hasPs end l = tt
+hasPs (pair a b P) l =
+    let k = termUnknowns b (termUnknowns a l) in (
+      (
+        each-map _ _ (λ y h. keepsPs P k y (keepsT b (termUnknowns a l) y h)) a (hasT a l),
+        each-map _ _ (λ y h. keepsPs P k y h) b (hasT b (termUnknowns a l)),
+      ),
+      hasPs P k,
+    )
+
 keeps : (t : Items) (l : List ℕ) (y : ℕ) → In l y → In (unknowns t l) y
 unfolding unknowns
 keeps skip l y h = h
 keeps (a ⨾ b) l y h = keeps b (unknowns a l) y (keeps a l y h)
 keeps (fresh x) l y h = add-keeps x l y h
+keeps (equations n es) l y h = keepsPs es l y h
 keeps (equate g n a b) l y h = keepsT b (termUnknowns a l) y (keepsT a l y h)
 keeps (select n i a x) l y h = add-keeps x (termUnknowns a l) y (keepsT a l y h)
 keeps (small n a) l y h = keepsT a l y h
@@ -92,6 +117,7 @@ unfolding unknowns Over
 over skip l = tt
 over (a ⨾ b) l = (over-map _ _ (λ y h. keeps b (unknowns a l) y h) a (over a l), over b (unknowns a l))
 over (fresh x) l = add-has x l
+over (equations n es) l = hasPs es l
 over (equate g n a b) l = (each-map _ _ (λ y h. keepsT b (termUnknowns a l) y h) a (hasT a l), hasT b (termUnknowns a l))
 over (select n i a x) l = (each-map _ _ (λ y h. add-keeps x (termUnknowns a l) y h) a (hasT a l), add-has x (termUnknowns a l))
 over (small n a) l = hasT a l
@@ -103,11 +129,16 @@ module _ (N : ℕ → Type 0) (σ τ : Valuation) (e : (x : ℕ) → N x → σ 
   pub same-under : (t : Term) → Each N t → under σ t ≡ under τ t
   same-under t h = under-ext σ τ t (each-map N _ (λ y n. e y n) t h)
 
+  same-pairs : (P : Pairs Term) → AllP (λ a b. Each N a × Each N b) P → Solves (under τ) P → Solves (under σ) P
+  same-pairs end o h = tt
+  same-pairs (pair a b P) o h = (same-under a (o .0 .0) ∙ h .0 ∙ sym (same-under b (o .0 .1)), same-pairs P (o .1) (h .1))
+
   pub met-too : (t : Items) → Over N t → Meets t τ → Meets t σ
-  unfolding Over Meets
+  unfolding Over MeetsIn
   met-too skip o h = tt
   met-too (a ⨾ b) o h = (met-too a (o .0) (h .0), met-too b (o .1) (h .1))
   met-too (fresh y) o h = tt
+  met-too (equations n es) o h = same-pairs es o h
   met-too (equate f n a b) o h = same-under a (o .0) ∙ h ∙ sym (same-under b (o .1))
   met-too (select n i a y) o h = ap (componentType i) (same-under a (o .0)) ∙ h ∙ ap some (sym (e y (o .1)))
   met-too (small n a) o h = rw (same-under a o) h

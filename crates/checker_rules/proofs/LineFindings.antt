@@ -10,8 +10,9 @@ use borrow.Author.Tests.{ltb-true, ltb-false}
 use Rattle.words.specs.Loops.{has}
 use Rattle.reader_rules.specs.Tree.{Expr, schemaSet, Lines, end, declaration, inclusion, Include, Schema, from, both, given, abbreviation, exprNode, includeNode}
 use Rattle.types_rules.specs.Types.{size, under}
+use Rattle.types_rules.specs.Trees.{finite}
 use Rattle.checker_rules.specs.Unknowns.{Valuation, unknownAt, powerOf}
-use Rattle.checker_rules.specs.Items.{Items, _⨾_, small, piece, Meets, Agree, And, Passes, Refuses}
+use Rattle.checker_rules.specs.Items.{Items, _⨾_, small, piece, Meets, Agree, And, Passes, Refuses, MeetsIn, Typings}
 use Rattle.checker_rules.specs.Dictionary.{Dictionary}
 use Rattle.checker_rules.specs.Signatures.{Signature, noNames, naming, countNames, namesOf, bindingOf, merge, declare}
 use Rattle.checker_rules.specs.Scopes.{Scope, globals, withParameters, includeSignature, schemaSignature}
@@ -31,24 +32,24 @@ use Rattle.checker_rules.proofs.FindingLaws.{declared-tests, merge-test
 abbrev pub declared : ℕ → Expr → Scope → Items
 declared n a Γ = piece n (exprItems a Γ ⨾ isPower n 0 a)
 
-module _ (n : ℕ) (a : Expr) (is : List ℕ) (ls : Lines) (Γ : Scope) (G : Dictionary) (r : Signature) (P : Valuation → Type 0) (p : Passes (declared n a Γ) P) where
+module _ (n : ℕ) (a : Expr) (is : List ℕ) (ls : Lines) (Γ : Scope) (G : Dictionary) (r : Signature) (P : Typings) (p : Passes (declared n a Γ) P) where
   type-settled : Settled (And P (declared n a Γ)) (unknownAt n 0)
-  unfolding Passes Agree under Meets
+  unfolding Passes Agree under MeetsIn
   type-settled σ τ x y = p .1 σ τ x y .1 .0
 
   -- the lines after it have settled types before them too
   pub declaration-settled : SettledNames P r → SettledNames (And P (declared n a Γ)) (declare is (unknownAt n 0) r)
   declaration-settled h σ τ x y = names-same σ τ is (unknownAt n 0) r (type-settled σ τ x y) (h σ τ (x .0) (y .0))
 
-  pub declaration-findings : SettledNames P r → (τ : Valuation) → And P (declared n a Γ) τ → (h j : ℕ) → Refuses (linesItems (declaration n a is ls) Γ G r) P h j
+  pub declaration-findings : SettledNames P r → (τ : Valuation) → And P (declared n a Γ) finite τ → (h j : ℕ) → Refuses (linesItems (declaration n a is ls) Γ G r) P h j
       ↔ Or 36 n (Clash τ (typeAt τ n) is r ⊎ GlobalTwice is G) h j (Or 38 n ((32 < size (typeAt τ n)) ⊎ (16 < countNames (declare is (unknownAt n 0) r))) h j
       (Refuses (linesItems ls Γ G (declare is (unknownAt n 0) r))
       (And (And (And P (declared n a Γ)) (mergeDeclared n is (unknownAt n 0) r ⨾ newNames n is G)) (small n (unknownAt n 0) ⨾ fewNames n (declare is (unknownAt n 0) r))) h j))
-  unfolding linesItems under Meets
+  unfolding linesItems under MeetsIn
   declaration-findings z τ x h j =
       let t = unknownAt n 0 in
       let r′ = declare is t r in
-      let Q : Valuation → Type 0 = And P (declared n a Γ) in
+      let Q : Typings = And P (declared n a Γ) in
       let m : Items = mergeDeclared n is t r ⨾ newNames n is G in
       let s : Items = small n t ⨾ fewNames n r′ in
       let rest = linesItems ls Γ G r′ in
@@ -56,32 +57,32 @@ module _ (n : ℕ) (a : Expr) (is : List ℕ) (ls : Lines) (Γ : Scope) (G : Dic
       (both-ways _ _ _ (test-then m (s ⨾ rest) Q 36 n _
       (in-turn (mergeDeclared n is t r) (newNames n is G) Q 36 n _ _
       (declared-tests n is t r Q τ x type-settled (settled-more P (declared n a Γ) r z)) (news-tests n is G Q .says) (λ w. news-tests n is G (And Q (mergeDeclared n is t r)))) h j)
-      (or-map 36 n _ h j _ _ (λ w. let met : And Q m τ = (x, (declared-met n is t r τ (λ c. w (inl c)), news-met n is G τ (λ c. w (inr c)))) in
+      (or-map 36 n _ h j _ _ (λ w. let met : And Q m finite τ = (x, (declared-met n is t r τ (λ c. w (inl c)), news-met n is G τ (λ c. w (inr c)))) in
       test-then s rest (And Q m) 38 n _
       (in-turn (small n t) (fewNames n r′) (And Q m) 38 n _ _
       (small-tests n t (And Q m) τ met (λ σ υ c d. type-settled σ υ (c .0) (d .0))) (few-tests n r′ (And Q m) .says) (λ v. few-tests n r′ (And (And Q m) (small n t)))) h j)))
 
 -- ---- an Include line, a Schema that is an Include, a SchemaSet
-module _ (i : Include) (Γ : Scope) (P : Valuation → Type 0) (p : Passes (includeItems i Γ) P) where
+module _ (i : Include) (Γ : Scope) (P : Typings) (p : Passes (includeItems i Γ) P) where
   pub include-settled : SettledNames (And P (includeItems i Γ)) (includeSignature i Γ)
   include-settled σ τ x y = incl-same σ τ i Γ (agreed (includeItems i Γ) P σ τ p x y)
 
   pub inclusion-settled : (r : Signature) → SettledNames P r → SettledNames (And P (includeItems i Γ)) (merge (includeSignature i Γ) r)
   inclusion-settled r h σ τ x y = join-same σ τ (includeSignature i Γ) r (include-settled σ τ x y) (h σ τ (x .0) (y .0))
 
-  pub inclusion-findings : (ls : Lines) (G : Dictionary) (r : Signature) → SettledNames P r → (τ : Valuation) → And P (includeItems i Γ) τ → (h j : ℕ)
+  pub inclusion-findings : (ls : Lines) (G : Dictionary) (r : Signature) → SettledNames P r → (τ : Valuation) → And P (includeItems i Γ) finite τ → (h j : ℕ)
       → Refuses (linesItems (inclusion i ls) Γ G r) P h j
       ↔ Or 36 (includeNode i) (Clashes τ (includeSignature i Γ) r ⊎ GlobalTwice (namesOf (includeSignature i Γ)) G) h j
       (Or 38 (includeNode i) (TooBig τ (includeSignature i Γ) ⊎ (16 < countNames (merge (includeSignature i Γ) r))) h j
       (Refuses (linesItems ls Γ G (merge (includeSignature i Γ) r))
       (And (And (And P (includeItems i Γ)) (mergeNames (includeNode i) (includeSignature i Γ) r ⨾ newNames (includeNode i) (namesOf (includeSignature i Γ)) G))
       (smallTypes (includeNode i) (includeSignature i Γ) ⨾ fewNames (includeNode i) (merge (includeSignature i Γ) r))) h j))
-  unfolding linesItems Meets
+  unfolding linesItems MeetsIn
   inclusion-findings ls G r z τ x h j =
       let n = includeNode i in
       let b = includeSignature i Γ in
       let r′ = merge b r in
-      let Q : Valuation → Type 0 = And P (includeItems i Γ) in
+      let Q : Typings = And P (includeItems i Γ) in
       let m : Items = mergeNames n b r ⨾ newNames n (namesOf b) G in
       let s : Items = smallTypes n b ⨾ fewNames n r′ in
       let rest = linesItems ls Γ G r′ in
@@ -89,12 +90,12 @@ module _ (i : Include) (Γ : Scope) (P : Valuation → Type 0) (p : Passes (incl
       (both-ways _ _ _ (test-then m (s ⨾ rest) Q 36 n _
       (in-turn (mergeNames n b r) (newNames n (namesOf b) G) Q 36 n _ _
       (merge-tests n b r Q τ x include-settled (settled-more P (includeItems i Γ) r z)) (news-tests n (namesOf b) G Q .says) (λ w. news-tests n (namesOf b) G (And Q (mergeNames n b r)))) h j)
-      (or-map 36 n _ h j _ _ (λ w. let met : And Q m τ = (x, (merged-met n b r τ (λ c. w (inl c)), news-met n (namesOf b) G τ (λ c. w (inr c)))) in
+      (or-map 36 n _ h j _ _ (λ w. let met : And Q m finite τ = (x, (merged-met n b r τ (λ c. w (inl c)), news-met n (namesOf b) G τ (λ c. w (inr c)))) in
       test-then s rest (And Q m) 38 n _
       (in-turn (smallTypes n b) (fewNames n r′) (And Q m) 38 n _ _
       (smalls-tests n b (And Q m) τ met (λ σ υ c d. include-settled σ υ (c .0) (d .0))) (few-tests n r′ (And Q m) .says) (λ v. few-tests n r′ (And (And Q m) (smallTypes n b)))) h j)))
 
-  pub from-findings : (τ : Valuation) → And P (includeItems i Γ) τ → (h j : ℕ)
+  pub from-findings : (τ : Valuation) → And P (includeItems i Γ) finite τ → (h j : ℕ)
       → Refuses (schemaItems (from i) Γ) P h j ↔ ((h ≡ 38) × (j ≡ includeNode i) × TooBig τ (includeSignature i Γ))
   unfolding schemaItems
   from-findings τ x h j =
@@ -103,7 +104,7 @@ module _ (i : Include) (Γ : Scope) (P : Valuation → Type 0) (p : Passes (incl
       both-ways _ _ _ (after (includeItems i Γ) (smallTypes n b) P p h j)
       (refuses-where (smallTypes n b) (And P (includeItems i Γ)) 38 n _ (smalls-tests n b (And P (includeItems i Γ)) τ x include-settled) h j)
 
-  pub schemaSet-findings : (k : ℕ) (τ : Valuation) → And P (includeItems i Γ) τ → (h j : ℕ) → Refuses (exprItems (schemaSet k i) Γ) P h j
+  pub schemaSet-findings : (k : ℕ) (τ : Valuation) → And P (includeItems i Γ) finite τ → (h j : ℕ) → Refuses (exprItems (schemaSet k i) Γ) P h j
       ↔ Or 38 (includeNode i) (TooBig τ (includeSignature i Γ)) h j
       (Refuses (typed k (powerOf (bindingOf (includeSignature i Γ)))) (And (And P (includeItems i Γ)) (smallTypes (includeNode i) (includeSignature i Γ))) h j)
   unfolding exprItems
@@ -115,7 +116,7 @@ module _ (i : Include) (Γ : Scope) (P : Valuation → Type 0) (p : Passes (incl
 
 -- ---- the lines of a Text, from any that leave their types settled
 smalls-met : (n : ℕ) (s : Signature) (τ : Valuation) → (TooBig τ s → ⊥) → Meets (smallTypes n s) τ
-unfolding smallTypes Meets TooBig
+unfolding smallTypes MeetsIn TooBig
 smalls-met n noNames τ w = tt
 smalls-met n (naming i t s) τ w = (not-big _ (λ z. w (inl z)), smalls-met n s τ (λ z. w (inr z)))
 
@@ -126,23 +127,23 @@ few-met n s τ w = few-law τ n s .1 (go (ltb 16 (countNames s)) refl)
     go true e = absurd (w (ltb-true 16 _ e))
     go false e = ltb-false 16 _ e
 
-first-then : (x y : Items) (P : Valuation → Type 0) (h j : ℕ) (R : Valuation → Type 0) → (τ : Valuation) → P τ → ((p : Passes x P) (τ : Valuation) → And P x τ → Refuses (x ⨾ y) P h j ↔ R τ)
-    → Refuses (x ⨾ y) P h j ↔ (Refuses x P h j ⊎ (Passes x P × ((τ : Valuation) × And P x τ × R τ)))
+first-then : (x y : Items) (P : Typings) (h j : ℕ) (R : Valuation → Type 0) → (τ : Valuation) → P finite τ → ((p : Passes x P) (τ : Valuation) → And P x finite τ → Refuses (x ⨾ y) P h j ↔ R τ)
+    → Refuses (x ⨾ y) P h j ↔ (Refuses x P h j ⊎ (Passes x P × ((τ : Valuation) × And P x finite τ × R τ)))
 unfolding Refuses
 first-then x y P h j R τ s k = (to, from′)
   where
-    to : Refuses x P h j ⊎ (Passes x P × Refuses y (And P x) h j) → Refuses x P h j ⊎ (Passes x P × ((τ : Valuation) × And P x τ × R τ))
+    to : Refuses x P h j ⊎ (Passes x P × Refuses y (And P x) h j) → Refuses x P h j ⊎ (Passes x P × ((τ : Valuation) × And P x finite τ × R τ))
     to (inl r) = inl r
     to (inr r) = let t = table x P (r .0) τ s in inr (r .0, (t .0, (t .1, t .2), k (r .0) (t .0) (t .1, t .2) .0 (inr r)))
 
-    from′ : Refuses x P h j ⊎ (Passes x P × ((τ : Valuation) × And P x τ × R τ)) → Refuses x P h j ⊎ (Passes x P × Refuses y (And P x) h j)
+    from′ : Refuses x P h j ⊎ (Passes x P × ((τ : Valuation) × And P x finite τ × R τ)) → Refuses x P h j ⊎ (Passes x P × Refuses y (And P x) h j)
     from′ (inl r) = inl r
     from′ (inr r) = k (r .0) (r .1 .0) (r .1 .1) .1 (r .1 .2)
 
 -- WHAT THE LINES OF A TEXT REFUSE, whatever comes before it.
-pub lines-find : (ls : Lines) (Γ : Scope) (G : Dictionary) (r : Signature) (P : Valuation → Type 0) → SettledNames P r → (τ : Valuation) → P τ → (h j : ℕ)
+pub lines-find : (ls : Lines) (Γ : Scope) (G : Dictionary) (r : Signature) (P : Typings) → SettledNames P r → (τ : Valuation) → P finite τ → (h j : ℕ)
     → Refuses (linesItems ls Γ G r) P h j ↔ LinesFind ls Γ G r P h j
-unfolding LinesFind linesItems Meets under
+unfolding LinesFind linesItems MeetsIn under
 lines-find end Γ G r P z τ s h j = unfold Refuses in (λ w. w, λ w. w)
 lines-find (declaration n a is ls) Γ G r P z τ s h j =
     let t = unknownAt n 0 in
@@ -169,13 +170,13 @@ lines-find (inclusion i ls) Γ G r P z τ s h j =
     ((met, (merged-met n b r σ (λ q. w (inl q)), news-met n (namesOf b) G σ (λ q. w (inr q)))), (smalls-met n b σ (λ q. v (inl q)), few-met n r′ σ (λ q. v (inr q)))) h j))))
 
 -- From the start of a Text nothing is declared.
-pub text-lines-find : (ls : Lines) (Γ : Scope) (G : Dictionary) (P : Valuation → Type 0) (τ : Valuation) → P τ → (h j : ℕ)
+pub text-lines-find : (ls : Lines) (Γ : Scope) (G : Dictionary) (P : Typings) (τ : Valuation) → P finite τ → (h j : ℕ)
     → Refuses (linesItems ls Γ G noNames) P h j ↔ LinesFind ls Γ G noNames P h j
 text-lines-find ls Γ G P τ s h j = lines-find ls Γ G noNames P (λ α β e g. tt) τ s h j
 
 -- ---- a Conjunction
-pub both-findings : (n : ℕ) (x y : Schema) (Γ : Scope) (P : Valuation → Type 0) → Passes (schemaItems x Γ) P → Passes (schemaItems y Γ) (And P (schemaItems x Γ))
-    → (τ : Valuation) → And (And P (schemaItems x Γ)) (schemaItems y Γ) τ → (h j : ℕ) → Refuses (schemaItems (both n x y) Γ) P h j
+pub both-findings : (n : ℕ) (x y : Schema) (Γ : Scope) (P : Typings) → Passes (schemaItems x Γ) P → Passes (schemaItems y Γ) (And P (schemaItems x Γ))
+    → (τ : Valuation) → And (And P (schemaItems x Γ)) (schemaItems y Γ) finite τ → (h j : ℕ) → Refuses (schemaItems (both n x y) Γ) P h j
     ↔ Or 36 n (Clashes τ (schemaSignature y Γ) (schemaSignature x Γ)) h j ((h ≡ 38) × (j ≡ n) × (16 < countNames (merge (schemaSignature y Γ) (schemaSignature x Γ))))
 unfolding schemaItems
 both-findings n x y Γ P p q τ w h j =
@@ -183,7 +184,7 @@ both-findings n x y Γ P p q τ w h j =
     let b = schemaItems y Γ in
     let s = schemaSignature x Γ in
     let t = schemaSignature y Γ in
-    let Q : Valuation → Type 0 = And (And P a) b in
+    let Q : Typings = And (And P a) b in
     let m = mergeNames n t s in
     let f = fewNames n (merge t s) in
     both-ways _ _ _ (after a (b ⨾ m ⨾ f) P p h j)
@@ -193,19 +194,19 @@ both-findings n x y Γ P p q τ w h j =
     (or-map 36 n _ h j _ _ (λ v. refuses-where f (And Q m) 38 n _ (few-tests n (merge t s) (And Q m)) h j))))
 
 -- ---- Given and Abbreviation
-pub given-findings : (n : ℕ) (is : List ℕ) (D : Dictionary) (P : Valuation → Type 0) (h j : ℕ) → Refuses (paragraphItems (given n is) D) P h j ↔ ((h ≡ 36) × (j ≡ n) × GlobalTwice is D)
+pub given-findings : (n : ℕ) (is : List ℕ) (D : Dictionary) (P : Typings) (h j : ℕ) → Refuses (paragraphItems (given n is) D) P h j ↔ ((h ≡ 36) × (j ≡ n) × GlobalTwice is D)
 unfolding paragraphItems
 given-findings n is D P h j = refuses-where (newNames n is D) P 36 n _ (news-tests n is D P) h j
 
-pub abbreviation-findings : (n i : ℕ) (ps : List ℕ) (a : Expr) (D : Dictionary) (P : Valuation → Type 0) → Passes (piece n (exprItems a (withParameters ps 1 (globals D)))) P
-    → (τ : Valuation) → And P (piece n (exprItems a (withParameters ps 1 (globals D)))) τ → (h j : ℕ) → Refuses (paragraphItems (abbreviation n i ps a) D) P h j
+pub abbreviation-findings : (n i : ℕ) (ps : List ℕ) (a : Expr) (D : Dictionary) (P : Typings) → Passes (piece n (exprItems a (withParameters ps 1 (globals D)))) P
+    → (τ : Valuation) → And P (piece n (exprItems a (withParameters ps 1 (globals D)))) finite τ → (h j : ℕ) → Refuses (paragraphItems (abbreviation n i ps a) D) P h j
     ↔ Or 36 n (isGlobal i D ≡ true) h j ((h ≡ 38) × (j ≡ n) × (32 < size (typeIn τ a)))
 unfolding paragraphItems under Agrees
 abbreviation-findings n i ps a D P p τ x h j =
     let Γ = withParameters ps 1 (globals D) in
     let e = piece n (exprItems a Γ) in
     let w = newNames n (i ∷ []) D in
-    let Q : Valuation → Type 0 = And P e in
+    let Q : Typings = And P e in
     both-ways _ _ _ (after e (w ⨾ small n (typeOf a)) P p h j)
     (both-ways _ _ _ (test-then w (small n (typeOf a)) Q 36 n _ (renamed-test w Q 36 n _ _ one-name (news-tests n (i ∷ []) D Q)) h j)
     (or-map 36 n _ h j _ _ (λ v. refuses-where (small n (typeOf a)) (And Q w) 38 n _

@@ -11,7 +11,7 @@ use Rattle.reader_rules.specs.Tree.{Text, text, Lines, end, declaration, inclus
 use Rattle.types_rules.specs.Types.{Ty, under}
 use Rattle.types_rules.proofs.Terms.{bool-no}
 use Rattle.checker_rules.specs.Unknowns.{Valuation, unknownAt, givenSet}
-use Rattle.checker_rules.specs.Items.{Any, Passes}
+use Rattle.checker_rules.specs.Items.{Any, Passes, Typings}
 use Rattle.checker_rules.specs.Dictionary.{nameEntry, Dictionary, _▸_, ofGlobal, nameIn}
 use Rattle.checker_rules.specs.Signatures.{Signature, noNames, naming, namesOf, merge, declare}
 use Rattle.checker_rules.specs.Scopes.{Scope, globals, includeSignature, linesSignature, textSignature}
@@ -23,7 +23,7 @@ use Rattle.checker_rules.specs.Verdicts.{Accepts}
 use Rattle.checker_rules.proofs.GlobalNames.{eqb-swap, has-merge, has-declare}
 use Rattle.checker_rules.proofs.SecondCase.{new-names}
 
-new-name : (n : ℕ) (is : List ℕ) (D : Dictionary) (P : Valuation → Type 0) → Passes (newNames n is D) P → (x : ℕ) → isGlobal x D ≡ true → has x is ≡ false
+new-name : (n : ℕ) (is : List ℕ) (D : Dictionary) (P : Typings) → Passes (newNames n is D) P → (x : ℕ) → isGlobal x D ≡ true → has x is ≡ false
 new-name n is D P h x g = go (has x is) refl
   where
     go : (b : Bool) → has x is ≡ b → b ≡ false
@@ -35,7 +35,7 @@ or-none true b e f = absurd (bool-no true refl e)
 or-none false b e f = f
 
 -- The lines of an Axiom's Text declare no name that is global already.
-lines-new : (ls : Lines) (Γ : Scope) (D : Dictionary) (r : Signature) (P : Valuation → Type 0) → Passes (linesItems ls Γ D r) P → (x : ℕ) → isGlobal x D ≡ true
+lines-new : (ls : Lines) (Γ : Scope) (D : Dictionary) (r : Signature) (P : Typings) → Passes (linesItems ls Γ D r) P → (x : ℕ) → isGlobal x D ≡ true
     → has x (namesOf r) ≡ false → has x (namesOf (linesSignature ls Γ r)) ≡ false
 unfolding linesItems linesSignature Passes
 lines-new end Γ D r P h x g f = f
@@ -47,7 +47,7 @@ lines-new (inclusion i ls) Γ D r P h x g f =
     (has-merge x (includeSignature i Γ) r
     ∙ or-none (has x (namesOf (includeSignature i Γ))) (has x (namesOf r)) (new-name (includeNode i) (namesOf (includeSignature i Γ)) D _ (h .1 .0 .1) x g) f)
 
-text-new : (t : Text) (D : Dictionary) (P : Valuation → Type 0) → Passes (textItems t (globals D) D) P → (x : ℕ) → isGlobal x D ≡ true
+text-new : (t : Text) (D : Dictionary) (P : Typings) → Passes (textItems t (globals D) D) P → (x : ℕ) → isGlobal x D ≡ true
     → has x (namesOf (textSignature t (globals D))) ≡ false
 unfolding textItems textSignature Passes namesOf has
 text-new (text n p ls) D P h x g = lines-new ls (globals D) D noNames P (h .0) x g refl

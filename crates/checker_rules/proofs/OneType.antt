@@ -92,7 +92,7 @@ module _ (σ τ : Valuation) where
     oneE (theta n s k) Γ a b m q = here q (theta-same n k (schemaNamed s Γ) Γ a b)
     oneE (schemaSet n i) Γ a b m (inl q) = here q (a .1 .1 .0)
     oneE (schemaSet n i) Γ a b m (inr q) = oneI i Γ (b .0) m q
-    oneE (arithmetic n o x y) Γ a b m (inl q) = here q (a .1 .1 .1 .1 .0)
+    oneE (arithmetic n o x y) Γ a b m (inl q) = here q (a .1 .1 .1 .0)
     oneE (arithmetic n o x y) Γ a b m (inr (inl q)) = oneE x Γ (a .0) (b .0) m q
     oneE (arithmetic n o x y) Γ a b m (inr (inr q)) = oneE y Γ (a .1 .0) (b .1 .0) m q
     oneE (comprehension n t e) Γ a b m (inl q) = here q (a .1 .1 .0)

@@ -15,8 +15,9 @@ use Rattle.reader_rules.specs.TreeNumbers.{exprNumbers}
 use Rattle.types_rules.specs.Types.{nil, Each}
 use Rattle.types_rules.specs.Instance.{instance}
 use Rattle.types_rules.proofs.Terms.{each-map}
+use Rattle.types_rules.specs.Trees.{finite}
 use Rattle.checker_rules.specs.Unknowns.{Valuation, slot}
-use Rattle.checker_rules.specs.Items.{Passes, Items, _⨾_, refusal, piece, And}
+use Rattle.checker_rules.specs.Items.{Passes, Items, _⨾_, refusal, piece, And, Typings}
 use Rattle.checker_rules.specs.Dictionary.{NamedSchema, noSchema, aSchema}
 use Rattle.checker_rules.specs.Signatures.{Signature, noNames, naming, componentsOf, wrongNames}
 use Rattle.checker_rules.specs.Scopes.{Scope, globals, local}
@@ -39,12 +40,12 @@ use Rattle.checker_rules.proofs.ItemForms.{refuseIf-bare}
 abbrev New : List ℕ → (ℕ → Type 0) → Type 0
 New l C = (m k : ℕ) → has m l ≡ true → k ≤ 6 → C (slot m k) → ⊥
 
-pub record ReadyContext (l : List ℕ) (w : Items) (P : Valuation → Type 0) (C : ℕ → Type 0) (Γ : Scope) : Type 0 where
-  pub rests : (σ τ : Valuation) → ((x : ℕ) → C x → σ x ≡ τ x) → P τ → P σ
+pub record ReadyContext (l : List ℕ) (w : Items) (P : Typings) (C : ℕ → Type 0) (Γ : Scope) : Type 0 where
+  pub rests : (σ τ : Valuation) → ((x : ℕ) → C x → σ x ≡ τ x) → P finite τ → P finite σ
   pub new : New l C
   pub scope : ScopeOver C Γ
   pub off : ScopeOver (Off w) Γ
-  pub settled : (σ τ : Valuation) → P σ → P τ → ScopeSame σ τ Γ
+  pub settled : (σ τ : Valuation) → P finite σ → P finite τ → ScopeSame σ τ Γ
 
 abbrev pub With : List ℕ → (ℕ → Type 0) → ℕ → Type 0
 With l C x = SlotIn l x ⊎ C x
@@ -69,7 +70,7 @@ slot-apart : (a b : List ℕ) → Apart a b → (m k : ℕ) → has m b ≡ true
 slot-apart a b d m k h l s =
     let e = slots-apart m k (s .0) (s .2 .0) (omega (arith, l)) (omega (arith, s .2 .1)) (s .2 .2) .0 in d m (ap (λ (z : ℕ). has z a) e ∙ s .1) h
 
-module _ (w : Items) (P : Valuation → Type 0) (C : ℕ → Type 0) (Γ : Scope) where
+module _ (w : Items) (P : Typings) (C : ℕ → Type 0) (Γ : Scope) where
   pub ready-left : (a b : List ℕ) → ReadyContext (a ++ b) w P C Γ → ReadyContext a w P C Γ
   ready-left a b r = record { rests = r .rests; new = λ m k h l c. r .new m k (has-left m a b h) l c; scope = r .scope; off = r .off; settled = r .settled }
 
@@ -94,13 +95,13 @@ module _ (w : Items) (P : Valuation → Type 0) (C : ℕ → Type 0) (Γ : Scope
       there m k h l (inr c) = r .new m k h l c
 
 -- after items of other nodes
-pub ready-after : (w : Items) (P : Valuation → Type 0) (C : ℕ → Type 0) (Γ : Scope) (a b : List ℕ) (t : Items) → Apart a b → ((N : ℕ → Type 0) → AllIn (Own N) a → ScopeOver N Γ → Over N t) → ReadyContext b w P C Γ
+pub ready-after : (w : Items) (P : Typings) (C : ℕ → Type 0) (Γ : Scope) (a b : List ℕ) (t : Items) → Apart a b → ((N : ℕ → Type 0) → AllIn (Own N) a → ScopeOver N Γ → Over N t) → ReadyContext b w P C Γ
     → ReadyContext b w (And P t) (With a C) Γ
 ready-after w P C Γ a b t d o r = let q = ready-with w P C Γ a b d r in ready-and w P (With a C) Γ b t (o (With a C) (own-all a C) (q .scope)) q
 
 -- in the scope that the nodes a make
-pub ready-inside : (w : Items) (P : Valuation → Type 0) (C : ℕ → Type 0) (Γ Δ : Scope) (a b : List ℕ) → ((N : ℕ → Type 0) → AllIn (Own N) a → ScopeOver N Γ → ScopeOver N Δ) → AllIn (Own (Off w)) a
-    → ((σ τ : Valuation) → P σ → P τ → ScopeSame σ τ Γ → ScopeSame σ τ Δ) → ReadyContext b w P (With a C) Γ → ReadyContext b w P (With a C) Δ
+pub ready-inside : (w : Items) (P : Typings) (C : ℕ → Type 0) (Γ Δ : Scope) (a b : List ℕ) → ((N : ℕ → Type 0) → AllIn (Own N) a → ScopeOver N Γ → ScopeOver N Δ) → AllIn (Own (Off w)) a
+    → ((σ τ : Valuation) → P finite σ → P finite τ → ScopeSame σ τ Γ → ScopeSame σ τ Δ) → ReadyContext b w P (With a C) Γ → ReadyContext b w P (With a C) Δ
 ready-inside w P C Γ Δ a b o h s r =
     record { rests = r .rests; new = r .new; scope = o (With a C) (own-all a C) (r .scope); off = o (Off w) h (r .off); settled = λ σ τ g k. s σ τ g k (r .settled σ τ g k) }
 
@@ -119,7 +120,7 @@ all-off t [] f = tt
 all-off t (m ∷ l) f = (λ k u. f m k (first-has m l) u, all-off t l (λ j k h u. f j k (rest-has m j l h) u))
 
 -- ---- a piece t inside w whose own unknowns are none of C
-module _ (n : ℕ) (t w : Items) (P : Valuation → Type 0) (C : ℕ → Type 0) (Γ : Scope) (l : List ℕ) where
+module _ (n : ℕ) (t w : Items) (P : Typings) (C : ℕ → Type 0) (Γ : Scope) (l : List ℕ) where
   within : ((x : ℕ) → C x → Off t x) → ReadyContext l w P C Γ → ReadyContext l t P C Γ
   within f r = record { rests = r .rests; new = r .new; scope = r .scope; off = scope-map C (Off t) f Γ (r .scope); settled = r .settled }
 
@@ -129,12 +130,12 @@ module _ (n : ℕ) (t w : Items) (P : Valuation → Type 0) (C : ℕ → Type 0)
 
 -- what is claimed of an expression in its scope
 abbrev Parts : Expr → Scope → Type 1
-Parts a Γ = (w : Items) (P : Valuation → Type 0) (C : ℕ → Type 0) → ReadyContext (exprNumbers a) w P C Γ → ((x : ℕ) → Owns (exprItems a Γ) x → Owns w x) → AllIn (Own (Off w)) (innerNumbers a) → EachOnce (exprNumbers a) → SizedExpr a → Separate (exprItems a Γ) w P
+Parts a Γ = (w : Items) (P : Typings) (C : ℕ → Type 0) → ReadyContext (exprNumbers a) w P C Γ → ((x : ℕ) → Owns (exprItems a Γ) x → Owns w x) → AllIn (Own (Off w)) (innerNumbers a) → EachOnce (exprNumbers a) → SizedExpr a → Separate (exprItems a Γ) w P
 
 few-scope : (C : ℕ → Type 0) (Γ : Scope) → ScopeOver C Γ → ScopeOver Every Γ
 few-scope C Γ h = scope-map C Every (λ x c. tt) Γ h
 
-pub pair-separate : (a b : Expr) (Γ : Scope) → Parts a Γ → Parts b Γ → (w : Items) (P : Valuation → Type 0) (C : ℕ → Type 0) → ReadyContext (exprNumbers a ++ exprNumbers b) w P C Γ
+pub pair-separate : (a b : Expr) (Γ : Scope) → Parts a Γ → Parts b Γ → (w : Items) (P : Typings) (C : ℕ → Type 0) → ReadyContext (exprNumbers a ++ exprNumbers b) w P C Γ
     → ((z : ℕ) → Owns (exprItems a Γ) z → Owns w z) → ((z : ℕ) → Owns (exprItems b Γ) z → Owns w z) → AllIn (Own (Off w)) (innerNumbers a ++ innerNumbers b) → EachOnce (exprNumbers a ++ exprNumbers b) → SizedExpr a → SizedExpr b
     → Separate (exprItems a Γ) w P × (Passes (exprItems a Γ) P → Separate (exprItems b Γ) w (And P (exprItems a Γ)))
 pair-separate a b Γ x y w P C r u v h o f g =
@@ -146,7 +147,7 @@ pair-separate a b Γ x y w P C r u v h o f g =
     )
 
 -- a piece of one expression whose type is the power of unknown k of node n: a Decl's, an Include's actual
-module _ (n k : ℕ) (a : Expr) (w : Items) (P : Valuation → Type 0) (C : ℕ → Type 0) (Γ : Scope) where
+module _ (n k : ℕ) (a : Expr) (w : Items) (P : Typings) (C : ℕ → Type 0) (Γ : Scope) where
   pub power-piece : k ≤ 6 → (has n (exprNumbers a) ≡ true → ⊥) → (C (slot n k) → ⊥) → Over (Off w) (exprItems a Γ ⨾ isPower n k a) → ReadyContext (exprNumbers a) w P C Γ → EachOnce (exprNumbers a) → SizedExpr a → Parts a Γ
       → Separate (piece n (exprItems a Γ ⨾ isPower n k a)) w P
   unfolding Separate Owns
@@ -176,7 +177,7 @@ module _ (n k : ℕ) (a : Expr) (w : Items) (P : Valuation → Type 0) (C : ℕ 
       inner m j h l q = there m j h l (owns (slot m j) q)
 
 -- the piece of an Abbreviation
-module _ (n : ℕ) (a : Expr) (w : Items) (P : Valuation → Type 0) (C : ℕ → Type 0) (Γ : Scope) where
+module _ (n : ℕ) (a : Expr) (w : Items) (P : Typings) (C : ℕ → Type 0) (Γ : Scope) where
   pub expr-piece : Over (Off w) (exprItems a Γ) → ReadyContext (exprNumbers a) w P C Γ → EachOnce (exprNumbers a) → SizedExpr a → Parts a Γ → Separate (piece n (exprItems a Γ)) w P
   expr-piece v r o f s =
       pieced n (exprItems a Γ) w P C Γ (exprNumbers a) before v r
@@ -189,7 +190,7 @@ module _ (n : ℕ) (a : Expr) (w : Items) (P : Valuation → Type 0) (C : ℕ �
       before x d q = let s = owns x q in r .new (s .0) (s .2 .0) (own-in a (s .0) (s .1)) (s .2 .1) (rw (s .2 .2) at d)
 
 -- the piece of a relation; e: its equations
-module _ (n : ℕ) (a b : Expr) (e w : Items) (P : Valuation → Type 0) (C : ℕ → Type 0) (Γ : Scope) where
+module _ (n : ℕ) (a b : Expr) (e w : Items) (P : Typings) (C : ℕ → Type 0) (Γ : Scope) where
   pub relation-piece : ((x : ℕ) → Owns e x → ⊥)
       → (Owns (exprItems a Γ ⨾ exprItems b Γ ⨾ e) (slot (exprNode a) 0) → Owns (exprItems a Γ ⨾ exprItems b Γ ⨾ e) (slot (exprNode b) 0) → OwnNode e (exprItems a Γ ⨾ exprItems b Γ ⨾ e) (And (And P (exprItems a Γ)) (exprItems b Γ)))
       → Over (Off w) (exprItems a Γ ⨾ exprItems b Γ ⨾ e)
@@ -238,9 +239,9 @@ WithOne y C x = (x ≡ y) ⊎ C x
 
 pub mentions : (N : ℕ → Type 0) (a : Expr) (n k : ℕ) (Γ : Scope) → N (slot n k) → AllIn (Own N) (exprNumbers a) → SizedExpr a → ScopeOver N Γ → Over N (piece n (exprItems a Γ ⨾ isPower n k a))
 unfolding Over Each
-mentions N a n k Γ u h f s = (expr-over N a Γ h f s, (u, (type-over N a h, (u, tt))))
+mentions N a n k Γ u h f s = (expr-over N a Γ h f s, (u, ((type-over N a h, (u, tt)), tt)))
 
-module _ (n k : ℕ) (w : Items) (P : Valuation → Type 0) (C : ℕ → Type 0) (Γ : Scope) (b : List ℕ) (u : k ≤ 6) (z : has n b ≡ true → ⊥) where
+module _ (n k : ℕ) (w : Items) (P : Typings) (C : ℕ → Type 0) (Γ : Scope) (b : List ℕ) (u : k ≤ 6) (z : has n b ≡ true → ⊥) where
   pub ready-one : ReadyContext b w P C Γ → ReadyContext b w P (WithOne (slot n k) C) Γ
   ready-one r = record {
     rests = λ σ τ e h. r .rests σ τ (λ x c. e x (inr c)) h;
@@ -264,7 +265,7 @@ pub all-map : (N M : ℕ → Type 0) → ((x : ℕ) → N x → M x) → (l : Li
 all-map N M f [] h = tt
 all-map N M f (m ∷ l) h = (λ k u. f (slot m k) (h .0 k u), all-map N M f l (h .1))
 
-pub rule-separate : (f : NamedSchema) (i : Include) (actuals w : Items) (P : Valuation → Type 0) → Separate actuals w P → Separate (includeRule f i actuals) w P
+pub rule-separate : (f : NamedSchema) (i : Include) (actuals w : Items) (P : Typings) → Separate actuals w P → Separate (includeRule f i actuals) w P
 unfolding includeRule Separate
 rule-separate noSchema (include n s k xs rs) actuals w P h = tt
 rule-separate (aSchema p g) (include n s k xs rs) actuals w P h = go (eqb (exprsLength xs) p)

@@ -16,7 +16,7 @@ use Rattle.reader_rules.specs.TreeNumbers.{exprNumbers, exprsNumbers, textNumbe
 use Rattle.types_rules.specs.Types.{Term, nil, integerType, ℙℤ}
 use Rattle.types_rules.specs.Instance.{instance}
 use Rattle.checker_rules.specs.Unknowns.{Valuation, slot, unknownAt, row, integer, powerOf, productOf}
-use Rattle.checker_rules.specs.Items.{Items, _⨾_, refusal, Agree, And, Passes}
+use Rattle.checker_rules.specs.Items.{Items, _⨾_, refusal, Agree, And, Passes, Typings}
 use Rattle.checker_rules.specs.Dictionary.{blank, Named, unnamed, ofLocal, ofGlobal, NamedSchema, noSchema, aSchema}
 use Rattle.checker_rules.specs.Signatures.{bindingOf, componentsOf, someStroked}
 use Rattle.checker_rules.specs.Scopes.{Scope, nameAt, schemaNamed, includeSignature, inside}
@@ -164,16 +164,13 @@ module _ (x : ℕ) where
   power-owns n k a (inr q) = absurd q
 
   powers-own : (n : ℕ) (xs : Exprs) (k : ℕ) → k + exprsLength xs ≤ 7 → Owns (arePowers n xs k) x → OwnSlot n x
-  unfolding arePowers Owns exprsLength
-  powers-own n none k l q = absurd q
-  powers-own n (more a xs) k l (inl q) = (k, omega (arith, l), power-owns n k a q)
-  powers-own n (more a xs) k l (inr q) = powers-own n xs (suc k) (omega (arith, l)) q
+  unfolding arePowers Owns
+  powers-own n xs k l (inl q) = row-owns n k (exprsLength xs) l q
+  powers-own n xs k l (inr q) = absurd q
 
   members-own : (n : ℕ) (xs : Exprs) → Owns (areMembers n xs) x → ⊥
   unfolding areMembers Owns
-  members-own n none q = q
-  members-own n (more a xs) (inl q) = q
-  members-own n (more a xs) (inr q) = members-own n xs q
+  members-own n xs q = q
 
   reference-owns : (n : ℕ) (xs : Exprs) (m : Named) → NamedOver Every m → Owns (referenceItems n xs m) x → OwnSlot n x
   unfolding referenceItems Owns NamedOver
@@ -233,8 +230,7 @@ module _ (x : ℕ) where
     expr-owns (arithmetic n c a b) Γ f s (inl q) = in-left (ownNumbers a ++ ownNumbers b) (n ∷ []) x (in-left (ownNumbers a) (ownNumbers b) x (expr-owns a Γ (f .0) s q))
     expr-owns (arithmetic n c a b) Γ f s (inr (inl q)) = in-left (ownNumbers a ++ ownNumbers b) (n ∷ []) x (in-right (ownNumbers a) (ownNumbers b) x (expr-owns b Γ (f .1) s q))
     expr-owns (arithmetic n c a b) Γ f s (inr (inr (inl q))) = absurd q
-    expr-owns (arithmetic n c a b) Γ f s (inr (inr (inr (inl q)))) = absurd q
-    expr-owns (arithmetic n c a b) Γ f s (inr (inr (inr (inr q)))) = in-last (ownNumbers a ++ ownNumbers b) n x (typed-owns n integer q)
+    expr-owns (arithmetic n c a b) Γ f s (inr (inr (inr q))) = in-last (ownNumbers a ++ ownNumbers b) n x (typed-owns n integer q)
     expr-owns (comprehension n t a) Γ f s (inl q) = absurd (owns-none (textItems t Γ blank) (λ σ τ. text-agrees t Γ blank σ τ) x q)
     expr-owns (comprehension n t a) Γ f s (inr (inl q)) =
         in-left (ownNumbers a) (n ∷ []) x (expr-owns a (inside t Γ) (f .1) (inside-over Every t Γ (every-in (textNumbers t)) (f .0) s) q)
@@ -246,7 +242,7 @@ module _ (x : ℕ) where
     exprs-own (more a xs) Γ f s (inr q) = in-right (ownNumbers a) (ownsNumbers xs) x (exprs-own xs Γ (f .1) s q)
 
 -- ---- the unknown of an expression's type is its piece's own, where no rule refuses the name
-reference-root : (n : ℕ) (xs : Exprs) (m : Named) (P : Valuation → Type 0) → Passes (referenceItems n xs m) P → Owns (referenceItems n xs m) (slot n 0)
+reference-root : (n : ℕ) (xs : Exprs) (m : Named) (P : Typings) → Passes (referenceItems n xs m) P → Owns (referenceItems n xs m) (slot n 0)
 unfolding referenceItems Owns Passes
 reference-root n none unnamed P p = absurd p
 reference-root n (more a xs) unnamed P p = absurd p
@@ -259,12 +255,12 @@ reference-root n (more a xs) (ofGlobal q g) P p = go (eqb (exprsLength (more a x
     go true z = inr (inl refl)
     go false z = absurd z
 
-theta-root : (n k : ℕ) (f : NamedSchema) (Γ : Scope) (P : Valuation → Type 0) → Passes (thetaItems n k f Γ) P → Owns (thetaItems n k f Γ) (slot n 0)
+theta-root : (n k : ℕ) (f : NamedSchema) (Γ : Scope) (P : Typings) → Passes (thetaItems n k f Γ) P → Owns (thetaItems n k f Γ) (slot n 0)
 unfolding thetaItems Owns Passes
 theta-root n k noSchema Γ P p = absurd p
 theta-root n k (aSchema q g) Γ P p = inr (inr (inr (inl refl)))
 
-pub root-owned : (a : Expr) (Γ : Scope) (P : Valuation → Type 0) → Passes (exprItems a Γ) P → Owns (exprItems a Γ) (slot (exprNode a) 0)
+pub root-owned : (a : Expr) (Γ : Scope) (P : Typings) → Passes (exprItems a Γ) P → Owns (exprItems a Γ) (slot (exprNode a) 0)
 unfolding exprItems exprNode Owns Passes
 root-owned (reference n i xs) Γ P p = inr (reference-root n xs (nameAt i Γ) (And P (exprsItems xs Γ)) (p .1))
 root-owned (number n v) Γ P p = inl refl
@@ -277,7 +273,7 @@ root-owned (application n a b) Γ P p = inr (inr (inl refl))
 root-owned (selection n a i) Γ P p = inr (inl refl)
 root-owned (theta n s k) Γ P p = theta-root n k (schemaNamed s Γ) Γ P p
 root-owned (schemaSet n i) Γ P p = inr (inr (inl refl))
-root-owned (arithmetic n o a b) Γ P p = inr (inr (inr (inr (inl refl))))
+root-owned (arithmetic n o a b) Γ P p = inr (inr (inr (inl refl)))
 root-owned (comprehension n t a) Γ P p = inr (inr (inl refl))
 
 -- the roots of several
@@ -285,7 +281,7 @@ unfoldable pub RootsOwned : Items → Exprs → Type 0
 RootsOwned w none = Unit {0}
 RootsOwned w (more a xs) = Owns w (slot (exprNode a) 0) × RootsOwned w xs
 
-pub roots-owned : (xs : Exprs) (Γ : Scope) (P : Valuation → Type 0) (w : Items) → Passes (exprsItems xs Γ) P → ((x : ℕ) → Owns (exprsItems xs Γ) x → Owns w x) → RootsOwned w xs
+pub roots-owned : (xs : Exprs) (Γ : Scope) (P : Typings) (w : Items) → Passes (exprsItems xs Γ) P → ((x : ℕ) → Owns (exprsItems xs Γ) x → Owns w x) → RootsOwned w xs
 unfolding exprsItems RootsOwned Owns Passes
 roots-owned none Γ P w p f = tt
 roots-owned (more a xs) Γ P w p f = (f (slot (exprNode a) 0) (inl (root-owned a Γ P (p .0))), roots-owned xs Γ (And P (exprItems a Γ)) w (p .1) (λ x q. f x (inr q)))

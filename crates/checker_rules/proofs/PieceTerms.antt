@@ -12,13 +12,14 @@ use Rattle.types_rules.specs.Former.{binding}
 use Rattle.types_rules.specs.Types.{node, Tys, Term, nil, under, Each, Eachs}
 use Rattle.types_rules.specs.Instance.{instance}
 use Rattle.types_rules.proofs.Instance.{instance-same}
+use Rattle.types_rules.specs.Trees.{finite}
 use Rattle.checker_rules.specs.Strokes.{decorate, takes}
 use Rattle.checker_rules.specs.Unknowns.{Valuation, slot, unknownAt, row, powerOf}
-use Rattle.checker_rules.specs.Items.{Items, _⨾_, refusal}
+use Rattle.checker_rules.specs.Items.{Items, _⨾_, refusal, Typings}
 use Rattle.checker_rules.specs.Dictionary.{nameEntry, schemaEntry, Dictionary, blank, _▸_, Named, unnamed, ofLocal, ofGlobal, nameIn, NamedSchema, noSchema, aSchema}
 use Rattle.checker_rules.specs.Signatures.{Signature, noNames, naming, namesOf, bindingOf, componentsOf, someStroked}
 use Rattle.checker_rules.specs.Scopes.{Scope, globals, local, nameAt, withParameters, enter, inside, textSignature}
-use Rattle.checker_rules.specs.Conditions.{refuseIf, typeOf, typesOf, typed, isPower, arePowers, areMembers, freshRow}
+use Rattle.checker_rules.specs.Conditions.{refuseIf, typeOf, typesOf, typed, isPower, powers, arePowers, members, areMembers, freshRow}
 use Rattle.checker_rules.specs.Rules.{referenceItems, thetaName, thetaNames, typeInScope, thetaSignature, thetaItems, textItems, linesItems}
 use Rattle.checker_rules.specs.Pieces.{Owns}
 use Rattle.checker_rules.proofs.ItemLaws.{Agrees}
@@ -26,7 +27,7 @@ use Rattle.checker_rules.proofs.OneType.{SameNames, lines-same, text-sa
 use Rattle.checker_rules.proofs.ScopeUnknowns.{ScopeOver, NamedOver, instance-over, binding-over}
 use Rattle.checker_rules.proofs.RuleUnknowns.{thetaSig-over}
 use Rattle.checker_rules.proofs.PieceOwners.{RootsOwned}
-use Rattle.checker_rules.proofs.PieceEquations.{Off, Fixed, fixed-own, fixed-off, OwnNode}
+use Rattle.checker_rules.proofs.PieceEquations.{Off, Fixed, FixedPairs, fixed-own, fixed-off, OwnNode}
 
 -- ---- a scope whose names have the same types in two valuations
 module _ (σ τ : Valuation) where
@@ -88,27 +89,26 @@ module _ (σ τ : Valuation) where
   thetaSig-same k (naming i t s) Γ h = (scoped-same (nameAt (decorate k i) Γ) (name-same (decorate k i) Γ h), thetaSig-same k s Γ h)
 
 -- ---- the own node of each kind, in the piece w
-module _ (w : Items) (P : Valuation → Type 0) where
+module _ (w : Items) (P : Typings) where
   pub root-fixed : (a : Expr) → Owns w (slot (exprNode a) 0) → Fixed w P (typeOf a)
   root-fixed a h = fixed-own w P (typeOf a) (unfold Each in h)
 
   pub typed-own : (n : ℕ) (t : Term) → Owns w (slot n 0) → Fixed w P t → OwnNode (typed n t) w P
   unfolding OwnNode
-  typed-own n t h f = (tt, (refl, fixed-own w P (unknownAt n 0) (unfold Each in h), f))
+  typed-own n t h f = (tt, ((fixed-own w P (unknownAt n 0) (unfold Each in h), f), tt))
 
   pub power-own : (n k : ℕ) (a : Expr) → Owns w (slot n k) → Owns w (slot (exprNode a) 0) → OwnNode (isPower n k a) w P
   unfolding OwnNode
-  power-own n k a h q = (tt, (refl, root-fixed a q, fixed-own w P (powerOf (unknownAt n k)) (unfold Each in (h, tt))))
+  power-own n k a h q = (tt, ((root-fixed a q, fixed-own w P (powerOf (unknownAt n k)) (unfold Each in (h, tt))), tt))
 
-  pub powers-own : (n : ℕ) (xs : Exprs) (k : ℕ) → RootsOwned w xs → ((x : ℕ) → Owns (arePowers n xs k) x → Owns w x) → OwnNode (arePowers n xs k) w P
-  unfolding arePowers OwnNode RootsOwned Owns
-  powers-own n none k r f = tt
-  powers-own n (more a xs) k r f = (power-own n k a (f (slot n k) (inl (inl refl))) (r .0), powers-own n xs (suc k) (r .1) (λ x q. f x (inr q)))
+  members-fixed : (n : ℕ) (xs : Exprs) → RootsOwned w xs → Owns w (slot n 1) → FixedPairs w P (members n xs)
+  unfolding members RootsOwned
+  members-fixed n none r h = tt
+  members-fixed n (more a xs) r h = ((root-fixed a (r .0), fixed-own w P (unknownAt n 1) (unfold Each in h)), members-fixed n xs (r .1) h)
 
   pub members-own : (n : ℕ) (xs : Exprs) → RootsOwned w xs → Owns w (slot n 1) → OwnNode (areMembers n xs) w P
-  unfolding areMembers OwnNode RootsOwned
-  members-own n none r h = tt
-  members-own n (more a xs) r h = ((refl, root-fixed a (r .0), fixed-own w P (unknownAt n 1) (unfold Each in h)), members-own n xs (r .1) h)
+  unfolding areMembers OwnNode
+  members-own n xs r h = members-fixed n xs r h
 
   pub types-own : (xs : Exprs) → RootsOwned w xs → Eachs (Owns w) (typesOf xs)
   unfolding typesOf RootsOwned Each
@@ -126,11 +126,19 @@ module _ (w : Items) (P : Valuation → Type 0) where
   fresh-own n k (suc p) = (tt, fresh-own n (suc k) p)
 
   pub powers-row : (n : ℕ) (xs : Exprs) (k : ℕ) → ((x : ℕ) → Owns (arePowers n xs k) x → Owns w x) → Eachs (Owns w) (row n k (exprsLength xs))
-  unfolding arePowers row exprsLength Owns Each
-  powers-row n none k f = tt
-  powers-row n (more a xs) k f = (f (slot n k) (inl (inl refl)), powers-row n xs (suc k) (λ x q. f x (inr q)))
+  unfolding arePowers Owns
+  powers-row n xs k f = row-own n k (exprsLength xs) (λ x q. f x (inl q))
 
-  pub reference-own : (n : ℕ) (xs : Exprs) (m : Named) → RootsOwned w xs → ((x : ℕ) → Owns (referenceItems n xs m) x → Owns w x) → NamedOver (Off w) m → ((σ τ : Valuation) → P σ → P τ → NamedSame σ τ m)
+  powers-fixed : (n : ℕ) (xs : Exprs) (k : ℕ) → RootsOwned w xs → Eachs (Owns w) (row n k (exprsLength xs)) → FixedPairs w P (powers n xs k)
+  unfolding powers RootsOwned row exprsLength Each
+  powers-fixed n none k r f = tt
+  powers-fixed n (more a xs) k r f = ((root-fixed a (r .0), fixed-own w P (powerOf (unknownAt n k)) (f .0, tt)), powers-fixed n xs (suc k) (r .1) (f .1))
+
+  pub powers-own : (n : ℕ) (xs : Exprs) (k : ℕ) → RootsOwned w xs → ((x : ℕ) → Owns (arePowers n xs k) x → Owns w x) → OwnNode (arePowers n xs k) w P
+  unfolding arePowers OwnNode
+  powers-own n xs k r f = (fresh-own n k (exprsLength xs), powers-fixed n xs k r (powers-row n xs k f))
+
+  pub reference-own : (n : ℕ) (xs : Exprs) (m : Named) → RootsOwned w xs → ((x : ℕ) → Owns (referenceItems n xs m) x → Owns w x) → NamedOver (Off w) m → ((σ τ : Valuation) → P finite σ → P finite τ → NamedSame σ τ m)
       → OwnNode (referenceItems n xs m) w P
   unfolding referenceItems OwnNode Owns NamedOver
   reference-own n none unnamed r f o s = tt
@@ -168,7 +176,7 @@ module _ (w : Items) (P : Valuation → Type 0) where
   thetaNames-own n k noNames Γ = tt
   thetaNames-own n k (naming i t s) Γ = (thetaName-own (takes k i) n (nameAt (decorate k i) Γ), thetaNames-own n k s Γ)
 
-  pub theta-own : (n k : ℕ) (f : NamedSchema) (Γ : Scope) → ((x : ℕ) → Owns (thetaItems n k f Γ) x → Owns w x) → ScopeOver (Off w) Γ → ((σ τ : Valuation) → P σ → P τ → ScopeSame σ τ Γ) → OwnNode (thetaItems n k f Γ) w P
+  pub theta-own : (n k : ℕ) (f : NamedSchema) (Γ : Scope) → ((x : ℕ) → Owns (thetaItems n k f Γ) x → Owns w x) → ScopeOver (Off w) Γ → ((σ τ : Valuation) → P finite σ → P finite τ → ScopeSame σ τ Γ) → OwnNode (thetaItems n k f Γ) w P
   unfolding thetaItems OwnNode Owns
   theta-own n k noSchema Γ h o s = tt
   theta-own n k (aSchema p g) Γ h o s =

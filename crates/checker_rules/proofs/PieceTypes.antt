@@ -10,10 +10,11 @@ use borrow.Author.Tests.{eqb-true, eqb-false, ne-eqb}
 use Rattle.types_rules.specs.Types.{Ty, integerType, ℙℤ}
 use Rattle.types_rules.specs.Substitution.{update}
 use Rattle.types_rules.proofs.Terms.{update-same, update-other}
+use Rattle.types_rules.specs.Trees.{finite}
 use Rattle.reader_rules.specs.Tree.{Paragraph}
 use Rattle.reader_rules.specs.Decode.{treeOf}
 use Rattle.checker_rules.specs.Unknowns.{Valuation, slot}
-use Rattle.checker_rules.specs.Items.{Items, skip, _⨾_, fresh, equate, select, small, refusal, piece, Meets, Agree, Any, And, Passes}
+use Rattle.checker_rules.specs.Items.{Items, skip, _⨾_, fresh, equations, equate, select, small, refusal, piece, MeetsIn, Agree, Any, And, Passes, Typings}
 use Rattle.checker_rules.specs.Dictionary.{Dictionary, blank}
 use Rattle.checker_rules.specs.Rules.{paragraphItems}
 use Rattle.checker_rules.specs.Entries.{extend}
@@ -36,17 +37,19 @@ owned skip σ τ h x q = absurd q
 owned (a ⨾ b) σ τ h x (inl q) = owned a σ τ (h .0) x q
 owned (a ⨾ b) σ τ h x (inr q) = owned b σ τ (h .1) x q
 owned (fresh y) σ τ h x q = subst (λ (z : ℕ). σ z ≡ τ z) q h
+owned (equations n es) σ τ h x q = absurd q
 owned (equate f n a b) σ τ h x q = absurd q
 owned (select n i a y) σ τ h x q = absurd q
 owned (small n a) σ τ h x q = absurd q
 owned (refusal f n) σ τ h x q = absurd q
 owned (piece n t) σ τ h x q = absurd q
 
-each-piece : (t : Items) (P : Valuation → Type 0) (T : ℕ → Ty → Type 0) (τ : Valuation) → Passes t P → And P t τ → ((m : ℕ) → T m (τ (slot m 0))) → EachPiece t P T
-unfolding Passes Meets EachPiece
+each-piece : (t : Items) (P : Typings) (T : ℕ → Ty → Type 0) (τ : Valuation) → Passes t P → And P t finite τ → ((m : ℕ) → T m (τ (slot m 0))) → EachPiece t P T
+unfolding Passes MeetsIn EachPiece
 each-piece skip P T τ p h f = tt
 each-piece (a ⨾ b) P T τ p h f = (each-piece a P T τ (p .0) (h .0, h .1 .0) f, each-piece b (And P a) T τ (p .1) ((h .0, h .1 .0), h .1 .1) f)
 each-piece (fresh x) P T τ p h f = tt
+each-piece (equations n es) P T τ p h f = tt
 each-piece (equate g n a b) P T τ p h f = tt
 each-piece (select n i a x) P T τ p h f = tt
 each-piece (small n a) P T τ p h f = tt
@@ -55,12 +58,13 @@ each-piece (piece n t) P T τ p h f =
     (λ σ w m q. subst (T m) (sym (owned t σ τ (p .1 σ τ w h) (slot m 0) q)) (f m), each-piece t P T τ (p .0) h f)
 
 -- What has passed is settled.
-pub settled : (t : Items) (P : Valuation → Type 0) → Passes t P → Settled t P
-unfolding Passes Meets InPiece
+pub settled : (t : Items) (P : Typings) → Passes t P → Settled t P
+unfolding Passes MeetsIn InPiece
 settled skip P p σ τ g h x q = absurd q
 settled (a ⨾ b) P p σ τ g h x (inl q) = settled a P (p .0) σ τ (g .0, g .1 .0) (h .0, h .1 .0) x q
 settled (a ⨾ b) P p σ τ g h x (inr q) = settled b (And P a) (p .1) σ τ ((g .0, g .1 .0), g .1 .1) ((h .0, h .1 .0), h .1 .1) x q
 settled (fresh y) P p σ τ g h x q = absurd q
+settled (equations n es) P p σ τ g h x q = absurd q
 settled (equate f n a b) P p σ τ g h x q = absurd q
 settled (select n i a y) P p σ τ g h x q = absurd q
 settled (small n a) P p σ τ g h x q = absurd q
@@ -81,6 +85,7 @@ owns-decide (fresh y) x = go (eqb y x) refl
     go : (b : Bool) → eqb y x ≡ b → (y ≡ x) ⊎ (y ≡ x → ⊥)
     go true e = inl (eqb-true y x e)
     go false e = inr (eqb-false y x e)
+owns-decide (equations n es) x = never
 owns-decide (equate f n a b) x = never
 owns-decide (select n i a y) x = never
 owns-decide (small n a) x = never
@@ -92,6 +97,7 @@ unfolding InPiece
 in-decide skip x = never
 in-decide (a ⨾ b) x = either _ _ (in-decide a x) (in-decide b x)
 in-decide (fresh y) x = never
+in-decide (equations n es) x = never
 in-decide (equate f n a b) x = never
 in-decide (select n i a y) x = never
 in-decide (small n a) x = never
@@ -104,17 +110,19 @@ module _ (x : ℕ) (σ τ : Valuation) (e : (y : ℕ) → (y ≡ x → ⊥) → 
   unowned skip w = tt
   unowned (a ⨾ b) w = (unowned a (λ z. w (inl z)), unowned b (λ z. w (inr z)))
   unowned (fresh y) w = e y w
+  unowned (equations n es) w = tt
   unowned (equate f n a b) w = tt
   unowned (select n i a y) w = tt
   unowned (small n a) w = tt
   unowned (refusal f n) w = tt
   unowned (piece n t) w = tt
 
-  outside : (t : Items) (P : Valuation → Type 0) → Passes t P → (InPiece t x → ⊥) → Agrees t σ τ
+  outside : (t : Items) (P : Typings) → Passes t P → (InPiece t x → ⊥) → Agrees t σ τ
   unfolding InPiece Agrees Passes
   outside skip P p w = tt
   outside (a ⨾ b) P p w = (outside a P (p .0) (λ z. w (inl z)), outside b (And P a) (p .1) (λ z. w (inr z)))
   outside (fresh y) P p w = tt
+  outside (equations n es) P p w = tt
   outside (equate f n a b) P p w = tt
   outside (select n i a y) P p w = tt
   outside (small n a) P p w = tt

@@ -1,14 +1,17 @@
 -- The rules keep the pieces apart (R15): in a readable document no piece shares an unknown of its own with a piece before or inside it, with merging or with
--- sizes. So 33, 34 and 35 rest on their piece's own equations.
+-- sizes. So 33, 34, 35 and 39 rest on their piece's own equations.
 use mathlib.Core.Path.{_≡_, refl, ap}
 use Rattle.types_rules.specs.Former.{power as powerFormer}
+use Rattle.types_rules.specs.Equations.{end as pairsEnd}
+use Rattle.types_rules.specs.Trees.{finite}
 use Rattle.types_rules.specs.Types.{Ty, node, tnil, tcons, Term, under, Each}
 use Rattle.reader_rules.specs.Tree.{exprNode, exprsLength, Expr, reference, number, integers, set, tuple, product, power, application, selection, theta, schemaSet, arithmetic, comprehension, Exprs, none, more, Pred, truth, equal, member, atMost, not, connected, quantified, Text, text, Lines, end, declaration, inclusion, Include, include, Schema, plain, from, both, Paragraph, given, axiomatic, schema, abbreviation, constraint, includeNode}
 use Rattle.checker_rules.specs.Unknowns.{Valuation, slot, unknownAt, row, integer, powerOf, productOf, pairOf}
-use Rattle.checker_rules.specs.Items.{_⨾_, fresh, equate, And, Items, skip, small, piece, Any}
+use Rattle.checker_rules.specs.Items.{_⨾_, fresh, And, Items, skip, small, piece, Any, Typings}
 use Rattle.checker_rules.specs.Signatures.{bindingOf, Signature, noNames, namesOf, merge, declare}
-use Rattle.checker_rules.specs.Conditions.{typeOf, typesOf, typed, isPower, arePowers, areMembers, mergeDeclared, mergeNames, newNames, smallTypes, fewNames}
+use Rattle.checker_rules.specs.Conditions.{typeOf, typesOf, equation, areNumbers, typed, isPower, arePowers, areMembers, mergeDeclared, mergeNames, newNames, smallTypes, fewNames}
 use Rattle.checker_rules.proofs.ItemLaws.{agreed}
+use Rattle.checker_rules.proofs.ItemEquations.{standing-start}
 use Rattle.checker_rules.proofs.OneType.{incl-same}
 use Rattle.checker_rules.proofs.ScopeUnknowns.{name-over, binding-over, AllIn, all-left, all-right, FewRecorded, longer, Own, ScopeOver, SigOver, parameters-over, included-over, lines-inside, inside-over}
 use Rattle.checker_rules.proofs.PieceOwners.{root-owned, roots-owned, innerNumbers, innersNumbers}
@@ -16,7 +19,7 @@ use Rattle.checker_rules.proofs.PieceEquations.{fixed-own, fixed-off, O
 use Rattle.checker_rules.proofs.PieceTerms.{ScopeSame, name-same, parameters-same, inside-same, inside-lines, binding-same, root-fixed, typed-own, power-own, powers-own, members-own, types-own, powers-row, reference-own, theta-own}
 use mathlib.Core.Bool.{true}
 use mathlib.Core.List.{List, [], _∷_, _++_}
-use mathlib.Core.Logic.{_⊎_, inl, inr}
+use mathlib.Core.Logic.{inl, inr}
 use Prim.Native.Nat.{ℕ, suc, _+_, _≤_}
 use native.Mathlib.Omega.{arith}
 use Rattle.words.specs.Loops.{has}
@@ -51,7 +54,7 @@ power-same σ τ t e = ap (λ (g : Ty). node powerFormer (tcons g tnil)) e
 mutual
   unfolding exprItems exprNumbers innerNumbers SizedExpr Separate Over Owns Each OwnNode
 
-  expr-separate : (a : Expr) (Γ : Scope) (w : Items) (P : Valuation → Type 0) (C : ℕ → Type 0) → ReadyContext (exprNumbers a) w P C Γ → ((x : ℕ) → Owns (exprItems a Γ) x → Owns w x) → AllIn (Own (Off w)) (innerNumbers a) → EachOnce (exprNumbers a) → SizedExpr a
+  expr-separate : (a : Expr) (Γ : Scope) (w : Items) (P : Typings) (C : ℕ → Type 0) → ReadyContext (exprNumbers a) w P C Γ → ((x : ℕ) → Owns (exprItems a Γ) x → Owns w x) → AllIn (Own (Off w)) (innerNumbers a) → EachOnce (exprNumbers a) → SizedExpr a
       → Separate (exprItems a Γ) w P
   expr-separate (reference n i xs) Γ w P C r own h o f = (
     exprs-separate xs Γ w P C (ready-left w P C Γ (exprsNumbers xs) (n ∷ []) r) (λ x q. own x (inl q)) h (once-left (exprsNumbers xs) (n ∷ []) o) f,
@@ -61,20 +64,20 @@ mutual
   expr-separate (number n v) Γ w P C r own h o f = node-separate (typed n integer) w P (typed-own w P n integer (own (slot n 0) (inl refl)) (fixed-own w P integer tt))
   expr-separate (integers n) Γ w P C r own h o f = node-separate (typed n (powerOf integer)) w P (typed-own w P n (powerOf integer) (own (slot n 0) (inl refl)) (fixed-own w P (powerOf integer) (tt, tt)))
   expr-separate (set n xs) Γ w P C r own h o f =
-      let Q : Valuation → Type 0 = And P (exprsItems xs Γ) in
+      let Q : Typings = And P (exprsItems xs Γ) in
       let e = own (slot n 1) (inr (inl refl)) in (
         exprs-separate xs Γ w P C (ready-left w P C Γ (exprsNumbers xs) (n ∷ []) r) (λ x q. own x (inl q)) h (once-left (exprsNumbers xs) (n ∷ []) o) f,
         λ p. node-separate (fresh (slot n 1) ⨾ areMembers n xs ⨾ typed n (powerOf (unknownAt n 1))) w Q
             (tt, (members-own w Q n xs (roots-owned xs Γ P w p (λ x q. own x (inl q))) e, typed-own w Q n (powerOf (unknownAt n 1)) (own (slot n 0) (inr (inr (inr (inl refl))))) (fixed-own w Q (powerOf (unknownAt n 1)) (e, tt)))),
       )
   expr-separate (tuple n xs) Γ w P C r own h o f =
-      let Q : Valuation → Type 0 = And P (exprsItems xs Γ) in (
+      let Q : Typings = And P (exprsItems xs Γ) in (
         exprs-separate xs Γ w P C (ready-left w P C Γ (exprsNumbers xs) (n ∷ []) r) (λ x q. own x (inl q)) h (once-left (exprsNumbers xs) (n ∷ []) o) (f .1),
         λ p. node-separate (typed n (productOf (typesOf xs))) w Q
             (typed-own w Q n (productOf (typesOf xs)) (own (slot n 0) (inr (inl refl))) (fixed-own w Q (productOf (typesOf xs)) (types-own w Q xs (roots-owned xs Γ P w p (λ x q. own x (inl q)))))),
       )
   expr-separate (product n xs) Γ w P C r own h o f =
-      let Q : Valuation → Type 0 = And P (exprsItems xs Γ) in
+      let Q : Typings = And P (exprsItems xs Γ) in
       let e : (x : ℕ) → Owns (arePowers n xs 1) x → Owns w x = λ x q. own x (inr (inl q)) in
       let t = powerOf (productOf (row n 1 (exprsLength xs))) in (
         exprs-separate xs Γ w P C (ready-left w P C Γ (exprsNumbers xs) (n ∷ []) r) (λ x q. own x (inl q)) h (once-left (exprsNumbers xs) (n ∷ []) o) (f .1),
@@ -82,32 +85,32 @@ mutual
             (powers-own w Q n xs 1 (roots-owned xs Γ P w p (λ x q. own x (inl q))) e, typed-own w Q n t (own (slot n 0) (inr (inr (inl refl)))) (fixed-own w Q t (powers-row w Q n xs 1 e, tt))),
       )
   expr-separate (power n a) Γ w P C r own h o f =
-      let Q : Valuation → Type 0 = And P (exprItems a Γ) in
+      let Q : Typings = And P (exprItems a Γ) in
       let e = own (slot n 1) (inr (inl (inl refl))) in
       let t = powerOf (powerOf (unknownAt n 1)) in (
         expr-separate a Γ w P C (ready-left w P C Γ (exprNumbers a) (n ∷ []) r) (λ x q. own x (inl q)) h (once-left (exprNumbers a) (n ∷ []) o) f,
         λ p. node-separate (isPower n 1 a ⨾ typed n t) w Q (power-own w Q n 1 a e (own (slot (exprNode a) 0) (inl (root-owned a Γ P p))), typed-own w Q n t (own (slot n 0) (inr (inr (inl refl)))) (fixed-own w Q t ((e, tt), tt))),
       )
   expr-separate (application n a b) Γ w P C r own h o f =
-      let Q : Valuation → Type 0 = And (And P (exprItems a Γ)) (exprItems b Γ) in
+      let Q : Typings = And (And P (exprItems a Γ)) (exprItems b Γ) in
       let t = powerOf (pairOf (typeOf b) (unknownAt n 0)) in
       let s = pair-separate a b Γ (λ w P C r u h o f. expr-separate a Γ w P C r u h o f) (λ w P C r u h o f. expr-separate b Γ w P C r u h o f) w P C (ready-left w P C Γ (exprNumbers a ++ exprNumbers b) (n ∷ []) r) (λ x q. own x (inl q)) (λ x q. own x (inr (inl q))) h (once-left (exprNumbers a ++ exprNumbers b) (n ∷ []) o) (f .0) (f .1) in (
         s .0,
         λ p. (
           s .1 p,
-          λ q. node-separate (fresh (slot n 0) ⨾ equate 33 n (typeOf a) t) w Q
-              (tt, (refl, root-fixed w Q a (own (slot (exprNode a) 0) (inl (root-owned a Γ P p))), fixed-own w Q t ((own (slot (exprNode b) 0) (inr (inl (root-owned b Γ (And P (exprItems a Γ)) q))), (own (slot n 0) (inr (inr (inl refl))), tt)), tt))),
+          λ q. node-separate (fresh (slot n 0) ⨾ equation n (typeOf a) t) w Q
+              (tt, ((root-fixed w Q a (own (slot (exprNode a) 0) (inl (root-owned a Γ P p))), fixed-own w Q t ((own (slot (exprNode b) 0) (inr (inl (root-owned b Γ (And P (exprItems a Γ)) q))), (own (slot n 0) (inr (inr (inl refl))), tt)), tt)), tt)),
         ),
       )
   expr-separate (selection n a i) Γ w P C r own h o f =
-      let Q : Valuation → Type 0 = And (And P (exprItems a Γ)) (fresh (slot n 0)) in (
+      let Q : Typings = And (And P (exprItems a Γ)) (fresh (slot n 0)) in (
         expr-separate a Γ w P C (ready-left w P C Γ (exprNumbers a) (n ∷ []) r) (λ x q. own x (inl q)) h (once-left (exprNumbers a) (n ∷ []) o) f,
         λ p. (tt, λ q. (root-fixed w Q a (own (slot (exprNode a) 0) (inl (root-owned a Γ P p))), fixed-own w Q (unknownAt n 0) (own (slot n 0) (inr (inl refl))))),
       )
   expr-separate (theta n c k) Γ w P C r own h o f = node-separate (thetaItems n k (schemaNamed c Γ) Γ) w P (theta-own w P n k (schemaNamed c Γ) Γ own (r .off) (r .settled))
   expr-separate (schemaSet n i) Γ w P C r own h o f =
       let s = includeSignature i Γ in
-      let Q : Valuation → Type 0 = And (And P (includeItems i Γ)) (smallTypes (includeNode i) s) in
+      let Q : Typings = And (And P (includeItems i Γ)) (smallTypes (includeNode i) s) in
       let over = included-over (Off w) i Γ h f in (
         include-separate i Γ w P C (ready-left w P C Γ (includeNumbers i) (n ∷ []) r) h (once-left (includeNumbers i) (n ∷ []) o) f,
         λ p. (
@@ -118,15 +121,15 @@ mutual
         ),
       )
   expr-separate (arithmetic n c a b) Γ w P C r own h o f =
-      let Q : Valuation → Type 0 = And (And P (exprItems a Γ)) (exprItems b Γ) in
+      let Q : Typings = And (And P (exprItems a Γ)) (exprItems b Γ) in
       let s = pair-separate a b Γ (λ w P C r u h o f. expr-separate a Γ w P C r u h o f) (λ w P C r u h o f. expr-separate b Γ w P C r u h o f) w P C (ready-left w P C Γ (exprNumbers a ++ exprNumbers b) (n ∷ []) r) (λ x q. own x (inl q)) (λ x q. own x (inr (inl q))) h (once-left (exprNumbers a ++ exprNumbers b) (n ∷ []) o) (f .0) (f .1) in
       let z = fixed-own w Q integer tt in (
         s .0,
         λ p. (
           s .1 p,
-          λ q. node-separate (equate 33 n (typeOf a) integer ⨾ equate 33 n (typeOf b) integer ⨾ typed n integer) w Q (
-            (refl, root-fixed w Q a (own (slot (exprNode a) 0) (inl (root-owned a Γ P p))), z),
-            ((refl, root-fixed w Q b (own (slot (exprNode b) 0) (inr (inl (root-owned b Γ (And P (exprItems a Γ)) q)))), z), typed-own w Q n integer (own (slot n 0) (inr (inr (inr (inr (inl refl)))))) z),
+          λ q. node-separate (areNumbers n (typeOf a) (typeOf b) ⨾ typed n integer) w Q (
+            ((root-fixed w Q a (own (slot (exprNode a) 0) (inl (root-owned a Γ P p))), z), ((root-fixed w Q b (own (slot (exprNode b) 0) (inr (inl (root-owned b Γ (And P (exprItems a Γ)) q)))), z), tt)),
+            typed-own w Q n integer (own (slot n 0) (inr (inr (inr (inl refl))))) z,
           ),
         ),
       )
@@ -137,8 +140,8 @@ mutual
       let u = once-left (T ++ A) (n ∷ []) o in
       let d = apart T A u in
       let q = all-left (Own (Off w)) T (innerNumbers a) h in
-      let Q : Valuation → Type 0 = And P (textItems t Γ blank) in
-      let R : Valuation → Type 0 = And Q (exprItems a (inside t Γ)) in (
+      let Q : Typings = And P (textItems t Γ blank) in
+      let R : Typings = And Q (exprItems a (inside t Γ)) in (
         text-separate t Γ blank w P C (ready-left w P C Γ T A z) q (once-left T A u) (f .0),
         λ p. (
           expr-separate a (inside t Γ) w Q (With T C)
@@ -150,7 +153,7 @@ mutual
         ),
       )
 
-  exprs-separate : (xs : Exprs) (Γ : Scope) (w : Items) (P : Valuation → Type 0) (C : ℕ → Type 0) → ReadyContext (exprsNumbers xs) w P C Γ → ((x : ℕ) → Owns (exprsItems xs Γ) x → Owns w x) → AllIn (Own (Off w)) (innersNumbers xs) → EachOnce (exprsNumbers xs)
+  exprs-separate : (xs : Exprs) (Γ : Scope) (w : Items) (P : Typings) (C : ℕ → Type 0) → ReadyContext (exprsNumbers xs) w P C Γ → ((x : ℕ) → Owns (exprsItems xs Γ) x → Owns w x) → AllIn (Own (Off w)) (innersNumbers xs) → EachOnce (exprsNumbers xs)
       → SizedExprs xs → Separate (exprsItems xs Γ) w P
   exprs-separate none Γ w P C r own h o f = tt
   exprs-separate (more a xs) Γ w P C r own h o f =
@@ -161,22 +164,18 @@ mutual
             (all-right (Own (Off w)) (innerNumbers a) (innersNumbers xs) h) (once-right A B o) (f .1),
       )
 
-  pred-separate : (p : Pred) (Γ : Scope) (w : Items) (P : Valuation → Type 0) (C : ℕ → Type 0) → ReadyContext (predNumbers p) w P C Γ → AllIn (Own (Off w)) (predNumbers p) → EachOnce (predNumbers p) → SizedPred p
+  pred-separate : (p : Pred) (Γ : Scope) (w : Items) (P : Typings) (C : ℕ → Type 0) → ReadyContext (predNumbers p) w P C Γ → AllIn (Own (Off w)) (predNumbers p) → EachOnce (predNumbers p) → SizedPred p
       → Separate (predItems p Γ) w P
   pred-separate (truth n) Γ w P C r h o f = tt
   pred-separate (equal n a b) Γ w P C r h o f =
-      relation-piece n a b (equate 33 n (typeOf a) (typeOf b)) w P C Γ (λ x q. q) (λ y z. let t = exprItems a Γ ⨾ exprItems b Γ ⨾ equate 33 n (typeOf a) (typeOf b) in let Q : Valuation → Type 0 = And (And P (exprItems a Γ)) (exprItems b Γ) in (refl, root-fixed t Q a y, root-fixed t Q b z)) (pred-over (Off w) (equal n a b) Γ h f (r .off)) (ready-left w P C Γ (exprNumbers a ++ exprNumbers b) (n ∷ []) r)
+      relation-piece n a b (equation n (typeOf a) (typeOf b)) w P C Γ (λ x q. q) (λ y z. let t = exprItems a Γ ⨾ exprItems b Γ ⨾ equation n (typeOf a) (typeOf b) in let Q : Typings = And (And P (exprItems a Γ)) (exprItems b Γ) in ((root-fixed t Q a y, root-fixed t Q b z), tt)) (pred-over (Off w) (equal n a b) Γ h f (r .off)) (ready-left w P C Γ (exprNumbers a ++ exprNumbers b) (n ∷ []) r)
       (once-left (exprNumbers a ++ exprNumbers b) (n ∷ []) o) (f .0) (f .1) (λ w P C r u h o f. expr-separate a Γ w P C r u h o f) (λ w P C r u h o f. expr-separate b Γ w P C r u h o f)
   pred-separate (member n a b) Γ w P C r h o f =
-      relation-piece n a b (equate 33 n (powerOf (typeOf a)) (typeOf b)) w P C Γ (λ x q. q) (λ y z. let t = exprItems a Γ ⨾ exprItems b Γ ⨾ equate 33 n (powerOf (typeOf a)) (typeOf b) in let Q : Valuation → Type 0 = And (And P (exprItems a Γ)) (exprItems b Γ) in (refl, fixed-own t Q (powerOf (typeOf a)) (y, tt), root-fixed t Q b z)) (pred-over (Off w) (member n a b) Γ h f (r .off)) (ready-left w P C Γ (exprNumbers a ++ exprNumbers b) (n ∷ []) r)
+      relation-piece n a b (equation n (powerOf (typeOf a)) (typeOf b)) w P C Γ (λ x q. q) (λ y z. let t = exprItems a Γ ⨾ exprItems b Γ ⨾ equation n (powerOf (typeOf a)) (typeOf b) in let Q : Typings = And (And P (exprItems a Γ)) (exprItems b Γ) in ((fixed-own t Q (powerOf (typeOf a)) (y, tt), root-fixed t Q b z), tt)) (pred-over (Off w) (member n a b) Γ h f (r .off)) (ready-left w P C Γ (exprNumbers a ++ exprNumbers b) (n ∷ []) r)
       (once-left (exprNumbers a ++ exprNumbers b) (n ∷ []) o) (f .0) (f .1) (λ w P C r u h o f. expr-separate a Γ w P C r u h o f) (λ w P C r u h o f. expr-separate b Γ w P C r u h o f)
   pred-separate (atMost n a b) Γ w P C r h o f =
-      relation-piece n a b (equate 33 n (typeOf a) integer ⨾ equate 33 n (typeOf b) integer) w P C Γ (λ x q. none-of x q) (λ y z. let t = exprItems a Γ ⨾ exprItems b Γ ⨾ equate 33 n (typeOf a) integer ⨾ equate 33 n (typeOf b) integer in let Q : Valuation → Type 0 = And (And P (exprItems a Γ)) (exprItems b Γ) in ((refl, root-fixed t Q a y, fixed-own t Q integer tt), (refl, root-fixed t Q b z, fixed-own t Q integer tt))) (pred-over (Off w) (atMost n a b) Γ h f (r .off)) (ready-left w P C Γ (exprNumbers a ++ exprNumbers b) (n ∷ []) r)
+      relation-piece n a b (areNumbers n (typeOf a) (typeOf b)) w P C Γ (λ x q. q) (λ y z. let t = exprItems a Γ ⨾ exprItems b Γ ⨾ areNumbers n (typeOf a) (typeOf b) in let Q : Typings = And (And P (exprItems a Γ)) (exprItems b Γ) in ((root-fixed t Q a y, fixed-own t Q integer tt), ((root-fixed t Q b z, fixed-own t Q integer tt), tt))) (pred-over (Off w) (atMost n a b) Γ h f (r .off)) (ready-left w P C Γ (exprNumbers a ++ exprNumbers b) (n ∷ []) r)
       (once-left (exprNumbers a ++ exprNumbers b) (n ∷ []) o) (f .0) (f .1) (λ w P C r u h o f. expr-separate a Γ w P C r u h o f) (λ w P C r u h o f. expr-separate b Γ w P C r u h o f)
-    where
-      none-of : (x : ℕ) → ⊥ ⊎ ⊥ → ⊥
-      none-of x (inl q) = q
-      none-of x (inr q) = q
   pred-separate (not n p) Γ w P C r h o f =
       pred-separate p Γ w P C (ready-left w P C Γ (predNumbers p) (n ∷ []) r) (all-left (Own (Off w)) (predNumbers p) (n ∷ []) h) (once-left (predNumbers p) (n ∷ []) o) f
   pred-separate (connected n c p q) Γ w P C r h o f =
@@ -203,7 +202,7 @@ mutual
             (all-right (Own (Off w)) T A l) (once-right T A u) (f .1),
       )
 
-  text-separate : (t : Text) (Γ : Scope) (G : Dictionary) (w : Items) (P : Valuation → Type 0) (C : ℕ → Type 0) → ReadyContext (textNumbers t) w P C Γ → AllIn (Own (Off w)) (textNumbers t) → EachOnce (textNumbers t) → SizedText t
+  text-separate : (t : Text) (Γ : Scope) (G : Dictionary) (w : Items) (P : Typings) (C : ℕ → Type 0) → ReadyContext (textNumbers t) w P C Γ → AllIn (Own (Off w)) (textNumbers t) → EachOnce (textNumbers t) → SizedText t
       → Separate (textItems t Γ G) w P
   text-separate (text n p ls) Γ G w P C r h o f =
       let A = predNumbers p in
@@ -221,7 +220,7 @@ mutual
             (all-left (Own (Off w)) A L l) (once-left A L u) (f .0),
       )
 
-  lines-separate : (ls : Lines) (Γ : Scope) (G : Dictionary) (s : Signature) (w : Items) (P : Valuation → Type 0) (C : ℕ → Type 0) → ReadyContext (linesNumbers ls) w P C Γ → AllIn (Own (Off w)) (linesNumbers ls) → SigOver C s → SigOver (Off w) s
+  lines-separate : (ls : Lines) (Γ : Scope) (G : Dictionary) (s : Signature) (w : Items) (P : Typings) (C : ℕ → Type 0) → ReadyContext (linesNumbers ls) w P C Γ → AllIn (Own (Off w)) (linesNumbers ls) → SigOver C s → SigOver (Off w) s
       → EachOnce (linesNumbers ls) → SizedLines ls → Separate (linesItems ls Γ G s) w P
   lines-separate end Γ G s w P C r h k j o f = tt
   lines-separate (declaration n a is ls) Γ G s w P C r h k j o f =
@@ -277,7 +276,7 @@ mutual
         ),
       )
 
-  include-separate : (i : Include) (Γ : Scope) (w : Items) (P : Valuation → Type 0) (C : ℕ → Type 0) → ReadyContext (includeNumbers i) w P C Γ → AllIn (Own (Off w)) (includeNumbers i) → EachOnce (includeNumbers i) → SizedInclude i
+  include-separate : (i : Include) (Γ : Scope) (w : Items) (P : Typings) (C : ℕ → Type 0) → ReadyContext (includeNumbers i) w P C Γ → AllIn (Own (Off w)) (includeNumbers i) → EachOnce (includeNumbers i) → SizedInclude i
       → Separate (includeItems i Γ) w P
   include-separate (include n c k xs rs) Γ w P C r h o f =
       let X = exprsNumbers xs in
@@ -285,7 +284,7 @@ mutual
       (actuals-separate xs n 1 Γ w P C (λ q. apart X (n ∷ []) o n q (first-has n [])) (omega (arith, f .0)) (λ j p q c. r .new n j (has-right n X (n ∷ []) (first-has n [])) q c) (all-right (Own (Off w)) X (n ∷ []) h .0)
       (ready-left w P C Γ X (n ∷ []) r) (all-left (Own (Off w)) X (n ∷ []) h) (once-left X (n ∷ []) o) (f .1))
 
-  actuals-separate : (xs : Exprs) (n k : ℕ) (Γ : Scope) (w : Items) (P : Valuation → Type 0) (C : ℕ → Type 0) → (has n (exprsNumbers xs) ≡ true → ⊥) → k + exprsLength xs ≤ 7 → NewRow n k C → Own (Off w) n
+  actuals-separate : (xs : Exprs) (n k : ℕ) (Γ : Scope) (w : Items) (P : Typings) (C : ℕ → Type 0) → (has n (exprsNumbers xs) ≡ true → ⊥) → k + exprsLength xs ≤ 7 → NewRow n k C → Own (Off w) n
       → ReadyContext (exprsNumbers xs) w P C Γ → AllIn (Own (Off w)) (exprsNumbers xs) → EachOnce (exprsNumbers xs) → SizedExprs xs → Separate (actualItems xs n k Γ) w P
   actuals-separate none n k Γ w P C z l q own r h o f = tt
   actuals-separate (more a xs) n k Γ w P C z l q own r h o f =
@@ -303,7 +302,7 @@ mutual
             (ready-and w P N Γ B x (mentions N a n k Γ (inl refl) (all-map (With A C) N (λ y c. inr c) A (own-all A C)) (f .0) (v .scope)) v) (all-right (Own (Off w)) A B h) (once-right A B o) (f .1),
       )
 
-schema-separate : (x : Schema) (Γ : Scope) (w : Items) (P : Valuation → Type 0) (C : ℕ → Type 0) → ReadyContext (schemaNumbers x) w P C Γ → AllIn (Own (Off w)) (schemaNumbers x) → EachOnce (schemaNumbers x) → SizedSchema x
+schema-separate : (x : Schema) (Γ : Scope) (w : Items) (P : Typings) (C : ℕ → Type 0) → ReadyContext (schemaNumbers x) w P C Γ → AllIn (Own (Off w)) (schemaNumbers x) → EachOnce (schemaNumbers x) → SizedSchema x
     → Separate (schemaItems x Γ) w P
 unfolding schemaItems schemaNumbers SizedSchema Separate Over
 schema-separate (plain t) Γ w P C r h o f = text-separate t Γ blank w P C r h o f
@@ -347,7 +346,7 @@ module _ (D : Dictionary) (d : FewRecorded D) where
     settled = λ σ τ g h. parameters-same σ τ ps 1 (globals D) (unfold ScopeSame in tt);
   }
 
-  names-separate : (n : ℕ) (is : List ℕ) (P : Valuation → Type 0) → Separate (newNames n is D) skip P
+  names-separate : (n : ℕ) (is : List ℕ) (P : Typings) → Separate (newNames n is D) skip P
   names-separate n is P = bare-separate (newNames n is D) skip P (newNames-bare n is D) (newNames-over (Off skip) n is D)
 
   paragraph-separate : (p : Paragraph) → EachOnce (paragraphNumbers p) → SizedParagraph p → Separate (paragraphItems p D) skip Any
@@ -364,17 +363,17 @@ module _ (D : Dictionary) (d : FewRecorded D) where
       )
   paragraph-separate (constraint n p) o f = pred-separate p (globals D) skip Any Nothing (start (predNumbers p) []) (off-skip (predNumbers p)) (once-left (predNumbers p) (n ∷ []) o) f
 
-alone-any : Alone skip Any Any
+alone-any : Alone skip Any (Any finite)
 alone-any = record { own = λ σ h. tt; all = λ σ τ h o. tt; any = λ σ σ′ τ g h j. tt }
 
 paragraphs-alone : (ps : List Paragraph) (D : Dictionary) → EachOnce (paragraphsNumbers ps) → SizedParagraphs ps → FewRecorded D → PiecesAlone ps D
 unfolding PiecesAlone paragraphsNumbers SizedParagraphs
 paragraphs-alone [] D o f d = tt
 paragraphs-alone (p ∷ ps) D o f d = (
-  by-own (paragraphItems p D) skip Any Any (paragraph-separate D d p (once-left (paragraphNumbers p) (paragraphsNumbers ps) o) (f .0)) alone-any,
+  by-own (paragraphItems p D) skip Any (Any finite) pairsEnd standing-start (paragraph-separate D d p (once-left (paragraphNumbers p) (paragraphsNumbers ps) o) (f .0)) alone-any,
   λ τ h. paragraphs-alone ps (extend p D τ) (once-right (paragraphNumbers p) (paragraphsNumbers ps) o) (f .1) (extend-few p D τ (f .2) d),
 )
 
--- 33, 34 AND 35 REST ON THEIR PIECE'S OWN EQUATIONS, in every readable document.
+-- 33, 34, 35 AND 39 REST ON THEIR PIECE'S OWN EQUATIONS, in every readable document.
 pub pieces-alone : (doc : List ℕ) → readOf doc ≡ Readable → PiecesAlone (paragraphsOf (treeOf doc)) blank
 pieces-alone doc r = paragraphs-alone (paragraphsOf (treeOf doc)) blank (paragraphs-once doc r) (tree-sized doc r) (unfold FewRecorded in tt)

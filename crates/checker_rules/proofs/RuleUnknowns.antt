@@ -11,6 +11,7 @@ use Rattle.reader_rules.specs.Tree.{Expr, reference, number, integers, set, tup
 use Rattle.reader_rules.specs.Tree.{comprehension, Exprs, none, more, Pred, truth, equal, member, atMost, not, connected, quantified, Text, text, Lines}
 use Rattle.reader_rules.specs.Tree.{end, declaration, inclusion, Include, include, Schema, plain, from, both, exprNode, exprsLength, includeNode}
 use Rattle.reader_rules.specs.TreeNumbers.{exprNumbers, exprsNumbers, predNumbers, textNumbers, linesNumbers, includeNumbers, schemaNumbers}
+use Rattle.types_rules.specs.Equations.{Pairs, AllP}
 use Rattle.types_rules.specs.Types.{Term, nil, Each, Eachs}
 use Rattle.types_rules.specs.Instance.{instance}
 use Rattle.checker_rules.specs.Strokes.{decorate, takes}
@@ -22,7 +23,7 @@ use Rattle.checker_rules.specs.Signatures.{merge, declare, someStroked, 
 use Rattle.checker_rules.specs.Scopes.{Scope, nameAt, schemaNamed, includeSignature}
 use Rattle.checker_rules.specs.Scopes.{inside, schemaSignature}
 use Rattle.checker_rules.specs.Conditions.{refuseIf, sameType, mergeDeclared, mergeNames, newName, newNames, smallTypes, fewNames, typeOf, typesOf, typed}
-use Rattle.checker_rules.specs.Conditions.{arePowers, areMembers}
+use Rattle.checker_rules.specs.Conditions.{powers, arePowers, members, areMembers}
 use Rattle.checker_rules.specs.Rules.{referenceItems, thetaName, thetaNames, typeInScope, thetaSignature, thetaItems, includeRule, exprItems}
 use Rattle.checker_rules.specs.Rules.{exprsItems, predItems, textItems, linesItems, includeItems, actualItems, schemaItems}
 use Rattle.checker_rules.proofs.SignatureTerms.{HavingOption, none-having, merge-having, declare-having, termIn-having}
@@ -104,21 +105,36 @@ module _ (N : ℕ → Type 0) where
   types-over none h = tt
   types-over (more a xs) h = (root-own a (all-left (Own N) (exprNumbers a) (exprsNumbers xs) h) 0 (omega arith), types-over xs (all-right (Own N) (exprNumbers a) (exprsNumbers xs) h))
 
+  abbrev PairsOver : Pairs Term → Type 0
+  PairsOver es = AllP (λ a b. Each N a × Each N b) es
+
+  equations-powers : (n : ℕ) (xs : Exprs) (k : ℕ) → Own N n → AllIn (Own N) (exprsNumbers xs) → k + exprsLength xs ≤ 7 → PairsOver (powers n xs k)
+  unfolding powers Each exprsNumbers exprsLength
+  equations-powers n none k o h l = tt
+  equations-powers n (more a xs) k o h l = (
+    (root-own a (all-left (Own N) (exprNumbers a) (exprsNumbers xs) h) 0 (omega arith), (o k (omega arith), tt)),
+    equations-powers n xs (suc k) o (all-right (Own N) (exprNumbers a) (exprsNumbers xs) h) (omega arith),
+  )
+
   powers-over : (n : ℕ) (xs : Exprs) (k : ℕ) → Own N n → AllIn (Own N) (exprsNumbers xs) → k + exprsLength xs ≤ 7 → Over N (arePowers n xs k)
-  unfolding arePowers Over Each exprsNumbers exprsLength
-  powers-over n none k o h l = tt
-  powers-over n (more a xs) k o h l =
-      ((o k (omega arith), (root-own a (all-left (Own N) (exprNumbers a) (exprsNumbers xs) h) 0 (omega arith), (o k (omega arith), tt))), powers-over n xs (suc k) o (all-right (Own N) (exprNumbers a) (exprsNumbers xs) h) (omega arith))
+  unfolding arePowers Over
+  powers-over n xs k o h l = (fresh-over N n k (exprsLength xs) o l, equations-powers n xs k o h l)
+
+  equations-members : (n : ℕ) (xs : Exprs) → Own N n → AllIn (Own N) (exprsNumbers xs) → PairsOver (members n xs)
+  unfolding members Each exprsNumbers
+  equations-members n none o h = tt
+  equations-members n (more a xs) o h = (
+    (root-own a (all-left (Own N) (exprNumbers a) (exprsNumbers xs) h) 0 (omega arith), o 1 (omega arith)),
+    equations-members n xs o (all-right (Own N) (exprNumbers a) (exprsNumbers xs) h),
+  )
 
   members-over : (n : ℕ) (xs : Exprs) → Own N n → AllIn (Own N) (exprsNumbers xs) → Over N (areMembers n xs)
-  unfolding areMembers Over Each exprsNumbers
-  members-over n none o h = tt
-  members-over n (more a xs) o h =
-      ((root-own a (all-left (Own N) (exprNumbers a) (exprsNumbers xs) h) 0 (omega arith), o 1 (omega arith)), members-over n xs o (all-right (Own N) (exprNumbers a) (exprsNumbers xs) h))
+  unfolding areMembers Over
+  members-over n xs o h = equations-members n xs o h
 
   typed-over : (n : ℕ) (t : Term) → Own N n → Each N t → Over N (typed n t)
   unfolding Over Each
-  typed-over n t o h = (o 0 (omega arith), (o 0 (omega arith), h))
+  typed-over n t o h = (o 0 (omega arith), ((o 0 (omega arith), h), tt))
 
   -- ---- Ref, Theta, Include
   reference-over : (n : ℕ) (xs : Exprs) (m : Named) → Own N n → AllIn (Own N) (exprsNumbers xs) → NamedOver N m → Over N (referenceItems n xs m)
@@ -203,13 +219,13 @@ module _ (N : ℕ → Type 0) where
     expr-over (power n a) Γ h f s =
         let l = all-left (Own N) (exprNumbers a) (n ∷ []) h in
         let o = all-right (Own N) (exprNumbers a) (n ∷ []) h .0 in
-        (expr-over a Γ l f s, ((o 1 (omega arith), (root-own a l 0 (omega arith), (o 1 (omega arith), tt))), typed-over n (powerOf (powerOf (unknownAt n 1))) o ((o 1 (omega arith), tt), tt)))
+        (expr-over a Γ l f s, ((o 1 (omega arith), ((root-own a l 0 (omega arith), (o 1 (omega arith), tt)), tt)), typed-over n (powerOf (powerOf (unknownAt n 1))) o ((o 1 (omega arith), tt), tt)))
     expr-over (application n a b) Γ h f s =
         let z = all-left (Own N) (exprNumbers a ++ exprNumbers b) (n ∷ []) h in
         let l = all-left (Own N) (exprNumbers a) (exprNumbers b) z in
         let r = all-right (Own N) (exprNumbers a) (exprNumbers b) z in
         let o = all-right (Own N) (exprNumbers a ++ exprNumbers b) (n ∷ []) h .0 in
-        (expr-over a Γ l (f .0) s, (expr-over b Γ r (f .1) s, (o 0 (omega arith), (root-own a l 0 (omega arith), ((root-own b r 0 (omega arith), (o 0 (omega arith), tt)), tt)))))
+        (expr-over a Γ l (f .0) s, (expr-over b Γ r (f .1) s, (o 0 (omega arith), ((root-own a l 0 (omega arith), ((root-own b r 0 (omega arith), (o 0 (omega arith), tt)), tt)), tt))))
     expr-over (selection n a i) Γ h f s =
         let l = all-left (Own N) (exprNumbers a) (n ∷ []) h in
         let o = all-right (Own N) (exprNumbers a) (n ∷ []) h .0 in
@@ -225,7 +241,7 @@ module _ (N : ℕ → Type 0) where
         let l = all-left (Own N) (exprNumbers a) (exprNumbers b) z in
         let r = all-right (Own N) (exprNumbers a) (exprNumbers b) z in
         let o = all-right (Own N) (exprNumbers a ++ exprNumbers b) (n ∷ []) h .0 in
-        (expr-over a Γ l (f .0) s, (expr-over b Γ r (f .1) s, ((root-own a l 0 (omega arith), tt), ((root-own b r 0 (omega arith), tt), typed-over n integer o tt))))
+        (expr-over a Γ l (f .0) s, (expr-over b Γ r (f .1) s, (((root-own a l 0 (omega arith), tt), ((root-own b r 0 (omega arith), tt), tt)), typed-over n integer o tt)))
     expr-over (comprehension n t a) Γ h f s =
         let z = all-left (Own N) (textNumbers t ++ exprNumbers a) (n ∷ []) h in
         let l = all-left (Own N) (textNumbers t) (exprNumbers a) z in
@@ -244,17 +260,17 @@ module _ (N : ℕ → Type 0) where
         let z = all-left (Own N) (exprNumbers a ++ exprNumbers b) (n ∷ []) h in
         let l = all-left (Own N) (exprNumbers a) (exprNumbers b) z in
         let r = all-right (Own N) (exprNumbers a) (exprNumbers b) z in
-        (expr-over a Γ l (f .0) s, (expr-over b Γ r (f .1) s, (root-own a l 0 (omega arith), root-own b r 0 (omega arith))))
+        (expr-over a Γ l (f .0) s, (expr-over b Γ r (f .1) s, ((root-own a l 0 (omega arith), root-own b r 0 (omega arith)), tt)))
     pred-over (member n a b) Γ h f s =
         let z = all-left (Own N) (exprNumbers a ++ exprNumbers b) (n ∷ []) h in
         let l = all-left (Own N) (exprNumbers a) (exprNumbers b) z in
         let r = all-right (Own N) (exprNumbers a) (exprNumbers b) z in
-        (expr-over a Γ l (f .0) s, (expr-over b Γ r (f .1) s, ((root-own a l 0 (omega arith), tt), root-own b r 0 (omega arith))))
+        (expr-over a Γ l (f .0) s, (expr-over b Γ r (f .1) s, (((root-own a l 0 (omega arith), tt), root-own b r 0 (omega arith)), tt)))
     pred-over (atMost n a b) Γ h f s =
         let z = all-left (Own N) (exprNumbers a ++ exprNumbers b) (n ∷ []) h in
         let l = all-left (Own N) (exprNumbers a) (exprNumbers b) z in
         let r = all-right (Own N) (exprNumbers a) (exprNumbers b) z in
-        (expr-over a Γ l (f .0) s, (expr-over b Γ r (f .1) s, ((root-own a l 0 (omega arith), tt), (root-own b r 0 (omega arith), tt))))
+        (expr-over a Γ l (f .0) s, (expr-over b Γ r (f .1) s, ((root-own a l 0 (omega arith), tt), ((root-own b r 0 (omega arith), tt), tt))))
     pred-over (not n p) Γ h f s = pred-over p Γ (all-left (Own N) (predNumbers p) (n ∷ []) h) f s
     pred-over (connected n o p q) Γ h f s =
         let z = all-left (Own N) (predNumbers p ++ predNumbers q) (n ∷ []) h in
@@ -277,7 +293,7 @@ module _ (N : ℕ → Type 0) where
         let l = all-left (Own N) (exprNumbers a) (n ∷ []) z in
         let o = all-right (Own N) (exprNumbers a) (n ∷ []) z .0 in
         let t = o 0 (omega arith) in (
-          (expr-over a Γ l (f .0) s, (t, (root-own a l 0 (omega arith), (t, tt)))),
+          (expr-over a Γ l (f .0) s, (t, ((root-own a l 0 (omega arith), (t, tt)), tt))),
           (
             (declared-over n is (unknownAt n 0) r t k, newNames-over n is G),
             ((t, few-over n (declare is (unknownAt n 0) r)), lines-over ls Γ G (declare is (unknownAt n 0) r) (all-right (Own N) (exprNumbers a ++ (n ∷ [])) (linesNumbers ls) h) (f .1) s (declare-having (Each N) is (unknownAt n 0) r t k)),
@@ -306,7 +322,7 @@ module _ (N : ℕ → Type 0) where
     actuals-over (more a xs) n k Γ o h l f s =
         let m = longer k a xs l in
         let e = all-left (Own N) (exprNumbers a) (exprsNumbers xs) h in
-        ((expr-over a Γ e (f .0) s, (o k (m .0), (root-own a e 0 (omega arith), (o k (m .0), tt)))), actuals-over xs n (suc k) Γ o (all-right (Own N) (exprNumbers a) (exprsNumbers xs) h) (m .1) (f .1) s)
+        ((expr-over a Γ e (f .0) s, (o k (m .0), ((root-own a e 0 (omega arith), (o k (m .0), tt)), tt))), actuals-over xs n (suc k) Γ o (all-right (Own N) (exprNumbers a) (exprsNumbers xs) h) (m .1) (f .1) s)
 
   pub schema-over : (x : Schema) (Γ : Scope) → AllIn (Own N) (schemaNumbers x) → SizedSchema x → ScopeOver N Γ → Over N (schemaItems x Γ)
   unfolding schemaItems schemaNumbers SizedSchema Over

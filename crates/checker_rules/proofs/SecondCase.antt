@@ -12,8 +12,7 @@ use Rattle.reader_rules.specs.Reading.{readOf}
 use Rattle.reader_rules.specs.Tree.{Paragraph}
 use Rattle.reader_rules.specs.Decode.{treeOf}
 use Rattle.types_rules.proofs.Terms.{bool-no}
-use Rattle.checker_rules.specs.Unknowns.{Valuation}
-use Rattle.checker_rules.specs.Items.{And, Passes}
+use Rattle.checker_rules.specs.Items.{And, Passes, Typings}
 use Rattle.checker_rules.specs.Dictionary.{Dictionary, blank, Named, unnamed, ofLocal, ofGlobal, nameIn}
 use Rattle.checker_rules.specs.Conditions.{newName, newNames}
 use Rattle.checker_rules.specs.Globals.{Way, written, included, Declares, History, paragraphsIn, dictionaryFrom, Earlier, isNamed, isGlobal}
@@ -45,7 +44,7 @@ second-case doc r before p after e m i w h = (λ g. to (global-from before blank
     to (inr q) = absurd (none-yet q)
 
 -- And that is the test of the rules: 36 is given at n exactly where one of the identifiers is global already.
-pub new-names : (n : ℕ) (is : List ℕ) (D : Dictionary) (P : Valuation → Type 0) → Passes (newNames n is D) P ↔ ((i : ℕ) → has i is ≡ true → isGlobal i D ≡ false)
+pub new-names : (n : ℕ) (is : List ℕ) (D : Dictionary) (P : Typings) → Passes (newNames n is D) P ↔ ((i : ℕ) → has i is ≡ true → isGlobal i D ≡ false)
 unfolding newNames Passes has
 new-names n [] D P = (λ h i q. absurd (bool-no false q refl), λ h. tt)
 new-names n (j ∷ is) D P =
@@ -80,7 +79,7 @@ new-names n (j ∷ is) D P =
 pub second-case-rule : (doc : List ℕ) → readOf doc ≡ Readable → (before : History) (p : Paragraph) (after : List Paragraph)
     → paragraphsOf (treeOf doc) ≡ paragraphsIn before ++ (p ∷ after)
     → (m : ℕ) (w : Way) (is : List ℕ) → ((i : ℕ) → has i is ≡ true → Declares p (dictionaryFrom before blank) m i w)
-    → (P : Valuation → Type 0) → Passes (newNames m is (dictionaryFrom before blank)) P ↔ ((i : ℕ) → has i is ≡ true → TwiceGlobal before i w → ⊥)
+    → (P : Typings) → Passes (newNames m is (dictionaryFrom before blank)) P ↔ ((i : ℕ) → has i is ≡ true → TwiceGlobal before i w → ⊥)
 second-case-rule doc r before p after e m w is h P =
     let n = new-names m is (dictionaryFrom before blank) P in (
       λ q i s t. bool-no (isGlobal i (dictionaryFrom before blank)) (second-case doc r before p after e m i w (h i s) .1 t) (n .0 q i s),

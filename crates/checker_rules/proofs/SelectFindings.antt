@@ -3,7 +3,7 @@ use mathlib.Core.Bool.{Bool, true, false, cond}
 use lib.Dec.{eqb}
 use Rattle.types_rules.specs.Types.{nil, under, Each, integerType}
 use Rattle.types_rules.specs.Instance.{instance}
-use Rattle.checker_rules.specs.Items.{Items, refusal, _⨾_, fresh, small, piece, Any, And, Passes}
+use Rattle.checker_rules.specs.Items.{Items, refusal, _⨾_, fresh, small, piece, Any, And, Passes, Typings}
 use Rattle.checker_rules.specs.Dictionary.{NamedSchema, noSchema, aSchema, nameEntry, Dictionary, blank, _▸_}
 use Rattle.checker_rules.specs.Signatures.{componentsOf, wrongNames, Signature, noNames, naming, namesOf, merge, declare}
 use Rattle.checker_rules.specs.Conditions.{refuseIf, mergeDeclared, mergeNames, newNames, smallTypes, fewNames, typeOf, isPower, arePowers, areMembers}
@@ -35,7 +35,7 @@ use Rattle.checker_rules.proofs.ItemForms.{bare-selects, node-selects, 
 use Rattle.checker_rules.proofs.NewUnknowns.{Not, select-open, EachOnce, once-left, once-right, has-right, apart, turned, own-not, New, new-left, new-right, new-after, new-inside, Some, some-after, free-fresh, some-fresh, NewSig, new-with, new-declaration, sig-declaration, new-inclusion, sig-inclusion, other-own, actual-over}
 
 -- ---- an Include
-rule-selects : (f : NamedSchema) (i : Include) (actuals : Items) (P : Valuation → Type 0) → NoSelect33 actuals P → NoSelect33 (includeRule f i actuals) P
+rule-selects : (f : NamedSchema) (i : Include) (actuals : Items) (P : Typings) → NoSelect33 actuals P → NoSelect33 (includeRule f i actuals) P
 unfolding includeRule NoSelect33
 rule-selects noSchema (include n s k xs rs) actuals P h = tt
 rule-selects (aSchema p g) (include n s k xs rs) actuals P h = go (eqb (exprsLength xs) p)
@@ -46,10 +46,10 @@ rule-selects (aSchema p g) (include n s k xs rs) actuals P h = go (eqb (exprsLen
 
 -- what is claimed of an expression in its scope
 abbrev Selects : Expr → Scope → Type 1
-Selects a Γ = (P : Valuation → Type 0) → New (exprNumbers a) P Γ → EachOnce (exprNumbers a) → SizedExpr a → Some P → NoSelect33 (exprItems a Γ) P
+Selects a Γ = (P : Typings) → New (exprNumbers a) P Γ → EachOnce (exprNumbers a) → SizedExpr a → Some P → NoSelect33 (exprItems a Γ) P
 
 -- two expressions in turn
-pair-selects : (a b : Expr) (Γ : Scope) → Selects a Γ → Selects b Γ → (P : Valuation → Type 0) → New (exprNumbers a ++ exprNumbers b) P Γ → EachOnce (exprNumbers a ++ exprNumbers b) → SizedExpr a → SizedExpr b → Some P
+pair-selects : (a b : Expr) (Γ : Scope) → Selects a Γ → Selects b Γ → (P : Typings) → New (exprNumbers a ++ exprNumbers b) P Γ → EachOnce (exprNumbers a ++ exprNumbers b) → SizedExpr a → SizedExpr b → Some P
     → NoSelect33 (exprItems a Γ) P × (Passes (exprItems a Γ) P → NoSelect33 (exprItems b Γ) (And P (exprItems a Γ)))
 pair-selects a b Γ x y P w o f g s =
     let A = exprNumbers a in
@@ -62,7 +62,7 @@ pair-selects a b Γ x y P w o f g s =
 mutual
   unfolding exprItems exprNumbers SizedExpr NoSelect33
 
-  expr-selects : (a : Expr) (Γ : Scope) (P : Valuation → Type 0) → New (exprNumbers a) P Γ → EachOnce (exprNumbers a) → SizedExpr a → Some P → NoSelect33 (exprItems a Γ) P
+  expr-selects : (a : Expr) (Γ : Scope) (P : Typings) → New (exprNumbers a) P Γ → EachOnce (exprNumbers a) → SizedExpr a → Some P → NoSelect33 (exprItems a Γ) P
   expr-selects (reference n i xs) Γ P w o f s = (
     exprs-selects xs Γ P (new-left (exprsNumbers xs) (n ∷ []) P Γ w) (once-left (exprsNumbers xs) (n ∷ []) o) f s,
     λ p. node-selects (referenceItems n xs (nameAt i Γ)) (And P (exprsItems xs Γ)) (reference-node n xs (nameAt i Γ)),
@@ -89,7 +89,7 @@ mutual
       let d = apart A (n ∷ []) o in
       let v = new-after A (n ∷ []) (exprItems a Γ) P Γ d (λ N h k. expr-over N a Γ h f k) (new-right A (n ∷ []) P Γ w) n (first-has n []) in
       let x = slot n 0 in
-      let Q : Valuation → Type 0 = And P (exprItems a Γ) in (
+      let Q : Typings = And P (exprItems a Γ) in (
         expr-selects a Γ P (new-left A (n ∷ []) P Γ w) (once-left A (n ∷ []) o) f s,
         λ p. (
           tt,
@@ -104,7 +104,7 @@ mutual
   )
   expr-selects (arithmetic n c a b) Γ P w o f s =
       let t = pair-selects a b Γ (λ Q w o f s. expr-selects a Γ Q w o f s) (λ Q w o f s. expr-selects b Γ Q w o f s) P (new-left (exprNumbers a ++ exprNumbers b) (n ∷ []) P Γ w) (once-left (exprNumbers a ++ exprNumbers b) (n ∷ []) o) (f .0) (f .1) s in
-      (t .0, λ p. (t .1 p, λ q. (tt, λ q. (tt, λ q. (tt, λ q. tt)))))
+      (t .0, λ p. (t .1 p, λ q. (tt, λ q. (tt, λ q. tt))))
   expr-selects (comprehension n t a) Γ P w o f s =
       let T = textNumbers t in
       let A = exprNumbers a in
@@ -121,7 +121,7 @@ mutual
         ),
       )
 
-  exprs-selects : (xs : Exprs) (Γ : Scope) (P : Valuation → Type 0) → New (exprsNumbers xs) P Γ → EachOnce (exprsNumbers xs) → SizedExprs xs → Some P → NoSelect33 (exprsItems xs Γ) P
+  exprs-selects : (xs : Exprs) (Γ : Scope) (P : Typings) → New (exprsNumbers xs) P Γ → EachOnce (exprsNumbers xs) → SizedExprs xs → Some P → NoSelect33 (exprsItems xs Γ) P
   exprs-selects none Γ P w o f s = tt
   exprs-selects (more a xs) Γ P w o f s =
       let A = exprNumbers a in
@@ -130,7 +130,7 @@ mutual
         λ p. exprs-selects xs Γ (And P (exprItems a Γ)) (new-after A B (exprItems a Γ) P Γ (apart A B o) (λ N h k. expr-over N a Γ h (f .0) k) (new-right A B P Γ w)) (once-right A B o) (f .1) (some-after (exprItems a Γ) P s p),
       )
 
-  pred-selects : (p : Pred) (Γ : Scope) (P : Valuation → Type 0) → New (predNumbers p) P Γ → EachOnce (predNumbers p) → SizedPred p → Some P → NoSelect33 (predItems p Γ) P
+  pred-selects : (p : Pred) (Γ : Scope) (P : Typings) → New (predNumbers p) P Γ → EachOnce (predNumbers p) → SizedPred p → Some P → NoSelect33 (predItems p Γ) P
   pred-selects (truth n) Γ P w o f s = tt
   pred-selects (equal n a b) Γ P w o f s =
       let t = pair-selects a b Γ (λ Q w o f s. expr-selects a Γ Q w o f s) (λ Q w o f s. expr-selects b Γ Q w o f s) P (new-left (exprNumbers a ++ exprNumbers b) (n ∷ []) P Γ w) (once-left (exprNumbers a ++ exprNumbers b) (n ∷ []) o) (f .0) (f .1) s in
@@ -140,7 +140,7 @@ mutual
       (t .0, λ p. (t .1 p, λ q. tt))
   pred-selects (atMost n a b) Γ P w o f s =
       let t = pair-selects a b Γ (λ Q w o f s. expr-selects a Γ Q w o f s) (λ Q w o f s. expr-selects b Γ Q w o f s) P (new-left (exprNumbers a ++ exprNumbers b) (n ∷ []) P Γ w) (once-left (exprNumbers a ++ exprNumbers b) (n ∷ []) o) (f .0) (f .1) s in
-      (t .0, λ p. (t .1 p, λ q. (tt, λ q. tt)))
+      (t .0, λ p. (t .1 p, λ q. tt))
   pred-selects (not n p) Γ P w o f s = pred-selects p Γ P (new-left (predNumbers p) (n ∷ []) P Γ w) (once-left (predNumbers p) (n ∷ []) o) f s
   pred-selects (connected n c p q) Γ P w o f s =
       let A = predNumbers p in
@@ -163,7 +163,7 @@ mutual
             (once-right T A u) (f .1) (some-after (textItems t Γ blank) P s h),
       )
 
-  text-selects : (t : Text) (Γ : Scope) (G : Dictionary) (P : Valuation → Type 0) → New (textNumbers t) P Γ → EachOnce (textNumbers t) → SizedText t → Some P → NoSelect33 (textItems t Γ G) P
+  text-selects : (t : Text) (Γ : Scope) (G : Dictionary) (P : Typings) → New (textNumbers t) P Γ → EachOnce (textNumbers t) → SizedText t → Some P → NoSelect33 (textItems t Γ G) P
   text-selects (text n p ls) Γ G P w o f s =
       let A = predNumbers p in
       let L = linesNumbers ls in
@@ -178,7 +178,7 @@ mutual
             (once-left A L u) (f .0) (some-after t P s h),
       )
 
-  lines-selects : (ls : Lines) (Γ : Scope) (G : Dictionary) (r : Signature) (P : Valuation → Type 0) → New (linesNumbers ls) P Γ → NewSig (linesNumbers ls) r → EachOnce (linesNumbers ls) → SizedLines ls → Some P
+  lines-selects : (ls : Lines) (Γ : Scope) (G : Dictionary) (r : Signature) (P : Typings) → New (linesNumbers ls) P Γ → NewSig (linesNumbers ls) r → EachOnce (linesNumbers ls) → SizedLines ls → Some P
       → NoSelect33 (linesItems ls Γ G r) P
   lines-selects end Γ G r P w k o f s = tt
   lines-selects (declaration n a is ls) Γ G r P w k o f s =
@@ -223,13 +223,13 @@ mutual
         ),
       )
 
-  include-selects : (i : Include) (Γ : Scope) (P : Valuation → Type 0) → New (includeNumbers i) P Γ → EachOnce (includeNumbers i) → SizedInclude i → Some P → NoSelect33 (includeItems i Γ) P
+  include-selects : (i : Include) (Γ : Scope) (P : Typings) → New (includeNumbers i) P Γ → EachOnce (includeNumbers i) → SizedInclude i → Some P → NoSelect33 (includeItems i Γ) P
   include-selects (include n c k xs rs) Γ P w o f s =
       let X = exprsNumbers xs in
       rule-selects (schemaNamed c Γ) (include n c k xs rs) (actualItems xs n 1 Γ) P
       (actuals-selects xs n 1 Γ P (λ q. apart X (n ∷ []) o n q (first-has n [])) (omega (arith, f .0)) (new-left X (n ∷ []) P Γ w) (once-left X (n ∷ []) o) (f .1) s)
 
-  actuals-selects : (xs : Exprs) (n k : ℕ) (Γ : Scope) (P : Valuation → Type 0) → (has n (exprsNumbers xs) ≡ true → ⊥) → k + exprsLength xs ≤ 7 → New (exprsNumbers xs) P Γ → EachOnce (exprsNumbers xs) → SizedExprs xs → Some P
+  actuals-selects : (xs : Exprs) (n k : ℕ) (Γ : Scope) (P : Typings) → (has n (exprsNumbers xs) ≡ true → ⊥) → k + exprsLength xs ≤ 7 → New (exprsNumbers xs) P Γ → EachOnce (exprsNumbers xs) → SizedExprs xs → Some P
       → NoSelect33 (actualItems xs n k Γ) P
   actuals-selects none n k Γ P h l w o f s = tt
   actuals-selects (more a xs) n k Γ P h l w o f s =
@@ -245,7 +245,7 @@ mutual
             (once-right A B o) (f .1) (some-after x P s p),
       )
 
-schema-selects : (x : Schema) (Γ : Scope) (P : Valuation → Type 0) → New (schemaNumbers x) P Γ → EachOnce (schemaNumbers x) → SizedSchema x → Some P → NoSelect33 (schemaItems x Γ) P
+schema-selects : (x : Schema) (Γ : Scope) (P : Typings) → New (schemaNumbers x) P Γ → EachOnce (schemaNumbers x) → SizedSchema x → Some P → NoSelect33 (schemaItems x Γ) P
 unfolding schemaItems schemaNumbers SizedSchema NoSelect33
 schema-selects (plain t) Γ P w o f s = text-selects t Γ blank P w o f s
 schema-selects (from i) Γ P w o f s =

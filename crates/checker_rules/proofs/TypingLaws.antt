@@ -16,18 +16,19 @@ use Rattle.reader_rules.specs.Tree.{end, declaration, inclusion, Include, inclu
 use Rattle.reader_rules.specs.Tree.{abbreviation, constraint, exprNode, exprsLength, includeNode}
 use Rattle.types_rules.specs.Former.{Former, int, given as givenFormer, parameter, power as powerFormer, product as productFormer, binding}
 use Rattle.types_rules.specs.Types.{Ty, node, Tys, tnil, tcons, Term, Terms, nil, cons, under, unders}
+use Rattle.types_rules.specs.Equations.{Solves}
 use Rattle.types_rules.specs.Instance.{nth, actual, instanceFormer, instance, instances}
 use Rattle.types_rules.proofs.Instance.{instance-none}
 use Rattle.types_rules.proofs.Terms.{bool-no}
 use Rattle.checker_rules.specs.Strokes.{decorate, takes}
 use Rattle.checker_rules.specs.Unknowns.{Valuation, slot, unknownAt, row}
-use Rattle.checker_rules.specs.Items.{Items, _⨾_, refusal, Meets}
+use Rattle.checker_rules.specs.Items.{Items, _⨾_, refusal, Meets, MeetsIn}
 use Rattle.checker_rules.specs.Dictionary.{Dictionary, blank, Named, unnamed, ofLocal, ofGlobal, nameIn, NamedSchema, noSchema, aSchema}
 use Rattle.checker_rules.specs.Signatures.{Signature, noNames, naming, countNames, namesOf, termsOf, bindingOf, termIn, hasName, merge, declare}
 use Rattle.checker_rules.specs.Signatures.{strokeAll, someStroked, hasOld, wrongOld, wrongNames}
 use Rattle.checker_rules.specs.Scopes.{Scope, globals, nameAt, schemaNamed, withParameters, includeSignature, inside, schemaSignature}
 use Rattle.checker_rules.specs.Conditions.{refuseIf, sameType, mergeDeclared, mergeNames, newName, newNames, smallTypes, fewNames, typesOf, arePowers}
-use Rattle.checker_rules.specs.Conditions.{areMembers, freshRow, typed}
+use Rattle.checker_rules.specs.Conditions.{powers, members, areMembers, freshRow, typed}
 use Rattle.checker_rules.specs.Rules.{referenceItems, thetaName, thetaNames, typeInScope, thetaSignature, thetaItems, includeRule, exprItems, exprsItems}
 use Rattle.checker_rules.specs.Rules.{predItems, textItems, linesItems, includeItems, actualItems, schemaItems, paragraphItems}
 use Rattle.checker_rules.specs.Globals.{isNamed, isGlobal}
@@ -167,7 +168,7 @@ module _ (τ : Valuation) where
 
   -- ---- members, operands and actuals
   members-law : (n : ℕ) (xs : Exprs) → Meets (areMembers n xs) τ ↔ AllOf τ (τ (slot n 1)) xs
-  unfolding areMembers Meets under AllOf
+  unfolding areMembers members MeetsIn under AllOf
   members-law n none = (λ h. tt, λ h. tt)
   members-law n (more a xs) = (λ h. (h .0, members-law n xs .0 (h .1)), λ h. (h .0, members-law n xs .1 (h .1)))
 
@@ -176,10 +177,10 @@ module _ (τ : Valuation) where
   types-in none = refl
   types-in (more a xs) = ap (tcons (typeIn τ a)) (types-in xs)
 
-  powers-law : (n : ℕ) (xs : Exprs) (k : ℕ) → Meets (arePowers n xs k) τ ↔ Powers τ xs (chosen τ n k (exprsLength xs))
-  unfolding arePowers Meets under chosen exprsLength Powers
-  powers-law n none k = (λ h. tt, λ h. tt)
-  powers-law n (more a xs) k = (λ h. (h .0 .1, powers-law n xs (suc k) .0 (h .1)), λ h. ((tt, h .0), powers-law n xs (suc k) .1 (h .1)))
+  powers-each : (n : ℕ) (xs : Exprs) (k : ℕ) → Solves (under τ) (powers n xs k) ↔ Powers τ xs (chosen τ n k (exprsLength xs))
+  unfolding powers under chosen exprsLength Powers
+  powers-each n none k = (λ h. tt, λ h. tt)
+  powers-each n (more a xs) k = (λ h. (h .0, powers-each n xs (suc k) .0 (h .1)), λ h. (h .0, powers-each n xs (suc k) .1 (h .1)))
 
   pub powers-count : (n : ℕ) (xs : Exprs) (k p : ℕ) → Powers τ xs (chosen τ n k p) → exprsLength xs ≡ p
   unfolding chosen exprsLength Powers
@@ -189,19 +190,23 @@ module _ (τ : Valuation) where
   powers-count n (more a xs) k (suc p) h = ap suc (powers-count n xs (suc k) p (h .1))
 
   row-met : (n k p : ℕ) → Meets (freshRow n k p) τ
-  unfolding freshRow Meets
+  unfolding freshRow MeetsIn
   row-met n k zero = tt
   row-met n k (suc p) = (tt, row-met n (suc k) p)
 
+  powers-law : (n : ℕ) (xs : Exprs) (k : ℕ) → Meets (arePowers n xs k) τ ↔ Powers τ xs (chosen τ n k (exprsLength xs))
+  unfolding arePowers MeetsIn
+  powers-law n xs k = (λ h. powers-each n xs k .0 (h .1), λ h. (row-met n k (exprsLength xs), powers-each n xs k .1 h))
+
   -- ---- Ref
   pub name-law : (n : ℕ) (xs : Exprs) (m : Named) → Meets (referenceItems n xs m) τ ↔ NameTyped τ n xs m
-  unfolding referenceItems Meets under NameTyped
+  unfolding referenceItems MeetsIn under NameTyped
   name-law n none unnamed = (λ h. h, λ h. h)
   name-law n (more a xs) unnamed = (λ h. h, λ h. h)
-  name-law n none (ofLocal t) = (λ h. (unfold exprsLength in refl, h .1), λ h. (tt, h .1))
+  name-law n none (ofLocal t) = (λ h. (unfold exprsLength in refl, h .1 .0), λ h. (tt, (h .1, tt)))
   name-law n (more a xs) (ofLocal t) = (λ h. absurd h, λ h. absurd (unfold exprsLength in omega (arith, h .0)))
   name-law n none (ofGlobal p g) =
-      (λ h. (inl (unfold exprsLength in refl), h .1 .1 ∙ row-put n p g), λ h. (row-met n 1 p, (tt, h .1 ∙ sym (row-put n p g))))
+      (λ h. (inl (unfold exprsLength in refl), h .1 .1 .0 ∙ row-put n p g), λ h. (row-met n 1 p, (tt, (h .1 ∙ sym (row-put n p g), tt))))
   name-law n (more a xs) (ofGlobal p g) = go (eqb (exprsLength (more a xs)) p) refl
     where
       some-actual : (exprsLength (more a xs) ≡ 0) ⊎ Powers τ (more a xs) (chosen τ n 1 p) → Powers τ (more a xs) (chosen τ n 1 p)
@@ -213,14 +218,14 @@ module _ (τ : Valuation) where
           ↔ (((exprsLength (more a xs) ≡ 0) ⊎ Powers τ (more a xs) (chosen τ n 1 p)) × (typeAt τ n ≡ put (chosen τ n 1 p) g))
       go true e =
           let q = eqb-true (exprsLength (more a xs)) p e in (
-            λ h. (inr (subst (λ z. Powers τ (more a xs) (chosen τ n 1 z)) q (powers-law n (more a xs) 1 .0 (h .0))), h .1 .1 ∙ row-put n p g),
-            λ h. (powers-law n (more a xs) 1 .1 (subst (λ z. Powers τ (more a xs) (chosen τ n 1 z)) (sym q) (some-actual (h .0))), (tt, h .1 ∙ sym (row-put n p g))),
+            λ h. (inr (subst (λ z. Powers τ (more a xs) (chosen τ n 1 z)) q (powers-law n (more a xs) 1 .0 (h .0))), h .1 .1 .0 ∙ row-put n p g),
+            λ h. (powers-law n (more a xs) 1 .1 (subst (λ z. Powers τ (more a xs) (chosen τ n 1 z)) (sym q) (some-actual (h .0))), (tt, (h .1 ∙ sym (row-put n p g), tt))),
           )
       go false e = (λ h. absurd h, λ h. absurd (bool-no (eqb (exprsLength (more a xs)) p) (eq-eqb _ _ (powers-count n (more a xs) 1 p (some-actual (h .0)))) e))
 
   -- ---- tests
   pub refuseIf-law : (b : Bool) (f n : ℕ) → Meets (refuseIf b f n) τ ↔ (b ≡ false)
-  unfolding refuseIf Meets
+  unfolding refuseIf MeetsIn
   refuseIf-law true f n = (λ h. absurd h, λ e. absurd (false≢true (sym e)))
   refuseIf-law false f n = (λ h. refl, λ e. tt)
 
@@ -229,24 +234,24 @@ module _ (τ : Valuation) where
   few-law n s = (λ h. ltb-false 16 (countNames s) (refuseIf-law _ 38 n .0 h), λ h. refuseIf-law _ 38 n .1 (le-ltb 16 (countNames s) h))
 
   pub small-law : (n : ℕ) (s : Signature) → Meets (smallTypes n s) τ ↔ SmallTypes τ s
-  unfolding smallTypes Meets SmallTypes
+  unfolding smallTypes MeetsIn SmallTypes
   small-law n noNames = (λ h. tt, λ h. tt)
   small-law n (naming i t s) = (λ h. (h .0, small-law n s .0 (h .1)), λ h. (h .0, small-law n s .1 (h .1)))
 
   -- ---- merging
   pub same-law : (n : ℕ) (t : Term) (o : Option Term) → Meets (sameType n t o) τ ↔ ((u : Term) → o ≡ some u → under τ t ≡ under τ u)
-  unfolding sameType Meets
+  unfolding sameType MeetsIn
   same-law n t (some v) = (λ h u e. let q : v ≡ u = cc in h ∙ ap (under τ) q, λ h. h v refl)
   same-law n t nothing = (λ h u e. let z : _≡_ {A = ℕ} 0 1 = cc in absurd (omega arith), λ h. tt)
 
   pub merged-law : (n : ℕ) (s r : Signature) → Meets (mergeNames n s r) τ ↔ Merged τ s r
-  unfolding mergeNames Meets Merged
+  unfolding mergeNames MeetsIn Merged
   merged-law n noNames r = (λ h. tt, λ h. tt)
   merged-law n (naming i t s) r =
       (λ h. (same-law n t (termIn i r) .0 (h .0), merged-law n s r .0 (h .1)), λ h. (same-law n t (termIn i r) .1 (h .0), merged-law n s r .1 (h .1)))
 
   pub mergedAs-law : (n : ℕ) (is : List ℕ) (t : Term) (r : Signature) → Meets (mergeDeclared n is t r) τ ↔ MergedAs τ (under τ t) is r
-  unfolding mergeDeclared Meets
+  unfolding mergeDeclared MeetsIn
   mergedAs-law n [] t r = (λ h i q. absurd (none-has i q), λ h. tt)
   mergedAs-law n (j ∷ is) t r = (
     λ h i q. to i (same-law n t (termIn j r) .0 (h .0)) (λ k. mergedAs-law n is t r .0 (h .1) i k) (which-has j i is q),
@@ -260,13 +265,13 @@ module _ (τ : Valuation) where
 
   -- ---- names that are global already
   pub new-law : (n : ℕ) (m : Named) → Meets (newName n m) τ ↔ (isNamed m ≡ false)
-  unfolding newName Meets isNamed
+  unfolding newName MeetsIn isNamed
   new-law n unnamed = (λ h. refl, λ h. tt)
   new-law n (ofLocal t) = (λ h. absurd h, λ e. absurd (false≢true (sym e)))
   new-law n (ofGlobal p g) = (λ h. absurd h, λ e. absurd (false≢true (sym e)))
 
   pub news-law : (n : ℕ) (is : List ℕ) (G : Dictionary) → Meets (newNames n is G) τ ↔ NewNames is G
-  unfolding newNames Meets
+  unfolding newNames MeetsIn
   news-law n [] G = (λ h i q. absurd (none-has i q), λ h. tt)
   news-law n (j ∷ is) G = (
     λ h i q. to i (new-law n (nameIn j G) .0 (h .0)) (λ k. news-law n is G .0 (h .1) i k) (which-has j i is q),
@@ -279,7 +284,7 @@ module _ (τ : Valuation) where
 
   -- ---- Theta
   name-scope : (b : Bool) (n : ℕ) (m : Named) → b ≡ true → Meets (thetaName b n m) τ → HasInScope τ m (under τ (typeInScope m))
-  unfolding thetaName Meets HasInScope typeInScope
+  unfolding thetaName MeetsIn HasInScope typeInScope
   name-scope false n m e h = absurd (false≢true e)
   name-scope true n unnamed e h = absurd h
   name-scope true n (ofLocal t) e h = refl
@@ -287,7 +292,7 @@ module _ (τ : Valuation) where
   name-scope true n (ofGlobal (suc p) g) e h = absurd h
 
   name-back : (b : Bool) (n : ℕ) (m : Named) (h : Ty) → HasInScope τ m h → Meets (thetaName b n m) τ × (h ≡ under τ (typeInScope m))
-  unfolding thetaName Meets HasInScope typeInScope
+  unfolding thetaName MeetsIn HasInScope typeInScope
   name-back b n unnamed h q = absurd q
   name-back false n (ofLocal t) h q = (tt, q)
   name-back true n (ofLocal t) h q = (tt, q)
@@ -297,7 +302,7 @@ module _ (τ : Valuation) where
 
   names-scope : (n k : ℕ) (s : Signature) (Γ : Scope) → (Stroked k (namesOf s) → ⊥) → Meets (thetaNames n k s Γ) τ
       → HaveInScope τ k (namesOf s) Γ (unders τ (termsOf (thetaSignature k s Γ)))
-  unfolding thetaNames Meets HaveInScope thetaSignature namesOf termsOf under
+  unfolding thetaNames MeetsIn HaveInScope thetaSignature namesOf termsOf under
   names-scope n k noNames Γ f h = tt
   names-scope n k (naming i t s) Γ f h = (
     name-scope (takes k i) n (nameAt (decorate k i) Γ) (taken (takes k i) refl) (h .0),
@@ -310,7 +315,7 @@ module _ (τ : Valuation) where
 
   names-back : (n k : ℕ) (s : Signature) (Γ : Scope) (hs : Tys) → HaveInScope τ k (namesOf s) Γ hs
       → Meets (thetaNames n k s Γ) τ × (hs ≡ unders τ (termsOf (thetaSignature k s Γ)))
-  unfolding thetaNames Meets HaveInScope thetaSignature namesOf termsOf under
+  unfolding thetaNames MeetsIn HaveInScope thetaSignature namesOf termsOf under
   names-back n k noNames Γ tnil q = (tt, refl)
   names-back n k noNames Γ (tcons h hs) q = absurd q
   names-back n k (naming i t s) Γ tnil q = absurd q
@@ -325,21 +330,21 @@ module _ (τ : Valuation) where
   theta-names k (naming i t s) Γ = ap (λ l. i ∷ l) (theta-names k s Γ)
 
   pub theta-law : (n k : ℕ) (f : NamedSchema) (Γ : Scope) → Meets (thetaItems n k f Γ) τ ↔ ThetaTyped τ n k f Γ
-  unfolding thetaItems Meets ThetaTyped under
+  unfolding thetaItems MeetsIn ThetaTyped under
   theta-law n k noSchema Γ = (λ h. h, λ h. h)
   theta-law n k (aSchema p g) Γ = (
     λ h.
         let f = unstroked (refuseIf-law (someStroked k (schemaOf g)) 37 n .0 (h .1 .1 .0)) in (
           none-left p (refuseIf-law (ltb 0 p) 32 n .0 (h .1 .0)),
           f,
-          (unders τ (termsOf (thetaSignature k (schemaOf g) Γ)), names-scope n k (schemaOf g) Γ f (h .0), h .1 .1 .1 .1 ∙ shape),
+          (unders τ (termsOf (thetaSignature k (schemaOf g) Γ)), names-scope n k (schemaOf g) Γ f (h .0), h .1 .1 .1 .1 .0 ∙ shape),
         ),
     λ h.
         let b = names-back n k (schemaOf g) Γ (h .2 .0) (h .2 .1) in (
           b .0,
           (
             refuseIf-law (ltb 0 p) 32 n .1 (le-ltb 0 p (omega (arith, h .0))),
-            (refuseIf-law (someStroked k (schemaOf g)) 37 n .1 (unmarked (h .1)), (tt, h .2 .2 ∙ ap (node (binding (schemaNames g))) (b .1) ∙ sym shape)),
+            (refuseIf-law (someStroked k (schemaOf g)) 37 n .1 (unmarked (h .1)), (tt, (h .2 .2 ∙ ap (node (binding (schemaNames g))) (b .1) ∙ sym shape, tt))),
           ),
         ),
   )
@@ -362,7 +367,7 @@ module _ (τ : Valuation) where
 
   -- ---- Include
   pub include-law : (f : NamedSchema) (i : Include) (actuals : Items) (A : Type 0) → Meets actuals τ ↔ A → Meets (includeRule f i actuals) τ ↔ SchemaTyped τ f i A
-  unfolding includeRule Meets SchemaTyped
+  unfolding includeRule MeetsIn SchemaTyped
   include-law noSchema (include n s k xs rs) actuals A e = (λ h. h, λ h. h)
   include-law (aSchema p g) (include n s k xs rs) actuals A e = go (eqb (exprsLength xs) p) refl
     where
@@ -390,46 +395,46 @@ module _ (τ : Valuation) where
 
   -- ---- a node of each kind
   mutual
-    unfolding exprItems Meets TypedExpr under exprNode
+    unfolding exprItems MeetsIn TypedExpr under exprNode
 
     pub expr-law : (a : Expr) (Γ : Scope) → Meets (exprItems a Γ) τ ↔ TypedExpr τ a Γ
     expr-law (reference n i xs) Γ =
         (λ h. (exprs-law xs Γ .0 (h .0), name-law n xs (nameAt i Γ) .0 (h .1)), λ h. (exprs-law xs Γ .1 (h .0), name-law n xs (nameAt i Γ) .1 (h .1)))
-    expr-law (number n v) Γ = (λ h. h .1, λ h. (tt, h))
-    expr-law (integers n) Γ = (λ h. h .1, λ h. (tt, h))
+    expr-law (number n v) Γ = (λ h. h .1 .0, λ h. (tt, (h, tt)))
+    expr-law (integers n) Γ = (λ h. h .1 .0, λ h. (tt, (h, tt)))
     expr-law (set n xs) Γ = (
-      λ h. (exprs-law xs Γ .0 (h .0), members-law n xs .0 (h .1 .1 .0), h .1 .1 .1 .1),
-      λ h. (exprs-law xs Γ .1 (h .0), (tt, (members-law n xs .1 (h .1), (tt, h .2)))),
+      λ h. (exprs-law xs Γ .0 (h .0), members-law n xs .0 (h .1 .1 .0), h .1 .1 .1 .1 .0),
+      λ h. (exprs-law xs Γ .1 (h .0), (tt, (members-law n xs .1 (h .1), (tt, (h .2, tt))))),
     )
     expr-law (tuple n xs) Γ = (
-      λ h. (exprs-law xs Γ .0 (h .0), h .1 .1 ∙ ap (node productFormer) (types-in xs)),
-      λ h. (exprs-law xs Γ .1 (h .0), (tt, h .1 ∙ sym (ap (node productFormer) (types-in xs)))),
+      λ h. (exprs-law xs Γ .0 (h .0), h .1 .1 .0 ∙ ap (node productFormer) (types-in xs)),
+      λ h. (exprs-law xs Γ .1 (h .0), (tt, (h .1 ∙ sym (ap (node productFormer) (types-in xs)), tt))),
     )
     expr-law (product n xs) Γ =
         let e = ap (λ gs. ℙ (node productFormer gs)) (row-chosen n 1 (exprsLength xs)) in (
-          λ h. (exprs-law xs Γ .0 (h .0), powers-law n xs 1 .0 (h .1 .0), h .1 .1 .1 ∙ e),
-          λ h. (exprs-law xs Γ .1 (h .0), (powers-law n xs 1 .1 (h .1), (tt, h .2 ∙ sym e))),
+          λ h. (exprs-law xs Γ .0 (h .0), powers-law n xs 1 .0 (h .1 .0), h .1 .1 .1 .0 ∙ e),
+          λ h. (exprs-law xs Γ .1 (h .0), (powers-law n xs 1 .1 (h .1), (tt, (h .2 ∙ sym e, tt)))),
         )
-    expr-law (power n a) Γ = (λ h. (expr-law a Γ .0 (h .0), h .1 .0 .1, h .1 .1 .1), λ h. (expr-law a Γ .1 (h .0), ((tt, h .1), (tt, h .2))))
+    expr-law (power n a) Γ = (λ h. (expr-law a Γ .0 (h .0), h .1 .0 .1 .0, h .1 .1 .1 .0), λ h. (expr-law a Γ .1 (h .0), ((tt, (h .1, tt)), (tt, (h .2, tt)))))
     expr-law (application n a b) Γ = (
-      λ h. (expr-law a Γ .0 (h .0), expr-law b Γ .0 (h .1 .0), h .1 .1 .1),
-      λ h. (expr-law a Γ .1 (h .0), (expr-law b Γ .1 (h .1), (tt, h .2))),
+      λ h. (expr-law a Γ .0 (h .0), expr-law b Γ .0 (h .1 .0), h .1 .1 .1 .0),
+      λ h. (expr-law a Γ .1 (h .0), (expr-law b Γ .1 (h .1), (tt, (h .2, tt)))),
     )
     expr-law (selection n a i) Γ = (λ h. (expr-law a Γ .0 (h .0), h .1 .1), λ h. (expr-law a Γ .1 (h .0), (tt, h .1)))
     expr-law (theta n s k) Γ = theta-law n k (schemaNamed s Γ) Γ
     expr-law (schemaSet n i) Γ =
         let e = binding-in (includeSignature i Γ) in
         let s = small-law (includeNode i) (includeSignature i Γ) in (
-          λ h. (included-law i Γ .0 (h .0), s .0 (h .1 .0), h .1 .1 .1 ∙ ap ℙ e),
-          λ h. (included-law i Γ .1 (h .0), (s .1 (h .1), (tt, h .2 ∙ sym (ap ℙ e)))),
+          λ h. (included-law i Γ .0 (h .0), s .0 (h .1 .0), h .1 .1 .1 .0 ∙ ap ℙ e),
+          λ h. (included-law i Γ .1 (h .0), (s .1 (h .1), (tt, (h .2 ∙ sym (ap ℙ e), tt)))),
         )
     expr-law (arithmetic n o a b) Γ = (
-      λ h. (expr-law a Γ .0 (h .0), expr-law b Γ .0 (h .1 .0), h .1 .1 .0, h .1 .1 .1 .0, h .1 .1 .1 .1 .1),
-      λ h. (expr-law a Γ .1 (h .0), (expr-law b Γ .1 (h .1), (h .2, (h .3, (tt, h .4))))),
+      λ h. (expr-law a Γ .0 (h .0), expr-law b Γ .0 (h .1 .0), h .1 .1 .0 .0, h .1 .1 .0 .1 .0, h .1 .1 .1 .1 .0),
+      λ h. (expr-law a Γ .1 (h .0), (expr-law b Γ .1 (h .1), ((h .2, (h .3, tt)), (tt, (h .4, tt))))),
     )
     expr-law (comprehension n t a) Γ = (
-      λ h. (text-law t Γ blank .0 (h .0), expr-law a (inside t Γ) .0 (h .1 .0), h .1 .1 .1),
-      λ h. (text-law t Γ blank .1 (h .0), (expr-law a (inside t Γ) .1 (h .1), (tt, h .2))),
+      λ h. (text-law t Γ blank .0 (h .0), expr-law a (inside t Γ) .0 (h .1 .0), h .1 .1 .1 .0),
+      λ h. (text-law t Γ blank .1 (h .0), (expr-law a (inside t Γ) .1 (h .1), (tt, (h .2, tt)))),
     )
 
     pub exprs-law : (xs : Exprs) (Γ : Scope) → Meets (exprsItems xs Γ) τ ↔ TypedExprs τ xs Γ
@@ -439,16 +444,16 @@ module _ (τ : Valuation) where
     pub pred-law : (p : Pred) (Γ : Scope) → Meets (predItems p Γ) τ ↔ TypedPred τ p Γ
     pred-law (truth n) Γ = (λ h. tt, λ h. tt)
     pred-law (equal n a b) Γ = (
-      λ h. (expr-law a Γ .0 (h .0), expr-law b Γ .0 (h .1 .0), h .1 .1),
-      λ h. (expr-law a Γ .1 (h .0), (expr-law b Γ .1 (h .1), h .2)),
+      λ h. (expr-law a Γ .0 (h .0), expr-law b Γ .0 (h .1 .0), h .1 .1 .0),
+      λ h. (expr-law a Γ .1 (h .0), (expr-law b Γ .1 (h .1), (h .2, tt))),
     )
     pred-law (member n a b) Γ = (
-      λ h. (expr-law a Γ .0 (h .0), expr-law b Γ .0 (h .1 .0), h .1 .1),
-      λ h. (expr-law a Γ .1 (h .0), (expr-law b Γ .1 (h .1), h .2)),
+      λ h. (expr-law a Γ .0 (h .0), expr-law b Γ .0 (h .1 .0), h .1 .1 .0),
+      λ h. (expr-law a Γ .1 (h .0), (expr-law b Γ .1 (h .1), (h .2, tt))),
     )
     pred-law (atMost n a b) Γ = (
-      λ h. (expr-law a Γ .0 (h .0), expr-law b Γ .0 (h .1 .0), h .1 .1 .0, h .1 .1 .1),
-      λ h. (expr-law a Γ .1 (h .0), (expr-law b Γ .1 (h .1), (h .2, h .3))),
+      λ h. (expr-law a Γ .0 (h .0), expr-law b Γ .0 (h .1 .0), h .1 .1 .0, h .1 .1 .1 .0),
+      λ h. (expr-law a Γ .1 (h .0), (expr-law b Γ .1 (h .1), (h .2, (h .3, tt)))),
     )
     pred-law (not n p) Γ = pred-law p Γ
     pred-law (connected n o p q) Γ = (λ h. (pred-law p Γ .0 (h .0), pred-law q Γ .0 (h .1)), λ h. (pred-law p Γ .1 (h .0), pred-law q Γ .1 (h .1)))
@@ -469,8 +474,8 @@ module _ (τ : Valuation) where
         let m = mergedAs-law n is (unknownAt n 0) r in
         let w = news-law n is G in
         let f = few-law n (declare is (unknownAt n 0) r) in (
-          λ h. (expr-law a Γ .0 (h .0 .0), h .0 .1 .1, m .0 (h .1 .0 .0), w .0 (h .1 .0 .1), h .1 .1 .0 .0, f .0 (h .1 .1 .0 .1), lines-law ls Γ G (declare is (unknownAt n 0) r) .0 (h .1 .1 .1)),
-          λ h. ((expr-law a Γ .1 (h .0), (tt, h .1)), ((m .1 (h .2), w .1 (h .3)), ((h .4, f .1 (h .5)), lines-law ls Γ G (declare is (unknownAt n 0) r) .1 (h .6)))),
+          λ h. (expr-law a Γ .0 (h .0 .0), h .0 .1 .1 .0, m .0 (h .1 .0 .0), w .0 (h .1 .0 .1), h .1 .1 .0 .0, f .0 (h .1 .1 .0 .1), lines-law ls Γ G (declare is (unknownAt n 0) r) .0 (h .1 .1 .1)),
+          λ h. ((expr-law a Γ .1 (h .0), (tt, (h .1, tt))), ((m .1 (h .2), w .1 (h .3)), ((h .4, f .1 (h .5)), lines-law ls Γ G (declare is (unknownAt n 0) r) .1 (h .6)))),
         )
     lines-law (inclusion i ls) Γ G r =
         let s = includeSignature i Γ in
@@ -489,12 +494,12 @@ module _ (τ : Valuation) where
     pub actuals-law : (xs : Exprs) (n k : ℕ) (Γ : Scope) → Meets (actualItems xs n k Γ) τ ↔ TypedActuals τ xs n k Γ
     actuals-law none n k Γ = (λ h. tt, λ h. tt)
     actuals-law (more a xs) n k Γ = (
-      λ h. (expr-law a Γ .0 (h .0 .0), h .0 .1 .1, actuals-law xs n (suc k) Γ .0 (h .1)),
-      λ h. ((expr-law a Γ .1 (h .0), (tt, h .1)), actuals-law xs n (suc k) Γ .1 (h .2)),
+      λ h. (expr-law a Γ .0 (h .0 .0), h .0 .1 .1 .0, actuals-law xs n (suc k) Γ .0 (h .1)),
+      λ h. ((expr-law a Γ .1 (h .0), (tt, (h .1, tt))), actuals-law xs n (suc k) Γ .1 (h .2)),
     )
 
   pub schema-law : (x : Schema) (Γ : Scope) → Meets (schemaItems x Γ) τ ↔ TypedSchema τ x Γ
-  unfolding schemaItems Meets TypedSchema
+  unfolding schemaItems MeetsIn TypedSchema
   schema-law (plain t) Γ = text-law t Γ blank
   schema-law (from i) Γ =
       let z = small-law (includeNode i) (includeSignature i Γ) in
@@ -508,7 +513,7 @@ module _ (τ : Valuation) where
 
   -- A TABLE MEETS A PARAGRAPH'S ITEMS EXACTLY WHERE IT IS A TYPING OF THE PARAGRAPH.
   pub paragraph-law : (p : Paragraph) (D : Dictionary) → Meets (paragraphItems p D) τ ↔ TypedParagraph τ p D
-  unfolding paragraphItems newNames Meets TypedParagraph under
+  unfolding paragraphItems newNames MeetsIn TypedParagraph under
   paragraph-law (given n is) D = news-law n is D
   paragraph-law (axiomatic n t) D = text-law t (globals D) D
   paragraph-law (schema n s ps x) D = schema-law x (withParameters ps 1 (globals D))

@@ -4,10 +4,11 @@ use mathlib.Core.List.{List, [], _∷_}
 use mathlib.Core.Option.{Option, some, none as nothing}
 use Prim.Native.Nat.{ℕ, zero, suc}
 use lib.Dec.{ltb}
-use Rattle.reader_rules.specs.Tree.{Expr, Exprs, none, more, exprNode}
+use Rattle.reader_rules.specs.Tree.{Expr, Exprs, none, more, exprNode, exprsLength}
 use Rattle.types_rules.specs.Types.{Term, Terms, nil, cons}
-use Rattle.checker_rules.specs.Unknowns.{slot, unknownAt, powerOf}
-use Rattle.checker_rules.specs.Items.{Items, skip, _⨾_, fresh, equate, small, refusal}
+use Rattle.types_rules.specs.Equations.{Pairs, end, pair}
+use Rattle.checker_rules.specs.Unknowns.{slot, unknownAt, integer, powerOf}
+use Rattle.checker_rules.specs.Items.{Items, skip, _⨾_, fresh, equations, equate, small, refusal}
 use Rattle.checker_rules.specs.Dictionary.{Dictionary, Named, unnamed, ofLocal, ofGlobal, nameIn}
 use Rattle.checker_rules.specs.Signatures.{Signature, noNames, naming, countNames, termIn}
 
@@ -55,24 +56,37 @@ unfoldable pub typesOf : Exprs → Terms
 typesOf none = nil
 typesOf (more a xs) = cons (typeOf a) (typesOf xs)
 
+abbrev pub equation : ℕ → Term → Term → Items
+equation n a b = equations n (pair a b end)
+
 abbrev pub typed : ℕ → Term → Items
-typed n t = fresh (slot n 0) ⨾ equate 33 n (unknownAt n 0) t
+typed n t = fresh (slot n 0) ⨾ equation n (unknownAt n 0) t
 
 -- At node n the type of a is the power of unknown k (R12: 33 at n where it is none).
 abbrev pub isPower : ℕ → ℕ → Expr → Items
-isPower n k a = fresh (slot n k) ⨾ equate 33 n (typeOf a) (powerOf (unknownAt n k))
-
--- Explicit actuals and operands of Product are powers: of unknown k, k + 1, ..
-unfoldable pub arePowers : ℕ → Exprs → ℕ → Items
-arePowers n none k = skip
-arePowers n (more a xs) k = isPower n k a ⨾ arePowers n xs (suc k)
-
--- Members of a Set have its element type, unknown 1 (R12: at the Set, after all are visited).
-unfoldable pub areMembers : ℕ → Exprs → Items
-areMembers n none = skip
-areMembers n (more a xs) = equate 33 n (typeOf a) (unknownAt n 1) ⨾ areMembers n xs
+isPower n k a = fresh (slot n k) ⨾ equation n (typeOf a) (powerOf (unknownAt n k))
 
 -- p unknowns from k on
 unfoldable pub freshRow : ℕ → ℕ → ℕ → Items
 freshRow n k zero = skip
 freshRow n k (suc p) = fresh (slot n k) ⨾ freshRow n (suc k) p
+
+-- Explicit actuals and operands of Product are powers: of unknown k, k + 1, ..
+unfoldable pub powers : ℕ → Exprs → ℕ → Pairs Term
+powers n none k = end
+powers n (more a xs) k = pair (typeOf a) (powerOf (unknownAt n k)) (powers n xs (suc k))
+
+unfoldable pub arePowers : ℕ → Exprs → ℕ → Items
+arePowers n xs k = freshRow n k (exprsLength xs) ⨾ equations n (powers n xs k)
+
+-- Members of a Set have its element type, unknown 1 (R12: at the Set, after all are visited).
+unfoldable pub members : ℕ → Exprs → Pairs Term
+members n none = end
+members n (more a xs) = pair (typeOf a) (unknownAt n 1) (members n xs)
+
+unfoldable pub areMembers : ℕ → Exprs → Items
+areMembers n xs = equations n (members n xs)
+
+-- Two operands are numbers.
+abbrev pub areNumbers : ℕ → Term → Term → Items
+areNumbers n a b = equations n (pair a integer (pair b integer end))

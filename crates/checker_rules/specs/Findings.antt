@@ -1,5 +1,5 @@
 -- When the findings 31, 32, 36, 37 and 38 come at their nodes, in lookups, signatures and types, as the table of document 01 words it. That the rules give
--- each finding there and nowhere else: specs/FindingRows. (33, 34 and 35: specs/PieceEquations.)
+-- each finding there and nowhere else: specs/FindingRows. (33, 34, 35 and 39: specs/PieceEquations and specs/SideBySide.)
 use mathlib.Core.Path.{_≡_}
 use mathlib.Core.Bool.{true}
 use mathlib.Core.List.{List, [], _∷_}
@@ -9,9 +9,10 @@ use Prim.Native.Nat.{ℕ, zero, suc, _<_}
 use Rattle.words.specs.Loops.{has}
 use Rattle.reader_rules.specs.Tree.{Exprs, Lines, end, declaration, inclusion, Paragraph, exprsLength, includeNode}
 use Rattle.types_rules.specs.Types.{Ty, Term, under, size}
+use Rattle.types_rules.specs.Trees.{finite}
 use Rattle.checker_rules.specs.Strokes.{decorate, takes}
 use Rattle.checker_rules.specs.Unknowns.{Valuation, unknownAt}
-use Rattle.checker_rules.specs.Items.{Items, skip, _⨾_, fresh, equate, select, small, refusal, piece, Meets, Any, And, Passes, Refuses}
+use Rattle.checker_rules.specs.Items.{Items, skip, _⨾_, fresh, equations, equate, select, small, refusal, piece, Meets, Any, And, Passes, Refuses, Typings}
 use Rattle.checker_rules.specs.Dictionary.{Dictionary, Named, unnamed, ofLocal, ofGlobal, NamedSchema, noSchema, aSchema}
 use Rattle.checker_rules.specs.Signatures.{Signature, noNames, naming, countNames, namesOf, termIn, merge, declare}
 use Rattle.checker_rules.specs.Scopes.{Scope, nameAt, includeSignature}
@@ -90,19 +91,19 @@ module _ (τ : Valuation) where
 
 -- The findings of a Text's lines, one after the other: those of a Decl's piece or of an Include; then, by the types that any typing τ so far gives (they are
 -- settled), 36, 38, and those of the lines after it. r: what the lines before declare.
-unfoldable pub LinesFind : Lines → Scope → Dictionary → Signature → (Valuation → Type 0) → ℕ → ℕ → Type 0
+unfoldable pub LinesFind : Lines → Scope → Dictionary → Signature → Typings → ℕ → ℕ → Type 0
 LinesFind end Γ G r P h j = ⊥
 LinesFind (declaration n a is ls) Γ G r P h j =
     Refuses (piece n (exprItems a Γ ⨾ isPower n 0 a)) P h j
     ⊎ (Passes (piece n (exprItems a Γ ⨾ isPower n 0 a)) P
-    × ((τ : Valuation) × And P (piece n (exprItems a Γ ⨾ isPower n 0 a)) τ
+    × ((τ : Valuation) × And P (piece n (exprItems a Γ ⨾ isPower n 0 a)) finite τ
     × Or 36 n (Clash τ (typeAt τ n) is r ⊎ GlobalTwice is G) h j (Or 38 n ((32 < size (typeAt τ n)) ⊎ (16 < countNames (declare is (unknownAt n 0) r))) h j
     (LinesFind ls Γ G (declare is (unknownAt n 0) r)
     (And (And (And P (piece n (exprItems a Γ ⨾ isPower n 0 a))) (mergeDeclared n is (unknownAt n 0) r ⨾ newNames n is G)) (small n (unknownAt n 0) ⨾ fewNames n (declare is (unknownAt n 0) r))) h j))))
 LinesFind (inclusion i ls) Γ G r P h j =
     Refuses (includeItems i Γ) P h j
     ⊎ (Passes (includeItems i Γ) P
-    × ((τ : Valuation) × And P (includeItems i Γ) τ
+    × ((τ : Valuation) × And P (includeItems i Γ) finite τ
     × Or 36 (includeNode i) (Clashes τ (includeSignature i Γ) r ⊎ GlobalTwice (namesOf (includeSignature i Γ)) G) h j
     (Or 38 (includeNode i) (TooBig τ (includeSignature i Γ) ⊎ (16 < countNames (merge (includeSignature i Γ) r))) h j
     (LinesFind ls Γ G (merge (includeSignature i Γ) r)
@@ -110,10 +111,11 @@ LinesFind (inclusion i ls) Γ G r P h j =
     (smallTypes (includeNode i) (includeSignature i Γ) ⨾ fewNames (includeNode i) (merge (includeSignature i Γ) r))) h j))))
 
 -- 33 never comes at a Select: at none of the items' Selects that is reached, where P are the valuations that meet the items before.
-unfoldable pub NoSelect33 : Items → (Valuation → Type 0) → Type 0
+unfoldable pub NoSelect33 : Items → Typings → Type 0
 NoSelect33 skip P = Unit {0}
 NoSelect33 (a ⨾ b) P = NoSelect33 a P × (Passes a P → NoSelect33 b (And P a))
 NoSelect33 (fresh x) P = Unit {0}
+NoSelect33 (equations n es) P = Unit {0}
 NoSelect33 (equate f n a b) P = Unit {0}
 NoSelect33 (select n i a x) P = (m : ℕ) → Refuses (select n i a x) P 33 m → ⊥
 NoSelect33 (small n a) P = Unit {0}

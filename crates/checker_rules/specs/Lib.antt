@@ -24,3 +24,4 @@ pub mod Pieces
 pub mod Places
 pub mod AcceptedTypings
 pub mod PieceEquations
+pub mod SideBySide

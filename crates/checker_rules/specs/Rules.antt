@@ -1,5 +1,5 @@
 -- The typing rules: the items of each paragraph in visiting order, over the dictionary of the paragraphs before it (document 01, "Typing rules" and the
--- table of findings, 31 to 38). At one node the lowest number goes first; R9 to R17 and R19 settle the order where the page leaves it open.
+-- table of findings, 31 to 39). At one node the lowest number goes first; R9 to R17 and R19 settle the order where the page leaves it open.
 use mathlib.Core.Bool.{Bool, true, false, cond}
 use mathlib.Core.List.{[], _∷_}
 use Prim.Native.Nat.{ℕ, zero, suc}
@@ -12,12 +12,12 @@ use Rattle.types_rules.specs.Types.{Term, nil}
 use Rattle.types_rules.specs.Instance.{instance}
 use Rattle.checker_rules.specs.Strokes.{decorate, takes}
 use Rattle.checker_rules.specs.Unknowns.{slot, unknownAt, row, integer, powerOf, productOf, pairOf}
-use Rattle.checker_rules.specs.Items.{Items, skip, _⨾_, fresh, equate, select, small, refusal, piece}
+use Rattle.checker_rules.specs.Items.{Items, skip, _⨾_, fresh, select, small, refusal, piece}
 use Rattle.checker_rules.specs.Dictionary.{Dictionary, blank, Named, unnamed, ofLocal, ofGlobal, NamedSchema, noSchema, aSchema}
 use Rattle.checker_rules.specs.Signatures.{Signature, noNames, naming, namesOf, bindingOf, componentsOf, merge, declare, someStroked, wrongNames}
 use Rattle.checker_rules.specs.Scopes.{Scope, globals, nameAt, schemaNamed, withParameters, includeSignature, inside, schemaSignature}
 use Rattle.checker_rules.specs.Conditions.{refuseIf, mergeDeclared, mergeNames, newNames, smallTypes, fewNames, typeOf, typesOf, typed, isPower}
-use Rattle.checker_rules.specs.Conditions.{arePowers, areMembers, freshRow}
+use Rattle.checker_rules.specs.Conditions.{equation, arePowers, areMembers, areNumbers, freshRow}
 
 -- Ref: its name's type; 31 unknown, 32 actuals neither 0 nor the parameter count. Without actuals each parameter is an unknown, even one that the type does
 -- not mention (R13); with actuals the k-th is a power of unknown k.
@@ -83,7 +83,7 @@ unfoldable mutual
   exprItems (power n a) Γ = exprItems a Γ ⨾ isPower n 1 a ⨾ typed n (powerOf (powerOf (unknownAt n 1)))
   -- Apply: function = power of (argument × result); "here the argument meets the first part only"
   exprItems (application n a b) Γ =
-      exprItems a Γ ⨾ exprItems b Γ ⨾ fresh (slot n 0) ⨾ equate 33 n (typeOf a) (powerOf (pairOf (typeOf b) (unknownAt n 0)))
+      exprItems a Γ ⨾ exprItems b Γ ⨾ fresh (slot n 0) ⨾ equation n (typeOf a) (powerOf (pairOf (typeOf b) (unknownAt n 0)))
   -- Select: its component's type, 35 also where only a later node would settle it (R14)
   exprItems (selection n a i) Γ = exprItems a Γ ⨾ fresh (slot n 0) ⨾ select n i (typeOf a) (slot n 0)
   exprItems (theta n s k) Γ = thetaItems n k (schemaNamed s Γ) Γ
@@ -91,7 +91,7 @@ unfoldable mutual
   exprItems (schemaSet n i) Γ = includeItems i Γ ⨾ smallTypes (includeNode i) (includeSignature i Γ) ⨾ typed n (powerOf (bindingOf (includeSignature i Γ)))
   -- arithmetic: ℤ
   exprItems (arithmetic n o a b) Γ =
-      exprItems a Γ ⨾ exprItems b Γ ⨾ equate 33 n (typeOf a) integer ⨾ equate 33 n (typeOf b) integer ⨾ typed n integer
+      exprItems a Γ ⨾ exprItems b Γ ⨾ areNumbers n (typeOf a) (typeOf b) ⨾ typed n integer
   -- Comprehension: power of the body's type; the body is of the piece around it (R15)
   exprItems (comprehension n t a) Γ = textItems t Γ blank ⨾ exprItems a (inside t Γ) ⨾ typed n (powerOf (typeOf a))
 
@@ -102,9 +102,9 @@ unfoldable mutual
   -- The two E of a relation are a closed piece. =: equal sides; member: power of left = right; ≤: ℤ.
   pub predItems : Pred → Scope → Items
   predItems (truth n) Γ = skip
-  predItems (equal n a b) Γ = piece n (exprItems a Γ ⨾ exprItems b Γ ⨾ equate 33 n (typeOf a) (typeOf b))
-  predItems (member n a b) Γ = piece n (exprItems a Γ ⨾ exprItems b Γ ⨾ equate 33 n (powerOf (typeOf a)) (typeOf b))
-  predItems (atMost n a b) Γ = piece n (exprItems a Γ ⨾ exprItems b Γ ⨾ equate 33 n (typeOf a) integer ⨾ equate 33 n (typeOf b) integer)
+  predItems (equal n a b) Γ = piece n (exprItems a Γ ⨾ exprItems b Γ ⨾ equation n (typeOf a) (typeOf b))
+  predItems (member n a b) Γ = piece n (exprItems a Γ ⨾ exprItems b Γ ⨾ equation n (powerOf (typeOf a)) (typeOf b))
+  predItems (atMost n a b) Γ = piece n (exprItems a Γ ⨾ exprItems b Γ ⨾ areNumbers n (typeOf a) (typeOf b))
   predItems (not n p) Γ = predItems p Γ
   predItems (connected n o p q) Γ = predItems p Γ ⨾ predItems q Γ
   predItems (quantified n o t p) Γ = textItems t Γ blank ⨾ predItems p (inside t Γ)

@@ -6,8 +6,9 @@ use Prim.Native.Nat.{ℕ, _≤_, _<_}
 use Rattle.reader_rules.specs.Reading.{readOf}
 use Rattle.reader_rules.specs.Tree.{Paragraph, Document, paragraphNode}
 use Rattle.reader_rules.specs.Decode.{treeOf}
+use Rattle.types_rules.specs.Trees.{finite}
 use Rattle.checker_rules.specs.Unknowns.{Valuation, slot}
-use Rattle.checker_rules.specs.Items.{Meets, And, Passes, Refuses}
+use Rattle.checker_rules.specs.Items.{Meets, And, Passes, Refuses, Typings}
 use Rattle.checker_rules.specs.Dictionary.{Dictionary, blank, dictionaryLength}
 use Rattle.checker_rules.specs.Rules.{paragraphItems}
 use Rattle.checker_rules.specs.Entries.{extend}
@@ -15,15 +16,15 @@ use Rattle.checker_rules.specs.ExpressionNodes.{InParagraph}
 use Rattle.checker_rules.specs.Check.{Answer, accepted, refused, paragraphsOf}
 use Rattle.reader_rules.specs.declared.Reading.the-variants.{Readable, Refused}
 
--- P: the valuations that count as solutions. `Any`: all of them. `FormedTable`: those of well-formed types alone, which gives every document's words the
+-- P: the valuations that count as solutions. `Any`: all of them. `FormedTypings`: those of well-formed types alone, which gives every document's words the
 -- same answer (proofs/FormedVerdicts).
-module _ (P : Valuation → Type 0) where
+module _ (P : Typings) where
   -- Accepted with the dictionary E: the items of every paragraph pass over the dictionary so far, and its words fit the area of d words.
   unfoldable pub Accepts : List Paragraph → Dictionary → ℕ → Dictionary → Type 0
   Accepts [] D d E = D ≡ E
   Accepts (p ∷ ps) D d E =
       Passes (paragraphItems p D) P
-      × ((τ : Valuation) × And P (paragraphItems p D) τ × (dictionaryLength (extend p D τ) ≤ d) × Accepts ps (extend p D τ) d E)
+      × ((τ : Valuation) × And P (paragraphItems p D) finite τ × (dictionaryLength (extend p D τ) ≤ d) × Accepts ps (extend p D τ) d E)
 
   -- Refused with f at m: the first paragraph that does not pass refuses f at m; or the first whose dictionary does not fit is m, and f is 22.
   unfoldable pub RefusesAt : List Paragraph → Dictionary → ℕ → ℕ → ℕ → Type 0
@@ -31,7 +32,7 @@ module _ (P : Valuation → Type 0) where
   RefusesAt (p ∷ ps) D d f m =
       Refuses (paragraphItems p D) P f m
       ⊎ (Passes (paragraphItems p D) P
-      × ((τ : Valuation) × And P (paragraphItems p D) τ
+      × ((τ : Valuation) × And P (paragraphItems p D) finite τ
       × (((d < dictionaryLength (extend p D τ)) × (f ≡ 22) × (m ≡ paragraphNode p))
       ⊎ ((dictionaryLength (extend p D τ) ≤ d) × RefusesAt ps (extend p D τ) d f m))))
 

@@ -11,7 +11,7 @@ use Rattle.types_rules.specs.Former as Former
 use Rattle.types_rules.specs.Types.{Ty, Term, under, size}
 use Rattle.types_rules.specs.Formed.{WellFormed}
 use Rattle.checker_rules.specs.Unknowns.{Valuation, unknownAt, givenSet}
-use Rattle.checker_rules.specs.Items.{Any, Meets}
+use Rattle.checker_rules.specs.Items.{Any, Meets, MeetsIn}
 use Rattle.checker_rules.specs.Dictionary.{Dictionary, blank, _▸_, nameEntry, schemaEntry, Named, ofGlobal, nameIn}
 use Rattle.checker_rules.specs.Conditions.{mergeDeclared}
 use Rattle.checker_rules.specs.Entries.{addGivens, extend}
@@ -52,7 +52,7 @@ module _ (E : Dictionary) where
 
   line-names : (τ : Valuation) (ls : Lines) (Γ : Scope) (D : Dictionary) (r : Signature) → Meets (linesItems ls Γ D r) τ →
       ((i : ℕ) (w : Term) → termIn i (linesSignature ls Γ r) ≡ some w → nameIn i E ≡ ofGlobal 0 (under τ w)) → Every (Recording E) (lineNames ls)
-  unfolding lineNames linesItems Meets linesSignature
+  unfolding lineNames linesItems MeetsIn linesSignature
   line-names τ end Γ D r h k = none
   line-names τ (declaration n a xs ls) Γ D r h k =
       every-append (declared-names τ (unknownAt n 0) n xs r (h .1 .1 .0 .0) (h .1 .0 .0) (λ i w z. k i w (lines-stay i w ls Γ (declare xs (unknownAt n 0) r) z)))
@@ -60,7 +60,7 @@ module _ (E : Dictionary) where
   line-names τ (inclusion i ls) Γ D r h k = line-names τ ls Γ D _ (h .1 .1 .1) k
 
   names-recorded : (ps : List Paragraph) (D : Dictionary) (d : ℕ) → Accepts Any ps D d E → Every (Recording E) (namesOf ps)
-  unfolding namesOf paragraphNames Accepts extend paragraphItems textItems Meets textSignature overRecorded
+  unfolding namesOf paragraphNames Accepts extend paragraphItems textItems MeetsIn textSignature overRecorded
   names-recorded [] D d acc = none
   names-recorded (given n xs ∷ ps) D d acc = every-append (given-names xs D (λ i g e. kept ps _ d E (acc .1 .3) i 0 g e)) (names-recorded ps _ d (acc .1 .3))
   names-recorded (axiomatic n (text m p ls) ∷ ps) D d acc =
