@@ -319,12 +319,12 @@ fresh-none n k (suc p) P h j (inl r) = r
 fresh-none n k (suc p) P h j (inr r) = fresh-none n (suc k) p (And P (fresh (slot n k))) h j (r .1)
 
 -- The numbers of equations, and those of other findings.
-abbrev OfEquations : ℕ → Type 0
+abbrev pub OfEquations : ℕ → Type 0
 OfEquations h = (h ≡ 33) ⊎ (h ≡ 39)
 
-number : (h : ℕ) (A : Type 0) → Unsolved h A → OfEquations h
-number h A (inl u) = inl (u .0)
-number h A (inr u) = inr (u .0)
+pub which-number : (h : ℕ) (A : Type 0) → Unsolved h A → OfEquations h
+which-number h A (inl u) = inl (u .0)
+which-number h A (inr u) = inr (u .0)
 
 other : (h : ℕ) → (h ≡ 31) ⊎ ((h ≡ 32) ⊎ (h ≡ 37)) → OfEquations h → ⊥
 other h (inl e) (inl q) = omega (arith, e, q)
@@ -337,12 +337,12 @@ other h (inr (inr e)) (inr q) = omega (arith, e, q)
 typed-number : (n : ℕ) (t : Term) (P : Typings) (h j : ℕ) → Refuses (typed n t) P h j → OfEquations h
 unfolding Refuses
 typed-number n t P h j (inl r) = absurd r
-typed-number n t P h j (inr r) = number h _ (r .1 .2)
+typed-number n t P h j (inr r) = which-number h _ (r .1 .2)
 
 powers-number : (n : ℕ) (xs : Exprs) (k : ℕ) (P : Typings) (h j : ℕ) → Refuses (arePowers n xs k) P h j → OfEquations h
 unfolding arePowers Refuses
 powers-number n xs k P h j (inl r) = absurd (fresh-none n k (exprsLength xs) P h j r)
-powers-number n xs k P h j (inr r) = number h _ (r .1 .2)
+powers-number n xs k P h j (inr r) = which-number h _ (r .1 .2)
 
 -- no finding but 33 or 39 follows where the name is known and the count is right
 module _ (n : ℕ) (P : Typings) (h j : ℕ) where

@@ -53,7 +53,7 @@ unknown-in infinite τ x = refl
 some-inj : {A : Type 0} (a b : A) → some a ≡ some b → a ≡ b
 some-inj a b q = cc
 
-not-known : (o : Option Ty) → o ≡ nothing → Known o → ⊥
+pub not-known : (o : Option Ty) → o ≡ nothing → Known o → ⊥
 unfolding Known
 not-known (some x) e k = let z : _≡_ {A = ℕ} 0 1 = cc in omega arith
 not-known nothing e k = k

@@ -15,7 +15,7 @@ use Rattle.types_rules.specs.Types.{Term}
 use Rattle.types_rules.specs.Instance.{instance}
 use Rattle.checker_rules.specs.Strokes.{decorate, takes}
 use Rattle.checker_rules.specs.Unknowns.{slot, unknownAt, row}
-use Rattle.checker_rules.specs.Items.{Items, _⨾_, fresh, small, refusal, piece, Any, And, Unsolved, Refuses, Typings}
+use Rattle.checker_rules.specs.Items.{Items, _⨾_, fresh, small, refusal, piece, Any, And, Refuses, Typings}
 use Rattle.checker_rules.specs.Dictionary.{Dictionary, blank, Named, unnamed, ofLocal, ofGlobal, nameIn, NamedSchema, noSchema, aSchema}
 use Rattle.checker_rules.specs.Signatures.{Signature, noNames, naming, countNames, namesOf, termIn, merge, declare, someStroked, wrongNames}
 use Rattle.checker_rules.specs.Scopes.{Scope, globals, nameAt, schemaNamed, withParameters, includeSignature, inside, schemaSignature}
@@ -29,7 +29,7 @@ use Rattle.checker_rules.specs.Typing.{schemaOf}
 use Rattle.reader_rules.specs.Places.{At}
 use Rattle.checker_rules.specs.Places.{PlacedExpr, PlacedExprs, PlacedPred, PlacedText, PlacedLines, PlacedInclude, PlacedSchema, PlacedParagraph}
 use Rattle.checker_rules.specs.Places.{PlacedParagraphs}
-use Rattle.checker_rules.proofs.FindingLaws.{fresh-none}
+use Rattle.checker_rules.proofs.FindingLaws.{fresh-none, OfEquations, which-number}
 
 -- the number g is among l, and f is g
 among : (f g : ℕ) (l : List ℕ) → f ≡ g → has g l ≡ true → has f l ≡ true
@@ -39,8 +39,9 @@ among f g l e h = ap (λ z. has z l) e ∙ h
 abbrev Given : ℕ → ℕ → ℕ → ℕ → Type 0
 Given f j n g = (f ≡ g) × (j ≡ n)
 
+-- at n with one of the numbers of equations, 33 and 39
 abbrev Either : ℕ → ℕ → ℕ → Type 0
-Either f j n = (j ≡ n) × ((f ≡ 33) ⊎ (f ≡ 39))
+Either f j n = (j ≡ n) × OfEquations f
 
 module _ (f j : ℕ) where
   at : (n g : ℕ) (l : List ℕ) → has g l ≡ true → Given f j n g → At f j n l
@@ -90,11 +91,6 @@ module _ (f j : ℕ) where
   newNames-at n (i ∷ is) G P (inl r) = newName-at n (nameIn i G) P r
   newNames-at n (i ∷ is) G P (inr r) = newNames-at n is G (And P (newName n (nameIn i G))) (r .1)
 
-  -- 33 or 39
-  which : (A : Type 0) → Unsolved f A → (f ≡ 33) ⊎ (f ≡ 39)
-  which A (inl u) = inl (u .0)
-  which A (inr u) = inr (u .0)
-
   either-at : (n : ℕ) (l : List ℕ) → has 33 l ≡ true → has 39 l ≡ true → Either f j n → At f j n l
   either-at n l h k (e, inl q) = (e, among f 33 l q h)
   either-at n l h k (e, inr q) = (e, among f 39 l q k)
@@ -102,16 +98,16 @@ module _ (f j : ℕ) where
   typed-at : (n : ℕ) (t : Term) (P : Typings) → Refuses (typed n t) P f j → Either f j n
   unfolding Refuses
   typed-at n t P (inl r) = absurd r
-  typed-at n t P (inr r) = (r .1 .0, which _ (r .1 .2))
+  typed-at n t P (inr r) = (r .1 .0, which-number f _ (r .1 .2))
 
   powers-at : (n : ℕ) (xs : Exprs) (k : ℕ) (P : Typings) → Refuses (arePowers n xs k) P f j → Either f j n
   unfolding arePowers Refuses
   powers-at n xs k P (inl r) = absurd (fresh-none n k (exprsLength xs) P f j r)
-  powers-at n xs k P (inr r) = (r .1 .0, which _ (r .1 .2))
+  powers-at n xs k P (inr r) = (r .1 .0, which-number f _ (r .1 .2))
 
   members-at : (n : ℕ) (xs : Exprs) (P : Typings) → Refuses (areMembers n xs) P f j → Either f j n
   unfolding areMembers Refuses
-  members-at n xs P r = (r .0, which _ (r .2))
+  members-at n xs P r = (r .0, which-number f _ (r .2))
 
   -- ---- Ref, Theta, Include
   reference-at : (n : ℕ) (xs : Exprs) (m : Named) (P : Typings) → Refuses (referenceItems n xs m) P f j → At f j n (31 ∷ 32 ∷ 33 ∷ 39 ∷ [])
@@ -153,7 +149,7 @@ module _ (f j : ℕ) where
   theta-at n k (aSchema p g) Γ P (inr (a, inl r)) = at n 32 (31 ∷ 32 ∷ 33 ∷ 37 ∷ 39 ∷ []) refl (refuseIf-at (ltb 0 p) 32 n _ r)
   theta-at n k (aSchema p g) Γ P (inr (a, inr (b, inl r))) = at n 37 (31 ∷ 32 ∷ 33 ∷ 37 ∷ 39 ∷ []) refl (refuseIf-at (someStroked k (schemaOf g)) 37 n _ r)
   theta-at n k (aSchema p g) Γ P (inr (a, inr (b, inr (c, inl r)))) = absurd r
-  theta-at n k (aSchema p g) Γ P (inr (a, inr (b, inr (c, inr (d, r))))) = either-at n (31 ∷ 32 ∷ 33 ∷ 37 ∷ 39 ∷ []) refl refl (r .0, which _ (r .2))
+  theta-at n k (aSchema p g) Γ P (inr (a, inr (b, inr (c, inr (d, r))))) = either-at n (31 ∷ 32 ∷ 33 ∷ 37 ∷ 39 ∷ []) refl refl (r .0, which-number f _ (r .2))
 
   rule-at : (c : NamedSchema) (n s k : ℕ) (xs : Exprs) (rs : List (ℕ × ℕ)) (acts : Items) (P : Typings) → Refuses (includeRule c (include n s k xs rs) acts) P f j
       → At f j n (31 ∷ 32 ∷ 33 ∷ 34 ∷ 37 ∷ 39 ∷ []) ⊎ Refuses acts P f j
@@ -186,30 +182,30 @@ module _ (f j : ℕ) where
     expr-placed (reference n i xs) Γ P (inl r) = inr (exprs-placed xs Γ P r)
     expr-placed (reference n i xs) Γ P (inr r) = inl (reference-at n xs (nameAt i Γ) (And P (exprsItems xs Γ)) (r .1))
     expr-placed (number n v) Γ P (inl r) = absurd r
-    expr-placed (number n v) Γ P (inr (p, r)) = either-at n (33 ∷ 39 ∷ []) refl refl (r .0, which _ (r .2))
+    expr-placed (number n v) Γ P (inr (p, r)) = either-at n (33 ∷ 39 ∷ []) refl refl (r .0, which-number f _ (r .2))
     expr-placed (integers n) Γ P (inl r) = absurd r
-    expr-placed (integers n) Γ P (inr (p, r)) = either-at n (33 ∷ 39 ∷ []) refl refl (r .0, which _ (r .2))
+    expr-placed (integers n) Γ P (inr (p, r)) = either-at n (33 ∷ 39 ∷ []) refl refl (r .0, which-number f _ (r .2))
     expr-placed (set n xs) Γ P (inl r) = inr (exprs-placed xs Γ P r)
     expr-placed (set n xs) Γ P (inr (p, inl r)) = absurd r
     expr-placed (set n xs) Γ P (inr (p, inr (q, inl r))) = inl (either-at n (33 ∷ 39 ∷ []) refl refl (members-at n xs (And (And P (exprsItems xs Γ)) (fresh (slot n 1))) r))
     expr-placed (set n xs) Γ P (inr (p, inr (q, inr (u, inl r)))) = absurd r
-    expr-placed (set n xs) Γ P (inr (p, inr (q, inr (u, inr (v, r))))) = inl (either-at n (33 ∷ 39 ∷ []) refl refl (r .0, which _ (r .2)))
+    expr-placed (set n xs) Γ P (inr (p, inr (q, inr (u, inr (v, r))))) = inl (either-at n (33 ∷ 39 ∷ []) refl refl (r .0, which-number f _ (r .2)))
     expr-placed (tuple n xs) Γ P (inl r) = inr (exprs-placed xs Γ P r)
     expr-placed (tuple n xs) Γ P (inr (p, inl r)) = absurd r
-    expr-placed (tuple n xs) Γ P (inr (p, inr (q, r))) = inl (either-at n (33 ∷ 39 ∷ []) refl refl (r .0, which _ (r .2)))
+    expr-placed (tuple n xs) Γ P (inr (p, inr (q, r))) = inl (either-at n (33 ∷ 39 ∷ []) refl refl (r .0, which-number f _ (r .2)))
     expr-placed (product n xs) Γ P (inl r) = inr (exprs-placed xs Γ P r)
     expr-placed (product n xs) Γ P (inr (p, inl r)) = inl (either-at n (33 ∷ 39 ∷ []) refl refl (powers-at n xs 1 (And P (exprsItems xs Γ)) r))
     expr-placed (product n xs) Γ P (inr (p, inr (q, inl r))) = absurd r
-    expr-placed (product n xs) Γ P (inr (p, inr (q, inr (u, r)))) = inl (either-at n (33 ∷ 39 ∷ []) refl refl (r .0, which _ (r .2)))
+    expr-placed (product n xs) Γ P (inr (p, inr (q, inr (u, r)))) = inl (either-at n (33 ∷ 39 ∷ []) refl refl (r .0, which-number f _ (r .2)))
     expr-placed (power n a) Γ P (inl r) = inr (expr-placed a Γ P r)
     expr-placed (power n a) Γ P (inr (p, inl (inl r))) = absurd r
-    expr-placed (power n a) Γ P (inr (p, inl (inr (q, r)))) = inl (either-at n (33 ∷ 39 ∷ []) refl refl (r .0, which _ (r .2)))
+    expr-placed (power n a) Γ P (inr (p, inl (inr (q, r)))) = inl (either-at n (33 ∷ 39 ∷ []) refl refl (r .0, which-number f _ (r .2)))
     expr-placed (power n a) Γ P (inr (p, inr (q, inl r))) = absurd r
-    expr-placed (power n a) Γ P (inr (p, inr (q, inr (u, r)))) = inl (either-at n (33 ∷ 39 ∷ []) refl refl (r .0, which _ (r .2)))
+    expr-placed (power n a) Γ P (inr (p, inr (q, inr (u, r)))) = inl (either-at n (33 ∷ 39 ∷ []) refl refl (r .0, which-number f _ (r .2)))
     expr-placed (application n a b) Γ P (inl r) = inr (inl (expr-placed a Γ P r))
     expr-placed (application n a b) Γ P (inr (p, inl r)) = inr (inr (expr-placed b Γ (And P (exprItems a Γ)) r))
     expr-placed (application n a b) Γ P (inr (p, inr (q, inl r))) = absurd r
-    expr-placed (application n a b) Γ P (inr (p, inr (q, inr (u, r)))) = inl (either-at n (33 ∷ 39 ∷ []) refl refl (r .0, which _ (r .2)))
+    expr-placed (application n a b) Γ P (inr (p, inr (q, inr (u, r)))) = inl (either-at n (33 ∷ 39 ∷ []) refl refl (r .0, which-number f _ (r .2)))
     expr-placed (selection n a i) Γ P (inl r) = inr (expr-placed a Γ P r)
     expr-placed (selection n a i) Γ P (inr (p, inl r)) = absurd r
     expr-placed (selection n a i) Γ P (inr (p, inr (q, inl r))) = inl (at n 35 (33 ∷ 35 ∷ []) refl (r .0, r .1))
@@ -219,16 +215,16 @@ module _ (f j : ℕ) where
     expr-placed (schemaSet n i) Γ P (inr (p, inl r)) =
         inr (inl (at (includeNode i) 38 (38 ∷ []) refl (smalls-at (includeNode i) (includeSignature i Γ) (And P (includeItems i Γ)) r)))
     expr-placed (schemaSet n i) Γ P (inr (p, inr (q, inl r))) = absurd r
-    expr-placed (schemaSet n i) Γ P (inr (p, inr (q, inr (u, r)))) = inl (either-at n (33 ∷ 39 ∷ []) refl refl (r .0, which _ (r .2)))
+    expr-placed (schemaSet n i) Γ P (inr (p, inr (q, inr (u, r)))) = inl (either-at n (33 ∷ 39 ∷ []) refl refl (r .0, which-number f _ (r .2)))
     expr-placed (arithmetic n o a b) Γ P (inl r) = inr (inl (expr-placed a Γ P r))
     expr-placed (arithmetic n o a b) Γ P (inr (p, inl r)) = inr (inr (expr-placed b Γ (And P (exprItems a Γ)) r))
-    expr-placed (arithmetic n o a b) Γ P (inr (p, inr (q, inl r))) = inl (either-at n (33 ∷ 39 ∷ []) refl refl (r .0, which _ (r .2)))
+    expr-placed (arithmetic n o a b) Γ P (inr (p, inr (q, inl r))) = inl (either-at n (33 ∷ 39 ∷ []) refl refl (r .0, which-number f _ (r .2)))
     expr-placed (arithmetic n o a b) Γ P (inr (p, inr (q, inr (u, inl r)))) = absurd r
-    expr-placed (arithmetic n o a b) Γ P (inr (p, inr (q, inr (u, inr (v, r))))) = inl (either-at n (33 ∷ 39 ∷ []) refl refl (r .0, which _ (r .2)))
+    expr-placed (arithmetic n o a b) Γ P (inr (p, inr (q, inr (u, inr (v, r))))) = inl (either-at n (33 ∷ 39 ∷ []) refl refl (r .0, which-number f _ (r .2)))
     expr-placed (comprehension n t a) Γ P (inl r) = inr (inl (text-placed t Γ blank P r))
     expr-placed (comprehension n t a) Γ P (inr (p, inl r)) = inr (inr (expr-placed a (inside t Γ) (And P (textItems t Γ blank)) r))
     expr-placed (comprehension n t a) Γ P (inr (p, inr (q, inl r))) = absurd r
-    expr-placed (comprehension n t a) Γ P (inr (p, inr (q, inr (u, r)))) = inl (either-at n (33 ∷ 39 ∷ []) refl refl (r .0, which _ (r .2)))
+    expr-placed (comprehension n t a) Γ P (inr (p, inr (q, inr (u, r)))) = inl (either-at n (33 ∷ 39 ∷ []) refl refl (r .0, which-number f _ (r .2)))
 
     exprs-placed : (xs : Exprs) (Γ : Scope) (P : Typings) → Refuses (exprsItems xs Γ) P f j → PlacedExprs f j xs
     exprs-placed none Γ P r = absurd r
@@ -239,15 +235,15 @@ module _ (f j : ℕ) where
     pred-placed (truth n) Γ P r = absurd r
     pred-placed (equal n a b) Γ P (inl (inl r)) = inr (inl (expr-placed a Γ P r))
     pred-placed (equal n a b) Γ P (inl (inr (p, inl r))) = inr (inr (expr-placed b Γ (And P (exprItems a Γ)) r))
-    pred-placed (equal n a b) Γ P (inl (inr (p, inr (q, r)))) = inl (either-at n (33 ∷ 34 ∷ 39 ∷ []) refl refl (r .0, which _ (r .2)))
+    pred-placed (equal n a b) Γ P (inl (inr (p, inr (q, r)))) = inl (either-at n (33 ∷ 34 ∷ 39 ∷ []) refl refl (r .0, which-number f _ (r .2)))
     pred-placed (equal n a b) Γ P (inr r) = inl (at n 34 (33 ∷ 34 ∷ 39 ∷ []) refl (r .1, r .2))
     pred-placed (member n a b) Γ P (inl (inl r)) = inr (inl (expr-placed a Γ P r))
     pred-placed (member n a b) Γ P (inl (inr (p, inl r))) = inr (inr (expr-placed b Γ (And P (exprItems a Γ)) r))
-    pred-placed (member n a b) Γ P (inl (inr (p, inr (q, r)))) = inl (either-at n (33 ∷ 34 ∷ 39 ∷ []) refl refl (r .0, which _ (r .2)))
+    pred-placed (member n a b) Γ P (inl (inr (p, inr (q, r)))) = inl (either-at n (33 ∷ 34 ∷ 39 ∷ []) refl refl (r .0, which-number f _ (r .2)))
     pred-placed (member n a b) Γ P (inr r) = inl (at n 34 (33 ∷ 34 ∷ 39 ∷ []) refl (r .1, r .2))
     pred-placed (atMost n a b) Γ P (inl (inl r)) = inr (inl (expr-placed a Γ P r))
     pred-placed (atMost n a b) Γ P (inl (inr (p, inl r))) = inr (inr (expr-placed b Γ (And P (exprItems a Γ)) r))
-    pred-placed (atMost n a b) Γ P (inl (inr (p, inr (q, r)))) = inl (either-at n (33 ∷ 34 ∷ 39 ∷ []) refl refl (r .0, which _ (r .2)))
+    pred-placed (atMost n a b) Γ P (inl (inr (p, inr (q, r)))) = inl (either-at n (33 ∷ 34 ∷ 39 ∷ []) refl refl (r .0, which-number f _ (r .2)))
     pred-placed (atMost n a b) Γ P (inr r) = inl (at n 34 (33 ∷ 34 ∷ 39 ∷ []) refl (r .1, r .2))
     pred-placed (not n p) Γ P r = pred-placed p Γ P r
     pred-placed (connected n o p q) Γ P (inl r) = inl (pred-placed p Γ P r)
@@ -263,7 +259,7 @@ module _ (f j : ℕ) where
     lines-placed end Γ G s P r = absurd r
     lines-placed (declaration n a is ls) Γ G s P (inl (inl (inl r))) = inr (inl (expr-placed a Γ P r))
     lines-placed (declaration n a is ls) Γ G s P (inl (inl (inr (p, inl r)))) = absurd r
-    lines-placed (declaration n a is ls) Γ G s P (inl (inl (inr (p, inr (q, r))))) = inl (either-at n (33 ∷ 34 ∷ 36 ∷ 38 ∷ 39 ∷ []) refl refl (r .0, which _ (r .2)))
+    lines-placed (declaration n a is ls) Γ G s P (inl (inl (inr (p, inr (q, r))))) = inl (either-at n (33 ∷ 34 ∷ 36 ∷ 38 ∷ 39 ∷ []) refl refl (r .0, which-number f _ (r .2)))
     lines-placed (declaration n a is ls) Γ G s P (inl (inr r)) = inl (at n 34 (33 ∷ 34 ∷ 36 ∷ 38 ∷ 39 ∷ []) refl (r .1, r .2))
     lines-placed (declaration n a is ls) Γ G s P (inr (p, inl (inl r))) =
         inl (at n 36 (33 ∷ 34 ∷ 36 ∷ 38 ∷ 39 ∷ []) refl (declared-at n is (unknownAt n 0) s (And P (piece n (exprItems a Γ ⨾ isPower n 0 a))) r))
@@ -298,7 +294,7 @@ module _ (f j : ℕ) where
     actuals-placed none n k Γ P r = absurd r
     actuals-placed (more a xs) n k Γ P (inl (inl (inl r))) = inr (inl (expr-placed a Γ P r))
     actuals-placed (more a xs) n k Γ P (inl (inl (inr (p, inl r)))) = absurd r
-    actuals-placed (more a xs) n k Γ P (inl (inl (inr (p, inr (q, r))))) = inl (either-at n (31 ∷ 32 ∷ 33 ∷ 34 ∷ 37 ∷ 39 ∷ []) refl refl (r .0, which _ (r .2)))
+    actuals-placed (more a xs) n k Γ P (inl (inl (inr (p, inr (q, r))))) = inl (either-at n (31 ∷ 32 ∷ 33 ∷ 34 ∷ 37 ∷ 39 ∷ []) refl refl (r .0, which-number f _ (r .2)))
     actuals-placed (more a xs) n k Γ P (inl (inr r)) = inl (at n 34 (31 ∷ 32 ∷ 33 ∷ 34 ∷ 37 ∷ 39 ∷ []) refl (r .1, r .2))
     actuals-placed (more a xs) n k Γ P (inr (p, r)) = right-of n (PlacedExpr f j a) (PlacedExprs f j xs) (actuals-placed xs n (suc k) Γ (And P (piece n (exprItems a Γ ⨾ isPower n k a))) r)
 

@@ -1,5 +1,5 @@
 -- The solver of items is total and right: it passes exactly where the items pass, and refuses f at m exactly where they refuse f at m. So it is for any
--- choice C of the tables that count as solutions, as far as the solutions of the solver's states are among them.
+-- choice C of the valuations that count as solutions, as far as the solutions of the solver's states, and all possibly infinite types, are among them.
 use mathlib.Core.Path.{_≡_, refl, ap, ap₂, sym, _∙_, subst}
 use mathlib.Core.Bool.{Bool, true, false}
 use mathlib.Core.List.{List, []}
@@ -28,7 +28,7 @@ use Rattle.checker_rules.specs.Items.{Items, skip, _⨾_, fresh, equatio
 use Rattle.checker_rules.specs.Solving.{Solved, pass, refuse, andThen, joinPairs, withComponent, equationsOf, numberOf, answerAll, answer, passIf, selected, isSmall, isClosed}
 use Rattle.checker_rules.specs.Solving.{solveFrom, unknowns, solve, valuationOf}
 use Rattle.checker_rules.proofs.ItemLaws.{not-both, one}
-use Rattle.checker_rules.proofs.ItemEquations.{solves-join, equations-standing, equate-standing, select-standing}
+use Rattle.checker_rules.proofs.ItemEquations.{not-known, solves-join, equations-standing, equate-standing, select-standing}
 use Rattle.checker_rules.proofs.SolverEquations.{Collected, By, by-itself, collected-more, number-right}
 use Rattle.checker_rules.proofs.SettledTerms.{size-each, tower, tower-size}
 use Rattle.checker_rules.proofs.ItemUnknowns.{Over, In, over}
@@ -37,11 +37,6 @@ known : (o : Option Ty) (g : Ty) → o ≡ some g → Known o
 unfolding Known
 known (some x) g e = tt
 known nothing g e = let z : _≡_ {A = ℕ} 0 1 = cc in absurd (omega arith)
-
-not-known : (o : Option Ty) → o ≡ nothing → Known o → ⊥
-unfolding Known
-not-known (some x) e k = let z : _≡_ {A = ℕ} 0 1 = cc in omega arith
-not-known nothing e k = k
 
 -- A closed piece has one solution, and one that is not closed has two.
 closed-yes : (t : Items) (s : Substitution) → isClosed t s ≡ true → (σ τ : Valuation) → Respects σ s → Respects τ s → Agree t σ τ

@@ -16,7 +16,11 @@ use Rattle.reader_rules.specs.Reading.{readOf}
 use Rattle.types_rules.specs.Former.{and, eqs, tag, arg, identifiers, formerOf, sameFormer}
 use Rattle.types_rules.specs.Types.{under, size, termSize, Each}
 use Rattle.types_rules.specs.Substitution.{or, occurs, replace, update, resolve, without, member, ground, sol}
-use Rattle.types_rules.specs.Unify.{zipTerms, replaceAll, weight, isUnknown, flex, rigid, unifyStep, unifyLevel, unifyLevels, unify}
+use Rattle.types_rules.specs.Unify.{zipTerms, replaceAll, weight, isUnknown, flex, rigid, unifyStep, unifyLevel, unifyLevels, unify, andThen as andThen′, unifyAll}
+use Rattle.types_rules.specs.Classes.{zipN, swap, rep}
+use Rattle.types_rules.specs.Finite.{allb, boundedView, bounded}
+use Rattle.types_rules.specs.Classify.{both as both′, meet, turn, mergeLevel, mergeLevels, toList, viewTerm, sameTerm, join, subs, univ, judge, classify}
+use Rattle.types_rules.specs.Representative.{standsFor, representative, componentBy}
 use Rattle.types_rules.specs.Component.{has as has′, hasType, pick, pickType, component, componentType}
 use Rattle.types_rules.specs.Instance.{nth, actual, instanceFormer, instance}
 use Rattle.types_rules.specs.Words.{second, words}
@@ -28,10 +32,11 @@ use Rattle.checker_rules.specs.Signatures.{declare, strokeAll, renamed, renameA
 use Rattle.checker_rules.specs.Scopes.{nameAt, schemaNamed, withParameters, enter, brought, includeSignature, linesSignature, textSignature}
 use Rattle.checker_rules.specs.Scopes.{inside, schemaSignature}
 use Rattle.checker_rules.specs.Conditions.{refuseIf, sameType, mergeDeclared, mergeNames, newName, newNames, smallTypes, fewNames, typesOf, arePowers}
-use Rattle.checker_rules.specs.Conditions.{areMembers, freshRow}
+use Rattle.checker_rules.specs.Conditions.{powers, members, areMembers, freshRow}
 use Rattle.checker_rules.specs.Rules.{referenceItems, thetaName, thetaNames, typeInScope, thetaSignature, thetaItems, includeRule, exprItems, schemaItems}
 use Rattle.checker_rules.specs.Rules.{paragraphItems}
 use Rattle.checker_rules.specs.Entries.{addGivens, addSignature, extend}
+use Rattle.checker_rules.specs.Solving.{joinPairs, withComponent, equationsOf, numberOf, answerAll, pairsUnknowns}
 use Rattle.checker_rules.specs.Solving.{andThen, answer, passIf, selected, isSmall, isClosed, solveFrom, addUnknown, termUnknowns, unknowns, solve, valuationOf}
 use Rattle.checker_rules.specs.Check.{fitting, settle, checkParagraphs, paragraphsOf, afterReading, checkOf}
 use Rattle.checker_rules.specs.Areas.{answerFinding, dictionaryAfter}
@@ -83,5 +88,6 @@ unfolding
     asTuple addIf add findPair keepInteger calculate connect allPass countIf sameCount after _>>=_ keepIf keep pick′ lookup refer domains next each
     assign flowOf truthOf gathered amongMembers stopInclude evalExpr evalExprs evalMembers evalPred overText evalLines testExpr testExprs then unless
     bindGivens testNames testLines runParagraph runParagraphs runDocument ending runState runWork runRead runOf ofCheck lastNode lastWords ofRun
-    marked RowHolds AllHold
+    marked RowHolds AllHold andThen′ unifyAll zipN swap rep allb boundedView bounded both′ meet turn mergeLevel mergeLevels toList viewTerm sameTerm join
+    subs univ judge classify standsFor representative componentBy powers members joinPairs withComponent equationsOf numberOf answerAll pairsUnknowns
 all-hold = (refl, (refl, (refl, (refl, (refl, (refl, (refl, (refl, (refl, (refl, (refl, (refl, tt))))))))))))
