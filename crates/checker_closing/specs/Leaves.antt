@@ -8,7 +8,7 @@ use Rattle.types_rules.specs.Equations.{In}
 use Rattle.types_rules.specs.Types.{Ty, Term, Each, size}
 use Rattle.checker_rules.specs.Conditions.{mergeDeclared, newNames}
 use Rattle.checker_rules.specs.Dictionary.{Dictionary}
-use Rattle.checker_rules.specs.Items.{Items, Meets, Refuses}
+use Rattle.checker_rules.specs.Items.{Items, Refuses, MeetsIn}
 use Rattle.checker_rules.specs.Signatures.{Signature}
 use Rattle.types_cells.specs.Settled.{heap, Reads}
 use Rattle.types_solver.specs.Sizes.{cap}
@@ -29,9 +29,9 @@ pub record FitsTold (s d w : List ℕ) (base m : ℕ) (is : List ℕ) (at v : �
   pub goes : fine ≡ true → (H : Items) (U : List ℕ) (n : ℕ) (t : Term) (g : Ty) (r : Signature) → Steady H U → Settled H t g → Each (λ x. In x U) t → v ≡ cap (size g) →
       (size g ≤ 32 → Reads (heap s d) at g) → Carries (Placed s d H U) r (rows w base m) → Walked H (mergeDeclared n is t r) U U (λ x. ⊥)
   pub stops : fine ≡ false → (H : Items) (U : List ℕ) (n : ℕ) (t : Term) (g : Ty) (r : Signature) → Steady H U → Settled H t g → Each (λ x. In x U) t → v ≡ cap (size g) →
-      (size g ≤ 32 → Reads (heap s d) at g) → Carries (Placed s d H U) r (rows w base m) → Refuses (mergeDeclared n is t r) (Meets H) 36 n
+      (size g ≤ 32 → Reads (heap s d) at g) → Carries (Placed s d H U) r (rows w base m) → Refuses (mergeDeclared n is t r) (MeetsIn H) 36 n
 
 -- 36, second case, where the Text is an Axiom's; otherwise nothing is global.
 pub record NewIfTold (global : Bool) (d is : List ℕ) (fine : Bool) : Type 0 where
   pub goes : fine ≡ true → (D : Dictionary) (H : Items) (U : List ℕ) (n : ℕ) → Holds D d → Steady H U → Walked H (newNames n is (globalsIf global D)) U U (λ x. ⊥)
-  pub stops : fine ≡ false → (D : Dictionary) (H : Items) (U : List ℕ) (n : ℕ) → Holds D d → Steady H U → Refuses (newNames n is (globalsIf global D)) (Meets H) 36 n
+  pub stops : fine ≡ false → (D : Dictionary) (H : Items) (U : List ℕ) (n : ℕ) → Holds D d → Steady H U → Refuses (newNames n is (globalsIf global D)) (MeetsIn H) 36 n

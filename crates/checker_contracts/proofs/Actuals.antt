@@ -14,7 +14,7 @@ use Rattle.types_rules.specs.Formed.{WellFormed}
 use Rattle.types_rules.specs.Types.{Ty}
 use Rattle.checker_rules.specs.Conditions.{isPower}
 use Rattle.checker_rules.specs.Dictionary.{Dictionary}
-use Rattle.checker_rules.specs.Items.{Items, skip, _⨾_, piece, Meets, Refuses}
+use Rattle.checker_rules.specs.Items.{Items, skip, _⨾_, piece, Refuses, MeetsIn}
 use Rattle.checker_rules.specs.Rules.{exprItems, actualItems}
 use Rattle.checker_rules.specs.Scopes.{Scope}
 use Rattle.checker_rules.specs.Unknowns.{Valuation, slot, unknownAt}
@@ -115,7 +115,7 @@ module _ (s d w : List ℕ) (stack at free k j : ℕ) (a : Expr) (xs : Exprs) (p
 
   -- A FINDING at the first.
   refuses : (s′ w′ places′ : List ℕ) (number place at′ : ℕ) → Spared w w′ stack free → places′ ≡ places → (number ≡ 0 → ⊥) →
-      ((Γ : Scope) (D : Dictionary) (H : Items) (U : List ℕ) → Steady H U → Scoped s d w stack (idle H U) Γ D → ElementNew a k n U → Refuses (own Γ) (Meets H) number place) →
+      ((Γ : Scope) (D : Dictionary) (H : Items) (U : List ℕ) → Steady H U → Scoped s d w stack (idle H U) Γ D → ElementNew a k n U → Refuses (own Γ) (MeetsIn H) number place) →
       ActualsDone s s′ d w w′ stack at free k j (more a xs) places places′ number place at′
   unfolding actualItems
   refuses s′ w′ places′ number place at′ P p e R = record { done = done-refused (record { spared = P; row = ap length p; earlier = λ i q. ap (λ z. getD z i 0) p }) e (λ H U S Γ D C u F. refuses-first H (own Γ) (actualItems xs k (suc n) Γ) number place (R Γ D H U S C (fresh U F))) }
@@ -277,7 +277,7 @@ module _ (s d w : List ℕ) (stack at free k j : ℕ) (a : Expr) (xs : Exprs) (p
 
                 pub actuals-then : (s₅ w₃ places₂ : List ℕ) (number′ place′ at₂ : ℕ) → ActualsDone s₄ s₅ d w₂ w₃ stack e free k n xs places₁ places₂ number′ place′ at₂ →
                     ActualsDone s s₅ d w w₃ stack at free k j (more a xs) places places₂ number′ place′ at₂
-                unfolding actualItems exprsNumbers exprsLength Meets
+                unfolding actualItems exprsNumbers exprsLength MeetsIn
                 actuals-then s₅ w₃ places₂ number′ place′ at₂ B = record {
                   done = record {
                     still = record { spared = spared-on w w₂ w₃ stack free spared₂ (B .done .still .spared); row = B .done .still .row ∙ long; earlier = λ i q. B .done .still .earlier i (omega arith) ∙ others i q };

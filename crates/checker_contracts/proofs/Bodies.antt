@@ -11,7 +11,7 @@ use Rattle.reader_rules.specs.Limited.{LimitedText}
 use Rattle.reader_rules.specs.Tree.{Pred, Lines, text}
 use Rattle.reader_rules.specs.TreeNumbers.{predNumbers, linesNumbers, textNumbers}
 use Rattle.checker_rules.specs.Dictionary.{Dictionary}
-use Rattle.checker_rules.specs.Items.{Items, _⨾_, Meets}
+use Rattle.checker_rules.specs.Items.{Items, _⨾_, MeetsIn}
 use Rattle.checker_rules.specs.Rules.{predItems, linesItems, textItems}
 use Rattle.checker_rules.specs.Scopes.{Scope, inside, textSignature, linesSignature}
 use Rattle.checker_rules.specs.Signatures.{noNames}
@@ -233,7 +233,7 @@ module _ (s d w : List ℕ) (stack at free k : ℕ) (p : Pred) (ls : Lines) (A :
 
               -- the table stands
               table : Carries (Placed s₂ d (H ⨾ (a ⨾ b)) (body .unknowns)) (linesSignature ls Γ noNames) (rows w₃ free m)
-              unfolding Meets
+              unfolding MeetsIn
               table =
                   let l = K .room .low in
                   let f = L .done .areas fine .few in
@@ -253,7 +253,7 @@ module _ (s d w : List ℕ) (stack at free k : ℕ) (p : Pred) (ls : Lines) (A :
 
               -- and the scope inside the Text
               within-after : Scoped s₂ d w₃ (stack + m) (idle (H ⨾ (a ⨾ b)) (body .unknowns)) (inside (text k p ls) Γ) D
-              unfolding Meets
+              unfolding MeetsIn
               within-after =
                   scoped-later s₂ d w₃ (stack + m) (inside (text k p ls) Γ) D (idle ((H ⨾ a) ⨾ b) (body .unknowns)) (idle (H ⨾ (a ⨾ b)) (body .unknowns)) (λ x i. i)
                   (λ τ t. (((t .0 .0, t .0 .1 .0), t .0 .1 .1), tt))

@@ -11,7 +11,7 @@ use Rattle.reader_rules.specs.Tree.{Include, includeNode}
 use Rattle.reader_rules.specs.TreeNumbers.{includeNumbers}
 use Rattle.checker_rules.specs.Conditions.{smallTypes, mergeNames, sameType}
 use Rattle.checker_rules.specs.Dictionary.{Dictionary}
-use Rattle.checker_rules.specs.Items.{Items, _⨾_, Meets, Refuses}
+use Rattle.checker_rules.specs.Items.{Items, _⨾_, Meets, Refuses, MeetsIn}
 use Rattle.checker_rules.specs.Rules.{includeItems}
 use Rattle.checker_rules.specs.Scopes.{Scope, includeSignature}
 use Rattle.checker_rules.specs.Signatures.{Signature, noNames, naming, termIn}
@@ -34,7 +34,7 @@ use Rattle.checker_contracts.proofs.Refused.{done-refused}
 
 -- Nothing to merge with.
 merge-none : (n : ℕ) (q : Signature) (τ : Valuation) → Meets (mergeNames n q noNames) τ
-unfolding mergeNames sameType termIn Meets
+unfolding mergeNames sameType termIn MeetsIn
 merge-none n noNames τ = tt
 merge-none n (naming i t q) τ = (tt, merge-none n q τ)
 
@@ -51,7 +51,7 @@ module _ (s d w : List ℕ) (stack at free : ℕ) (i : Include) (A : BringsAsk s
   module _ (s₁ w₁ places₁ : List ℕ) (number place m at₁ : ℕ) (I : IncludeDone s s₁ d w w₁ stack at free i places places₁ number place m at₁) where
     stopped : (s′ w′ : List ℕ) (f k m′ at′ : ℕ) → (f ≡ 0 → ⊥) → Spared w w′ stack free →
         ((H : Items) (U : List ℕ) → Steady H U → (Γ : Scope) (D : Dictionary) → Scoped s d w stack (idle H U) Γ D → (u : Unit {0}) → Fresh (includeNumbers i) U →
-        Refuses (includeItems i Γ ⨾ smalls Γ) (Meets H) f k) → BringsDone s s′ d w w′ stack at free i f k m′ at′
+        Refuses (includeItems i Γ ⨾ smalls Γ) (MeetsIn H) f k) → BringsDone s s′ d w w′ stack at free i f k m′ at′
     stopped s′ w′ f k m′ at′ ne S r = record { done = done-refused S ne r }
 
     -- the Include's own finding
@@ -106,7 +106,7 @@ module _ (s d w : List ℕ) (stack at free : ℕ) (i : Include) (A : BringsAsk s
 
         module _ (s₂ w₂ : List ℕ) (at₂ : ℕ) (E : RowsKept s₁ s₂ d w₁ w₂ free 0 free m actuals at at₁ (free + tableWords) at₂) where
           pub brings-done : (place′ : ℕ) → BringsDone s s₂ d w w₂ stack at free i 0 place′ m at₂
-          unfolding Meets Carries pairsFrom
+          unfolding MeetsIn Carries pairsFrom
           brings-done place′ =
               let t = A .walking .room .stack in
               let o = A .walking .room .low in

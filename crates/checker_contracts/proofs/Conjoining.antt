@@ -14,7 +14,7 @@ use Rattle.reader_rules.specs.TreeNumbers.{schemaNumbers}
 use Rattle.types_rules.specs.Types.{Term}
 use Rattle.checker_rules.specs.Conditions.{mergeNames, fewNames, refuseIf}
 use Rattle.checker_rules.specs.Dictionary.{Dictionary}
-use Rattle.checker_rules.specs.Items.{Items, skip, refusal, _⨾_, Meets, Refuses}
+use Rattle.checker_rules.specs.Items.{Items, skip, refusal, _⨾_, Meets, Refuses, MeetsIn}
 use Rattle.checker_rules.specs.Rules.{schemaItems}
 use Rattle.checker_rules.specs.Scopes.{Scope, schemaSignature}
 use Rattle.checker_rules.specs.Signatures.{Signature, countNames, merge}
@@ -71,7 +71,7 @@ spared-table w w′ stack base rs n l T = record {
 
 -- Items that bring no unknowns hold in every table that meets those before.
 pub noted : (H c : Items) (U : List ℕ) (M : ℕ → Type 0) → Walked H c U U M → (τ : Valuation) → Meets H τ → Meets c τ
-unfolding Meets
+unfolding MeetsIn
 noted H c U M W τ m = let x = W .extends τ m in W .steady .local (x .0) τ (x .2) (x .1) .1
 
 -- The items of a Conjunction in order: those of its sides, 36, 38 (checker_rules/specs/Rules, schemaItems).
@@ -284,7 +284,7 @@ module _ (s d w : List ℕ) (stack at free k : ℕ) (a b : Schema) (A : SchemaAs
             }
 
             pub both-done : r ≤ 16 → m ≤ r → e ≤ at₁ + typeWords * (r - m) → SchemaDone s s₃ d w w₄ stack at free (both k a b) 0 k r e
-            unfolding schemaItems schemaSignature schemaNumbers Meets grouped listed AllWalked
+            unfolding schemaItems schemaSignature schemaNumbers MeetsIn grouped listed AllWalked
             both-done l q h = record {
               done = record {
                 still = spared₄;

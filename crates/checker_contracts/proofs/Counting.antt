@@ -9,7 +9,7 @@ use lib.ListN.{length}
 use borrow.Author.Tests.{lt-ltb, le-ltb}
 use Rattle.types_rules.specs.Types.{Term}
 use Rattle.checker_rules.specs.Conditions.{refuseIf, fewNames}
-use Rattle.checker_rules.specs.Items.{Items, skip, Meets, Refuses}
+use Rattle.checker_rules.specs.Items.{Items, skip, Refuses, MeetsIn}
 use Rattle.checker_rules.specs.Signatures.{Signature, noNames, naming, countNames, insertName, declare}
 use Rattle.checker_signatures.specs.Rows.{insertRow, declareRows}
 use Rattle.checker_signatures.proofs.TableLaws.{insert-count}
@@ -82,6 +82,6 @@ pub few-noted : (H : Items) (U : List ℕ) (M : ℕ → Type 0) (n : ℕ) (s : S
 unfolding fewNames refuseIf
 few-noted H U M n s S l = rw (le-ltb 16 (countNames s) l) (walked-skip H U M S)
 
-pub few-refused : (H : Items) (n : ℕ) (s : Signature) → 16 < countNames s → Refuses (fewNames n s) (Meets H) 38 n
+pub few-refused : (H : Items) (n : ℕ) (s : Signature) → 16 < countNames s → Refuses (fewNames n s) (MeetsIn H) 38 n
 unfolding fewNames refuseIf
 few-refused H n s l = rw (lt-ltb 16 (countNames s) l) (refused H 38 n)

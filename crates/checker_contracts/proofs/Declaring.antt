@@ -15,7 +15,7 @@ use Rattle.types_rules.specs.Formed.{WellFormed}
 use Rattle.types_rules.specs.Types.{Ty, Term, Each, size}
 use Rattle.checker_rules.specs.Conditions.{mergeDeclared, newNames, fewNames, isPower}
 use Rattle.checker_rules.specs.Dictionary.{Dictionary}
-use Rattle.checker_rules.specs.Items.{Items, skip, _⨾_, small, piece, Meets, Refuses}
+use Rattle.checker_rules.specs.Items.{Items, skip, _⨾_, small, piece, Refuses, MeetsIn}
 use Rattle.checker_rules.specs.Rules.{exprItems, linesItems}
 use Rattle.checker_rules.specs.Scopes.{Scope, linesSignature}
 use Rattle.checker_rules.specs.Signatures.{Signature, countNames, declare}
@@ -152,7 +152,7 @@ module _ (s d w : List ℕ) (stack base m at free n : ℕ) (a : Expr) (is : List
   -- A FINDING.
   abbrev Refused : ℕ → ℕ → Type 0
   Refused number place = (Γ : Scope) (D : Dictionary) (H : Items) (U : List ℕ) → Steady H U → Scoped s d w stack (idle H U) Γ D → ElementNew a n 0 U →
-      (r : Signature) → Carries (Placed s d H U) r (rows w base m) → Refuses (declItems Γ (globalsIf global D) r) (Meets H) number place
+      (r : Signature) → Carries (Placed s d H U) r (rows w base m) → Refuses (declItems Γ (globalsIf global D) r) (MeetsIn H) number place
 
   refuses : (s′ w′ : List ℕ) (number place m′ at′ : ℕ) → Spared w w′ stack base → (number ≡ 0 → ⊥) → Refused number place →
       LinesDone s s′ d w w′ stack base m at free line global number place m′ at′
@@ -296,7 +296,7 @@ module _ (s d w : List ℕ) (stack base m at free n : ℕ) (a : Expr) (is : List
 
                 -- 36: beside the lines before.
                 pub decl-clash : ((H : Items) (U : List ℕ) (n : ℕ) (u : Term) (g : Ty) (r : Signature) → Steady H U → Settled H u g → Each (λ x. In x U) u → v ≡ cap (size g) →
-                    (size g ≤ 32 → Reads (heap s₄ d) at g) → Carries (Placed s₄ d H U) r (rows w₂ base m) → Refuses (mergeDeclared n is u r) (Meets H) 36 n) → (m′ at′ : ℕ) →
+                    (size g ≤ 32 → Reads (heap s₄ d) at g) → Carries (Placed s₄ d H U) r (rows w₂ base m) → Refuses (mergeDeclared n is u r) (MeetsIn H) 36 n) → (m′ at′ : ℕ) →
                     LinesDone s s₄ d w w₂ stack base m at free line global 36 n m′ at′
                 unfolding listed after AllPass
                 decl-clash X m′ at′ =
@@ -322,7 +322,7 @@ module _ (s d w : List ℕ) (stack base m at free n : ℕ) (a : Expr) (is : List
                         fits H₁ (T₁ .unknowns) n t (T₁ .type) r (T₁ .walked .steady) (T₁ .settled) (over Γ D H U S C F r J) (T₁ .sized) (reads Γ D H U S C F r J) (J₁ Γ D H U S C F r J)
 
                   -- 36: global already.
-                  pub decl-global : ((D : Dictionary) (H : Items) (U : List ℕ) (n : ℕ) → Holds D d → Steady H U → Refuses (newNames n is (globalsIf global D)) (Meets H) 36 n) →
+                  pub decl-global : ((D : Dictionary) (H : Items) (U : List ℕ) (n : ℕ) → Holds D d → Steady H U → Refuses (newNames n is (globalsIf global D)) (MeetsIn H) 36 n) →
                       (m′ at′ : ℕ) → LinesDone s s₄ d w w₂ stack base m at free line global 36 n m′ at′
                   unfolding listed after AllPass
                   decl-global X m′ at′ =
@@ -456,7 +456,7 @@ module _ (s d w : List ℕ) (stack base m at free n : ℕ) (a : Expr) (is : List
 
                       -- IDENTIFIERS ARE NEW.
                       pub decl-done : (place′ : ℕ) → count ≤ 16 → (count ≡ m → ⊥) → LinesDone s s₄ d w w₃ stack base m at free line global 0 place′ count e
-                      unfolding linesItems linesSignature Meets grouped
+                      unfolding linesItems linesSignature MeetsIn grouped
                       decl-done place′ q ne = record {
                         done = record {
                           still = spared₃;
@@ -482,7 +482,7 @@ module _ (s d w : List ℕ) (stack base m at free n : ℕ) (a : Expr) (is : List
 
                       -- NONE IS NEW: the type is not kept.
                       pub decl-kept : (place′ : ℕ) (s₅ : List ℕ) → m ≤ 16 → count ≡ m → s₅ ≡ sets s₄ at (replicate (e - at) 0) → LinesDone s s₅ d w w₃ stack base m at free line global 0 place′ m at
-                      unfolding linesItems linesSignature Meets grouped
+                      unfolding linesItems linesSignature MeetsIn grouped
                       decl-kept place′ s₅ q same wiped = record {
                         done = record {
                           still = spared₃;

@@ -14,7 +14,7 @@ use Rattle.types_rules.specs.Formed.{WellFormed}
 use Rattle.types_rules.specs.Types.{Ty, cons, nil, under}
 use Rattle.checker_rules.specs.Conditions.{typeOf, isPower}
 use Rattle.checker_rules.specs.Dictionary.{Dictionary}
-use Rattle.checker_rules.specs.Items.{Items, skip, _⨾_, piece, Meets, Passes, Refuses}
+use Rattle.checker_rules.specs.Items.{Items, skip, _⨾_, piece, Passes, Refuses, MeetsIn}
 use Rattle.checker_rules.specs.Rules.{exprItems}
 use Rattle.checker_rules.specs.Scopes.{Scope}
 use Rattle.checker_rules.specs.Unknowns.{slot, unknownAt}
@@ -76,7 +76,7 @@ module _ (s d w : List ℕ) (rows at free : ℕ) (a : Expr) (n k : ℕ) (big : l
     own = exprItems a Γ
 
     -- the expression's finding
-    pub element-stopped : (number ≡ 0 → ⊥) → Refuses (piece n (elementItems a n k Γ)) (Meets H) number place
+    pub element-stopped : (number ≡ 0 → ⊥) → Refuses (piece n (elementItems a n k Γ)) (MeetsIn H) number place
     element-stopped e =
         piece-refused H n (elementItems a n k Γ) number place
         (stops-left H skip own (isPower n k a) number place (A .stops e (idle H U) (opened s d H U S big few) Γ D C (F .0)))
@@ -105,7 +105,7 @@ module _ (s d w : List ℕ) (rows at free : ℕ) (a : Expr) (n k : ℕ) (big : l
 
       module _ (s₂ : List ℕ) (b : Bool) (P : Powered s₁ s₂ d c₁ top₁ cell b) where
         -- 33
-        pub element-unequal : b ≡ false → Refuses (piece n (elementItems a n k Γ)) (Meets H) 33 n
+        pub element-unequal : b ≡ false → Refuses (piece n (elementItems a n k Γ)) (MeetsIn H) 33 n
         element-unequal e =
             piece-refused H n (elementItems a n k Γ) 33 n
             (stop-then s s₁ d 0 firstRun c₁ top₁ (idle H U) own (Owned l) (first .advanced) (isPower n k a) 33 n (P .stops e G₁ stands₁ (slot n k) new₁ 33 n (typeOf a) cell₁))
@@ -130,7 +130,7 @@ module _ (s d w : List ℕ) (rows at free : ℕ) (a : Expr) (n k : ℕ) (big : l
 
           module _ (s₃ : List ℕ) where
             -- 34
-            pub element-several : Closed s₂ s₃ d (c₁ + 2) false → Refuses (piece n (elementItems a n k Γ)) (Meets H) 34 n
+            pub element-several : Closed s₂ s₃ d (c₁ + 2) false → Refuses (piece n (elementItems a n k Γ)) (MeetsIn H) 34 n
             element-several Z = piece-several s s₂ s₃ d (c₁ + 2) (top₁ + 1) H U n (elementItems a n k Γ) Mine (both .advanced) few Z
 
             module _ (Z : Closed s₂ s₃ d (c₁ + 2) true) where

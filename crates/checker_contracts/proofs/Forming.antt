@@ -11,7 +11,7 @@ use Rattle.types_rules.specs.Types.{Term, nil, under}
 use Rattle.types_rules.proofs.Instance.{instance-none}
 use Rattle.checker_rules.specs.Conditions.{isPower}
 use Rattle.checker_rules.specs.Dictionary.{Dictionary}
-use Rattle.checker_rules.specs.Items.{Items, skip, _⨾_, equate, piece, Meets, And, Agree, Passes}
+use Rattle.checker_rules.specs.Items.{Items, skip, _⨾_, equate, piece, Meets, And, Agree, Passes, MeetsIn}
 use Rattle.checker_rules.specs.Rules.{exprItems}
 use Rattle.checker_rules.specs.Scopes.{Scope, globals, local}
 use Rattle.checker_rules.specs.Unknowns.{Valuation, slot}
@@ -34,7 +34,7 @@ pins τ (local i t Γ) = equate 33 0 t (instance nil (under τ t)) ⨾ pins τ �
 
 -- As τ meets.
 pins-met : (τ : Valuation) (Γ : Scope) → Meets (pins τ Γ) τ
-unfolding pins Meets
+unfolding pins MeetsIn
 pins-met τ (globals D) = tt
 pins-met τ (local i t Γ) = (sym (instance-none τ (under τ t)), pins-met τ Γ)
 
@@ -44,7 +44,7 @@ module _ (s d : List ℕ) (H : Items) (U : List ℕ) (D : Dictionary) (τ : Valu
 
   -- A term of the scope is well formed, and so is its type.
   type-formed : (t : Term) (p : ℕ) → Row t p → WellFormed (under τ t)
-  unfolding Meets
+  unfolding MeetsIn
   type-formed t p R = subst WellFormed (sym (R .means τ (m, tt))) (R .reads .formed)
 
   pub scope-formed : (Γ : Scope) (st : List (ℕ × ℕ)) → Stacked Row Γ st D → FormedDictionary D → FormedScope Γ
@@ -56,7 +56,7 @@ module _ (s d : List ℕ) (H : Items) (U : List ℕ) (D : Dictionary) (τ : Valu
 
   -- What is said of the terms depends on the unknowns U alone, ..
   pins-local : (Γ : Scope) (st : List (ℕ × ℕ)) → Stacked Row Γ st D → (σ σ′ : Valuation) → SameOn U σ σ′ → Meets (pins τ Γ) σ → Meets (pins τ Γ) σ′
-  unfolding Stacked pins Meets
+  unfolding Stacked pins MeetsIn
   pins-local (globals E) st k σ σ′ h n = tt
   pins-local (local i t Γ) [] k σ σ′ h n = absurd k
   pins-local (local i t Γ) (r ∷ st) k σ σ′ h n = (
@@ -65,8 +65,8 @@ module _ (s d : List ℕ) (H : Items) (U : List ℕ) (D : Dictionary) (τ : Valu
   )
 
   -- .. and holds of normal types.
-  pins-normal : (Γ : Scope) (st : List (ℕ × ℕ)) → Stacked Row Γ st D → Normal (Meets (pins τ Γ))
-  unfolding Stacked pins Meets
+  pins-normal : (Γ : Scope) (st : List (ℕ × ℕ)) → Stacked Row Γ st D → Normal (MeetsIn (pins τ Γ))
+  unfolding Stacked pins MeetsIn
   pins-normal (globals E) st k σ n = tt
   pins-normal (local i t Γ) [] k σ n = absurd k
   pins-normal (local i t Γ) (r ∷ st) k σ n =
@@ -77,7 +77,7 @@ module _ (s d : List ℕ) (H : Items) (U : List ℕ) (D : Dictionary) (τ : Valu
 
   -- After these items the scope is what it was.
   pinned : (H′ : Items) (Γ : Scope) (st : List (ℕ × ℕ)) → ((σ : Valuation) → Meets H′ σ → Meets (pins τ Γ) σ) → Stacked Row Γ st D → Stacked (SettledAt s d (idle H′ U)) Γ st D
-  unfolding Stacked pins Meets
+  unfolding Stacked pins MeetsIn
   pinned H′ (globals E) [] says k = k
   pinned H′ (globals E) (r ∷ st) says k = absurd k
   pinned H′ (local i t Γ) [] says k = absurd k
@@ -98,11 +98,11 @@ module _ (s d w : List ℕ) (rows : ℕ) (a : Expr) (New : List ℕ → Type 0) 
   closedItems = exprItems a Γ ⨾ isPower n k a
 
   abbrev pub Closes : Type 0
-  Closes = (H : Items) (U : List ℕ) → Steady H U → Scoped s d w rows (idle H U) Γ D → New U → Passes (piece n closedItems) (Meets H)
+  Closes = (H : Items) (U : List ℕ) → Steady H U → Scoped s d w rows (idle H U) Γ D → New U → Passes (piece n closedItems) (MeetsIn H)
 
   pub settled-formed : Closes → SizedExpr a → (H : Items) (U : List ℕ) → Scoped s d w rows (idle H U) Γ D → New U → (τ : Valuation) → Meets (H ⨾ piece n closedItems) τ →
       WellFormed (τ (slot n k))
-  unfolding Meets Passes FormedItems Agree
+  unfolding MeetsIn Passes FormedItems Agree
   settled-formed C z H U S f τ h =
       let st = stack w 0 rows in
       let H′ = pins τ Γ in
@@ -111,6 +111,6 @@ module _ (s d w : List ℕ) (rows : ℕ) (a : Expr) (New : List ℕ → Type 0) 
       let p = C H′ U (record { local = pins-local s d H U D τ (h .0) Γ st K; some = (τ, pins-met τ Γ) }) S′ f in
       let g = scope-formed s d H U D τ (h .0) Γ st K (S .recorded .formed) in
       let F : FormedItems closedItems = (formedExpr a Γ z g, isPower-formed n k a) in
-      let v = normal-items closedItems (Meets H′) (pins-normal s d H U D τ (h .0) Γ st K) F (p .0) τ (pins-met τ Γ) (h .1) in
+      let v = normal-items closedItems (MeetsIn H′) (pins-normal s d H U D τ (h .0) Γ st K) F (p .0) τ (pins-met τ Γ) (h .1) in
       let e = p .1 (normalTable τ) τ (pins-normal s d H U D τ (h .0) Γ st K τ (pins-met τ Γ), v) (pins-met τ Γ, h .1) in
       subst WellFormed (e .1 .0) (normal-formed (τ (slot n k)))

@@ -18,7 +18,7 @@ use Rattle.types_rules.specs.Instance.{instance}
 use Rattle.types_rules.specs.Types.{Ty, Tys, node, Term, nil}
 use Rattle.checker_rules.specs.Conditions.{refuseIf}
 use Rattle.checker_rules.specs.Dictionary.{Dictionary, NamedSchema, noSchema, aSchema, schemaIn}
-use Rattle.checker_rules.specs.Items.{Items, skip, _⨾_, refusal, Meets, Refuses}
+use Rattle.checker_rules.specs.Items.{Items, skip, _⨾_, refusal, Meets, Refuses, MeetsIn}
 use Rattle.checker_rules.specs.Rules.{includeRule, includeItems, actualItems}
 use Rattle.checker_rules.specs.Scopes.{Scope, schemaNamed, brought, includeSignature}
 use Rattle.checker_rules.specs.Signatures.{Signature, componentsOf, strokeAll, renameAll, wrongNames}
@@ -96,7 +96,7 @@ module _ (s d w : List ℕ) (stack at free n id k : ℕ) (xs : Exprs) (rs : List
   After P = (H : Items) (U : List ℕ) → Steady H U → (Γ : Scope) (D : Dictionary) → Scoped s d w stack (idle H U) Γ D → (u : Unit {0}) → Fresh (includeNumbers i) U → P H U Γ
 
   stopped : (s′ w′ places′ : List ℕ) (number place m at′ : ℕ) → (number ≡ 0 → ⊥) → Spared w w′ stack free → length places′ ≡ length places →
-      After (λ H U Γ. Refuses (includeItems i Γ) (Meets H) number place) → IncludeDone s s′ d w w′ stack at free i places places′ number place m at′
+      After (λ H U Γ. Refuses (includeItems i Γ) (MeetsIn H) number place) → IncludeDone s s′ d w w′ stack at free i places places′ number place m at′
   stopped s′ w′ places′ number place m at′ ne S z r = record { done = done-refused (record { spared = S; row = z }) ne r }
 
   module _ (e : ℕ) (found : (D : Dictionary) → Holds D d → SchemaFound D d id e) where
@@ -108,7 +108,7 @@ module _ (s d w : List ℕ) (stack at free n id k : ℕ) (xs : Exprs) (rs : List
     include-absent z m at′ =
         stopped s w places 31 n m at′ (λ q. omega arith) (spared-refl w stack free) refl
         (λ H U S Γ D C u F.
-        subst (λ c. Refuses c (Meets H) 31 n) (sym (items-absent n id k xs rs Γ (in-dictionary H U Γ D C ∙ found D (C .recorded .holds) .absent z))) (refused H 31 n))
+        subst (λ c. Refuses c (MeetsIn H) 31 n) (sym (items-absent n id k xs rs Γ (in-dictionary H U Γ D C ∙ found D (C .recorded .holds) .absent z))) (refused H 31 n))
 
     module _ (some : e ≡ 0 → ⊥) where
       entry : (D : Dictionary) → DictionaryHeld D d → Entry NamedSchema (schemaIn id D) aSchema d e
@@ -120,7 +120,7 @@ module _ (s d w : List ℕ) (stack at free n id k : ℕ) (xs : Exprs) (rs : List
           stopped s w places 32 n m at′ (λ q. omega arith) (spared-refl w stack free) refl
           (λ H U S Γ D C u F.
           let E = entry D (C .recorded) in
-          subst (λ c. Refuses c (Meets H) 32 n)
+          subst (λ c. Refuses c (MeetsIn H) 32 n)
           (sym (items-count n id k xs rs Γ (E .parameters) (E .type) (in-dictionary H U Γ D C ∙ E .means) (λ q. ne (ep ∙ E .counted ∙ sym q)))) (refused H 32 n))
 
       -- THE ACTUALS.
@@ -159,7 +159,7 @@ module _ (s d w : List ℕ) (stack at free n id k : ℕ) (xs : Exprs) (rs : List
           include-refused ne m at′ =
               stopped s₁ w₁ places₁ number place m at′ ne (P .done .still .spared) (P .done .still .row)
               (λ H U S Γ D C u F.
-              subst (λ c. Refuses c (Meets H) number place) (sym (items-are H U Γ D C))
+              subst (λ c. Refuses c (MeetsIn H) number place) (sym (items-are H U Γ D C))
               (refuses-first H (actualItems xs n 1 Γ) _ number place (P .done .stops ne H U S Γ D C tt (fresh U F))))
 
           -- THE COMPONENTS, of the binding at q in the dictionary.
@@ -251,9 +251,9 @@ module _ (s d w : List ℕ) (stack at free n id k : ℕ) (xs : Exprs) (rs : List
                     (λ H U S Γ D C u F.
                     let W = P .done .goes fine H U S Γ D C tt (fresh U F) in
                     let c = actualItems xs n 1 Γ in
-                    subst (λ c. Refuses c (Meets H) 37 n) (sym (items-are H U Γ D C))
+                    subst (λ c. Refuses c (MeetsIn H) 37 n) (sym (items-are H U Γ D C))
                     (refuses-second H c _ 37 n (W .walked .goes)
-                    (subst (λ x. Refuses x (Meets (H ⨾ c)) 37 n) (sym (refuse-one _ 37 n (sym (wrong-is D (C .recorded)) ∙ b))) (refused (H ⨾ c) 37 n))))
+                    (subst (λ x. Refuses x (MeetsIn (H ⨾ c)) 37 n) (sym (refuse-one _ 37 n (sym (wrong-is D (C .recorded)) ∙ b))) (refused (H ⨾ c) 37 n))))
 
                 module _ (right : wrong ≡ false) where
                   -- The rows that are brought, with any terms for the parameters.
@@ -314,7 +314,7 @@ module _ (s d w : List ℕ) (stack at free n id k : ℕ) (xs : Exprs) (rs : List
 
                   actual-later : (H : Items) (U : List ℕ) (Γ : Scope) (D : Dictionary) (C : Scoped s d w stack (idle H U) Γ D) (W : ActualsWent s₁ d H U Γ n 0 xs places₁) (j : ℕ) →
                       ActualAt s₁ d (H ⨾ actualItems xs n 1 Γ) (W .unknowns) n j (getD places₁ j 0) → ActualAt s₁ d (H ⨾ includeItems i Γ) (W .unknowns) n j (getD places₁ j 0)
-                  unfolding Meets
+                  unfolding MeetsIn
                   actual-later H U Γ D C W j T = record {
                     type = T .type;
                     settled = λ τ y. T .settled τ (y .0, subst (λ c. Meets c τ) (items-are H U Γ D C) (y .1) .0);

@@ -13,7 +13,7 @@ use Rattle.types_rules.specs.Formed.{Ascending}
 use Rattle.types_rules.specs.Types.{Ty}
 use Rattle.checker_rules.specs.Conditions.{mergeNames, newNames, smallTypes, fewNames}
 use Rattle.checker_rules.specs.Dictionary.{Dictionary}
-use Rattle.checker_rules.specs.Items.{Items, skip, _⨾_, Meets, Refuses}
+use Rattle.checker_rules.specs.Items.{Items, skip, _⨾_, Meets, Refuses, MeetsIn}
 use Rattle.checker_rules.specs.Rules.{includeItems, linesItems}
 use Rattle.checker_rules.specs.Scopes.{Scope, includeSignature, linesSignature}
 use Rattle.checker_rules.specs.Signatures.{Signature, namesOf, countNames, merge}
@@ -93,7 +93,7 @@ module _ (s d w : List ℕ) (stack base m at free : ℕ) (i : Include) (global :
   -- A FINDING.
   abbrev Refused : ℕ → ℕ → Type 0
   Refused f k = (Γ : Scope) (D : Dictionary) (H : Items) (U : List ℕ) → Steady H U → Scoped s d w stack (idle H U) Γ D → Fresh (includeNumbers i) U →
-      (r : Signature) → Carries (Placed s d H U) r (rows w base m) → Refuses (items i Γ (globalsIf global D) r) (Meets H) f k
+      (r : Signature) → Carries (Placed s d H U) r (rows w base m) → Refuses (items i Γ (globalsIf global D) r) (MeetsIn H) f k
 
   refuses : (s′ w′ : List ℕ) (f k m′ at′ : ℕ) → Spared w w′ stack base → (f ≡ 0 → ⊥) → Refused f k → LinesDone s s′ d w w′ stack base m at free line global f k m′ at′
   unfolding linesItems linesNumbers grouped
@@ -156,7 +156,7 @@ module _ (s d w : List ℕ) (stack base m at free : ℕ) (i : Include) (global :
 
       -- 36, beside the lines before
       pub inclusion-clash : AgreeTold s₁ d w₁ base m free c actuals false → (m′ at′ : ℕ) → LinesDone s s₁ d w w₁ stack base m at free line global 36 (includeNode i) m′ at′
-      unfolding Meets listed after AllPass
+      unfolding MeetsIn listed after AllPass
       inclusion-clash T m′ at′ =
           refuses s₁ w₁ 36 (n i) m′ at′ spared₁ (λ z. omega arith)
           (λ Γ D H U S C F r J.
@@ -176,7 +176,7 @@ module _ (s d w : List ℕ) (stack base m at free : ℕ) (i : Include) (global :
           H₁ = H ⨾ includeItems i Γ
 
           W₂ : Walked H₁ (merging i Γ r) (X .unknowns) (X .unknowns) (λ x. ⊥)
-          unfolding Meets
+          unfolding MeetsIn
           W₂ = T₂ .goes refl H₁ (X .unknowns) (n i) (n i) (actualCount i) (includeSignature i Γ) r (X .walked .steady) (X .actuals) (X .components)
               (table-later Γ D H U S C F r J H₁ (λ τ q. q .0))
 
@@ -184,7 +184,7 @@ module _ (s d w : List ℕ) (stack base m at free : ℕ) (i : Include) (global :
           names = sym (carries-names (Component s₁ d (row (n i) 1 (actualCount i))) (includeSignature i Γ) (rows w₁ free c) (X .components))
 
         -- 36, a name that is global already
-        pub inclusion-known : ((E : Dictionary) (H : Items) (U : List ℕ) (k : ℕ) → Holds E d → Steady H U → Refuses (newNames k (identifiersOf (rows w₁ free c)) (globalsIf global E)) (Meets H) 36 k) →
+        pub inclusion-known : ((E : Dictionary) (H : Items) (U : List ℕ) (k : ℕ) → Holds E d → Steady H U → Refuses (newNames k (identifiersOf (rows w₁ free c)) (globalsIf global E)) (MeetsIn H) 36 k) →
             (m′ at′ : ℕ) → LinesDone s s₁ d w w₁ stack base m at free line global 36 (includeNode i) m′ at′
         unfolding listed after AllPass
         inclusion-known N m′ at′ =
@@ -193,7 +193,7 @@ module _ (s d w : List ℕ) (stack base m at free : ℕ) (i : Include) (global :
             let Y = W₂ Γ D H U S C F r J in
             let h = H₁ Γ D H U S C F r J in
             refuses-at (order i Γ (globalsIf global D) r) H 2 36 (n i) (X Γ D H U S C F r J .walked .goes, (Y .goes, tt))
-            (subst (λ l. Refuses (newNames (n i) l (globalsIf global D)) (Meets (h ⨾ merging i Γ r)) 36 (n i)) (names Γ D H U S C F r J)
+            (subst (λ l. Refuses (newNames (n i) l (globalsIf global D)) (MeetsIn (h ⨾ merging i Γ r)) 36 (n i)) (names Γ D H U S C F r J)
             (N D (h ⨾ merging i Γ r) (X Γ D H U S C F r J .unknowns) (n i) (C .recorded .holds) (Y .steady))))
 
         module _ (T₃ : (E : Dictionary) (H : Items) (U : List ℕ) (k : ℕ) → Holds E d → Steady H U → Walked H (newNames k (identifiersOf (rows w₁ free c)) (globalsIf global E)) U U (λ x. ⊥)) where
@@ -219,7 +219,7 @@ module _ (s d w : List ℕ) (stack base m at free : ℕ) (i : Include) (global :
                 (T₃ D (H₂ ⨾ b) (X₃ .unknowns) (n i) (C .recorded .holds) (W₂ Γ D H U S C F r J .steady))
 
             actuals₃ : ActualTypes s₁ d H₃ (X₃ .unknowns) (n i) (actualCount i) actuals
-            unfolding Meets
+            unfolding MeetsIn
             actuals₃ = actuals-more s₁ d H₂ H₃ (X₃ .unknowns) (n i) (actualCount i) actuals (λ τ q. q .0 .0) (X₃ .actuals)
 
           -- 38, a component's type
@@ -326,7 +326,7 @@ module _ (s d w : List ℕ) (stack base m at free : ℕ) (i : Include) (global :
 
                   -- what the Include brought, and the lines' table, in their places
                   brought₅ : Carries (Placed s₂ d H₅ (X₄ .unknowns)) (includeSignature i Γ) (rows w₂ free c)
-                  unfolding Meets
+                  unfolding MeetsIn
                   brought₅ =
                       let Y = actuals-more s₁ d H₄ H₅ (X₄ .unknowns) (n i) (actualCount i) actuals (λ τ q. q .0) (actuals₃ Γ D H U S C F r J) in
                       E .placed H₅ (X₄ .unknowns) (n i) (includeSignature i Γ) r (Y .shown) (Y .types) (Y .stand) (Y .alike)
@@ -334,7 +334,7 @@ module _ (s d w : List ℕ) (stack base m at free : ℕ) (i : Include) (global :
                       (table-later Γ D H U S C F r J H₅ (λ τ q. q .0 .0 .0 .0)) (λ τ q. q .0 .0 .1) (λ τ q. q .1) (W₄ .steady)
 
                   table₅ : Carries (Placed s₂ d H₅ (X₄ .unknowns)) r (rows w₂ base m)
-                  unfolding Meets
+                  unfolding MeetsIn
                   table₅ =
                       let b = Q .beside in
                       let f = Q .few in
@@ -375,7 +375,7 @@ module _ (s d w : List ℕ) (stack base m at free : ℕ) (i : Include) (global :
                 Mine = Owned (includeNumbers i ++ [])
 
                 pub inclusion-done : (place′ : ℕ) → count ≤ 16 → LinesDone s s₂ d w w₃ stack base m at free line global 0 place′ count at₂
-                unfolding linesItems linesSignature linesNumbers Meets grouped listed AllWalked
+                unfolding linesItems linesSignature linesNumbers MeetsIn grouped listed AllWalked
                 inclusion-done place′ l = record {
                   done = record {
                     still = spared₃;

@@ -5,7 +5,7 @@ use mathlib.Core.Path.{_≡_, refl, sym, ap, subst, _∙_}
 use Prim.Native.Nat.{ℕ, zero, suc}
 use lib.ListN.{getD, take}
 use Rattle.checker_rules.specs.Unknowns.{Valuation}
-use Rattle.checker_rules.specs.Items.{Items, skip, _⨾_, Meets, Passes, Refuses}
+use Rattle.checker_rules.specs.Items.{Items, skip, _⨾_, Meets, Passes, Refuses, MeetsIn}
 use Rattle.checker_rules.proofs.ItemLaws.{passes-ext, refuses-ext}
 use Rattle.checker_pieces.specs.Piece.{Steady, Walked}
 use Rattle.checker_pieces.proofs.Between.{refuses-first, refuses-second, passes-then, walked-then, walked-skip}
@@ -35,12 +35,12 @@ after H (a ∷ l) = after (H ⨾ a) l
 -- Each passes after those before it.
 unfoldable pub AllPass : Items → List Items → Type 0
 AllPass H [] = Unit {0}
-AllPass H (a ∷ l) = Passes a (Meets H) × AllPass (H ⨾ a) l
+AllPass H (a ∷ l) = Passes a (MeetsIn H) × AllPass (H ⨾ a) l
 
 -- One refuses, and those before it pass.
 unfoldable pub OneRefuses : Items → List Items → ℕ → ℕ → Type 0
 OneRefuses H [] f m = ⊥
-OneRefuses H (a ∷ l) f m = Refuses a (Meets H) f m ⊎ (Passes a (Meets H) × OneRefuses (H ⨾ a) l f m)
+OneRefuses H (a ∷ l) f m = Refuses a (MeetsIn H) f m ⊎ (Passes a (MeetsIn H) × OneRefuses (H ⨾ a) l f m)
 
 -- Each is walked over after those before it.
 unfoldable pub AllWalked : Items → List Items → List ℕ → List ℕ → (ℕ → Type 0) → Type 0
@@ -58,7 +58,7 @@ after-append H [] m = refl
 after-append H (a ∷ l) m = after-append (H ⨾ a) l m
 
 pub same-tables : (o : Order) (H : Items) → Same (after H (listed o)) (H ⨾ grouped o)
-unfolding after listed grouped Meets
+unfolding after listed grouped MeetsIn
 same-tables nothing H τ = (λ h. (h, tt), λ h. h .0)
 same-tables (only a) H τ = (λ h. h, λ h. h)
 same-tables (x then y) H τ =
@@ -80,22 +80,22 @@ unfolding AllPass after
 pass-join [] m H p q = q
 pass-join (a ∷ l) m H p q = (p .0, pass-join l m (H ⨾ a) (p .1) q)
 
-pub all-pass : (o : Order) (H : Items) → AllPass H (listed o) → Passes (grouped o) (Meets H)
+pub all-pass : (o : Order) (H : Items) → AllPass H (listed o) → Passes (grouped o) (MeetsIn H)
 unfolding AllPass listed grouped Passes
 all-pass nothing H p = tt
 all-pass (only a) H p = p .0
 all-pass (x then y) H p =
     let k = pass-split (listed x) (listed y) H p in
     passes-then H (grouped x) (grouped y) (all-pass x H (k .0))
-    (passes-ext (grouped y) (Meets (after H (listed x))) (Meets (H ⨾ grouped x)) (same-tables x H) (all-pass y (after H (listed x)) (k .1)))
+    (passes-ext (grouped y) (MeetsIn (after H (listed x))) (MeetsIn (H ⨾ grouped x)) (same-tables x H) (all-pass y (after H (listed x)) (k .1)))
 
-pub each-passes : (o : Order) (H : Items) → Passes (grouped o) (Meets H) → AllPass H (listed o)
-unfolding AllPass listed grouped Passes Meets
+pub each-passes : (o : Order) (H : Items) → Passes (grouped o) (MeetsIn H) → AllPass H (listed o)
+unfolding AllPass listed grouped Passes MeetsIn
 each-passes nothing H p = tt
 each-passes (only a) H p = (p, tt)
 each-passes (x then y) H p =
     pass-join (listed x) (listed y) H (each-passes x H (p .0))
-    (each-passes y (after H (listed x)) (passes-ext (grouped y) (Meets (H ⨾ grouped x)) (Meets (after H (listed x))) (λ τ. (same-tables x H τ .1, same-tables x H τ .0)) (p .1)))
+    (each-passes y (after H (listed x)) (passes-ext (grouped y) (MeetsIn (H ⨾ grouped x)) (MeetsIn (after H (listed x))) (λ τ. (same-tables x H τ .1, same-tables x H τ .0)) (p .1)))
 
 -- ONE REFUSES.
 refuse-split : (l m : List Items) (H : Items) (f k : ℕ) → OneRefuses H (l ++ m) f k → OneRefuses H l f k ⊎ (AllPass H l × OneRefuses (after H l) m f k)
@@ -115,7 +115,7 @@ unfolding OneRefuses AllPass after
 refuse-right [] m H f k p r = r
 refuse-right (a ∷ l) m H f k p r = inr (p .0, refuse-right l m (H ⨾ a) f k (p .1) r)
 
-pub one-refuses : (o : Order) (H : Items) (f k : ℕ) → OneRefuses H (listed o) f k → Refuses (grouped o) (Meets H) f k
+pub one-refuses : (o : Order) (H : Items) (f k : ℕ) → OneRefuses H (listed o) f k → Refuses (grouped o) (MeetsIn H) f k
 unfolding OneRefuses listed grouped Refuses
 one-refuses nothing H f k r = absurd r
 one-refuses (only a) H f k (inl r) = r
@@ -124,19 +124,19 @@ one-refuses (x then y) H f k r =
     ⊎-elim (λ u. refuses-first H (grouped x) (grouped y) f k (one-refuses x H f k u))
     (λ u.
     refuses-second H (grouped x) (grouped y) f k (all-pass x H (u .0))
-    (refuses-ext (grouped y) (Meets (after H (listed x))) (Meets (H ⨾ grouped x)) f k (same-tables x H) (one-refuses y (after H (listed x)) f k (u .1))))
+    (refuses-ext (grouped y) (MeetsIn (after H (listed x))) (MeetsIn (H ⨾ grouped x)) f k (same-tables x H) (one-refuses y (after H (listed x)) f k (u .1))))
     (refuse-split (listed x) (listed y) H f k r)
 
-pub refuses-one : (o : Order) (H : Items) (f k : ℕ) → Refuses (grouped o) (Meets H) f k → OneRefuses H (listed o) f k
-unfolding OneRefuses listed grouped Refuses Meets
+pub refuses-one : (o : Order) (H : Items) (f k : ℕ) → Refuses (grouped o) (MeetsIn H) f k → OneRefuses H (listed o) f k
+unfolding OneRefuses listed grouped Refuses MeetsIn
 refuses-one nothing H f k r = absurd r
 refuses-one (only a) H f k r = inl r
 refuses-one (x then y) H f k (inl r) = refuse-left (listed x) (listed y) H f k (refuses-one x H f k r)
 refuses-one (x then y) H f k (inr (p, r)) =
     refuse-right (listed x) (listed y) H f k (each-passes x H p)
-    (refuses-one y (after H (listed x)) f k (refuses-ext (grouped y) (Meets (H ⨾ grouped x)) (Meets (after H (listed x))) f k (λ τ. (same-tables x H τ .1, same-tables x H τ .0)) r))
+    (refuses-one y (after H (listed x)) f k (refuses-ext (grouped y) (MeetsIn (H ⨾ grouped x)) (MeetsIn (after H (listed x))) f k (λ τ. (same-tables x H τ .1, same-tables x H τ .0)) r))
 
-refuse-at : (l : List Items) (H : Items) (i f k : ℕ) → AllPass H (take i l) → Refuses (getD l i skip) (Meets (after H (take i l))) f k → OneRefuses H l f k
+refuse-at : (l : List Items) (H : Items) (i f k : ℕ) → AllPass H (take i l) → Refuses (getD l i skip) (MeetsIn (after H (take i l))) f k → OneRefuses H l f k
 unfolding OneRefuses AllPass after Refuses
 refuse-at [] H zero f k p r = absurd r
 refuse-at [] H (suc i) f k p r = absurd r
@@ -144,7 +144,7 @@ refuse-at (a ∷ l) H zero f k p r = inl r
 refuse-at (a ∷ l) H (suc i) f k p r = inr (p .0, refuse-at l (H ⨾ a) i f k (p .1) r)
 
 -- THE i-TH REFUSES, counted from 0.
-pub refuses-at : (o : Order) (H : Items) (i f k : ℕ) → AllPass H (take i (listed o)) → Refuses (getD (listed o) i skip) (Meets (after H (take i (listed o)))) f k → Refuses (grouped o) (Meets H) f k
+pub refuses-at : (o : Order) (H : Items) (i f k : ℕ) → AllPass H (take i (listed o)) → Refuses (getD (listed o) i skip) (MeetsIn (after H (take i (listed o)))) f k → Refuses (grouped o) (MeetsIn H) f k
 refuses-at o H i f k p r = one-refuses o H f k (refuse-at (listed o) H i f k p r)
 
 -- ALL ARE WALKED OVER.
@@ -152,9 +152,9 @@ steady-same : (H H′ : Items) (U : List ℕ) → Same H H′ → Steady H U →
 steady-same H H′ U e S = record { local = λ τ τ′ h m. e τ′ .0 (S .local τ τ′ h (e τ .1 m)); some = let k = S .some in (k .0, e (k .0) .0 (k .1)) }
 
 walked-same : (H H′ c : Items) (U U′ : List ℕ) (M : ℕ → Type 0) → Same H H′ → Walked H c U U′ M → Walked H′ c U U′ M
-unfolding Meets
+unfolding MeetsIn
 walked-same H H′ c U U′ M e W = record {
-  goes = passes-ext c (Meets H) (Meets H′) e (W .goes);
+  goes = passes-ext c (MeetsIn H) (MeetsIn H′) e (W .goes);
   steady = steady-same (H ⨾ c) (H′ ⨾ c) U′ (λ τ. (λ h. (e τ .0 (h .0), h .1), λ h. (e τ .1 (h .0), h .1))) (W .steady);
   extends = λ τ m. let x = W .extends τ (e τ .1 m) in (x .0, (e (x .0) .0 (x .1 .0), x .1 .1), x .2);
   wider = W .wider;
@@ -186,7 +186,7 @@ module _ (o o′ : Order) (e : listed o ≡ listed o′) (H : Items) where
       let y = same-tables o′ H τ in
       (λ h. y .0 (subst (λ l. Meets (after H l) τ) e (x .1 h)), λ h. x .0 (subst (λ l. Meets (after H l) τ) (sym e) (y .1 h)))
 
-  pub regrouped-refuses : (f k : ℕ) → Refuses (grouped o) (Meets H) f k → Refuses (grouped o′) (Meets H) f k
+  pub regrouped-refuses : (f k : ℕ) → Refuses (grouped o) (MeetsIn H) f k → Refuses (grouped o′) (MeetsIn H) f k
   regrouped-refuses f k r = one-refuses o′ H f k (subst (λ l. OneRefuses H l f k) e (refuses-one o H f k r))
 
   pub regrouped-walked : (U U′ : List ℕ) (M : ℕ → Type 0) → Walked H (grouped o) U U′ M → Walked H (grouped o′) U U′ M
@@ -205,7 +205,7 @@ module _ (o o′ : Order) (rest : Items) (e : listed o′ ≡ listed o ++ (rest 
   whole = sym e
 
   pub then-tables : Same ((H ⨾ grouped o) ⨾ rest) (H ⨾ grouped o′)
-  unfolding Meets grouped
+  unfolding MeetsIn grouped
   then-tables τ =
       let x = regrouped-tables (o then only rest) o′ whole H τ in
       (λ h. x .0 (h .0 .0, (h .0 .1, h .1)), λ h. let k = x .1 h in ((k .0, k .1 .0), k .1 .1))
@@ -214,10 +214,10 @@ module _ (o o′ : Order) (rest : Items) (e : listed o′ ≡ listed o ++ (rest 
   unfolding grouped
   then-walked U Y U′ M S A B = regrouped-walked (o then only rest) o′ whole H U U′ M (walked-then H (grouped o) rest U Y U′ M S A B)
 
-  pub then-refuses : (f k : ℕ) → Passes (grouped o) (Meets H) → Refuses rest (Meets (H ⨾ grouped o)) f k → Refuses (grouped o′) (Meets H) f k
+  pub then-refuses : (f k : ℕ) → Passes (grouped o) (MeetsIn H) → Refuses rest (MeetsIn (H ⨾ grouped o)) f k → Refuses (grouped o′) (MeetsIn H) f k
   unfolding grouped
   then-refuses f k p r = regrouped-refuses (o then only rest) o′ whole H f k (refuses-second H (grouped o) rest f k p r)
 
-  pub first-refuses : (f k : ℕ) → Refuses (grouped o) (Meets H) f k → Refuses (grouped o′) (Meets H) f k
+  pub first-refuses : (f k : ℕ) → Refuses (grouped o) (MeetsIn H) f k → Refuses (grouped o′) (MeetsIn H) f k
   unfolding grouped
   first-refuses f k r = regrouped-refuses (o then only rest) o′ whole H f k (refuses-first H (grouped o) rest f k r)

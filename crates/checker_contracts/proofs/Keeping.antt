@@ -14,7 +14,7 @@ use Rattle.types_rules.specs.Types.{Ty, Tys, tnil, tcons, Term, under, size}
 use Rattle.checker_rules.specs.Check.{checkWorkWords}
 use Rattle.checker_rules.specs.Conditions.{mergeNames, smallTypes}
 use Rattle.checker_rules.specs.Dictionary.{Dictionary}
-use Rattle.checker_rules.specs.Items.{Items, Meets}
+use Rattle.checker_rules.specs.Items.{Items, Meets, MeetsIn}
 use Rattle.checker_rules.specs.Scopes.{Scope, schemaSignature}
 use Rattle.checker_rules.specs.Signatures.{Signature, noNames, naming, namesOf}
 use Rattle.checker_rules.specs.Unknowns.{Valuation}
@@ -51,7 +51,7 @@ use Rattle.checker_contracts.proofs.TableRows.{carries-row, rows-ready}
 
 -- Placed types are small.
 placed-small : (s d : List ℕ) (H : Items) (U : List ℕ) (n : ℕ) (q : Signature) (rs : List (ℕ × ℕ)) → Carries (Placed s d H U) q rs → (τ : Valuation) → Meets H τ → Meets (smallTypes n q) τ
-unfolding Carries smallTypes Meets
+unfolding Carries smallTypes MeetsIn
 placed-small s d H U n noNames rs C τ m = tt
 placed-small s d H U n (naming i t q) [] C τ m = absurd C
 placed-small s d H U n (naming i t q) (r ∷ rs) C τ m =

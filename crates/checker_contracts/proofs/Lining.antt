@@ -11,7 +11,7 @@ use Rattle.reader_rules.specs.Tree.{Expr, Lines, end, declaration, inclusion, I
 use Rattle.reader_rules.specs.TreeNumbers.{exprNumbers, linesNumbers, includeNumbers}
 use Rattle.checker_rules.specs.Conditions.{mergeDeclared, mergeNames, newNames, smallTypes, fewNames, isPower}
 use Rattle.checker_rules.specs.Dictionary.{Dictionary}
-use Rattle.checker_rules.specs.Items.{Items, skip, _⨾_, small, piece, Meets, Passes, Refuses}
+use Rattle.checker_rules.specs.Items.{Items, skip, _⨾_, small, piece, Passes, Refuses, MeetsIn}
 use Rattle.checker_rules.specs.Rules.{exprItems, linesItems, includeItems}
 use Rattle.checker_rules.specs.Scopes.{Scope, linesSignature, includeSignature}
 use Rattle.checker_rules.specs.Signatures.{Signature, namesOf, declare, merge}
@@ -36,7 +36,7 @@ use Rattle.checker_contracts.proofs.Refused.{done-refused}
 -- NO LINE.
 pub lines-none : (s d w : List ℕ) (stack base m at free place : ℕ) (global : Bool) → LinesAsk s d w stack base m at free end →
     LinesDone s s d w w stack base m at free end global 0 place m at
-unfolding linesItems linesSignature Meets
+unfolding linesItems linesSignature MeetsIn
 lines-none s d w stack base m at free place global Q = record {
   done = record {
     still = spared-refl w stack base;
@@ -181,9 +181,9 @@ module _ (s d w : List ℕ) (stack base m at free : ℕ) (one whole ls : Lines) 
     line-refused e m′ at′ = record {
       done = done-refused (A .done .still) e (λ H U S Γ D C r I. let F = I .0 in let J = I .1 in
           let G = globalsIf global D in
-          subst (λ c. Refuses c (Meets H) number place) (sym (X .whole-items Γ G r))
+          subst (λ c. Refuses c (MeetsIn H) number place) (sym (X .whole-items Γ G r))
           (first-refuses (alone Γ G r) (all Γ G r) (rest Γ G r) (X .in-turn Γ G r (rest Γ G r)) H number place
-          (subst (λ c. Refuses c (Meets H) number place) (X .one-items Γ G r) (A .done .stops e H U S Γ D C r ((fresh-left l k U (first-fresh U F)), J)))));
+          (subst (λ c. Refuses c (MeetsIn H) number place) (X .one-items Γ G r) (A .done .stops e H U S Γ D C r ((fresh-left l k U (first-fresh U F)), J)))));
     }
 
     -- it passes
@@ -307,7 +307,7 @@ module _ (s d w : List ℕ) (stack base m at free : ℕ) (one whole ls : Lines) 
               let D₁ = globalsIf global D in
               let c₁ = rest Γ D₁ r in
               let W₁ = W H U S Γ D C F₁ r J in
-              subst (λ z. Refuses z (Meets H) number′ place′) (sym (X .whole-items Γ D₁ r))
+              subst (λ z. Refuses z (MeetsIn H) number′ place′) (sym (X .whole-items Γ D₁ r))
               (then-refuses (alone Γ D₁ r) (all Γ D₁ r) c₁ (X .in-turn Γ D₁ r c₁) H number′ place′ (walked₁ H U S Γ D C F₁ r J .goes)
               (B .done .stops e (H ⨾ items Γ D₁ r) (W₁ .unknowns) (walked₁ H U S Γ D C F₁ r J .steady) Γ D (scoped₁ H U S Γ D C F₁ r J) (X .after Γ r) ((fresh₁ H U S Γ D C F₁ r J), (signature₁ H U S Γ D C F₁ r J))));
         };

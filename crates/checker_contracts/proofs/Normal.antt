@@ -14,7 +14,7 @@ use Rattle.types_rules.specs.Types.{Ty, Tys, node, tnil, tcons, Term, Terms, un
 use Rattle.types_rules.specs.Component.{pickType, componentType}
 use Rattle.types_rules.specs.Formed.{partCount, partCountType, Formed, Formeds, FormedType, FormedTypes, Ascending, Arity, WellFormed}
 use Rattle.checker_rules.specs.Unknowns.{Valuation}
-use Rattle.checker_rules.specs.Items.{Items, skip, _⨾_, fresh, equate, select, small, refusal, piece, Known, Meets, And, Passes}
+use Rattle.checker_rules.specs.Items.{Items, skip, _⨾_, fresh, equate, select, small, refusal, piece, Known, Meets, And, Passes, MeetsIn}
 use Rattle.checker_rules.proofs.FormedItems.{FormedItems}
 use Rattle.types_cells.proofs.Growing.{lt-or-ge}
 
@@ -182,7 +182,7 @@ abbrev pub Normal : (Valuation → Type 0) → Type 0
 Normal P = (τ : Valuation) → P τ → P (normalTable τ)
 
 pub normal-items : (c : Items) (P : Valuation → Type 0) → Normal P → FormedItems c → Passes c P → (τ : Valuation) → P τ → Meets c τ → Meets c (normalTable τ)
-unfolding FormedItems Passes Meets
+unfolding FormedItems Passes MeetsIn
 normal-items skip P N f p τ m h = tt
 normal-items (a ⨾ b) P N f p τ m h = (
   normal-items a P N (f .0) (p .0) τ m (h .0),

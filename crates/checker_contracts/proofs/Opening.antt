@@ -7,7 +7,7 @@ use Prim.Native.Nat.{ℕ, _<_, _^_}
 use native.Mathlib.Omega.{arith}
 use lib.ListN.{length}
 use Rattle.checker_rules.specs.Unknowns.{Valuation}
-use Rattle.checker_rules.specs.Items.{Items, skip, _⨾_, piece, Meets, Agree, Passes, Refuses}
+use Rattle.checker_rules.specs.Items.{Items, skip, _⨾_, piece, Meets, Agree, Passes, Refuses, MeetsIn}
 use Rattle.checker_rules.proofs.ItemLaws.{passes-ext, refuses-ext}
 use Rattle.checker_pieces.specs.Piece.{Steady, Walked, Stops}
 use Rattle.checker_pieces.specs.Stage.{Ghost, Stands, Advanced}
@@ -27,17 +27,17 @@ opened s d H U S z few = record {
 
 -- No item before the first.
 without-skip : (H : Items) (τ : Valuation) → Meets (H ⨾ skip) τ ↔ Meets H τ
-unfolding Meets
+unfolding MeetsIn
 without-skip H τ = (λ h. h .0, λ h. (h, tt))
 
 alike-skip : (t : Items) → Alike (skip ⨾ t) t
-unfolding Meets Agree
+unfolding MeetsIn Agree
 alike-skip t = (λ τ. (λ h. h .1, λ h. (tt, h)), λ τ τ′. (λ h. h .1, λ h. (tt, h)))
 
 -- REFUSED: the finding of the items t is that of the piece.
-pub piece-refused : (H : Items) (k : ℕ) (t : Items) (f m : ℕ) → Stops H skip t f m → Refuses (piece k t) (Meets H) f m
+pub piece-refused : (H : Items) (k : ℕ) (t : Items) (f m : ℕ) → Stops H skip t f m → Refuses (piece k t) (MeetsIn H) f m
 unfolding Refuses
-piece-refused H k t f m r = inl (refuses-ext t (Meets (H ⨾ skip)) (Meets H) f m (without-skip H) r)
+piece-refused H k t f m r = inl (refuses-ext t (MeetsIn (H ⨾ skip)) (MeetsIn H) f m (without-skip H) r)
 
 -- CLOSED: with the items t, by the node k.
 module _ (s s′ s″ d : List ℕ) (n top : ℕ) (H : Items) (U : List ℕ) (k : ℕ) (t : Items) (M : ℕ → Type 0) (A : Advanced s s′ d 0 firstRun n top (idle H U) t M) (few : length d < 2 ^ 31)
@@ -52,13 +52,13 @@ module _ (s s′ s″ d : List ℕ) (n top : ℕ) (H : Items) (U : List ℕ) (k 
       few = few;
     }
 
-    pub whole-passes : Passes t (Meets H)
-    whole-passes = passes-ext t (Meets (H ⨾ skip)) (Meets H) (without-skip H) (A .goes)
+    pub whole-passes : Passes t (MeetsIn H)
+    whole-passes = passes-ext t (MeetsIn (H ⨾ skip)) (MeetsIn H) (without-skip H) (A .goes)
 
     pub piece-walked : Closed s′ s″ d n true → Walked H (piece k t) U (A .mentioned) M
     piece-walked C =
         let S = C .goes refl top whole whole-stands in
         record { goes = S .goes k whole-passes; steady = S .steady k; extends = S .extends k; wider = A .wider; new = A .new }
 
-    pub piece-several : Closed s′ s″ d n false → Refuses (piece k t) (Meets H) 34 k
+    pub piece-several : Closed s′ s″ d n false → Refuses (piece k t) (MeetsIn H) 34 k
     piece-several C = C .stops refl top whole whole-stands k whole-passes

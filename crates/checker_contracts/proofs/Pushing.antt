@@ -7,7 +7,7 @@ use lib.ListN.{length, getD}
 use lib.Seq.{length-sets}
 use Rattle.types_rules.specs.Types.{Term}
 use Rattle.checker_rules.specs.Dictionary.{Dictionary}
-use Rattle.checker_rules.specs.Items.{Items, Meets}
+use Rattle.checker_rules.specs.Items.{Items, MeetsIn}
 use Rattle.checker_rules.specs.Scopes.{Scope, enter}
 use Rattle.checker_rules.specs.Signatures.{Signature}
 use Rattle.checker_signatures.specs.Rows.{rows, flat, stack}
@@ -37,7 +37,7 @@ module _ (w v : List ℕ) (n base m r : ℕ) (P : Pushed w v 0 n (rows w base m)
 
   pub pushed-scoped : (s d : List ℕ) (H : Items) (U : List ℕ) (Γ : Scope) (D : Dictionary) (q : Signature) → 2 * (n + m) ≤ length w →
       Carries (Placed s d H U) q (rows w base m) → Scoped s d w n (idle H U) Γ D → Scoped s d v (n + m) (idle H U) (enter q Γ) D
-  unfolding Meets
+  unfolding MeetsIn
   pushed-scoped s d H U Γ D q l K C = record {
     stacked = subst (λ z. Stacked (SettledAt s d (idle H U)) (enter q Γ) (stack v 0 z) D) (P .count ∙ ap (λ z. n + z) (rows-length w base m))
         (pushed-signature (SettledAt s d (idle H U)) D w 0 n Γ (C .stacked) v base m r q P (omega arith)

@@ -13,7 +13,7 @@ use Rattle.reader_rules.specs.TreeNumbers.{exprNumbers, predNumbers}
 use Rattle.types_rules.specs.Types.{Term}
 use Rattle.checker_rules.specs.Conditions.{typeOf}
 use Rattle.checker_rules.specs.Dictionary.{Dictionary}
-use Rattle.checker_rules.specs.Items.{Items, _⨾_, piece, Meets, Refuses}
+use Rattle.checker_rules.specs.Items.{Items, _⨾_, piece, Refuses, MeetsIn}
 use Rattle.checker_rules.specs.Rules.{exprItems, predItems}
 use Rattle.checker_rules.specs.Scopes.{Scope}
 use Rattle.checker_pieces.specs.Piece.{Steady}
@@ -73,11 +73,11 @@ module _ (s d w : List ℕ) (rows at free : ℕ) (p : Pred) (k : ℕ) (a b : Exp
 
   -- A finding ..
   refused : (s′ w′ : List ℕ) (number place : ℕ) → (number ≡ 0 → ⊥) → Spared w w′ rows free →
-      ((H : Items) (U : List ℕ) → Steady H U → (Γ : Scope) (D : Dictionary) → Scoped s d w rows (idle H U) Γ D → Fresh N U → Refuses (relation Γ) (Meets H) number place) →
+      ((H : Items) (U : List ℕ) → Steady H U → (Γ : Scope) (D : Dictionary) → Scoped s d w rows (idle H U) Γ D → Fresh N U → Refuses (relation Γ) (MeetsIn H) number place) →
       PredDone s s′ d w w′ rows at free p number place
   refused s′ w′ number place e P r = record {
     done = done-refused P e (λ H U S Γ D C u F.
-        subst (λ t. Refuses t (Meets H) number place) (sym (T .items Γ)) (r H U S Γ D C (fresh-left N (k ∷ []) U (subst (λ l. Fresh l U) (T .numbers) F))));
+        subst (λ t. Refuses t (MeetsIn H) number place) (sym (T .items Γ)) (r H U S Γ D C (fresh-left N (k ∷ []) U (subst (λ l. Fresh l U) (T .numbers) F))));
   }
 
   module _ (s₁ w₁ : List ℕ) (number place cell n top at₁ : ℕ) (A : ExprDone s s₁ d w w₁ rows 0 firstRun at free a number place cell n top at₁) where

@@ -15,7 +15,7 @@ use Rattle.checker_rules.proofs.ItemLaws.{passes-ext, refuses-ext}
 use Rattle.checker_rules.proofs.OwnUnknowns.{schema-agrees}
 use Rattle.checker_rules.specs.Conditions.{typed, smallTypes}
 use Rattle.checker_rules.specs.Dictionary.{Dictionary}
-use Rattle.checker_rules.specs.Items.{Items, _⨾_, Meets, Agree, And, Passes, Refuses}
+use Rattle.checker_rules.specs.Items.{Items, _⨾_, Meets, Agree, And, Passes, Refuses, MeetsIn}
 use Rattle.checker_rules.specs.Rules.{exprItems, includeItems, schemaItems}
 use Rattle.checker_rules.specs.Scopes.{Scope, includeSignature}
 use Rattle.checker_rules.specs.Signatures.{Signature, bindingOf}
@@ -48,14 +48,14 @@ use Rattle.checker_contracts.proofs.Waiting.{save-asked, waiting, resto
 
 -- ITEMS GROUPED OTHERWISE.
 pub alike-inner : (t a b c : Items) → Alike (t ⨾ ((a ⨾ b) ⨾ c)) (t ⨾ (a ⨾ (b ⨾ c)))
-unfolding Meets Agree
+unfolding MeetsIn Agree
 alike-inner t a b c = (
   λ τ. (λ h. (h .0, (h .1 .0 .0, (h .1 .0 .1, h .1 .1))), λ h. (h .0, ((h .1 .0, h .1 .1 .0), h .1 .1 .1))),
   λ τ τ′. (λ h. (h .0, (h .1 .0 .0, (h .1 .0 .1, h .1 .1))), λ h. (h .0, ((h .1 .0, h .1 .1 .0), h .1 .1 .1))),
 )
 
 and-group : (P : Valuation → Type 0) (a b : Items) (τ : Valuation) → And P (a ⨾ b) τ ↔ And (And P a) b τ
-unfolding Meets
+unfolding MeetsIn
 and-group P a b τ = (λ h. ((h .0, h .1 .0), h .1 .1), λ h. (h .0 .0, (h .0 .1, h .1)))
 
 pub introduced-group : (s s′ d : List ℕ) (n top n′ top′ : ℕ) (G : Ghost) (a b c : Items) (M : ℕ → Type 0) (x e : ℕ) →
@@ -69,7 +69,7 @@ introduced-group s s′ d n top n′ top′ G a b c M x e I =
         mentioned = A .mentioned;
         cells = A .cells;
         wide = A .wide;
-        goes = (A .goes .0 .0, (A .goes .0 .1, passes-ext c (And (Meets (G .before ⨾ G .items)) (a ⨾ b)) (And (And (Meets (G .before ⨾ G .items)) a) b) (and-group (Meets (G .before ⨾ G .items)) a b) (A .goes .1)));
+        goes = (A .goes .0 .0, (A .goes .0 .1, passes-ext c (And (MeetsIn (G .before ⨾ G .items)) (a ⨾ b)) (And (And (MeetsIn (G .before ⨾ G .items)) a) b) (and-group (MeetsIn (G .before ⨾ G .items)) a b) (A .goes .1)));
         piece = piece-alike s′ d n′ (A .equations) (G .before) (G .items ⨾ ((a ⨾ b) ⨾ c)) (G .items ⨾ (a ⨾ (b ⨾ c))) (G .known) (A .mentioned) (A .cells) (alike-inner (G .items) a b c) (A .piece);
         above = A .above;
         later = record {
@@ -87,11 +87,11 @@ pub stops-group : (H t a b c : Items) (f m : ℕ) → Stops H t ((a ⨾ b) ⨾ c
 unfolding Refuses Passes
 stops-group H t a b c f m (inl (inl r)) = inl r
 stops-group H t a b c f m (inl (inr r)) = inr (r .0, inl (r .1))
-stops-group H t a b c f m (inr r) = inr (r .0 .0, inr (r .0 .1, refuses-ext c (And (Meets (H ⨾ t)) (a ⨾ b)) (And (And (Meets (H ⨾ t)) a) b) f m (and-group (Meets (H ⨾ t)) a b) (r .1)))
+stops-group H t a b c f m (inr r) = inr (r .0 .0, inr (r .0 .1, refuses-ext c (And (MeetsIn (H ⨾ t)) (a ⨾ b)) (And (And (MeetsIn (H ⨾ t)) a) b) f m (and-group (MeetsIn (H ⨾ t)) a b) (r .1)))
 
 -- What tables hold is settled.
 pub carries-settled : (s d : List ℕ) (H : Items) (U : List ℕ) (r : Signature) (rs : List (ℕ × ℕ)) → Carries (Placed s d H U) r rs → Carries (SettledAt s d (idle H U)) r rs
-unfolding Meets
+unfolding MeetsIn
 carries-settled s d H U r rs C =
     carries-other (Placed s d H U) (SettledAt s d (idle H U)) (λ t p P. record { over = P .typed .over; type = P .typed .type; reads = P .typed .reads; means = λ τ m. P .typed .settled τ (m .0) }) r rs C
 

@@ -8,7 +8,7 @@ use Rattle.types_rules.specs.Equations.{In}
 use Rattle.types_rules.specs.Types.{Ty, Term}
 use Rattle.types_rules.proofs.Terms.{each-map}
 use Rattle.checker_rules.specs.Dictionary.{Dictionary}
-use Rattle.checker_rules.specs.Items.{Items, _⨾_, Meets}
+use Rattle.checker_rules.specs.Items.{Items, _⨾_, Meets, MeetsIn}
 use Rattle.checker_rules.specs.Scopes.{Scope}
 use Rattle.checker_rules.specs.Signatures.{Signature}
 use Rattle.checker_rules.specs.Unknowns.{Valuation}
@@ -99,13 +99,13 @@ module _ (s d w : List ℕ) (n : ℕ) (Γ : Scope) (D : Dictionary) (G G′ : Gh
 
 -- To what holds between pieces, where the piece is suspended, and back.
 pub scoped-idle : (s d w : List ℕ) (n : ℕ) (Γ : Scope) (D : Dictionary) (G : Ghost) → Scoped s d w n G Γ D → Scoped s d w n (idle (G .before ⨾ G .items) (G .mentioned)) Γ D
-unfolding Meets
+unfolding MeetsIn
 scoped-idle s d w n Γ D G C = scoped-later s d w n Γ D G (idle (G .before ⨾ G .items) (G .mentioned)) (λ x i. i) (λ τ m. m .0) C
 
 -- Between pieces.
 pub scoped-walked : (s d w : List ℕ) (n : ℕ) (Γ : Scope) (D : Dictionary) (H c : Items) (U U′ : List ℕ) (M : ℕ → Type 0) → Walked H c U U′ M →
     Scoped s d w n (idle H U) Γ D → Scoped s d w n (idle (H ⨾ c) U′) Γ D
-unfolding Meets
+unfolding MeetsIn
 scoped-walked s d w n Γ D H c U U′ M W C = scoped-later s d w n Γ D (idle H U) (idle (H ⨾ c) U′) (W .wider) (λ τ m. (m .0 .0, tt)) C
 
 pub carries-later : (s d : List ℕ) (H H′ : Items) (U U′ : List ℕ) → ((x : ℕ) → In x U → In x U′) → ((τ : Valuation) → Meets H′ τ → Meets H τ) → (r : Signature) (rs : List (ℕ × ℕ)) →
@@ -125,5 +125,5 @@ carries-later s d H H′ U U′ wider says r rs C = carries-other (Placed s d H 
 
 pub carries-walked : (s d : List ℕ) (H c : Items) (U U′ : List ℕ) (M : ℕ → Type 0) → Walked H c U U′ M → (r : Signature) (rs : List (ℕ × ℕ)) →
     Carries (Placed s d H U) r rs → Carries (Placed s d (H ⨾ c) U′) r rs
-unfolding Meets
+unfolding MeetsIn
 carries-walked s d H c U U′ M W r rs C = carries-later s d H (H ⨾ c) U U′ (W .wider) (λ τ m. m .0) r rs C

@@ -11,7 +11,7 @@ use Rattle.reader_rules.specs.TreeNumbers.{exprNumbers}
 use Rattle.types_rules.specs.Types.{Term, cons, nil}
 use Rattle.checker_rules.specs.Conditions.{typeOf}
 use Rattle.checker_rules.specs.Dictionary.{Dictionary}
-use Rattle.checker_rules.specs.Items.{Items, skip, _⨾_, piece, Meets, Refuses}
+use Rattle.checker_rules.specs.Items.{Items, skip, _⨾_, piece, Refuses, MeetsIn}
 use Rattle.checker_rules.specs.Rules.{exprItems}
 use Rattle.checker_rules.specs.Scopes.{Scope}
 use Rattle.checker_rules.specs.Unknowns.{slot}
@@ -87,7 +87,7 @@ module _ (s d w : List ℕ) (rows at free : ℕ) (a b : Expr) (Q : Sides s d w r
   -- THE LEFT SIDE WAS VISITED.
   module _ (s₁ w₁ : List ℕ) (number place cell n top at₁ : ℕ) (A : ExprDone s s₁ d w w₁ rows 0 firstRun at free a number place cell n top at₁) where
     pub left-refused : (number ≡ 0 → ⊥) → (H : Items) (U : List ℕ) → Steady H U → (Γ : Scope) (D : Dictionary) → Scoped s d w rows (idle H U) Γ D → Fresh (na ++ nb) U →
-        Refuses (piece k (relationOf Γ)) (Meets H) number place
+        Refuses (piece k (relationOf Γ)) (MeetsIn H) number place
     left-refused e H U S Γ D C F =
         piece-refused H k (relationOf Γ) number place
         (stops-left H skip (exprItems a Γ) (exprItems b Γ ⨾ own k (typeOf a) (typeOf b)) number place
@@ -141,7 +141,7 @@ module _ (s d w : List ℕ) (rows at free : ℕ) (a b : Expr) (Q : Sides s d w r
       -- THE RIGHT SIDE WAS VISITED.
       module _ (s₂ w₂ : List ℕ) (number₂ place₂ cell₂ n₂ top₂ at₂ : ℕ) (B : ExprDone s₁ s₂ d w₁ w₂ rows n top at₁ free b number₂ place₂ cell₂ n₂ top₂ at₂) where
         pub right-refused : (number₂ ≡ 0 → ⊥) → (H : Items) (U : List ℕ) → Steady H U → (Γ : Scope) (D : Dictionary) → Scoped s d w rows (idle H U) Γ D → Fresh (na ++ nb) U →
-            Refuses (piece k (relationOf Γ)) (Meets H) number₂ place₂
+            Refuses (piece k (relationOf Γ)) (MeetsIn H) number₂ place₂
         right-refused e H U S Γ D C F =
             piece-refused H k (relationOf Γ) number₂ place₂
             (stop-then s s₁ d 0 firstRun n top (idle H U) (exprItems a Γ) (Owned na) (first H U S Γ D C F .advanced) (exprItems b Γ ⨾ own k (typeOf a) (typeOf b)) number₂ place₂
@@ -211,7 +211,7 @@ module _ (s d w : List ℕ) (rows at free : ℕ) (a b : Expr) (Q : Sides s d w r
           -- THE RELATION.
           module _ (s₃ : List ℕ) (number₃ n₃ : ℕ) (R : Related s₂ s₃ d n₂ top₂ cell cell₂ number₃ n₃ own) where
             pub own-refused : (number₃ ≡ 0 → ⊥) → (H : Items) (U : List ℕ) → Steady H U → (Γ : Scope) (D : Dictionary) → Scoped s d w rows (idle H U) Γ D → Fresh (na ++ nb) U →
-                Refuses (piece k (relationOf Γ)) (Meets H) number₃ k
+                Refuses (piece k (relationOf Γ)) (MeetsIn H) number₃ k
             own-refused e H U S Γ D C F =
                 piece-refused H k (relationOf Γ) number₃ k
                 (stop-then s s₁ d 0 firstRun n top (idle H U) (exprItems a Γ) (Owned na) (first H U S Γ D C F .advanced) (exprItems b Γ ⨾ own k (typeOf a) (typeOf b)) number₃ k
@@ -242,7 +242,7 @@ module _ (s d w : List ℕ) (rows at free : ℕ) (a b : Expr) (Q : Sides s d w r
                 pub relation-went : (s₄ : List ℕ) → Closed s₃ s₄ d n₃ true → Went H (piece k (relationOf Γ)) U N
                 relation-went s₄ Z = record { unknowns = whole .mentioned; walked = piece-walked s s₃ s₄ d n₃ (third .top′) H U k (relationOf Γ) (Owned N) whole (K .few) Z }
 
-                pub relation-several : (s₄ : List ℕ) → Closed s₃ s₄ d n₃ false → Refuses (piece k (relationOf Γ)) (Meets H) 34 k
+                pub relation-several : (s₄ : List ℕ) → Closed s₃ s₄ d n₃ false → Refuses (piece k (relationOf Γ)) (MeetsIn H) 34 k
                 relation-several s₄ Z = piece-several s s₃ s₄ d n₃ (third .top′) H U k (relationOf Γ) (Owned N) whole (K .few) Z
 
               pub close-ask : Closing s₃ d n₃

@@ -9,7 +9,7 @@ use lib.Seq.{length-sets, ext-getD}
 use Rattle.types_rules.specs.Equations.{In}
 use Rattle.types_rules.specs.Types.{Ty}
 use Rattle.checker_rules.specs.Dictionary.{Dictionary}
-use Rattle.checker_rules.specs.Items.{Items, _⨾_, Meets, Agree, Refuses}
+use Rattle.checker_rules.specs.Items.{Items, _⨾_, Meets, Agree, Refuses, MeetsIn}
 use Rattle.checker_rules.specs.Scopes.{Scope}
 use Rattle.checker_rules.specs.Unknowns.{Valuation}
 use Rattle.types_cells.specs.Layout.{maxPending, firstRun, frozenSize, areaSize, poolSize, maxCells}
@@ -145,7 +145,7 @@ module _ (s d w w₁ : List ℕ) (rows n top at free h e : ℕ) (l rest : List �
 
       -- A piece inside stops.
       pub waiting-stops : (c : Scope → Items) (s₁ : List ℕ) (x number place cell n′ top′ at′ : ℕ) → (number ≡ 0 → ⊥) →
-          ((H : Items) (U : List ℕ) → Steady H U → (Γ : Scope) (D : Dictionary) → Scoped s d w₁ rows (idle H U) Γ D → Fresh l U → Refuses (c Γ) (Meets H) number place) →
+          ((H : Items) (U : List ℕ) → Steady H U → (Γ : Scope) (D : Dictionary) → Scoped s d w₁ rows (idle H U) Γ D → Fresh l U → Refuses (c Γ) (MeetsIn H) number place) →
           Ending s s₁ d w w₂ rows n top at free c l nothing x number place cell n′ top′ at′
       waiting-stops c s₁ x number place cell n′ top′ at′ ne inner = record {
         spared = waiting-spared;
@@ -220,7 +220,7 @@ module _ (s d w w₁ : List ℕ) (rows n top at free h e : ℕ) (l rest : List �
               (carry : (Γ : Scope) (D : Dictionary) (G G′ : Ghost) → ((x : ℕ) → In x (G .mentioned) → In x (G′ .mentioned)) →
               ((τ : Valuation) → Meets (G′ .before ⨾ G′ .items) τ → Meets (G .before ⨾ G .items) τ) → later Γ D G → after Γ D G′) where
             pub waiting-step : Step s s₂ d w w₂ rows n top n top at at₁ free c l nothing after
-            unfolding Meets taken
+            unfolding MeetsIn taken
             waiting-step = record {
               spared = waiting-spared;
               stored = taken-stored reach;

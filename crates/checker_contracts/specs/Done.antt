@@ -5,7 +5,7 @@ use mathlib.Core.Path.{_≡_}
 use mathlib.Core.List.{List}
 use Prim.Native.Nat.{ℕ, _+_, _*_, _≤_}
 use Rattle.checker_rules.specs.Dictionary.{Dictionary}
-use Rattle.checker_rules.specs.Items.{Items, Meets, Refuses}
+use Rattle.checker_rules.specs.Items.{Items, Refuses, MeetsIn}
 use Rattle.checker_rules.specs.Scopes.{Scope}
 use Rattle.checker_pieces.specs.Piece.{Steady}
 use Rattle.checker_lookup.specs.Scoped.{Scoped}
@@ -19,7 +19,7 @@ pub record Done (s d w : List ℕ) (stack : ℕ) (kept left X : Type 0) (given :
   pub areas : number ≡ 0 → left
   pub goes : number ≡ 0 → (H : Items) (U : List ℕ) → Steady H U → (Γ : Scope) (D : Dictionary) → Scoped s d w stack (idle H U) Γ D → (x : X) → given x H U → went x H U Γ D
   pub stops : (number ≡ 0 → ⊥) → (H : Items) (U : List ℕ) → Steady H U → (Γ : Scope) (D : Dictionary) → Scoped s d w stack (idle H U) Γ D → (x : X) → given x H U →
-      Refuses (items x Γ D) (Meets H) number place
+      Refuses (items x Γ D) (MeetsIn H) number place
 
 -- A signature of m rows, whose types are stored from `at` to at′.
 pub record Signed (s s′ : List ℕ) (at at′ m : ℕ) : Type 0 where

@@ -14,7 +14,7 @@ use Rattle.types_rules.specs.Words.{words}
 use Rattle.checker_rules.specs.Conditions.{newNames, typeOf}
 use Rattle.checker_rules.specs.Dictionary.{Dictionary, _▸_, nameEntry, entryWords}
 use Rattle.checker_rules.specs.Entries.{extend}
-use Rattle.checker_rules.specs.Items.{Items, skip, _⨾_, small, piece, Meets, Refuses}
+use Rattle.checker_rules.specs.Items.{Items, skip, _⨾_, small, piece, Refuses, MeetsIn}
 use Rattle.checker_rules.specs.Rules.{paragraphItems, exprItems}
 use Rattle.checker_rules.specs.Scopes.{Scope, globals, withParameters}
 use Rattle.checker_rules.specs.Unknowns.{Valuation, slot}
@@ -94,7 +94,7 @@ module _ (s d w : List ℕ) (p : Paragraph) (k i : ℕ) (ps : List ℕ) (a : Exp
   abbrev rest : Dictionary → Items
   rest D = newNames k (i ∷ []) D ⨾ small k (typeOf a)
 
-  refuse-first : (D : Dictionary) (f m : ℕ) → Refuses (piece k (body D)) (Meets skip) f m → Refuses (paragraphItems (abbreviation k i ps a) D) (Meets skip) f m
+  refuse-first : (D : Dictionary) (f m : ℕ) → Refuses (piece k (body D)) (MeetsIn skip) f m → Refuses (paragraphItems (abbreviation k i ps a) D) (MeetsIn skip) f m
   unfolding paragraphItems
   refuse-first D f m r = refuses-first skip (piece k (body D)) (rest D) f m r
 
@@ -165,7 +165,7 @@ module _ (s d w : List ℕ) (p : Paragraph) (k i : ℕ) (ps : List ℕ) (a : Exp
         type D R = shut D R .type cell
 
         settled : (D : Dictionary) (R : DictionaryHeld D d) → Settled (skip ⨾ piece k (body D)) (typeOf a) (type D R)
-        unfolding Meets under
+        unfolding MeetsIn under
         settled D R τ m = shut D R .types k (slot (exprNode a) 0) cell (went D R .placed) τ (m .0, (tt, m .1))
 
         abbrev own-sizing : Sizing s₃ d n′ cell
@@ -181,7 +181,7 @@ module _ (s d w : List ℕ) (p : Paragraph) (k i : ℕ) (ps : List ℕ) (a : Exp
         pub sizing : Sizing s₃ d n′ cell
         sizing = own-sizing
 
-        refuse-second : (D : Dictionary) (R : DictionaryHeld D d) (f m : ℕ) → Refuses (rest D) (Meets (skip ⨾ piece k (body D))) f m → Refuses (paragraphItems (abbreviation k i ps a) D) (Meets skip) f m
+        refuse-second : (D : Dictionary) (R : DictionaryHeld D d) (f m : ℕ) → Refuses (rest D) (MeetsIn (skip ⨾ piece k (body D))) f m → Refuses (paragraphItems (abbreviation k i ps a) D) (MeetsIn skip) f m
         unfolding paragraphItems
         refuse-second D R f m r = refuses-second skip (piece k (body D)) (rest D) f m (closed D R .goes) r
 
@@ -206,7 +206,7 @@ module _ (s d w : List ℕ) (p : Paragraph) (k i : ℕ) (ps : List ℕ) (a : Exp
           measured D R = Z (next s₁ s₂ d 0 firstRun n′ top′ G₀ (body D) Mine (went D R .advanced)) (shut D R)
 
           settled-then : (D : Dictionary) (R : DictionaryHeld D d) → Settled ((skip ⨾ piece k (body D)) ⨾ newNames k (i ∷ []) D) (typeOf a) (type D R)
-          unfolding Meets
+          unfolding MeetsIn
           settled-then D R τ m = settled D R τ (m .0)
 
           -- 38
@@ -232,7 +232,7 @@ module _ (s d w : List ℕ) (p : Paragraph) (k i : ℕ) (ps : List ℕ) (a : Exp
 
             pub abbreviation-done : length s₃ ≡ length s₂ → (s₄ w₃ w₄ : List ℕ) (end len : ℕ) → n ≡ length ps → s₄ ≡ sets s₃ 1 (replicate (at₂ - 1) 0) → WordsAre s₃ d w₂ w₃ n′ cell (entriesAt + 4) end →
                 len ≡ end - entriesAt - 1 → w₄ ≡ sets w₃ entriesAt (len ∷ 1 ∷ i ∷ n ∷ []) → ParagraphDone s s₄ d w w₄ p 0 place entriesAt 1
-            unfolding paragraphItems extend Meets withEntries waiting entryWords under
+            unfolding paragraphItems extend MeetsIn withEntries waiting entryWords under
             abbreviation-done z₃ s₄ w₃ w₄ end len c h W l hw = subst (λ y. ParagraphDone s s₄ d w w₄ y 0 place entriesAt 1) (sym e) (record {
               size = let B = wrote (A .dictionary) (A .recorded) in ap length (B .area) ∙ length-sets w₂ entriesAt (entryWaits (nameEntry i (length ps) (type (A .dictionary) (A .recorded)))) ∙ size₂;
               low = λ z.

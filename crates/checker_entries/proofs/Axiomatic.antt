@@ -12,7 +12,7 @@ use Rattle.reader_rules.specs.TreeNumbers.{paragraphNumbers, textNumbers}
 use Rattle.types_rules.specs.Types.{Tys}
 use Rattle.checker_rules.specs.Dictionary.{Dictionary}
 use Rattle.checker_rules.specs.Entries.{extend}
-use Rattle.checker_rules.specs.Items.{skip, _⨾_, Meets}
+use Rattle.checker_rules.specs.Items.{skip, _⨾_, MeetsIn}
 use Rattle.checker_rules.specs.Rules.{paragraphItems, textItems}
 use Rattle.checker_rules.specs.Scopes.{globals, textSignature}
 use Rattle.types_cells.specs.Settled.{lower, heap, Areas}
@@ -81,7 +81,7 @@ module _ (s d w : List ℕ) (p : Paragraph) (k : ℕ) (t : Text) (e : p ≡ axio
 
       pub axiom-done : (s″ w″ : List ℕ) (end : ℕ) → s″ ≡ sets s′ 1 (replicate (at′ - 1) 0) →
           ((gs : Tys) → TypesAt (heap s′ d) (rows w′ framesAt m) gs → Wrote w′ w″ entriesAt end (waiting (nameEntries (rows w′ framesAt m) gs))) → ParagraphDone s s″ d w w″ p 0 place entriesAt m
-      unfolding paragraphItems extend globalsIf Meets
+      unfolding paragraphItems extend globalsIf MeetsIn
       axiom-done s″ w″ end h W = subst (λ x. ParagraphDone s s″ d w w″ x 0 place entriesAt m) (sym e) (record {
         size = let O = own (A .dictionary) (A .recorded) in ap length (W (O .types) (O .stand) .area) ∙ length-sets w′ entriesAt (waiting (nameEntries (rows w′ framesAt m) (O .types))) ∙ T .done .still .size;
         low = λ z.

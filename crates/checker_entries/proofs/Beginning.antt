@@ -8,7 +8,7 @@ use lib.ListN.{length}
 use Rattle.types_rules.specs.Types.{integerType}
 use Rattle.checker_rules.specs.Check.{checkWorkWords}
 use Rattle.checker_rules.specs.Dictionary.{Dictionary}
-use Rattle.checker_rules.specs.Items.{Items, skip, Meets, Any, Passes, Refuses}
+use Rattle.checker_rules.specs.Items.{Items, skip, Any, Passes, Refuses, MeetsIn}
 use Rattle.checker_rules.specs.Scopes.{Scope, globals}
 use Rattle.checker_rules.specs.Unknowns.{Valuation}
 use Rattle.checker_rules.proofs.ItemLaws.{passes-ext, refuses-ext}
@@ -23,7 +23,7 @@ use Rattle.checker_contracts.specs.Visits.{Fresh, EachOnce, idle}
 use Rattle.types_cells.specs.Layout.{areaSize}
 
 pub nothing-before : Steady skip []
-unfolding Meets
+unfolding MeetsIn
 nothing-before = record { local = λ τ τ′ h m. tt; some = (λ x. integerType, tt) }
 
 pub nothing-known : (l : List ℕ) → Fresh l []
@@ -57,10 +57,10 @@ walking-below s d w rows at l Γ D z f c o B C = record {
 }
 
 -- THE END.
-pub passes-any : (c : Items) → Passes c (Meets skip) → Passes c Any
-unfolding Meets
-passes-any c p = passes-ext c (Meets skip) Any (λ τ. (λ h. tt, λ h. tt)) p
+pub passes-any : (c : Items) → Passes c (MeetsIn skip) → Passes c Any
+unfolding MeetsIn
+passes-any c p = passes-ext c (MeetsIn skip) Any (λ τ. (λ h. tt, λ h. tt)) p
 
-pub refuses-any : (c : Items) (f m : ℕ) → Refuses c (Meets skip) f m → Refuses c Any f m
-unfolding Meets
-refuses-any c f m r = refuses-ext c (Meets skip) Any f m (λ τ. (λ h. tt, λ h. tt)) r
+pub refuses-any : (c : Items) (f m : ℕ) → Refuses c (MeetsIn skip) f m → Refuses c Any f m
+unfolding MeetsIn
+refuses-any c f m r = refuses-ext c (MeetsIn skip) Any f m (λ τ. (λ h. tt, λ h. tt)) r

@@ -8,7 +8,7 @@ use Rattle.reader_rules.specs.Limited.{LimitedParagraph}
 use Rattle.reader_rules.specs.Tree.{Paragraph, constraint, Pred}
 use Rattle.reader_rules.specs.TreeNumbers.{paragraphNumbers, predNumbers}
 use Rattle.checker_rules.specs.Entries.{extend}
-use Rattle.checker_rules.specs.Items.{skip, Meets}
+use Rattle.checker_rules.specs.Items.{skip, MeetsIn}
 use Rattle.checker_rules.specs.Rules.{paragraphItems, predItems}
 use Rattle.checker_rules.specs.Scopes.{globals}
 use Rattle.checker_dictionary.specs.Waiting.{withEntries, waiting}
@@ -33,7 +33,7 @@ module _ (s d w : List ℕ) (p : Paragraph) (k : ℕ) (q : Pred) (e : p ≡ cons
       }
 
   pub constraint-done : (s′ w′ : List ℕ) (number place at : ℕ) → PredDone s s′ d w w′ 0 1 framesAt q number place → ParagraphDone s s′ d w w′ p number place at 0
-  unfolding paragraphItems extend withEntries waiting Meets
+  unfolding paragraphItems extend withEntries waiting MeetsIn
   constraint-done s′ w′ number place at P = subst (λ x. ParagraphDone s s′ d w w′ x number place at 0) (sym e) (record {
     size = P .done .still .size;
     low = P .done .areas;

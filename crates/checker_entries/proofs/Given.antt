@@ -10,7 +10,7 @@ use Rattle.reader_rules.specs.Tree.{Paragraph, given}
 use Rattle.checker_rules.specs.Conditions.{newNames}
 use Rattle.checker_rules.specs.Dictionary.{Dictionary, _▸_, nameEntry}
 use Rattle.checker_rules.specs.Entries.{extend, addGivens}
-use Rattle.checker_rules.specs.Items.{skip, Meets}
+use Rattle.checker_rules.specs.Items.{skip, MeetsIn}
 use Rattle.checker_rules.specs.Rules.{paragraphItems}
 use Rattle.checker_rules.specs.Unknowns.{givenSet}
 use Rattle.types_cells.specs.Settled.{lower}
@@ -44,7 +44,7 @@ module _ (s d w : List ℕ) (p : Paragraph) (k : ℕ) (is : List ℕ) (e : p ≡
 
   pub given-done : NewTold d is true → (w′ : List ℕ) (place at end : ℕ) → length is ≤ 1024 → at + 7 * length is ≤ length w → Wrote w w′ at end (waiting (givenEntries is)) →
       ParagraphDone s s d w w′ p 0 place at (length is)
-  unfolding paragraphItems extend Meets
+  unfolding paragraphItems extend MeetsIn
   given-done N w′ place at end few room W = subst (λ x. ParagraphDone s s d w w′ x 0 place at (length is)) (sym e) (record {
     size = ap length (W .area) ∙ length-sets w at (waiting (givenEntries is));
     low = λ z. refl;

@@ -11,7 +11,7 @@ use Rattle.reader_rules.specs.TreeNumbers.{paragraphNumbers, schemaNumbers}
 use Rattle.types_rules.specs.Types.{Ty, Tys}
 use Rattle.checker_rules.specs.Dictionary.{Dictionary, _▸_, schemaEntry, entryWords}
 use Rattle.checker_rules.specs.Entries.{extend}
-use Rattle.checker_rules.specs.Items.{skip, _⨾_, Meets}
+use Rattle.checker_rules.specs.Items.{skip, _⨾_, MeetsIn}
 use Rattle.checker_rules.specs.Rules.{paragraphItems, schemaItems}
 use Rattle.checker_rules.specs.Scopes.{Scope, globals, withParameters, schemaSignature}
 use Rattle.types_cells.specs.Settled.{lower, heap}
@@ -96,7 +96,7 @@ module _ (s d w : List ℕ) (p : Paragraph) (k name : ℕ) (ps : List ℕ) (x : 
 
       pub schema-done : (s₃ w₃ : List ℕ) (end : ℕ) → n ≡ length ps → s₃ ≡ sets s₂ 1 (replicate (at₂ - 1) 0) →
           ((gs : Tys) → TypesAt (heap s₂ d) (rows w₂ framesAt m) gs → Wrote w₂ w₃ entriesAt end (entryWaits (schemaOf name n (rows w₂ framesAt m) gs))) → ParagraphDone s s₃ d w w₃ p 0 place entriesAt 1
-      unfolding paragraphItems extend Meets withEntries waiting
+      unfolding paragraphItems extend MeetsIn withEntries waiting
       schema-done s₃ w₃ end c h W = subst (λ y. ParagraphDone s s₃ d w w₃ y 0 place entriesAt 1) (sym e) (record {
         size = let O = own (A .dictionary) (A .recorded) in ap length (W (O .types) (O .stand) .area) ∙ length-sets w₂ entriesAt (entryWaits (schemaOf name n (rows w₂ framesAt m) (O .types))) ∙ T .done .still .size ∙ P .size;
         low = λ z.

@@ -8,7 +8,7 @@ use lib.ListN.{getD}
 use Rattle.types_rules.specs.Types.{Ty, Term, under, size}
 use Rattle.types_rules.proofs.Terms.{bool-no}
 use Rattle.checker_rules.specs.Unknowns.{row}
-use Rattle.checker_rules.specs.Items.{Items, _⨾_, Meets, Refuses}
+use Rattle.checker_rules.specs.Items.{Items, _⨾_, Refuses, MeetsIn}
 use Rattle.checker_rules.specs.Signatures.{Signature, noNames, naming, termIn}
 use Rattle.checker_rules.specs.Conditions.{sameType, mergeNames}
 use Rattle.reader_rules.specs.Decode.{pairsFrom}
@@ -62,13 +62,13 @@ module _ (s d w : List ℕ) (base m p id : ℕ) (places : List ℕ) (r : ℕ) (F
             (equal-noted H U None 36 n t (f .0) k D (λ τ j. component-settled s d H U i z places t p A C τ j ∙ v) (B .typed .settled))
 
         stops′ : b ≡ false → (H : Items) (U : List ℕ) (n i z : ℕ) (t : Term) (x : Signature) → Steady H U → ActualTypes s d H U i z places → Component s d (row i 1 z) t p →
-            Carries (Placed s d H U) x (rows w base m) → Refuses (sameType n t (termIn id x)) (Meets H) 36 n
+            Carries (Placed s d H U) x (rows w base m) → Refuses (sameType n t (termIn id x)) (MeetsIn H) 36 n
         stops′ e H U n i z t x D A C K =
             let f = found-term (Placed s d H U) w base m id r F x K h in
             let B = f .2 in
             let k = B .typed .type in
             let T = S .tells (C .type) k (A .shown) (C .reads) (there k (B .typed .reads)) (A .stand) in
-            subst (λ o. Refuses (sameType n t o) (Meets H) 36 n) (sym (f .1))
+            subst (λ o. Refuses (sameType n t o) (MeetsIn H) 36 n) (sym (f .1))
             (equal-refused H 36 n t (f .0) (fill (A .types) (C .type)) k (component-settled s d H U i z places t p A C) (B .typed .settled)
             (λ y. T .fails e (sym (fill-alike (A .types) (A .shown) (stands-back _ _ (A .alike)) (C .type) (subst (λ g. size g ≤ 32) (sym y) (B .small))) ∙ y)))
 
@@ -122,10 +122,10 @@ module _ (s d w : List ℕ) (base m : ℕ) (places : List ℕ) where
     agree-break O = record { goes = λ y. absurd (bool-no false y refl); stops = λ y H U n i z x r S A C D. stops′ H U n i z x r S A (subst (λ v. Carries (Component s d (row i 1 z)) x (rows w source v)) e C) D }
       where
         stops′ : (H : Items) (U : List ℕ) (n i z : ℕ) (x r : Signature) → Steady H U → ActualTypes s d H U i z places → Carries (Component s d (row i 1 z)) x (rows w source (suc j)) →
-            Carries (Placed s d H U) r (rows w base m) → Refuses (mergeNames n x r) (Meets H) 36 n
+            Carries (Placed s d H U) r (rows w base m) → Refuses (mergeNames n x r) (MeetsIn H) 36 n
         stops′ H U n i z noNames r S A C D = absurd C
         stops′ H U n i z (naming v t x) r S A C D = refuses-first H (sameType n t (termIn v r)) (mergeNames n x r) 36 n
-            (subst (λ y. Refuses (sameType n t (termIn y r)) (Meets H) 36 n) (sym (C .0)) (O .stops refl H U n i z t r S A (C .1) D))
+            (subst (λ y. Refuses (sameType n t (termIn y r)) (MeetsIn H) 36 n) (sym (C .0)) (O .stops refl H U n i z t r S A (C .1) D))
 
     agree-next : OneTold s d w base m p₀ i₀ places true → (b : Bool) → AgreeTold s d w base m (suc (suc source)) j places b → AgreeTold s d w base m source k places b
     unfolding mergeNames pairsFrom Carries
@@ -147,7 +147,7 @@ module _ (s d w : List ℕ) (base m : ℕ) (places : List ℕ) where
             walked-then H c (mergeNames n x r) U U U None S W (N .goes y (H ⨾ c) U n i z x r (W .steady) (actuals-later s d H c U i z places A) (C .2) (placed-later s d H c U r _ D))
 
         stops′ : b ≡ false → (H : Items) (U : List ℕ) (n i z : ℕ) (x r : Signature) → Steady H U → ActualTypes s d H U i z places → Carries (Component s d (row i 1 z)) x (rows w source (suc j)) →
-            Carries (Placed s d H U) r (rows w base m) → Refuses (mergeNames n x r) (Meets H) 36 n
+            Carries (Placed s d H U) r (rows w base m) → Refuses (mergeNames n x r) (MeetsIn H) 36 n
         stops′ y H U n i z noNames r S A C D = absurd C
         stops′ y H U n i z (naming v t x) r S A C D =
             let c = sameType n t (termIn v r) in

@@ -8,7 +8,7 @@ use native.Mathlib.Omega.{arith}
 use lib.ListN.{length, getD}
 use Rattle.types_rules.specs.Types.{Ty, Tys, Term, under, size}
 use Rattle.checker_rules.specs.Unknowns.{Valuation}
-use Rattle.checker_rules.specs.Items.{Items, Meets}
+use Rattle.checker_rules.specs.Items.{Items, Meets, MeetsIn}
 use Rattle.checker_rules.specs.Signatures.{Signature, noNames, naming, termIn}
 use Rattle.checker_rules.specs.Conditions.{sameType, mergeNames, smallTypes}
 use Rattle.reader_rules.specs.Decode.{pairsFrom}
@@ -114,7 +114,7 @@ module _ (s d w : List ℕ) (base m source k : ℕ) (places : List ℕ) (at end 
           placed q R = record { typed = record { type = g; reads = R; settled = B .settled; over = B .over }; small = few }
 
           found : RowFound w w′ base m p → Placed s′ d H U t (getD w′ (p + 1) 0)
-          unfolding sameType Meets
+          unfolding sameType MeetsIn
           found F =
               let f = F .row in
               let l = F .among in
@@ -138,7 +138,7 @@ module _ (s d w : List ℕ) (base m source k : ℕ) (places : List ℕ) (at end 
         -- ALL ROWS.
         all-placed : (q : Signature) (p j : ℕ) → Carries (Fills s d H U gs) q (rows w p j) → Meets (mergeNames n q r) τ₀ → Meets (smallTypes n q) τ₀ →
             ((x : ℕ) → x < j → Got (p + 2 * x)) → ((x : ℕ) → x < j → getD w′ (p + 2 * x) 0 ≡ getD w (p + 2 * x) 0) → Carries (Placed s′ d H U) q (rows w′ p j)
-        unfolding pairsFrom Carries mergeNames smallTypes Meets
+        unfolding pairsFrom Carries mergeNames smallTypes MeetsIn
         all-placed noNames p zero c a b h y = tt
         all-placed noNames p (suc j) c a b h y = absurd c
         all-placed (naming x t q) p zero c a b h y = absurd c

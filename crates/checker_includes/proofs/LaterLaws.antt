@@ -2,7 +2,7 @@
 use mathlib.Core.List.{List}
 use Prim.Native.Nat.{ℕ}
 use Rattle.types_rules.specs.Types.{Term}
-use Rattle.checker_rules.specs.Items.{Items, _⨾_, Meets}
+use Rattle.checker_rules.specs.Items.{Items, _⨾_, MeetsIn}
 use Rattle.checker_rules.specs.Signatures.{Signature}
 use Rattle.checker_signatures.specs.Carried.{Carries}
 use Rattle.checker_signatures.proofs.CarryLaws.{carries-other}
@@ -11,7 +11,7 @@ use Rattle.checker_includes.specs.Components.{Placed, ActualTypes}
 
 module _ (s d : List ℕ) (H c : Items) (U : List ℕ) where
   pub actuals-later : (i z : ℕ) (places : List ℕ) → ActualTypes s d H U i z places → ActualTypes s d (H ⨾ c) U i z places
-  unfolding Meets
+  unfolding MeetsIn
   actuals-later i z places A = record { types = A .types; settled = λ τ m. A .settled τ (m .0); shown = A .shown; stand = A .stand; alike = A .alike; over = A .over }
 
   one-later : (t : Term) (p : ℕ) → Placed s d H U t p → Placed s d (H ⨾ c) U t p

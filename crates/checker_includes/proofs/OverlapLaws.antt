@@ -8,7 +8,7 @@ use lib.ListN.{length, getD, drop}
 use Rattle.words.proofs.Lists.{drop-next}
 use Rattle.types_rules.specs.Types.{Term, size}
 use Rattle.types_rules.proofs.Terms.{bool-no}
-use Rattle.checker_rules.specs.Items.{Items, _⨾_, Meets, Refuses}
+use Rattle.checker_rules.specs.Items.{Items, _⨾_, Refuses, MeetsIn}
 use Rattle.checker_rules.specs.Signatures.{Signature, termIn}
 use Rattle.checker_rules.specs.Conditions.{sameType, mergeDeclared}
 use Rattle.checker_signatures.specs.Rows.{rows}
@@ -41,9 +41,9 @@ module _ (s d w : List ℕ) (base m : ℕ) where
           let o = found-term (Placed s d H U) w base m i f F r C l in
           let B = o .2 in
           let k = B .small in
-          subst (λ x. Refuses (mergeDeclared n x t r) (Meets H) 36 n) (sym e)
+          subst (λ x. Refuses (mergeDeclared n x t r) (MeetsIn H) 36 n) (sym e)
           (refuses-first H (sameType n t (termIn i r)) (mergeDeclared n js t r) 36 n
-          (subst (λ x. Refuses (sameType n t x) (Meets H) 36 n) (sym (o .1))
+          (subst (λ x. Refuses (sameType n t x) (MeetsIn H) 36 n) (sym (o .1))
           (equal-refused H 36 n t (o .0) g (B .typed .type) A (B .typed .settled) (λ q. let y = ap size q in omega arith))));
     }
 
@@ -58,7 +58,7 @@ module _ (s d w : List ℕ) (base m : ℕ) where
       stops = λ z H U n t g r S A q C.
           let c = sameType n t (termIn i r) in
           let W = first H U n t r S C in
-          subst (λ x. Refuses (mergeDeclared n x t r) (Meets H) 36 n) (sym e)
+          subst (λ x. Refuses (mergeDeclared n x t r) (MeetsIn H) 36 n) (sym e)
           (refuses-second H c (mergeDeclared n js t r) 36 n (W .goes) (N .stops z (H ⨾ c) U n t g r (W .steady) (settled-later H c t g A) q (placed-later s d H c U r _ C)));
     }
       where

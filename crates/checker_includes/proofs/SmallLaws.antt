@@ -8,7 +8,7 @@ use lib.ListN.{getD}
 use Rattle.types_rules.specs.Types.{Ty, Tys, Term, size}
 use Rattle.types_rules.proofs.Terms.{bool-no}
 use Rattle.checker_rules.specs.Unknowns.{row}
-use Rattle.checker_rules.specs.Items.{Items, small, _⨾_, Meets, Refuses}
+use Rattle.checker_rules.specs.Items.{Items, small, _⨾_, Refuses, MeetsIn}
 use Rattle.checker_rules.specs.Signatures.{Signature, noNames, naming}
 use Rattle.checker_rules.specs.Conditions.{smallTypes}
 use Rattle.reader_rules.specs.Decode.{pairsFrom}
@@ -44,7 +44,7 @@ module _ (s d : List ℕ) (p v : ℕ) (places : List ℕ) (F : FilledSize s d p 
       let m : size (fill (A .shown) (C .type)) ≤ 32 = omega arith in
       small-noted H U None n t _ S (component-settled s d H U i z places t p A C) (subst (λ g. size g ≤ 32) (fill-alike (A .shown) (A .types) (A .alike) (C .type) m) m)
 
-  one-over : 32 < v → Refuses (small n t) (Meets H) 38 n
+  one-over : 32 < v → Refuses (small n t) (MeetsIn H) 38 n
   one-over l =
       small-refused H U n t _ S (component-settled s d H U i z places t p A C) (over-alike (A .shown) (A .types) (A .alike) (C .type) (size-over (fill (A .shown) (C .type)) v found l))
 
@@ -67,7 +67,7 @@ module _ (s d w : List ℕ) (places : List ℕ) where
     small-break l = record { goes = λ y. absurd (bool-no false y refl); sizes = λ y. absurd (bool-no false y refl); stops = λ y H U n i z x S A C. stops′ H U n i z x S A (subst (λ u. Carries (Component s d (row i 1 z)) x (rows w source u)) e C) }
       where
         stops′ : (H : Items) (U : List ℕ) (n i z : ℕ) (x : Signature) → Steady H U → ActualTypes s d H U i z places → Carries (Component s d (row i 1 z)) x (rows w source (suc j)) →
-            Refuses (smallTypes n x) (Meets H) 38 n
+            Refuses (smallTypes n x) (MeetsIn H) 38 n
         stops′ H U n i z noNames S A C = absurd C
         stops′ H U n i z (naming u t x) S A C = refuses-first H (small n t) (smallTypes n x) 38 n (one-over s d _ v places F H U n i z t S A (C .1) l)
 
@@ -93,7 +93,7 @@ module _ (s d w : List ℕ) (places : List ℕ) where
             walked-then H (small n t) (smallTypes n x) U U U None S W (N .goes y (H ⨾ small n t) U n i z x (W .steady) (actuals-later s d H (small n t) U i z places A) (C .2))
 
         stops′ : b ≡ false → (H : Items) (U : List ℕ) (n i z : ℕ) (x : Signature) → Steady H U → ActualTypes s d H U i z places → Carries (Component s d (row i 1 z)) x (rows w source (suc j)) →
-            Refuses (smallTypes n x) (Meets H) 38 n
+            Refuses (smallTypes n x) (MeetsIn H) 38 n
         stops′ y H U n i z noNames S A C = absurd C
         stops′ y H U n i z (naming u t x) S A C =
             let W = one-small s d _ v places F H U n i z t S A (C .1) l in

@@ -8,7 +8,7 @@ use lib.ListN.{length, getD}
 use Rattle.types_rules.specs.Types.{Ty, Tys, Term, size}
 use Rattle.types_rules.specs.Formed.{WellFormed}
 use Rattle.checker_rules.specs.Unknowns.{Valuation}
-use Rattle.checker_rules.specs.Items.{Items, Meets, Refuses}
+use Rattle.checker_rules.specs.Items.{Items, Meets, Refuses, MeetsIn}
 use Rattle.checker_rules.specs.Signatures.{Signature}
 use Rattle.checker_rules.specs.Conditions.{mergeNames, mergeDeclared, smallTypes}
 use Rattle.types_cells.specs.Layout.{areaSize, poolSize, typeWords}
@@ -64,7 +64,7 @@ pub record OverlapTold (s d w : List ℕ) (base m : ℕ) (is : List ℕ) (none :
   pub goes : none ≡ true → (H : Items) (U : List ℕ) (n : ℕ) (t : Term) (r : Signature) → Steady H U → Carries (Placed s d H U) r (rows w base m) →
       Walked H (mergeDeclared n is t r) U U (λ x. ⊥)
   pub stops : none ≡ false → (H : Items) (U : List ℕ) (n : ℕ) (t : Term) (g : Ty) (r : Signature) → Steady H U → Settled H t g → 32 < size g →
-      Carries (Placed s d H U) r (rows w base m) → Refuses (mergeDeclared n is t r) (Meets H) 36 n
+      Carries (Placed s d H U) r (rows w base m) → Refuses (mergeDeclared n is t r) (MeetsIn H) 36 n
 
 -- WHAT AN INCLUDE BRINGS, WRITTEN OUT: the k rows at `source` get places of their own types; those of identifiers that are in the table of m rows at
 -- base get the places there. The actuals' words stand between `at` and `end`, and are overwritten.

@@ -2,7 +2,7 @@
 use mathlib.Core.List.{List}
 use mathlib.Core.Logic.{inl, inr, ⊎-elim}
 use Prim.Native.Nat.{ℕ}
-use Rattle.checker_rules.specs.Items.{Items, _⨾_, Meets, Agree, And, Passes, Refuses}
+use Rattle.checker_rules.specs.Items.{Items, _⨾_, Agree, And, Passes, Refuses, MeetsIn}
 use Rattle.checker_rules.proofs.ItemLaws.{passes-ext}
 use Rattle.checker_pieces.specs.Piece.{Goes, Stops}
 use Rattle.checker_pieces.specs.Stage.{Ghost}
@@ -11,17 +11,17 @@ use Rattle.checker_pieces.proofs.Walks.{Alike, piece-alike, items-earlier}
 
 module _ (t a b c : Items) where
   alike : Alike (t ⨾ ((a ⨾ b) ⨾ c)) (t ⨾ (a ⨾ (b ⨾ c)))
-  unfolding Meets Agree
+  unfolding MeetsIn Agree
   alike = (
     λ τ. (λ h. (h .0, (h .1 .0 .0, (h .1 .0 .1, h .1 .1))), λ h. (h .0, ((h .1 .0, h .1 .1 .0), h .1 .1 .1))),
     λ τ τ′. (λ h. (h .0, (h .1 .0 .0, (h .1 .0 .1, h .1 .1))), λ h. (h .0, ((h .1 .0, h .1 .1 .0), h .1 .1 .1))),
   )
 
   goes-group : (H : Items) → Goes H t ((a ⨾ b) ⨾ c) → Goes H t (a ⨾ (b ⨾ c))
-  unfolding Passes Meets
+  unfolding Passes MeetsIn
   goes-group H p = (
     p .0 .0,
-    (p .0 .1, passes-ext c (And (Meets (H ⨾ t)) (a ⨾ b)) (And (And (Meets (H ⨾ t)) a) b) (λ τ. (λ h. ((h .0, h .1 .0), h .1 .1), λ h. (h .0 .0, (h .0 .1, h .1)))) (p .1)),
+    (p .0 .1, passes-ext c (And (MeetsIn (H ⨾ t)) (a ⨾ b)) (And (And (MeetsIn (H ⨾ t)) a) b) (λ τ. (λ h. ((h .0, h .1 .0), h .1 .1), λ h. (h .0 .0, (h .0 .1, h .1)))) (p .1)),
   )
 
   pub stops-group : (H : Items) (f m : ℕ) → Stops H t (a ⨾ b) f m → Stops H t (a ⨾ (b ⨾ c)) f m

@@ -10,7 +10,7 @@ use Rattle.reader_rules.specs.Tree.{Expr, Exprs, none, more, exprsLength}
 use Rattle.types_rules.specs.Former.{power}
 use Rattle.types_rules.specs.Types.{Term, cons, nil}
 use Rattle.checker_rules.specs.Conditions.{typeOf}
-use Rattle.checker_rules.specs.Items.{Items, skip, equate, Meets, Agree, Passes}
+use Rattle.checker_rules.specs.Items.{Items, skip, equate, Agree, Passes, MeetsIn}
 use Rattle.checker_rules.specs.Unknowns.{unknownAt, powerOf}
 use Rattle.types_cells.specs.Settled.{lower}
 use Rattle.checker_pieces.specs.Piece.{Stops}
@@ -30,7 +30,7 @@ actuals-kept s s′ d n n′ G G′ f parts i (more a xs) h = (f (getD parts i 0
 
 -- No items.
 nothing-more : (s d : List ℕ) (n top : ℕ) (G : Ghost) (M : ℕ → Type 0) → Stands s d n top G → Advanced s s d n top n top G skip M
-unfolding Passes Meets Agree
+unfolding Passes MeetsIn Agree
 nothing-more s d n top G M S = record {
   equations = G .equations;
   mentioned = G .mentioned;

@@ -9,7 +9,7 @@ use Rattle.types_rules.specs.Equations.{In}
 use Rattle.types_rules.specs.Instance.{instance}
 use Rattle.types_rules.specs.Types.{Ty}
 use Rattle.checker_rules.specs.Conditions.{freshRow, typed, arePowers}
-use Rattle.checker_rules.specs.Items.{Items, _⨾_, Meets, Agree}
+use Rattle.checker_rules.specs.Items.{Items, _⨾_, Agree, MeetsIn}
 use Rattle.checker_rules.specs.Unknowns.{slot, unknownAt, row}
 use Rattle.types_cells.specs.Settled.{lower, heap, Reads}
 use Rattle.types_cells.proofs.SettlingLaws.{heap-kept}
@@ -25,7 +25,7 @@ use Rattle.checker_lookup.proofs.ActualLaws.{actuals-kept}
 use Rattle.checker_lookup.proofs.PowerItems.{powers-alike, goes-first, stops-first}
 
 alike-after : (t a b : Items) → Alike a b → Alike (t ⨾ a) (t ⨾ b)
-unfolding Meets Agree
+unfolding MeetsIn Agree
 alike-after t a b e = (
   λ τ. (λ h. (h .0, e .0 τ .0 (h .1)), λ h. (h .0, e .0 τ .1 (h .1))),
   λ σ τ. (λ h. (h .0, e .1 σ τ .0 (h .1)), λ h. (h .0, e .1 σ τ .1 (h .1))),

@@ -9,7 +9,7 @@ use native.Mathlib.Omega.{arith}
 use lib.Dec.{ltb}
 use borrow.Author.Tests.{lt-ltb, le-ltb}
 use Rattle.checker_rules.specs.Conditions.{refuseIf}
-use Rattle.checker_rules.specs.Items.{Items, _⨾_, Meets, Refuses}
+use Rattle.checker_rules.specs.Items.{Items, _⨾_, Refuses, MeetsIn}
 use Rattle.checker_rules.specs.Rules.{thetaNames}
 use Rattle.checker_rules.specs.Scopes.{Scope}
 use Rattle.checker_rules.specs.Signatures.{Signature, someStroked}
@@ -50,8 +50,8 @@ module _ (d w w′ : List ℕ) (rows base m p k : ℕ) (fine : Bool) (R : RowsPl
       below = R .below;
       goes = λ z. absurd (omega arith);
       stops = λ z s G Γ r B n H t rest.
-          idle-refuses (thetaNames n k r Γ) (R .passes e s G Γ r B n) (refuseIf (ltb 0 p) 32 n ⨾ refuseIf (someStroked k r) 37 n ⨾ rest) (Meets (H ⨾ t)) 32 n
-          (refused-if (ltb 0 p) 32 n (refuseIf (someStroked k r) 37 n ⨾ rest) (Meets (H ⨾ t)) (some-parameters p ne));
+          idle-refuses (thetaNames n k r Γ) (R .passes e s G Γ r B n) (refuseIf (ltb 0 p) 32 n ⨾ refuseIf (someStroked k r) 37 n ⨾ rest) (MeetsIn (H ⨾ t)) 32 n
+          (refused-if (ltb 0 p) 32 n (refuseIf (someStroked k r) 37 n ⨾ rest) (MeetsIn (H ⨾ t)) (some-parameters p ne));
     }
 
     module _ (z : p ≡ 0) (b : Bool) (eb : b ≡ strokedRows k (rowsOf w′ base m)) where
@@ -63,9 +63,9 @@ module _ (d w w′ : List ℕ) (rows base m p k : ℕ) (fine : Bool) (R : RowsPl
         below = R .below;
         goes = λ y. absurd (omega arith);
         stops = λ y s G Γ r B n H u rest.
-            idle-refuses (thetaNames n k r Γ) (R .passes e s G Γ r B n) (refuseIf (ltb 0 p) 32 n ⨾ refuseIf (someStroked k r) 37 n ⨾ rest) (Meets (H ⨾ u)) 37 n
-            (idle-refuses (refuseIf (ltb 0 p) 32 n) (idle-if (ltb 0 p) 32 n (no-parameters p z)) (refuseIf (someStroked k r) 37 n ⨾ rest) (Meets (H ⨾ u)) 37 n
-            (refused-if (someStroked k r) 37 n rest (Meets (H ⨾ u)) (stroked s G Γ r B ∙ t)));
+            idle-refuses (thetaNames n k r Γ) (R .passes e s G Γ r B n) (refuseIf (ltb 0 p) 32 n ⨾ refuseIf (someStroked k r) 37 n ⨾ rest) (MeetsIn (H ⨾ u)) 37 n
+            (idle-refuses (refuseIf (ltb 0 p) 32 n) (idle-if (ltb 0 p) 32 n (no-parameters p z)) (refuseIf (someStroked k r) 37 n ⨾ rest) (MeetsIn (H ⨾ u)) 37 n
+            (refused-if (someStroked k r) 37 n rest (MeetsIn (H ⨾ u)) (stroked s G Γ r B ∙ t)));
       }
 
       pub checked-all : b ≡ false → ThetaChecks d w w′ rows base m p k 0

@@ -2,7 +2,7 @@
 use mathlib.Core.Logic.{_↔_, inr}
 use mathlib.Core.List.{List}
 use Prim.Native.Nat.{ℕ}
-use Rattle.checker_rules.specs.Items.{Items, skip, _⨾_, fresh, equate, select, small, refusal, piece, Meets, Agree, And, Passes, Refuses}
+use Rattle.checker_rules.specs.Items.{Items, skip, _⨾_, fresh, equate, select, small, refusal, piece, Meets, Agree, And, Passes, Refuses, MeetsIn}
 use Rattle.checker_rules.specs.Unknowns.{Valuation}
 use Rattle.checker_rules.proofs.ItemLaws.{passes-ext, refuses-ext}
 use Rattle.checker_pieces.specs.Building.{Introduced}
@@ -11,7 +11,7 @@ use Rattle.checker_lookup.specs.Thetas.{Idle}
 use Rattle.checker_lookup.proofs.AppliedLaws.{introduced-alike}
 
 idle-meets : (a : Items) → Idle a → (τ : Valuation) → Meets a τ
-unfolding Idle Meets
+unfolding Idle MeetsIn
 idle-meets skip h τ = tt
 idle-meets (a ⨾ b) h τ = (idle-meets a (h .0) τ, idle-meets b (h .1) τ)
 idle-meets (fresh x) h τ = absurd h
@@ -53,7 +53,7 @@ module _ (a : Items) (h : Idle a) where
 
   pub introduced-idle : (s s′ d : List ℕ) (n top n′ top′ : ℕ) (G : Ghost) (b : Items) (M : ℕ → Type 0) (x c : ℕ) → Introduced s s′ d n top n′ top′ G b M x c →
       Introduced s s′ d n top n′ top′ G (a ⨾ b) M x c
-  unfolding Meets Agree Passes
+  unfolding MeetsIn Agree Passes
   introduced-idle s s′ d n top n′ top′ G b M x c I =
       introduced-alike s s′ d n top n′ top′ G b (a ⨾ b) M x c
       (λ τ. (λ p. (idle-meets a h τ, p), λ p. p .1), λ σ τ. (λ p. (idle-agree a h σ τ, p), λ p. p .1))

@@ -2,7 +2,6 @@
 pub mod Standing
 pub mod BindingLaws
 pub mod RowInstances
-pub mod RowLaws
 pub mod InstanceLaws
 pub mod ReferenceLaws
 pub mod LookingUp

@@ -11,7 +11,7 @@ use Rattle.reader_rules.specs.Tree.{Paragraph, given, axiomatic, schema, abbrev
 use Rattle.types_rules.specs.Types.{Term, under, unders, size}
 use Rattle.types_rules.specs.Formed.{partCountType}
 use Rattle.checker_rules.specs.Unknowns.{Valuation, unknownAt, givenSet}
-use Rattle.checker_rules.specs.Items.{Meets}
+use Rattle.checker_rules.specs.Items.{Meets, MeetsIn}
 use Rattle.checker_rules.specs.Conditions.{refuseIf, smallTypes, fewNames}
 use Rattle.checker_rules.specs.Dictionary.{Dictionary, blank, _▸_, nameEntry}
 use Rattle.checker_rules.specs.Signatures.{Signature, noNames, naming, countNames, namesOf, termsOf, bindingOf, insertName, merge, declare}
@@ -25,7 +25,7 @@ use Rattle.checker_lookup.proofs.FewNames.{FewSchemas, include-few, glo
 -- What a table that meets the items shows.
 module _ (τ : Valuation) where
   refuseIf-met : (b : Bool) (f n : ℕ) → Meets (refuseIf b f n) τ → b ≡ false
-  unfolding refuseIf Meets
+  unfolding refuseIf MeetsIn
   refuseIf-met true f n m = absurd m
   refuseIf-met false f n m = refl
 
@@ -39,7 +39,7 @@ module _ (τ : Valuation) where
   SmallTerms (naming i t s) = (size (under τ t) ≤ 32) × SmallTerms s
 
   small-met : (n : ℕ) (s : Signature) → Meets (smallTypes n s) τ → SmallTerms s
-  unfolding smallTypes Meets SmallTerms
+  unfolding smallTypes MeetsIn SmallTerms
   small-met n noNames m = tt
   small-met n (naming i t s) m = (m .0, small-met n s (m .1))
 
@@ -64,7 +64,7 @@ module _ (τ : Valuation) where
   declare-small (i ∷ is) t r e h = declare-small is t (insertName i t r) e (insert-small i t r e h)
 
   lines-small : (ls : Lines) (Γ : Scope) (G : Dictionary) (r : Signature) → SmallTerms r → Meets (linesItems ls Γ G r) τ → SmallTerms (linesSignature ls Γ r)
-  unfolding linesItems linesSignature Meets
+  unfolding linesItems linesSignature MeetsIn
   lines-small end Γ G r h m = h
   lines-small (declaration n a is ls) Γ G r h m =
       lines-small ls Γ G (declare is (unknownAt n 0) r) (declare-small is (unknownAt n 0) r (m .1 .1 .0 .0) h) (m .1 .1 .1)
@@ -73,22 +73,22 @@ module _ (τ : Valuation) where
       (merge-small (includeSignature i Γ) r (small-met (includeNode i) (includeSignature i Γ) (m .1 .1 .0 .0)) h) (m .1 .1 .1)
 
   lines-few : (ls : Lines) (Γ : Scope) (G : Dictionary) (r : Signature) → countNames r ≤ 16 → Meets (linesItems ls Γ G r) τ → countNames (linesSignature ls Γ r) ≤ 16
-  unfolding linesItems linesSignature Meets
+  unfolding linesItems linesSignature MeetsIn
   lines-few end Γ G r h m = h
   lines-few (declaration n a is ls) Γ G r h m = lines-few ls Γ G (declare is (unknownAt n 0) r) (few-met n (declare is (unknownAt n 0) r) (m .1 .1 .0 .1)) (m .1 .1 .1)
   lines-few (inclusion i ls) Γ G r h m =
       lines-few ls Γ G (merge (includeSignature i Γ) r) (few-met (includeNode i) (merge (includeSignature i Γ) r) (m .1 .1 .0 .1)) (m .1 .1 .1)
 
   text-small : (t : Text) (Γ : Scope) (G : Dictionary) → Meets (textItems t Γ G) τ → SmallTerms (textSignature t Γ)
-  unfolding textItems textSignature Meets SmallTerms
+  unfolding textItems textSignature MeetsIn SmallTerms
   text-small (text n p ls) Γ G m = lines-small ls Γ G noNames tt (m .0)
 
   text-few : (t : Text) (Γ : Scope) (G : Dictionary) → Meets (textItems t Γ G) τ → countNames (textSignature t Γ) ≤ 16
-  unfolding textItems textSignature Meets countNames
+  unfolding textItems textSignature MeetsIn countNames
   text-few (text n p ls) Γ G m = lines-few ls Γ G noNames (omega arith) (m .0)
 
   pub schema-few : (x : Schema) (Γ : Scope) → FewSchemas Γ → Meets (schemaItems x Γ) τ → countNames (schemaSignature x Γ) ≤ 16
-  unfolding schemaItems schemaSignature Meets
+  unfolding schemaItems schemaSignature MeetsIn
   schema-few (plain t) Γ h m = text-few t Γ blank m
   schema-few (from i) Γ h m = include-few i Γ h
   schema-few (both n a b) Γ h m = few-met n (merge (schemaSignature b Γ) (schemaSignature a Γ)) (m .1 .1 .1)
@@ -121,7 +121,7 @@ module _ (τ : Valuation) where
 
 -- A PARAGRAPH WHOSE ITEMS ARE MET KEEPS THE DICTIONARY WITHIN ITS LIMITS.
 pub limited-extend : (p : Paragraph) (D : Dictionary) (τ : Valuation) → FewParameters p → Limited D → Meets (paragraphItems p D) τ → Limited (extend p D τ)
-unfolding paragraphItems extend Meets Limited
+unfolding paragraphItems extend MeetsIn Limited
 limited-extend (given n is) D τ f l m = givens-limited τ is D l
 limited-extend (axiomatic n t) D τ f l m = signature-limited τ (textSignature t (globals D)) D (text-small τ t (globals D) D m) l
 limited-extend (schema n s ps x) D τ f l m = (l, schema-type τ x ps D l m)

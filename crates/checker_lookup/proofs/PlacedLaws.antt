@@ -10,7 +10,7 @@ use lib.ListN.{length, getD, set}
 use lib.Seq.{getD-set-same, getD-set-other}
 use Rattle.reader_rules.specs.Decode.{pairsFrom}
 use Rattle.checker_rules.specs.Dictionary.{Dictionary, Named}
-use Rattle.checker_rules.specs.Items.{Items, skip, _⨾_, refusal, Meets, Refuses}
+use Rattle.checker_rules.specs.Items.{Items, skip, _⨾_, refusal, Refuses, MeetsIn}
 use Rattle.checker_rules.specs.Rules.{thetaName, thetaNames, typeInScope, thetaSignature}
 use Rattle.checker_rules.specs.Scopes.{Scope, nameAt}
 use Rattle.checker_rules.specs.Signatures.{Signature, noNames, naming, namesOf, someStroked}
@@ -246,7 +246,7 @@ module _ (d w₀ w : List ℕ) (rows base m j k : ℕ) (A : RowsAsked d w₀ row
           (λ i q n′. subst (λ (x : ℕ). thetaName (takes k x) n′ (nameAt (decorate k x) Γ) ≡ skip) (sym (id i (omega arith))) (I .placed s G Γ (B .dictionary) (B .scoped) (B .size) i q .passes n′))
           n
           (subst (λ (x : ℕ). thetaName (takes k x) n (nameAt (decorate k x) Γ) ≡ refusal 31 n) (I .names j ∙ sym (id j l)) (R .refused f s G Γ (B .dictionary) (scoped-now s G Γ (B .dictionary) (B .scoped)) n))
-          (Meets (H ⨾ t));
+          (MeetsIn (H ⨾ t));
     }
 
   pub placing-end : j ≡ m → RowsPlaced d w₀ w rows base m k true

@@ -3,7 +3,7 @@ use mathlib.Core.Logic.{_↔_, inl, inr}
 use Prim.Native.Nat.{ℕ, suc}
 use Rattle.reader_rules.specs.Tree.{Exprs, none, more, exprsLength}
 use Rattle.checker_rules.specs.Conditions.{typeOf, arePowers, freshRow}
-use Rattle.checker_rules.specs.Items.{Items, _⨾_, fresh, equate, Meets, Agree, And, Passes, Refuses}
+use Rattle.checker_rules.specs.Items.{Items, _⨾_, fresh, equate, Meets, Agree, And, Passes, Refuses, MeetsIn}
 use Rattle.checker_rules.specs.Unknowns.{Valuation, slot, unknownAt, powerOf}
 use Rattle.checker_rules.proofs.ItemLaws.{passes-ext, refuses-ext}
 use Rattle.checker_pieces.specs.Piece.{Goes, Stops}
@@ -12,7 +12,7 @@ use Rattle.checker_lookup.specs.References.{powerEquations}
 use Rattle.checker_lookup.proofs.RowLaws.{meets-row}
 
 meets-powers : (k : ℕ) (xs : Exprs) (i : ℕ) (τ : Valuation) → Meets (powerEquations k xs i) τ ↔ Meets (arePowers k xs i) τ
-unfolding Meets powerEquations arePowers
+unfolding MeetsIn powerEquations arePowers
 meets-powers k none i τ = (λ h. tt, λ h. tt)
 meets-powers k (more a xs) i τ = let q = meets-powers k xs (suc i) τ in (λ h. ((tt, h .0), q .0 (h .1)), λ h. (h .0 .1, q .1 (h .1)))
 
@@ -24,11 +24,11 @@ agree-powers k (more a xs) i σ τ =
     (λ h. ((h .0 .0, tt), q .0 (h .0 .1, h .1 .1)), λ h. let z = q .1 (h .1) in ((h .0 .0, z .0), (tt, z .1)))
 
 first-fresh : (P : Valuation → Type 0) (x : ℕ) (τ : Valuation) → P τ ↔ And P (fresh x) τ
-unfolding Meets
+unfolding MeetsIn
 first-fresh P x τ = (λ h. (h, tt), λ h. h .0)
 
 with-fresh : (P : Valuation → Type 0) (x : ℕ) (e : Items) (τ : Valuation) → And P e τ ↔ And P (fresh x ⨾ e) τ
-unfolding Meets
+unfolding MeetsIn
 with-fresh P x e τ = (λ h. (h .0, (tt, h .1)), λ h. (h .0, h .1 .1))
 
 passes-powers : (k : ℕ) (xs : Exprs) (i : ℕ) (P : Valuation → Type 0) → Passes (powerEquations k xs i) P → Passes (arePowers k xs i) P
@@ -58,7 +58,7 @@ module _ (k : ℕ) (xs : Exprs) (b : Items) where
   unknowns-first = freshRow k 1 (exprsLength xs) ⨾ (powerEquations k xs 1 ⨾ b)
 
   pub powers-alike : Alike unknowns-first (arePowers k xs 1 ⨾ b)
-  unfolding Meets Agree
+  unfolding MeetsIn Agree
   powers-alike = (
     λ τ. let q = meets-powers k xs 1 τ in (λ h. (q .0 (h .1 .0), h .1 .1), λ h. (meets-row k 1 (exprsLength xs) τ, (q .1 (h .0), h .1))),
     λ σ τ. let q = agree-powers k xs 1 σ τ in (λ h. (q .0 (h .0, h .1 .0), h .1 .1), λ h. let z = q .1 (h .0) in (z .0, (z .1, h .1))),
@@ -79,12 +79,12 @@ module _ (k : ℕ) (xs : Exprs) (b : Items) where
     )
 
   pub goes-first : (H t : Items) → Goes H t unknowns-first → Goes H t (arePowers k xs 1 ⨾ b)
-  goes-first H t p = passes-first (Meets (H ⨾ t)) p
+  goes-first H t p = passes-first (MeetsIn (H ⨾ t)) p
 
   -- 33 at an actual
   pub stops-first : (H t : Items) (f m : ℕ) → Stops H (t ⨾ freshRow k 1 (exprsLength xs)) (powerEquations k xs 1) f m → Stops H t (arePowers k xs 1 ⨾ b) f m
-  unfolding Refuses Meets
+  unfolding Refuses MeetsIn
   stops-first H t f m r =
-      inl (refuses-powers k xs 1 (Meets (H ⨾ t)) f m
-      (refuses-ext (powerEquations k xs 1) (Meets (H ⨾ (t ⨾ freshRow k 1 (exprsLength xs)))) (Meets (H ⨾ t)) f m
+      inl (refuses-powers k xs 1 (MeetsIn (H ⨾ t)) f m
+      (refuses-ext (powerEquations k xs 1) (MeetsIn (H ⨾ (t ⨾ freshRow k 1 (exprsLength xs)))) (MeetsIn (H ⨾ t)) f m
       (λ τ. (λ h. (h .0, h .1 .0), λ h. (h .0, (h .1, meets-row k 1 (exprsLength xs) τ)))) r))

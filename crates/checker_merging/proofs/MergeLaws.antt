@@ -10,7 +10,7 @@ use Rattle.words.proofs.Lists.{drop-next}
 use Rattle.types_rules.specs.Equations.{In}
 use Rattle.types_rules.specs.Types.{Ty, Term}
 use Rattle.types_rules.proofs.Terms.{bool-no}
-use Rattle.checker_rules.specs.Items.{Items, skip, _⨾_, Meets, Refuses}
+use Rattle.checker_rules.specs.Items.{Items, skip, _⨾_, Refuses, MeetsIn}
 use Rattle.checker_rules.specs.Signatures.{Signature, noNames, naming, termIn}
 use Rattle.checker_rules.specs.Conditions.{sameType, mergeDeclared, mergeNames}
 use Rattle.types_cells.specs.Settled.{heap, Reads, Readable, Readings, SameType}
@@ -57,11 +57,11 @@ module _ (s d w : List ℕ) (base m p id r : ℕ) (F : Finds w base m id r) wher
             (equal-noted H U None 36 n t (f .0) (A .type) D (A .settled) (λ τ k. B .settled τ k ∙ sym (same e (A .type) (B .type) (A .reads) (B .reads))))
 
         stops′ : b ≡ false → (H : Items) (U : List ℕ) (n : ℕ) (t : Term) (z : Signature) → Steady H U → TypedAt s d H U t p → Carries (TypedAt s d H U) z (rows w base m) →
-            Refuses (sameType n t (termIn id z)) (Meets H) 36 n
+            Refuses (sameType n t (termIn id z)) (MeetsIn H) 36 n
         stops′ e H U n t z D A C =
             let f = found-term (R H U) w base m id r F z C h in
             let B = f .2 in
-            subst (λ o. Refuses (sameType n t o) (Meets H) 36 n) (sym (f .1))
+            subst (λ o. Refuses (sameType n t o) (MeetsIn H) 36 n) (sym (f .1))
             (equal-refused H 36 n t (f .0) (A .type) (B .type) (A .settled) (B .settled) (apart e (A .type) (B .type) (A .reads) (B .reads)))
 
   pub one-absent : m ≤ r → OneTold s d w base m p id true
@@ -96,7 +96,7 @@ module _ (s d w : List ℕ) (base m p : ℕ) where
     unfolding mergeDeclared
     declared-break O = record {
       goes = λ z. absurd (bool-no false z refl);
-      stops = λ z H U n t r S A C. subst (λ l. Refuses (mergeDeclared n l t r) (Meets H) 36 n) (sym e)
+      stops = λ z H U n t r S A C. subst (λ l. Refuses (mergeDeclared n l t r) (MeetsIn H) 36 n) (sym e)
           (refuses-first H (sameType n t (termIn i r)) (mergeDeclared n js t r) 36 n (O .stops refl H U n t r S A C));
     }
 
@@ -111,7 +111,7 @@ module _ (s d w : List ℕ) (base m p : ℕ) where
       stops = λ z H U n t r S A C.
           let c = sameType n t (termIn i r) in
           let W = O .goes refl H U n t r S A C in
-          subst (λ l. Refuses (mergeDeclared n l t r) (Meets H) 36 n) (sym e)
+          subst (λ l. Refuses (mergeDeclared n l t r) (MeetsIn H) 36 n) (sym e)
           (refuses-second H c (mergeDeclared n js t r) 36 n (W .goes) (N .stops z (H ⨾ c) U n t r (W .steady) (typed-later s d H c U t p A) (carries-later s d H c U r _ C)));
     }
 
@@ -152,10 +152,10 @@ module _ (s d w : List ℕ) (base m : ℕ) where
     rows-break O = record { goes = λ z. absurd (bool-no false z refl); stops = λ z H U n q r S C D. stops′ H U n q r S (subst (λ x. Carries (TypedAt s d H U) q (rows w source x)) e C) D }
       where
         stops′ : (H : Items) (U : List ℕ) (n : ℕ) (q r : Signature) → Steady H U → Carries (TypedAt s d H U) q (rows w source (suc j)) →
-            Carries (TypedAt s d H U) r (rows w base m) → Refuses (mergeNames n q r) (Meets H) 36 n
+            Carries (TypedAt s d H U) r (rows w base m) → Refuses (mergeNames n q r) (MeetsIn H) 36 n
         stops′ H U n noNames r S C D = absurd C
         stops′ H U n (naming i t q) r S C D = refuses-first H (sameType n t (termIn i r)) (mergeNames n q r) 36 n
-            (subst (λ x. Refuses (sameType n t (termIn x r)) (Meets H) 36 n) (sym (C .0)) (O .stops refl H U n t r S (C .1) D))
+            (subst (λ x. Refuses (sameType n t (termIn x r)) (MeetsIn H) 36 n) (sym (C .0)) (O .stops refl H U n t r S (C .1) D))
 
     pub rows-next : OneTold s d w base m p₀ i₀ true → (b : Bool) → RowsTold s d w base m (suc (suc source)) j b → RowsTold s d w base m source k b
     unfolding mergeNames pairsFrom Carries
@@ -177,7 +177,7 @@ module _ (s d w : List ℕ) (base m : ℕ) where
             walked-then H c (mergeNames n q r) U U U None S W (N .goes z (H ⨾ c) U n q r (W .steady) (carries-later s d H c U q _ (C .2)) (carries-later s d H c U r _ D))
 
         stops′ : b ≡ false → (H : Items) (U : List ℕ) (n : ℕ) (q r : Signature) → Steady H U → Carries (TypedAt s d H U) q (rows w source (suc j)) →
-            Carries (TypedAt s d H U) r (rows w base m) → Refuses (mergeNames n q r) (Meets H) 36 n
+            Carries (TypedAt s d H U) r (rows w base m) → Refuses (mergeNames n q r) (MeetsIn H) 36 n
         stops′ z H U n noNames r S C D = absurd C
         stops′ z H U n (naming i t q) r S C D =
             let c = sameType n t (termIn i r) in

@@ -9,7 +9,7 @@ use Rattle.words.proofs.Lists.{drop-next, drop-done}
 use Rattle.reader_rules.specs.Decode.{pairsFrom}
 use Rattle.types_rules.proofs.Terms.{bool-no}
 use Rattle.checker_rules.specs.Dictionary.{Dictionary, Named, unnamed, ofGlobal, nameIn}
-use Rattle.checker_rules.specs.Items.{Items, _⨾_, Meets, Refuses}
+use Rattle.checker_rules.specs.Items.{Items, _⨾_, Refuses, MeetsIn}
 use Rattle.checker_rules.specs.Conditions.{newName, newNames}
 use Rattle.checker_dictionary.specs.Holds.{Holds}
 use Rattle.checker_dictionary.specs.Lookup.{NameFound}
@@ -36,8 +36,8 @@ module _ (d : List ℕ) where
       goes = λ z. absurd (bool-no false z refl);
       stops = λ z D H U n A S.
           let m = F D A .present l .means in
-          subst (λ x. Refuses (newNames n x D) (Meets H) 36 n) (sym e)
-          (refuses-first H (newName n (nameIn i D)) (newNames n js D) 36 n (subst (λ x. Refuses (newName n x) (Meets H) 36 n) (sym m) (refused H 36 n)));
+          subst (λ x. Refuses (newNames n x D) (MeetsIn H) 36 n) (sym e)
+          (refuses-first H (newName n (nameIn i D)) (newNames n js D) 36 n (subst (λ x. Refuses (newName n x) (MeetsIn H) 36 n) (sym m) (refused H 36 n)));
     }
 
     pub new-next : k ≡ 0 → (b : Bool) → NewTold d js b → NewTold d is b
@@ -50,7 +50,7 @@ module _ (d : List ℕ) where
       stops = λ z D H U n A S.
           let c = newName n (nameIn i D) in
           let W = first D H U n A S in
-          subst (λ x. Refuses (newNames n x D) (Meets H) 36 n) (sym e) (refuses-second H c (newNames n js D) 36 n (W .goes) (N .stops z D (H ⨾ c) U n A (W .steady)));
+          subst (λ x. Refuses (newNames n x D) (MeetsIn H) 36 n) (sym e) (refuses-second H c (newNames n js D) 36 n (W .goes) (N .stops z D (H ⨾ c) U n A (W .steady)));
     }
       where
         first : (D : Dictionary) (H : Items) (U : List ℕ) (n : ℕ) → Holds D d → Steady H U → Walked H (newName n (nameIn i D)) U U None

@@ -7,7 +7,7 @@ use lib.ListN.{length, getD}
 use Rattle.types_rules.specs.Equations.{In}
 use Rattle.types_rules.specs.Types.{Ty, Term, Each}
 use Rattle.checker_rules.specs.Dictionary.{Dictionary}
-use Rattle.checker_rules.specs.Items.{Items, Meets, Refuses}
+use Rattle.checker_rules.specs.Items.{Items, Refuses, MeetsIn}
 use Rattle.checker_rules.specs.Signatures.{Signature, termIn}
 use Rattle.checker_rules.specs.Conditions.{sameType, mergeDeclared, mergeNames, newNames}
 use Rattle.types_cells.specs.Settled.{heap, Reads, Readable, Areas}
@@ -38,14 +38,14 @@ pub record OneTold (s d w : List ℕ) (base m p id : ℕ) (fine : Bool) : Type 0
   pub goes : fine ≡ true → (H : Items) (U : List ℕ) (n : ℕ) (t : Term) (r : Signature) → Steady H U → TypedAt s d H U t p →
       Carries (TypedAt s d H U) r (rows w base m) → Walked H (sameType n t (termIn id r)) U U (λ x. ⊥)
   pub stops : fine ≡ false → (H : Items) (U : List ℕ) (n : ℕ) (t : Term) (r : Signature) → Steady H U → TypedAt s d H U t p →
-      Carries (TypedAt s d H U) r (rows w base m) → Refuses (sameType n t (termIn id r)) (Meets H) 36 n
+      Carries (TypedAt s d H U) r (rows w base m) → Refuses (sameType n t (termIn id r)) (MeetsIn H) 36 n
 
 -- A Decl's identifiers, with the type at p, beside the signature of the lines before.
 pub record DeclaredTold (s d w : List ℕ) (base m p : ℕ) (is : List ℕ) (fine : Bool) : Type 0 where
   pub goes : fine ≡ true → (H : Items) (U : List ℕ) (n : ℕ) (t : Term) (r : Signature) → Steady H U → TypedAt s d H U t p →
       Carries (TypedAt s d H U) r (rows w base m) → Walked H (mergeDeclared n is t r) U U (λ x. ⊥)
   pub stops : fine ≡ false → (H : Items) (U : List ℕ) (n : ℕ) (t : Term) (r : Signature) → Steady H U → TypedAt s d H U t p →
-      Carries (TypedAt s d H U) r (rows w base m) → Refuses (mergeDeclared n is t r) (Meets H) 36 n
+      Carries (TypedAt s d H U) r (rows w base m) → Refuses (mergeDeclared n is t r) (MeetsIn H) 36 n
 
 pub record RowsAsk (s d w : List ℕ) (base m source k : ℕ) : Type 0 where
   pub areas : Areas s d
@@ -57,9 +57,9 @@ pub record RowsTold (s d w : List ℕ) (base m source k : ℕ) (fine : Bool) : T
   pub goes : fine ≡ true → (H : Items) (U : List ℕ) (n : ℕ) (q r : Signature) → Steady H U → Carries (TypedAt s d H U) q (rows w source k) →
       Carries (TypedAt s d H U) r (rows w base m) → Walked H (mergeNames n q r) U U (λ x. ⊥)
   pub stops : fine ≡ false → (H : Items) (U : List ℕ) (n : ℕ) (q r : Signature) → Steady H U → Carries (TypedAt s d H U) q (rows w source k) →
-      Carries (TypedAt s d H U) r (rows w base m) → Refuses (mergeNames n q r) (Meets H) 36 n
+      Carries (TypedAt s d H U) r (rows w base m) → Refuses (mergeNames n q r) (MeetsIn H) 36 n
 
 -- 36, second case: no identifier of the list is global by an earlier paragraph (document 01, finding 36; R16).
 pub record NewTold (d is : List ℕ) (fine : Bool) : Type 0 where
   pub goes : fine ≡ true → (D : Dictionary) (H : Items) (U : List ℕ) (n : ℕ) → Holds D d → Steady H U → Walked H (newNames n is D) U U (λ x. ⊥)
-  pub stops : fine ≡ false → (D : Dictionary) (H : Items) (U : List ℕ) (n : ℕ) → Holds D d → Steady H U → Refuses (newNames n is D) (Meets H) 36 n
+  pub stops : fine ≡ false → (D : Dictionary) (H : Items) (U : List ℕ) (n : ℕ) → Holds D d → Steady H U → Refuses (newNames n is D) (MeetsIn H) 36 n

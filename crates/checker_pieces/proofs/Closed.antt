@@ -8,7 +8,7 @@ use native.Mathlib.Omega.{arith}
 use lib.ListN.{length}
 use Rattle.types_rules.proofs.Terms.{bool-no}
 use Rattle.types_rules.specs.Types.{size}
-use Rattle.checker_rules.specs.Items.{piece, Meets, Passes, Refuses}
+use Rattle.checker_rules.specs.Items.{piece, Passes, Refuses, MeetsIn}
 use Rattle.types_cells.specs.Store.{frozen}
 use Rattle.types_rules.specs.Words.{words}
 use Rattle.types_cells.specs.Calls.{Above}
@@ -42,7 +42,7 @@ module _ (s u d : List ℕ) (n : ℕ) (b : Bool) (T : TestedFinite s u n b) wher
     finite : Finite (frozen u) n (after .L)
     finite = finite-after s u d n b T (G .equations) (G .before) (G .items) (G .known) (G .mentioned) (G .cells) (S .piece)
 
-    several : Left u n true → (m : ℕ) → Passes (G .items) (Meets (G .before)) → Refuses (piece m (G .items)) (Meets (G .before)) 34 m
+    several : Left u n true → (m : ℕ) → Passes (G .items) (MeetsIn (G .before)) → Refuses (piece m (G .items)) (MeetsIn (G .before)) 34 m
     several Z m = closed-stops u d n (G .equations) (G .before) (G .items) (G .known) (G .mentioned) (G .cells) after m finite Z
 
     shut : Left u n false → Shut u d n G

@@ -7,8 +7,9 @@ use Prim.Native.Nat.{ℕ, _<_, _≤_}
 use native.Mathlib.Omega.{arith}
 use Rattle.types_rules.specs.Equations.{AllP, In, InP, Pairs, pair, end}
 use Rattle.types_rules.specs.Types.{Ty}
+use Rattle.types_rules.specs.Trees.{finite}
 use Rattle.checker_rules.specs.Unknowns.{Valuation}
-use Rattle.checker_rules.specs.Items.{Items, _⨾_, piece, Meets, Agree, Passes, Refuses}
+use Rattle.checker_rules.specs.Items.{Items, _⨾_, piece, Meets, Agree, Passes, Refuses, MeetsIn}
 use Rattle.types_cells.specs.Layout.{maxCells}
 use Rattle.types_cells.specs.Store.{frozen, tagAt, Solved}
 use Rattle.types_cells.specs.Settled.{Pinned, Fits}
@@ -18,6 +19,8 @@ use Rattle.types_solver.proofs.Accepted.{same-pinned, same-obeys}
 use Rattle.types_solver.proofs.Opening.{finite-none}
 use Rattle.checker_pieces.specs.Piece.{Solution, Matches, SameOn, Local, Goes, Piece, Accounted, Later, Steady, Extends}
 use Rattle.types_solver.proofs.Marking.{same-back}
+use Rattle.checker_pieces.proofs.Between.{passes-after}
+use Rattle.checker_pieces.proofs.Walks.{passes-more}
 
 pub all-in : (R : ℕ → ℕ → Type 0) (P : Pairs ℕ) (a b : ℕ) → AllP R P → InP a b P → R a b
 all-in R end a b q i = absurd i
@@ -43,14 +46,16 @@ module _ (s s′ d : List ℕ) (n : ℕ) (P₀ L : Pairs ℕ) (S′ : Solved s�
     complete = λ σ S τ₀ h. Q .complete σ (from σ S) τ₀ h;
     some = (Q .some .0, to (Q .some .0) (Q .some .1));
     start = Q .start;
+    opened = Q .opened;
+    passes = Q .passes;
     agree = Q .agree;
     open-cells = accounted;
   }
 
   -- THE PIECE AROUND IS TAKEN UP AGAIN after items c of pieces inside it.
-  module _ (c : Items) (U′ : List ℕ) (wider : (x : ℕ) → In x U → In x U′) (lc : Local ((H ⨾ t) ⨾ c) U′) (E : Extends (H ⨾ t) c U) (agrees : (τ τ′ : Valuation) → Agree c τ τ′) where
+  module _ (c : Items) (U′ : List ℕ) (wider : (x : ℕ) → In x U → In x U′) (lc : Local ((H ⨾ t) ⨾ c) U′) (E : Extends (H ⨾ t) c U) (goes : Goes H t c) (agrees : (τ τ′ : Valuation) → Agree c τ τ′) where
     pub resumed : Piece s′ d n P₀ H (t ⨾ c) U₀ U′ ρ
-    unfolding Meets Agree
+    unfolding MeetsIn Agree
     resumed = record {
       L = L;
       solved = S′;
@@ -65,6 +70,8 @@ module _ (s s′ d : List ℕ) (n : ℕ) (P₀ L : Pairs ℕ) (S′ : Solved s�
           (e .0, (e .1 .0 .0, (e .1 .0 .1, e .1 .1)), matched ρ (q .0) (e .0) σ (e .2) (Q .tracked) (q .2), λ x i. e .2 x (Q .more x i) ∙ q .3 x i);
       some = (Q .some .0, to (Q .some .0) (Q .some .1));
       start = Q .start;
+      opened = Q .opened;
+      passes = passes-more H t c (Q .passes) goes;
       agree = λ τ τ′. (λ h. Q .agree τ τ′ .0 (h .0), λ h. (Q .agree τ τ′ .1 h, agrees τ τ′));
       open-cells = accounted;
     }
@@ -78,7 +85,7 @@ module _ (s s′ d : List ℕ) (n : ℕ) (P₀ L : Pairs ℕ) (S′ : Solved s�
         matched (pair x i R) τ τ′ σ e q m = (e x (q .0 .0) ∙ m .0, matched R τ τ′ σ e (q .1) (m .1))
 
     pub resumed-later : Later s s′ d n n P₀ P₀ H t (t ⨾ c) ρ ρ
-    unfolding Meets
+    unfolding MeetsIn
     resumed-later = record { solutions = from; items = λ τ m. (m .0, m .1 .0); unknowns = λ τ σ m. m }
 
 -- `finite` on a piece: it answers true, and the piece stands.
@@ -97,10 +104,10 @@ module _ (s s′ d : List ℕ) (n : ℕ) (b : Bool) (T : TestedFinite s s′ n b
   few = Q .solved .held .few
 
   pub to-tested : (σ : ℕ → Ty) → Solution s d n P₀ σ → Solution s′ d n P₀ σ
-  to-tested σ S = record { fits = subst (λ w. Fits w n σ) (sym (T .still)) (S .fits); sat = S .sat; obeys = same-obeys s s′ d n (T .same) few σ (S .obeys) }
+  to-tested σ S = record { fits = subst (λ w. Fits w n σ) (sym (T .still)) (S .fits); sat = S .sat; obeys = same-obeys s s′ d n (T .same) few finite σ (S .obeys) }
 
   from-tested : (σ : ℕ → Ty) → Solution s′ d n P₀ σ → Solution s d n P₀ σ
-  from-tested σ S = record { fits = subst (λ w. Fits w n σ) (T .still) (S .fits); sat = S .sat; obeys = same-obeys s′ s d n (same-back s s′ (T .same)) few σ (S .obeys) }
+  from-tested σ S = record { fits = subst (λ w. Fits w n σ) (T .still) (S .fits); sat = S .sat; obeys = same-obeys s′ s d n (same-back s s′ (T .same)) few finite σ (S .obeys) }
 
   pub tested : Piece s′ d n P₀ H t U₀ U ρ
   tested = moved s s′ d n P₀ (Q .L) (T .grown P₀ (Q .L) (Q .solved)) (same-pinned s s′ d n (T .same) few (Q .pinned)) (λ i l. ap (λ w. tagAt w i) (T .still)) to-tested from-tested H t U₀ U ρ Q
@@ -125,8 +132,8 @@ module _ (s d : List ℕ) (n : ℕ) (P₀ : Pairs ℕ) (H t : Items) (U₀ U : L
   part X = record { fits = X .fits; sat = X .sat; obeys = X .obeys }
 
   -- 34: two solutions.
-  pub closed-stops : Left s n true → Passes t (Meets H) → Refuses (piece m t) (Meets H) 34 m
-  unfolding Refuses Meets
+  pub closed-stops : Left s n true → Passes t (MeetsIn H) → Refuses (piece m t) (MeetsIn H) 34 m
+  unfolding Refuses MeetsIn
   closed-stops Z p =
       let D = Z .several refl d P₀ (Q .L) (Q .solved) (Q .pinned) F in
       let a = Q .complete (D .one .σ) (part (D .one)) (Q .start .0) (Q .start .1) in
@@ -150,24 +157,25 @@ module _ (s d : List ℕ) (n : ℕ) (P₀ : Pairs ℕ) (H t : Items) (U₀ U : L
         go end σ σ′ S S′ k a b = tt
         go (pair x c R) σ σ′ S S′ k a b = (a .0 ∙ one σ σ′ S S′ c (k .0 .1) ∙ sym (b .0), go R σ σ′ S S′ (k .1) (a .1) (b .1))
 
-    pub closed-goes : Passes t (Meets H) → Passes (piece m t) (Meets H)
-    unfolding Passes Meets
+    pub closed-goes : Passes t (MeetsIn H) → Passes (piece m t) (MeetsIn H)
+    unfolding Passes MeetsIn
     closed-goes p = (p, λ τ τ′ h h′. Q .agree τ τ′ .1 (agreed τ τ′ (h .0, h .1) (h′ .0, h′ .1)))
 
     pub closed-extends : Extends H (piece m t) U₀
-    unfolding Meets
+    unfolding MeetsIn
     closed-extends τ h = let q = Q .complete (Q .some .0) (Q .some .1) τ h in (q .0, (q .1 .0, q .1 .1), q .3)
 
     pub closed-steady : Steady (H ⨾ piece m t) U
-    unfolding Meets
+    unfolding MeetsIn
     closed-steady = record {
+      passes = passes-after H (piece m t) (Q .opened) (closed-goes (Q .passes));
       local = λ τ τ′ h k. let z = Q .local τ τ′ h (k .0, k .1) in (z .0, z .1);
       some = let q = Q .complete (Q .some .0) (Q .some .1) (Q .start .0) (Q .start .1) in (q .0, (q .1 .0, q .1 .1));
     }
 
     -- each unknown has one type
     pub closed-type : (σ : ℕ → Ty) → Solution s d n P₀ σ → (x c : ℕ) → InP x c ρ → (τ : Valuation) → Meets (H ⨾ piece m t) τ → τ x ≡ σ c
-    unfolding Meets
+    unfolding MeetsIn
     closed-type σ S x c i τ h =
         let a = Q .sound τ (h .0, h .1) in
         all-in (λ y k. τ y ≡ a .0 k) ρ x c (a .2) i ∙ one (a .0) σ (a .1) S c (all-in (λ y k. In y U × (k < n)) ρ x c (Q .tracked) i .1)

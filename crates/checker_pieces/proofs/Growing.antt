@@ -9,7 +9,7 @@ use lib.ListN.{length}
 use Rattle.types_rules.specs.Equations.{AllP, In, InP, Pairs, Solves, end, pair}
 use Rattle.types_rules.specs.Types.{Ty, integerType}
 use Rattle.checker_rules.specs.Unknowns.{Valuation}
-use Rattle.checker_rules.specs.Items.{Items, skip, _⨾_, fresh, Meets, Agree}
+use Rattle.checker_rules.specs.Items.{Items, skip, _⨾_, fresh, Meets, MeetsIn, Agree, Passes}
 use Rattle.types_cells.specs.Layout.{firstRun, areaSize}
 use Rattle.types_cells.specs.Store.{frozen, tagAt, view, Solved}
 use Rattle.types_cells.specs.Calls.{Making, Made}
@@ -19,9 +19,9 @@ use Rattle.types_solver.proofs.Accepted.{start}
 use Rattle.types_solver.proofs.Extending.{restrict, extends-solves, made-grows, extend-unknown, entered-grows}
 use Rattle.types_cells.proofs.Growing.{view-made, lt-or-ge}
 use Rattle.types_cells.proofs.Heads.{view-unk, view-shape}
-use Rattle.checker_pieces.specs.Piece.{Solution, Matches, SameOn, Local, Piece, Accounted, Later}
+use Rattle.checker_pieces.specs.Piece.{Solution, Matches, SameOn, Goes, Piece, Accounted, Later, Steady}
 use Rattle.checker_pieces.proofs.Updates.{put, put-hit, put-miss}
-use Rattle.checker_pieces.proofs.Walks.{items-earlier}
+use Rattle.checker_pieces.proofs.Walks.{items-earlier, passes-more}
 
 pub all-map : {R S : ℕ → ℕ → Type 0} (P : Pairs ℕ) → ((a b : ℕ) → R a b → S a b) → AllP R P → AllP S P
 all-map end h q = tt
@@ -40,19 +40,21 @@ nothing-asked s d σ = record {
 }
 
 -- A PIECE BEGINS after items H that a valuation meets.
-pub begin : (s d : List ℕ) (H : Items) (U : List ℕ) → length s ≡ areaSize → Local H U → (τ : Valuation) → Meets H τ → Piece s d 0 end H skip U U end
-unfolding Meets Agree
-begin s d H U z l τ m = record {
+pub begin : (s d : List ℕ) (H : Items) (U : List ℕ) → length s ≡ areaSize → Steady H U → Piece s d 0 end H skip U U end
+unfolding MeetsIn Agree Passes
+begin s d H U z S = record {
   L = end;
   solved = start s z;
   pinned = record { reads = λ i k v. absurd (omega arith); bare = λ i k v. absurd (omega arith) };
   tracked = tt;
   more = λ x i. i;
-  local = λ σ σ′ e h. (l σ σ′ e (h .0), tt);
+  local = λ σ σ′ e h. (S .local σ σ′ e (h .0), tt);
   sound = λ σ h. ((λ i. integerType), nothing-asked s d (λ i. integerType), tt);
-  complete = λ σ S τ₀ h. (τ₀, (h, tt), tt, λ x i. refl);
+  complete = λ σ X τ₀ h. (τ₀, (h, tt), tt, λ x i. refl);
   some = ((λ i. integerType), nothing-asked s d (λ i. integerType));
-  start = (τ, m);
+  start = S .some;
+  opened = S .passes;
+  passes = tt;
   agree = λ σ σ′. (λ h. tt, λ h. tt);
   open-cells = λ i k e. absurd (omega arith);
 }
@@ -94,6 +96,8 @@ module _ (s s′ d : List ℕ) (n n′ : ℕ) (G : Grows s s′ d n n′) (P₀ 
     complete = λ σ S τ₀ h. Q .complete σ (solution-before σ S) τ₀ h;
     some = let E = G .extends (Q .some .0) (Q .some .1 .fits) (Q .some .1 .obeys) in (E .τ, extended (Q .some .0) (Q .some .1) E);
     start = Q .start;
+    opened = Q .opened;
+    passes = Q .passes;
     agree = Q .agree;
     open-cells = accounted ρ (λ x i z. z) new;
   }
@@ -138,11 +142,15 @@ module _ (s s′ d : List ℕ) (n : ℕ) (A : Making s n 0 0 firstRun 0) (M : Ma
   earlier = items-earlier H t (fresh x)
 
   now-met : (τ : Valuation) → Meets (H ⨾ t) τ → Meets (H ⨾ (t ⨾ fresh x)) τ
-  unfolding Meets
+  unfolding MeetsIn
   now-met τ m = (m .0, (m .1, tt))
 
   apart : (y : ℕ) → In y U → y ≡ x → ⊥
   apart y i e = new (subst (λ z. In z U) e i)
+
+  fresh-goes : Goes H t (fresh x)
+  unfolding Passes
+  fresh-goes = tt
 
   agree-more : (τ τ′ : Valuation) → Agree (t ⨾ fresh x) τ τ′ ↔ AllP (λ y c. τ y ≡ τ′ y) (pair x n ρ)
   unfolding Agree
@@ -169,6 +177,8 @@ module _ (s s′ d : List ℕ) (n : ℕ) (A : Making s n 0 0 firstRun 0) (M : Ma
         );
     some = let E = at integerType (Q .some .0) (Q .some .1) in (E .0 .τ, extended s s′ d n (suc n) G P₀ H t U₀ U ρ Q (Q .some .0) (Q .some .1) (E .0));
     start = Q .start;
+    opened = Q .opened;
+    passes = passes-more H t (fresh x) (Q .passes) fresh-goes;
     agree = agree-more;
     open-cells = accounted s s′ d n (suc n) G P₀ H t U₀ U ρ Q (pair x n ρ) (λ y i z. inr z) (λ i k l e. let q : i ≡ n = omega arith in inl (x, inl (refl, q)));
   }

@@ -1,5 +1,9 @@
 pub mod Walks
 pub mod Updates
+pub mod Between
+pub mod Terms
+pub mod Sides
+pub mod Splitting
 pub mod Growing
 pub mod Equating
 pub mod Naming
@@ -7,10 +11,10 @@ pub mod ClosingLaws
 pub mod Lengths
 pub mod Closed
 pub mod Comparing
-pub mod Between
 pub mod Forming
 pub mod Stages
 pub mod Components
 pub mod PowerLaws
 pub mod RowLaws
+pub mod FreshRows
 pub mod PowerRows

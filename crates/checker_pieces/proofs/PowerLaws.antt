@@ -1,22 +1,22 @@
 -- What `is_power` promises: a new unknown, its power, and the equation.
 use mathlib.Core.Path.{_≡_, refl, subst, _∙_}
-use mathlib.Core.Bool.{Bool, true, false}
 use mathlib.Core.List.{List, [], _∷_}
 use mathlib.Core.Logic.{inl, inr}
 use Prim.Native.Nat.{ℕ, suc, _+_, _*_, _<_}
 use native.Mathlib.Omega.{arith}
-use Rattle.types_rules.specs.Equations.{In}
+use Rattle.types_rules.specs.Equations.{In, end, pair}
 use Rattle.types_rules.specs.Former.{power}
 use Rattle.types_rules.specs.Types.{Term, unknown, nil, cons}
-use Rattle.checker_rules.specs.Items.{fresh, equate}
+use Rattle.checker_rules.specs.Conditions.{equation}
+use Rattle.checker_rules.specs.Items.{fresh}
 use Rattle.checker_rules.specs.Unknowns.{slot, powerOf}
 use Rattle.types_cells.specs.Layout.{firstRun}
 use Rattle.types_cells.specs.Calls.{Making, Made}
 use Rattle.types_solver.proofs.Extending.{made-grows}
 use Rattle.checker_pieces.specs.Piece.{Stops}
-use Rattle.checker_pieces.specs.Stage.{Ghost, Stands, Room, Cell, Comparing, Equated, Uses}
+use Rattle.checker_pieces.specs.Stage.{Ghost, Stands, Room, Cell, Comparing, Sides, Equated, Uses}
 use Rattle.checker_pieces.specs.Building.{Building, Built, Introduced, Working, Powered, powerItems}
-use Rattle.checker_pieces.proofs.Stages.{next, next-stands, next-cell, placed-cell, built-stands, built-old, built-cell, one-cell, building, plain-making, cells-older, introduced-unknown, introduced-equal, introduced-before, introduce-then, stop-then, unknown-uses, uses-on, equal-room}
+use Rattle.checker_pieces.proofs.Stages.{next, next-stands, next-cell, placed-cell, built-stands, built-old, built-cell, one-cell, building, plain-making, cells-older, introduced-unknown, introduced-equal, introduced-before, introduce-then, stop-then, unknown-uses, uses-on, equal-room, one-side, one-comparing}
 
 -- An unknown that a list does not mention.
 most : List ℕ → ℕ
@@ -69,18 +69,21 @@ module _ (s d : List ℕ) (n top c : ℕ) where
               built-old s₁ s₂ d (suc n) top (top + 1) 1 power (n ∷ []) K G₁ S₁ c a
               (next-cell s s₁ d n top (suc n) top G (fresh x) (λ y. y ≡ x) (I₁ .advanced) c a C)
 
-          module _ (s₃ : List ℕ) (f m : ℕ) where
-            goes-c : Equated s₂ s₃ d (suc (suc n)) c (suc n) true → Introduced s s₃ d n top (suc (suc n)) (top + 1) G (powerItems x f m a) (λ y. y ≡ x) x n
-            goes-c E =
-                let I₃ = introduced-equal s₂ s₃ d (suc (suc n)) c (suc n) (top + 1) G₁ S₂ a (powerOf (unknown x)) old its-power f m (λ y. y ≡ x) E x n (I₁ .placed) in
-                let I₂ = introduced-before s₂ s₃ d (suc (suc n)) (top + 1) (suc (suc n)) (top + 1) G₁ (equate f m a (powerOf (unknown x))) (λ y. y ≡ x) (I₃ .advanced)
-                s₁ (suc n) top (K .builds d) S₁ x n (I₃ .placed) in
-                introduce-then s s₁ d n top (suc n) top G (fresh x) (λ y. y ≡ x) (I₁ .advanced) (equate f m a (powerOf (unknown x))) s₃ (suc (suc n)) (top + 1) x n I₂
+          sides : Sides s₂ d (suc (suc n)) G₁ (c ∷ []) (suc n) 0 (pair a (powerOf (unknown x)) end)
+          sides = one-side s₂ d (suc (suc n)) G₁ c (suc n) a (powerOf (unknown x)) old its-power
 
-            stops-c : Equated s₂ s₃ d (suc (suc n)) c (suc n) false → Stops (G .before) (G .items) (powerItems x f m a) f m
-            stops-c E =
-                stop-then s s₁ d n top (suc n) top G (fresh x) (λ y. y ≡ x) (I₁ .advanced) (equate f m a (powerOf (unknown x))) f m
-                (E .stops refl (top + 1) G₁ S₂ a (powerOf (unknown x)) old its-power f m)
+          module _ (s₃ : List ℕ) (m : ℕ) where
+            goes-c : Equated s₂ s₃ d (suc (suc n)) (c ∷ []) (suc n) 0 0 → Introduced s s₃ d n top (suc (suc n)) (top + 1) G (powerItems x m a) (λ y. y ≡ x) x n
+            goes-c E =
+                let I₃ = introduced-equal s₂ s₃ d (suc (suc n)) (c ∷ []) (suc n) 0 (top + 1) G₁ S₂ (pair a (powerOf (unknown x)) end) sides m (λ y. y ≡ x) E x n (I₁ .placed) in
+                let I₂ = introduced-before s₂ s₃ d (suc (suc n)) (top + 1) (suc (suc n)) (top + 1) G₁ (equation m a (powerOf (unknown x))) (λ y. y ≡ x) (I₃ .advanced)
+                s₁ (suc n) top (K .builds d) S₁ x n (I₃ .placed) in
+                introduce-then s s₁ d n top (suc n) top G (fresh x) (λ y. y ≡ x) (I₁ .advanced) (equation m a (powerOf (unknown x))) s₃ (suc (suc n)) (top + 1) x n I₂
+
+            stops-c : (number : ℕ) → (number ≡ 0 → ⊥) → Equated s₂ s₃ d (suc (suc n)) (c ∷ []) (suc n) 0 number → Stops (G .before) (G .items) (powerItems x m a) number m
+            stops-c number ne E =
+                stop-then s s₁ d n top (suc n) top G (fresh x) (λ y. y ≡ x) (I₁ .advanced) (equation m a (powerOf (unknown x))) number m
+                (E .stops ne (top + 1) G₁ S₂ (pair a (powerOf (unknown x)) end) sides m)
 
     -- For the piece that the caller has.
     module _ (W : Working s d n top 2 (c ∷ [])) where
@@ -106,28 +109,25 @@ module _ (s d : List ℕ) (n top c : ℕ) where
         K′ : Built s₁ s₂ (suc n) top (top + 1) 1 power (n ∷ [])
         K′ = subst (λ z. Built s₁ s₂ z top (top + 1) 1 power (n ∷ [])) (let z : n + 1 ≡ suc n = omega arith in z) K
 
-        comparing : Comparing s₂ d (suc (suc n)) c (suc n)
-        comparing = record {
-          top = top + 1;
-          ready = record { ghost = G₁ (W .ghost) (W .stands) y y-new; stands = S₂ (W .ghost) (W .stands) y y-new s₂ K′ };
-          left = let z = cells-older s d n (W .ghost) (c ∷ []) (W .terms) (W .cells) c (inl refl) in omega arith;
-          right = omega arith;
-        }
+        comparing : Comparing s₂ d (suc (suc n)) (c ∷ []) (suc n) 0
+        comparing =
+            one-comparing s₂ d (suc (suc n)) c (suc n) (top + 1) (G₁ (W .ghost) (W .stands) y y-new) (S₂ (W .ghost) (W .stands) y y-new s₂ K′)
+            (let z = cells-older s d n (W .ghost) (c ∷ []) (W .terms) (W .cells) c (inl refl) in omega arith) (omega arith)
 
-        pub equal-requires : Comparing s₂ d (n + 2) c (n + 1)
+        pub equal-requires : Comparing s₂ d (n + 2) (c ∷ []) (n + 1) 0
         equal-requires =
-            subst (λ z. Comparing s₂ d z c (n + 1)) (let z : suc (suc n) ≡ n + 2 = omega arith in z)
-            (subst (λ z. Comparing s₂ d (suc (suc n)) c z) (let z : suc n ≡ n + 1 = omega arith in z) comparing)
+            subst (λ z. Comparing s₂ d z (c ∷ []) (n + 1) 0) (let z : suc (suc n) ≡ n + 2 = omega arith in z)
+            (subst (λ z. Comparing s₂ d (suc (suc n)) (c ∷ []) z 0) (let z : suc n ≡ n + 1 = omega arith in z) comparing)
 
-        module _ (s₃ : List ℕ) (b : Bool) (E : Equated s₂ s₃ d (n + 2) c (n + 1) b) where
-          E′ : Equated s₂ s₃ d (suc (suc n)) c (suc n) b
+        module _ (s₃ : List ℕ) (b : ℕ) (E : Equated s₂ s₃ d (n + 2) (c ∷ []) (n + 1) 0 b) where
+          E′ : Equated s₂ s₃ d (suc (suc n)) (c ∷ []) (suc n) 0 b
           E′ =
-              subst (λ z. Equated s₂ s₃ d z c (suc n) b) (let z : n + 2 ≡ suc (suc n) = omega arith in z)
-              (subst (λ z. Equated s₂ s₃ d (n + 2) c z b) (let z : n + 1 ≡ suc n = omega arith in z) E)
+              subst (λ z. Equated s₂ s₃ d z (c ∷ []) (suc n) 0 b) (let z : n + 2 ≡ suc (suc n) = omega arith in z)
+              (subst (λ z. Equated s₂ s₃ d (n + 2) (c ∷ []) z 0 b) (let z : n + 1 ≡ suc n = omega arith in z) E)
 
           uses-c : Uses s s₃ n top (suc (suc n)) (top + 1) 2
           uses-c z R =
-              equal-room s₂ s₃ d (suc (suc n)) c (suc n) (top + 1) z E′
+              equal-room s₂ s₃ d (suc (suc n)) (c ∷ []) (suc n) 0 (top + 1) z E′
               (uses-on s s₁ s₂ n (suc n) (suc (suc n)) top top (top + 1) 1 1 (unknown-uses s s₁ n top A N) (K′ .uses) z R)
 
           pub powered : Powered s s₃ d n top c b
@@ -136,8 +136,8 @@ module _ (s d : List ℕ) (n top c : ℕ) where
               record {
                 low = E′ .low ∙ K′ .builds d .grows .low ∙ made-grows s s₁ d n 0 0 firstRun 0 A N .low;
                 uses = subst (λ z. Uses s s₃ n top z (top + 1) 2) e uses-c;
-                goes = λ q G St x new f m a C.
-                    subst (λ z. Introduced s s₃ d n top z (top + 1) G (powerItems x f m a) (λ u. u ≡ x) x n) e
-                    (goes-c G St x new s₂ K′ a C s₃ f m (subst (Equated s₂ s₃ d (suc (suc n)) c (suc n)) q E′));
-                stops = λ q G St x new f m a C. stops-c G St x new s₂ K′ a C s₃ f m (subst (Equated s₂ s₃ d (suc (suc n)) c (suc n)) q E′);
+                goes = λ q G St x new m a C.
+                    subst (λ z. Introduced s s₃ d n top z (top + 1) G (powerItems x m a) (λ u. u ≡ x) x n) e
+                    (goes-c G St x new s₂ K′ a C s₃ m (subst (Equated s₂ s₃ d (suc (suc n)) (c ∷ []) (suc n) 0) q E′));
+                stops = λ q G St x new m a C. stops-c G St x new s₂ K′ a C s₃ m b q E′;
               }

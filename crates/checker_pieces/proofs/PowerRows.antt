@@ -1,195 +1,194 @@
--- Operands that are powers, one after another: what `are_powers` promises, from the first operand and the others.
-use mathlib.Core.Path.{_≡_, refl, sym, subst, _∙_}
-use mathlib.Core.Bool.{Bool, true, false}
+-- The powers of a row of cells, made one by one; operands that are powers: a row of unknowns, a row of their powers, the equations.
+use mathlib.Core.Path.{_≡_, refl, sym, ap, subst, _∙_}
 use mathlib.Core.List.{List, [], _∷_}
-use Prim.Native.Nat.{ℕ, suc, _+_, _*_, _-_, _≤_, _<_}
+use mathlib.Core.Logic.{inl, inr, ⊎-elim}
+use Prim.Native.Nat.{ℕ, suc, _+_, _≤_, _<_, _^_}
 use native.Mathlib.Omega.{arith}
-use lib.ListN.{length, getD}
-use Rattle.reader_rules.specs.Tree.{Expr, Exprs, none, more}
-use Rattle.types_rules.proofs.Terms.{bool-no}
-use Rattle.types_rules.specs.Equations.{In}
-use Rattle.types_rules.specs.Types.{Terms, nil, cons}
-use Rattle.checker_rules.proofs.Slots.{slots-apart}
-use Rattle.checker_rules.specs.Conditions.{typeOf, typesOf, isPower, arePowers}
-use Rattle.checker_rules.specs.Unknowns.{slot, unknownAt, row}
-use Rattle.types_cells.specs.Store.{run}
+use native.Mathlib.Nat.{eq-or-lt-of-le}
+use lib.ListN.{length}
+use Rattle.reader_rules.specs.Tree.{Exprs, exprsLength}
+use Rattle.types_rules.specs.Equations.{InP}
+use Rattle.types_rules.specs.Former.{power}
+use Rattle.types_rules.specs.Types.{Term, nil, cons}
+use Rattle.checker_rules.specs.Conditions.{arePowers, freshRow, powers, typesOf}
+use Rattle.checker_rules.specs.Items.{Items, _⨾_, equations}
+use Rattle.checker_rules.specs.Unknowns.{slot, unknownAt, powerOf}
+use Rattle.types_cells.specs.Store.{frozen, load, run}
+use Rattle.types_cells.proofs.Words.{run-length}
+use Rattle.types_solver.proofs.Extending.{builds-on, builds-refl}
 use Rattle.checker_pieces.specs.Piece.{Stops}
-use Rattle.checker_pieces.specs.Stage.{Ghost, Stands, Room, Cell, Advanced, Uses}
-use Rattle.checker_pieces.specs.Building.{Cells, Introduced, Working, Powered, powerItems}
-use Rattle.checker_pieces.specs.Rows.{everySecond, SlotsFrom, PowersOf, Powers}
-use Rattle.checker_pieces.proofs.PowerLaws.{unmentioned}
-use Rattle.checker_pieces.proofs.RowLaws.{operand, run-first}
-use Rattle.checker_pieces.proofs.Stages.{next, next-stands, next-cell, next-cells, next-unvisited, wider-mine, placed-cell, one-cell, room-less, advance-then, then-cell, then-cells, skip-advanced, stop-then}
-use Rattle.checker_pieces.proofs.Walks.{stops-left}
+use Rattle.checker_pieces.specs.Stage.{Ghost, Stands, Room, Cell, Unvisited, Advanced, Comparing, Sides, Equated, Uses}
+use Rattle.checker_pieces.specs.Building.{Building, Built, Cells}
+use Rattle.checker_pieces.specs.Rows.{RowAsked, Among, RowOf, RowMade, PowersAsked, PowersMade, Powering, PowersOf, Powers}
+use Rattle.checker_pieces.proofs.PowerLaws.{unmentioned-node}
+use Rattle.checker_pieces.proofs.RowLaws.{cells-count, sides-powers, sides-comparing}
+use Rattle.checker_pieces.proofs.Stages.{next, next-stands, next-cells, placed-cell, cell-built, cells-built, stands-built, built-old, built-cell, one-cell, room-less, uses-on, equal-room, equal-advanced, built-before, advance-then, stop-then, wider-mine}
 
-abbrev New : ℕ → ℕ → Ghost → Type 0
-New k i G = (j : ℕ) → i ≤ j → j < 8 → In (slot k j) (G .mentioned) → ⊥
+-- NONE YET.
+powers-none : (s : List ℕ) (n top first m : ℕ) → PowersAsked s n top first m → PowersMade s s n top first 0 n top
+powers-none s n top first m A = record {
+  builds = λ d. builds-refl s d n;
+  above = A .above;
+  uses = λ y R. room-less s n top y (0 + y) (omega arith) R;
+  powers = λ d G St u U i b. absurd (omega arith);
+}
 
--- NO OPERAND.
-none-go : (s d : List ℕ) (n top : ℕ) (G : Ghost) → Stands s d n top G → (k i : ℕ) (xs : Exprs) → Cells s d n G [] (typesOf xs) → PowersOf s s d n top n top G k i 0 xs
-unfolding Cells typesOf arePowers everySecond row
-none-go s d n top G St k i none K = record { advanced = skip-advanced s d n top G St (SlotsFrom k i); unknowns = tt }
-none-go s d n top G St k i (more a xs) K = absurd K
+pub powers-start : (s : List ℕ) (n top first m : ℕ) → PowersAsked s n top first m → PowersMade s s n top first 0 (n + 0) (top + 0)
+powers-start s n top first m A =
+    subst (λ z. PowersMade s s n top first 0 z (top + 0)) (let z : n ≡ n + 0 = omega arith in z)
+    (subst (λ z. PowersMade s s n top first 0 n z) (let z : top ≡ top + 0 = omega arith in z) (powers-none s n top first m A))
 
-none-c : (s d : List ℕ) (n top : ℕ) → (n′ top′ : ℕ) → n ≡ n′ → top ≡ top′ → (G : Ghost) → Stands s d n top G → (k i : ℕ) (xs : Exprs) → Cells s d n G [] (typesOf xs) →
-    PowersOf s s d n top n′ top′ G k i 0 xs
-none-c s d n top n′ top′ e f G St k i xs K =
-    subst (λ z. PowersOf s s d n top z top′ G k i 0 xs) e (subst (λ z. PowersOf s s d n top n z G k i 0 xs) f (none-go s d n top G St k i xs K))
+-- ONE MORE.
+module _ (s : List ℕ) (n top first m : ℕ) (A : PowersAsked s n top first m) (t : List ℕ) (j : ℕ) (l : j < m) (I : PowersMade s t n top first j (n + j) (top + j)) where
+  pub powers-ask : Building t (n + j) (top + j) 1 ((first + j) ∷ [])
+  powers-ask = record {
+    P₀ = A .P₀;
+    L = A .L;
+    solved = I .builds [] .grows .solved (A .P₀) (A .L) (A .solved);
+    above = I .above;
+    room = I .uses 1 (room-less s n top (j + 1) m (omega arith) (A .room));
+    older = λ c i. ⊎-elim (λ e. let z = A .made in omega arith) absurd i;
+  }
 
-none-uses : (s : List ℕ) (n top n′ top′ x : ℕ) → n ≡ n′ → top ≡ top′ → Uses s s n top n′ top′ x
-none-uses s n top n′ top′ x e f y R = subst (λ z. Room s z top′ y) e (subst (λ z. Room s n z y) f (room-less s n top y (x + y) (omega arith) R))
+  module _ (u : List ℕ) (K : Built t u (n + j) (top + j) (top + j + 1) 1 power ((first + j) ∷ [])) where
+    module _ (d : List ℕ) (G : Ghost) (St : Stands s d n top G) (v : ℕ → Term) (U : (i : ℕ) → i < suc j → Cell s d n G (first + i) (v i)) where
+      before : Stands t d (n + j) (top + j) G
+      before = stands-built s t d n (n + j) top (I .builds d) G St (top + j) (I .above)
 
-pub powers-none : (s d : List ℕ) (n top : ℕ) (ps : List ℕ) (j q : ℕ) → q ≡ 0 → Powers s s d n top (run ps j q) q true
-unfolding run
-powers-none s d n top ps j q e = subst (λ z. Powers s s d n top (run ps j z) z true) (sym e) (record {
-  low = refl;
-  uses = λ f. none-uses s n top (n + 2 * 0) (top + 0) (2 * 0) (omega arith) (omega arith);
-  goes = λ f G St k i l new xs K. none-c s d n top (n + 2 * 0) (top + 0) (omega arith) (omega arith) G St k i xs K;
-  stops = λ f. absurd (bool-no false (sym f) refl);
-})
+      last : Cell u d (suc (n + j)) G (n + j) (powerOf (v j))
+      last =
+          built-cell t u d (n + j) (top + j) (top + j + 1) 1 power ((first + j) ∷ []) K G before (cons (v j) nil)
+          (one-cell t d (n + j) G (first + j) (v j) (cell-built s t d n (n + j) top (I .builds d) G St (first + j) (v j) (U j (omega arith))))
 
-module _ (s d : List ℕ) (n top c : ℕ) (l : List ℕ) (q : ℕ) where
-  pub first-ask : Working s d n top (2 * suc q) (c ∷ l) → Working s d n top 2 (c ∷ [])
-  first-ask W =
-      let t = operand s d n (W .ghost) c l (W .terms) (W .cells) in
-      record { ghost = W .ghost; stands = W .stands; terms = cons (t .0) nil; cells = one-cell s d n (W .ghost) c (t .0) (t .2); room = room-less s n top 2 (2 * suc q) (omega arith) (W .room) }
+      all : (i : ℕ) → i < suc j → Cell u d (suc (n + j)) G (n + i) (powerOf (v i))
+      all i b = ⊎-elim
+          (λ e. subst (λ z. Cell u d (suc (n + j)) G (n + z) (powerOf (v z))) (sym e) last)
+          (λ q. built-old t u d (n + j) (top + j) (top + j + 1) 1 power ((first + j) ∷ []) K G before (n + i) (powerOf (v i)) (I .powers d G St v (λ k h. U k (omega arith)) i q))
+          (eq-or-lt-of-le (let z : i ≤ j = omega arith in z))
 
-  module _ (s₁ : List ℕ) (b : Bool) (P : Powered s s₁ d n top c b) where
-    pub others-ask : Working s d n top (2 * suc q) (c ∷ l) → b ≡ true → Working s₁ d (n + 2) (top + 1) (2 * q) l
-    others-ask W e =
-        let G = W .ghost in
-        let t = operand s d n G c l (W .terms) (W .cells) in
-        let y = unmentioned (G .mentioned) in
-        let I = P .goes e G (W .stands) (y .0) (y .1) 33 0 (t .0) (t .2) in
-        record {
-          ghost = next s s₁ d n top (n + 2) (top + 1) G (powerItems (y .0) 33 0 (t .0)) (λ z. z ≡ y .0) (I .advanced);
-          stands = next-stands s s₁ d n top (n + 2) (top + 1) G (powerItems (y .0) 33 0 (t .0)) (λ z. z ≡ y .0) (I .advanced) (W .stands .few);
-          terms = t .1;
-          cells = next-cells s s₁ d n top (n + 2) (top + 1) G (powerItems (y .0) 33 0 (t .0)) (λ z. z ≡ y .0) (I .advanced) l (t .1) (t .3);
-          room = P .uses (2 * q) (subst (Room s n top) (let z : 2 * suc q ≡ 2 + 2 * q = omega arith in z) (W .room));
-        }
+    one-more : PowersMade s u n top first (suc j) (suc (n + j)) (top + j + 1)
+    one-more = record {
+      builds = λ d. builds-on s t u d n (n + j) (suc (n + j)) (I .builds d) (K .builds d);
+      above = K .above;
+      uses = λ y R. uses-on s t u n (n + j) (suc (n + j)) top (top + j) (top + j + 1) j 1 (I .uses) (K .uses) y (room-less s n top (j + 1 + y) (suc j + y) (omega arith) R);
+      powers = λ d G St v U. all d G St v U;
+    }
 
-    refuse-c : b ≡ false → (G : Ghost) → Stands s d n top G → (k i : ℕ) → i + suc q ≤ 8 → New k i G → (xs : Exprs) → Cells s d n G (c ∷ l) (typesOf xs) →
-        Stops (G .before) (G .items) (arePowers k xs i) 33 k
-    unfolding Cells typesOf arePowers
-    refuse-c e G St k i m new none K = absurd K
-    refuse-c e G St k i m new (more a xs) K =
-        stops-left (G .before) (G .items) (isPower k i a) (arePowers k xs (suc i)) 33 k (P .stops e G St (slot k i) (new i (omega arith) (omega arith)) 33 k (typeOf a) (K .0))
+    pub powers-next : PowersMade s u n top first (j + 1) (n + (j + 1)) (top + (j + 1))
+    powers-next =
+        subst (λ z. PowersMade s u n top first z (n + (j + 1)) (top + (j + 1))) (let z : suc j ≡ j + 1 = omega arith in z)
+        (subst (λ z. PowersMade s u n top first (suc j) z (top + (j + 1))) (let z : suc (n + j) ≡ n + (j + 1) = omega arith in z)
+        (subst (λ z. PowersMade s u n top first (suc j) (suc (n + j)) z) (let z : top + j + 1 ≡ top + (j + 1) = omega arith in z) one-more))
 
-    pub powers-stop : b ≡ false → Powers s s₁ d n top (c ∷ l) (suc q) false
-    powers-stop e = record { low = P .low; uses = λ f. absurd (bool-no false f refl); goes = λ f. absurd (bool-no false f refl); stops = λ f. refuse-c e }
+-- OPERANDS THAT ARE POWERS.
+pub rows-length : (l : List ℕ) (m : ℕ) → m ≤ length l → length (run l 0 m) ≡ m
+rows-length l m q = run-length l 0 m (omega arith)
 
-    -- The first operand, in any piece that stands.
-    module _ (e : b ≡ true) (G : Ghost) (St : Stands s d n top G) (k i : ℕ) (m : i + suc q ≤ 8) (new : New k i G) (a : Expr) (C : Cell s d n G c (typeOf a)) where
-      abbrev x : ℕ
-      x = slot k i
+module _ (s d : List ℕ) (n top : ℕ) (l : List ℕ) (m : ℕ) (el : length l ≡ m) (W : Powering s d n top l m) where
+  pub row-asked : RowAsked s n m
+  row-asked =
+      let R = W .room in
+      let u = R .cells in
+      let v = R .fit in
+      record { P₀ = W .ghost .equations; L = W .stands .piece .L; solved = W .stands .piece .solved; room = omega arith; fit = omega arith }
 
-      I : Introduced s s₁ d n top (n + 2) (top + 1) G (isPower k i a) (λ z. z ≡ x) x n
-      I = P .goes e G St x (new i (omega arith) (omega arith)) 33 k (typeOf a) C
+  module _ (s₁ : List ℕ) (M : RowMade s s₁ n m) where
+    row-uses : Uses s s₁ n top (n + m) top m
+    row-uses y R =
+        let e = M .fit in
+        let u = R .cells in
+        let v = R .words in
+        let w = R .fit in
+        record { cells = omega arith; words = omega arith; fit = omega arith }
 
-      A : Advanced s s₁ d n top (n + 2) (top + 1) G (isPower k i a) (SlotsFrom k i)
-      A = wider-mine s s₁ d n top (n + 2) (top + 1) G (isPower k i a) (λ z. z ≡ x) (I .advanced) (SlotsFrom k i) (λ z f. (i, omega arith, omega arith, f))
+    -- The unknowns, in any piece that stands.
+    module _ (G : Ghost) (St : Stands s d n top G) (k : ℕ) (new : Unvisited k G) where
+      abbrev A₁ : RowOf s s₁ d n top (n + m) m k G
+      A₁ = M .row d top k G St new (W .few)
 
       abbrev G₁ : Ghost
-      G₁ = next s s₁ d n top (n + 2) (top + 1) G (isPower k i a) (SlotsFrom k i) A
+      G₁ = next s s₁ d n top (n + m) top G (freshRow k 1 m) (Among k m) (A₁ .advanced)
 
-      St₁ : Stands s₁ d (n + 2) (top + 1) G₁
-      St₁ = next-stands s s₁ d n top (n + 2) (top + 1) G (isPower k i a) (SlotsFrom k i) A (St .few)
+      St₁ : Stands s₁ d (n + m) top G₁
+      St₁ = next-stands s s₁ d n top (n + m) top G (freshRow k 1 m) (Among k m) (A₁ .advanced) (St .few)
 
-      new₁ : New k (suc i) G₁
-      unfolding A
-      new₁ j u v = next-unvisited s s₁ d n top (n + 2) (top + 1) G (isPower k i a) (λ z. z ≡ x) (I .advanced) (slot k j) (new j (omega arith) v)
-          (λ f. let z = slots-apart k j k i v (omega arith) f .1 in omega arith)
+      unknowns₁ : (i : ℕ) → i < m → Cell s₁ d (n + m) G₁ (n + i) (unknownAt k (1 + i))
+      unknowns₁ i b =
+          subst (λ z. Cell s₁ d (n + m) G₁ (n + i) (unknownAt k z)) (let z : suc i ≡ 1 + i = omega arith in z)
+          (placed-cell s s₁ d n top (n + m) top G (freshRow k 1 m) (Among k m) (A₁ .advanced) (slot k (suc i)) (n + i) (A₁ .placed i b))
 
-      C₁ : Cell s₁ d (n + 2) G₁ n (unknownAt k i)
-      unfolding A
-      C₁ = placed-cell s s₁ d n top (n + 2) (top + 1) G (isPower k i a) (SlotsFrom k i) A x n (I .placed)
+      cells₁ : (xs : Exprs) → Cells s d n G l (typesOf xs) → Cells s₁ d (n + m) G₁ l (typesOf xs)
+      cells₁ xs K = next-cells s s₁ d n top (n + m) top G (freshRow k 1 m) (Among k m) (A₁ .advanced) l (typesOf xs) K
 
-      cells₁ : (ts : Terms) → Cells s d n G l ts → Cells s₁ d (n + 2) G₁ l ts
-      cells₁ = next-cells s s₁ d n top (n + 2) (top + 1) G (isPower k i a) (SlotsFrom k i) A l
+    -- A node for the piece that the caller has.
+    own : (k : ℕ) × Unvisited k (W .ghost)
+    own = let u = unmentioned-node (W .ghost .mentioned) in (u .0, λ j b. u .1 j)
 
-      -- and the others
-      module _ (s₂ : List ℕ) (n₂ top₂ : ℕ) (xs : Exprs) (R : PowersOf s₁ s₂ d (n + 2) (top + 1) n₂ top₂ G₁ k (suc i) q xs) where
-        abbrev B : Advanced s₁ s₂ d (n + 2) (top + 1) n₂ top₂ G₁ (arePowers k xs (suc i)) (SlotsFrom k i)
-        B =
-            wider-mine s₁ s₂ d (n + 2) (top + 1) n₂ top₂ G₁ (arePowers k xs (suc i)) (SlotsFrom k (suc i)) (R .advanced) (SlotsFrom k i)
-            (λ z f. (f .0, (let u = f .1 in omega arith), f .2, f .3))
+    pub powers-asked : PowersAsked s₁ (n + m) top n m
+    powers-asked = record {
+      P₀ = W .ghost .equations;
+      L = W .stands .piece .L;
+      solved = M .solved (W .ghost .equations) (W .stands .piece .L) (W .stands .piece .solved);
+      above = A₁ (W .ghost) (W .stands) (own .0) (own .1) .advanced .above;
+      room = row-uses m (W .room);
+      made = omega arith;
+    }
 
-        both : PowersOf s s₂ d n top n₂ top₂ G k i (suc q) (more a xs)
-        unfolding Cells arePowers everySecond row
-        both = record {
-          advanced = advance-then s s₁ d n top (n + 2) (top + 1) G (isPower k i a) (SlotsFrom k i) A (arePowers k xs (suc i)) s₂ n₂ top₂ B;
-          unknowns = (
-            then-cell s s₁ d n top (n + 2) (top + 1) G (isPower k i a) (SlotsFrom k i) A (arePowers k xs (suc i)) s₂ n₂ top₂ B n (unknownAt k i)
-                (next-cell s₁ s₂ d (n + 2) (top + 1) n₂ top₂ G₁ (arePowers k xs (suc i)) (SlotsFrom k i) B n (unknownAt k i) C₁),
-            then-cells s s₁ d n top (n + 2) (top + 1) G (isPower k i a) (SlotsFrom k i) A (arePowers k xs (suc i)) s₂ n₂ top₂ B (everySecond (n + 2) q) (row k (suc i) q) (R .unknowns),
-          );
+    module _ (s₂ : List ℕ) (N : PowersMade s₁ s₂ (n + m) top n m (n + m + m) (top + m)) where
+      module _ (G : Ghost) (St : Stands s d n top G) (k : ℕ) (new : Unvisited k G) where
+        St₂ : Stands s₂ d (n + m + m) (top + m) (G₁ G St k new)
+        St₂ = stands-built s₁ s₂ d (n + m) (n + m + m) top (N .builds d) (G₁ G St k new) (St₁ G St k new) (top + m) (N .above)
+
+        sides : (xs : Exprs) → Cells s d n G l (typesOf xs) → Sides s₂ d (n + m + m) (G₁ G St k new) l (n + m) 1 (powers k xs 1)
+        sides xs K =
+            let e = cells-count s d n G l xs K in
+            sides-powers s₂ d (n + m + m) (G₁ G St k new) k l (n + m) 1 xs
+            (λ i b. N .powers d (G₁ G St k new) (St₁ G St k new) (λ i. unknownAt k (1 + i)) (unknowns₁ G St k new) i (omega arith))
+            (cells-built s₁ s₂ d (n + m) (n + m + m) top (N .builds d) (G₁ G St k new) (St₁ G St k new) l (typesOf xs) (cells₁ G St k new xs K))
+
+      pub sides-asked : Comparing s₂ d (n + m + m) l (n + m) 1
+      sides-asked =
+          sides-comparing s₂ d (n + m + m) l (n + m) 1 (top + m)
+          (record { ghost = G₁ (W .ghost) (W .stands) (own .0) (own .1); stands = St₂ (W .ghost) (W .stands) (own .0) (own .1) }) (powers (own .0) (W .exprs) 1)
+          (sides (W .ghost) (W .stands) (own .0) (own .1) (W .exprs) (W .cells)) (omega arith)
+
+      module _ (s₃ : List ℕ) (number : ℕ) (E : Equated s₂ s₃ d (n + m + m) l (n + m) 1 number) where
+        uses₃ : Uses s s₃ n top (n + m + m) (top + m) (m + m)
+        uses₃ y R =
+            equal-room s₂ s₃ d (n + m + m) l (n + m) 1 (top + m) y E
+            (uses-on s s₁ s₂ n (n + m) (n + m + m) top top (top + m) m m row-uses (N .uses) y R)
+
+        module _ (G : Ghost) (St : Stands s d n top G) (k : ℕ) (new : Unvisited k G) (xs : Exprs) (K : Cells s d n G l (typesOf xs)) where
+          abbrev es : Items
+          es = equations k (powers k xs 1)
+
+          stopped : (number ≡ 0 → ⊥) → Stops (G .before) (G .items) (arePowers k xs 1) number k
+          unfolding arePowers
+          stopped ne =
+              subst (λ z. Stops (G .before) (G .items) (freshRow k 1 z ⨾ es) number k) (sym el ∙ cells-count s d n G l xs K)
+              (stop-then s s₁ d n top (n + m) top G (freshRow k 1 m) (Among k m) (A₁ G St k new .advanced) es number k
+              (E .stops ne (top + m) (G₁ G St k new) (St₂ G St k new) (powers k xs 1) (sides G St k new xs K) k))
+
+          A₃ : number ≡ 0 → Advanced s₁ s₃ d (n + m) top (n + m + m) (top + m) (G₁ G St k new) es (Among k m)
+          A₃ e =
+              built-before s₂ s₃ d (n + m + m) (top + m) (n + m + m) (top + m) (G₁ G St k new) es (Among k m)
+              (equal-advanced s₂ s₃ d (n + m + m) l (n + m) 1 (top + m) (G₁ G St k new) (St₂ G St k new) (powers k xs 1) (sides G St k new xs K) k (Among k m)
+              (subst (Equated s₂ s₃ d (n + m + m) l (n + m) 1) e E)) s₁ (n + m) top (N .builds d) (St₁ G St k new)
+
+          abbrev Gone : ℕ → Type 0
+          Gone z = (A : Advanced s s₃ d n top (n + m + m) (top + m) G (freshRow k 1 z ⨾ es) (Among k m)) × ((i : ℕ) → i < m → InP (slot k (suc i)) (n + i) (A .cells))
+
+          gone : number ≡ 0 → PowersOf s s₃ d n top (n + m + m) (top + m) G k m xs
+          unfolding arePowers advance-then built-before equal-advanced A₃
+          gone e =
+              let X = subst Gone (sym el ∙ cells-count s d n G l xs K)
+              (advance-then s s₁ d n top (n + m) top G (freshRow k 1 m) (Among k m) (A₁ G St k new .advanced) es s₃ (n + m + m) (top + m) (A₃ e), A₁ G St k new .placed) in
+              record { advanced = X .0; placed = X .1 }
+
+        pub are-powers : Powers s s₃ d n top l m number
+        are-powers = record {
+          low = E .low ∙ N .builds d .grows .low ∙ M .low;
+          uses = uses₃;
+          goes = λ e G St k new xs K. gone G St k new xs K e;
+          stops = λ e G St k new xs K. stopped G St k new xs K e;
         }
-
-    module _ (e : b ≡ true) (s₂ : List ℕ) (r : Bool) (N : Powers s₁ s₂ d (n + 2) (top + 1) l q r) where
-      go-c : r ≡ true → (G : Ghost) → Stands s d n top G → (k i : ℕ) → i + suc q ≤ 8 → New k i G → (xs : Exprs) → Cells s d n G (c ∷ l) (typesOf xs) →
-          PowersOf s s₂ d n top (n + 2 + 2 * q) (top + 1 + q) G k i (suc q) xs
-      unfolding Cells typesOf
-      go-c f G St k i m new none K = absurd K
-      go-c f G St k i m new (more a xs) K =
-          both e G St k i m new a (K .0) s₂ (n + 2 + 2 * q) (top + 1 + q) xs
-          (N .goes f (G₁ e G St k i m new a (K .0)) (St₁ e G St k i m new a (K .0)) k (suc i) (omega arith) (new₁ e G St k i m new a (K .0)) xs
-          (cells₁ e G St k i m new a (K .0) (typesOf xs) (K .1)))
-
-      stop-c : r ≡ false → (G : Ghost) → Stands s d n top G → (k i : ℕ) → i + suc q ≤ 8 → New k i G → (xs : Exprs) → Cells s d n G (c ∷ l) (typesOf xs) →
-          Stops (G .before) (G .items) (arePowers k xs i) 33 k
-      unfolding Cells typesOf arePowers
-      stop-c f G St k i m new none K = absurd K
-      stop-c f G St k i m new (more a xs) K =
-          stop-then s s₁ d n top (n + 2) (top + 1) G (isPower k i a) (SlotsFrom k i) (A e G St k i m new a (K .0)) (arePowers k xs (suc i)) 33 k
-          (N .stops f (G₁ e G St k i m new a (K .0)) (St₁ e G St k i m new a (K .0)) k (suc i) (omega arith) (new₁ e G St k i m new a (K .0)) xs
-          (cells₁ e G St k i m new a (K .0) (typesOf xs) (K .1)))
-
-      uses-c : r ≡ true → Uses s s₂ n top (n + 2 + 2 * q) (top + 1 + q) (2 * suc q)
-      uses-c f z R = N .uses f z (P .uses (2 * q + z) (subst (Room s n top) (let u : 2 * suc q + z ≡ 2 + (2 * q + z) = omega arith in u) R))
-
-      pub powers-more : Powers s s₂ d n top (c ∷ l) (suc q) r
-      powers-more =
-          let e₁ : n + 2 + 2 * q ≡ n + 2 * suc q = omega arith in
-          let e₂ : top + 1 + q ≡ top + suc q = omega arith in
-          record {
-            low = N .low ∙ P .low;
-            uses = λ f. subst (λ z. Uses s s₂ n top z (top + suc q) (2 * suc q)) e₁ (subst (λ z. Uses s s₂ n top (n + 2 + 2 * q) z (2 * suc q)) e₂ (uses-c f));
-            goes = λ f G St k i m new xs K.
-                subst (λ z. PowersOf s s₂ d n top z (top + suc q) G k i (suc q) xs) e₁
-                (subst (λ z. PowersOf s s₂ d n top (n + 2 + 2 * q) z G k i (suc q) xs) e₂ (go-c f G St k i m new xs K));
-            stops = stop-c;
-          }
-
--- The same for words of a list.
-module _ (s d : List ℕ) (n top : ℕ) (ps : List ℕ) (j q : ℕ) (P : (j + q ≤ length ps) × Working s d n top (2 * q) (run ps j q)) (ne : q ≡ 0 → ⊥) where
-  abbrev c₀ : ℕ
-  c₀ = getD ps j 0
-
-  abbrev l₀ : List ℕ
-  l₀ = run ps (j + 1) (q - 1)
-
-  split : run ps j q ≡ c₀ ∷ l₀
-  split = run-first ps j q ne (P .0)
-
-  some : suc (q - 1) ≡ q
-  some = omega (arith, ne)
-
-  working : Working s d n top (2 * suc (q - 1)) (c₀ ∷ l₀)
-  working = subst (λ z. Working s d n top (2 * z) (c₀ ∷ l₀)) (sym some) (subst (Working s d n top (2 * q)) split (P .1))
-
-  pub power-ask : Working s d n top 2 (c₀ ∷ [])
-  power-ask = first-ask s d n top c₀ l₀ (q - 1) working
-
-  module _ (s₁ : List ℕ) (b : Bool) (E : Powered s s₁ d n top c₀ b) where
-    pub powers-ask : b ≡ true → ((j + 1) + (q - 1) ≤ length ps) × Working s₁ d (n + 2) (top + 1) (2 * (q - 1)) l₀
-    powers-ask e = (let z = some in let u = P .0 in omega arith, others-ask s d n top c₀ l₀ (q - 1) s₁ b E working e)
-
-    back : (s₂ : List ℕ) (r : Bool) → Powers s s₂ d n top (c₀ ∷ l₀) (suc (q - 1)) r → Powers s s₂ d n top (run ps j q) q r
-    back s₂ r N = subst (λ z. Powers s s₂ d n top z q r) (sym split) (subst (λ z. Powers s s₂ d n top (c₀ ∷ l₀) z r) some N)
-
-    pub powers-refused : b ≡ false → Powers s s₁ d n top (run ps j q) q false
-    powers-refused e = back s₁ false (powers-stop s d n top c₀ l₀ (q - 1) s₁ b E e)
-
-    pub powers-done : b ≡ true → (s₂ : List ℕ) (r : Bool) → Powers s₁ s₂ d (n + 2) (top + 1) l₀ (q - 1) r → Powers s s₂ d n top (run ps j q) q r
-    powers-done e s₂ r N = back s₂ r (powers-more s d n top c₀ l₀ (q - 1) s₁ b E e s₂ r N)

@@ -1,26 +1,26 @@
 -- A piece that stands, step by step: cells are built, items come one after another, and the cells that denoted a term still do.
 use mathlib.Core.Path.{_≡_, refl, sym, ap, ap₂, subst, _∙_}
-use mathlib.Core.Bool.{Bool, true}
 use mathlib.Core.List.{List, [], _∷_, map}
 use mathlib.Core.Logic.{inl, inr, ⊎-elim}
 use Prim.Native.Nat.{ℕ, suc, _+_, _*_, _≤_, _<_, _^_}
 use native.Mathlib.Omega.{arith}
 use lib.ListN.{length}
 use Rattle.types_rules.proofs.Terms.{each-map}
-use Rattle.types_rules.specs.Equations.{In, InP, Pairs, pair}
+use Rattle.types_rules.specs.Equations.{In, InP, Pairs, end, pair}
 use Rattle.types_rules.specs.Finite.{fromList}
 use Rattle.types_rules.specs.Former.{Former}
 use Rattle.types_rules.specs.Types.{Ty, node, tcons, Term, Terms, unknown, con, nil, cons, under, unders, Each, Eachs}
 use Rattle.checker_rules.specs.Unknowns.{Valuation, slot}
-use Rattle.checker_rules.specs.Items.{Items, _⨾_, skip, fresh, equate, Meets, Agree, Passes}
+use Rattle.checker_rules.specs.Items.{Items, _⨾_, skip, fresh, equations, Meets, MeetsIn, Agree, Passes}
 use Rattle.checker_rules.specs.Conditions.{typed}
-use Rattle.types_cells.specs.Layout.{maxPending, firstRun}
+use Rattle.types_cells.specs.Layout.{maxCells, maxPending, firstRun}
 use Rattle.types_cells.specs.Store.{frozen, load, run, Solved}
 use Rattle.types_cells.specs.Calls.{Above, Making, Made}
+use Rattle.types_solver.specs.Equation.{pairsWith, Within}
 use Rattle.types_solver.specs.Growth.{Builds}
 use Rattle.types_cells.proofs.Growing.{made-above, made-load}
 use Rattle.checker_pieces.specs.Piece.{Solution, Matches, Piece, Later, Stops}
-use Rattle.checker_pieces.specs.Stage.{Ghost, Stands, Room, Cell, Advanced, SlotOf, Uses, Ruled, Equated}
+use Rattle.checker_pieces.specs.Stage.{Ghost, Stands, Room, Cell, Advanced, SlotOf, Uses, Ruled, Comparing, SidesBy, Sides, Equated}
 use Rattle.checker_pieces.specs.Building.{Building, Built, Cells, Introduced}
 use Rattle.checker_pieces.proofs.Walks.{items-earlier, goes-then, stops-right, alike-group, meets-alike, piece-group, later-on, denotes-later}
 use Rattle.checker_pieces.proofs.Growing.{built, built-later, unknown-later, unknown as new-unknown}
@@ -268,14 +268,14 @@ module _ (s s′ d : List ℕ) (n top n′ top′ : ℕ) (G : Ghost) (a : Items)
 
 -- NO ITEM.
 pub skip-advanced : (s d : List ℕ) (n top : ℕ) (G : Ghost) → Stands s d n top G → (M : ℕ → Type 0) → Advanced s s d n top n top G skip M
-unfolding Passes Meets Agree
+unfolding Passes MeetsIn Agree
 skip-advanced s d n top G St M = record {
   equations = G .equations;
   mentioned = G .mentioned;
   cells = G .cells;
   wide = omega arith;
   goes = tt;
-  piece = noted s d n (G .equations) (G .before) (G .items) (G .known) (G .mentioned) (G .cells) (St .piece) skip (λ τ m. tt) (λ τ τ′. tt);
+  piece = noted s d n (G .equations) (G .before) (G .items) (G .known) (G .mentioned) (G .cells) (St .piece) skip tt (λ τ m. tt) (λ τ τ′. tt);
   above = St .above;
   later = record { solutions = λ σ S. S; items = items-earlier (G .before) (G .items) skip; unknowns = λ τ σ m. m };
   wider = λ x i. i;
@@ -311,13 +311,26 @@ unknown-uses s s′ n top A N y R =
     let v = R .words in
     record { cells = omega arith; words = omega arith; fit = omega arith }
 
--- AN EQUATION.
-module _ (s s′ d : List ℕ) (n x y : ℕ) (top : ℕ) (G : Ghost) (St : Stands s d n top G) (a b : Term) (X : Cell s d n G x a) (Y : Cell s d n G y b) (f m : ℕ) (M : ℕ → Type 0) where
-  unfoldable pub equal-advanced : Equated s s′ d n x y true → Advanced s s′ d n top n top G (equate f m a b) M
+-- ONE EQUATION, of the cells x and y.
+pub one-side : (s d : List ℕ) (n : ℕ) (G : Ghost) (x y : ℕ) (a b : Term) → Cell s d n G x a → Cell s d n G y b → Sides s d n G (x ∷ []) y 0 (pair a b end)
+unfolding SidesBy
+one-side s d n G x y a b X Y = (X, Y, tt)
+
+pub one-comparing : (s d : List ℕ) (n x y top : ℕ) (G : Ghost) → Stands s d n top G → x < n → y < n → Comparing s d n (x ∷ []) y 0
+unfolding Within
+one-comparing s d n x y top G St l m = record { top = top; ready = record { ghost = G; stands = St }; made = (l, m, tt); step = omega arith }
+
+pub few-side : (s d : List ℕ) (n x y : ℕ) → Comparing s d n (x ∷ []) y 0 → x < maxCells
+unfolding Within
+few-side s d n x y C = let l = C .made .0 in let f = C .ready .stands .piece .solved .held .few in omega arith
+
+-- EQUATIONS.
+module _ (s s′ d : List ℕ) (n : ℕ) (l : List ℕ) (y k : ℕ) (top : ℕ) (G : Ghost) (St : Stands s d n top G) (es : Pairs Term) (D : Sides s d n G l y k es) (m : ℕ) (M : ℕ → Type 0) where
+  unfoldable pub equal-advanced : Equated s s′ d n l y k 0 → Advanced s s′ d n top n top G (equations m es) M
   equal-advanced E =
-      let r = E .goes refl top G St a b X Y f m in
+      let r = E .goes refl top G St es D m in
       record {
-        equations = pair x y (G .equations);
+        equations = pairsWith l y k (G .equations);
         mentioned = G .mentioned;
         cells = G .cells;
         wide = omega arith;
@@ -329,7 +342,7 @@ module _ (s s′ d : List ℕ) (n x y : ℕ) (top : ℕ) (G : Ghost) (St : Stand
         new = λ z i. inl i;
       }
 
-  pub introduced-equal : Equated s s′ d n x y true → (u v : ℕ) → InP u v (G .cells) → Introduced s s′ d n top n top G (equate f m a b) M u v
+  pub introduced-equal : Equated s s′ d n l y k 0 → (u v : ℕ) → InP u v (G .cells) → Introduced s s′ d n top n top G (equations m es) M u v
   unfolding equal-advanced
   introduced-equal E u v i = record { advanced = equal-advanced E; placed = i }
 
@@ -342,10 +355,10 @@ module _ (s d : List ℕ) (n top : ℕ) (G : Ghost) (St : Stands s d n top G) (c
       mentioned = slot k 0 ∷ G .mentioned;
       cells = pair (slot k 0) c (G .cells);
       wide = omega arith;
-      goes = typed-goes s d n (G .equations) (G .before) (G .items) (G .known) (G .mentioned) (G .cells) (St .piece) (slot k 0) new c (C .made) t (C .denotes) (C .over) 33 k;
-      piece = new-typed s d n (G .equations) (G .before) (G .items) (G .known) (G .mentioned) (G .cells) (St .piece) (slot k 0) new c (C .made) t (C .denotes) (C .over) 33 k;
+      goes = typed-goes s d n (G .equations) (G .before) (G .items) (G .known) (G .mentioned) (G .cells) (St .piece) (slot k 0) new c (C .made) t (C .denotes) (C .over) k;
+      piece = new-typed s d n (G .equations) (G .before) (G .items) (G .known) (G .mentioned) (G .cells) (St .piece) (slot k 0) new c (C .made) t (C .denotes) (C .over) k;
       above = St .above;
-      later = typed-later s d n (G .equations) (G .before) (G .items) (G .known) (G .mentioned) (G .cells) (St .piece) (slot k 0) new c (C .made) t (C .denotes) (C .over) 33 k;
+      later = typed-later s d n (G .equations) (G .before) (G .items) (G .known) (G .mentioned) (G .cells) (St .piece) (slot k 0) new c (C .made) t (C .denotes) (C .over) k;
       wider = λ y i. inr i;
       new = λ y i. ⊎-elim inr inl i;
     };
@@ -373,5 +386,5 @@ uses-on s s′ s″ n n′ n″ top top′ top″ x y A B z R = B z (A (y + z) (
 pub room-less : (s : List ℕ) (n top x y : ℕ) → x ≤ y → Room s n top y → Room s n top x
 room-less s n top x y l R = let u = R .cells in let v = R .words in let w = R .fit in record { cells = omega arith; words = omega arith; fit = omega arith }
 
-pub equal-room : (s s′ d : List ℕ) (n x y top r : ℕ) {b : Bool} → Equated s s′ d n x y b → Room s n top r → Room s′ n top r
-equal-room s s′ d n x y top r E R = record { cells = R .cells; words = R .words; fit = subst (λ w. load w n + 2 * r < maxPending) (sym (E .still)) (R .fit) }
+pub equal-room : (s s′ d : List ℕ) (n : ℕ) (l : List ℕ) (y k top r : ℕ) {number : ℕ} → Equated s s′ d n l y k number → Room s n top r → Room s′ n top r
+equal-room s s′ d n l y k top r E R = record { cells = R .cells; words = R .words; fit = subst (λ w. load w n + 2 * r < maxPending) (sym (E .still)) (R .fit) }

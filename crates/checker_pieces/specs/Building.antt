@@ -1,6 +1,5 @@
 -- New cells with formers: ℤ, a power, a product. What the functions that build them ask and promise.
 use mathlib.Core.Path.{_≡_}
-use mathlib.Core.Bool.{Bool, true, false}
 use mathlib.Core.List.{List, [], _∷_, map}
 use Prim.Native.Nat.{ℕ, suc, _+_, _<_}
 use lib.ListN.{length}
@@ -8,7 +7,8 @@ use Rattle.types_rules.specs.Equations.{In, InP, Pairs}
 use Rattle.types_rules.specs.Finite.{fromList}
 use Rattle.types_rules.specs.Former.{Former}
 use Rattle.types_rules.specs.Types.{Ty, node, Term, unknown, Terms, nil, cons}
-use Rattle.checker_rules.specs.Items.{Items, _⨾_, fresh, equate}
+use Rattle.checker_rules.specs.Conditions.{equation}
+use Rattle.checker_rules.specs.Items.{Items, _⨾_, fresh}
 use Rattle.checker_rules.specs.Unknowns.{powerOf}
 use Rattle.types_cells.specs.Store.{frozen, load, run, Solved}
 use Rattle.types_cells.specs.Calls.{Above}
@@ -64,15 +64,15 @@ pub record Working (s d : List ℕ) (n top x : ℕ) (l : List ℕ) : Type 0 wher
   pub cells : Cells s d n ghost l terms
   pub room : Room s n top x
 
--- The unknown x is new, and the term a is the power of it (finding f at node m).
-abbrev pub powerItems : ℕ → ℕ → ℕ → Term → Items
-powerItems x f m a = fresh x ⨾ equate f m a (powerOf (unknown x))
+-- The unknown x is new, and the term a is the power of it, at node m.
+abbrev pub powerItems : ℕ → ℕ → Term → Items
+powerItems x m a = fresh x ⨾ equation m a (powerOf (unknown x))
 
 -- IS_POWER: the type of cell c is a power, of the new unknown cell n.
-pub record Powered (s s′ d : List ℕ) (n top c : ℕ) (fine : Bool) : Type 0 where
+pub record Powered (s s′ d : List ℕ) (n top c number : ℕ) : Type 0 where
   pub low : lower s′ ≡ lower s
   pub uses : Uses s s′ n top (n + 2) (top + 1) 2
-  pub goes : fine ≡ true → (G : Ghost) → Stands s d n top G → (x : ℕ) → (In x (G .mentioned) → ⊥) → (f m : ℕ) (a : Term) → Cell s d n G c a →
-      Introduced s s′ d n top (n + 2) (top + 1) G (powerItems x f m a) (λ y. y ≡ x) x n
-  pub stops : fine ≡ false → (G : Ghost) → Stands s d n top G → (x : ℕ) → (In x (G .mentioned) → ⊥) → (f m : ℕ) (a : Term) → Cell s d n G c a →
-      Stops (G .before) (G .items) (powerItems x f m a) f m
+  pub goes : number ≡ 0 → (G : Ghost) → Stands s d n top G → (x : ℕ) → (In x (G .mentioned) → ⊥) → (m : ℕ) (a : Term) → Cell s d n G c a →
+      Introduced s s′ d n top (n + 2) (top + 1) G (powerItems x m a) (λ y. y ≡ x) x n
+  pub stops : (number ≡ 0 → ⊥) → (G : Ghost) → Stands s d n top G → (x : ℕ) → (In x (G .mentioned) → ⊥) → (m : ℕ) (a : Term) → Cell s d n G c a →
+      Stops (G .before) (G .items) (powerItems x m a) number m

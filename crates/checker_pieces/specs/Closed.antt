@@ -8,7 +8,7 @@ use Rattle.types_rules.specs.Equations.{InP, Pairs}
 use Rattle.types_rules.specs.Types.{Ty, size}
 use Rattle.types_rules.specs.Words.{words}
 use Rattle.checker_rules.specs.Unknowns.{Valuation}
-use Rattle.checker_rules.specs.Items.{_⨾_, piece, Meets, Passes, Refuses}
+use Rattle.checker_rules.specs.Items.{_⨾_, piece, Meets, Passes, Refuses, MeetsIn}
 use Rattle.types_cells.specs.Store.{frozen}
 use Rattle.types_cells.specs.Settled.{lower}
 use Rattle.types_solver.specs.Sizes.{cap, Model}
@@ -25,7 +25,7 @@ pub record Closing (s d : List ℕ) (n : ℕ) : Type 0 where
 pub record Shut (s d : List ℕ) (n : ℕ) (G : Ghost) : Type 0 where
   pub type : ℕ → Ty
   pub solution : Solution s d n (G .equations) type
-  pub goes : (m : ℕ) → Passes (G .items) (Meets (G .before)) → Passes (piece m (G .items)) (Meets (G .before))
+  pub goes : (m : ℕ) → Passes (G .items) (MeetsIn (G .before)) → Passes (piece m (G .items)) (MeetsIn (G .before))
   pub extends : (m : ℕ) → Extends (G .before) (piece m (G .items)) (G .known)
   pub steady : (m : ℕ) → Steady (G .before ⨾ piece m (G .items)) (G .mentioned)
   -- the unknown x of cell c has one type
@@ -41,7 +41,7 @@ pub record Closed (s s′ d : List ℕ) (n : ℕ) (one : Bool) : Type 0 where
   pub still : frozen s′ ≡ frozen s
   pub stands : (top : ℕ) (G : Ghost) → Stands s d n top G → Stands s′ d n top G
   pub goes : one ≡ true → (top : ℕ) (G : Ghost) → Stands s d n top G → Shut s′ d n G
-  pub stops : one ≡ false → (top : ℕ) (G : Ghost) → Stands s d n top G → (m : ℕ) → Passes (G .items) (Meets (G .before)) → Refuses (piece m (G .items)) (Meets (G .before)) 34 m
+  pub stops : one ≡ false → (top : ℕ) (G : Ghost) → Stands s d n top G → (m : ℕ) → Passes (G .items) (MeetsIn (G .before)) → Refuses (piece m (G .items)) (MeetsIn (G .before)) 34 m
 
 -- Cell c of a closed piece.
 pub record Sizing (s d : List ℕ) (n c : ℕ) : Type 0 where

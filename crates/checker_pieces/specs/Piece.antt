@@ -7,7 +7,7 @@ use Prim.Native.Nat.{ℕ, _<_}
 use Rattle.types_rules.specs.Equations.{AllP, In, InP, Pairs, Solves}
 use Rattle.types_rules.specs.Types.{Ty, Term, under}
 use Rattle.checker_rules.specs.Unknowns.{Valuation}
-use Rattle.checker_rules.specs.Items.{Items, _⨾_, Meets, Agree, Passes, Refuses}
+use Rattle.checker_rules.specs.Items.{Items, _⨾_, Meets, MeetsIn, Agree, Any, Passes, Refuses}
 use Rattle.types_cells.specs.Store.{frozen, tagAt, Solved}
 use Rattle.types_cells.specs.Settled.{Pinned, Obeys, Fits}
 
@@ -31,10 +31,10 @@ Local t U = (τ τ′ : Valuation) → SameOn U τ τ′ → Meets t τ → Meet
 
 -- The items a pass after H and t, or they stop with the finding f at the node m.
 abbrev pub Goes : Items → Items → Items → Type 0
-Goes H t a = Passes a (Meets (H ⨾ t))
+Goes H t a = Passes a (MeetsIn (H ⨾ t))
 
 abbrev pub Stops : Items → Items → Items → ℕ → ℕ → Type 0
-Stops H t a f m = Refuses a (Meets (H ⨾ t)) f m
+Stops H t a f m = Refuses a (MeetsIn (H ⨾ t)) f m
 
 -- Cell i is the cell of an unknown, or has one type in every solution.
 abbrev pub Accounted : List ℕ → List ℕ → ℕ → Pairs ℕ → Pairs ℕ → ℕ → Type 0
@@ -52,6 +52,8 @@ pub record Piece (s d : List ℕ) (n : ℕ) (P₀ : Pairs ℕ) (H t : Items) (U�
   pub complete : (σ : ℕ → Ty) → Solution s d n P₀ σ → (τ₀ : Valuation) → Meets H τ₀ → (τ : Valuation) × Meets (H ⨾ t) τ × Matches ρ τ σ × SameOn U₀ τ τ₀
   pub some : (σ : ℕ → Ty) × Solution s d n P₀ σ
   pub start : (τ : Valuation) × Meets H τ
+  pub opened : Passes H Any
+  pub passes : Passes t (MeetsIn H)
   pub agree : (τ τ′ : Valuation) → Agree t τ τ′ ↔ AllP (λ x c. τ x ≡ τ′ x) ρ
   pub open-cells : (i : ℕ) → i < n → tagAt (frozen s) i ≡ 0 → Accounted s d n P₀ ρ i
 
@@ -65,8 +67,9 @@ pub record Later (s s′ d : List ℕ) (n n′ : ℕ) (P₀ P₀′ : Pairs ℕ)
   pub items : (τ : Valuation) → Meets (H ⨾ t′) τ → Meets (H ⨾ t) τ
   pub unknowns : (τ : Valuation) (σ : ℕ → Ty) → Matches ρ′ τ σ → Matches ρ τ σ
 
--- Between pieces: some valuation meets the items H, and they depend on the unknowns U alone.
+-- Between pieces: the items H pass, some valuation meets them, and they depend on the unknowns U alone.
 pub record Steady (H : Items) (U : List ℕ) : Type 0 where
+  pub passes : Passes H Any
   pub local : Local H U
   pub some : (τ : Valuation) × Meets H τ
 
@@ -76,7 +79,7 @@ Extends H c U = (τ : Valuation) → Meets H τ → (τ′ : Valuation) × Meets
 
 -- ITEMS BETWEEN PIECES: c passes after H, some valuation meets both, and nothing said before changes. U′ are the unknowns mentioned then, the new ones Mine.
 pub record Walked (H c : Items) (U U′ : List ℕ) (Mine : ℕ → Type 0) : Type 0 where
-  pub goes : Passes c (Meets H)
+  pub goes : Passes c (MeetsIn H)
   pub steady : Steady (H ⨾ c) U′
   pub extends : Extends H c U
   pub wider : (x : ℕ) → In x U → In x U′

@@ -1,19 +1,19 @@
 -- What the functions of a piece ask and promise. The ghost values are those of any reading of the store: a function asks that there is one, and promises
 -- for each.
 use mathlib.Core.Path.{_≡_}
-use mathlib.Core.Bool.{Bool, true, false}
-use mathlib.Core.List.{List}
+use mathlib.Core.List.{List, [], _∷_}
 use mathlib.Core.Logic.{_⊎_}
 use Prim.Native.Nat.{ℕ, _+_, _*_, _≤_, _<_, _^_}
 use lib.ListN.{length}
-use Rattle.types_rules.specs.Equations.{In, InP, Pairs, pair}
+use Rattle.types_rules.specs.Equations.{In, InP, Pairs, end, pair}
 use Rattle.types_rules.specs.Types.{Ty, Term, Each}
 use Rattle.checker_rules.specs.Unknowns.{slot}
-use Rattle.checker_rules.specs.Items.{Items, _⨾_, equate}
+use Rattle.checker_rules.specs.Items.{Items, _⨾_, equations}
 use Rattle.types_cells.specs.Layout.{maxPending, frozenSize, maxCells}
 use Rattle.types_cells.specs.Store.{frozen, load}
 use Rattle.types_cells.specs.Settled.{lower}
 use Rattle.types_cells.specs.Calls.{Above}
+use Rattle.types_solver.specs.Equation.{pairsWith, Within}
 use Rattle.checker_pieces.specs.Piece.{Piece, Denotes, Later, Goes, Stops}
 
 pub record Ghost : Type 0 where
@@ -34,12 +34,12 @@ pub record StandsReady (s d : List ℕ) (n top : ℕ) : Type 0 where
   pub ghost : Ghost
   pub stands : Stands s d n top ghost
 
--- The same where the function does not look at the runs, nor at x and y beyond their being cells.
-pub record Comparing (s d : List ℕ) (n x y : ℕ) : Type 0 where
+-- The same where the function does not look at the runs, nor at the cells l and y, y + k, .. beyond their being among the n.
+pub record Comparing (s d : List ℕ) (n : ℕ) (l : List ℕ) (y k : ℕ) : Type 0 where
   pub top : ℕ
   pub ready : StandsReady s d n top
-  pub left : x < n
-  pub right : y < n
+  pub made : Within n l y k
+  pub step : k ≤ 2
 
 -- The cells that the rule of one node makes, at most.
 abbrev pub nodeCells : ℕ
@@ -88,13 +88,24 @@ pub record Ruled (s s′ d : List ℕ) (n top k number cell n′ top′ : ℕ) (
   pub goes : number ≡ 0 → Advanced s s′ d n top n′ top′ G own (SlotOf k)
   pub typed : (e : number ≡ 0) → InP (slot k 0) cell (goes e .cells)
 
--- EQUAL: the equation between two cells.
-pub record Equated (s s′ d : List ℕ) (n x y : ℕ) (fine : Bool) : Type 0 where
+-- R of each of the cells l and its term, and of y, y + k, .. and theirs: the terms of an equation stand in a pair.
+unfoldable pub SidesBy : (ℕ → Term → Type 0) → List ℕ → ℕ → ℕ → Pairs Term → Type 0
+SidesBy R [] y k end = Unit {0}
+SidesBy R [] y k (pair a b es) = ⊥
+SidesBy R (c ∷ l) y k end = ⊥
+SidesBy R (c ∷ l) y k (pair a b es) = R c a × R y b × SidesBy R l (y + k) k es
+
+-- The equations es are those of the cells l with y, y + k, ..
+abbrev pub Sides : List ℕ → List ℕ → ℕ → Ghost → List ℕ → ℕ → ℕ → Pairs Term → Type 0
+Sides s d n G l y k es = SidesBy (Cell s d n G) l y k es
+
+-- EQUAL: these equations, all together. Number 0: they pass; otherwise they stop with this number at any node m.
+pub record Equated (s s′ d : List ℕ) (n : ℕ) (l : List ℕ) (y k number : ℕ) : Type 0 where
   pub low : lower s′ ≡ lower s
   pub still : frozen s′ ≡ frozen s
-  pub goes : fine ≡ true → (top : ℕ) (G : Ghost) → Stands s d n top G → (a b : Term) → Cell s d n G x a → Cell s d n G y b → (f m : ℕ) →
-      Goes (G .before) (G .items) (equate f m a b)
-      × Piece s′ d n (pair x y (G .equations)) (G .before) (G .items ⨾ equate f m a b) (G .known) (G .mentioned) (G .cells)
-      × Later s s′ d n n (G .equations) (pair x y (G .equations)) (G .before) (G .items) (G .items ⨾ equate f m a b) (G .cells) (G .cells)
-  pub stops : fine ≡ false → (top : ℕ) (G : Ghost) → Stands s d n top G → (a b : Term) → Cell s d n G x a → Cell s d n G y b → (f m : ℕ) →
-      Stops (G .before) (G .items) (equate f m a b) f m
+  pub goes : number ≡ 0 → (top : ℕ) (G : Ghost) → Stands s d n top G → (es : Pairs Term) → Sides s d n G l y k es → (m : ℕ) →
+      Goes (G .before) (G .items) (equations m es)
+      × Piece s′ d n (pairsWith l y k (G .equations)) (G .before) (G .items ⨾ equations m es) (G .known) (G .mentioned) (G .cells)
+      × Later s s′ d n n (G .equations) (pairsWith l y k (G .equations)) (G .before) (G .items) (G .items ⨾ equations m es) (G .cells) (G .cells)
+  pub stops : (number ≡ 0 → ⊥) → (top : ℕ) (G : Ghost) → Stands s d n top G → (es : Pairs Term) → Sides s d n G l y k es → (m : ℕ) →
+      Stops (G .before) (G .items) (equations m es) number m

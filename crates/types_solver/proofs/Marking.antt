@@ -93,7 +93,7 @@ module _ (s : List ℕ) (n : ℕ) (L : Pairs ℕ) (H : Held s n L) where
   kids-v : (x : ℕ) (h : Former) (cs : List ℕ) → In x (upto n) → Vw x ≡ shape h cs → (c : ℕ) → In c cs → In c (upto n)
   kids-v x h cs i e c j = upto-in n c (kids-below x h cs (upto-below n x i) e c j)
 
-  deep : (d i : ℕ) → i < n → bounded r Vw d i ≡ true → bounded r Vw n i ≡ true
+  pub deep : (d i : ℕ) → i < n → bounded r Vw d i ≡ true → bounded r Vw n i ≡ true
   deep d i l e =
       subst (λ k. bounded r Vw k i ≡ true) (upto-len n)
       (depth r Vw (upto n) (λ j m. upto-in n (r j) (rep-below n L (H .inside) j (upto-below n j m))) kids-v d i (upto-in n i l) e)

@@ -11,6 +11,7 @@ use lib.Dec.{eqb}
 use lib.ListN.{getD, take, drop}
 use borrow.Author.Tests.{eqb-true, eqb-false}
 use Rattle.types_rules.proofs.Filling.{fill, fill-at, fill-build, fill-stand, fill-whole, highFormer, highType, highTypes, standIn}
+use Rattle.types_rules.proofs.Finite.{finite-bounded}
 use Rattle.types_rules.proofs.Rational.{rep-sat}
 use Rattle.types_rules.specs.Classes.{rep}
 use Rattle.types_rules.specs.Equations.{In, Pairs, Solves, end, pair}
@@ -19,7 +20,7 @@ use Rattle.types_rules.specs.Formed.{partCountType}
 use Rattle.types_rules.specs.Former.{Former, binding, formerOf, given, identifiers, int, parameter, power, product, tag}
 use Rattle.types_rules.specs.Infinite.{Inf, mkI}
 use Rattle.types_rules.specs.Trees.{finite, infinite, whole}
-use Rattle.types_rules.specs.Types.{Ty, Tys, node, tcons, tnil}
+use Rattle.types_rules.specs.Types.{Ty, Tys, node, size, tcons, tnil}
 use Rattle.types_rules.specs.Words.{partWords, second, words}
 use Rattle.types_cells.specs.Layout.{recordsAt, poolSize, settledFrom}
 use Rattle.types_cells.specs.Store.{fieldAt, formerAt, frozen, partsAt, tagAt, view, Solved}
@@ -29,7 +30,7 @@ use Rattle.types_cells.proofs.Heads.{view-shape, view-unk}
 use Rattle.types_cells.proofs.LinkLaws.{rep-below}
 use Rattle.types_unifier.proofs.Tying.{busy-solves}
 use Rattle.types_solver.specs.Answers.{Finite, SolutionIn, SolutionOf}
-use Rattle.types_solver.proofs.Marking.{kids-below}
+use Rattle.types_solver.proofs.Marking.{by-rep, deep, kids-below}
 use Rattle.types_solver.proofs.Opening.{pick, pick-open, pick-pinned, solution-with, with-types}
 
 -- Above all words.
@@ -125,17 +126,23 @@ high-cell s n i h cs e =
     (λ p. subst (λ k. highFormer k ≤ suc (tally s)) (shape-former _ _ _ _ (sym (view-shape (frozen s) n i l p) ∙ e)) (high-former s i))
     (eq-zero-or-pos (tagAt (frozen s) i))
 
+-- Where there is a solution, all types are finite.
+pub solution-finite : (s d : List ℕ) (n : ℕ) (P₀ L : Pairs ℕ) → Solved s n P₀ L → SolutionOf s d n P₀ → Finite (frozen s) n L
+solution-finite s d n P₀ L S X i l =
+    deep s n L (S .held) (size (X .σ i)) i l
+    (finite-bounded (rep eqb L) (view (frozen s) n) (X .σ) (X .fits) (λ j. by-rep s n P₀ L S (record { σ = X .σ; fits = X .fits; sat = X .sat }) j) (size (X .σ i)) i (omega arith))
+
 module _ (s d : List ℕ) (n : ℕ) (B : ℕ) (high : suc (tally s + tally d) ≤ B) where
-  sat-fill : (ι : ℕ → Inf) (σ : ℕ → Ty) (P : Pairs ℕ) → Solves σ P → Solves (λ i. fill B ι (σ i)) P
+  pub sat-fill : (ι : ℕ → Inf) (σ : ℕ → Ty) (P : Pairs ℕ) → Solves σ P → Solves (λ i. fill B ι (σ i)) P
   sat-fill ι σ end h = tt
   sat-fill ι σ (pair a b P) h = (ap (fill B ι) (h .0), sat-fill ι σ P (h .1))
 
-  map-fill : (ι : ℕ → Inf) (σ : ℕ → Ty) (cs : List ℕ) → map (fill B ι) (map σ cs) ≡ map (λ i. fill B ι (σ i)) cs
+  pub map-fill : (ι : ℕ → Inf) (σ : ℕ → Ty) (cs : List ℕ) → map (fill B ι) (map σ cs) ≡ map (λ i. fill B ι (σ i)) cs
   map-fill ι σ [] = refl
   map-fill ι σ (c ∷ cs) = ap (λ l. fill B ι (σ c) ∷ l) (map-fill ι σ cs)
 
   -- A SOLUTION, filled.
-  pub filled : (P₀ : Pairs ℕ) (X : SolutionOf s d n P₀) (ι : ℕ → Inf) → SolutionIn infinite s d n P₀
+  unfoldable pub filled : (P₀ : Pairs ℕ) (X : SolutionOf s d n P₀) (ι : ℕ → Inf) → SolutionIn infinite s d n P₀
   filled P₀ X ι = record {
     σ = λ i. fill B ι (X .σ i);
     fits = λ i h cs e.

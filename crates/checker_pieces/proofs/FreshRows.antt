@@ -7,26 +7,26 @@ use native.Mathlib.Omega.{arith}
 use native.Mathlib.Nat.{eq-or-lt-of-le}
 use Rattle.types_rules.specs.Equations.{In, Pairs, pair, end}
 use Rattle.checker_rules.specs.Unknowns.{Valuation, slot}
-use Rattle.checker_rules.specs.Items.{Items, _⨾_, fresh, Meets, Agree, Passes}
+use Rattle.checker_rules.specs.Items.{Items, _⨾_, fresh, Meets, MeetsIn, Agree, Typings, And, Passes}
 use Rattle.checker_rules.specs.Conditions.{freshRow}
 use Rattle.types_cells.specs.Layout.{firstRun}
 use Rattle.types_cells.specs.Store.{frozen, load, run, Solved}
 use Rattle.types_cells.specs.Calls.{Making, Made}
 use Rattle.types_cells.proofs.Growing.{made-above, made-load}
 use Rattle.types_solver.proofs.Extending.{made-grows}
 use Rattle.checker_pieces.specs.Piece.{Later}
 use Rattle.checker_pieces.specs.Stage.{Ghost, Stands, Unvisited, Advanced}
 use Rattle.checker_pieces.proofs.Walks.{Alike, piece-alike, meets-alike, later-on, later-refl}
 use Rattle.checker_pieces.proofs.Growing.{unknown, unknown-later}
-use Rattle.checker_lookup.specs.References.{RowAsked, Among, RowOf, RowMade}
+use Rattle.checker_pieces.specs.Rows.{RowAsked, Among, RowOf, RowMade}
 
 -- The items of a row ask nothing.
 pub meets-row : (k j p : ℕ) (τ : Valuation) → Meets (freshRow k j p) τ
-unfolding freshRow Meets
+unfolding freshRow MeetsIn
 meets-row k j zero τ = tt
 meets-row k j (suc p) τ = (tt, meets-row k (suc j) p τ)
 
-passes-row : (k j p : ℕ) (P : Valuation → Type 0) → Passes (freshRow k j p) P
+pub passes-row : (k j p : ℕ) (P : Typings) → Passes (freshRow k j p) P
 unfolding freshRow Passes
 passes-row k j zero P = tt
 passes-row k j (suc p) P = (tt, passes-row k (suc j) p _)
@@ -45,15 +45,16 @@ agree-row k j (suc p) σ τ =
     (λ h. (h .0 .0, q .0 (h .0 .1, subst At e (h .1))), λ h. let z = q .1 (h .1) in ((h .0, z .0), subst At (sym e) (z .1)))
 
 row-more : (t : Items) (k j p : ℕ) → Alike ((t ⨾ freshRow k j p) ⨾ fresh (slot k (j + p))) (t ⨾ freshRow k j (suc p))
-unfolding Meets Agree
+unfolding MeetsIn Agree Passes
 row-more t k j p = (
   λ τ. (λ h. (h .0 .0, meets-row k j (suc p) τ), λ h. ((h .0, meets-row k j p τ), tt)),
   λ σ τ. let q = agree-row k j p σ τ in (λ h. (h .0 .0, q .0 (h .0 .1, h .1)), λ h. let z = q .1 (h .1) in ((h .0, z .0), z .1)),
+  λ H q. (q .0 .0, passes-row k j (suc p) (And (MeetsIn H) t)),
 )
 
 none-yet : (t : Items) (k j : ℕ) → Alike t (t ⨾ freshRow k j 0)
-unfolding freshRow Meets Agree
-none-yet t k j = (λ τ. (λ h. (h, tt), λ h. h .0), λ σ τ. (λ h. (h, tt), λ h. h .0))
+unfolding freshRow MeetsIn Agree Passes
+none-yet t k j = (λ τ. (λ h. (h, tt), λ h. h .0), λ σ τ. (λ h. (h, tt), λ h. h .0), λ H p. (p, tt))
 
 pub alike-later : (s s′ d : List ℕ) (n n′ : ℕ) (P P′ : Pairs ℕ) (H t t′ u : Items) (ρ ρ′ : Pairs ℕ) → Alike t′ u → Later s s′ d n n′ P P′ H t t′ ρ ρ′ → Later s s′ d n n′ P P′ H t u ρ ρ′
 alike-later s s′ d n n′ P P′ H t t′ u ρ ρ′ e A = record { solutions = A .solutions; items = λ τ m. A .items τ (meets-alike H t′ u e τ .1 m); unknowns = A .unknowns }
@@ -75,7 +76,7 @@ module _ (s₀ : List ℕ) (n p : ℕ) (B : RowAsked s₀ n p) where
                 mentioned = G .mentioned;
                 cells = G .cells;
                 wide = omega arith;
-                goes = passes-row k 1 0 (Meets (G .before ⨾ G .items));
+                goes = passes-row k 1 0 (MeetsIn (G .before ⨾ G .items));
                 piece = piece-alike s₀ d n (G .equations) (G .before) (G .items) (G .items ⨾ freshRow k 1 0) (G .known) (G .mentioned) (G .cells) (none-yet (G .items) k 1) (S .piece);
                 above = S .above;
                 later =
@@ -134,7 +135,7 @@ module _ (s₀ : List ℕ) (n p : ℕ) (B : RowAsked s₀ n p) where
                 mentioned = x ∷ A .mentioned;
                 cells = pair x (n + j) (A .cells);
                 wide = omega arith;
-                goes = passes-row k 1 (suc j) (Meets (G .before ⨾ G .items));
+                goes = passes-row k 1 (suc j) (MeetsIn (G .before ⨾ G .items));
                 piece =
                     piece-alike s′ d (suc (n + j)) (A .equations) (G .before) (t ⨾ fresh x) (G .items ⨾ freshRow k 1 (suc j)) (G .known) (x ∷ A .mentioned) (pair x (n + j) (A .cells)) e
                     (unknown s s′ d (n + j) row-ask N (A .equations) (G .before) t (G .known) (A .mentioned) (A .cells) (A .piece) x new);
