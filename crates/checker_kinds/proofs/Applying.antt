@@ -1,13 +1,13 @@
 -- Apply: a new unknown for the result, the power of the pairs of argument and result, and the equation with the function.
 use mathlib.Core.Path.{_≡_, refl, sym, subst, _∙_}
-use mathlib.Core.Bool.{Bool, true, false}
 use mathlib.Core.List.{List, [], _∷_}
 use Prim.Native.Nat.{ℕ, suc, _+_, _≤_, _<_}
 use native.Mathlib.Omega.{arith}
-use Rattle.types_rules.specs.Equations.{In}
+use Rattle.types_rules.specs.Equations.{In, end, pair}
 use Rattle.types_rules.specs.Former.{power, product}
 use Rattle.types_rules.specs.Types.{Term, unknown, nil, cons}
-use Rattle.checker_rules.specs.Items.{Items, _⨾_, fresh, equate}
+use Rattle.checker_rules.specs.Conditions.{equation}
+use Rattle.checker_rules.specs.Items.{Items, _⨾_, fresh}
 use Rattle.checker_rules.specs.Unknowns.{slot, powerOf, pairOf}
 use Rattle.types_cells.specs.Layout.{firstRun}
 use Rattle.types_cells.specs.Calls.{Making, Made}
@@ -15,10 +15,10 @@ use Rattle.types_cells.specs.Settled.{lower}
 use Rattle.types_solver.proofs.Extending.{made-grows}
 use Rattle.checker_pieces.specs.Piece.{Stops}
 use Rattle.checker_pieces.specs.Building.{Building, Built, Cells, Introduced, Working}
-use Rattle.checker_pieces.specs.Stage.{Ghost, Stands, Comparing, Room, Cell, Unvisited, Equated, SlotOf, Uses}
+use Rattle.checker_pieces.specs.Stage.{Ghost, Stands, Comparing, Room, Cell, Unvisited, Sides, Equated, Ruled, SlotOf, Uses}
 use Rattle.checker_pieces.proofs.Components.{room-still}
 use Rattle.checker_pieces.proofs.PowerLaws.{unmentioned}
-use Rattle.checker_pieces.proofs.Stages.{plain-making, building, one-cell, two-cells, built-stands, built-old, built-cell, introduced-before, introduced-equal, introduced-wider, next, next-stands, next-cell, placed-cell, introduced-unknown, introduce-then, unknown-uses, stop-then, rule-goes, rule-stops, room-less}
+use Rattle.checker_pieces.proofs.Stages.{plain-making, building, one-cell, two-cells, built-stands, built-old, built-cell, introduced-before, introduced-equal, introduced-wider, next, next-stands, next-cell, placed-cell, introduced-unknown, introduce-then, unknown-uses, stop-then, room-less, one-side, one-comparing}
 use Rattle.checker_kinds.specs.Equations.{Combined, applyItems}
 use Rattle.checker_kinds.proofs.Concluding.{own-slot}
 use Rattle.checker_kinds.proofs.Operands.{operands}
@@ -119,16 +119,16 @@ module _ (s d : List ℕ) (n top x y : ℕ) (A : Working s d n top 4 (x ∷ y �
               built-old s₂ s₃ d n₂ top₂ top₃ 1 power (suc n ∷ []) B₃ (G₁ G S z new) (S₂ G S z new) x a
               (built-old s₁ s₂ d (suc n) top top₂ 2 product (y ∷ n ∷ []) B₂ (G₁ G S z new) (S₁ G S z new) x a (old₁ G S z new x a K))
 
-        asks₃ : Comparing s₃ d n₃ x n₂
-        asks₃ = record { top = top₃; ready = record { ghost = G₁ G₀ S₀ z₀ new₀; stands = S₃ G₀ S₀ z₀ new₀ }; left = let l = O .2 .made in omega arith; right = omega arith }
+        asks₃ : Comparing s₃ d n₃ (x ∷ []) n₂ 0
+        asks₃ = one-comparing s₃ d n₃ x n₂ top₃ (G₁ G₀ S₀ z₀ new₀) (S₃ G₀ S₀ z₀ new₀) (let l = O .2 .made in omega arith) (omega arith)
 
-        pub apply-asks : (m c : ℕ) → m ≡ n₃ → c ≡ n₂ → Comparing s₃ d m x c
-        apply-asks m c e q = subst (λ u. Comparing s₃ d u x c) (sym e) (subst (λ u. Comparing s₃ d n₃ x u) (sym q) asks₃)
+        pub apply-asks : (m c : ℕ) → m ≡ n₃ → c ≡ n₂ → Comparing s₃ d m (x ∷ []) c 0
+        apply-asks m c e q = subst (λ u. Comparing s₃ d u (x ∷ []) c 0) (sym e) (subst (λ u. Comparing s₃ d n₃ (x ∷ []) u 0) (sym q) asks₃)
 
         -- The equation.
-        module _ (s₄ : List ℕ) (m₃ c₃ : ℕ) (b : Bool) (D₄ : Equated s₃ s₄ d m₃ x c₃ b) (e₃ : m₃ ≡ n₃) (q₃ : c₃ ≡ n₂) where
-          abbrev E : Equated s₃ s₄ d n₃ x n₂ b
-          E = subst (λ u. Equated s₃ s₄ d n₃ x u b) q₃ (subst (λ u. Equated s₃ s₄ d u x c₃ b) e₃ D₄)
+        module _ (s₄ : List ℕ) (m₃ c₃ number : ℕ) (D₄ : Equated s₃ s₄ d m₃ (x ∷ []) c₃ 0 number) (e₃ : m₃ ≡ n₃) (q₃ : c₃ ≡ n₂) where
+          abbrev E : Equated s₃ s₄ d n₃ (x ∷ []) n₂ 0 number
+          E = subst (λ u. Equated s₃ s₄ d n₃ (x ∷ []) u 0 number) q₃ (subst (λ u. Equated s₃ s₄ d u (x ∷ []) c₃ 0 number) e₃ D₄)
 
           low-s : lower s₄ ≡ lower s
           low-s = E .low ∙ B₃ .builds d .grows .low ∙ B₂ .builds d .grows .low ∙ made-grows s s₁ d n 0 0 firstRun 0 apply-making N .low
@@ -139,42 +139,40 @@ module _ (s d : List ℕ) (n top x y : ℕ) (A : Working s d n top 4 (x ∷ y �
 
           module _ (G : Ghost) (S : Stands s d n top G) (z : ℕ) (new : In z (G .mentioned) → ⊥) (k : ℕ) (p q : Term) (K : Cell s d n G x p) (M : Cell s d n G y q) where
             abbrev own : Items
-            own = equate 33 k p (powerOf (pairOf q (unknown z)))
+            own = equation k p (powerOf (pairOf q (unknown z)))
 
-            applied : b ≡ true → Introduced s s₄ d n top n₃ top₃ G (fresh z ⨾ own) (λ u. u ≡ z) z n
+            sides : Sides s₃ d n₃ (G₁ G S z new) (x ∷ []) n₂ 0 (pair p (powerOf (pairOf q (unknown z))) end)
+            sides = one-side s₃ d n₃ (G₁ G S z new) x n₂ p (powerOf (pairOf q (unknown z))) (function₃ G S z new p K) (power₃ G S z new q M)
+
+            applied : number ≡ 0 → Introduced s s₄ d n top n₃ top₃ G (fresh z ⨾ own) (λ u. u ≡ z) z n
             applied e =
                 let Q = G₁ G S z new in
-                let J₃ = introduced-equal s₃ s₄ d n₃ x n₂ top₃ Q (S₃ G S z new) p (powerOf (pairOf q (unknown z))) (function₃ G S z new p K) (power₃ G S z new q M) 33 k (λ u. u ≡ z)
-                (subst (Equated s₃ s₄ d n₃ x n₂) e E) z n (I₁ G S z new .placed) in
+                let J₃ = introduced-equal s₃ s₄ d n₃ (x ∷ []) n₂ 0 top₃ Q (S₃ G S z new) (pair p (powerOf (pairOf q (unknown z))) end) sides k (λ u. u ≡ z)
+                (subst (Equated s₃ s₄ d n₃ (x ∷ []) n₂ 0) e E) z n (I₁ G S z new .placed) in
                 let J₂ = introduced-before s₃ s₄ d n₃ top₃ n₃ top₃ Q own (λ u. u ≡ z) (J₃ .advanced) s₂ n₂ top₂ (B₃ .builds d) (S₂ G S z new) z n (J₃ .placed) in
                 let J₁ = introduced-before s₂ s₄ d n₂ top₂ n₃ top₃ Q own (λ u. u ≡ z) (J₂ .advanced) s₁ (suc n) top (B₂ .builds d) (S₁ G S z new) z n (J₂ .placed) in
                 introduce-then s s₁ d n top (suc n) top G (fresh z) (λ u. u ≡ z) (I₁ G S z new .advanced) own s₄ n₃ top₃ z n J₁
 
-            refused : b ≡ false → Stops (G .before) (G .items) (fresh z ⨾ own) 33 k
+            refused : (number ≡ 0 → ⊥) → Stops (G .before) (G .items) (fresh z ⨾ own) number k
             refused e =
-                stop-then s s₁ d n top (suc n) top G (fresh z) (λ u. u ≡ z) (I₁ G S z new .advanced) own 33 k
-                (E .stops e top₃ (G₁ G S z new) (S₃ G S z new) p (powerOf (pairOf q (unknown z))) (function₃ G S z new p K) (power₃ G S z new q M) 33 k)
+                stop-then s s₁ d n top (suc n) top G (fresh z) (λ u. u ≡ z) (I₁ G S z new .advanced) own number k
+                (E .stops e top₃ (G₁ G S z new) (S₃ G S z new) (pair p (powerOf (pairOf q (unknown z))) end) sides k)
 
-          goes₄ : b ≡ true → Combined s s₄ d n top x y 0 n n₃ top₃ 4 applyItems
-          goes₄ e = record {
-            low = low-s;
-            wide = omega arith;
-            uses = λ u. apply-uses;
-            ruled = λ G S k new p q K M.
-                let I = applied G S (slot k 0) (new 0 (omega arith)) k p q K M e in
-                rule-goes s s₄ d n top k 0 n n₃ top₃ G (applyItems k p q) refl
-                (introduced-wider s s₄ d n top n₃ top₃ G (applyItems k p q) (λ u. u ≡ slot k 0) (I .advanced) (SlotOf k) (own-slot k 0 (omega arith)) (slot k 0) n (I .placed));
+          ruled₄ : (G : Ghost) → Stands s d n top G → (k : ℕ) → Unvisited k G → (p q : Term) → Cell s d n G x p → Cell s d n G y q → Ruled s s₄ d n top k number n n₃ top₃ G (applyItems k p q)
+          ruled₄ G S k new p q K M = record {
+            stops = λ e. refused G S (slot k 0) (new 0 (omega arith)) k p q K M e;
+            goes = λ e. I e .advanced;
+            typed = λ e. I e .placed;
           }
+            where
+              I : number ≡ 0 → Introduced s s₄ d n top n₃ top₃ G (applyItems k p q) (SlotOf k) (slot k 0) n
+              I e =
+                  let J = applied G S (slot k 0) (new 0 (omega arith)) k p q K M e in
+                  introduced-wider s s₄ d n top n₃ top₃ G (applyItems k p q) (λ u. u ≡ slot k 0) (J .advanced) (SlotOf k) (own-slot k 0 (omega arith)) (slot k 0) n (J .placed)
 
-          pub apply-goes : b ≡ true → (n′ top′ : ℕ) → n′ ≡ n₃ → top′ ≡ top₃ → Combined s s₄ d n top x y 0 n n′ top′ 4 applyItems
-          apply-goes e n′ top′ en et =
-              subst (λ m. Combined s s₄ d n top x y 0 n m top′ 4 applyItems) (sym en) (subst (λ m. Combined s s₄ d n top x y 0 n n₃ m 4 applyItems) (sym et) (goes₄ e))
+          told₄ : Combined s s₄ d n top x y number n n₃ top₃ 4 applyItems
+          told₄ = record { low = low-s; wide = omega arith; uses = λ u. apply-uses; ruled = ruled₄ }
 
-          pub apply-stops : b ≡ false → (cell : ℕ) → Combined s s₄ d n top x y 33 cell n top 4 applyItems
-          apply-stops e cell = record {
-            low = low-s;
-            wide = omega arith;
-            uses = λ u. absurd (omega arith);
-            ruled = λ G S k new p q K M.
-                rule-stops s s₄ d n top k 33 cell n top G (applyItems k p q) (λ u. omega arith) (refused G S (slot k 0) (new 0 (omega arith)) k p q K M e);
-          }
+          pub apply-told : (n′ top′ : ℕ) → n′ ≡ n₃ → top′ ≡ top₃ → Combined s s₄ d n top x y number n n′ top′ 4 applyItems
+          apply-told n′ top′ en et =
+              subst (λ m. Combined s s₄ d n top x y number n m top′ 4 applyItems) (sym en) (subst (λ m. Combined s s₄ d n top x y number n n₃ m 4 applyItems) (sym et) told₄)

@@ -1,4 +1,3 @@
-pub mod Grouping
 pub mod Operands
 pub mod Integers
 pub mod Applying

@@ -1,6 +1,5 @@
 -- The rule of Power: its operand is a power, of an unknown, and the type is the power of the power of that.
 use mathlib.Core.Path.{_≡_, refl, subst, _∙_}
-use mathlib.Core.Bool.{Bool, true, false}
 use mathlib.Core.List.{List, [], _∷_}
 use Prim.Native.Nat.{ℕ, suc, _+_}
 use native.Mathlib.Omega.{arith}
@@ -29,24 +28,24 @@ module _ (s d : List ℕ) (n top c : ℕ) (W : Working s d n top 4 (c ∷ [])) w
   pub power-asks : Working s d n top 2 (c ∷ [])
   power-asks = record { ghost = W .ghost; stands = W .stands; terms = W .terms; cells = W .cells; room = room-less s n top 2 4 (omega arith) (W .room) }
 
-  module _ (s₁ : List ℕ) (b : Bool) (P : Powered s s₁ d n top c b) where
+  module _ (s₁ : List ℕ) (b : ℕ) (P : Powered s s₁ d n top c b) where
     abbrev N : ℕ
     N = n + 2
 
     abbrev T : ℕ
     T = top + 1
 
-    pub power-refused : b ≡ false → Derived s s₁ d n top c 33 c n top 4 powerRuleItems
+    pub power-refused : (b ≡ 0 → ⊥) → Derived s s₁ d n top c b c n top 4 powerRuleItems
     power-refused e = record {
       low = P .low;
       wide = omega arith;
-      uses = λ z. absurd (omega arith);
+      uses = λ z. absurd (e z);
       ruled = λ G St k W′ a C.
-          rule-stops s s₁ d n top k 33 c n top G (powerRuleItems k a) (λ z. omega arith)
-          (stops-left (G .before) (G .items) (powerItems (slot k 1) 33 k a) (typed k (powerOf (powerOf (unknownAt k 1)))) 33 k (P .stops e G St (slot k 1) (W′ 1 (omega arith)) 33 k a C));
+          rule-stops s s₁ d n top k b c n top G (powerRuleItems k a) e
+          (stops-left (G .before) (G .items) (powerItems (slot k 1) k a) (typed k (powerOf (powerOf (unknownAt k 1)))) b k (P .stops e G St (slot k 1) (W′ 1 (omega arith)) k a C));
     }
 
-    module _ (e : b ≡ true) where
+    module _ (e : b ≡ 0) where
       -- for the piece that the caller has
       y : (x : ℕ) × (In x (W .ghost .mentioned) → ⊥)
       y = unmentioned (W .ghost .mentioned)
@@ -54,21 +53,21 @@ module _ (s d : List ℕ) (n top c : ℕ) (W : Working s d n top 4 (c ∷ [])) w
       t₀ : (a : Term) × Cell s d n (W .ghost) c a
       t₀ = one-term s d n (W .ghost) c (W .terms) (W .cells)
 
-      I₀ : Introduced s s₁ d n top N T (W .ghost) (powerItems (y .0) 33 0 (t₀ .0)) (λ z. z ≡ y .0) (y .0) n
-      I₀ = P .goes e (W .ghost) (W .stands) (y .0) (y .1) 33 0 (t₀ .0) (t₀ .1)
+      I₀ : Introduced s s₁ d n top N T (W .ghost) (powerItems (y .0) 0 (t₀ .0)) (λ z. z ≡ y .0) (y .0) n
+      I₀ = P .goes e (W .ghost) (W .stands) (y .0) (y .1) 0 (t₀ .0) (t₀ .1)
 
       abbrev H : Ghost
-      H = next s s₁ d n top N T (W .ghost) (powerItems (y .0) 33 0 (t₀ .0)) (λ z. z ≡ y .0) (I₀ .advanced)
+      H = next s s₁ d n top N T (W .ghost) (powerItems (y .0) 0 (t₀ .0)) (λ z. z ≡ y .0) (I₀ .advanced)
 
       first : Stands s₁ d N T H
-      first = next-stands s s₁ d n top N T (W .ghost) (powerItems (y .0) 33 0 (t₀ .0)) (λ z. z ≡ y .0) (I₀ .advanced) (W .stands .few)
+      first = next-stands s s₁ d n top N T (W .ghost) (powerItems (y .0) 0 (t₀ .0)) (λ z. z ≡ y .0) (I₀ .advanced) (W .stands .few)
 
       room₁ : Room s₁ N T 2
       room₁ = P .uses 2 (W .room)
 
       its-cell : Cells s₁ d N H (n ∷ []) (cons (unknown (y .0)) nil)
       its-cell =
-          one-cell s₁ d N H n (unknown (y .0)) (placed-cell s s₁ d n top N T (W .ghost) (powerItems (y .0) 33 0 (t₀ .0)) (λ z. z ≡ y .0) (I₀ .advanced) (y .0) n (I₀ .placed))
+          one-cell s₁ d N H n (unknown (y .0)) (placed-cell s s₁ d n top N T (W .ghost) (powerItems (y .0) 0 (t₀ .0)) (λ z. z ≡ y .0) (I₀ .advanced) (y .0) n (I₀ .placed))
 
       pub power-first : Building s₁ (n + 2) (top + 1) 1 (n ∷ [])
       power-first = building s₁ d N T 1 H first (room-less s₁ N T 1 2 (omega arith) room₁) (n ∷ []) (cons (unknown (y .0)) nil) its-cell
@@ -104,18 +103,18 @@ module _ (s d : List ℕ) (n top c : ℕ) (W : Working s d n top 4 (c ∷ [])) w
             abbrev x : ℕ
             x = slot k 1
 
-            I : Introduced s s₁ d n top N T G (powerItems x 33 k a) (λ z. z ≡ x) x n
-            I = P .goes e G St x (free 1 (omega arith)) 33 k a C
+            I : Introduced s s₁ d n top N T G (powerItems x k a) (λ z. z ≡ x) x n
+            I = P .goes e G St x (free 1 (omega arith)) k a C
 
-            A : Advanced s s₁ d n top N T G (powerItems x 33 k a) (SlotOf k)
-            A = wider-mine s s₁ d n top N T G (powerItems x 33 k a) (λ z. z ≡ x) (I .advanced) (SlotOf k) (own-slot k 1 (omega arith))
+            A : Advanced s s₁ d n top N T G (powerItems x k a) (SlotOf k)
+            A = wider-mine s s₁ d n top N T G (powerItems x k a) (λ z. z ≡ x) (I .advanced) (SlotOf k) (own-slot k 1 (omega arith))
 
             abbrev G₁ : Ghost
-            G₁ = next s s₁ d n top N T G (powerItems x 33 k a) (SlotOf k) A
+            G₁ = next s s₁ d n top N T G (powerItems x k a) (SlotOf k) A
 
             type-free : In (slot k 0) (A .mentioned) → ⊥
             unfolding A
-            type-free = next-unvisited s s₁ d n top N T G (powerItems x 33 k a) (λ z. z ≡ x) (I .advanced) (slot k 0) (free 0 (omega arith))
+            type-free = next-unvisited s s₁ d n top N T G (powerItems x k a) (λ z. z ≡ x) (I .advanced) (slot k 0) (free 0 (omega arith))
                 (λ q. let z = slots-apart k 0 k 1 (omega arith) (omega arith) q .1 in omega arith)
 
             placed-n : InP x n (A .cells)
@@ -124,9 +123,9 @@ module _ (s d : List ℕ) (n top c : ℕ) (W : Working s d n top 4 (c ∷ [])) w
 
             passed : Introduced s s₃ d n top (suc (suc N)) (top + 3) G (powerRuleItems k a) (SlotOf k) (slot k 0) (suc N)
             passed =
-                let St₁ = next-stands s s₁ d n top N T G (powerItems x 33 k a) (SlotOf k) A (St .few) in
-                let C₁ = placed-cell s s₁ d n top N T G (powerItems x 33 k a) (SlotOf k) A x n placed-n in
-                introduce-then s s₁ d n top N T G (powerItems x 33 k a) (SlotOf k) A (typed k (powerOf (powerOf (unknownAt k 1)))) s₃ (suc (suc N)) (top + 3) (slot k 0) (suc N)
+                let St₁ = next-stands s s₁ d n top N T G (powerItems x k a) (SlotOf k) A (St .few) in
+                let C₁ = placed-cell s s₁ d n top N T G (powerItems x k a) (SlotOf k) A x n placed-n in
+                introduce-then s s₁ d n top N T G (powerItems x k a) (SlotOf k) A (typed k (powerOf (powerOf (unknownAt k 1)))) s₃ (suc (suc N)) (top + 3) (slot k 0) (suc N)
                 (concluded s₁ s₃ d N (suc (suc N)) T (top + 3) B₁₃ (K₂ .above) G₁ St₁ (suc N) (powerOf (powerOf (unknownAt k 1))) (twice G₁ St₁ (unknownAt k 1) C₁) k type-free)
 
           uses₃ : Uses s s₃ n top (suc (suc N)) (top + 3) 4

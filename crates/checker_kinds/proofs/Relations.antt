@@ -1,32 +1,28 @@
 -- Relations: what their functions promise, from the equations of cells.
 use mathlib.Core.Path.{_≡_, refl, sym, subst, _∙_}
-use mathlib.Core.Bool.{Bool, true, false}
 use mathlib.Core.List.{List, [], _∷_}
 use Prim.Native.Nat.{ℕ, suc, _+_, _≤_, _<_}
 use native.Mathlib.Omega.{arith}
+use Rattle.types_rules.specs.Equations.{end, pair}
 use Rattle.types_rules.specs.Former.{power}
 use Rattle.types_rules.specs.Types.{Term, nil, cons}
 use Rattle.checker_rules.specs.Unknowns.{powerOf}
 use Rattle.types_cells.specs.Settled.{lower}
 use Rattle.checker_pieces.specs.Building.{Building, Built, Working}
-use Rattle.checker_pieces.specs.Stage.{Ghost, Stands, Comparing, Cell, Equated, SlotOf}
-use Rattle.checker_pieces.proofs.Stages.{building, one-cell, built-stands, built-old, built-cell, built-before, equal-advanced}
-use Rattle.checker_kinds.specs.Equations.{Related, equalityItems, membershipItems}
+use Rattle.checker_pieces.specs.Stage.{Ghost, Stands, Comparing, Cell, Sides, Equated, SlotOf}
+use Rattle.checker_pieces.proofs.Stages.{building, one-cell, built-stands, built-old, built-cell, built-before, equal-advanced, one-side, one-comparing}
+use Rattle.checker_kinds.specs.Equations.{Passed, Related, equalityItems, membershipItems}
 use Rattle.checker_kinds.proofs.Operands.{operands}
 
-module _ (s s′ d : List ℕ) (n x y : ℕ) (b : Bool) (E : Equated s s′ d n x y b) (top : ℕ) where
-  pub equality-goes : b ≡ true → Related s s′ d n top x y 0 n equalityItems
-  equality-goes e = record {
+module _ (s s′ d : List ℕ) (n x y number : ℕ) (E : Equated s s′ d n (x ∷ []) y 0 number) (top : ℕ) where
+  pub equality-told : Related s s′ d n top x y number n equalityItems
+  equality-told = record {
     low = E .low;
-    goes = λ z G S k p q K M. record { top′ = top; advanced = equal-advanced s s′ d n x y top G S p q K M 33 k (SlotOf k) (subst (Equated s s′ d n x y) e E) };
-    stops = λ z. absurd (z refl);
-  }
-
-  pub equality-stops : b ≡ false → Related s s′ d n top x y 33 n equalityItems
-  equality-stops e = record {
-    low = E .low;
-    goes = λ z. absurd (omega arith);
-    stops = λ z G S k p q K M. E .stops e top G S p q K M 33 k;
+    goes = λ e G S k p q K M. record {
+      top′ = top;
+      advanced = equal-advanced s s′ d n (x ∷ []) y 0 top G S (pair p q end) (one-side s d n G x y p q K M) k (SlotOf k) (subst (Equated s s′ d n (x ∷ []) y 0) e E);
+    };
+    stops = λ e G S k p q K M. E .stops e top G S (pair p q end) (one-side s d n G x y p q K M) k;
   }
 
 -- MEMBERSHIP: the power of x, cell n.
@@ -38,20 +34,16 @@ module _ (s d : List ℕ) (n top x y : ℕ) (A : Working s d n top 1 (x ∷ y �
   member-building = building s d n top 1 (A .ghost) (A .stands) (A .room) (x ∷ []) (cons (O .0) nil) (one-cell s d n (A .ghost) x (O .0) (O .2))
 
   module _ (u : List ℕ) (top′ : ℕ) (B : Built s u n top top′ 1 power (x ∷ [])) where
-    asks₁ : Comparing u d (suc n) n y
-    asks₁ = record {
-      top = top′;
-      ready = record { ghost = A .ghost; stands = built-stands s u d n top top′ 1 power (x ∷ []) B (A .ghost) (A .stands) };
-      left = omega arith;
-      right = let l = O .3 .made in omega arith;
-    }
+    asks₁ : Comparing u d (suc n) (n ∷ []) y 0
+    asks₁ =
+        one-comparing u d (suc n) n y top′ (A .ghost) (built-stands s u d n top top′ 1 power (x ∷ []) B (A .ghost) (A .stands)) (omega arith) (let l = O .3 .made in omega arith)
 
-    pub member-asks : (m : ℕ) → m ≡ suc n → Comparing u d m n y
-    member-asks m e = subst (λ z. Comparing u d z n y) (sym e) asks₁
+    pub member-asks : (m : ℕ) → m ≡ suc n → Comparing u d m (n ∷ []) y 0
+    member-asks m e = subst (λ z. Comparing u d z (n ∷ []) y 0) (sym e) asks₁
 
-    module _ (s′ : List ℕ) (b : Bool) (m : ℕ) (E₀ : Equated u s′ d m n y b) (em : m ≡ suc n) where
-      abbrev E : Equated u s′ d (suc n) n y b
-      E = subst (λ z. Equated u s′ d z n y b) em E₀
+    module _ (s′ : List ℕ) (number m : ℕ) (E₀ : Equated u s′ d m (n ∷ []) y 0 number) (em : m ≡ suc n) where
+      abbrev E : Equated u s′ d (suc n) (n ∷ []) y 0 number
+      E = subst (λ z. Equated u s′ d z (n ∷ []) y 0 number) em E₀
 
       module _ (G : Ghost) (S : Stands s d n top G) (p q : Term) (K : Cell s d n G x p) (M : Cell s d n G y q) where
         S₁ : Stands u d (suc n) top′ G
@@ -66,21 +58,21 @@ module _ (s d : List ℕ) (n top x y : ℕ) (A : Working s d n top 1 (x ∷ y �
       low-s : lower s′ ≡ lower s
       low-s = E .low ∙ B .builds d .grows .low
 
-      pub member-goes : b ≡ true → (n′ : ℕ) → n′ ≡ suc n → Related s s′ d n top x y 0 n′ membershipItems
-      member-goes e n′ z = subst (λ m. Related s s′ d n top x y 0 m membershipItems) (sym z) (record {
-        low = low-s;
-        goes = λ f G S k p q K M. record {
+      module _ (G : Ghost) (S : Stands s d n top G) (k : ℕ) (p q : Term) (K : Cell s d n G x p) (M : Cell s d n G y q) where
+        sides : Sides u d (suc n) G (n ∷ []) y 0 (pair (powerOf p) q end)
+        sides = one-side u d (suc n) G n y (powerOf p) q (K₁ G S p q K M) (M₁ G S p q K M)
+
+        went : number ≡ 0 → Passed s s′ d n top (suc n) k G (membershipItems k p q)
+        went e = record {
           top′ = top′;
           advanced =
               built-before u s′ d (suc n) top′ (suc n) top′ G (membershipItems k p q) (SlotOf k)
-              (equal-advanced u s′ d (suc n) n y top′ G (S₁ G S p q K M) (powerOf p) q (K₁ G S p q K M) (M₁ G S p q K M) 33 k (SlotOf k) (subst (Equated u s′ d (suc n) n y) e E)) s n top (B .builds d) S;
-        };
-        stops = λ f. absurd (f refl);
-      })
+              (equal-advanced u s′ d (suc n) (n ∷ []) y 0 top′ G (S₁ G S p q K M) (pair (powerOf p) q end) sides k (SlotOf k) (subst (Equated u s′ d (suc n) (n ∷ []) y 0) e E)) s n top (B .builds d) S;
+        }
 
-      pub member-stops : b ≡ false → (n′ : ℕ) → Related s s′ d n top x y 33 n′ membershipItems
-      member-stops e n′ = record {
+      pub member-told : (n′ : ℕ) → n′ ≡ suc n → Related s s′ d n top x y number n′ membershipItems
+      member-told n′ z = subst (λ m. Related s s′ d n top x y number m membershipItems) (sym z) (record {
         low = low-s;
-        goes = λ f. absurd (omega arith);
-        stops = λ f G S k p q K M. E .stops e top′ G (S₁ G S p q K M) (powerOf p) q (K₁ G S p q K M) (M₁ G S p q K M) 33 k;
-      }
+        goes = λ e G S k p q K M. went G S k p q K M e;
+        stops = λ e G S k p q K M. E .stops e top′ G (S₁ G S p q K M) (pair (powerOf p) q end) (sides G S k p q K M) k;
+      })

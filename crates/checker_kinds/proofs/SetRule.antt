@@ -1,6 +1,5 @@
 -- The rule of Set: a new unknown, its members have its type, and the type is the power of it.
 use mathlib.Core.Path.{_≡_, refl, sym, subst, _∙_}
-use mathlib.Core.Bool.{Bool, true, false}
 use mathlib.Core.List.{List, [], _∷_}
 use Prim.Native.Nat.{ℕ, suc, _+_, _*_, _≤_, _<_}
 use native.Mathlib.Omega.{arith}
@@ -10,17 +9,18 @@ use Rattle.types_rules.specs.Equations.{In}
 use Rattle.types_rules.specs.Former.{power}
 use Rattle.types_rules.specs.Types.{nil, cons}
 use Rattle.checker_rules.proofs.Slots.{slots-apart}
-use Rattle.checker_rules.specs.Conditions.{typed, typesOf, areMembers}
+use Rattle.checker_rules.specs.Conditions.{typed, typesOf, members, areMembers}
 use Rattle.checker_rules.specs.Items.{fresh, _⨾_}
 use Rattle.checker_rules.specs.Unknowns.{slot, unknownAt, powerOf}
 use Rattle.types_cells.specs.Layout.{maxPending, firstRun}
 use Rattle.types_cells.specs.Store.{load, run}
 use Rattle.types_cells.specs.Calls.{Making, Made}
 use Rattle.types_solver.proofs.Extending.{made-grows}
-use Rattle.checker_pieces.specs.Stage.{Ghost, Stands, Room, Cell, Unvisited, Advanced, SlotOf, Uses}
+use Rattle.checker_pieces.specs.Stage.{Ghost, Stands, Room, Cell, Unvisited, Advanced, SlotOf, Uses, Comparing, Equated}
 use Rattle.checker_pieces.specs.Building.{Building, Built, Introduced}
-use Rattle.checker_pieces.specs.Rows.{Meeting, Members}
+use Rattle.checker_pieces.specs.Rows.{Members}
 use Rattle.checker_pieces.proofs.PowerLaws.{unmentioned-node}
+use Rattle.checker_pieces.proofs.RowLaws.{members-of, sides-comparing, sides-members}
 use Rattle.checker_pieces.proofs.Stages.{next, next-stands, next-cell, next-cells, next-unvisited, wider-mine, placed-cell, built-cell, one-cell, building, plain-making, introduced-unknown, introduce-then, unknown-uses, rule-goes, rule-stops, stop-then}
 use Rattle.checker_pieces.proofs.Walks.{stops-left}
 use Rattle.checker_kinds.specs.Formers.{OperandCells, Operating, DerivedList, setItems}
@@ -66,40 +66,36 @@ module _ (s d : List ℕ) (n top : ℕ) (ps : List ℕ) (m : ℕ) (P : (m ≤ le
     u : (k : ℕ) × ((j : ℕ) → In (slot k j) (P .1 .ghost .mentioned) → ⊥)
     u = unmentioned-node (P .1 .ghost .mentioned)
 
-    meeting : Meeting s₁ d (suc n) n l
-    meeting = record {
-      top = top;
-      ghost = G₁ (P .1 .ghost) (P .1 .stands) (u .0) (u .1 1);
-      stands = St₁ (P .1 .ghost) (P .1 .stands) (u .0) (u .1 1);
-      k = u .0;
-      own = own₁ (P .1 .ghost) (P .1 .stands) (u .0) (u .1 1);
-      exprs = P .1 .exprs;
-      cells = cells₁ (P .1 .ghost) (P .1 .stands) (u .0) (u .1 1) (P .1 .exprs) (P .1 .cells);
-    }
+    asked : Comparing s₁ d (suc n) l n 0
+    asked =
+        let W = P .1 in
+        sides-comparing s₁ d (suc n) l n 0 top (record { ghost = G₁ (W .ghost) (W .stands) (u .0) (u .1 1); stands = St₁ (W .ghost) (W .stands) (u .0) (u .1 1) }) (members (u .0) (W .exprs))
+        (sides-members s₁ d (suc n) (G₁ (W .ghost) (W .stands) (u .0) (u .1 1)) (u .0) l n (W .exprs) (own₁ (W .ghost) (W .stands) (u .0) (u .1 1))
+        (cells₁ (W .ghost) (W .stands) (u .0) (u .1 1) (W .exprs) (W .cells))) (omega arith)
 
-    pub set-members : (0 + m ≤ length ps) × Meeting s₁ d (n + 1) n (run ps 0 m)
+    pub set-members : (m ≤ length ps) × Comparing s₁ d (n + 1) (run ps 0 m) n 0
     unfolding run
-    set-members = (let z = P .0 in omega arith, subst (λ z. Meeting s₁ d z n l) (let z : suc n ≡ n + 1 = omega arith in z) meeting)
+    set-members = (P .0, subst (λ z. Comparing s₁ d z l n 0) (let z : suc n ≡ n + 1 = omega arith in z) asked)
 
-    module _ (s₂ : List ℕ) (b : Bool) (M₀ : Members s₁ s₂ d (n + 1) n (run ps 0 m) b) where
+    module _ (s₂ : List ℕ) (b : ℕ) (E₀ : Equated s₁ s₂ d (n + 1) (run ps 0 m) n 0 b) where
       M : Members s₁ s₂ d (suc n) n l b
       unfolding run
-      M = subst (λ z. Members s₁ s₂ d z n l b) (let z : n + 1 ≡ suc n = omega arith in z) M₀
+      M = members-of s₁ s₂ d (suc n) n l b (subst (λ z. Equated s₁ s₂ d z l n 0 b) (let z : n + 1 ≡ suc n = omega arith in z) E₀)
 
-      pub set-refused : b ≡ false → DerivedList s s₂ d n top l 33 n n top 2 setItems
+      pub set-refused : (b ≡ 0 → ⊥) → DerivedList s s₂ d n top l b n n top 2 setItems
       set-refused e = record {
         low = M .low ∙ made-grows s s₁ d n 0 0 firstRun 0 set-unknown N .low;
         wide = omega arith;
-        uses = λ z. absurd (omega arith);
+        uses = λ z. absurd (e z);
         ruled = λ G St k free xs K.
             let new = free 1 (omega arith) in
-            rule-stops s s₂ d n top k 33 n n top G (setItems k xs) (λ z. omega arith)
-            (stop-then s s₁ d n top (suc n) top G (fresh (slot k 1)) (SlotOf k) (A G St k new) (areMembers k xs ⨾ typed k (powerOf (unknownAt k 1))) 33 k
-            (stops-left (G .before) (G .items ⨾ fresh (slot k 1)) (areMembers k xs) (typed k (powerOf (unknownAt k 1))) 33 k
+            rule-stops s s₂ d n top k b n n top G (setItems k xs) e
+            (stop-then s s₁ d n top (suc n) top G (fresh (slot k 1)) (SlotOf k) (A G St k new) (areMembers k xs ⨾ typed k (powerOf (unknownAt k 1))) b k
+            (stops-left (G .before) (G .items ⨾ fresh (slot k 1)) (areMembers k xs) (typed k (powerOf (unknownAt k 1))) b k
             (M .stops e top (G₁ G St k new) (St₁ G St k new) k (own₁ G St k new) xs (cells₁ G St k new xs K))));
       }
 
-      module _ (e : b ≡ true) where
+      module _ (e : b ≡ 0) where
         -- The members, in any piece that stands.
         module _ (G : Ghost) (St : Stands s d n top G) (k : ℕ) (new : In (slot k 1) (G .mentioned) → ⊥) (xs : Exprs) (K : OperandCells s d n G l xs) where
           B₀ : Advanced s₁ s₂ d (suc n) top (suc n) top (G₁ G St k new) (areMembers k xs) (λ y. ⊥)

@@ -1,13 +1,12 @@
 -- The rules whose items are equations of the operands' types, and Select: what their functions ask and promise. The operands are cells; a promise is for
 -- each piece that stands, each node k, and all terms that the cells denote.
 use mathlib.Core.Path.{_≡_}
-use mathlib.Core.Bool.{Bool, true, false}
 use mathlib.Core.List.{List, [], _∷_}
 use Prim.Native.Nat.{ℕ, suc, _≤_}
 use Rattle.types_rules.specs.Equations.{Pairs}
 use Rattle.types_rules.specs.Types.{Term}
-use Rattle.checker_rules.specs.Conditions.{typed}
-use Rattle.checker_rules.specs.Items.{Items, _⨾_, fresh, equate, select}
+use Rattle.checker_rules.specs.Conditions.{equation, areNumbers, typed}
+use Rattle.checker_rules.specs.Items.{Items, _⨾_, fresh, select}
 use Rattle.checker_rules.specs.Unknowns.{slot, unknownAt, integer, powerOf, pairOf}
 use Rattle.types_cells.specs.Settled.{lower}
 use Rattle.checker_pieces.specs.Piece.{Stops}
@@ -16,19 +15,19 @@ use Rattle.checker_pieces.specs.Building.{Working}
 
 -- THE ITEMS of node k, over the terms of its operands (checker_rules/specs/Rules: equal, member, atMost, application, arithmetic, selection).
 abbrev pub equalityItems : ℕ → Term → Term → Items
-equalityItems k a b = equate 33 k a b
+equalityItems k a b = equation k a b
 
 abbrev pub membershipItems : ℕ → Term → Term → Items
-membershipItems k a b = equate 33 k (powerOf a) b
+membershipItems k a b = equation k (powerOf a) b
 
 abbrev pub comparisonItems : ℕ → Term → Term → Items
-comparisonItems k a b = equate 33 k a integer ⨾ equate 33 k b integer
+comparisonItems k a b = areNumbers k a b
 
 abbrev pub applyItems : ℕ → Term → Term → Items
-applyItems k a b = fresh (slot k 0) ⨾ equate 33 k a (powerOf (pairOf b (unknownAt k 0)))
+applyItems k a b = fresh (slot k 0) ⨾ equation k a (powerOf (pairOf b (unknownAt k 0)))
 
 abbrev pub arithmeticItems : ℕ → Term → Term → Items
-arithmeticItems k a b = equate 33 k a integer ⨾ equate 33 k b integer ⨾ typed k integer
+arithmeticItems k a b = areNumbers k a b ⨾ typed k integer
 
 abbrev pub selectItems : ℕ → ℕ → Term → Items
 selectItems id k a = fresh (slot k 0) ⨾ select k id a (slot k 0)
@@ -63,12 +62,12 @@ pub record BothPass (s s′ d : List ℕ) (n top k : ℕ) (G : Ghost) (a b : Ter
   pub advanced : Advanced s s′ d n top (suc n) top G (comparisonItems k a b) Nothing
   pub integer-cell : Cell s′ d (suc n) (after G (comparisonItems k a b) (advanced .equations) (advanced .mentioned) (advanced .cells)) n integer
 
-pub record Both (s s′ d : List ℕ) (n x y : ℕ) (fine : Bool) : Type 0 where
+pub record Both (s s′ d : List ℕ) (n x y number : ℕ) : Type 0 where
   pub low : lower s′ ≡ lower s
   pub uses : (top : ℕ) (G : Ghost) → Stands s d n top G → Uses s s′ n top (suc n) top 1
-  pub goes : fine ≡ true → (top : ℕ) (G : Ghost) → Stands s d n top G → (k : ℕ) (a b : Term) → Cell s d n G x a → Cell s d n G y b → BothPass s s′ d n top k G a b
-  pub stops : fine ≡ false → (top : ℕ) (G : Ghost) → Stands s d n top G → (k : ℕ) (a b : Term) → Cell s d n G x a → Cell s d n G y b →
-      Stops (G .before) (G .items) (comparisonItems k a b) 33 k
+  pub goes : number ≡ 0 → (top : ℕ) (G : Ghost) → Stands s d n top G → (k : ℕ) (a b : Term) → Cell s d n G x a → Cell s d n G y b → BothPass s s′ d n top k G a b
+  pub stops : (number ≡ 0 → ⊥) → (top : ℕ) (G : Ghost) → Stands s d n top G → (k : ℕ) (a b : Term) → Cell s d n G x a → Cell s d n G y b →
+      Stops (G .before) (G .items) (comparisonItems k a b) number k
 
 -- AN EXPRESSION of two operands: the room of `used` cells is used.
 pub record Combined (s s′ d : List ℕ) (n top x y number cell n′ top′ used : ℕ) (own : ℕ → Term → Term → Items) : Type 0 where

@@ -1,8 +1,8 @@
 -- The rules whose types are built of their operands' types. A promise is for each piece that stands, each node k, and all expressions or terms whose types
 -- the operands' cells have.
 use mathlib.Core.Path.{_≡_}
-use mathlib.Core.List.{List}
-use Prim.Native.Nat.{ℕ, _≤_}
+use mathlib.Core.List.{List, [], _∷_}
+use Prim.Native.Nat.{ℕ, zero, suc, _≤_}
 use Rattle.reader_rules.specs.Tree.{Exprs, exprsLength}
 use Rattle.types_rules.specs.Types.{Term}
 use Rattle.checker_rules.specs.Conditions.{typed, typesOf, arePowers, areMembers}
@@ -36,7 +36,12 @@ abbrev pub comprehensionItems : ℕ → Term → Items
 comprehensionItems k a = typed k (powerOf a)
 
 abbrev pub powerRuleItems : ℕ → Term → Items
-powerRuleItems k a = powerItems (slot k 1) 33 k a ⨾ typed k (powerOf (powerOf (unknownAt k 1)))
+powerRuleItems k a = powerItems (slot k 1) k a ⨾ typed k (powerOf (powerOf (unknownAt k 1)))
+
+-- The numbers from n on, q of them.
+unfoldable pub upFrom : ℕ → ℕ → List ℕ
+upFrom n zero = []
+upFrom n (suc q) = n ∷ upFrom (suc n) q
 
 -- WHAT IS ASKED where the operands' types are equated: a piece that stands, and room for x cells.
 pub record Operating (s d : List ℕ) (n top x : ℕ) (l : List ℕ) : Type 0 where

@@ -1,15 +1,13 @@
 // Rules whose types are built of their operands' types. The store has n cells, whose runs end at `top`.
 
 use crate::ruling::Ruling;
-use codes::findings;
 use codes::limits;
 ghost use mathlib.Core.List.{List, [], _∷_};
 ghost use mathlib.Core.Path.{_≡_};
-ghost use Prim.Native.Nat.{ℕ, _+_, _*_, _≤_, _<_, _^_};
+ghost use Prim.Native.Nat.{ℕ, _+_, _≤_, _<_, _^_};
 ghost use lib.ListN.{length, take};
 ghost use Rattle.checker_pieces.specs.Building.{Building, Working};
-ghost use Rattle.checker_pieces.specs.Rows.{everySecond};
-ghost use Rattle.checker_kinds.specs.Formers.{Operating, DerivedList, Derived, numberItems, integersItems, tupleItems, productItems, setItems, comprehensionItems, powerRuleItems};
+ghost use Rattle.checker_kinds.specs.Formers.{upFrom, Operating, DerivedList, Derived, numberItems, integersItems, tupleItems, productItems, setItems, comprehensionItems, powerRuleItems};
 
 // Number: ℤ.
 pub fn number_rule(a: &mut [u32], n: usize, top: usize) -> Ruling
@@ -73,7 +71,8 @@ pub fn power_rule(a: &mut [u32], d: &[u32], n: usize, top: usize, c: usize) -> R
     requires { ⌜ Working (now a) (now d) n top 4 (c ∷ []) ⌝ }
     ensures { λ r. ⌜ Derived (now (a .entry)) (now (a .exit)) (now (d .entry)) n top c (r .number) (r .cell) (r .cells) (r .top) 4 powerRuleItems ⌝ }
 {
-    if checker_pieces::powers::is_power(a, d, n, top, c) {
+    let number = checker_pieces::powers::is_power(a, d, n, top, c);
+    if number == 0 {
         checker_pieces::formers::power(a, n + 2, top + 1, n);
         checker_pieces::formers::power(a, n + 3, top + 2, n + 2);
         return Ruling {
@@ -84,7 +83,7 @@ pub fn power_rule(a: &mut [u32], d: &[u32], n: usize, top: usize, c: usize) -> R
         };
     }
     Ruling {
-        number: findings::UNEQUAL,
+        number: number,
         cell: c,
         cells: n,
         top: top,
@@ -97,7 +96,8 @@ pub fn set_rule(a: &mut [u32], d: &[u32], n: usize, top: usize, parts: &[u32], m
     ensures { λ r. ⌜ DerivedList (now (a .entry)) (now (a .exit)) (now (d .entry)) n top (take m (now (parts .entry))) (r .number) (r .cell) (r .cells) (r .top) 2 setItems ⌝ }
 {
     types_cells::growth::new_unknown(a, n);
-    if checker_pieces::members::are_members(a, d, n + 1, parts, 0, m, n) {
+    let number = checker_pieces::all_equal(a, d, n + 1, parts, m, n, 0);
+    if number == 0 {
         checker_pieces::formers::power(a, n + 1, top, n);
         return Ruling {
             number: 0,
@@ -107,21 +107,21 @@ pub fn set_rule(a: &mut [u32], d: &[u32], n: usize, top: usize, parts: &[u32], m
         };
     }
     Ruling {
-        number: findings::UNEQUAL,
+        number: number,
         cell: n,
         cells: n,
         top: top,
     }
 }
 
-// Every second number from `first` on, m of them.
-fn every_second(row: &mut [u32], first: usize, m: usize)
-    requires { ⌜ (m ≤ length (now row)) × (first + 2 * m < 2 ^ 32) ⌝ }
-    ensures { λ _. ⌜ take m (now (row .exit)) ≡ everySecond first m ⌝ }
+// The numbers from `first` on, m of them.
+fn count_up(row: &mut [u32], first: usize, m: usize)
+    requires { ⌜ (m ≤ length (now row)) × (first + m < 2 ^ 32) ⌝ }
+    ensures { λ _. ⌜ take m (now (row .exit)) ≡ upFrom first m ⌝ }
 {
     let mut j = 0;
     while j < m {
-        row[j] = (first + 2 * j) as u32;
+        row[j] = (first + j) as u32;
         j += 1;
     }
 }
@@ -138,10 +138,11 @@ pub fn product_rule(
     requires { ⌜ (m ≤ 6) × (m ≤ length (now parts)) × Operating (now a) (now d) n top 17 (take m (now parts)) ⌝ }
     ensures { λ r. ⌜ DerivedList (now (a .entry)) (now (a .exit)) (now (d .entry)) n top (take m (now (parts .entry))) (r .number) (r .cell) (r .cells) (r .top) 17 productItems ⌝ }
 {
-    if checker_pieces::powers::are_powers(a, d, n, top, parts, 0, m) {
+    let number = checker_pieces::powers::are_powers(a, d, n, top, parts, m);
+    if number == 0 {
         let mut row = [0u32; limits::PARTS];
-        every_second(&mut row, n, m);
-        let c = n + 2 * m;
+        count_up(&mut row, n, m);
+        let c = n + m + m;
         let end = top + m + m;
         checker_pieces::formers::product(a, c, top + m, &row, m);
         checker_pieces::formers::power(a, c + 1, end, c);
@@ -153,7 +154,7 @@ pub fn product_rule(
         };
     }
     Ruling {
-        number: findings::UNEQUAL,
+        number: number,
         cell: n,
         cells: n,
         top: top,

@@ -13,17 +13,12 @@ ghost use Rattle.checker_kinds.specs.Formers.{Derived};
 
 // x = y.
 pub fn equality(a: &mut [u32], d: &[u32], n: usize, x: usize, y: usize) -> Relation
-    requires { ⌜ Comparing (now a) (now d) n x y ⌝ }
+    requires { ⌜ Comparing (now a) (now d) n (x ∷ []) y 0 ⌝ }
     ensures { λ r. ⌜ ((top : ℕ) → Related (now (a .entry)) (now (a .exit)) (now (d .entry)) n top x y (r .number) (r .cells) equalityItems) ⌝ }
 {
-    if checker_pieces::equal(a, d, n, x, y) {
-        return Relation {
-            number: 0,
-            cells: n,
-        };
-    }
+    let number = checker_pieces::equal(a, d, n, x, y);
     Relation {
-        number: findings::UNEQUAL,
+        number: number,
         cells: n,
     }
 }
@@ -34,28 +29,21 @@ pub fn membership(a: &mut [u32], d: &[u32], n: usize, top: usize, x: usize, y: u
     ensures { λ r. ⌜ Related (now (a .entry)) (now (a .exit)) (now (d .entry)) n top x y (r .number) (r .cells) membershipItems ⌝ }
 {
     checker_pieces::formers::power(a, n, top, x);
-    if checker_pieces::equal(a, d, n + 1, n, y) {
-        return Relation {
-            number: 0,
-            cells: n + 1,
-        };
-    }
+    let number = checker_pieces::equal(a, d, n + 1, n, y);
     Relation {
-        number: findings::UNEQUAL,
-        cells: n,
+        number: number,
+        cells: n + 1,
     }
 }
 
-// Are x and y integers? Cell n is then ℤ.
-fn both_integers(a: &mut [u32], d: &[u32], n: usize, x: usize, y: usize) -> bool
+// x and y are integers: 0, and cell n is then ℤ; or the number of the finding.
+fn both_integers(a: &mut [u32], d: &[u32], n: usize, x: usize, y: usize) -> u32
     requires { ⌜ Relating (now a) (now d) n x y 1 ⌝ }
     ensures { λ r. ⌜ Both (now (a .entry)) (now (a .exit)) (now (d .entry)) n x y r ⌝ }
 {
     checker_pieces::formers::integer(a, n);
-    if checker_pieces::equal(a, d, n + 1, x, n) {
-        return checker_pieces::equal(a, d, n + 1, y, n);
-    }
-    false
+    let sides = [x as u32, y as u32];
+    checker_pieces::all_equal(a, d, n + 1, &sides, 2, n, 0)
 }
 
 // x at most y.
@@ -63,15 +51,10 @@ pub fn comparison(a: &mut [u32], d: &[u32], n: usize, x: usize, y: usize) -> Rel
     requires { ⌜ Relating (now a) (now d) n x y 1 ⌝ }
     ensures { λ r. ⌜ ((top : ℕ) → Related (now (a .entry)) (now (a .exit)) (now (d .entry)) n top x y (r .number) (r .cells) comparisonItems) ⌝ }
 {
-    if both_integers(a, d, n, x, y) {
-        return Relation {
-            number: 0,
-            cells: n + 1,
-        };
-    }
+    let number = both_integers(a, d, n, x, y);
     Relation {
-        number: findings::UNEQUAL,
-        cells: n,
+        number: number,
+        cells: n + 1,
     }
 }
 
@@ -80,18 +63,11 @@ pub fn arithmetic_rule(a: &mut [u32], d: &[u32], n: usize, top: usize, x: usize,
     requires { ⌜ Working (now a) (now d) n top 1 (x ∷ y ∷ []) ⌝ }
     ensures { λ r. ⌜ Combined (now (a .entry)) (now (a .exit)) (now (d .entry)) n top x y (r .number) (r .cell) (r .cells) (r .top) 1 arithmeticItems ⌝ }
 {
-    if both_integers(a, d, n, x, y) {
-        return Ruling {
-            number: 0,
-            cell: n,
-            cells: n + 1,
-            top: top,
-        };
-    }
+    let number = both_integers(a, d, n, x, y);
     Ruling {
-        number: findings::UNEQUAL,
+        number: number,
         cell: n,
-        cells: n,
+        cells: n + 1,
         top: top,
     }
 }
@@ -104,19 +80,12 @@ pub fn apply_rule(a: &mut [u32], d: &[u32], n: usize, top: usize, x: usize, y: u
     types_cells::growth::new_unknown(a, n);
     checker_pieces::formers::pair(a, n + 1, top, y, n);
     checker_pieces::formers::power(a, n + 2, top + 2, n + 1);
-    if checker_pieces::equal(a, d, n + 3, x, n + 2) {
-        return Ruling {
-            number: 0,
-            cell: n,
-            cells: n + 3,
-            top: top + 3,
-        };
-    }
+    let number = checker_pieces::equal(a, d, n + 3, x, n + 2);
     Ruling {
-        number: findings::UNEQUAL,
+        number: number,
         cell: n,
-        cells: n,
-        top: top,
+        cells: n + 3,
+        top: top + 3,
     }
 }
 

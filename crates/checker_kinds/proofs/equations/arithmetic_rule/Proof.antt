@@ -1,5 +1,5 @@
 use native.Mathlib.Omega.{arith}
-use Rattle.checker_kinds.proofs.Integers.{arithmetic-goes, arithmetic-stops}
+use Rattle.checker_kinds.proofs.Integers.{arithmetic-told}
 use borrow.Author.Needs.{needs}
 use Rattle.checker_kinds.proofs.equations.arithmetic_rule.Statement.{statement}
 use Rattle.checker_kinds.proofs.equations.arithmetic_rule.Tie as tie
@@ -7,24 +7,21 @@ use Rattle.checker_kinds.proofs.equations.arithmetic_rule.Reads as read
 use Rattle.checker_kinds.proofs.equations.arithmetic_rule.Lts as lts
 use Rattle.checker_kinds.proofs.equations.both_integers.Reads as both-integers-reads
 
+-- src/equations.rt:66:9
 both-integers-requires : tie.Need-both-integers-requires
-both-integers-requires c κs = record { top = _; working = c .before .before .before .pre }
+both-integers-requires c κs = search needs
 
+-- src/equations.rt:70:16
 add-t10 : tie.Need-add-t10
-add-t10 c = let r = c .before .before .before .before .before .before .before .pre .room .cells in omega arith
+add-t10 c = search needs
 
+-- src/equations.rt:62:1
 same-length : tie.Need-same-length
 same-length c = search needs
 
+-- src/equations.rt:62:1
 returns : tie.Need-returns
-returns c = arithmetic-goes _ _ _ _ _ _ _ (c .before .before .before .both-integers .ensures) _ (c .before .before .before .before .before .before .before .pre) (c .if1 .taken) _ (omega arith)
-
-same-length-2 : tie.Need-same-length-2
-same-length-2 c = search needs
-
-returns-2 : tie.Need-returns-2
-returns-2 c = arithmetic-stops _ _ _ _ _ _ _ (c .before .before .before .both-integers .ensures) _ (c .before .before .before .before .before .before .before .pre) (c .if1 .left) _
+returns c = arithmetic-told _ _ _ _ _ _ _ (c .before .before .both-integers .ensures) _ (c .before .before .before .before .before .before .pre) _ (omega arith)
 
 pub arithmetic-rule-spec : {M : Type 1} → statement M
-arithmetic-rule-spec =
-    tie.close (tie.spec both-integers-requires add-t10 same-length returns same-length-2 returns-2)
+arithmetic-rule-spec = tie.close (tie.spec both-integers-requires add-t10 same-length returns)

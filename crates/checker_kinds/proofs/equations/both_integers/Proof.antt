@@ -1,50 +1,57 @@
 use native.Mathlib.Omega.{arith}
-use Rattle.checker_kinds.proofs.Integers.{integer-making, first-asks, first-fails, second-asks, second-tells}
+use Rattle.types_cells.specs.Store.{run}
+use Rattle.checker_kinds.proofs.Integers.{integer-making, few-operands, both-asks, both-told}
 use borrow.Author.Needs.{needs}
 use Rattle.checker_kinds.proofs.equations.both_integers.Statement.{statement}
 use Rattle.checker_kinds.proofs.equations.both_integers.Tie as tie
 use Rattle.checker_kinds.proofs.equations.both_integers.Reads as reads
 use Rattle.checker_kinds.proofs.equations.both_integers.Lts as lts
+use Rattle.checker_pieces.proofs.all_equal.Reads as all-equal-reads
 use Rattle.checker_pieces.proofs.formers.integer.Reads as integer-reads
-use Rattle.checker_pieces.proofs.equal.Reads as equal-reads
 
+-- src/equations.rt:44:5
 integer-requires : tie.Need-integer-requires
 integer-requires c κs = integer-making _ _ _ _ _ (c .before .before .before .pre)
 
-add-equal : tie.Need-add-equal
-add-equal c = let r = c .before .before .before .before .before .before .before .pre .working .room .cells in omega arith
+-- src/equations.rt:45:18
+cast-t10 : tie.Need-cast-t10
+cast-t10 c = let z = few-operands _ _ _ _ _ _ (c .before .before .before .before .before .before .pre) in omega (arith, z .0)
 
-equal-requires : tie.Need-equal-requires
-equal-requires c κs = first-asks _ _ _ _ _ _ (c .before .before .before .before .before .before .before .pre) (c .before .before .before .integer .ensures) _ (omega arith)
+-- src/equations.rt:45:28
+cast-t11 : tie.Need-cast-t11
+cast-t11 c = let z = few-operands _ _ _ _ _ _ (c .before .before .before .before .before .before .pre) in omega (arith, z .1)
 
-add-equal-2 : tie.Need-add-equal-2
-add-equal-2 c = let r = c .before .before .before .before .before .before .before .before .before .before .before .before .pre .working .room .cells in omega arith
+-- src/equations.rt:46:37
+add-all-equal : tie.Need-add-all-equal
+add-all-equal c = search needs
 
-equal-requires-2 : tie.Need-equal-requires-2
-equal-requires-2 c κs = second-asks _ _ _ _ _ _ (c .before .before .before .before .before .before .before .before .before .before .before .before .pre) (c .before .before .before .before .before .before .before .before .integer .ensures) _ _ _ (c .before .before .before .before .equal .ensures) (omega arith) (c .before .if1 .taken) _ (omega arith)
+-- src/equations.rt:46:44
+slice-aggregate-all-equal : tie.Need-slice-aggregate-all-equal
+slice-aggregate-all-equal c = search needs
 
+-- src/equations.rt:46:5
+all-equal-requires : tie.Need-all-equal-requires
+unfolding run
+all-equal-requires c κs = (omega arith, both-asks _ _ _ _ _ _ (c .before .before .before .before .before .before .before .before .pre) (c .before .before .before .before .integer .ensures) _ (omega arith))
+
+-- src/equations.rt:40:1
 same-length : tie.Need-same-length
 same-length c = search needs
 
+-- src/equations.rt:40:1
 returns : tie.Need-returns
-returns c = second-tells _ _ _ _ _ _ (c .before .before .before .before .before .before .before .before .before .before .before .before .before .before .before .pre) (c .before .before .before .before .before .before .before .before .before .before .before .integer .ensures) _ _ _ (c .before .before .before .before .before .before .before .equal .ensures) (omega arith) (c .before .before .before .before .if1 .taken) _ _ _ (c .before .before .equal2 .ensures) (omega arith)
-
-same-length-2 : tie.Need-same-length-2
-same-length-2 c = search needs
-
-returns-2 : tie.Need-returns-2
-returns-2 c = first-fails _ _ _ _ _ _ (c .before .before .before .before .before .before .before .before .before .before .before .pre) (c .before .before .before .before .before .before .before .integer .ensures) _ _ _ (c .before .before .before .equal .ensures) (omega arith) (c .if1 .left)
+unfolding run
+returns c = both-told _ _ _ _ _ _ (c .before .before .before .before .before .before .before .before .before .before .before .pre) (c .before .before .before .before .before .before .before .integer .ensures) _ _ _ (c .before .before .all-equal .ensures) (omega arith)
 
 pub both-integers-spec : {M : Type 1} → statement M
 both-integers-spec =
     tie.close
     (tie.spec
     integer-requires
-    add-equal
-    equal-requires
-    add-equal-2
-    equal-requires-2
+    cast-t10
+    cast-t11
+    add-all-equal
+    slice-aggregate-all-equal
+    all-equal-requires
     same-length
-    returns
-    same-length-2
-    returns-2)
+    returns)

@@ -1,5 +1,5 @@
 use native.Mathlib.Omega.{arith}
-use Rattle.checker_kinds.proofs.Integers.{comparison-goes, comparison-stops}
+use Rattle.checker_kinds.proofs.Integers.{comparison-told}
 use borrow.Author.Needs.{needs}
 use Rattle.checker_kinds.proofs.equations.comparison.Statement.{statement}
 use Rattle.checker_kinds.proofs.equations.comparison.Tie as tie
@@ -7,24 +7,21 @@ use Rattle.checker_kinds.proofs.equations.comparison.Reads as reads
 use Rattle.checker_kinds.proofs.equations.comparison.Lts as lts
 use Rattle.checker_kinds.proofs.equations.both_integers.Reads as both-integers-reads
 
+-- src/equations.rt:54:9
 both-integers-requires : tie.Need-both-integers-requires
-both-integers-requires c κs = c .before .before .before .pre
+both-integers-requires c κs = search needs
 
+-- src/equations.rt:57:16
 add-t9 : tie.Need-add-t9
-add-t9 c = let r = c .before .before .before .before .before .before .before .pre .working .room .cells in omega arith
+add-t9 c = search needs
 
+-- src/equations.rt:50:1
 same-length : tie.Need-same-length
 same-length c = search needs
 
+-- src/equations.rt:50:1
 returns : tie.Need-returns
-returns c = λ top. comparison-goes _ _ _ _ _ _ _ (c .before .before .before .both-integers .ensures) (c .if1 .taken) _ (omega arith) top
-
-same-length-2 : tie.Need-same-length-2
-same-length-2 c = search needs
-
-returns-2 : tie.Need-returns-2
-returns-2 c = λ top. comparison-stops _ _ _ _ _ _ _ (c .before .before .before .both-integers .ensures) (c .if1 .left) _ top
+returns c = λ top. comparison-told _ _ _ _ _ _ _ (c .before .before .both-integers .ensures) _ (omega arith) top
 
 pub comparison-spec : {M : Type 1} → statement M
-comparison-spec =
-    tie.close (tie.spec both-integers-requires add-t9 same-length returns same-length-2 returns-2)
+comparison-spec = tie.close (tie.spec both-integers-requires add-t9 same-length returns)
