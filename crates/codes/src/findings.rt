@@ -31,8 +31,11 @@ pub const UNKNOWN_NAME: u32 = 31;
 // Actuals that are not as many as the parameters.
 pub const WRONG_COUNT: u32 = 32;
 
-// Types that cannot be equal.
+// Types that cannot be equal: two different formers side by side.
 pub const UNEQUAL: u32 = 33;
+
+// No different formers, and a type that would contain itself.
+pub const INSIDE_ITSELF: u32 = 39;
 
 // A piece with several typings.
 pub const SEVERAL: u32 = 34;
