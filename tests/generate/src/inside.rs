@@ -60,7 +60,7 @@ fn column(rng: &mut Rng, other: u32) -> Tree {
         16 => power(product(vec![x(), if rng.percent(50) { integers() } else { y() }])),
         17 => power(product(vec![y(), y()])),
         18 | 19 => schema_set(include(*rng.pick(&BOUND), 0, vec![x()], &[])),
-        _ => settled(rng, &GIVENS),
+        _ => settled(rng),
     }
 }
 
@@ -75,7 +75,7 @@ fn relation(rng: &mut Rng, parameters: &[u32], columns: usize) -> Tree {
 
 fn schemas(rng: &mut Rng, columns: usize) -> Vec<Tree> {
     let one = |name: u32, lines: Vec<Tree>| schema(name, &[X], text(truth(), lines));
-    let second = *rng.pick(&[Y, Y, Y + 1]);
+    let second = *rng.pick(&[Y, Y + 1]);
     let alike = decl(reference(X), &[X, Y]);
     let to_sets = vec![decl(reference(X), &[X]), decl(power(reference(X)), &[second])];
     let record = power(relation(rng, &[X], columns));
@@ -98,15 +98,22 @@ fn generic_names(rng: &mut Rng, columns: usize) -> Vec<Tree> {
     names
 }
 
-/// A set whose type has no unknown, of these names or others.
-fn settled(rng: &mut Rng, names: &[u32]) -> Tree {
-    match rng.below(9) {
-        0 => integers(),
-        1 => power(integers()),
-        2 => product(vec![integers(); rng.from(2, 3)]),
-        3 => schema_set(include(*rng.pick(&BOUND), 0, vec![integers()], &[])),
-        _ => reference(*rng.pick(names)),
-    }
+/// Sets whose types have no unknown. Those of one group differ in a name, in
+/// their length, in an identifier; those of the last are of two sorts.
+fn settled_groups(names: &[u32]) -> [Vec<Tree>; 4] {
+    let bound = |name: u32| schema_set(include(name, 0, vec![integers()], &[]));
+    [
+        names.iter().copied().map(reference).collect(),
+        [2, 3].map(|parts| product(vec![integers(); parts])).to_vec(),
+        BOUND.map(bound).to_vec(),
+        vec![integers(), power(integers())],
+    ]
+}
+
+fn settled(rng: &mut Rng) -> Tree {
+    let groups = settled_groups(&GIVENS);
+    let group = rng.pick(&groups);
+    rng.pick(group).clone()
 }
 
 /// An expression that has the type of a relation, mostly an open one.
@@ -117,7 +124,7 @@ fn some_relation(rng: &mut Rng, room: usize) -> Tree {
         0..=6 => reference(named),
         7 => {
             let count = if named == ANY { 2 } else { 1 };
-            generic(named, (0..count).map(|_| settled(rng, &GIVENS)).collect())
+            generic(named, (0..count).map(|_| settled(rng)).collect())
         }
         8 => set(vec![]),
         9 => apply(reference(TABLE), one()),
@@ -136,7 +143,7 @@ fn members(rng: &mut Rng) -> Vec<Tree> {
             0 => number(1),
             1 => tuple(vec![number(1), number(1)]),
             2 => product(vec![integers(); 5]),
-            _ => settled(rng, &GIVENS),
+            _ => settled(rng),
         });
     }
     rng.shuffle(&mut members);
@@ -160,14 +167,15 @@ fn relations_meet(rng: &mut Rng) -> Tree {
 
 /// Two tuples of as many parts, relations and sets whose formers may differ.
 fn beside_formers(rng: &mut Rng) -> Tree {
-    let names = [GIVENS, PARAMETERS].concat();
+    let groups = settled_groups(&[GIVENS, PARAMETERS].concat());
     let count = rng.from(2, 4);
     let relations = rng.from(1, count - 1);
     let mut pairs: Vec<(Tree, Tree)> =
         (0..relations).map(|_| (some_relation(rng, 0), some_relation(rng, 0))).collect();
     for _ in relations..count {
-        let one = settled(rng, &names);
-        let other = if rng.percent(50) { one.clone() } else { settled(rng, &names) };
+        let group = rng.pick(&groups);
+        let one = rng.pick(group).clone();
+        let other = if rng.percent(30) { one.clone() } else { rng.pick(group).clone() };
         pairs.push((one, other));
     }
     rng.shuffle(&mut pairs);
@@ -199,7 +207,7 @@ fn below_others(rng: &mut Rng) -> Tree {
     let beside = match rng.below(4) {
         0 => set(vec![number(1), integers()]),
         1 => number(1),
-        _ => settled(rng, &GIVENS),
+        _ => settled(rng),
     };
     let mut operands = vec![set(members(rng)), beside];
     rng.shuffle(&mut operands);
