@@ -59,9 +59,17 @@ fn column(rng: &mut Rng, other: u32) -> Tree {
         15 => product(vec![x(); rng.from(2, 3)]),
         16 => power(product(vec![x(), if rng.percent(50) { integers() } else { y() }])),
         17 => power(product(vec![y(), y()])),
-        18 | 19 => schema_set(include(*rng.pick(&BOUND), 0, vec![x()], &[])),
+        18 | 19 => rng.pick(&binding_sets(x())).clone(),
         _ => settled(rng),
     }
+}
+
+/// Sets of bindings: with the same identifiers and other types, with the same
+/// types and another identifier.
+fn binding_sets(actual: Tree) -> [Tree; 3] {
+    let of =
+        |name, renames: &[(u32, u32)]| schema_set(include(name, 0, vec![actual.clone()], renames));
+    [of(BOUND[0], &[]), of(BOUND[1], &[]), of(BOUND[0], &[(Y, Y + 1)])]
 }
 
 /// So many columns; each of the parameters is one of them.
@@ -75,9 +83,8 @@ fn relation(rng: &mut Rng, parameters: &[u32], columns: usize) -> Tree {
 
 fn schemas(rng: &mut Rng, columns: usize) -> Vec<Tree> {
     let one = |name: u32, lines: Vec<Tree>| schema(name, &[X], text(truth(), lines));
-    let second = *rng.pick(&[Y, Y + 1]);
     let alike = decl(reference(X), &[X, Y]);
-    let to_sets = vec![decl(reference(X), &[X]), decl(power(reference(X)), &[second])];
+    let to_sets = vec![decl(reference(X), &[X]), decl(power(reference(X)), &[Y])];
     let record = power(relation(rng, &[X], columns));
     vec![one(BOUND[0], vec![alike]), one(BOUND[1], to_sets), one(RECORD, vec![decl(record, &[Y])])]
 }
@@ -101,11 +108,10 @@ fn generic_names(rng: &mut Rng, columns: usize) -> Vec<Tree> {
 /// Sets whose types have no unknown. Those of one group differ in a name, in
 /// their length, in an identifier; those of the last are of two sorts.
 fn settled_groups(names: &[u32]) -> [Vec<Tree>; 4] {
-    let bound = |name: u32| schema_set(include(name, 0, vec![integers()], &[]));
     [
         names.iter().copied().map(reference).collect(),
         [2, 3].map(|parts| product(vec![integers(); parts])).to_vec(),
-        BOUND.map(bound).to_vec(),
+        binding_sets(integers()).to_vec(),
         vec![integers(), power(integers())],
     ]
 }
@@ -173,7 +179,7 @@ fn beside_formers(rng: &mut Rng) -> Tree {
     let mut pairs: Vec<(Tree, Tree)> =
         (0..relations).map(|_| (some_relation(rng, 0), some_relation(rng, 0))).collect();
     for _ in relations..count {
-        let group = rng.pick(&groups);
+        let group = if rng.percent(50) { &groups[0] } else { rng.pick(&groups) };
         let one = rng.pick(group).clone();
         let other = if rng.percent(30) { one.clone() } else { rng.pick(group).clone() };
         pairs.push((one, other));
