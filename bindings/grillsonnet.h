@@ -28,9 +28,10 @@ uint64_t z_read(const uint32_t *document, size_t words);
 uint64_t z_state(const uint32_t *document, size_t words, const uint32_t *state, size_t state_words);
 
 /* The check of a document: reading's finding; then 21 where the work area has under 16384 words; then 22 at 0 where the dictionary area has no words;
- * then, paragraph by paragraph, 31 to 38 with the node, last 22 with the paragraph where the dictionary through it has no room in its area; 0 where
- * the document is accepted. After acceptance the dictionary area holds the dictionary with zeros after it, after a refusal zeros. The work area is
- * zero after it. */
+ * then, paragraph by paragraph, 31 to 39 with the node, last 22 with the paragraph where the dictionary through it has no room in its area; 0 where
+ * the document is accepted. 39 comes in 33's turn, where no two formers differ and a type would have to contain itself; for people: "a type would
+ * contain itself: ℙ a = a", with the two sides. After acceptance the dictionary area holds the dictionary with zeros after it, after a refusal zeros.
+ * The work area is zero after it. */
 uint64_t z_check(const uint32_t *document, size_t words, uint32_t *dictionary, size_t dictionary_words, uint32_t *work, size_t work_words);
 
 /* The check of a document, then a state against its dictionary: the check's finding; then 41 as z_state; then 42 with the entry whose value is not

@@ -1,8 +1,8 @@
 //! What the calls answer: one number each, 0 where there is no finding, else
 //! number * 2^32 + place.
 
-/// A finding's number in document 01's table, and its place: a node, an entry,
-/// or 0.
+/// A finding's number in the tables of documents 01 and 02, and its place: a
+/// node, an entry, or 0.
 #[derive(Clone, Copy, PartialEq, Eq, Debug)]
 pub struct Finding {
     pub number: u32,

@@ -39,7 +39,7 @@ pub extern "C" fn z_canonical(doc: &[u32], output: &mut [u32]) -> u64
     code_of(canonical::canonical(doc, output))
 }
 
-// The check of a document: reading's finding first, then 21, then 22 at 0 where the dictionary area has no words; then, paragraph by paragraph, 31 to 38
+// The check of a document: reading's finding first, then 21, then 22 at 0 where the dictionary area has no words; then, paragraph by paragraph, 31 to 39
 // with the node, last 22 with the paragraph. After acceptance the dictionary area holds the dictionary and zeros after it, after a refusal zeros; the
 // work area is zeros afterwards.
 #[no_mangle]

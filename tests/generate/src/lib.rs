@@ -5,6 +5,7 @@ pub mod applied;
 pub mod documents;
 pub mod enumerated;
 pub mod inject;
+pub mod inside;
 pub mod limits;
 pub mod number;
 pub mod numberings;
@@ -61,7 +62,7 @@ pub fn case(seed: u64, index: u64) -> Case {
 }
 
 fn some_document(rng: &mut Rng) -> (&'static str, Vec<u32>) {
-    match rng.below(117) {
+    match rng.below(125) {
         0..=16 => broken(rng),
         17..=23 => ("shapes", shaped(rng)),
         24..=33 => ("limits", limits::at_a_limit(rng)),
@@ -75,6 +76,7 @@ fn some_document(rng: &mut Rng) -> (&'static str, Vec<u32>) {
         94..=99 => ("values at their ends", numbered(rng, runnable::arithmetic_document)),
         100..=104 => ("powers and products", numbered(rng, enumerated::enumerated_document)),
         105..=113 => ("applications", numbered(rng, applied::applied_document)),
+        114..=121 => ("types inside themselves", numbered(rng, inside::inside_document)),
         _ => ("numberings", numberings::renumbered(rng)),
     }
 }

@@ -1,20 +1,19 @@
 //! Documents about one rule: sizes near 32, signatures near 16, dictionaries
-//! near their area, types too large to write out, types inside themselves.
+//! near their area, types too large to write out.
 
 use crate::rng::Rng;
 use coding::make::*;
 use coding::Tree;
 
 pub fn special_document(rng: &mut Rng) -> Tree {
-    match rng.below(9) {
+    match rng.below(8) {
         0 => declared_size(rng),
         1 => component_size(rng),
         2 => signature_count(rng),
         3 => long_dictionary(rng),
         4 => tower(rng),
         5 => function_tower(rng),
-        6 => inside_itself(rng),
-        7 => open_component(rng),
+        6 => open_component(rng),
         _ => theta_cases(rng),
     }
 }
@@ -142,31 +141,6 @@ pub fn function_tower(rng: &mut Rng) -> Tree {
         _ => constraint(member(tower(number(1)), set(vec![tower(number(1))]))),
     };
     document(vec![f, use_it])
-}
-
-/// Equations whose solution would stand inside itself, and some near them.
-fn inside_itself(rng: &mut Rng) -> Tree {
-    let empty = || set(vec![]);
-    let identity = abbreviation(
-        4,
-        &[X],
-        comprehension(
-            text(truth(), vec![decl(reference(X), &[Y])]),
-            tuple(vec![reference(Y), reference(Y)]),
-        ),
-    );
-    let f = || reference(4);
-    let body = match rng.below(8) {
-        0 => equal(apply(f(), f()), f()),
-        1 => equal(apply(f(), apply(f(), number(1))), number(1)),
-        2 => member(f(), f()),
-        3 => member(empty(), empty()),
-        4 => equal(set(vec![empty(), set(vec![empty()])]), empty()),
-        5 => equal(set(vec![f(), set(vec![f()])]), empty()),
-        6 => equal(apply(f(), generic(4, vec![integers()])), generic(4, vec![integers()])),
-        _ => equal(apply(set(vec![tuple(vec![empty(), empty()])]), empty()), set(vec![number(1)])),
-    };
-    document(vec![identity, constraint(body)])
 }
 
 /// Selects whose binding is settled before, after, or never.

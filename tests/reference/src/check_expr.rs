@@ -24,17 +24,25 @@ impl Piece {
         cell
     }
 
-    /// Adds an equation of a node: 33 where none solves those through it.
-    fn equate(&mut self, a: Cell, b: Cell, node: NodeNumber) -> Result<(), Finding> {
-        demand(self.graph.equate(a, b), 33, node)
+    /// Adds the equations of a node, all of them before they are judged with
+    /// those before it: 33 where two different formers stand side by side,
+    /// else 39 where a type would contain itself.
+    fn equate(&mut self, equations: &[(Cell, Cell)], node: NodeNumber) -> Result<(), Finding> {
+        demand(equations.iter().all(|&(a, b)| self.graph.join(a, b)), 33, node)?;
+        demand(self.graph.is_finite(), 39, node)
     }
 
-    /// The t of a type that must be power t.
+    /// The t of each of a node's types that must be power t.
+    fn elements_of(&mut self, cells: &[Cell], node: NodeNumber) -> Result<Vec<Cell>, Finding> {
+        let elements: Vec<Cell> = cells.iter().map(|_| self.graph.unknown()).collect();
+        let powers = elements.iter().map(|&element| self.graph.power(element));
+        let equations: Vec<_> = cells.iter().copied().zip(powers).collect();
+        self.equate(&equations, node)?;
+        Ok(elements)
+    }
+
     fn element_of(&mut self, cell: Cell, node: NodeNumber) -> Result<Cell, Finding> {
-        let element = self.graph.unknown();
-        let power = self.graph.power(element);
-        self.equate(cell, power, node)?;
-        Ok(element)
+        Ok(self.elements_of(&[cell], node)?[0])
     }
 }
 
@@ -115,10 +123,10 @@ impl Checker {
         let left = self.expr(&mut piece, left)?;
         let right = self.expr(&mut piece, right)?;
         match relation {
-            Relation::Equal => piece.equate(left, right, node)?,
+            Relation::Equal => piece.equate(&[(left, right)], node)?,
             Relation::Member => {
                 let power = piece.graph.power(left);
-                piece.equate(power, right, node)?;
+                piece.equate(&[(power, right)], node)?;
             }
             Relation::AtMost => both_integers(&mut piece, left, right, node)?,
         }
@@ -225,13 +233,10 @@ impl Checker {
         };
         let count = actuals.len();
         demand(count == 0 || count == meaning.parameters, 32, node)?;
-        let mut elements = Vec::new();
-        for i in 0..meaning.parameters {
-            elements.push(match actuals.get(i) {
-                Some(&actual) => piece.element_of(actual, node)?,
-                None => piece.unknown(),
-            });
-        }
+        let elements = match count {
+            0 => (0..meaning.parameters).map(|_| piece.unknown()).collect(),
+            _ => piece.elements_of(&actuals, node)?,
+        };
         Ok(piece.graph.enter(&meaning.type_, &elements))
     }
 
@@ -244,9 +249,8 @@ impl Checker {
     ) -> Result<Cell, Finding> {
         let members = self.exprs(piece, members)?;
         let element = piece.unknown();
-        for member in members {
-            piece.equate(member, element, node)?;
-        }
+        let equations: Vec<_> = members.into_iter().map(|member| (member, element)).collect();
+        piece.equate(&equations, node)?;
         Ok(piece.graph.power(element))
     }
 
@@ -257,10 +261,7 @@ impl Checker {
         operands: &[Expr],
     ) -> Result<Cell, Finding> {
         let operands = self.exprs(piece, operands)?;
-        let mut elements = Vec::new();
-        for operand in operands {
-            elements.push(piece.element_of(operand, node)?);
-        }
+        let elements = piece.elements_of(&operands, node)?;
         let product = piece.graph.product(elements);
         Ok(piece.graph.power(product))
     }
@@ -278,7 +279,7 @@ impl Checker {
         let result = piece.unknown();
         let pair = piece.graph.product(vec![argument, result]);
         let power = piece.graph.power(pair);
-        piece.equate(function, power, node)?;
+        piece.equate(&[(function, power)], node)?;
         Ok(result)
     }
 
@@ -319,6 +320,5 @@ fn both_integers(
     node: NodeNumber,
 ) -> Result<(), Finding> {
     let integer = piece.graph.integer();
-    piece.equate(left, integer, node)?;
-    piece.equate(right, integer, node)
+    piece.equate(&[(left, integer), (right, integer)], node)
 }

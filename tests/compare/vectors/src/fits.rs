@@ -23,6 +23,23 @@ const PAIRS_DICTIONARY: &[u32] = &[2, 5, 6, 11, 9, 1, 4, 0, 3, 2, 4, 1, 8, 0, 4,
 const TWO_INTEGERS: Entries = &[&[32], &[11, 1, 4, 8], &[20], &[10, 3, 2], &[3, 4], &[1, 5]];
 /// 1 = {1}
 const UNEQUAL: Entries = &[&[31, 1], &[31, 1], &[33, 2], &[21, 1, 3], &[6, 4], &[1, 5]];
+/// f[P] == P × P; g[P] == P × ℙ P; f = g
+const INSIDE: Entries = &[
+    &[30, 4],
+    &[30, 4],
+    &[35, 1, 2],
+    &[5, 8, 1, 4, 3],
+    &[30, 4],
+    &[30, 4],
+    &[36, 6],
+    &[35, 5, 7],
+    &[5, 12, 1, 4, 8],
+    &[30, 8],
+    &[30, 12],
+    &[21, 10, 11],
+    &[6, 12],
+    &[1, 4, 9, 13],
+];
 
 pub fn rows(t: &mut Table) {
     t.group("fits");
@@ -43,4 +60,5 @@ pub fn rows(t: &mut Table) {
     refused(TWO_INTEGERS, &[&[3, 0], &[1]], (41, 2));
     // the check's finding before all
     refused(UNEQUAL, &[], (33, 4));
+    refused(INSIDE, &[&[1]], (39, 12));
 }

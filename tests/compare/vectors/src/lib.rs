@@ -6,6 +6,7 @@
 mod codings;
 mod enumerated;
 mod fits;
+mod inside;
 mod marked;
 mod nodes;
 mod page;
@@ -29,6 +30,7 @@ pub fn table() -> Vec<Vector> {
     reading::rows(&mut table);
     nodes::rows(&mut table);
     typing::rows(&mut table);
+    inside::rows(&mut table);
     states::rows(&mut table);
     fits::rows(&mut table);
     values::rows(&mut table);

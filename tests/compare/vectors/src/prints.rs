@@ -31,4 +31,5 @@ pub const FINDINGS: &[((u32, u32), &[u32], &str)] = &[
     ((0, 0), &[0], "accepted 1 0\n"),
     ((11, 0), &[], "refused 11 at 0\n"),
     ((38, 1024), &[], "refused 38 at 1024\n"),
+    ((39, 12), &[], "refused 39 at 12\n"),
 ];

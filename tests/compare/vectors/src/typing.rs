@@ -263,7 +263,6 @@ fn r19_scope(t: &mut Table) {
 
 fn types_are_finite(t: &mut Table) {
     t.group("types are finite");
-    // f[X] == {} of pairs: f f asks for a type inside itself.
     let id = abbreviation(
         A,
         &[X],
@@ -274,7 +273,7 @@ fn types_are_finite(t: &mut Table) {
     );
     let inner = abbreviation(B, &[], apply(set(vec![]), set(vec![])));
     t.refuses(vec![inner], 34, 5, 0);
-    // x : E with {E} = E has no finite solution: a set in itself.
+    // A ∈ A of a given A: the power of A and A have different formers.
     let in_itself = constraint(member(reference(A), reference(A)));
     t.refuses(vec![given(&[A]), in_itself], 33, 22, 0);
     // A type variable against itself succeeds.
