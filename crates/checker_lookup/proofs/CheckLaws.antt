@@ -9,11 +9,10 @@ use native.Mathlib.Omega.{arith}
 use lib.Dec.{ltb}
 use borrow.Author.Tests.{lt-ltb, le-ltb}
 use Rattle.checker_rules.specs.Conditions.{refuseIf}
-use Rattle.checker_rules.specs.Items.{Items, _⨾_, Refuses, MeetsIn}
+use Rattle.checker_rules.specs.Items.{Items, _⨾_, MeetsIn, Typings, Refuses}
 use Rattle.checker_rules.specs.Rules.{thetaNames}
 use Rattle.checker_rules.specs.Scopes.{Scope}
 use Rattle.checker_rules.specs.Signatures.{Signature, someStroked}
-use Rattle.checker_rules.specs.Unknowns.{Valuation}
 use Rattle.checker_signatures.specs.Rows.{rows as rowsOf, strokedRows}
 use Rattle.checker_pieces.specs.Stage.{Ghost}
 use Rattle.checker_lookup.specs.Thetas.{Idle, RowsOver, RowsPlaced, ThetaChecks}
@@ -25,7 +24,7 @@ unfolding Idle refuseIf
 idle-if b f n e = subst (λ (x : Bool). Idle (refuseIf x f n)) (sym e) tt
 
 -- a refusal, and whatever comes after it
-refused-if : (b : Bool) (f n : ℕ) (rest : Items) (P : Valuation → Type 0) → b ≡ true → Refuses (refuseIf b f n ⨾ rest) P f n
+refused-if : (b : Bool) (f n : ℕ) (rest : Items) (P : Typings) → b ≡ true → Refuses (refuseIf b f n ⨾ rest) P f n
 unfolding Refuses refuseIf
 refused-if b f n rest P e = subst (λ (x : Bool). Refuses (refuseIf x f n ⨾ rest) P f n) (sym e) (inl (refl, refl))
 

@@ -6,8 +6,6 @@ pub mod InstanceLaws
 pub mod ReferenceLaws
 pub mod LookingUp
 pub mod SchemaSetLaws
-pub mod PowerItems
-pub mod ActualLaws
 pub mod AppliedLaws
 pub mod LookingUpApplied
 pub mod ComponentLaws

@@ -7,11 +7,12 @@ use Prim.Native.Nat.{ℕ, suc, _+_, _≤_, _<_}
 use native.Mathlib.Omega.{arith}
 use native.Mathlib.Nat.{eq-zero-or-pos}
 use lib.Dec.{eqb}
+use lib.ListN.{length}
 use borrow.Author.Tests.{eqb-true, eq-eqb}
 use Rattle.reader_rules.specs.Tree.{Exprs, none, more, exprsLength}
 use Rattle.types_rules.specs.Instance.{instance}
 use Rattle.types_rules.specs.Types.{Ty, Term}
-use Rattle.checker_rules.specs.Conditions.{typed, arePowers}
+use Rattle.checker_rules.specs.Conditions.{typed, typesOf, arePowers}
 use Rattle.checker_rules.specs.Dictionary.{Dictionary, Named, unnamed, ofLocal, ofGlobal, nameIn}
 use Rattle.checker_rules.specs.Items.{Items, _⨾_, refusal}
 use Rattle.checker_rules.specs.Rules.{referenceItems}
@@ -21,13 +22,17 @@ use Rattle.checker_dictionary.specs.Holds.{Holds}
 use Rattle.checker_dictionary.specs.Lookup.{parametersAt, typeAt, NameFound}
 use Rattle.checker_signatures.specs.Tables.{Finds}
 use Rattle.checker_signatures.proofs.CallLaws.{found-local, no-local}
+use Rattle.types_cells.specs.Layout.{dictionaryAt}
+use Rattle.types_cells.specs.Store.{run}
 use Rattle.checker_pieces.specs.Piece.{Stops}
+use Rattle.checker_pieces.specs.Building.{Cells}
 use Rattle.checker_pieces.specs.Stage.{Ghost, Ruled}
+use Rattle.checker_pieces.proofs.PowerRows.{rows-length}
+use Rattle.checker_pieces.proofs.RowLaws.{cells-count}
 use Rattle.checker_pieces.proofs.Stages.{rule-stops}
 use Rattle.checker_lookup.specs.Scoped.{SettledAt}
 use Rattle.checker_lookup.specs.References.{Refers, ApplyingAt, AppliedAt, ConsultedWith, GlobalApplied, ReferringWith, RefersWith}
 use Rattle.checker_lookup.proofs.LookingUp.{refused, entry, named, type-reads, recorded-at, consulted}
-use Rattle.types_cells.specs.Layout.{dictionaryAt}
 
 -- The items of a Ref with one actual at least.
 module _ (k : ℕ) where
@@ -61,6 +66,10 @@ unfolding exprsLength
 no-expressions none e = refl
 no-expressions (more a xs) e = absurd (omega arith)
 
+-- As many actuals as cells.
+actuals-count : (s d : List ℕ) (n : ℕ) (G : Ghost) (parts : List ℕ) (m : ℕ) → m ≤ length parts → (xs : Exprs) → Cells s d n G (run parts 0 m) (typesOf xs) → exprsLength xs ≡ m
+actuals-count s d n G parts m l xs K = sym (cells-count s d n G (run parts 0 m) xs K) ∙ rows-length parts m l
+
 -- The rule stops with a refusal.
 pub stopped : (s d : List ℕ) (n top k f : ℕ) (G : Ghost) (own : Items) → own ≡ refusal (suc f) k → Ruled s s d n top k (suc f) 0 n top G own
 stopped s d n top k f G own e =
@@ -72,7 +81,7 @@ module _ (s d : List ℕ) (n top id : ℕ) (parts : List ℕ) (m : ℕ) (B : Con
   applied-unknown z = record {
     low = refl;
     uses = λ q. absurd (omega arith);
-    ruled = λ G S k U D R xs acts cnt. stopped s d n top k 30 G (referenceItems k xs (nameIn id D)) (ap (referenceItems k xs) (found D (R .holds) .absent z) ∙ unknown-name k xs);
+    ruled = λ G S k U D R xs acts. stopped s d n top k 30 G (referenceItems k xs (nameIn id D)) (ap (referenceItems k xs) (found D (R .holds) .absent z) ∙ unknown-name k xs);
   }
 
   module _ (some : e ≡ 0 → ⊥) (p : ℕ) (ep : p ≡ parametersAt d e) where
@@ -80,7 +89,8 @@ module _ (s d : List ℕ) (n top id : ℕ) (parts : List ℕ) (m : ℕ) (B : Con
     applied-count ne = record {
       low = refl;
       uses = λ q. absurd (omega arith);
-      ruled = λ G S k U D R xs acts cnt.
+      ruled = λ G S k U D R xs acts.
+          let cnt = actuals-count s d n G parts m (B .within) xs acts in
           stopped s d n top k 31 G (referenceItems k xs (nameIn id D))
           (ap (referenceItems k xs) (named s d n top id e found some p ep (typeAt d e) refl D R)
           ∙ other-count k xs p (entry s d n top id e found some p ep (typeAt d e) refl D R .type) (let l = B .some in omega (arith, l, cnt)) (λ q. ne (sym q ∙ cnt)));
@@ -92,17 +102,18 @@ module _ (s d : List ℕ) (n top id : ℕ) (parts : List ℕ) (m : ℕ) (B : Con
 
       pub applying-at : ApplyingAt s d n top (dictionaryAt + q) m parts
       unfolding recorded-at
-      applying-at = record { recorded = recorded-at s d n top id e found some m em q eq (B .consulted); expressions = B .expressions; actuals = B .actuals; count = B .count }
+      applying-at = record { recorded = recorded-at s d n top id e found some m em q eq (B .consulted); expressions = B .expressions; actuals = B .actuals; within = B .within }
 
       pub global-applied : (s′ : List ℕ) (number cell n′ top′ : ℕ) → AppliedAt s s′ d n top (dictionaryAt + q) m parts number cell n′ top′ → GlobalApplied s s′ d n top id parts m number cell n′ top′
       global-applied s′ number cell n′ top′ X = record {
         low = X .low;
         uses = X .uses;
-        ruled = λ G S k U D R xs acts cnt.
+        ruled = λ G S k U D R xs acts.
+            let cnt = actuals-count s d n G parts m (B .within) xs acts in
             let g = entry s d n top id e found some m em q eq D R .type in
             subst (Ruled s s′ d n top k number cell n′ top′ G)
             (sym (ap (referenceItems k xs) (named s d n top id e found some m em q eq D R) ∙ same-count k xs m g (let l = B .some in omega (arith, l, cnt)) cnt))
-            (X .ruled G S g (type-reads s d n top id e found some m em q eq D R (S .piece .solved .held .size)) k U xs acts cnt);
+            (X .ruled G S g (type-reads s d n top id e found some m em q eq D R (S .piece .solved .held .size)) k U xs acts);
       }
 
 -- A NAME IN SCOPE.
@@ -111,7 +122,8 @@ module _ (s d w : List ℕ) (n top rows id : ℕ) (parts : List ℕ) (m : ℕ) (
   refers-plain z s′ number cell n′ top′ X = record {
     low = X .low;
     uses = X .uses;
-    ruled = λ G S k U Γ D C xs acts cnt.
+    ruled = λ G S k U Γ D C xs acts.
+        let cnt = actuals-count s d n G parts m (B .within) xs acts in
         subst (λ (x : Exprs). Ruled s s′ d n top k number cell n′ top′ G (referenceItems k x (nameAt id Γ))) (no-expressions xs (cnt ∙ z)) (X .ruled G S k U Γ D C);
   }
 
@@ -123,21 +135,22 @@ module _ (s d w : List ℕ) (n top rows id : ℕ) (parts : List ℕ) (m : ℕ) (
     refers-local l = record {
       low = refl;
       uses = λ q. absurd (omega arith);
-      ruled = λ G S k U Γ D C xs acts cnt.
+      ruled = λ G S k U Γ D C xs acts.
           let x = found-local (SettledAt s d G) D w 0 rows Γ (C .stacked) id r F l in
           let y = positive in
+          let cnt = actuals-count s d n G parts m (B .within) xs acts in
           stopped s d n top k 31 G (referenceItems k xs (nameAt id Γ)) (ap (referenceItems k xs) (x .1) ∙ local-name k xs (x .0) (omega (arith, y, cnt)));
     }
 
     pub consulted-with : ConsultedWith s d n top parts m
     unfolding consulted
-    consulted-with = record { consulted = consulted s d w n top rows id r (B .referring) F; expressions = B .expressions; actuals = B .actuals; count = B .count; some = positive }
+    consulted-with = record { consulted = consulted s d w n top rows id r (B .referring) F; expressions = B .expressions; actuals = B .actuals; within = B .within; some = positive }
 
     pub refers-global : rows ≤ r → (s′ : List ℕ) (number cell n′ top′ : ℕ) → GlobalApplied s s′ d n top id parts m number cell n′ top′ → RefersWith s s′ d w n top rows id parts m number cell n′ top′
     refers-global l s′ number cell n′ top′ X = record {
       low = X .low;
       uses = X .uses;
-      ruled = λ G S k U Γ D C xs acts cnt.
+      ruled = λ G S k U Γ D C xs acts.
           subst (λ (y : Named). Ruled s s′ d n top k number cell n′ top′ G (referenceItems k xs y)) (sym (no-local (SettledAt s d G) D w 0 rows Γ (C .stacked) id r F l))
-          (X .ruled G S k U D (C .recorded) xs acts cnt);
+          (X .ruled G S k U D (C .recorded) xs acts);
     }

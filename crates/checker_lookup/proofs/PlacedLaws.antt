@@ -10,12 +10,11 @@ use lib.ListN.{length, getD, set}
 use lib.Seq.{getD-set-same, getD-set-other}
 use Rattle.reader_rules.specs.Decode.{pairsFrom}
 use Rattle.checker_rules.specs.Dictionary.{Dictionary, Named}
-use Rattle.checker_rules.specs.Items.{Items, skip, _⨾_, refusal, Refuses, MeetsIn}
+use Rattle.checker_rules.specs.Items.{Items, skip, _⨾_, refusal, MeetsIn, Typings, Refuses}
 use Rattle.checker_rules.specs.Rules.{thetaName, thetaNames, typeInScope, thetaSignature}
 use Rattle.checker_rules.specs.Scopes.{Scope, nameAt}
 use Rattle.checker_rules.specs.Signatures.{Signature, noNames, naming, namesOf, someStroked}
 use Rattle.checker_rules.specs.Strokes.{decorate, takes}
-use Rattle.checker_rules.specs.Unknowns.{Valuation}
 use Rattle.types_cells.proofs.Reading.{place-low, heap-length}
 use Rattle.checker_signatures.specs.Rows.{rows as rowsOf, identifiersOf, strokedRows}
 use Rattle.checker_signatures.specs.Carried.{Carries}
@@ -105,7 +104,7 @@ module _ (k : ℕ) (Γ : Scope) where
 
   -- the first that is absent or generic
   pub names-stop : (r : Signature) (j : ℕ) → j < length (namesOf r) → ((i : ℕ) → i < j → Passing (getD (namesOf r) i 0)) → (n : ℕ) →
-      thetaName (takes k (getD (namesOf r) j 0)) n (nameAt (decorate k (getD (namesOf r) j 0)) Γ) ≡ refusal 31 n → (P : Valuation → Type 0) → Refuses (thetaNames n k r Γ) P 31 n
+      thetaName (takes k (getD (namesOf r) j 0)) n (nameAt (decorate k (getD (namesOf r) j 0)) Γ) ≡ refusal 31 n → (P : Typings) → Refuses (thetaNames n k r Γ) P 31 n
   unfolding Refuses thetaNames namesOf Idle
   names-stop noNames j l h n e P = absurd (omega arith)
   names-stop (naming i t s) zero l h n e P = inl (subst (λ (x : Items). Refuses x P 31 n) (sym e) (refl, refl))

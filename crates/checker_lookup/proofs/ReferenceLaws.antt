@@ -1,23 +1,24 @@
 -- References without actuals: a local name's settled type, a recorded type with an unknown for each parameter.
 use mathlib.Core.Path.{_≡_, sym, subst, _∙_}
 use mathlib.Core.List.{List}
-use mathlib.Core.Logic.{_⊎_, inl, inr, ⊎-elim}
+use mathlib.Core.Logic.{⊎-elim}
 use Prim.Native.Nat.{ℕ, suc, _+_, _<_}
 use native.Mathlib.Omega.{arith}
-use Rattle.types_rules.specs.Equations.{In}
+use Rattle.types_rules.specs.Equations.{In, InP}
 use Rattle.types_rules.specs.Instance.{instance}
 use Rattle.types_rules.specs.Types.{Ty, Term}
 use Rattle.checker_rules.specs.Conditions.{freshRow, typed}
 use Rattle.checker_rules.specs.Items.{Items, _⨾_}
-use Rattle.checker_rules.specs.Unknowns.{slot, unknownAt, row}
-use Rattle.types_cells.specs.Settled.{heap, Reads, Entering, Entered}
+use Rattle.checker_rules.specs.Unknowns.{slot, row}
+use Rattle.types_cells.specs.Settled.{lower, heap, Reads, Entering, Entered}
 use Rattle.types_cells.proofs.SettlingLaws.{heap-kept}
-use Rattle.checker_pieces.specs.Stage.{Ghost, Stands, Cell, Uses, Unvisited, SlotOf, Advanced, nodeCells}
+use Rattle.checker_pieces.specs.Stage.{Ghost, Stands, Uses, Unvisited, SlotOf, Advanced, nodeCells}
 use Rattle.checker_pieces.specs.Building.{Introduced}
+use Rattle.checker_pieces.specs.Rows.{RowAsked, Among, RowOf, RowMade}
 use Rattle.checker_pieces.proofs.Walks.{later-on}
-use Rattle.checker_pieces.proofs.Stages.{next, next-stands, placed-cell, introduce-then, room-less, typed-here}
+use Rattle.checker_pieces.proofs.Stages.{next, next-stands, placed-cell, introduce-then, room-less, typed-here, wider-mine}
 use Rattle.checker_lookup.specs.Enlarged.{Enlarged}
-use Rattle.checker_lookup.specs.References.{RowAsked, RowOf, RowMade, InstanceAsked, InstanceOf, TypedAt, RecordedAt, Generic}
+use Rattle.checker_lookup.specs.References.{InstanceAsked, InstanceOf, TypedAt, RecordedAt, Generic}
 use Rattle.checker_lookup.proofs.Standing.{settled-enlarged}
 
 -- Cells more before the items.
@@ -64,8 +65,41 @@ module _ (s s′ d : List ℕ) (n top p : ℕ) (A : Entering s d n p) (N : Enter
             k (U 0 (omega arith)));
       })
 
--- A RECORDED TYPE.
+-- A ROW OF UNKNOWNS 1 to m of node k has the cells n, n + 1, ..: the items `own` made it, with what they ask of it.
+module _ (s s₁ d : List ℕ) (n top n₁ top₁ m k : ℕ) (G : Ghost) (own : Items) (A₀ : Advanced s s₁ d n top n₁ top₁ G own (Among k m)) (few : m < 8) where
+  abbrev pub row-advanced : Advanced s s₁ d n top n₁ top₁ G own (SlotOf k)
+  row-advanced = wider-mine s s₁ d n top n₁ top₁ G own (Among k m) A₀ (SlotOf k) (λ y q. (q .0, let a = q .2 in omega arith, q .3))
+
+  abbrev pub row-ghost : Ghost
+  row-ghost = next s s₁ d n top n₁ top₁ G own (SlotOf k) row-advanced
+
+  pub row-stands : Stands s d n top G → Stands s₁ d n₁ top₁ row-ghost
+  row-stands S = next-stands s s₁ d n top n₁ top₁ G own (SlotOf k) row-advanced (S .few)
+
+  row-unvisited : Unvisited k G → In (slot k 0) (row-ghost .mentioned) → ⊥
+  unfolding slot
+  row-unvisited U i = ⊎-elim (U 0 (omega arith)) (λ q. let a = q .1 in let b = q .3 in omega arith) (A₀ .new (slot k 0) i)
+
+  -- the type of node k, over these unknowns
+  pub row-typed : Stands s d n top G → Unvisited k G → ((i : ℕ) → i < m → InP (slot k (suc i)) (n + i) (A₀ .cells)) → (s₂ : List ℕ) (p cell n′ top′ : ℕ) →
+      InstanceOf s₁ s₂ d n₁ top₁ p n m cell n′ top′ → (g : Ty) → Reads (heap s₁ d) p g → Introduced s s₂ d n top n′ top′ G (own ⨾ typed k (instance (row k 1 m) g)) (SlotOf k) (slot k 0) cell
+  row-typed S U placed s₂ p cell n′ top′ I g Q =
+      let E = I .enlarged in
+      let T = row-stands S in
+      let t = instance (row k 1 m) g in
+      introduce-then s s₁ d n top n₁ top₁ G own (SlotOf k) row-advanced (typed k t) s₂ n′ top′ (slot k 0) cell
+      (introduced-enlarged s₁ s₂ s₂ d n₁ top₁ n′ top′ n′ top′ 32 row-ghost (typed k t) (SlotOf k) (slot k 0) cell E T
+      (typed-here s₂ d n′ top′ row-ghost (E .stands row-ghost T) cell t
+      (I .denoted row-ghost T g Q k (λ i l. placed-cell s s₁ d n top n₁ top₁ G own (SlotOf k) row-advanced (slot k (suc i)) (n + i) (placed i l))) k (row-unvisited U)))
+
+-- A RECORDED TYPE stays where it stands.
+pub reads-kept : (s s₁ d : List ℕ) (p : ℕ) → lower s₁ ≡ lower s → (g : Ty) → Reads (heap s d) p g → Reads (heap s₁ d) p g
+reads-kept s s₁ d p e g Q = subst (λ (h : List ℕ). Reads h p g) (sym (heap-kept s s₁ d e)) Q
+
 module _ (s d : List ℕ) (n top p m : ℕ) (B : RecordedAt s d n top p m) where
+  pub fewer : m < 8
+  fewer = let z = B .few in omega arith
+
   pub row-asked : RowAsked s n m
   row-asked =
       let a = B .room .cells in
@@ -74,7 +108,7 @@ module _ (s d : List ℕ) (n top p m : ℕ) (B : RecordedAt s d n top p m) where
       record { P₀ = B .ghost .equations; L = B .stands .piece .L; solved = B .stands .piece .solved; room = omega arith; fit = omega arith }
 
   module _ (s₁ : List ℕ) (R : RowMade s s₁ n m) where
-    pub row-uses : Uses s s₁ n top (n + m) top m
+    row-uses : Uses s s₁ n top (n + m) top m
     row-uses y Q =
         let a = Q .cells in
         let b = Q .words in
@@ -82,65 +116,27 @@ module _ (s d : List ℕ) (n top p m : ℕ) (B : RecordedAt s d n top p m) where
         let e = R .fit in
         record { cells = omega arith; words = omega arith; fit = omega arith }
 
-    pub fewer : m < 8
-    fewer = let z = B .few in omega arith
-
-    module _ (G : Ghost) (S : Stands s d n top G) (k : ℕ) (U : Unvisited k G) where
-      abbrev pub row-of : RowOf s s₁ d n top (n + m) m k G
-      row-of = R .row d top k G S U fewer
-
-      -- the same, as a part of the node's rule
-      abbrev pub A : Advanced s s₁ d n top (n + m) top G (freshRow k 1 m) (SlotOf k)
-      A = record {
-        equations = row-of .advanced .equations;
-        mentioned = row-of .advanced .mentioned;
-        cells = row-of .advanced .cells;
-        wide = row-of .advanced .wide;
-        goes = row-of .advanced .goes;
-        piece = row-of .advanced .piece;
-        above = row-of .advanced .above;
-        later = row-of .advanced .later;
-        wider = row-of .advanced .wider;
-        new = λ y i. ⊎-elim inl (λ q. inr (q .0, let a = q .2 in let z = fewer in omega arith, q .3)) (row-of .advanced .new y i);
-      }
-
-      abbrev pub G₁ : Ghost
-      G₁ = next s s₁ d n top (n + m) top G (freshRow k 1 m) (SlotOf k) A
-
-      pub row-stands : Stands s₁ d (n + m) top G₁
-      row-stands = next-stands s s₁ d n top (n + m) top G (freshRow k 1 m) (SlotOf k) A (S .few)
-
-      pub row-cell : (i : ℕ) → i < m → Cell s₁ d (n + m) G₁ (n + i) (unknownAt k (suc i))
-      row-cell i l = placed-cell s s₁ d n top (n + m) top G (freshRow k 1 m) (SlotOf k) A (slot k (suc i)) (n + i) (row-of .placed i l)
-
-      pub row-unvisited : In (slot k 0) (G₁ .mentioned) → ⊥
-      unfolding slot
-      row-unvisited i = ⊎-elim (U 0 (omega arith)) (λ q. let a = q .1 in let b = q .3 in omega arith) (row-of .advanced .new (slot k 0) i)
-
-    pub kept : (g : Ty) → Reads (heap s d) p g → Reads (heap s₁ d) p g
-    kept g Q = subst (λ (h : List ℕ). Reads h p g) (sym (heap-kept s s₁ d (R .low))) Q
+    abbrev row-of : (G : Ghost) → Stands s d n top G → (k : ℕ) → Unvisited k G → RowOf s s₁ d n top (n + m) m k G
+    row-of G S k U = R .row d top k G S U fewer
 
     pub instance-asked : InstanceAsked s₁ d (n + m) top p n m
-    instance-asked = record {
-      ghost = G₁ (B .ghost) (B .stands) (B .node) (B .unvisited);
-      stands = row-stands (B .ghost) (B .stands) (B .node) (B .unvisited);
-      type = B .type;
-      reads = kept (B .type) (B .reads);
-      small = B .small;
-      made = omega arith;
-      room = row-uses 32 (room-less s n top (m + 32) nodeCells (let z = B .few in omega arith) (B .room));
-    }
+    instance-asked =
+        let A = row-of (B .ghost) (B .stands) (B .node) (B .unvisited) .advanced in
+        record {
+          ghost = row-ghost s s₁ d n top (n + m) top m (B .node) (B .ghost) (freshRow (B .node) 1 m) A fewer;
+          stands = row-stands s s₁ d n top (n + m) top m (B .node) (B .ghost) (freshRow (B .node) 1 m) A fewer (B .stands);
+          type = B .type;
+          reads = reads-kept s s₁ d p (R .low) (B .type) (B .reads);
+          small = B .small;
+          made = omega arith;
+          room = row-uses 32 (room-less s n top (m + 32) nodeCells (let z = B .few in omega arith) (B .room));
+        }
 
     pub generic : (s₂ : List ℕ) (cell n′ top′ : ℕ) → InstanceOf s₁ s₂ d (n + m) top p n m cell n′ top′ → Generic s s₂ d n top p m cell n′ top′
     generic s₂ cell n′ top′ I = record {
       low = I .enlarged .low ∙ R .low;
       uses = λ y Q. I .enlarged .uses y (row-uses (32 + y) (room-less s n top (m + (32 + y)) (36 + y) (let z = B .few in omega arith) Q));
       typed = λ G S g Q k U.
-          let E = I .enlarged in
-          let H = G₁ G S k U in
-          let T = row-stands G S k U in
-          let t = instance (row k 1 m) g in
-          introduce-then s s₁ d n top (n + m) top G (freshRow k 1 m) (SlotOf k) (A G S k U) (typed k t) s₂ n′ top′ (slot k 0) cell
-          (introduced-enlarged s₁ s₂ s₂ d (n + m) top n′ top′ n′ top′ 32 H (typed k t) (SlotOf k) (slot k 0) cell E T
-          (typed-here s₂ d n′ top′ H (E .stands H T) cell t (I .denoted H T g (kept g Q) k (row-cell G S k U)) k (row-unvisited G S k U)));
+          let X = row-of G S k U in
+          row-typed s s₁ d n top (n + m) top m k G (freshRow k 1 m) (X .advanced) fewer S U (X .placed) s₂ p cell n′ top′ I g (reads-kept s s₁ d p (R .low) g Q);
     }

@@ -6,7 +6,7 @@ use Prim.Native.Nat.{ℕ, _+_, _-_, _*_, _≤_, _<_, _^_}
 use lib.Dec.{ltb}
 use lib.ListN.{length, getD}
 use Rattle.checker_rules.specs.Dictionary.{Dictionary}
-use Rattle.checker_rules.specs.Items.{Items, skip, _⨾_, fresh, equate, select, small, refusal, piece}
+use Rattle.checker_rules.specs.Items.{Items, skip, _⨾_, fresh, equations, equate, select, small, refusal, piece}
 use Rattle.checker_rules.specs.Rules.{thetaName, thetaNames, typeInScope, thetaSignature, thetaItems}
 use Rattle.checker_rules.specs.Conditions.{refuseIf}
 use Rattle.checker_rules.specs.Scopes.{Scope, nameAt, schemaNamed}
@@ -58,6 +58,7 @@ unfoldable pub Idle : Items → Type 0
 Idle skip = Unit {0}
 Idle (a ⨾ b) = Idle a × Idle b
 Idle (fresh x) = ⊥
+Idle (equations n es) = ⊥
 Idle (equate f n a b) = ⊥
 Idle (select n i a x) = ⊥
 Idle (small n a) = ⊥

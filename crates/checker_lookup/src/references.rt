@@ -2,12 +2,14 @@
 use checker_dictionary::lookup::entry_of_name;
 use checker_dictionary::lookup::parameters_of;
 use checker_dictionary::lookup::type_place;
+use checker_pieces::powers::are_powers;
+use checker_pieces::rows::fresh_row;
 use checker_signatures::tables::find;
 use codes::findings;
 use types_cells::area::DICTIONARY;
 use types_solver::entering::Grown;
 use words::word;
-ghost use Rattle.checker_lookup.specs.References.{RowAsked, RowMade, InstanceAsked, InstanceOf, TypedAt, RecordedAt, Generic, Consulted, Global, Referring, Refers, EquatingActuals, ActualsEquated, ApplyingAt, AppliedAt, ConsultedWith, GlobalApplied, ReferringWith, RefersWith};
+ghost use Rattle.checker_lookup.specs.References.{InstanceAsked, InstanceOf, TypedAt, RecordedAt, Generic, Consulted, Global, Referring, Refers, ApplyingAt, AppliedAt, ConsultedWith, GlobalApplied, ReferringWith, RefersWith};
 ghost use Rattle.types_cells.specs.Settled.{Entering};
 
 // A node's rule: number 0, and the cell has the node's type; or a finding at the node. The number of cells, and where their runs end.
@@ -16,18 +18,6 @@ pub struct LookupRuling {
     pub cell: usize,
     pub cells: usize,
     pub top: usize,
-}
-
-// p unknowns one after another: cells n, n + 1, ..
-fn fresh_row(a: &mut [u32], n: usize, p: usize)
-    requires { ⌜ RowAsked (now a) n p ⌝ }
-    ensures { λ _. ⌜ RowMade (now (a .entry)) (now (a .exit)) n p ⌝ }
-{
-    let mut j = 0;
-    while j < p {
-        types_cells::growth::new_unknown(a, n + j);
-        j += 1;
-    }
 }
 
 // The type at p enters as a cell, with the m cells from `first` on for its parameters. The cells are n, and their runs end at `top`.
@@ -127,41 +117,7 @@ pub fn reference(
     global(a, d, n, top, id)
 }
 
-// The actuals from number i of m on, whose cells stand in `parts`, are powers of the unknowns that have the cells from `first` on.
-fn equate_actuals(
-    a: &mut [u32],
-    d: &[u32],
-    n: usize,
-    top: usize,
-    first: usize,
-    parts: &[u32],
-    i: usize,
-    m: usize,
-) -> LookupRuling
-    requires { ⌜ EquatingActuals (now a) (now d) n top first (now parts) i m ⌝ }
-    ensures { λ r. ⌜ ActualsEquated (now (a .entry)) (now (a .exit)) (now (d .entry)) n top first (now (parts .entry)) i m (r .number) (r .cells) (r .top) ⌝ }
-{
-    if m <= i {
-        return LookupRuling {
-            number: 0,
-            cell: 0,
-            cells: n,
-            top: top,
-        };
-    }
-    checker_pieces::formers::power(a, n, top, first);
-    if checker_pieces::equal(a, d, n + 1, word(parts, i), n) {
-        return equate_actuals(a, d, n + 1, top + 1, first + 1, parts, i + 1, m);
-    }
-    LookupRuling {
-        number: findings::UNEQUAL,
-        cell: 0,
-        cells: n + 1,
-        top: top + 1,
-    }
-}
-
-// The recorded type at p with m actuals, whose cells stand in `parts`, as the type of a node.
+// The recorded type at p with m actuals, whose cells stand in `parts`, as the type of a node: the actuals are powers of the unknowns for its parameters.
 fn applied(
     a: &mut [u32],
     d: &[u32],
@@ -174,13 +130,16 @@ fn applied(
     requires { ⌜ ApplyingAt (now a) (now d) n top p m (now parts) ⌝ }
     ensures { λ r. ⌜ AppliedAt (now (a .entry)) (now (a .exit)) (now (d .entry)) n top p m (now (parts .entry)) (r .number) (r .cell) (r .cells) (r .top) ⌝ }
 {
-    fresh_row(a, n, m);
-    let q = equate_actuals(a, d, n + m, top, n, parts, 0, m);
-    let number = q.number;
+    let number = are_powers(a, d, n, top, parts, m);
     if number != 0 {
-        return q;
+        return LookupRuling {
+            number: number,
+            cell: 0,
+            cells: n,
+            top: top,
+        };
     }
-    let g = instance(a, d, q.cells, q.top, p, n, m);
+    let g = instance(a, d, n + m + m, top + m, p, n, m);
     LookupRuling {
         number: 0,
         cell: g.cell,

@@ -4,7 +4,7 @@ use Rattle.checker_lookup.proofs.references.generic.Statement.{statemen
 use Rattle.checker_lookup.proofs.references.generic.Tie as tie
 use Rattle.checker_lookup.proofs.references.generic.Reads as reads
 use Rattle.checker_lookup.proofs.references.generic.Lts as lts
-use Rattle.checker_lookup.proofs.references.fresh_row.Reads as fresh-row-reads
+use Rattle.checker_pieces.proofs.rows.fresh_row.Reads as fresh-row-reads
 use Rattle.checker_lookup.proofs.references.instance.Reads as instance-reads
 
 -- src/references.rt:60:5
