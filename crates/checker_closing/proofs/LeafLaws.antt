@@ -23,7 +23,7 @@ use Rattle.checker_pieces.specs.Building.{Working}
 use Rattle.checker_pieces.specs.Piece.{Steady, Walked, Settled}
 use Rattle.checker_pieces.specs.Stage.{Comparing}
 use Rattle.checker_pieces.proofs.Between.{walked-skip, walked-then}
-use Rattle.checker_pieces.proofs.Stages.{cells-older}
+use Rattle.checker_pieces.proofs.Stages.{cells-older, one-comparing}
 use Rattle.checker_kinds.specs.Equations.{Related, equalityItems, membershipItems, comparisonItems}
 use Rattle.checker_includes.specs.Components.{Placed}
 use Rattle.checker_includes.specs.Storing.{OverlapTold}
@@ -31,13 +31,10 @@ use Rattle.checker_contracts.specs.Visits.{globalsIf}
 use Rattle.checker_closing.specs.Leaves.{relationItems, FitsTold, NewIfTold}
 
 -- RELATIONS, by kind.
-pub comparing : (s d : List ℕ) (n top x y : ℕ) → Working s d n top 1 (x ∷ y ∷ []) → Comparing s d n x y
-comparing s d n top x y W = record {
-  top = top;
-  ready = record { ghost = W .ghost; stands = W .stands };
-  left = cells-older s d n (W .ghost) (x ∷ y ∷ []) (W .terms) (W .cells) x (inl refl);
-  right = cells-older s d n (W .ghost) (x ∷ y ∷ []) (W .terms) (W .cells) y (inr (inl refl));
-}
+pub comparing : (s d : List ℕ) (n top x y : ℕ) → Working s d n top 1 (x ∷ y ∷ []) → Comparing s d n (x ∷ []) y 0
+comparing s d n top x y W =
+    let older = cells-older s d n (W .ghost) (x ∷ y ∷ []) (W .terms) (W .cells) in
+    one-comparing s d n x y top (W .ghost) (W .stands) (older x (inl refl)) (older y (inr (inl refl)))
 
 module _ (s s′ d : List ℕ) (n top x y number n′ q : ℕ) where
   pub as-equality : q ≡ 21 → Related s s′ d n top x y number n′ equalityItems → Related s s′ d n top x y number n′ (relationItems q)

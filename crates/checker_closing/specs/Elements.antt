@@ -25,9 +25,9 @@ pub data ClosedTold (s s′ d w w′ : List ℕ) (n c at free number size end : 
 -- The type of the elements: cell n, where the type of cell c is the power of it.
 pub record ElementAsk (s d w : List ℕ) (n top c at end free : ℕ) : Type 0 where
   pub working : Working s d n top 2 (c ∷ [])
-  pub closing : (s′ : List ℕ) → Powered s s′ d n top c true → ClosedAsk s′ d w (n + 2) n at end free
+  pub closing : (s′ : List ℕ) → Powered s s′ d n top c 0 → ClosedAsk s′ d w (n + 2) n at end free
 
 pub data ElementTold (s s′ d w w′ : List ℕ) (n top c at free number size end : ℕ) : Type 0 where
-  no-power : number ≡ 33 → w′ ≡ w → Powered s s′ d n top c false → ElementTold s s′ d w w′ n top c at free number size end
-  power : (s₁ : List ℕ) → Powered s s₁ d n top c true → ClosedTold s₁ s′ d w w′ (n + 2) n at free number size end →
+  no-power : (number ≡ 0 → ⊥) → w′ ≡ w → Powered s s′ d n top c number → ElementTold s s′ d w w′ n top c at free number size end
+  power : (s₁ : List ℕ) → Powered s s₁ d n top c 0 → ClosedTold s₁ s′ d w w′ (n + 2) n at free number size end →
       ElementTold s s′ d w w′ n top c at free number size end

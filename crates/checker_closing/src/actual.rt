@@ -1,4 +1,4 @@
-// An actual of an Include after its visit: 33 and 34 of the set; the place of its elements' type goes to `places`.
+// An actual of an Include after its visit: 33, 39 and 34 of the set; the place of its elements' type goes to `places`.
 use crate::elements::element_type;
 use crate::results::Lined;
 use crate::results::Visit;

@@ -1,4 +1,4 @@
-// A Decl after the visit of its set: 33 and 34 of the set, 36 in two cases, 38 of the type; then its identifiers enter the table, with 38 of the signature.
+// A Decl after the visit of its set: 33, 39 and 34 of the set, 36 in two cases, 38 of the type; then its identifiers enter the table, with 38 of the signature.
 use crate::elements::Element;
 use crate::elements::element_type;
 use crate::leaves::declared_fits;

@@ -8,7 +8,7 @@ ghost use mathlib.Core.Path.{_≡_};
 ghost use Rattle.checker_includes.specs.Storing.{StoreAsk};
 ghost use Rattle.checker_closing.specs.Elements.{TypeKept, ClosedAsk, ClosedTold, ElementAsk, ElementTold};
 
-// Number 33: the set's type is no power; 34: its piece has several solutions. Otherwise 0, the size of the elements' type, at most 33, and where its words end.
+// Number 33 or 39: the set's type is no power; 34: its piece has several solutions. Otherwise 0, the size of the elements' type, at most 33, and where its words end.
 pub struct Element {
     pub number: u32,
     pub size: usize,
@@ -68,7 +68,7 @@ fn closed_type(
     kept_type(a, d, w, n, c, at, end, free)
 }
 
-// The type of the elements of the set whose type is cell c of n: 33, then 34.
+// The type of the elements of the set whose type is cell c of n: 33 or 39, then 34.
 pub fn element_type(
     a: &mut [u32],
     d: &[u32],
@@ -83,8 +83,9 @@ pub fn element_type(
     requires { ⌜ ElementAsk (now a) (now d) (now w) n top c at end free ⌝ }
     ensures { λ r. ⌜ ElementTold (now (a .entry)) (now (a .exit)) (now (d .entry)) (now (w .entry)) (now (w .exit)) n top c at free (r .number) (r .size) (r .end) ⌝ }
 {
-    if !is_power(a, d, n, top, c) {
-        return refused(findings::UNEQUAL);
+    let number = is_power(a, d, n, top, c);
+    if number != 0 {
+        return refused(number);
     }
     closed_type(a, d, w, n + 2, n, at, end, free)
 }

@@ -1,6 +1,6 @@
--- ACTUALS of the Include at node k, from number j on: each a closed piece, and a power (33, 34 at the Include). The places of their element types go to a row.
+-- ACTUALS of the Include at node k, from number j on: each a closed piece, and a power (33, 34, 39 at the Include). The places of their element types go to a row.
 use mathlib.Core.Path.{_≡_, refl, sym, ap, subst, _∙_}
-use mathlib.Core.Bool.{Bool, true, false}
+use mathlib.Core.Bool.{true, false}
 use mathlib.Core.List.{List, [], _∷_, _++_}
 use mathlib.Core.Logic.{_⊎_, inl, inr, ⊎-elim}
 use Prim.Native.Nat.{ℕ, zero, suc, _+_, _*_, _-_, _≤_, _<_, _^_}
@@ -25,7 +25,6 @@ use Rattle.types_cells.specs.Settled.{heap, Reads}
 use Rattle.types_cells.proofs.Growing.{lt-or-ge}
 use Rattle.types_instances.specs.Clean.{Clean}
 use Rattle.checker_pieces.specs.Piece.{Steady, Walked, Settled}
-use Rattle.checker_pieces.specs.Rows.{SlotsFrom}
 use Rattle.checker_pieces.specs.Stage.{Ghost}
 use Rattle.checker_pieces.specs.Building.{Powered, Working}
 use Rattle.checker_pieces.specs.Closed.{Closing, Closed, Shut, Sizing}
@@ -37,7 +36,7 @@ use Rattle.checker_contracts.specs.Room.{framesAt, nodeTypeWords}
 use Rattle.checker_contracts.specs.Visits.{Owned, Fresh, EachOnce, idle, Spared}
 use Rattle.checker_contracts.specs.Expressions.{ExprAsk, ExprDone}
 use Rattle.checker_contracts.specs.Predicates.{Walking}
-use Rattle.checker_contracts.specs.Includes.{ActualOwned, ActualFresh, ActualsAsk, ActualAt, ActualsWent, ActualsDone}
+use Rattle.checker_contracts.specs.Includes.{SlotsFrom, ActualOwned, ActualFresh, ActualsAsk, ActualAt, ActualsWent, ActualsDone}
 use Rattle.checker_contracts.proofs.Nodes.{in-left, in-right, once-left, once-right, owned-left, owned-right, owned-apart, slots-same, fresh-left}
 use Rattle.checker_contracts.proofs.Rooms.{crowd-part}
 use Rattle.checker_contracts.proofs.Scopes.{spared-refl, spared-on, stored-on, stored-reads, scoped-stored, scoped-spared, scoped-walked}
@@ -132,42 +131,42 @@ module _ (s d w : List ℕ) (stack at free k j : ℕ) (a : Expr) (xs : Exprs) (p
           element-working s d w stack at free a k n (K .size) (K .few) apart numbered s₁ w₁ number place cell c₁ top₁ at₁ A (K .scope) (K .dictionary) (K .before) (K .known) (K .steady)
           (K .scoped) fresh₀ fine (after-room s s₁ w stack c₁ top₁ at free (actual-ask .height) (length l) (actual-ask .visiting .room) (A .areas fine .uses))
 
-      module _ (s₂ : List ℕ) (b : Bool) (P : Powered s₁ s₂ d c₁ top₁ cell b) where
-        pub actual-unequal : b ≡ false → (at′ : ℕ) → ActualsDone s s₂ d w w₁ stack at free k j (more a xs) places places 33 k at′
+      module _ (s₂ : List ℕ) (number₂ : ℕ) (P : Powered s₁ s₂ d c₁ top₁ cell number₂) where
+        pub actual-unequal : (number₂ ≡ 0 → ⊥) → (at′ : ℕ) → ActualsDone s s₂ d w w₁ stack at free k j (more a xs) places places number₂ k at′
         actual-unequal e at′ =
-            refuses s₂ w₁ places 33 k at′ (A .spared) refl (λ z. omega arith)
-            (λ Γ D H U S C F. element-unequal s d w stack at free a k n (K .size) (K .few) apart numbered s₁ w₁ number place cell c₁ top₁ at₁ A Γ D H U S C F fine s₂ b P e)
+            refuses s₂ w₁ places number₂ k at′ (A .spared) refl e
+            (λ Γ D H U S C F. element-unequal s d w stack at free a k n (K .size) (K .few) apart numbered s₁ w₁ number place cell c₁ top₁ at₁ A Γ D H U S C F fine s₂ number₂ P e)
 
-        module _ (yes : b ≡ true) where
+        module _ (yes : number₂ ≡ 0) where
           pub actual-closing : Closing s₂ d (c₁ + 2)
           actual-closing =
               element-closing s d w stack at free a k n (K .size) (K .few) apart numbered s₁ w₁ number place cell c₁ top₁ at₁ A (K .scope) (K .dictionary) (K .before) (K .known) (K .steady)
-              (K .scoped) fresh₀ fine s₂ b P yes
+              (K .scoped) fresh₀ fine s₂ number₂ P yes
 
           module _ (s₃ : List ℕ) where
             pub actual-several : Closed s₂ s₃ d (c₁ + 2) false → (at′ : ℕ) → ActualsDone s s₃ d w w₁ stack at free k j (more a xs) places places 34 k at′
             actual-several Z at′ =
                 refuses s₃ w₁ places 34 k at′ (A .spared) refl (λ z. omega arith)
-                (λ Γ D H U S C F. element-several s d w stack at free a k n (K .size) (K .few) apart numbered s₁ w₁ number place cell c₁ top₁ at₁ A Γ D H U S C F fine s₂ b P yes s₃ Z)
+                (λ Γ D H U S C F. element-several s d w stack at free a k n (K .size) (K .few) apart numbered s₁ w₁ number place cell c₁ top₁ at₁ A Γ D H U S C F fine s₂ number₂ P yes s₃ Z)
 
             module _ (Z : Closed s₂ s₃ d (c₁ + 2) true) where
               pub actual-sizing : Sizing s₃ d (c₁ + 2) c₁
               actual-sizing =
                   element-sizing s d w stack at free a k n (K .size) (K .few) apart numbered s₁ w₁ number place cell c₁ top₁ at₁ A (K .scope) (K .dictionary) (K .before) (K .known) (K .steady)
-                  (K .scoped) fresh₀ fine s₂ b P yes s₃ Z
+                  (K .scoped) fresh₀ fine s₂ number₂ P yes s₃ Z
 
               pub actual-size : length s₃ ≡ areaSize
               actual-size =
                   element-size s d w stack at free a k n (K .size) (K .few) apart numbered s₁ w₁ number place cell c₁ top₁ at₁ A (K .scope) (K .dictionary) (K .before) (K .known) (K .steady)
-                  (K .scoped) fresh₀ fine s₂ b P yes s₃ Z
+                  (K .scoped) fresh₀ fine s₂ number₂ P yes s₃ Z
 
               pub actual-clean : Clean s₃ at₁
               actual-clean =
-                  element-clean s d w stack at free a k n (K .size) (K .few) apart numbered s₁ w₁ number place cell c₁ top₁ at₁ A fine s₂ b P s₃ true Z (actual-size ∙ sym (K .size)) (low .0)
+                  element-clean s d w stack at free a k n (K .size) (K .few) apart numbered s₁ w₁ number place cell c₁ top₁ at₁ A fine s₂ number₂ P s₃ true Z (actual-size ∙ sym (K .size)) (low .0)
 
               pub actual-gap : (i : ℕ) → suc i ≡ at → getD s₃ i 0 ≡ 0
               actual-gap =
-                  element-gap s d w stack at free a k n (K .size) (K .few) apart numbered s₁ w₁ number place cell c₁ top₁ at₁ A fine s₂ b P s₃ true Z (actual-size ∙ sym (K .size)) (low .0)
+                  element-gap s d w stack at free a k n (K .size) (K .few) apart numbered s₁ w₁ number place cell c₁ top₁ at₁ A fine s₂ number₂ P s₃ true Z (actual-size ∙ sym (K .size)) (low .0)
                   (K .clean)
 
               pub actual-room : (1 ≤ at) × (at ≤ at₁) × (at₁ + nodeTypeWords ≤ 38000) × (free + typeWords ≤ length w₁) × (free < 2 ^ 32)
@@ -196,7 +195,7 @@ module _ (s d w : List ℕ) (stack at free k j : ℕ) (a : Expr) (xs : Exprs) (p
 
                 stored₄ : Stored s s₄ at e
                 stored₄ =
-                    element-stored s d w stack at free a k n (K .size) (K .few) apart numbered s₁ w₁ number place cell c₁ top₁ at₁ A fine s₂ b P s₃ true Z (actual-size ∙ sym (K .size)) (low .0)
+                    element-stored s d w stack at free a k n (K .size) (K .few) apart numbered s₁ w₁ number place cell c₁ top₁ at₁ A fine s₂ number₂ P s₃ true Z (actual-size ∙ sym (K .size)) (low .0)
                     s₄ e stored
 
                 spared₂ : Spared w w₂ stack free
@@ -209,7 +208,7 @@ module _ (s d w : List ℕ) (stack at free k j : ℕ) (a : Expr) (xs : Exprs) (p
                 module _ (Γ : Scope) (D : Dictionary) (H : Items) (U : List ℕ) (S : Steady H U) (C : Scoped s d w stack (idle H U) Γ D) (F : ElementNew a k n U) where
                   abbrev E : Element s₄ d H (own Γ) U (ElementOwned a k n) k n at Any
                   E =
-                      element-done s d w stack at free a k n (K .size) (K .few) apart numbered s₁ w₁ number place cell c₁ top₁ at₁ A fine s₂ b P yes s₃ Z sized s₄ at Any (λ G S₀. tt) stands Γ D H U
+                      element-done s d w stack at free a k n (K .size) (K .few) apart numbered s₁ w₁ number place cell c₁ top₁ at₁ A fine s₂ number₂ P yes s₃ Z sized s₄ at Any (λ G S₀. tt) stands Γ D H U
                       S C F
 
                   scoped₁ : Scoped s₄ d w₂ stack (idle (H ⨾ own Γ) (E .unknowns)) Γ D

@@ -1,4 +1,4 @@
--- A DECL, as a line alone: its set is a closed piece and a power (33, 34); its identifiers get the element type (36, 38).
+-- A DECL, as a line alone: its set is a closed piece and a power (33, 34, 39); its identifiers get the element type (36, 38).
 use mathlib.Core.Path.{_≡_, refl, sym, ap, subst, _∙_}
 use mathlib.Core.Bool.{Bool, true, false}
 use mathlib.Core.List.{List, [], _∷_, _++_}
@@ -180,20 +180,20 @@ module _ (s d w : List ℕ) (stack base m at free n : ℕ) (a : Expr) (is : List
           (K .steady) (K .scoped) (decl-new (K .known) (K .fresh)) fine
           (after-room s s₁ w stack c₁ top₁ at free (decl-ask .height) (length l) I (A .areas fine .uses))
 
-      module _ (s₂ : List ℕ) (b : Bool) (P : Powered s₁ s₂ d c₁ top₁ cell b) where
-        pub decl-unequal : b ≡ false → (m′ at′ : ℕ) → LinesDone s s₂ d w w₁ stack base m at free line global 33 n m′ at′
+      module _ (s₂ : List ℕ) (number₂ : ℕ) (P : Powered s₁ s₂ d c₁ top₁ cell number₂) where
+        pub decl-unequal : (number₂ ≡ 0 → ⊥) → (m′ at′ : ℕ) → LinesDone s s₂ d w w₁ stack base m at free line global number₂ n m′ at′
         unfolding listed after AllPass
         decl-unequal e m′ at′ =
-            refuses s₂ w₁ 33 n m′ at′ spared₁ (λ z. omega arith)
+            refuses s₂ w₁ number₂ n m′ at′ spared₁ e
             (λ Γ D H U S C F r J.
-            refuses-at (order Γ (globalsIf global D) r) H 0 33 n tt
-            (element-unequal s d w stack at free a n 0 (K .size) (K .few) decl-apart (omega arith) s₁ w₁ number place cell c₁ top₁ at₁ A Γ D H U S C F fine s₂ b P e))
+            refuses-at (order Γ (globalsIf global D) r) H 0 number₂ n tt
+            (element-unequal s d w stack at free a n 0 (K .size) (K .few) decl-apart (omega arith) s₁ w₁ number place cell c₁ top₁ at₁ A Γ D H U S C F fine s₂ number₂ P e))
 
-        module _ (yes : b ≡ true) where
+        module _ (yes : number₂ ≡ 0) where
           pub decl-closing : Closing s₂ d (c₁ + 2)
           decl-closing =
               element-closing s d w stack at free a n 0 (K .size) (K .few) decl-apart (omega arith) s₁ w₁ number place cell c₁ top₁ at₁ A (K .scope) (K .dictionary) (K .before) (K .known)
-              (K .steady) (K .scoped) (decl-new (K .known) (K .fresh)) fine s₂ b P yes
+              (K .steady) (K .scoped) (decl-new (K .known) (K .fresh)) fine s₂ number₂ P yes
 
           module _ (s₃ : List ℕ) where
             pub decl-several : Closed s₂ s₃ d (c₁ + 2) false → (m′ at′ : ℕ) → LinesDone s s₃ d w w₁ stack base m at free line global 34 n m′ at′
@@ -202,27 +202,27 @@ module _ (s d w : List ℕ) (stack base m at free n : ℕ) (a : Expr) (is : List
                 refuses s₃ w₁ 34 n m′ at′ spared₁ (λ z. omega arith)
                 (λ Γ D H U S C F r J.
                 refuses-at (order Γ (globalsIf global D) r) H 0 34 n tt
-                (element-several s d w stack at free a n 0 (K .size) (K .few) decl-apart (omega arith) s₁ w₁ number place cell c₁ top₁ at₁ A Γ D H U S C F fine s₂ b P yes s₃ Z))
+                (element-several s d w stack at free a n 0 (K .size) (K .few) decl-apart (omega arith) s₁ w₁ number place cell c₁ top₁ at₁ A Γ D H U S C F fine s₂ number₂ P yes s₃ Z))
 
             module _ (Z : Closed s₂ s₃ d (c₁ + 2) true) where
               pub decl-sizing : Sizing s₃ d (c₁ + 2) c₁
               decl-sizing =
                   element-sizing s d w stack at free a n 0 (K .size) (K .few) decl-apart (omega arith) s₁ w₁ number place cell c₁ top₁ at₁ A (K .scope) (K .dictionary) (K .before) (K .known)
-                  (K .steady) (K .scoped) (decl-new (K .known) (K .fresh)) fine s₂ b P yes s₃ Z
+                  (K .steady) (K .scoped) (decl-new (K .known) (K .fresh)) fine s₂ number₂ P yes s₃ Z
 
               pub decl-size : length s₃ ≡ areaSize
               decl-size =
                   element-size s d w stack at free a n 0 (K .size) (K .few) decl-apart (omega arith) s₁ w₁ number place cell c₁ top₁ at₁ A (K .scope) (K .dictionary) (K .before) (K .known)
-                  (K .steady) (K .scoped) (decl-new (K .known) (K .fresh)) fine s₂ b P yes s₃ Z
+                  (K .steady) (K .scoped) (decl-new (K .known) (K .fresh)) fine s₂ number₂ P yes s₃ Z
 
               pub decl-clean : Clean s₃ at₁
               decl-clean =
-                  element-clean s d w stack at free a n 0 (K .size) (K .few) decl-apart (omega arith) s₁ w₁ number place cell c₁ top₁ at₁ A fine s₂ b P s₃ true Z
+                  element-clean s d w stack at free a n 0 (K .size) (K .few) decl-apart (omega arith) s₁ w₁ number place cell c₁ top₁ at₁ A fine s₂ number₂ P s₃ true Z
                   (decl-size ∙ sym (K .size)) (decl-low .0)
 
               pub decl-gap : (i : ℕ) → suc i ≡ at → getD s₃ i 0 ≡ 0
               decl-gap =
-                  element-gap s d w stack at free a n 0 (K .size) (K .few) decl-apart (omega arith) s₁ w₁ number place cell c₁ top₁ at₁ A fine s₂ b P s₃ true Z
+                  element-gap s d w stack at free a n 0 (K .size) (K .few) decl-apart (omega arith) s₁ w₁ number place cell c₁ top₁ at₁ A fine s₂ number₂ P s₃ true Z
                   (decl-size ∙ sym (K .size)) (decl-low .0) (K .clean)
 
               -- The pool stays within its part.
@@ -254,7 +254,7 @@ module _ (s d w : List ℕ) (stack base m at free n : ℕ) (a : Expr) (is : List
 
                 stored₄ : Stored s s₄ at e
                 stored₄ =
-                    element-stored s d w stack at free a n 0 (K .size) (K .few) decl-apart (omega arith) s₁ w₁ number place cell c₁ top₁ at₁ A fine s₂ b P s₃ true Z
+                    element-stored s d w stack at free a n 0 (K .size) (K .few) decl-apart (omega arith) s₁ w₁ number place cell c₁ top₁ at₁ A fine s₂ number₂ P s₃ true Z
                     (decl-size ∙ sym (K .size)) (decl-low .0) s₄ e stored
 
                 spared₂ : Spared w w₂ stack free
@@ -274,7 +274,7 @@ module _ (s d w : List ℕ) (stack base m at free n : ℕ) (a : Expr) (is : List
 
                   abbrev E : Element s₄ d H c U (ElementOwned a n 0) n 0 at HasSize
                   E =
-                      element-done s d w stack at free a n 0 (K .size) (K .few) decl-apart (omega arith) s₁ w₁ number place cell c₁ top₁ at₁ A fine s₂ b P yes s₃ Z sized s₄ at HasSize measured
+                      element-done s d w stack at free a n 0 (K .size) (K .few) decl-apart (omega arith) s₁ w₁ number place cell c₁ top₁ at₁ A fine s₂ number₂ P yes s₃ Z sized s₄ at HasSize measured
                       stands Γ D H U S C F
 
                   over : Each (λ y. In y (E .unknowns)) t

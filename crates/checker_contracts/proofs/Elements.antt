@@ -103,17 +103,17 @@ module _ (s d w : List ℕ) (rows at free : ℕ) (a : Expr) (n k : ℕ) (big : l
       pub element-working : Room s₁ c₁ top₁ 2 → Working s₁ d c₁ top₁ 2 (cell ∷ [])
       element-working R = record { ghost = G₁; stands = stands₁; terms = cons (typeOf a) nil; cells = one-cell s₁ d c₁ G₁ cell (typeOf a) cell₁; room = R }
 
-      module _ (s₂ : List ℕ) (b : Bool) (P : Powered s₁ s₂ d c₁ top₁ cell b) where
-        -- 33
-        pub element-unequal : b ≡ false → Refuses (piece n (elementItems a n k Γ)) (MeetsIn H) 33 n
+      module _ (s₂ : List ℕ) (number₂ : ℕ) (P : Powered s₁ s₂ d c₁ top₁ cell number₂) where
+        -- 33, 39
+        pub element-unequal : (number₂ ≡ 0 → ⊥) → Refuses (piece n (elementItems a n k Γ)) (MeetsIn H) number₂ n
         element-unequal e =
-            piece-refused H n (elementItems a n k Γ) 33 n
-            (stop-then s s₁ d 0 firstRun c₁ top₁ (idle H U) own (Owned l) (first .advanced) (isPower n k a) 33 n (P .stops e G₁ stands₁ (slot n k) new₁ 33 n (typeOf a) cell₁))
+            piece-refused H n (elementItems a n k Γ) number₂ n
+            (stop-then s s₁ d 0 firstRun c₁ top₁ (idle H U) own (Owned l) (first .advanced) (isPower n k a) number₂ n (P .stops e G₁ stands₁ (slot n k) new₁ n (typeOf a) cell₁))
 
-        module _ (yes : b ≡ true) where
+        module _ (yes : number₂ ≡ 0) where
           pub both : Introduced s s₂ d 0 firstRun (c₁ + 2) (top₁ + 1) (idle H U) (elementItems a n k Γ) Mine (slot n k) c₁
           both =
-              let Q = P .goes yes G₁ stands₁ (slot n k) new₁ 33 n (typeOf a) cell₁ in
+              let Q = P .goes yes G₁ stands₁ (slot n k) new₁ n (typeOf a) cell₁ in
               introduce-then s s₁ d 0 firstRun c₁ top₁ (idle H U) own Mine (wider-mine s s₁ d 0 firstRun c₁ top₁ (idle H U) own (Owned l) (first .advanced) Mine (λ y o. inl o)) (isPower n k a) s₂
               (c₁ + 2) (top₁ + 1) (slot n k) c₁
               (introduced-wider s₁ s₂ d c₁ top₁ (c₁ + 2) (top₁ + 1) G₁ (isPower n k a) (λ y. y ≡ slot n k) (Q .advanced) Mine (λ y o. inr o) (slot n k) c₁ (Q .placed))
@@ -159,36 +159,36 @@ module _ (s d w : List ℕ) (rows at free : ℕ) (a : Expr) (n k : ℕ) (big : l
               over-mentioned = all-in (λ y z. In y (both .advanced .mentioned) × (z < c₁ + 2)) (both .advanced .cells) (slot n k) c₁ (both .advanced .piece .tracked) (both .placed) .0
 
   -- THE TYPE IS STORED at `at`.
-  module _ (fine : number ≡ 0) (s₂ : List ℕ) (b : Bool) (P : Powered s₁ s₂ d c₁ top₁ cell b) (yes : b ≡ true) (s₃ : List ℕ) (Z : Closed s₂ s₃ d (c₁ + 2) true)
+  module _ (fine : number ≡ 0) (s₂ : List ℕ) (number₂ : ℕ) (P : Powered s₁ s₂ d c₁ top₁ cell number₂) (yes : number₂ ≡ 0) (s₃ : List ℕ) (Z : Closed s₂ s₃ d (c₁ + 2) true)
       (sized : SizedExpr a) (s₄ : List ℕ) (p : ℕ) (Q : Ty → Type 0) (measured : (G : Ghost) (S : Shut s₃ d (c₁ + 2) G) → Q (S .type c₁))
       (stands : (G : Ghost) (S : Shut s₃ d (c₁ + 2) G) → WellFormed (S .type c₁) → (h : Ty) × Reads (heap s₄ d) p h × StandsFor h (S .type c₁)) where
     pub element-done : (Γ : Scope) (D : Dictionary) (H : Items) (U : List ℕ) → Steady H U → Scoped s d w rows (idle H U) Γ D → ElementNew a n k U →
         Element s₄ d H (piece n (elementItems a n k Γ)) U Mine n k p Q
     unfolding under
     element-done Γ D H U S C F =
-        let W = element-walked Γ D H U S C F fine s₂ b P yes s₃ Z in
-        let K = shut Γ D H U S C F fine s₂ b P yes s₃ Z in
-        let t = type-settled Γ D H U S C F fine s₂ b P yes s₃ Z in
+        let W = element-walked Γ D H U S C F fine s₂ number₂ P yes s₃ Z in
+        let K = shut Γ D H U S C F fine s₂ number₂ P yes s₃ Z in
+        let t = type-settled Γ D H U S C F fine s₂ number₂ P yes s₃ Z in
         let τ = W .steady .some in
         let f : WellFormed (K .type c₁) =
         subst WellFormed (t (τ .0) (τ .1))
-        (settled-formed s d w rows a (ElementNew a n k) Γ D n k (λ H′ U′ S′ C′ F′. element-walked Γ D H′ U′ S′ C′ F′ fine s₂ b P yes s₃ Z .goes) sized H U C F (τ .0) (τ .1))
+        (settled-formed s d w rows a (ElementNew a n k) Γ D n k (λ H′ U′ S′ C′ F′. element-walked Γ D H′ U′ S′ C′ F′ fine s₂ number₂ P yes s₃ Z .goes) sized H U C F (τ .0) (τ .1))
         in
-        let q = stands (G₃ Γ D H U S C F fine s₂ b P yes s₃ Z) K f in
+        let q = stands (G₃ Γ D H U S C F fine s₂ number₂ P yes s₃ Z) K f in
         record {
-          unknowns = both Γ D H U S C F fine s₂ b P yes .advanced .mentioned;
+          unknowns = both Γ D H U S C F fine s₂ number₂ P yes .advanced .mentioned;
           walked = W;
           type = K .type c₁;
           settled = t;
-          over = over-mentioned Γ D H U S C F fine s₂ b P yes s₃ Z;
+          over = over-mentioned Γ D H U S C F fine s₂ number₂ P yes s₃ Z;
           shown = q .0;
           reads = q .1;
           alike = q .2;
-          sized = measured (G₃ Γ D H U S C F fine s₂ b P yes s₃ Z) K;
+          sized = measured (G₃ Γ D H U S C F fine s₂ number₂ P yes s₃ Z) K;
         }
 
   -- THE AREAS: the pool is as it was below `at`; the piece left it clean from at₁ on.
-  module _ (fine : number ≡ 0) (s₂ : List ℕ) (b : Bool) (P : Powered s₁ s₂ d c₁ top₁ cell b) (s₃ : List ℕ) (o : Bool) (Z : Closed s₂ s₃ d (c₁ + 2) o) (same : length s₃ ≡ length s)
+  module _ (fine : number ≡ 0) (s₂ : List ℕ) (number₂ : ℕ) (P : Powered s₁ s₂ d c₁ top₁ cell number₂) (s₃ : List ℕ) (o : Bool) (Z : Closed s₂ s₃ d (c₁ + 2) o) (same : length s₃ ≡ length s)
       (room : at < poolSize) where
     low₃ : lower s₃ ≡ lower s₁
     low₃ = Z .low ∙ P .low

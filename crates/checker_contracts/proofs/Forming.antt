@@ -8,10 +8,11 @@ use Rattle.types_rules.specs.Equations.{In}
 use Rattle.types_rules.specs.Formed.{Formed, Arity, WellFormed}
 use Rattle.types_rules.specs.Instance.{instance}
 use Rattle.types_rules.specs.Types.{Term, nil, under}
+use Rattle.types_rules.specs.Trees.{finite}
 use Rattle.types_rules.proofs.Instance.{instance-none}
 use Rattle.checker_rules.specs.Conditions.{isPower}
 use Rattle.checker_rules.specs.Dictionary.{Dictionary}
-use Rattle.checker_rules.specs.Items.{Items, skip, _⨾_, equate, piece, Meets, And, Agree, Passes, MeetsIn}
+use Rattle.checker_rules.specs.Items.{Items, skip, _⨾_, equate, piece, Meets, MeetsIn, Typings, Any, And, Agree, Passes}
 use Rattle.checker_rules.specs.Rules.{exprItems}
 use Rattle.checker_rules.specs.Scopes.{Scope, globals, local}
 use Rattle.checker_rules.specs.Unknowns.{Valuation, slot}
@@ -22,7 +23,7 @@ use Rattle.reader_rules.proofs.Sized.{SizedExpr}
 use Rattle.checker_signatures.specs.Carried.{Stacked}
 use Rattle.checker_signatures.specs.Rows.{stack}
 use Rattle.checker_pieces.specs.Piece.{SameOn, Steady}
-use Rattle.checker_pieces.proofs.Equating.{under-same}
+use Rattle.checker_pieces.proofs.Terms.{under-same}
 use Rattle.checker_lookup.specs.Scoped.{SettledAt, Scoped}
 use Rattle.checker_contracts.specs.Visits.{idle}
 use Rattle.checker_contracts.proofs.Normal.{normal, normalTable, Normal, normal-formed, normal-same, normal-under, term-formed, normal-items}
@@ -30,13 +31,20 @@ use Rattle.checker_contracts.proofs.Normal.{normal, normalTable, Normal
 -- The scope's terms have the types that τ gives them.
 unfoldable pins : Valuation → Scope → Items
 pins τ (globals D) = skip
-pins τ (local i t Γ) = equate 33 0 t (instance nil (under τ t)) ⨾ pins τ Γ
+pins τ (local i t Γ) = equate 36 0 t (instance nil (under τ t)) ⨾ pins τ Γ
 
 -- As τ meets.
 pins-met : (τ : Valuation) (Γ : Scope) → Meets (pins τ Γ) τ
 unfolding pins MeetsIn
 pins-met τ (globals D) = tt
 pins-met τ (local i t Γ) = (sym (instance-none τ (under τ t)), pins-met τ Γ)
+
+pins-pass : (τ : Valuation) (Γ : Scope) (P : Typings) → P finite τ → Passes (pins τ Γ) P
+unfolding pins Passes MeetsIn
+pins-pass τ (globals D) P p = tt
+pins-pass τ (local i t Γ) P p =
+    let e = sym (instance-none τ (under τ t)) in
+    ((τ, p, e), pins-pass τ Γ (And P (equate 36 0 t (instance nil (under τ t)))) (p, e))
 
 module _ (s d : List ℕ) (H : Items) (U : List ℕ) (D : Dictionary) (τ : Valuation) (m : Meets H τ) where
   abbrev Row : Term → ℕ → Type 0
@@ -108,7 +116,7 @@ module _ (s d w : List ℕ) (rows : ℕ) (a : Expr) (New : List ℕ → Type 0) 
       let H′ = pins τ Γ in
       let K = S .stacked in
       let S′ : Scoped s d w rows (idle H′ U) Γ D = record { stacked = pinned s d H U D τ (h .0) H′ Γ st (λ σ q. q) K; recorded = S .recorded } in
-      let p = C H′ U (record { local = pins-local s d H U D τ (h .0) Γ st K; some = (τ, pins-met τ Γ) }) S′ f in
+      let p = C H′ U (record { passes = pins-pass τ Γ Any tt; local = pins-local s d H U D τ (h .0) Γ st K; some = (τ, pins-met τ Γ) }) S′ f in
       let g = scope-formed s d H U D τ (h .0) Γ st K (S .recorded .formed) in
       let F : FormedItems closedItems = (formedExpr a Γ z g, isPower-formed n k a) in
       let v = normal-items closedItems (MeetsIn H′) (pins-normal s d H U D τ (h .0) Γ st K) F (p .0) τ (pins-met τ Γ) (h .1) in

@@ -154,7 +154,7 @@ module _ (s d w : List ℕ) (stack at free n id k : ℕ) (xs : Exprs) (rs : List
           unfolding includeNumbers
           fresh U F = actual-fresh n 0 l U F
 
-          -- 33 or 34 of an actual, or the finding of a node below
+          -- 33, 34 or 39 of an actual, or the finding of a node below
           pub include-refused : (number ≡ 0 → ⊥) → (m at′ : ℕ) → IncludeDone s s₁ d w w₁ stack at free i places places₁ number place m at′
           include-refused ne m at′ =
               stopped s₁ w₁ places₁ number place m at′ ne (P .done .still .spared) (P .done .still .row)

@@ -4,11 +4,11 @@ use mathlib.Core.Logic.{_↔_, inl, inr, ⊎-elim, _⊎_}
 use mathlib.Core.Path.{_≡_, refl, sym, ap, subst, _∙_}
 use Prim.Native.Nat.{ℕ, zero, suc}
 use lib.ListN.{getD, take}
-use Rattle.checker_rules.specs.Unknowns.{Valuation}
-use Rattle.checker_rules.specs.Items.{Items, skip, _⨾_, Meets, Passes, Refuses, MeetsIn}
+use Rattle.types_rules.specs.Trees.{Extent, finite, Tree}
+use Rattle.checker_rules.specs.Items.{Items, skip, _⨾_, MeetsIn, Any, Passes, Refuses}
 use Rattle.checker_rules.proofs.ItemLaws.{passes-ext, refuses-ext}
 use Rattle.checker_pieces.specs.Piece.{Steady, Walked}
-use Rattle.checker_pieces.proofs.Between.{refuses-first, refuses-second, passes-then, walked-then, walked-skip}
+use Rattle.checker_pieces.proofs.Between.{refuses-first, refuses-second, passes-then, passes-after, walked-then, walked-skip}
 
 infixr 15 _then_
 pub data Order : Type 0 where
@@ -49,7 +49,7 @@ AllWalked H (a ∷ l) U U′ M = (Y : List ℕ) × Walked H a U Y M × AllWalked
 
 -- H and H′ are met by the same tables.
 abbrev Same : Items → Items → Type 0
-Same H H′ = (τ : Valuation) → Meets H τ ↔ Meets H′ τ
+Same H H′ = (ε : Extent) (τ : ℕ → Tree ε) → MeetsIn H ε τ ↔ MeetsIn H′ ε τ
 
 -- THE GROUPING does not matter to a table.
 after-append : (H : Items) (l m : List Items) → after H (l ++ m) ≡ after (after H l) m
@@ -59,14 +59,14 @@ after-append H (a ∷ l) m = after-append (H ⨾ a) l m
 
 pub same-tables : (o : Order) (H : Items) → Same (after H (listed o)) (H ⨾ grouped o)
 unfolding after listed grouped MeetsIn
-same-tables nothing H τ = (λ h. (h, tt), λ h. h .0)
-same-tables (only a) H τ = (λ h. h, λ h. h)
-same-tables (x then y) H τ =
-    let X = same-tables x H τ in
-    let Y = same-tables y (after H (listed x)) τ in
+same-tables nothing H ε τ = (λ h. (h, tt), λ h. h .0)
+same-tables (only a) H ε τ = (λ h. h, λ h. h)
+same-tables (x then y) H ε τ =
+    let X = same-tables x H ε τ in
+    let Y = same-tables y (after H (listed x)) ε τ in
     let e = after-append H (listed x) (listed y) in (
-      λ h. let k = Y .0 (subst (λ z. Meets z τ) e h) in let v = X .0 (k .0) in (v .0, (v .1, k .1)),
-      λ h. subst (λ z. Meets z τ) (sym e) (Y .1 (X .1 (h .0, h .1 .0), h .1 .1)),
+      λ h. let k = Y .0 (subst (λ z. MeetsIn z ε τ) e h) in let v = X .0 (k .0) in (v .0, (v .1, k .1)),
+      λ h. subst (λ z. MeetsIn z ε τ) (sym e) (Y .1 (X .1 (h .0, h .1 .0), h .1 .1)),
     )
 
 -- ALL PASS.
@@ -95,7 +95,7 @@ each-passes nothing H p = tt
 each-passes (only a) H p = (p, tt)
 each-passes (x then y) H p =
     pass-join (listed x) (listed y) H (each-passes x H (p .0))
-    (each-passes y (after H (listed x)) (passes-ext (grouped y) (MeetsIn (H ⨾ grouped x)) (MeetsIn (after H (listed x))) (λ τ. (same-tables x H τ .1, same-tables x H τ .0)) (p .1)))
+    (each-passes y (after H (listed x)) (passes-ext (grouped y) (MeetsIn (H ⨾ grouped x)) (MeetsIn (after H (listed x))) (λ ε τ. (same-tables x H ε τ .1, same-tables x H ε τ .0)) (p .1)))
 
 -- ONE REFUSES.
 refuse-split : (l m : List Items) (H : Items) (f k : ℕ) → OneRefuses H (l ++ m) f k → OneRefuses H l f k ⊎ (AllPass H l × OneRefuses (after H l) m f k)
@@ -134,7 +134,7 @@ refuses-one (only a) H f k r = inl r
 refuses-one (x then y) H f k (inl r) = refuse-left (listed x) (listed y) H f k (refuses-one x H f k r)
 refuses-one (x then y) H f k (inr (p, r)) =
     refuse-right (listed x) (listed y) H f k (each-passes x H p)
-    (refuses-one y (after H (listed x)) f k (refuses-ext (grouped y) (MeetsIn (H ⨾ grouped x)) (MeetsIn (after H (listed x))) f k (λ τ. (same-tables x H τ .1, same-tables x H τ .0)) r))
+    (refuses-one y (after H (listed x)) f k (refuses-ext (grouped y) (MeetsIn (H ⨾ grouped x)) (MeetsIn (after H (listed x))) f k (λ ε τ. (same-tables x H ε τ .1, same-tables x H ε τ .0)) r))
 
 refuse-at : (l : List Items) (H : Items) (i f k : ℕ) → AllPass H (take i l) → Refuses (getD l i skip) (MeetsIn (after H (take i l))) f k → OneRefuses H l f k
 unfolding OneRefuses AllPass after Refuses
@@ -148,18 +148,29 @@ pub refuses-at : (o : Order) (H : Items) (i f k : ℕ) → AllPass H (take i (li
 refuses-at o H i f k p r = one-refuses o H f k (refuse-at (listed o) H i f k p r)
 
 -- ALL ARE WALKED OVER.
-steady-same : (H H′ : Items) (U : List ℕ) → Same H H′ → Steady H U → Steady H′ U
-steady-same H H′ U e S = record { local = λ τ τ′ h m. e τ′ .0 (S .local τ τ′ h (e τ .1 m)); some = let k = S .some in (k .0, e (k .0) .0 (k .1)) }
+after-passes : (l : List Items) (H : Items) → Passes H Any → AllPass H l → Passes (after H l) Any
+unfolding AllPass after
+after-passes [] H p q = p
+after-passes (a ∷ l) H p q = after-passes l (H ⨾ a) (passes-after H a p (q .0)) (q .1)
 
-walked-same : (H H′ c : Items) (U U′ : List ℕ) (M : ℕ → Type 0) → Same H H′ → Walked H c U U′ M → Walked H′ c U U′ M
-unfolding MeetsIn
-walked-same H H′ c U U′ M e W = record {
-  goes = passes-ext c (MeetsIn H) (MeetsIn H′) e (W .goes);
-  steady = steady-same (H ⨾ c) (H′ ⨾ c) U′ (λ τ. (λ h. (e τ .0 (h .0), h .1), λ h. (e τ .1 (h .0), h .1))) (W .steady);
-  extends = λ τ m. let x = W .extends τ (e τ .1 m) in (x .0, (e (x .0) .0 (x .1 .0), x .1 .1), x .2);
-  wider = W .wider;
-  new = W .new;
+steady-same : (H H′ : Items) (U : List ℕ) → Same H H′ → Passes H′ Any → Steady H U → Steady H′ U
+steady-same H H′ U e p S = record {
+  passes = p;
+  local = λ τ τ′ h m. e finite τ′ .0 (S .local τ τ′ h (e finite τ .1 m));
+  some = let k = S .some in (k .0, e finite (k .0) .0 (k .1));
 }
+
+walked-same : (H H′ c : Items) (U U′ : List ℕ) (M : ℕ → Type 0) → Same H H′ → Passes H′ Any → Walked H c U U′ M → Walked H′ c U U′ M
+unfolding MeetsIn
+walked-same H H′ c U U′ M e p W =
+    let g = passes-ext c (MeetsIn H) (MeetsIn H′) e (W .goes) in
+    record {
+      goes = g;
+      steady = steady-same (H ⨾ c) (H′ ⨾ c) U′ (λ ε τ. (λ h. (e ε τ .0 (h .0), h .1), λ h. (e ε τ .1 (h .0), h .1))) (passes-after H′ c p g) (W .steady);
+      extends = λ τ m. let x = W .extends τ (e finite τ .1 m) in (x .0, (e finite (x .0) .0 (x .1 .0), x .1 .1), x .2);
+      wider = W .wider;
+      new = W .new;
+    }
 
 walk-split : (l m : List Items) (H : Items) (U U′ : List ℕ) (M : ℕ → Type 0) → AllWalked H (l ++ m) U U′ M → (Y : List ℕ) × AllWalked H l U Y M × AllWalked (after H l) m Y U′ M
 unfolding AllWalked after
@@ -174,29 +185,33 @@ all-walked (x then y) H U U′ M S w =
     let k = walk-split (listed x) (listed y) H U U′ M w in
     let X = all-walked x H U (k .0) M S (k .1) in
     let e = same-tables x H in
+    let p = after-passes (listed x) H (S .passes) (each-passes x H (X .goes)) in
     walked-then H (grouped x) (grouped y) U (k .0) U′ M S X
-    (walked-same (after H (listed x)) (H ⨾ grouped x) (grouped y) (k .0) U′ M e
-    (all-walked y (after H (listed x)) (k .0) U′ M (steady-same (H ⨾ grouped x) (after H (listed x)) (k .0) (λ τ. (e τ .1, e τ .0)) (X .steady)) (k .2)))
+    (walked-same (after H (listed x)) (H ⨾ grouped x) (grouped y) (k .0) U′ M e (X .steady .passes)
+    (all-walked y (after H (listed x)) (k .0) U′ M (steady-same (H ⨾ grouped x) (after H (listed x)) (k .0) (λ ε τ. (e ε τ .1, e ε τ .0)) p (X .steady)) (k .2)))
 
 -- THE SAME LIST, grouped in two ways.
 module _ (o o′ : Order) (e : listed o ≡ listed o′) (H : Items) where
   pub regrouped-tables : Same (H ⨾ grouped o) (H ⨾ grouped o′)
-  regrouped-tables τ =
-      let x = same-tables o H τ in
-      let y = same-tables o′ H τ in
-      (λ h. y .0 (subst (λ l. Meets (after H l) τ) e (x .1 h)), λ h. x .0 (subst (λ l. Meets (after H l) τ) (sym e) (y .1 h)))
+  regrouped-tables ε τ =
+      let x = same-tables o H ε τ in
+      let y = same-tables o′ H ε τ in
+      (λ h. y .0 (subst (λ l. MeetsIn (after H l) ε τ) e (x .1 h)), λ h. x .0 (subst (λ l. MeetsIn (after H l) ε τ) (sym e) (y .1 h)))
 
   pub regrouped-refuses : (f k : ℕ) → Refuses (grouped o) (MeetsIn H) f k → Refuses (grouped o′) (MeetsIn H) f k
   regrouped-refuses f k r = one-refuses o′ H f k (subst (λ l. OneRefuses H l f k) e (refuses-one o H f k r))
 
   pub regrouped-walked : (U U′ : List ℕ) (M : ℕ → Type 0) → Walked H (grouped o) U U′ M → Walked H (grouped o′) U U′ M
-  regrouped-walked U U′ M W = record {
-    goes = all-pass o′ H (subst (AllPass H) e (each-passes o H (W .goes)));
-    steady = steady-same (H ⨾ grouped o) (H ⨾ grouped o′) U′ regrouped-tables (W .steady);
-    extends = λ τ m. let x = W .extends τ m in (x .0, regrouped-tables (x .0) .0 (x .1), x .2);
-    wider = W .wider;
-    new = W .new;
-  }
+  unfolding Passes
+  regrouped-walked U U′ M W =
+      let g = all-pass o′ H (subst (AllPass H) e (each-passes o H (W .goes))) in
+      record {
+        goes = g;
+        steady = steady-same (H ⨾ grouped o) (H ⨾ grouped o′) U′ regrouped-tables (passes-after H (grouped o′) (W .steady .passes .0) g) (W .steady);
+        extends = λ τ m. let x = W .extends τ m in (x .0, regrouped-tables finite (x .0) .0 (x .1), x .2);
+        wider = W .wider;
+        new = W .new;
+      }
 
 -- o, THEN `rest`: the same list as o′.
 module _ (o o′ : Order) (rest : Items) (e : listed o′ ≡ listed o ++ (rest ∷ [])) (H : Items) where
@@ -206,8 +221,8 @@ module _ (o o′ : Order) (rest : Items) (e : listed o′ ≡ listed o ++ (rest 
 
   pub then-tables : Same ((H ⨾ grouped o) ⨾ rest) (H ⨾ grouped o′)
   unfolding MeetsIn grouped
-  then-tables τ =
-      let x = regrouped-tables (o then only rest) o′ whole H τ in
+  then-tables ε τ =
+      let x = regrouped-tables (o then only rest) o′ whole H ε τ in
       (λ h. x .0 (h .0 .0, (h .0 .1, h .1)), λ h. let k = x .1 h in ((k .0, k .1 .0), k .1 .1))
 
   pub then-walked : (U Y U′ : List ℕ) (M : ℕ → Type 0) → Steady H U → Walked H (grouped o) U Y M → Walked (H ⨾ grouped o) rest Y U′ M → Walked H (grouped o′) U U′ M

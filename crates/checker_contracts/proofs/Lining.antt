@@ -9,6 +9,7 @@ use lib.ListN.{length, length-append}
 use Rattle.reader_rules.specs.Limited.{LimitedLines}
 use Rattle.reader_rules.specs.Tree.{Expr, Lines, end, declaration, inclusion, Include, includeNode}
 use Rattle.reader_rules.specs.TreeNumbers.{exprNumbers, linesNumbers, includeNumbers}
+use Rattle.types_rules.specs.Trees.{finite}
 use Rattle.checker_rules.specs.Conditions.{mergeDeclared, mergeNames, newNames, smallTypes, fewNames, isPower}
 use Rattle.checker_rules.specs.Dictionary.{Dictionary}
 use Rattle.checker_rules.specs.Items.{Items, skip, _⨾_, small, piece, Passes, Refuses, MeetsIn}
@@ -299,7 +300,7 @@ module _ (s d w : List ℕ) (stack base m at free : ℕ) (one whole ls : Lines) 
                     (sym (X .whole-signature Γ r))
                     (carries-later s₂ d ((H ⨾ items Γ D₁ r) ⨾ c₁) (H ⨾ grouped (all Γ D₁ r))
                     (W₂ .unknowns) (W₂ .unknowns) (λ x i. i)
-                    (λ τ h. then-tables (alone Γ D₁ r) (all Γ D₁ r) c₁ turn H τ .1 h)
+                    (λ τ h. then-tables (alone Γ D₁ r) (all Γ D₁ r) c₁ turn H finite τ .1 h)
                     (linesSignature ls Γ (X .after Γ r)) (rows w₂ base m₂) (W₂ .signature)));
               };
           stops = λ e H U S Γ D C r I. let F = I .0 in let J = I .1 in

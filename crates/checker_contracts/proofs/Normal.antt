@@ -12,9 +12,11 @@ use lib.ListN.{length}
 use Rattle.types_rules.specs.Former.{Former, int, given, parameter, power, product, binding, identifiers}
 use Rattle.types_rules.specs.Types.{Ty, Tys, node, tnil, tcons, Term, Terms, unknown, con, nil, cons, under, unders, size, sizes, integerType}
 use Rattle.types_rules.specs.Component.{pickType, componentType}
+use Rattle.types_rules.specs.Equations.{Pairs, end, pair, Solves, AllP}
 use Rattle.types_rules.specs.Formed.{partCount, partCountType, Formed, Formeds, FormedType, FormedTypes, Ascending, Arity, WellFormed}
+use Rattle.types_rules.specs.Trees.{finite}
 use Rattle.checker_rules.specs.Unknowns.{Valuation}
-use Rattle.checker_rules.specs.Items.{Items, skip, _⨾_, fresh, equate, select, small, refusal, piece, Known, Meets, And, Passes, MeetsIn}
+use Rattle.checker_rules.specs.Items.{Items, skip, _⨾_, fresh, equations, equate, select, small, refusal, piece, Known, Meets, MeetsIn, Typings, And, Passes}
 use Rattle.checker_rules.proofs.FormedItems.{FormedItems}
 use Rattle.types_cells.proofs.Growing.{lt-or-ge}
 
@@ -177,11 +179,16 @@ mutual
   terms-formed τ nil f = tt
   terms-formed τ (cons t ts) f = (term-formed τ t (f .0), terms-formed τ ts (f .1))
 
--- ITEMS of such terms that pass.
-abbrev pub Normal : (Valuation → Type 0) → Type 0
-Normal P = (τ : Valuation) → P τ → P (normalTable τ)
+-- EQUATIONS of such terms.
+normal-equations : (τ : Valuation) (es : Pairs Term) → AllP (λ a b. Formed Arity a × Formed Arity b) es → Solves (under τ) es → Solves (under (normalTable τ)) es
+normal-equations τ end f h = tt
+normal-equations τ (pair a b es) f h = (normal-under τ a (f .0 .0) ∙ ap normal (h .0) ∙ sym (normal-under τ b (f .0 .1)), normal-equations τ es (f .1) (h .1))
 
-pub normal-items : (c : Items) (P : Valuation → Type 0) → Normal P → FormedItems c → Passes c P → (τ : Valuation) → P τ → Meets c τ → Meets c (normalTable τ)
+-- ITEMS of such terms that pass.
+abbrev pub Normal : Typings → Type 0
+Normal P = (τ : Valuation) → P finite τ → P finite (normalTable τ)
+
+pub normal-items : (c : Items) (P : Typings) → Normal P → FormedItems c → Passes c P → (τ : Valuation) → P finite τ → Meets c τ → Meets c (normalTable τ)
 unfolding FormedItems Passes MeetsIn
 normal-items skip P N f p τ m h = tt
 normal-items (a ⨾ b) P N f p τ m h = (
@@ -189,6 +196,7 @@ normal-items (a ⨾ b) P N f p τ m h = (
   normal-items b (And P a) (λ σ k. (N σ (k .0), normal-items a P N (f .0) (p .0) σ (k .0) (k .1))) (f .1) (p .1) τ (m, h .0) (h .1),
 )
 normal-items (fresh x) P N f p τ m h = tt
+normal-items (equations n es) P N f p τ m h = normal-equations τ es f h
 normal-items (equate g n a b) P N f p τ m h = normal-under τ a (f .0) ∙ ap normal h ∙ sym (normal-under τ b (f .1))
 normal-items (select n i a x) P N f p τ m h =
     let e = normal-under τ a f in

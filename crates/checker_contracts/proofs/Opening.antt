@@ -6,8 +6,8 @@ use mathlib.Core.Logic.{_↔_, inl}
 use Prim.Native.Nat.{ℕ, _<_, _^_}
 use native.Mathlib.Omega.{arith}
 use lib.ListN.{length}
-use Rattle.checker_rules.specs.Unknowns.{Valuation}
-use Rattle.checker_rules.specs.Items.{Items, skip, _⨾_, piece, Meets, Agree, Passes, Refuses, MeetsIn}
+use Rattle.types_rules.specs.Trees.{Extent, Tree}
+use Rattle.checker_rules.specs.Items.{Items, skip, _⨾_, piece, MeetsIn, Agree, And, Passes, Refuses}
 use Rattle.checker_rules.proofs.ItemLaws.{passes-ext, refuses-ext}
 use Rattle.checker_pieces.specs.Piece.{Steady, Walked, Stops}
 use Rattle.checker_pieces.specs.Stage.{Ghost, Stands, Advanced}
@@ -20,19 +20,23 @@ use Rattle.types_cells.specs.Layout.{firstRun, areaSize}
 -- OPENED: no cells, no items.
 pub opened : (s d : List ℕ) (H : Items) (U : List ℕ) → Steady H U → length s ≡ areaSize → length d < 2 ^ 31 → Stands s d 0 firstRun (idle H U)
 opened s d H U S z few = record {
-  piece = begin s d H U z (S .local) (S .some .0) (S .some .1);
+  piece = begin s d H U z S;
   above = record { low = omega arith; parts = λ i l. absurd (omega arith); names = λ i l e. absurd (omega arith) };
   few = few;
 }
 
 -- No item before the first.
-without-skip : (H : Items) (τ : Valuation) → Meets (H ⨾ skip) τ ↔ Meets H τ
+without-skip : (H : Items) (ε : Extent) (τ : ℕ → Tree ε) → MeetsIn (H ⨾ skip) ε τ ↔ MeetsIn H ε τ
 unfolding MeetsIn
-without-skip H τ = (λ h. h .0, λ h. (h, tt))
+without-skip H ε τ = (λ h. h .0, λ h. (h, tt))
 
 alike-skip : (t : Items) → Alike (skip ⨾ t) t
-unfolding MeetsIn Agree
-alike-skip t = (λ τ. (λ h. h .1, λ h. (tt, h)), λ τ τ′. (λ h. h .1, λ h. (tt, h)))
+unfolding MeetsIn Agree Passes
+alike-skip t = (
+  λ τ. (λ h. h .1, λ h. (tt, h)),
+  λ τ τ′. (λ h. h .1, λ h. (tt, h)),
+  λ H p. passes-ext t (And (MeetsIn H) skip) (MeetsIn H) (λ ε τ. (λ h. h .0, λ h. (h, tt))) (p .1),
+)
 
 -- REFUSED: the finding of the items t is that of the piece.
 pub piece-refused : (H : Items) (k : ℕ) (t : Items) (f m : ℕ) → Stops H skip t f m → Refuses (piece k t) (MeetsIn H) f m

@@ -1,7 +1,7 @@
 -- SchemaSet: its piece waits while the Include is visited; then its type is the power of the binding.
 use mathlib.Core.Path.{_≡_, refl}
 use mathlib.Core.List.{List, [], _∷_, _++_}
-use mathlib.Core.Logic.{_↔_, inl, inr}
+use mathlib.Core.Logic.{inl, inr}
 use Prim.Native.Nat.{ℕ, suc, _+_, _*_, _-_, _≤_, _<_, _^_}
 use native.Mathlib.Omega.{arith}
 use lib.ListN.{length, length-append}
@@ -11,11 +11,11 @@ use Rattle.reader_rules.specs.TreeNumbers.{exprNumbers, exprsNumbers, includeNu
 use Rattle.types_rules.specs.Types.{Term}
 use Rattle.types_rules.proofs.Terms.{each-map}
 use Rattle.types_rules.specs.Equations.{In}
-use Rattle.checker_rules.proofs.ItemLaws.{passes-ext, refuses-ext}
+use Rattle.checker_rules.proofs.ItemLaws.{refuses-ext}
 use Rattle.checker_rules.proofs.OwnUnknowns.{schema-agrees}
 use Rattle.checker_rules.specs.Conditions.{typed, smallTypes}
 use Rattle.checker_rules.specs.Dictionary.{Dictionary}
-use Rattle.checker_rules.specs.Items.{Items, _⨾_, Meets, Agree, And, Passes, Refuses, MeetsIn}
+use Rattle.checker_rules.specs.Items.{Items, _⨾_, Meets, MeetsIn, Agree, And, Passes, Refuses}
 use Rattle.checker_rules.specs.Rules.{exprItems, includeItems, schemaItems}
 use Rattle.checker_rules.specs.Scopes.{Scope, includeSignature}
 use Rattle.checker_rules.specs.Signatures.{Signature, bindingOf}
@@ -30,7 +30,7 @@ use Rattle.types_instances.specs.Moved.{saved, restored, SaveAsk, RestoreAsk}
 use Rattle.checker_pieces.specs.Piece.{Stops}
 use Rattle.checker_pieces.specs.Stage.{Ghost, Stands, Room, nodeCells}
 use Rattle.checker_pieces.specs.Building.{Introduced}
-use Rattle.checker_pieces.proofs.Walks.{Alike, meets-alike, piece-alike}
+use Rattle.checker_pieces.proofs.Walks.{Alike, and-group, passes-group, meets-alike, piece-alike}
 use Rattle.checker_pieces.proofs.Stages.{next, next-stands, rule-goes, room-less}
 use Rattle.checker_lookup.specs.Scoped.{SettledAt, Scoped}
 use Rattle.checker_lookup.specs.Bindings.{SchemaSetAsked, SchemaSetTyped}
@@ -48,19 +48,15 @@ use Rattle.checker_contracts.proofs.Waiting.{save-asked, waiting, resto
 
 -- ITEMS GROUPED OTHERWISE.
 pub alike-inner : (t a b c : Items) → Alike (t ⨾ ((a ⨾ b) ⨾ c)) (t ⨾ (a ⨾ (b ⨾ c)))
-unfolding MeetsIn Agree
+unfolding MeetsIn Agree Passes
 alike-inner t a b c = (
   λ τ. (λ h. (h .0, (h .1 .0 .0, (h .1 .0 .1, h .1 .1))), λ h. (h .0, ((h .1 .0, h .1 .1 .0), h .1 .1 .1))),
   λ τ τ′. (λ h. (h .0, (h .1 .0 .0, (h .1 .0 .1, h .1 .1))), λ h. (h .0, ((h .1 .0, h .1 .1 .0), h .1 .1 .1))),
+  λ H p. (p .0, passes-group (And (MeetsIn H) t) a b c (p .1)),
 )
-
-and-group : (P : Valuation → Type 0) (a b : Items) (τ : Valuation) → And P (a ⨾ b) τ ↔ And (And P a) b τ
-unfolding MeetsIn
-and-group P a b τ = (λ h. ((h .0, h .1 .0), h .1 .1), λ h. (h .0 .0, (h .0 .1, h .1)))
 
 pub introduced-group : (s s′ d : List ℕ) (n top n′ top′ : ℕ) (G : Ghost) (a b c : Items) (M : ℕ → Type 0) (x e : ℕ) →
     Introduced s s′ d n top n′ top′ G ((a ⨾ b) ⨾ c) M x e → Introduced s s′ d n top n′ top′ G (a ⨾ (b ⨾ c)) M x e
-unfolding Passes
 introduced-group s s′ d n top n′ top′ G a b c M x e I =
     let A = I .advanced in
     record {
@@ -69,7 +65,7 @@ introduced-group s s′ d n top n′ top′ G a b c M x e I =
         mentioned = A .mentioned;
         cells = A .cells;
         wide = A .wide;
-        goes = (A .goes .0 .0, (A .goes .0 .1, passes-ext c (And (MeetsIn (G .before ⨾ G .items)) (a ⨾ b)) (And (And (MeetsIn (G .before ⨾ G .items)) a) b) (and-group (MeetsIn (G .before ⨾ G .items)) a b) (A .goes .1)));
+        goes = passes-group (MeetsIn (G .before ⨾ G .items)) a b c (A .goes);
         piece = piece-alike s′ d n′ (A .equations) (G .before) (G .items ⨾ ((a ⨾ b) ⨾ c)) (G .items ⨾ (a ⨾ (b ⨾ c))) (G .known) (A .mentioned) (A .cells) (alike-inner (G .items) a b c) (A .piece);
         above = A .above;
         later = record {

@@ -24,15 +24,15 @@ use Rattle.types_instances.proofs.CleanLaws.{clean-all-below}
 use Rattle.types_instances.proofs.Moving.{sets-before}
 use Rattle.types_instances.proofs.Saving.{saved-length, saved-stands, restored-lower, restored-length, resumed}
 use Rattle.checker_pieces.specs.Piece.{Solution, Steady, Walked}
-use Rattle.checker_pieces.specs.Rows.{ghostAfter}
 use Rattle.checker_pieces.specs.Stage.{Ghost, Stands, Uses, Advanced}
+use Rattle.checker_pieces.proofs.Between.{passes-after}
 use Rattle.checker_pieces.proofs.ClosingLaws.{resumed as taken-up, resumed-later}
 use Rattle.checker_pieces.proofs.Stages.{room-less}
 use Rattle.checker_lookup.specs.Scoped.{Scoped}
 use Rattle.checker_includes.specs.Storing.{Stored}
 use Rattle.checker_contracts.specs.Visits.{Owned, Fresh, idle, Spared}
 use Rattle.checker_contracts.specs.Room.{Between, Inside}
-use Rattle.checker_contracts.specs.Expressions.{Visiting}
+use Rattle.checker_contracts.specs.Expressions.{Visiting, ghostAfter}
 use Rattle.checker_contracts.specs.Predicates.{Walking}
 use Rattle.checker_contracts.specs.Parts.{Fact, nothing, Step, Ending}
 use Rattle.checker_contracts.proofs.Nodes.{fresh-left, once-left}
@@ -44,7 +44,11 @@ use Rattle.checker_contracts.proofs.Visiting.{visiting-low}
 pub suspended : (s d : List ℕ) (n top : ℕ) (G : Ghost) → Stands s d n top G → Steady (G .before ⨾ G .items) (G .mentioned)
 suspended s d n top G St =
     let Q = St .piece in
-    record { local = Q .local; some = let c = Q .complete (Q .some .0) (Q .some .1) (Q .start .0) (Q .start .1) in (c .0, c .1) }
+    record {
+      passes = passes-after (G .before) (G .items) (Q .opened) (Q .passes);
+      local = Q .local;
+      some = let c = Q .complete (Q .some .0) (Q .some .1) (Q .start .0) (Q .start .1) in (c .0, c .1);
+    }
 
 -- Rows of equal words.
 same-run : (v w : List ℕ) (at k : ℕ) → at + k ≤ length v → at + k ≤ length w → ((i : ℕ) → at ≤ i → i < at + k → getD v i 0 ≡ getD w i 0) → run v at k ≡ run w at k
@@ -206,9 +210,9 @@ module _ (s d w w₁ : List ℕ) (rows n top at free h e : ℕ) (l rest : List �
                   cells = G .cells;
                   wide = omega arith;
                   goes = Z .goes;
-                  piece = taken-up s s₂ d n (G .equations) (St .piece .L) S′ P′ still to from (G .before) (G .items) (G .known) (G .mentioned) (G .cells) (St .piece) c U (Z .wider) (Z .steady .local) (Z .extends) agrees;
+                  piece = taken-up s s₂ d n (G .equations) (St .piece .L) S′ P′ still to from (G .before) (G .items) (G .known) (G .mentioned) (G .cells) (St .piece) c U (Z .wider) (Z .steady .local) (Z .extends) (Z .goes) agrees;
                   above = back .above;
-                  later = resumed-later s s₂ d n (G .equations) (St .piece .L) S′ P′ still to from (G .before) (G .items) (G .known) (G .mentioned) (G .cells) (St .piece) c U (Z .wider) (Z .steady .local) (Z .extends) agrees;
+                  later = resumed-later s s₂ d n (G .equations) (St .piece .L) S′ P′ still to from (G .before) (G .items) (G .known) (G .mentioned) (G .cells) (St .piece) c U (Z .wider) (Z .steady .local) (Z .extends) (Z .goes) agrees;
                   wider = Z .wider;
                   new = Z .new;
                 }

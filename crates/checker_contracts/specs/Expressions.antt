@@ -7,9 +7,10 @@ use lib.ListN.{length}
 use Rattle.reader_rules.specs.Limited.{LimitedExpr, LimitedExprs}
 use Rattle.reader_rules.specs.Tree.{Expr, Exprs, exprNode, exprsLength}
 use Rattle.reader_rules.specs.TreeNumbers.{exprNumbers, exprsNumbers}
+use Rattle.types_rules.specs.Equations.{Pairs}
 use Rattle.checker_rules.specs.Conditions.{typesOf}
 use Rattle.checker_rules.specs.Dictionary.{Dictionary}
-use Rattle.checker_rules.specs.Items.{Items}
+use Rattle.checker_rules.specs.Items.{Items, _⨾_}
 use Rattle.checker_rules.specs.Rules.{exprItems, exprsItems}
 use Rattle.checker_rules.specs.Scopes.{Scope}
 use Rattle.checker_rules.specs.Unknowns.{slot}
@@ -19,7 +20,6 @@ use Rattle.types_instances.specs.Clean.{Clean}
 use Rattle.checker_pieces.specs.Piece.{Stops}
 use Rattle.checker_pieces.specs.Stage.{Ghost, Stands, Uses, Advanced, nodeCells}
 use Rattle.checker_pieces.specs.Building.{Cells, Introduced}
-use Rattle.checker_pieces.specs.Rows.{ghostAfter}
 use Rattle.checker_lookup.specs.Scoped.{Scoped}
 use Rattle.checker_includes.specs.Storing.{Stored}
 use Rattle.checker_contracts.specs.Visits.{Owned, Fresh, EachOnce, Spared}
@@ -59,6 +59,10 @@ pub record ExprDone (s s′ d w w′ : List ℕ) (rows n top at free : ℕ) (e :
       Introduced s s′ d n top n′ top′ G (exprItems e Γ) (Owned (exprNumbers e)) (slot (exprNode e) 0) cell
   pub stops : (number ≡ 0 → ⊥) → (G : Ghost) → Stands s d n top G → (Γ : Scope) (D : Dictionary) → Scoped s d w rows G Γ D → Fresh (exprNumbers e) (G .mentioned) →
       Stops (G .before) (G .items) (exprItems e Γ) number place
+
+-- The ghost values after the items `own`.
+abbrev pub ghostAfter : Ghost → Items → Pairs ℕ → List ℕ → Pairs ℕ → Ghost
+ghostAfter G own P U ρ = record { equations = P; before = G .before; items = G .items ⨾ own; known = G .known; mentioned = U; cells = ρ }
 
 -- OPERANDS one after another: their cells stand in the words `parts` from j on.
 pub record ExprsAsk (s d w : List ℕ) (rows n top at free : ℕ) (xs : Exprs) (parts : List ℕ) (j : ℕ) : Type 0 where

@@ -1,4 +1,4 @@
--- Includes: name, count, actuals, stroke and renames (31, 32, 33 and 34 of the actuals, 37). What the Include brings stands as rows in the work area, with
+-- Includes: name, count, actuals, stroke and renames (31, 32; 33, 34 and 39 of the actuals; 37). What the Include brings stands as rows in the work area, with
 -- the places of the recorded component types; the actuals' types are in the pool, at the places in a row of four words.
 use mathlib.Core.Path.{_≡_}
 use mathlib.Core.Logic.{_⊎_}
@@ -22,7 +22,6 @@ use Rattle.types_cells.specs.Settled.{heap, Reads}
 use Rattle.checker_signatures.specs.Rows.{rows, identifiersOf}
 use Rattle.checker_signatures.specs.Carried.{Carries}
 use Rattle.checker_pieces.specs.Piece.{Steady, Walked, Settled}
-use Rattle.checker_pieces.specs.Rows.{SlotsFrom}
 use Rattle.checker_lookup.specs.Scoped.{Scoped}
 use Rattle.checker_lookup.specs.Components.{Component}
 use Rattle.checker_includes.specs.Components.{Placed, StandsFor, ActualTypes}
@@ -65,6 +64,10 @@ pub record IncludeLeft (s s′ w′ : List ℕ) (at at′ free m count : ℕ) : 
 pub record IncludeDone (s s′ d w w′ : List ℕ) (stack at free : ℕ) (i : Include) (places places′ : List ℕ) (number place m at′ : ℕ) : Type 0 where
   pub done : Done s d w stack (IncludeKept w w′ stack free places places′) (IncludeLeft s s′ w′ at at′ free m (actualCount i)) (Unit {0}) (λ x H U. Fresh (includeNumbers i) U)
       (λ x Γ D. includeItems i Γ) (λ x H U Γ D. Brought s′ d w′ m free H U Γ i places′) number place
+
+-- The unknowns of node k from number i on.
+abbrev pub SlotsFrom : ℕ → ℕ → ℕ → Type 0
+SlotsFrom k i x = (j : ℕ) × (i ≤ j) × (j < 8) × (x ≡ slot k j)
 
 -- ACTUALS of the Include at node k, from number j on (counted from 0): each a closed piece. Unknown j + 1 of node k and those after it are theirs.
 abbrev pub ActualOwned : ℕ → ℕ → List ℕ → ℕ → Type 0

@@ -9,11 +9,10 @@ use Rattle.checker_rules.specs.Scopes.{Scope}
 use Rattle.checker_pieces.specs.Piece.{Stops}
 use Rattle.checker_pieces.specs.Stage.{Ghost, Stands, Advanced}
 use Rattle.checker_pieces.specs.Building.{Introduced}
-use Rattle.checker_pieces.specs.Rows.{ghostAfter}
 use Rattle.checker_lookup.specs.Scoped.{Scoped}
 use Rattle.checker_includes.specs.Storing.{Stored}
 use Rattle.checker_contracts.specs.Visits.{Owned, Fresh, Spared}
-use Rattle.checker_contracts.specs.Expressions.{Visited}
+use Rattle.checker_contracts.specs.Expressions.{Visited, ghostAfter}
 
 -- What may hold of a piece that stands, in a scope over a dictionary.
 abbrev pub Fact : Type 1

@@ -23,8 +23,8 @@ use Rattle.checker_contracts.specs.Visits.{Fresh, EachOnce, idle}
 use Rattle.types_cells.specs.Layout.{areaSize}
 
 pub nothing-before : Steady skip []
-unfolding MeetsIn
-nothing-before = record { local = λ τ τ′ h m. tt; some = (λ x. integerType, tt) }
+unfolding MeetsIn Passes
+nothing-before = record { passes = tt; local = λ τ τ′ h m. tt; some = (λ x. integerType, tt) }
 
 pub nothing-known : (l : List ℕ) → Fresh l []
 nothing-known l x o i = i
@@ -59,8 +59,8 @@ walking-below s d w rows at l Γ D z f c o B C = record {
 -- THE END.
 pub passes-any : (c : Items) → Passes c (MeetsIn skip) → Passes c Any
 unfolding MeetsIn
-passes-any c p = passes-ext c (MeetsIn skip) Any (λ τ. (λ h. tt, λ h. tt)) p
+passes-any c p = passes-ext c (MeetsIn skip) Any (λ ε τ. (λ h. tt, λ h. tt)) p
 
 pub refuses-any : (c : Items) (f m : ℕ) → Refuses c (MeetsIn skip) f m → Refuses c Any f m
 unfolding MeetsIn
-refuses-any c f m r = refuses-ext c (MeetsIn skip) Any f m (λ τ. (λ h. tt, λ h. tt)) r
+refuses-any c f m r = refuses-ext c (MeetsIn skip) Any f m (λ ε τ. (λ h. tt, λ h. tt)) r

@@ -11,7 +11,7 @@ use Rattle.types_rules.specs.Formed.{Arity}
 use Rattle.types_rules.proofs.Formed.{sol-fit}
 use Rattle.checker_rules.specs.Dictionary.{Entry, entryWords, Dictionary, _▸_, dictionaryLength}
 use Rattle.checker_rules.specs.Entries.{extend}
-use Rattle.checker_rules.specs.Items.{Items, Meets, Any, Passes}
+use Rattle.checker_rules.specs.Items.{Items, skip, Meets, Any, Passes}
 use Rattle.checker_rules.specs.Rules.{paragraphItems}
 use Rattle.checker_rules.specs.Solving.{Solved, pass, refuse, unknowns, solve, valuationOf}
 use Rattle.checker_rules.specs.Unknowns.{Valuation}
@@ -33,7 +33,7 @@ use Rattle.checker_lookup.proofs.LimitedKept.{limited-extend}
 module _ (p : Paragraph) (D : Dictionary) (τ : Valuation) (P : Passes (paragraphItems p D) Any) (M : Meets (paragraphItems p D) τ) where
   pub extended-formed : SizedParagraph p → FormedDictionary D → FormedDictionary (extend p D τ)
   unfolding solve valuationOf
-  extended-formed z f = go (solve t) (solve-right t) (solve-formed t (unknowns t []) empty (formedParagraph p D z f) tt)
+  extended-formed z f = go (solve t) (solve-right t) (solve-formed t skip (unknowns t []) empty (formedParagraph p D z f) tt)
     where
       t : Items
       t = paragraphItems p D

@@ -56,7 +56,7 @@ record ActualKept (s s′ d w w′ : List ℕ) (at free j : ℕ) (places places�
   fine : number ≡ 0
   s₂ : List ℕ
   s₃ : List ℕ
-  powered : Powered s s₂ d n top c true
+  powered : Powered s s₂ d n top c 0
   closed : Closed s₂ s₃ d (n + 2) true
   stored : TypeStored s₃ s′ d w w′ (n + 2) n at free end
   put : places′ ≡ set places j at
@@ -65,7 +65,7 @@ actual-kept : {s s′ d w w′ places places′ : List ℕ} {at free k j number 
     ActualKept s s′ d w w′ at free j places places′ number c n top (r .at)
 actual-kept (stopped n es ew ep L) z = absurd (n (sym (L .number-is) ∙ z))
 actual-kept (went fine (refused v size e T n ep L)) z = absurd (n (sym (L .number-is) ∙ z))
-actual-kept (went fine (fits v size e (no-power x same P) y put L)) z = absurd (omega arith)
+actual-kept (went fine (fits v size e (no-power x same P) y put L)) z = absurd (x y)
 actual-kept (went fine (fits v size e (power s₂ P (several x same Z)) y put L)) z = absurd (omega arith)
 actual-kept {s} {s′} {d} {w} {w′} {places} {places′} {at} {free} {k} {j} {number} {place} {c} {n} {top} (went fine (fits v size e (power s₂ P (one s₃ Z T)) y put L)) z = record {
   fine = fine;
@@ -118,19 +118,19 @@ module _ {doc p s d w places : List ℕ} {stack at free k : ℕ} (j q : ℕ) (N 
         node-actual-working : Working s₁ d c₁ top₁ 2 (cell ∷ [])
         node-actual-working = actual-working s d w stack at free k j (exprAt doc a) rest places Q s₁ w₁ number place cell c₁ top₁ at₁ A fine
 
-        module _ {s₂ : List ℕ} {b : Bool} (P : Powered s₁ s₂ d c₁ top₁ cell b) where
-          node-actual-unequal : b ≡ false → {r : Lined} → LinedAt r 33 k 0 0 → ActualsDone s s₂ d w w₁ stack at free k j (exprsFrom doc k (j + 4) (q - j)) places places (r .number) (r .place) (r .at)
-          node-actual-unequal nay {r} L₀ = actuals-told L₀ (back s₂ w₁ places 33 k 0
-              (actual-unequal s d w stack at free k j (exprAt doc a) rest places Q s₁ w₁ number place cell c₁ top₁ at₁ A fine s₂ b P nay 0))
+        module _ {s₂ : List ℕ} {number₂ : ℕ} (P : Powered s₁ s₂ d c₁ top₁ cell number₂) where
+          node-actual-unequal : (number₂ ≡ 0 → ⊥) → {r : Lined} → LinedAt r number₂ k 0 0 → ActualsDone s s₂ d w w₁ stack at free k j (exprsFrom doc k (j + 4) (q - j)) places places (r .number) (r .place) (r .at)
+          node-actual-unequal ne {r} L₀ = actuals-told L₀ (back s₂ w₁ places number₂ k 0
+              (actual-unequal s d w stack at free k j (exprAt doc a) rest places Q s₁ w₁ number place cell c₁ top₁ at₁ A fine s₂ number₂ P ne 0))
 
-          module _ (yes : b ≡ true) where
+          module _ (yes : number₂ ≡ 0) where
             node-actual-closing : Closing s₂ d (c₁ + 2)
-            node-actual-closing = actual-closing s d w stack at free k j (exprAt doc a) rest places Q s₁ w₁ number place cell c₁ top₁ at₁ A fine s₂ b P yes
+            node-actual-closing = actual-closing s d w stack at free k j (exprAt doc a) rest places Q s₁ w₁ number place cell c₁ top₁ at₁ A fine s₂ number₂ P yes
 
             module _ {s₃ : List ℕ} {o : Bool} (Z : Closed s₂ s₃ d (c₁ + 2) o) where
               node-actual-several : o ≡ false → {r : Lined} → LinedAt r 34 k 0 0 → ActualsDone s s₃ d w w₁ stack at free k j (exprsFrom doc k (j + 4) (q - j)) places places (r .number) (r .place) (r .at)
               node-actual-several nay {r} L₀ = actuals-told L₀ (back s₃ w₁ places 34 k 0
-                  (actual-several s d w stack at free k j (exprAt doc a) rest places Q s₁ w₁ number place cell c₁ top₁ at₁ A fine s₂ b P yes s₃ (subst (Closed s₂ s₃ d (c₁ + 2)) nay Z) 0))
+                  (actual-several s d w stack at free k j (exprAt doc a) rest places Q s₁ w₁ number place cell c₁ top₁ at₁ A fine s₂ number₂ P yes s₃ (subst (Closed s₂ s₃ d (c₁ + 2)) nay Z) 0))
 
               module _ (one : o ≡ true) where
                 Z₁ : Closed s₂ s₃ d (c₁ + 2) true
@@ -138,13 +138,13 @@ module _ {doc p s d w places : List ℕ} {stack at free k : ℕ} (j q : ℕ) (N 
 
                 node-actual-store : StoreAsk s₃ d w₁ (c₁ + 2) c₁ at at₁ free
                 node-actual-store =
-                    let R = actual-room s d w stack at free k j (exprAt doc a) rest places Q s₁ w₁ number place cell c₁ top₁ at₁ A fine s₂ b P yes s₃ Z₁ in
+                    let R = actual-room s d w stack at free k j (exprAt doc a) rest places Q s₁ w₁ number place cell c₁ top₁ at₁ A fine s₂ number₂ P yes s₃ Z₁ in
                     let x = R .2 in
                     record {
-                      sizing = actual-sizing s d w stack at free k j (exprAt doc a) rest places Q s₁ w₁ number place cell c₁ top₁ at₁ A fine s₂ b P yes s₃ Z₁;
-                      size = actual-size s d w stack at free k j (exprAt doc a) rest places Q s₁ w₁ number place cell c₁ top₁ at₁ A fine s₂ b P yes s₃ Z₁;
-                      clean = actual-clean s d w stack at free k j (exprAt doc a) rest places Q s₁ w₁ number place cell c₁ top₁ at₁ A fine s₂ b P yes s₃ Z₁;
-                      gap = actual-gap s d w stack at free k j (exprAt doc a) rest places Q s₁ w₁ number place cell c₁ top₁ at₁ A fine s₂ b P yes s₃ Z₁;
+                      sizing = actual-sizing s d w stack at free k j (exprAt doc a) rest places Q s₁ w₁ number place cell c₁ top₁ at₁ A fine s₂ number₂ P yes s₃ Z₁;
+                      size = actual-size s d w stack at free k j (exprAt doc a) rest places Q s₁ w₁ number place cell c₁ top₁ at₁ A fine s₂ number₂ P yes s₃ Z₁;
+                      clean = actual-clean s d w stack at free k j (exprAt doc a) rest places Q s₁ w₁ number place cell c₁ top₁ at₁ A fine s₂ number₂ P yes s₃ Z₁;
+                      gap = actual-gap s d w stack at free k j (exprAt doc a) rest places Q s₁ w₁ number place cell c₁ top₁ at₁ A fine s₂ number₂ P yes s₃ Z₁;
                       some = R .0;
                       before = R .1;
                       room = omega arith;
@@ -166,14 +166,14 @@ module _ {doc p s d w places : List ℕ} {stack at free k : ℕ} (j q : ℕ) (N 
                   next = omega arith
 
                   node-actuals-ask : ActualsAsk s₄ d w₂ stack e free k (j + 1) rest places₁
-                  node-actuals-ask = subst (λ z. ActualsAsk s₄ d w₂ stack e free k z rest places₁) next (actuals-ask s d w stack at free k j (exprAt doc a) rest places Q s₁ w₁ number place cell c₁ top₁ at₁ A fine s₂ b P yes s₃ Z₁ sized s₄ w₂ places₁ e (T .stored) (T .scratch) (T .short) (T .stands) long here others)
+                  node-actuals-ask = subst (λ z. ActualsAsk s₄ d w₂ stack e free k z rest places₁) next (actuals-ask s d w stack at free k j (exprAt doc a) rest places Q s₁ w₁ number place cell c₁ top₁ at₁ A fine s₂ number₂ P yes s₃ Z₁ sized s₄ w₂ places₁ e (T .stored) (T .scratch) (T .short) (T .stands) long here others)
 
                   node-actuals-then : {s₅ w₃ places₂ : List ℕ} {number′ place′ at₂ : ℕ} →
                       ActualsDone s₄ s₅ d w₂ w₃ stack e free k (j + 1) rest places₁ places₂ number′ place′ at₂ →
                       ActualsDone s s₅ d w w₃ stack at free k j (exprsFrom doc k (j + 4) (q - j)) places places₂ number′ place′ at₂
                   node-actuals-then {s₅} {w₃} {places₂} {number′} {place′} {at₂} B =
                       back s₅ w₃ places₂ number′ place′ at₂
-                      (actuals-then s d w stack at free k j (exprAt doc a) rest places Q s₁ w₁ number place cell c₁ top₁ at₁ A fine s₂ b P yes s₃ Z₁ sized s₄ w₂ places₁ e (T .stored) (T .scratch) (T .short) (T .stands) long here others s₅ w₃ places₂ number′ place′ at₂
+                      (actuals-then s d w stack at free k j (exprAt doc a) rest places Q s₁ w₁ number place cell c₁ top₁ at₁ A fine s₂ number₂ P yes s₃ Z₁ sized s₄ w₂ places₁ e (T .stored) (T .scratch) (T .short) (T .stands) long here others s₅ w₃ places₂ number′ place′ at₂
                       (subst (λ z. ActualsDone s₄ s₅ d w₂ w₃ stack e free k z rest places₁ places₂ number′ place′ at₂) (sym next) B))
 
       -- WHAT THE ACTUAL ASKS AND TELLS AFTER THE VISIT.
@@ -204,7 +204,7 @@ module _ {doc p s d w places : List ℕ} {stack at free k : ℕ} (j q : ℕ) (N 
         still {s₂} {s′} {w₂} {w′} {places′} e x y D = subst (λ z. Promised z w′ places′) (sym e) (subst (λ z. Promised s₂ z places′) (sym x) (subst (Promised s₂ w₂) (sym y) D))
 
         told-refused : number ≡ 0 → {s′ w′ : List ℕ} {v size e : ℕ} → (v ≡ 0 → ⊥) → ElementTold s₁ s′ d w₁ w′ c₁ top₁ cell at free v size e → LinedAt r v k 0 0 → Promised s′ w′ places
-        told-refused fine n (no-power e same P) L₀ = still refl same refl (node-actual-unequal fine P refl (subst (λ z. LinedAt r z k 0 0) e L₀))
+        told-refused fine n (no-power e same P) L₀ = still refl same refl (node-actual-unequal fine P e L₀)
         told-refused fine n (power s₂ P (several e same Z)) L₀ = still refl same refl (node-actual-several fine P refl Z refl (subst (λ z. LinedAt r z k 0 0) e L₀))
         told-refused fine n (power s₂ P (one s₃ Z T)) L₀ = absurd (n (T .number-is))
 

@@ -83,36 +83,36 @@ module _ {doc p s d w : List ℕ} {stack base m at free k : ℕ} (N : Node doc p
       node-decl-working : Working s₁ d c₁ top₁ 2 (cell ∷ [])
       node-decl-working = decl-working s d w stack base m at free k (exprAt doc a) (drop 2 p) global Q s₁ w₁ number place cell c₁ top₁ at₁ A fine
 
-      module _ {s₂ : List ℕ} {b : Bool} (P : Powered s₁ s₂ d c₁ top₁ cell b) where
-        node-decl-unequal : b ≡ false → {r : Lined} → LinedAt r 33 k 0 0 → LinesDone s s₂ d w w₁ stack base m at free (lineAt doc k end) global (r .number) (r .place) (r .count) (r .at)
-        node-decl-unequal nay {r} L = lines-told L (back s₂ w₁ 33 k 0 0
-            (decl-unequal s d w stack base m at free k (exprAt doc a) (drop 2 p) global Q s₁ w₁ number place cell c₁ top₁ at₁ A fine s₂ b P nay 0 0))
+      module _ {s₂ : List ℕ} {number₂ : ℕ} (P : Powered s₁ s₂ d c₁ top₁ cell number₂) where
+        node-decl-unequal : (number₂ ≡ 0 → ⊥) → {r : Lined} → LinedAt r number₂ k 0 0 → LinesDone s s₂ d w w₁ stack base m at free (lineAt doc k end) global (r .number) (r .place) (r .count) (r .at)
+        node-decl-unequal ne {r} L = lines-told L (back s₂ w₁ number₂ k 0 0
+            (decl-unequal s d w stack base m at free k (exprAt doc a) (drop 2 p) global Q s₁ w₁ number place cell c₁ top₁ at₁ A fine s₂ number₂ P ne 0 0))
 
-        module _ (yes : b ≡ true) where
+        module _ (yes : number₂ ≡ 0) where
           node-decl-closing : Closing s₂ d (c₁ + 2)
-          node-decl-closing = decl-closing s d w stack base m at free k (exprAt doc a) (drop 2 p) global Q s₁ w₁ number place cell c₁ top₁ at₁ A fine s₂ b P yes
+          node-decl-closing = decl-closing s d w stack base m at free k (exprAt doc a) (drop 2 p) global Q s₁ w₁ number place cell c₁ top₁ at₁ A fine s₂ number₂ P yes
 
           module _ {s₃ : List ℕ} {o : Bool} (Z : Closed s₂ s₃ d (c₁ + 2) o) where
             node-decl-several : o ≡ false → {r : Lined} → LinedAt r 34 k 0 0 → LinesDone s s₃ d w w₁ stack base m at free (lineAt doc k end) global (r .number) (r .place) (r .count) (r .at)
             node-decl-several nay {r} L = lines-told L (back s₃ w₁ 34 k 0 0
-                (decl-several s d w stack base m at free k (exprAt doc a) (drop 2 p) global Q s₁ w₁ number place cell c₁ top₁ at₁ A fine s₂ b P yes s₃ (subst (Closed s₂ s₃ d (c₁ + 2)) nay Z) 0 0))
+                (decl-several s d w stack base m at free k (exprAt doc a) (drop 2 p) global Q s₁ w₁ number place cell c₁ top₁ at₁ A fine s₂ number₂ P yes s₃ (subst (Closed s₂ s₃ d (c₁ + 2)) nay Z) 0 0))
 
             module _ (one : o ≡ true) where
               Z₁ : Closed s₂ s₃ d (c₁ + 2) true
               Z₁ = subst (Closed s₂ s₃ d (c₁ + 2)) one Z
 
               node-decl-sizing : Sizing s₃ d (c₁ + 2) c₁
-              node-decl-sizing = decl-sizing s d w stack base m at free k (exprAt doc a) (drop 2 p) global Q s₁ w₁ number place cell c₁ top₁ at₁ A fine s₂ b P yes s₃ Z₁
+              node-decl-sizing = decl-sizing s d w stack base m at free k (exprAt doc a) (drop 2 p) global Q s₁ w₁ number place cell c₁ top₁ at₁ A fine s₂ number₂ P yes s₃ Z₁
 
               node-decl-store : StoreAsk s₃ d w₁ (c₁ + 2) c₁ at at₁ free
               node-decl-store =
-                  let R = decl-room s d w stack base m at free k (exprAt doc a) (drop 2 p) global Q s₁ w₁ number place cell c₁ top₁ at₁ A fine s₂ b P yes s₃ Z₁ in
+                  let R = decl-room s d w stack base m at free k (exprAt doc a) (drop 2 p) global Q s₁ w₁ number place cell c₁ top₁ at₁ A fine s₂ number₂ P yes s₃ Z₁ in
                   let x = R .2 in
                   record {
                     sizing = node-decl-sizing;
-                    size = decl-size s d w stack base m at free k (exprAt doc a) (drop 2 p) global Q s₁ w₁ number place cell c₁ top₁ at₁ A fine s₂ b P yes s₃ Z₁;
-                    clean = decl-clean s d w stack base m at free k (exprAt doc a) (drop 2 p) global Q s₁ w₁ number place cell c₁ top₁ at₁ A fine s₂ b P yes s₃ Z₁;
-                    gap = decl-gap s d w stack base m at free k (exprAt doc a) (drop 2 p) global Q s₁ w₁ number place cell c₁ top₁ at₁ A fine s₂ b P yes s₃ Z₁;
+                    size = decl-size s d w stack base m at free k (exprAt doc a) (drop 2 p) global Q s₁ w₁ number place cell c₁ top₁ at₁ A fine s₂ number₂ P yes s₃ Z₁;
+                    clean = decl-clean s d w stack base m at free k (exprAt doc a) (drop 2 p) global Q s₁ w₁ number place cell c₁ top₁ at₁ A fine s₂ number₂ P yes s₃ Z₁;
+                    gap = decl-gap s d w stack base m at free k (exprAt doc a) (drop 2 p) global Q s₁ w₁ number place cell c₁ top₁ at₁ A fine s₂ number₂ P yes s₃ Z₁;
                     some = R .0;
                     before = R .1;
                     room = omega arith;
@@ -147,7 +147,7 @@ module _ {doc p s d w : List ℕ} {stack base m at free k : ℕ} (N : Node doc p
                     let l = exprNumbers (exprAt doc a) in
                     let S : Stored s s₄ at e =
                     record {
-                      size = T .stored .size ∙ decl-size s d w stack base m at free k (exprAt doc a) (drop 2 p) global Q s₁ w₁ number place cell c₁ top₁ at₁ A fine s₂ b P yes s₃ Z₁ ∙ sym (W .size);
+                      size = T .stored .size ∙ decl-size s d w stack base m at free k (exprAt doc a) (drop 2 p) global Q s₁ w₁ number place cell c₁ top₁ at₁ A fine s₂ number₂ P yes s₃ Z₁ ∙ sym (W .size);
                       before = λ i h. T .stored .before i h ∙ lower-words s₁ s₃ (Z .low ∙ P .low) i (let z = x .2 in omega arith) ∙ A .areas fine .stored .before i h;
                       after = T .stored .after;
                       more = T .stored .more;
@@ -155,10 +155,10 @@ module _ {doc p s d w : List ℕ} {stack base m at free k : ℕ} (N : Node doc p
                     let o₁ = once-left (l ++ (k ∷ [])) [] (W .once) in
                     let f₁ = fresh-left (l ++ (k ∷ [])) [] (W .known) (W .fresh) in
                     let E = element-done s d w stack at free (exprAt doc a) k 0 (W .size) (W .few) (λ i. once-apart l (k ∷ []) o₁ k i (inl refl)) (omega arith) s₁ w₁ number place cell c₁ top₁ at₁ A
-                    fine s₂ b P yes s₃ Z₁ sized s₄ at (λ g₀. Unit {0}) (λ G₀ S₀. tt) (T .stands) (W .scope) (W .dictionary) (W .before) (W .known) (W .steady) (W .scoped)
+                    fine s₂ number₂ P yes s₃ Z₁ sized s₄ at (λ g₀. Unit {0}) (λ G₀ S₀. tt) (T .stands) (W .scope) (W .dictionary) (W .before) (W .known) (W .steady) (W .scoped)
                     (fresh-left l (k ∷ []) (W .known) f₁, unvisited (l ++ (k ∷ [])) (W .known) f₁ k (last-in l k) 0 (omega arith)) in
                     record {
-                      areas = record { size = T .stored .size ∙ decl-size s d w stack base m at free k (exprAt doc a) (drop 2 p) global Q s₁ w₁ number place cell c₁ top₁ at₁ A fine s₂ b P yes s₃ Z₁; few = omega arith };
+                      areas = record { size = T .stored .size ∙ decl-size s d w stack base m at free k (exprAt doc a) (drop 2 p) global Q s₁ w₁ number place cell c₁ top₁ at₁ A fine s₂ number₂ P yes s₃ Z₁; few = omega arith };
                       table = record {
                         inside = omega arith;
                         readable = λ j h.
@@ -198,34 +198,34 @@ module _ {doc p s d w : List ℕ} {stack base m at free k : ℕ} (N : Node doc p
                 module _ {b₁ : Bool} (F : FitsTold s₄ d w₂ base m (drop 2 p) at v b₁) where
                   node-decl-clash : b₁ ≡ false → {r : Lined} → LinedAt r 36 k 0 0 → LinesDone s s₄ d w w₂ stack base m at free (lineAt doc k end) global (r .number) (r .place) (r .count) (r .at)
                   node-decl-clash nay {r} L = lines-told L (back s₄ w₂ 36 k 0 0
-                      (decl-clash s d w stack base m at free k (exprAt doc a) (drop 2 p) global Q s₁ w₁ number place cell c₁ top₁ at₁ A fine s₂ b P yes s₃ Z₁ sized s₄ w₂ v e M (T .stored) (T .scratch) (T .short) (T .stands) (F .stops nay) 0 0))
+                      (decl-clash s d w stack base m at free k (exprAt doc a) (drop 2 p) global Q s₁ w₁ number place cell c₁ top₁ at₁ A fine s₂ number₂ P yes s₃ Z₁ sized s₄ w₂ v e M (T .stored) (T .scratch) (T .short) (T .stands) (F .stops nay) 0 0))
 
                   module _ (agrees : b₁ ≡ true) {b₂ : Bool} (G : NewIfTold global d (drop 2 p) b₂) where
                     node-decl-global : b₂ ≡ false → {r : Lined} → LinedAt r 36 k 0 0 → LinesDone s s₄ d w w₂ stack base m at free (lineAt doc k end) global (r .number) (r .place) (r .count) (r .at)
                     node-decl-global nay {r} L = lines-told L (back s₄ w₂ 36 k 0 0
-                        (decl-global s d w stack base m at free k (exprAt doc a) (drop 2 p) global Q s₁ w₁ number place cell c₁ top₁ at₁ A fine s₂ b P yes s₃ Z₁ sized s₄ w₂ v e M (T .stored) (T .scratch) (T .short) (T .stands) (F .goes agrees) (G .stops nay) 0 0))
+                        (decl-global s d w stack base m at free k (exprAt doc a) (drop 2 p) global Q s₁ w₁ number place cell c₁ top₁ at₁ A fine s₂ number₂ P yes s₃ Z₁ sized s₄ w₂ v e M (T .stored) (T .scratch) (T .short) (T .stands) (F .goes agrees) (G .stops nay) 0 0))
 
                     module _ (new : b₂ ≡ true) where
                       node-decl-large : 32 < v → {r : Lined} → LinedAt r 38 k 0 0 → LinesDone s s₄ d w w₂ stack base m at free (lineAt doc k end) global (r .number) (r .place) (r .count) (r .at)
                       node-decl-large o₂ {r} L = lines-told L (back s₄ w₂ 38 k 0 0
-                          (decl-large s d w stack base m at free k (exprAt doc a) (drop 2 p) global Q s₁ w₁ number place cell c₁ top₁ at₁ A fine s₂ b P yes s₃ Z₁ sized s₄ w₂ v e M (T .stored) (T .scratch) (T .short) (T .stands) (F .goes agrees) (G .goes new) o₂ 0 0))
+                          (decl-large s d w stack base m at free k (exprAt doc a) (drop 2 p) global Q s₁ w₁ number place cell c₁ top₁ at₁ A fine s₂ number₂ P yes s₃ Z₁ sized s₄ w₂ v e M (T .stored) (T .scratch) (T .short) (T .stands) (F .goes agrees) (G .goes new) o₂ 0 0))
 
                       module _ (light : v ≤ 32) {w₃ : List ℕ} {count : ℕ} (Tb : Table w₂ w₃ base (declareRows (drop 2 p) at (rows w₂ base m)) count) where
                         node-decl-many : 16 < count → {r : Lined} → LinedAt r 38 k 0 0 → LinesDone s s₄ d w w₃ stack base m at free (lineAt doc k end) global (r .number) (r .place) (r .count) (r .at)
                         node-decl-many o₂ {r} L = lines-told L (back s₄ w₃ 38 k 0 0
-                            (decl-many s d w stack base m at free k (exprAt doc a) (drop 2 p) global Q s₁ w₁ number place cell c₁ top₁ at₁ A fine s₂ b P yes s₃ Z₁ sized s₄ w₂ v e M (T .stored) (T .scratch) (T .short) (T .stands) (F .goes agrees) (G .goes new) light w₃ count Tb fit o₂ 0 0))
+                            (decl-many s d w stack base m at free k (exprAt doc a) (drop 2 p) global Q s₁ w₁ number place cell c₁ top₁ at₁ A fine s₂ number₂ P yes s₃ Z₁ sized s₄ w₂ v e M (T .stored) (T .scratch) (T .short) (T .stands) (F .goes agrees) (G .goes new) light w₃ count Tb fit o₂ 0 0))
 
                         node-decl-done : count ≤ 16 → (count ≡ m → ⊥) → {r : Lined} → LinedAt r 0 k count e → LinesDone s s₄ d w w₃ stack base m at free (lineAt doc k end) global (r .number) (r .place) (r .count) (r .at)
                         node-decl-done o₂ ne {r} L = lines-told L (back s₄ w₃ 0 k count e
-                            (decl-done s d w stack base m at free k (exprAt doc a) (drop 2 p) global Q s₁ w₁ number place cell c₁ top₁ at₁ A fine s₂ b P yes s₃ Z₁ sized s₄ w₂ v e M (T .stored) (T .scratch) (T .short) (T .stands) (F .goes agrees) (G .goes new) light w₃ count Tb fit k o₂ ne))
+                            (decl-done s d w stack base m at free k (exprAt doc a) (drop 2 p) global Q s₁ w₁ number place cell c₁ top₁ at₁ A fine s₂ number₂ P yes s₃ Z₁ sized s₄ w₂ v e M (T .stored) (T .scratch) (T .short) (T .stands) (F .goes agrees) (G .goes new) light w₃ count Tb fit k o₂ ne))
 
                         node-decl-kept : {s₅ : List ℕ} → count ≡ m → s₅ ≡ sets s₄ at (replicate (e - at) 0) → {r : Lined} → LinedAt r 0 k m at → LinesDone s s₅ d w w₃ stack base m at free (lineAt doc k end) global (r .number) (r .place) (r .count) (r .at)
                         node-decl-kept {s₅} o₂ wiped {r} L = lines-told L (back s₅ w₃ 0 k m at
-                            (decl-kept s d w stack base m at free k (exprAt doc a) (drop 2 p) global Q s₁ w₁ number place cell c₁ top₁ at₁ A fine s₂ b P yes s₃ Z₁ sized s₄ w₂ v e M (T .stored) (T .scratch) (T .short) (T .stands) (F .goes agrees) (G .goes new) light w₃ count Tb fit k s₅ (Q .few) o₂ wiped))
+                            (decl-kept s d w stack base m at free k (exprAt doc a) (drop 2 p) global Q s₁ w₁ number place cell c₁ top₁ at₁ A fine s₂ number₂ P yes s₃ Z₁ sized s₄ w₂ v e M (T .stored) (T .scratch) (T .short) (T .stands) (F .goes agrees) (G .goes new) light w₃ count Tb fit k s₅ (Q .few) o₂ wiped))
 
     -- WHAT THE DECL ASKS AND TELLS AFTER THE VISIT.
     typing : number ≡ 0 → (s₄ w₂ : List ℕ) (v size e : ℕ) → ElementTold s₁ s₄ d w₁ w₂ c₁ top₁ cell at free v size e → TypedAsk s₄ d w₂ base m p at e k v
-    typing fine s₄ w₂ v size e (no-power q same P) = record { near = small; readable = λ z. absurd (omega arith); entering = λ z. absurd (omega arith) }
+    typing fine s₄ w₂ v size e (no-power q same P) = record { near = small; readable = λ z. absurd (q z); entering = λ z. absurd (q z) }
     typing fine s₄ w₂ v size e (power s₂ P (several q same Z)) = record { near = small; readable = λ z. absurd (omega arith); entering = λ z. absurd (omega arith) }
     typing fine s₄ w₂ v size e (power s₂ P (one s₃ Z T)) = record {
       near = small;
@@ -256,13 +256,13 @@ module _ {doc p s d w : List ℕ} {stack base m at free k : ℕ} (N : Node doc p
       numbered {f} {g} {place′} {count′} {end′} e L = subst (λ z. LinedAt r z place′ count′ end′) e L
 
       module _ (fine : number ≡ 0) where
-        told-unequal : {s₄ w₂ s′ w′ : List ℕ} {v size e : ℕ} → v ≡ 33 → w₂ ≡ w₁ → Powered s₁ s₄ d c₁ top₁ cell false →
+        told-unequal : {s₄ w₂ s′ w′ : List ℕ} {v size e : ℕ} → (v ≡ 0 → ⊥) → w₂ ≡ w₁ → Powered s₁ s₄ d c₁ top₁ cell v →
             TypedTold s₄ s′ d w₂ w′ base m (drop 2 p) at k global v size e r → Promised s′ w′
-        told-unequal q same P (untyped n es ew L) = still es (ew ∙ same) (node-decl-unequal fine P refl (numbered q L))
-        told-unequal q same P (refused own z O n es ew L) = absurd (omega arith)
-        told-unequal q same P (fits z O E) = absurd (omega arith)
+        told-unequal q same P (untyped n es ew L) = still es (ew ∙ same) (node-decl-unequal fine P q L)
+        told-unequal q same P (refused own z O n es ew L) = absurd (q z)
+        told-unequal q same P (fits z O E) = absurd (q z)
 
-        module _ {s₂ : List ℕ} (P : Powered s₁ s₂ d c₁ top₁ cell true) where
+        module _ {s₂ : List ℕ} (P : Powered s₁ s₂ d c₁ top₁ cell 0) where
           told-several : {s₄ w₂ s′ w′ : List ℕ} {v size e : ℕ} → v ≡ 34 → w₂ ≡ w₁ → Closed s₂ s₄ d (c₁ + 2) false →
               TypedTold s₄ s′ d w₂ w′ base m (drop 2 p) at k global v size e r → Promised s′ w′
           told-several q same Z (untyped n es ew L) = still es (ew ∙ same) (node-decl-several fine P refl Z refl (numbered q L))
