@@ -18,7 +18,7 @@ use Rattle.checker_pieces.specs.Stage.{Ghost, nodeCells}
 use Rattle.checker_pieces.specs.Building.{Cells, Building}
 use Rattle.checker_pieces.proofs.Stages.{building}
 use Rattle.checker_kinds.specs.Formers.{Operating, DerivedList}
-use Rattle.checker_lookup.specs.References.{Actuals, Referring, ReferringWith, RefersWith}
+use Rattle.checker_lookup.specs.References.{Referring, ReferringWith, RefersWith}
 use Rattle.checker_lookup.specs.Thetas.{ThetaAsked}
 use Rattle.checker_contracts.specs.Expressions.{Visiting, ExprAsk, ExprDone, ExprsAsk, ExprsDone}
 use Rattle.checker_contracts.specs.Parts.{nothing, Part, Ending}
@@ -28,7 +28,7 @@ use Rattle.checker_contracts.proofs.Visiting.{visiting-part, visiting-l
 use Rattle.checker_contracts.proofs.Parts.{part-then, part-stops, part-next, part-leaves}
 use Rattle.checker_contracts.proofs.Operands.{exprs-part, exprs-ending, expr-done, listed-ending, refers-ending}
 use Rattle.checker_contracts.proofs.Expressions.{node-room}
-use Rattle.checker_contracts.proofs.Lists.{run-take, actuals-of}
+use Rattle.checker_contracts.proofs.Lists.{run-take}
 
 -- A NAME MAY BE LOOKED UP at node k.
 unfoldable pub node-referring : (s d w : List ℕ) (rows n top at free h k : ℕ) → Visiting s d w rows n top at free h (k ∷ []) → Referring s d w n top rows
@@ -133,18 +133,18 @@ module _ (s d w : List ℕ) (rows n top at free : ℕ) (e : Expr) (xs : Exprs) (
             stops = λ ne G St Γ D Q f b. rw (same Γ) (F .stops ne G St Γ D Q f (subst (λ v. Cells s₁ d n₁ G v (typesOf xs)) taken b));
           }
 
-      actuals : (G : Ghost) → Cells s₁ d n₁ G (run parts₁ 0 (exprsLength xs)) (typesOf xs) → Actuals s₁ d n₁ G parts₁ 0 xs
-      actuals G b = let a = E .size in actuals-of s₁ d n₁ G parts₁ 0 xs (omega arith) b
+      actuals : (G : Ghost) → Cells s₁ d n₁ G (run parts₁ 0 (exprsLength xs)) (typesOf xs) → Cells s₁ d n₁ G (run parts₁ 0 m) (typesOf xs)
+      actuals G b = subst (λ q. Cells s₁ d n₁ G (run parts₁ 0 q) (typesOf xs)) count b
 
       -- Ref
       pub listing-referring : ReferringWith s₁ d w₁ n₁ top₁ rows parts₁ m
       unfolding node-referring
-      listing-referring = record { referring = node-referring s₁ d w₁ rows n₁ top₁ at₁ free (K .height) k L; expressions = xs; actuals = actuals (L .ghost) C; count = count }
+      listing-referring = record { referring = node-referring s₁ d w₁ rows n₁ top₁ at₁ free (K .height) k L; expressions = xs; actuals = actuals (L .ghost) C; within = listing-fit }
 
       pub listing-refers : (s₂ : List ℕ) (id answer cell n₂ top₂ : ℕ) → ((Γ : Scope) → own Γ ≡ referenceItems k xs (nameAt id Γ)) → length s₂ ≡ length s₁ →
           RefersWith s₁ s₂ d w₁ n₁ top₁ rows id parts₁ m answer cell n₂ top₂ → ExprDone s s₂ d w w₁ rows n top at free e answer k cell n₂ top₂ at₁
       listing-refers s₂ id answer cell n₂ top₂ same size R =
-          let F = refers-ending s₁ s₂ d w₁ rows n₁ top₁ at₁ free k answer cell n₂ top₂ nodeCells size low₁ (L .clean) id parts₁ m R xs count in
+          let F = refers-ending s₁ s₂ d w₁ rows n₁ top₁ at₁ free k answer cell n₂ top₂ nodeCells size low₁ (L .clean) id parts₁ m R xs in
           listing-from s₂ answer cell n₂ top₂ record {
             spared = F .spared;
             areas = F .areas;

@@ -15,11 +15,10 @@ use Rattle.checker_rules.specs.Rules.{exprItems, exprsItems}
 use Rattle.types_cells.specs.Layout.{maxCells}
 use Rattle.types_cells.specs.Store.{run}
 use Rattle.types_cells.proofs.Words.{run-at, run-length, run-cons}
-use Rattle.checker_pieces.specs.Stage.{Ghost, Cell, nodeCells}
+use Rattle.checker_pieces.specs.Stage.{Cell, nodeCells}
 use Rattle.checker_pieces.specs.Building.{Cells}
 use Rattle.checker_pieces.proofs.Walks.{stops-left}
 use Rattle.checker_pieces.proofs.Stages.{next, next-cell, no-cells, skip-advanced, then-cells, room-less}
-use Rattle.checker_lookup.specs.References.{Actuals}
 use Rattle.checker_contracts.specs.Visits.{Owned}
 use Rattle.checker_contracts.specs.Expressions.{Visiting, ExprAsk, ExprDone, ExprsAsk, ExprsDone}
 use Rattle.checker_contracts.specs.Parts.{nothing, Part, Ending}
@@ -192,13 +191,3 @@ module _ (s d w : List ℕ) (rows n top at free : ℕ) (a : Expr) (xs : Exprs) (
           goes = λ y G St Γ D C f. let I = Both y .step .goes G St Γ D C f tt in record { advanced = I .advanced; operands = rw cells-are (I .holds) };
           stops = λ ne G St Γ D C f. Stopped ne .stops ne G St Γ D C f tt;
         }
-
--- The actuals of a Ref, from the cells of their row.
-pub actuals-of : (s d : List ℕ) (n : ℕ) (G : Ghost) (parts : List ℕ) (i : ℕ) (xs : Exprs) → i + exprsLength xs ≤ length parts →
-    Cells s d n G (run parts i (exprsLength xs)) (typesOf xs) → Actuals s d n G parts i xs
-unfolding exprsLength typesOf Actuals Cells
-actuals-of s d n G parts i none p C = tt
-actuals-of s d n G parts i (more a xs) p C =
-    let e = run-cons parts i (exprsLength xs) (omega arith) in
-    let K = subst (λ v. Cells s d n G v (cons (typeOf a) (typesOf xs))) e C in
-    (K .0, actuals-of s d n G parts (suc i) xs (omega arith) (K .1))

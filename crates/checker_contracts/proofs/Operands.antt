@@ -20,7 +20,7 @@ use Rattle.checker_pieces.specs.Building.{Cells}
 use Rattle.checker_pieces.proofs.Stages.{next-cell, placed-cell, no-cells}
 use Rattle.checker_kinds.specs.Equations.{Combined}
 use Rattle.checker_kinds.specs.Formers.{DerivedList, Derived}
-use Rattle.checker_lookup.specs.References.{Actuals, RefersWith}
+use Rattle.checker_lookup.specs.References.{RefersWith}
 use Rattle.checker_lookup.specs.Thetas.{ThetaRuled}
 use Rattle.checker_contracts.specs.Visits.{Owned, Fresh}
 use Rattle.checker_contracts.specs.Expressions.{ExprDone, ExprsDone}
@@ -123,11 +123,11 @@ module _ (s s′ d w : List ℕ) (rows n top at free k number cell n′ top′ u
         rule-ending s s′ d w w rows n top n′ top′ at free k number cell used (λ Γ. own k none) nothing (spared-refl w rows free) size (R .low) room clean few (R .uses)
         (λ G St Γ D C v b. R .ruled G St k v none (no-cells s d n G))
 
-  pub refers-ending : (id : ℕ) (parts : List ℕ) (m : ℕ) → RefersWith s s′ d w n top rows id parts m number cell n′ top′ → (xs : Exprs) → exprsLength xs ≡ m →
-      Ending s s′ d w w rows n top at free (λ Γ. referenceItems k xs (nameAt id Γ)) (k ∷ []) (λ Γ D G. Actuals s d n G parts 0 xs) (slot k 0) number k cell n′ top′ at
-  refers-ending id parts m R xs e =
-      rule-ending s s′ d w w rows n top n′ top′ at free k number cell nodeCells (λ Γ. referenceItems k xs (nameAt id Γ)) (λ Γ D G. Actuals s d n G parts 0 xs) (spared-refl w rows free) size (R .low) room clean
-      (omega arith) (R .uses) (λ G St Γ D C v b. R .ruled G St k v Γ D C xs b e)
+  pub refers-ending : (id : ℕ) (parts : List ℕ) (m : ℕ) → RefersWith s s′ d w n top rows id parts m number cell n′ top′ → (xs : Exprs) →
+      Ending s s′ d w w rows n top at free (λ Γ. referenceItems k xs (nameAt id Γ)) (k ∷ []) (λ Γ D G. Cells s d n G (run parts 0 m) (typesOf xs)) (slot k 0) number k cell n′ top′ at
+  refers-ending id parts m R xs =
+      rule-ending s s′ d w w rows n top n′ top′ at free k number cell nodeCells (λ Γ. referenceItems k xs (nameAt id Γ)) (λ Γ D G. Cells s d n G (run parts 0 m) (typesOf xs)) (spared-refl w rows free) size (R .low) room clean
+      (omega arith) (R .uses) (λ G St Γ D C v b. R .ruled G St k v Γ D C xs b)
 
   pub theta-ending : (w′ : List ℕ) (id t : ℕ) → ThetaRuled s s′ d w w′ n top rows free id t number cell n′ top′ → length w′ ≡ length w → 2 * rows ≤ free →
       Ending s s′ d w w′ rows n top at free (λ Γ. thetaItems k t (schemaNamed id Γ) Γ) (k ∷ []) nothing (slot k 0) number k cell n′ top′ at

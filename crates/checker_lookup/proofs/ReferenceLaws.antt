@@ -6,7 +6,7 @@ use Prim.Native.Nat.{ℕ, suc, _+_, _<_}
 use native.Mathlib.Omega.{arith}
 use Rattle.types_rules.specs.Equations.{In, InP}
 use Rattle.types_rules.specs.Instance.{instance}
-use Rattle.types_rules.specs.Types.{Ty, Term}
+use Rattle.types_rules.specs.Types.{Ty}
 use Rattle.checker_rules.specs.Conditions.{freshRow, typed}
 use Rattle.checker_rules.specs.Items.{Items, _⨾_}
 use Rattle.checker_rules.specs.Unknowns.{slot, row}
