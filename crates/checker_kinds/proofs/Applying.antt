@@ -1,7 +1,7 @@
 -- Apply: a new unknown for the result, the power of the pairs of argument and result, and the equation with the function.
-use mathlib.Core.Path.{_≡_, refl, sym, subst, _∙_}
+use mathlib.Core.Path.{_≡_, sym, subst, _∙_}
 use mathlib.Core.List.{List, [], _∷_}
-use Prim.Native.Nat.{ℕ, suc, _+_, _≤_, _<_}
+use Prim.Native.Nat.{ℕ, suc, _+_}
 use native.Mathlib.Omega.{arith}
 use Rattle.types_rules.specs.Equations.{In, end, pair}
 use Rattle.types_rules.specs.Former.{power, product}

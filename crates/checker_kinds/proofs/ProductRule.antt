@@ -10,7 +10,7 @@ use Rattle.types_rules.specs.Equations.{In}
 use Rattle.types_rules.specs.Former.{power, product}
 use Rattle.types_rules.specs.Types.{nil, cons}
 use Rattle.checker_rules.proofs.Slots.{slots-apart}
-use Rattle.checker_rules.specs.Conditions.{typed, typesOf, arePowers}
+use Rattle.checker_rules.specs.Conditions.{typed, arePowers}
 use Rattle.checker_rules.specs.Items.{Items, _⨾_}
 use Rattle.checker_rules.specs.Unknowns.{slot, unknownAt, row, powerOf, productOf}
 use Rattle.types_cells.specs.Store.{run}

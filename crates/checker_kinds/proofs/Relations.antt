@@ -1,7 +1,7 @@
 -- Relations: what their functions promise, from the equations of cells.
-use mathlib.Core.Path.{_≡_, refl, sym, subst, _∙_}
+use mathlib.Core.Path.{_≡_, sym, subst, _∙_}
 use mathlib.Core.List.{List, [], _∷_}
-use Prim.Native.Nat.{ℕ, suc, _+_, _≤_, _<_}
+use Prim.Native.Nat.{ℕ, suc}
 use native.Mathlib.Omega.{arith}
 use Rattle.types_rules.specs.Equations.{end, pair}
 use Rattle.types_rules.specs.Former.{power}

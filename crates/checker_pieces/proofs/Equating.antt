@@ -5,7 +5,7 @@ use mathlib.Core.Logic.{_↔_, inl, inr, ⊎-elim}
 use Prim.Native.Nat.{ℕ, _+_}
 use Rattle.types_rules.specs.Equations.{AllP, In, Pairs, Solves, end, pair}
 use Rattle.types_rules.specs.Trees.{finite}
-use Rattle.types_rules.specs.Types.{Ty, tcons, node, Term, Terms, unknown, con, nil, cons, under, unders, Each, Eachs}
+use Rattle.types_rules.specs.Types.{Ty, node, Term, under, Each}
 use Rattle.checker_rules.specs.Unknowns.{Valuation}
 use Rattle.checker_rules.specs.Items.{Items, _⨾_, equations, Meets, MeetsIn, Agree, Passes, Refuses}
 use Rattle.types_cells.specs.Store.{tagAt}

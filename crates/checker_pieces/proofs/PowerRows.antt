@@ -1,28 +1,28 @@
 -- The powers of a row of cells, made one by one; operands that are powers: a row of unknowns, a row of their powers, the equations.
-use mathlib.Core.Path.{_≡_, refl, sym, ap, subst, _∙_}
+use mathlib.Core.Path.{_≡_, sym, subst, _∙_}
 use mathlib.Core.List.{List, [], _∷_}
-use mathlib.Core.Logic.{inl, inr, ⊎-elim}
-use Prim.Native.Nat.{ℕ, suc, _+_, _≤_, _<_, _^_}
+use mathlib.Core.Logic.{⊎-elim}
+use Prim.Native.Nat.{ℕ, suc, _+_, _≤_, _<_}
 use native.Mathlib.Omega.{arith}
 use native.Mathlib.Nat.{eq-or-lt-of-le}
 use lib.ListN.{length}
-use Rattle.reader_rules.specs.Tree.{Exprs, exprsLength}
+use Rattle.reader_rules.specs.Tree.{Exprs}
 use Rattle.types_rules.specs.Equations.{InP}
 use Rattle.types_rules.specs.Former.{power}
 use Rattle.types_rules.specs.Types.{Term, nil, cons}
 use Rattle.checker_rules.specs.Conditions.{arePowers, freshRow, powers, typesOf}
 use Rattle.checker_rules.specs.Items.{Items, _⨾_, equations}
 use Rattle.checker_rules.specs.Unknowns.{slot, unknownAt, powerOf}
-use Rattle.types_cells.specs.Store.{frozen, load, run}
+use Rattle.types_cells.specs.Store.{run}
 use Rattle.types_cells.proofs.Words.{run-length}
 use Rattle.types_solver.proofs.Extending.{builds-on, builds-refl}
 use Rattle.checker_pieces.specs.Piece.{Stops}
-use Rattle.checker_pieces.specs.Stage.{Ghost, Stands, Room, Cell, Unvisited, Advanced, Comparing, Sides, Equated, Uses}
+use Rattle.checker_pieces.specs.Stage.{Ghost, Stands, Cell, Unvisited, Advanced, Comparing, Sides, Equated, Uses}
 use Rattle.checker_pieces.specs.Building.{Building, Built, Cells}
 use Rattle.checker_pieces.specs.Rows.{RowAsked, Among, RowOf, RowMade, PowersAsked, PowersMade, Powering, PowersOf, Powers}
 use Rattle.checker_pieces.proofs.PowerLaws.{unmentioned-node}
 use Rattle.checker_pieces.proofs.RowLaws.{cells-count, sides-powers, sides-comparing}
-use Rattle.checker_pieces.proofs.Stages.{next, next-stands, next-cells, placed-cell, cell-built, cells-built, stands-built, built-old, built-cell, one-cell, room-less, uses-on, equal-room, equal-advanced, built-before, advance-then, stop-then, wider-mine}
+use Rattle.checker_pieces.proofs.Stages.{next, next-stands, next-cells, placed-cell, cell-built, cells-built, stands-built, built-old, built-cell, one-cell, room-less, uses-on, equal-room, equal-advanced, built-before, advance-then, stop-then}
 
 -- NONE YET.
 powers-none : (s : List ℕ) (n top first m : ℕ) → PowersAsked s n top first m → PowersMade s s n top first 0 n top

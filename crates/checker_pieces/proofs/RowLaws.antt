@@ -1,13 +1,13 @@
 -- Operands one after another: the sides of their equations, and what the equations promise of members of a Set.
-use mathlib.Core.Path.{_≡_, refl, sym, ap, subst, _∙_}
+use mathlib.Core.Path.{_≡_, refl, ap, subst}
 use mathlib.Core.List.{List, [], _∷_}
-use Prim.Native.Nat.{ℕ, zero, suc, _+_, _<_}
+use Prim.Native.Nat.{ℕ, suc, _+_, _<_}
 use native.Mathlib.Omega.{arith}
 use lib.ListN.{length}
 use Rattle.reader_rules.specs.Tree.{Exprs, none, more, exprsLength}
 use Rattle.types_rules.specs.Equations.{Pairs}
 use Rattle.types_rules.specs.Types.{Term}
-use Rattle.checker_rules.specs.Conditions.{typeOf, typesOf, areMembers, members, powers}
+use Rattle.checker_rules.specs.Conditions.{typesOf, areMembers, members, powers}
 use Rattle.checker_rules.specs.Unknowns.{unknownAt, powerOf}
 use Rattle.checker_pieces.specs.Stage.{Ghost, Cell, Comparing, SidesBy, Sides, Equated, StandsReady}
 use Rattle.checker_pieces.specs.Building.{Cells}

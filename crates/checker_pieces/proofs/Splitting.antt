@@ -1,8 +1,8 @@
 -- 33 AND 39: the solutions of the store of possibly infinite types are the valuations of such types that meet the items so far, as those of types are. Each of
 -- the former is a solution of types with stand-ins, filled (types_rules, proofs/Filling), so that what a piece says of types is enough.
-use mathlib.Core.Path.{_≡_, refl, sym, ap, subst, fun-ext, _∙_}
+use mathlib.Core.Path.{_≡_, sym, ap, fun-ext, _∙_}
 use mathlib.Core.List.{List}
-use Prim.Native.Nat.{ℕ, suc, _+_, _≤_, _<_}
+use Prim.Native.Nat.{ℕ, suc, _+_, _≤_}
 use native.Mathlib.Omega.{arith}
 use Rattle.types_rules.proofs.Classify.{Links, by-solves, links, solution-by}
 use Rattle.types_rules.proofs.Filling.{fill, fill-solution, fill-solves, fill-under, highPairs, highTerm, stand}

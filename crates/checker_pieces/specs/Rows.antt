@@ -2,7 +2,7 @@
 -- Set). Rows of new cells.
 use mathlib.Core.Path.{_≡_}
 use mathlib.Core.List.{List}
-use Prim.Native.Nat.{ℕ, suc, _+_, _*_, _≤_, _<_}
+use Prim.Native.Nat.{ℕ, suc, _+_, _≤_, _<_}
 use Rattle.reader_rules.specs.Tree.{Exprs}
 use Rattle.types_rules.specs.Equations.{InP, Pairs}
 use Rattle.types_rules.specs.Types.{Term}

@@ -6,7 +6,7 @@ use mathlib.Core.Logic.{_⊎_}
 use Prim.Native.Nat.{ℕ, _+_, _*_, _≤_, _<_, _^_}
 use lib.ListN.{length}
 use Rattle.types_rules.specs.Equations.{In, InP, Pairs, end, pair}
-use Rattle.types_rules.specs.Types.{Ty, Term, Each}
+use Rattle.types_rules.specs.Types.{Term, Each}
 use Rattle.checker_rules.specs.Unknowns.{slot}
 use Rattle.checker_rules.specs.Items.{Items, _⨾_, equations}
 use Rattle.types_cells.specs.Layout.{maxPending, frozenSize, maxCells}

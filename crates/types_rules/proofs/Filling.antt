@@ -1,28 +1,26 @@
 -- Types that stand for possibly infinite ones: the givens from B on are stand-ins, and `fill` puts possibly infinite types in their place. Where equations have a
 -- solution, every one of possibly infinite types is the solution with stand-ins at the unknowns left open, filled.
 use Prim.Native.Nat.{_+_, _-_, _≤_, suc, zero, ℕ}
-use lib.Dec.{eqb, ltb}
+use lib.Dec.{ltb}
 use lib.ListN.{length}
 use mathlib.Core.Bool.{Bool, false, true}
 use mathlib.Core.List.{List, [], _∷_, map}
 use mathlib.Core.Logic.{_⊎_, inl, inr, ⊎-elim}
-use mathlib.Core.Option.{Option, none, some}
-use mathlib.Core.Path.{_∙_, _≡_, ap, ap₂, fun-ext, refl, subst, sym}
+use mathlib.Core.Path.{_∙_, _≡_, ap, ap₂, refl, subst, sym}
 use native.Mathlib.Omega.{arith}
 use borrow.Author.Tests.{lt-ltb, le-ltb}
-use Rattle.types_rules.proofs.Classify.{Links, by-open, by-solves, rep-us, run, sameTerm-eq, sameTerm-ne, solution-by, univ-all, univ-kids, us}
-use Rattle.types_rules.proofs.Finite.{all-at, map-same}
+use Rattle.types_rules.proofs.Classify.{Links, by-open, rep-us, sameTerm-eq, sameTerm-ne, solution-by, univ-all, univ-kids, us}
+use Rattle.types_rules.proofs.Finite.{all-at}
 use Rattle.types_rules.proofs.Follows.{links-in, merged-follows, rep-follows}
 use Rattle.types_rules.proofs.Infinite.{follows-inf, inf-term}
 use Rattle.types_rules.proofs.Terms.{bool-no}
 use Rattle.types_rules.specs.Classes.{rep, swap}
-use Rattle.types_rules.specs.Classify.{join, merged, sameTerm, subs, subss, toList, univ, viewTerm}
-use Rattle.types_rules.specs.Component.{componentType, pickType}
+use Rattle.types_rules.specs.Classify.{join, sameTerm, subs, subss, univ, viewTerm}
 use Rattle.types_rules.specs.Equations.{AllP, In, Pairs, Solves, end, pair}
 use Rattle.types_rules.specs.Finite.{bounded, boundedView, fromList, typeOf, typeOfView}
 use Rattle.types_rules.specs.Follows.{View, shape, unk}
-use Rattle.types_rules.specs.Former.{Former, binding, given, identifiers, int, parameter, power, product}
-use Rattle.types_rules.specs.Infinite.{Inf, atPath, componentInf, eval, evals, mkI, placeInf, topInf, underInf, whole, wholes}
+use Rattle.types_rules.specs.Former.{Former, binding, given, int, parameter, power, product}
+use Rattle.types_rules.specs.Infinite.{Inf, eval, evals, mkI, underInf, whole, wholes}
 use Rattle.types_rules.specs.Types.{Term, Terms, Ty, Tys, con, cons, integerType, nil, node, tcons, tnil, under, unders, unknown}
 
 -- Above all givens.
@@ -130,32 +128,6 @@ module _ (B : ℕ) (ι : ℕ → Inf) where
     unfolding highPairs
     fill-solves end l h = tt
     fill-solves (pair a b P) l h = (sym (fill-under a (omega arith)) ∙ ap (fill B ι) (h .0) ∙ fill-under b (omega arith), fill-solves P (omega arith) (h .1))
-
-  -- A component of a binding, filled.
-  some-inj : (a b : Ty) → some a ≡ some b → a ≡ b
-  some-inj a b q = cc
-
-  place-fill : (c : ℕ) (is : List ℕ) (gs : Tys) (k : Ty) (e : ℕ → Inf) → ((i : ℕ) (p : List ℕ) → e i p ≡ atPath (λ d. d p) (fills B ι gs) i) → pickType c is gs ≡ some k →
-      placeInf c is (length (fills B ι gs)) e ≡ some (fill B ι k)
-  unfolding placeInf pickType fill atPath
-  place-fill c [] gs k e h q = let z : _≡_ {A = ℕ} 0 1 = cc in absurd (omega arith)
-  place-fill c (i ∷ is) tnil k e h q = let z : _≡_ {A = ℕ} 0 1 = cc in absurd (omega arith)
-  place-fill c (i ∷ is) (tcons g gs) k e h q = go (eqb i c) q (λ r. place-fill c is gs k (λ j. e (suc j)) (λ j p. h (suc j) p) r)
-    where
-      go : (b : Bool) → (elim b as (λ x. Option Ty) [ true ↦ some g | false ↦ pickType c is gs ]) ≡ some k →
-          (pickType c is gs ≡ some k → placeInf c is (length (fills B ι gs)) (λ j. e (suc j)) ≡ some (fill B ι k)) →
-          (elim b as (λ x. Option Inf) [ true ↦ some (e zero) | false ↦ placeInf c is (length (fills B ι gs)) (λ j. e (suc j)) ]) ≡ some (fill B ι k)
-      go true r f = ap some (fun-ext (λ p. h zero p)) ∙ ap (λ z. some (fill B ι z)) (some-inj g k r)
-      go false r f = f r
-
-  pub fill-component : (c : ℕ) (g k : Ty) → componentType c g ≡ some k → componentInf c (fill B ι g) ≡ some (fill B ι k)
-  unfolding componentType componentInf topInf fill fillFormer mkI identifiers pickType
-  fill-component c (node int gs) k q = let z : _≡_ {A = ℕ} 0 1 = cc in absurd (omega arith)
-  fill-component c (node (given g) gs) k q = let z : _≡_ {A = ℕ} 0 1 = cc in absurd (omega arith)
-  fill-component c (node (parameter i) gs) k q = let z : _≡_ {A = ℕ} 0 1 = cc in absurd (omega arith)
-  fill-component c (node power gs) k q = let z : _≡_ {A = ℕ} 0 1 = cc in absurd (omega arith)
-  fill-component c (node product gs) k q = let z : _≡_ {A = ℕ} 0 1 = cc in absurd (omega arith)
-  fill-component c (node (binding l) gs) k q = place-fill c l gs k _ (λ i p. refl) q
 
 -- NODES OF ANY KIND, those of S: ρ is a solution of possibly infinite types, and τ gives the unknown nodes what, filled, is theirs.
 module _ {N : Type 0} (r : N → N) (view : N → View N) (S : N → Type 0) (S-rep : (n : N) → S n → S (r n)) (S-kids : (n : N) (h : Former) (cs : List N) → S n → view n ≡ shape h cs → (c : N) → In c cs → S c)

@@ -5,7 +5,7 @@ use lib.ListN.{length, length-map}
 use mathlib.Core.Bool.{Bool, false, true}
 use mathlib.Core.List.{List, [], _∷_, map}
 use mathlib.Core.Logic.{_↔_}
-use mathlib.Core.Option.{Option, none, some}
+use mathlib.Core.Option.{Option, some}
 use mathlib.Core.Path.{_∙_, _≡_, ap, ap₂, fun-ext, refl, subst, sym}
 use native.Mathlib.Omega.{arith}
 use Rattle.types_rules.proofs.Classify.{classify-right, run, sameTerm-eq, sameTerm-ne, univ-all, univ-kids, us}

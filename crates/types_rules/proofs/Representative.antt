@@ -1,9 +1,8 @@
 -- What stands for a term follows to be equal to it; equations that give a term no component have a solution where it has none.
 use Prim.Native.Nat.{ℕ}
 use lib.ListN.{length}
-use mathlib.Core.List.{List}
 use mathlib.Core.Option.{none}
-use mathlib.Core.Path.{_∙_, _≡_, ap, refl, subst, sym}
+use mathlib.Core.Path.{_∙_, _≡_, ap, refl, sym}
 use Rattle.types_rules.proofs.Classify.{Links, build, by-open, by-solves, fromList-inj, links, run, solution-by, sameTerm-eq, sameTerm-ne, under-fits, us}
 use Rattle.types_rules.proofs.Closed.{idem}
 use Rattle.types_rules.proofs.Component.{component-former}
@@ -11,13 +10,13 @@ use Rattle.types_rules.proofs.Follows.{merged-closed, merged-follows, r
 use Rattle.types_rules.proofs.Solutions.{node-1}
 use Rattle.types_rules.proofs.Transfer.{follows-holds}
 use Rattle.types_rules.specs.Classes.{rep}
-use Rattle.types_rules.specs.Classify.{Out, Solvable, apart, mergeLevels, merged, sameTerm, spent, univ, viewTerm}
+use Rattle.types_rules.specs.Classify.{Out, Solvable, apart, merged, sameTerm, spent, viewTerm}
 use Rattle.types_rules.specs.Component.{component, componentType, pickType}
-use Rattle.types_rules.specs.Equations.{Pairs, Solves, end}
+use Rattle.types_rules.specs.Equations.{Pairs, Solves}
 use Rattle.types_rules.specs.Follows.{Follows, reflexive}
-use Rattle.types_rules.specs.Former.{identifiers, int}
+use Rattle.types_rules.specs.Former.{identifiers}
 use Rattle.types_rules.specs.Representative.{representative, standsFor}
-use Rattle.types_rules.specs.Types.{Term, Ty, con, node, tnil, under, unknown, integerType}
+use Rattle.types_rules.specs.Types.{Term, Ty, con, under, unknown, integerType}
 
 -- What follows from equations holds in each of their solutions.
 pub follows-under : (P : Pairs Term) (σ : ℕ → Ty) → Solves (under σ) P → (a b : Term) → Follows viewTerm P a b → under σ a ≡ under σ b

@@ -1,7 +1,6 @@
 -- Laws of types, finite or possibly infinite.
-use Prim.Native.Nat.{ℕ}
-use mathlib.Core.List.{List, [], _∷_, map}
-use mathlib.Core.Path.{_∙_, _≡_, ap, ap₂, refl, sym}
+use mathlib.Core.List.{List, [], _∷_}
+use mathlib.Core.Path.{_≡_, ap, refl}
 use Rattle.types_rules.proofs.Classify.{fromList-inj}
 use Rattle.types_rules.proofs.Infinite.{mkI-c, mkI-h, whole-one}
 use Rattle.types_rules.proofs.Solutions.{node-0, node-1}

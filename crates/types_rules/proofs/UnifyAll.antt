@@ -1,12 +1,11 @@
--- Several equations: what the unifier answers, and that it stops exactly where no solution is left.
+-- Several equations: what the unifier answers, and that states are kept.
 use Prim.Native.Nat.{ℕ}
 use mathlib.Core.List.{List}
-use mathlib.Core.Logic.{_↔_}
 use Rattle.types_rules.proofs.Solutions.{spec-iff, unify-spec}
-use Rattle.types_rules.proofs.States.{sol-sat, unify-state}
+use Rattle.types_rules.proofs.States.{unify-state}
 use Rattle.types_rules.specs.Equations.{AllP, Pairs, Solves, end, pair}
-use Rattle.types_rules.specs.Substitution.{Respects, State, Substitution, sol}
-use Rattle.types_rules.specs.Types.{Each, Term, Ty, integerType, under}
+use Rattle.types_rules.specs.Substitution.{Respects, State, Substitution}
+use Rattle.types_rules.specs.Types.{Each, Term, Ty, under}
 use Rattle.types_rules.specs.Unify.{Good, Outcome, Spec, andThen, clash, cycle, ok, stuck, unify, unifyAll}
 
 then-spec : (σ : ℕ → Ty) (A B : Type 0) (r : Outcome) (k : List ℕ → Substitution → Outcome) → Spec σ r A → ((vs : List ℕ) (s : Substitution) → Spec σ (k vs s) (Respects σ s × B)) → Spec σ (andThen r k) (A × B)

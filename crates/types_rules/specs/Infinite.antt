@@ -3,7 +3,7 @@
 use Prim.Native.Nat.{suc, zero, ℕ}
 use lib.Dec.{eqb}
 use lib.ListN.{length}
-use mathlib.Core.Bool.{Bool, false, true}
+use mathlib.Core.Bool.{false, true}
 use mathlib.Core.List.{List, [], _∷_}
 use mathlib.Core.Option.{Option, none, some}
 use Rattle.types_rules.specs.Former.{Former, identifiers}

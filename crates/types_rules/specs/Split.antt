@@ -1,15 +1,10 @@
 -- Equations without a solution, split (document 02, ask 10): two different formers stand side by side (33), or none do and a type would contain itself (39).
 -- `Follows` and `Clash` of specs/Follows say when formers stand side by side, by the equations alone: no unifier and no order of solving.
-use Prim.Native.Nat.{ℕ}
-use mathlib.Core.List.{List}
 use mathlib.Core.Logic.{_⊎_}
-use mathlib.Core.Path.{_≡_}
-use Rattle.types_rules.specs.Classify.{Solvable, Verdict, clashing, classify, endless, solvable, viewTerm}
+use Rattle.types_rules.specs.Classify.{Solvable, Verdict, clashing, endless, solvable, viewTerm}
 use Rattle.types_rules.specs.Equations.{Pairs}
 use Rattle.types_rules.specs.Follows.{Clash}
-use Rattle.types_rules.specs.Substitution.{Substitution}
 use Rattle.types_rules.specs.Types.{Term}
-use Rattle.types_rules.specs.Unify.{Outcome, clash, cycle, ok, stuck}
 
 -- 33: some two terms that follow to be equal have different formers. Givens, parameters and identifiers are part of a former; lengths are compared beside it.
 abbrev pub SideBySide : Pairs Term → Type 0
@@ -24,13 +19,6 @@ abbrev pub Means : Verdict → Pairs Term → Type 0
 Means solvable P = Solvable P
 Means clashing P = SideBySide P
 Means endless P = Inside P
-
--- The unifier stops.
-abbrev pub Stops : Outcome → Type 0
-Stops (ok vs s) = ⊥
-Stops clash = Unit {0}
-Stops cycle = Unit {0}
-Stops stuck = Unit {0}
 
 -- One of the two and not both.
 abbrev pub OneOf : Type 0 → Type 0 → Type 0

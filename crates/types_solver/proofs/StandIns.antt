@@ -1,10 +1,9 @@
 -- Solutions of a store with stand-ins (types_rules, proofs/Filling): filled, a solution is one of possibly infinite types, and every one of these is the solution
 -- with stand-ins at the cells left open, filled.
 use mathlib.Core.Path.{_≡_, refl, sym, ap, subst, _∙_}
-use mathlib.Core.Bool.{Bool, true, false}
 use mathlib.Core.List.{List, [], _∷_, _++_, map}
 use mathlib.Core.Logic.{⊎-elim}
-use Prim.Native.Nat.{ℕ, zero, suc, _+_, _*_, _-_, _≤_, _<_}
+use Prim.Native.Nat.{ℕ, zero, suc, _+_, _*_, _≤_, _<_}
 use native.Mathlib.Omega.{arith}
 use native.Mathlib.Nat.{eq-zero-or-pos}
 use lib.Dec.{eqb}
@@ -14,16 +13,16 @@ use Rattle.types_rules.proofs.Filling.{fill, fill-at, fill-build, fill-stand, f
 use Rattle.types_rules.proofs.Finite.{finite-bounded}
 use Rattle.types_rules.proofs.Rational.{rep-sat}
 use Rattle.types_rules.specs.Classes.{rep}
-use Rattle.types_rules.specs.Equations.{In, Pairs, Solves, end, pair}
-use Rattle.types_rules.specs.Follows.{View, shape, unk}
+use Rattle.types_rules.specs.Equations.{Pairs, Solves, end, pair}
+use Rattle.types_rules.specs.Follows.{shape, unk}
 use Rattle.types_rules.specs.Formed.{partCountType}
 use Rattle.types_rules.specs.Former.{Former, binding, formerOf, given, identifiers, int, parameter, power, product, tag}
 use Rattle.types_rules.specs.Infinite.{Inf, mkI}
-use Rattle.types_rules.specs.Trees.{finite, infinite, whole}
+use Rattle.types_rules.specs.Trees.{finite, infinite}
 use Rattle.types_rules.specs.Types.{Ty, Tys, node, size, tcons, tnil}
 use Rattle.types_rules.specs.Words.{partWords, second, words}
 use Rattle.types_cells.specs.Layout.{recordsAt, poolSize, settledFrom}
-use Rattle.types_cells.specs.Store.{fieldAt, formerAt, frozen, partsAt, tagAt, view, Solved}
+use Rattle.types_cells.specs.Store.{fieldAt, formerAt, frozen, tagAt, view, Solved}
 use Rattle.types_cells.specs.Settled.{heap, lower, wordAt, Pinned, Reads}
 use Rattle.types_cells.proofs.Growing.{lt-or-ge, view-made}
 use Rattle.types_cells.proofs.Heads.{view-shape, view-unk}
