@@ -2,7 +2,6 @@
 use mathlib.Core.Path.{_≡_, refl}
 use mathlib.Core.Bool.{true, false}
 use mathlib.Core.List.{List}
-use mathlib.Core.Logic.{inl}
 use Prim.Native.Nat.{ℕ, _+_, _≤_}
 use native.Mathlib.Omega.{arith}
 use lib.ListN.{length, take}
@@ -28,7 +27,7 @@ use Rattle.checker_includes.proofs.FillsLaws.{components-fill}
 use Rattle.checker_includes.proofs.NewRowLaws.{rows-few}
 use Rattle.checker_contracts.specs.Includes.{actualCount, IncludeAsk, IncludeDone, BringsAsk, BringsDone}
 use Rattle.checker_contracts.specs.Visits.{Owned, Fresh, idle, Spared}
-use Rattle.checker_contracts.proofs.Brought.{stored-again, stored-gap, actuals-more, brought-ask}
+use Rattle.checker_contracts.proofs.Brought.{stored-again, actuals-more, brought-keep}
 use Rattle.checker_contracts.proofs.Scopes.{spared-on}
 use Rattle.checker_contracts.proofs.Refused.{done-refused}
 
@@ -77,32 +76,11 @@ module _ (s d w : List ℕ) (stack at free : ℕ) (i : Include) (A : BringsAsk s
       module _ (T : SmallTold s₁ d w₁ free m actuals true) (few-actuals : actualCount i ≤ 4) where
         pub brings-keep : KeepAsk s₁ d w₁ free 0 free m actuals at at₁ (free + tableWords)
         brings-keep =
-            let Q = brought-ask s s₁ d w w₁ stack at free (A .height) i places places₁ number place m at₁ (A .walking) I fine in
-            let R = A .walking .room in
-            let o = R .some in
-            let p = R .pool in
-            let f = R .frames in
-            let v = R .wide in
-            let x = I .done .areas fine .short in
-            let y = I .done .areas fine .few in
+            let f = A .walking .room .frames in
+            let v = A .walking .room .wide in
             let z = I .done .still .spared .size in
-            record {
-              actuals = Q .actuals;
-              rows = Q .table;
-              sizes = T .sizes refl;
-              table = record { inside = omega arith; readable = λ j l. absurd (omega arith) };
-              below = λ j l. absurd (omega arith);
-              many = y;
-              clean = I .done .areas fine .stored .after;
-              gap = stored-gap s s₁ at at₁ (omega arith) (A .walking .clean) (I .done .areas fine .stored);
-              some = o;
-              before = I .done .areas fine .stored .more;
-              room = omega arith;
-              scratch = omega arith;
-              near = omega arith;
-              beside = (omega arith, omega arith);
-              apart = inl (omega arith);
-            }
+            brought-keep s s₁ d w w₁ stack at free (A .height) i places places₁ number place m at₁ (A .walking) I fine T few-actuals free 0
+            (record { inside = omega arith; readable = λ j l. absurd (omega arith) }) (omega arith) (λ j l. absurd (omega arith))
 
         module _ (s₂ w₂ : List ℕ) (at₂ : ℕ) (E : RowsKept s₁ s₂ d w₁ w₂ free 0 free m actuals at at₁ (free + tableWords) at₂) where
           pub brings-done : (place′ : ℕ) → BringsDone s s₂ d w w₂ stack at free i 0 place′ m at₂

@@ -1,7 +1,9 @@
 -- What an Include brought, as the functions on its rows ask for it: the rows' types can be read, the actuals stand at their places.
-use mathlib.Core.Path.{_≡_, _∙_}
+use mathlib.Core.Path.{_≡_, refl, _∙_}
+use mathlib.Core.Bool.{true}
 use mathlib.Core.List.{List}
-use Prim.Native.Nat.{ℕ, suc, _≤_}
+use mathlib.Core.Logic.{inl}
+use Prim.Native.Nat.{ℕ, suc, _+_, _*_, _≤_, _<_}
 use native.Mathlib.Omega.{arith}
 use lib.ListN.{length, getD, take}
 use Rattle.reader_rules.specs.Tree.{Include, includeNode}
@@ -9,10 +11,15 @@ use Rattle.reader_rules.specs.TreeNumbers.{includeNumbers}
 use Rattle.checker_rules.specs.Items.{Items, Meets}
 use Rattle.checker_rules.specs.Unknowns.{Valuation, row}
 use Rattle.checker_rules.specs.Scopes.{includeSignature}
+use Rattle.types_rules.specs.Types.{Ty}
+use Rattle.types_cells.specs.Settled.{heap, Reads}
 use Rattle.types_instances.specs.Clean.{Clean}
+use Rattle.types_instances.specs.Moved.{Below}
+use Rattle.checker_signatures.specs.Tables.{tableWords}
+use Rattle.checker_merging.specs.Merging.{Rows}
 use Rattle.checker_includes.specs.Components.{ActualTypes}
-use Rattle.checker_includes.specs.Filling.{RowsAsk}
-use Rattle.checker_includes.specs.Storing.{Stored}
+use Rattle.checker_includes.specs.Filling.{RowsAsk, SmallTold}
+use Rattle.checker_includes.specs.Storing.{Stored, KeepAsk}
 use Rattle.checker_contracts.specs.Includes.{actualCount, Brought, IncludeDone}
 use Rattle.checker_contracts.specs.Predicates.{Walking}
 use Rattle.checker_contracts.proofs.Carrying.{component-rows}
@@ -50,4 +57,34 @@ module _ (s s₁ d w w₁ : List ℕ) (stack at free h : ℕ) (i : Include) (pla
       record {
         actuals = record { areas = record { size = brought-size; few = omega arith }; types = T .shown; stand = T .stand };
         table = component-rows s₁ d w₁ free m (omega arith) (includeSignature i (K .scope)) (row (includeNode i) 1 (actualCount i)) (brought .components);
+      }
+
+  -- They can be kept beside the n rows of a table before them, whose types were stored before the actuals.
+  pub brought-keep : SmallTold s₁ d w₁ free m (take (actualCount i) places₁) true → actualCount i ≤ 4 → (base n : ℕ) → Rows s₁ d w₁ base n → base + 2 * n ≤ free →
+      ((j : ℕ) → j < n → (g : Ty) → Reads (heap s₁ d) (getD w₁ (base + 2 * j + 1) 0) g → Below at (getD w₁ (base + 2 * j + 1) 0) g) →
+      KeepAsk s₁ d w₁ base n free m (take (actualCount i) places₁) at at₁ (free + tableWords)
+  brought-keep T few-actuals base n table low below =
+      let o = K .room .some in
+      let p = K .room .pool in
+      let f = K .room .frames in
+      let v = K .room .wide in
+      let x = I .done .areas fine .short in
+      let y = I .done .areas fine .few in
+      let z = I .done .still .spared .size in
+      record {
+        actuals = brought-ask .actuals;
+        rows = brought-ask .table;
+        sizes = T .sizes refl;
+        table = table;
+        below = below;
+        many = y;
+        clean = I .done .areas fine .stored .after;
+        gap = stored-gap s s₁ at at₁ (omega arith) (K .clean) (I .done .areas fine .stored);
+        some = o;
+        before = I .done .areas fine .stored .more;
+        room = omega arith;
+        scratch = omega arith;
+        near = omega arith;
+        beside = (omega arith, omega arith);
+        apart = inl (omega arith);
       }

@@ -44,7 +44,7 @@ use Rattle.checker_contracts.specs.Includes.{actualCount, IncludeAsk, Br
 use Rattle.checker_contracts.specs.Predicates.{Walking}
 use Rattle.checker_contracts.specs.Texts.{LinesAsk, LinesDone}
 use Rattle.checker_contracts.specs.Visits.{Owned, Fresh, idle, Spared, globalsIf}
-use Rattle.checker_contracts.proofs.Brought.{stored-again, stored-gap, actuals-more, brought-ask}
+use Rattle.checker_contracts.proofs.Brought.{stored-again, actuals-more, brought-ask, brought-keep}
 use Rattle.checker_contracts.proofs.TableRows.{carries-row, rows-ready}
 use Rattle.checker_contracts.proofs.Counting.{few-noted, few-refused}
 use Rattle.checker_contracts.proofs.ItemOrder.{Order, nothing, grouped, listed, after, AllPass, AllWalked, refuses-at, all-walked}
@@ -248,33 +248,8 @@ module _ (s d w : List ℕ) (stack base m at free : ℕ) (i : Include) (global :
 
             pub inclusion-keep : KeepAsk s₁ d w₁ base m free c actuals at at₁ (free + tableWords)
             inclusion-keep =
-                let A = inclusion-agree in
-                let o = K .room .some in
-                let p = K .room .pool in
-                let f = K .room .frames in
-                let v = K .room .wide in
-                let x = I .done .areas fine .short in
-                let y = I .done .areas fine .few in
-                let z = I .done .still .spared .size in
                 let b = Q .beside in
-                let t = Q .few in
-                record {
-                  actuals = A .brought .actuals;
-                  rows = A .brought .table;
-                  sizes = T₄ .sizes refl;
-                  table = A .table;
-                  below = below;
-                  many = y;
-                  clean = I .done .areas fine .stored .after;
-                  gap = stored-gap s s₁ at at₁ (omega arith) (K .clean) (I .done .areas fine .stored);
-                  some = o;
-                  before = I .done .areas fine .stored .more;
-                  room = omega arith;
-                  scratch = omega arith;
-                  near = omega arith;
-                  beside = (omega arith, omega arith);
-                  apart = inl (omega arith);
-                }
+                brought-keep s s₁ d w w₁ stack at free (Q .height) i places places₁ number place c at₁ K I fine T₄ few-actuals base m (inclusion-agree .table) (omega arith) below
 
             -- KEPT AND MERGED.
             module _ (s₂ w₂ : List ℕ) (at₂ : ℕ) (E : RowsKept s₁ s₂ d w₁ w₂ base m free c actuals at at₁ (free + tableWords) at₂) where

@@ -1,4 +1,4 @@
--- ONLY WELL-FormedValuation TYPES COUNT AS SOLUTIONS, AND THE VERDICTS ARE THE SAME; a type that an accepted document's node has is well formed.
+-- ONLY WELL-FORMED TYPES COUNT AS SOLUTIONS, AND THE VERDICTS ARE THE SAME; a type that an accepted document's node has is well formed.
 use mathlib.Core.Path.{_≡_, subst}
 use mathlib.Core.List.{List, [], _∷_}
 use mathlib.Core.Logic.{_↔_, inl, inr}

@@ -86,7 +86,7 @@ const READ: Rows = &[
       &[2, 260], &[1, 1, 2, 3, 4, 5]], (17, 5)),
 ];
 
-/// Nodes, and the finding of the check: reading's 12 to 17, then 31 to 38.
+/// Nodes, and the finding of the check: reading's 12 to 17, then 31 to 39.
 #[rustfmt::skip]
 const CHECKED: Rows = &[
     // kind 7
