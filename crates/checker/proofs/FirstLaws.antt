@@ -17,6 +17,8 @@ use Rattle.checker_rules.specs.Verdicts.{AnswersFrom}
 use Rattle.checker_rules.specs.WellFormed.{FormedDictionary}
 use Rattle.checker_rules.specs.declared.Finding.{Finding}
 use Rattle.checker_dictionary.specs.Holds.{Holds}
+use Rattle.checker_dictionary.specs.Index.{IndexedTo}
+use Rattle.checker_dictionary.proofs.Places.{count-held}
 use Rattle.types_instances.specs.Clean.{Clean}
 use Rattle.checker_lookup.specs.Scoped.{DictionaryHeld, Limited}
 use Rattle.checker.specs.Answering.{ParagraphsAsk, Answered}
@@ -24,9 +26,9 @@ use Rattle.checker.proofs.DocumentWords.{words-some}
 use Rattle.types_cells.specs.Layout.{areaSize, poolSize}
 
 -- The first paragraph: an area that is zero holds the empty dictionary.
-pub blank-recorded : (d : List ℕ) → Holds blank d → DictionaryHeld blank d
-unfolding FormedDictionary Limited
-blank-recorded d H = record { holds = H; formed = tt; limited = tt }
+pub blank-recorded : (d w : List ℕ) → Holds blank d → IndexedTo d w 0 → DictionaryHeld blank d w
+unfolding FormedDictionary Limited entries
+blank-recorded d w H I = record { holds = record { holds = H; index = subst (IndexedTo d w) (sym (count-held blank d H)) I }; formed = tt; limited = tt }
 
 blank-length : dictionaryLength blank ≡ 1
 unfolding dictionaryWords laidOutWords entries entryPairs allWords
@@ -48,8 +50,8 @@ module _ (doc : List ℕ) (r : readOf doc ≡ Readable) (c : ℕ) (e : c ≡ cou
   first-some = let a = words-some doc r in let z = ap length words-of in omega arith
 
   -- n is no numeral here, so that no list of that length is made
-  begun : (n : ℕ) → n ≡ areaSize → (d w : List ℕ) → checkWorkWords ≤ length w → Holds blank d → ParagraphsAsk doc (replicate n 0) d w 1 (length l - 1)
-  begun n y d w v H =
+  begun : (n : ℕ) → n ≡ areaSize → (d w : List ℕ) → checkWorkWords ≤ length w → Holds blank d → IndexedTo d w 0 → ParagraphsAsk doc (replicate n 0) d w 1 (length l - 1)
+  begun n y d w v H I =
       let a = first-some in
       let b = ap length words-of in
       let o = blank-length in
@@ -62,13 +64,13 @@ module _ (doc : List ℕ) (r : readOf doc ≡ Readable) (c : ℕ) (e : c ≡ cou
           clean = zeros-clean n (omega arith);
           wide = v;
           dictionary = blank;
-          recorded = blank-recorded d H;
+          recorded = blank-recorded d w H I;
           few = omega arith;
         };
         short = omega arith;
       }
 
-  pub first-ask : (d w : List ℕ) → checkWorkWords ≤ length w → Holds blank d → ParagraphsAsk doc (replicate areaSize 0) d w 1 (length l - 1)
+  pub first-ask : (d w : List ℕ) → checkWorkWords ≤ length w → Holds blank d → IndexedTo d w 0 → ParagraphsAsk doc (replicate areaSize 0) d w 1 (length l - 1)
   first-ask = begun areaSize refl
 
   pub first-answered : (d d₁ d′ : List ℕ) (a : Finding) → length d₁ ≡ length d → Answered (paragraphsFrom doc (count doc) 1 (length l - 1)) blank (length d₁) d′ a

@@ -33,16 +33,16 @@ from-next doc n i zero h = absurd (h refl)
 from-next doc n i (suc m) h = let e : suc m - 1 ≡ m = omega arith in rw (add-one i, e) refl
 
 -- The first of the paragraphs, then the others.
-answers-next : (p : Paragraph) (ps : List Paragraph) (D : Dictionary) (d′ : List ℕ) (G : Grown p D d′) (a : Answer)
+answers-next : (p : Paragraph) (ps : List Paragraph) (D : Dictionary) (d′ w′ : List ℕ) (G : Grown p D d′ w′) (a : Answer)
     → AnswersFrom Any ps (extend p D (G .table)) (length d′) a → AnswersFrom Any (p ∷ ps) D (length d′) a
 unfolding AnswersFrom Accepts RefusesAt
-answers-next p ps D d′ G (accepted E) h = (G .passes, (G .table, (tt, G .meets), G .recorded .holds .fits, h))
-answers-next p ps D d′ G (refused f m) h = inr (G .passes, (G .table, (tt, G .meets), inr (G .recorded .holds .fits, h)))
+answers-next p ps D d′ w′ G (accepted E) h = (G .passes, (G .table, (tt, G .meets), G .recorded .holds .holds .fits, h))
+answers-next p ps D d′ w′ G (refused f m) h = inr (G .passes, (G .table, (tt, G .meets), inr (G .recorded .holds .holds .fits, h)))
 
 module _ (doc : List ℕ) (i m : ℕ) where
-  pub from-none : m ≡ 0 → (d : List ℕ) (D : Dictionary) → DictionaryHeld D d → Answered (paragraphsFrom doc (count doc) i m) D (length d) d Accepted
+  pub from-none : m ≡ 0 → (d w : List ℕ) (D : Dictionary) → DictionaryHeld D d w → Answered (paragraphsFrom doc (count doc) i m) D (length d) d Accepted
   unfolding AnswersFrom Accepts paragraphsFrom gather answerFinding
-  from-none z d D R = rw z (record { answer = accepted D; answers = refl; told = record { finding = refl; held = λ E q. let e : D ≡ E = cc in subst (λ (X : Dictionary). Holds X d) e (R .holds) } })
+  from-none z d w D R = rw z (record { answer = accepted D; answers = refl; told = record { finding = refl; held = λ E q. let e : D ≡ E = cc in subst (λ (X : Dictionary). Holds X d) e (R .holds .holds) } })
 
   module _ (some : m ≡ 0 → ⊥) (k : ℕ) (is : k ≡ operandAt doc (count doc) i) where
     abbrev rest : List Paragraph
@@ -51,26 +51,26 @@ module _ (doc : List ℕ) (i m : ℕ) where
     from-first : paragraphAt doc k ∷ rest ≡ paragraphsFrom doc (count doc) i m
     from-first = ap (λ (j : ℕ). paragraphAt doc j ∷ rest) is ∙ sym (from-next doc (count doc) i m some)
 
-    pub from-stops : (s s′ d d′ : List ℕ) (r : Finding) → Entered s s′ d d′ (paragraphAt doc k) r → (f j : ℕ) → r ≡ Refused f j → (D : Dictionary) → DictionaryHeld D d
+    pub from-stops : (s s′ d d′ w w′ : List ℕ) (r : Finding) → Entered s s′ d d′ w w′ (paragraphAt doc k) r → (f j : ℕ) → r ≡ Refused f j → (D : Dictionary) → DictionaryHeld D d w
         → Answered (paragraphsFrom doc (count doc) i m) D (length d) d′ (Refused f j)
     unfolding AnswersFrom
-    from-stops s s′ d d′ r E f j q D R = record {
+    from-stops s s′ d d′ w w′ r E f j q D R = record {
       answer = refused f j;
       answers = subst (λ (ps : List Paragraph). RefusesAt Any ps D (length d) f j) from-first (E .stops f j q D R rest);
       told = told-refused f j d′;
     }
 
-    pub from-goes : (s s′ d d₁ : List ℕ) (r : Finding) → Entered s s′ d d₁ (paragraphAt doc k) r → r ≡ Accepted → length d₁ ≡ length d → (d′ : List ℕ) (a : Finding)
-        → ((D : Dictionary) → DictionaryHeld D d₁ → Answered rest D (length d₁) d′ a) → (D : Dictionary) → DictionaryHeld D d
+    pub from-goes : (s s′ d d₁ w w₁ : List ℕ) (r : Finding) → Entered s s′ d d₁ w w₁ (paragraphAt doc k) r → r ≡ Accepted → length d₁ ≡ length d → (d′ : List ℕ) (a : Finding)
+        → ((D : Dictionary) → DictionaryHeld D d₁ w₁ → Answered rest D (length d₁) d′ a) → (D : Dictionary) → DictionaryHeld D d w
         → Answered (paragraphsFrom doc (count doc) i m) D (length d) d′ a
-    from-goes s s′ d d₁ r E q e d′ a N D R =
+    from-goes s s′ d d₁ w w₁ r E q e d′ a N D R =
         let G = E .goes q D R in
         let X = N (extend (paragraphAt doc k) D (G .table)) (G .recorded) in
         record {
           answer = X .answer;
           answers =
               subst (λ (ps : List Paragraph). AnswersFrom Any ps D (length d) (X .answer)) from-first
-              (subst (λ (n : ℕ). AnswersFrom Any (paragraphAt doc k ∷ rest) D n (X .answer)) e (answers-next (paragraphAt doc k) rest D d₁ G (X .answer) (X .answers)));
+              (subst (λ (n : ℕ). AnswersFrom Any (paragraphAt doc k ∷ rest) D n (X .answer)) e (answers-next (paragraphAt doc k) rest D d₁ w₁ G (X .answer) (X .answers)));
           told = X .told;
         }
 
@@ -86,7 +86,7 @@ module _ (doc s d w : List ℕ) (i m : ℕ) (A : ParagraphsAsk doc s d w i m) (s
   pub from-small : i + 1 ≤ documentWords
   from-small = let a = A .ends in let b = words-few doc (A .read) in omega arith
 
-  pub from-ask : (s′ d′ w′ : List ℕ) (p : Paragraph) (r : Finding) → Entered s s′ d d′ p r → r ≡ Accepted → length s′ ≡ length s → length w′ ≡ length w
+  pub from-ask : (s′ d′ w′ : List ℕ) (p : Paragraph) (r : Finding) → Entered s s′ d d′ w w′ p r → r ≡ Accepted → length s′ ≡ length s → length w′ ≡ length w
       → ParagraphsAsk doc s′ d′ w′ (i + 1) (m - 1)
   from-ask s′ d′ w′ p r E q e f =
       let R = A .ready in

@@ -1,5 +1,6 @@
 // The check call: a document's finding, and the dictionary of an accepted one. The definitions are in the crate `checker_rules`, specs/Areas and specs/Check.
 use checker_dictionary::growth::begin;
+use checker_dictionary::index;
 use checker_extension::enter;
 use checker_rules::Finding;
 use codes::findings;
@@ -33,7 +34,7 @@ fn paragraphs_from(
     m: usize,
 ) -> Finding
     requires { ⌜ ParagraphsAsk (now doc) (now a) (now dict) (now work) i m ⌝ }
-    ensures { λ r. ⌜ ((D : Dictionary) → DictionaryHeld D (now (dict .entry)) → Answered (paragraphsFrom (now (doc .entry)) (count (now (doc .entry))) i m) D (length (now (dict .entry))) (now (dict .exit)) r) ⌝ }
+    ensures { λ r. ⌜ ((D : Dictionary) → DictionaryHeld D (now (dict .entry)) (now (work .entry)) → Answered (paragraphsFrom (now (doc .entry)) (count (now (doc .entry))) i m) D (length (now (dict .entry))) (now (dict .exit)) r) ⌝ }
 {
     if m == 0 {
         return Finding::Accepted;
@@ -57,6 +58,7 @@ fn check_paragraphs(doc: &[u32], dict: &mut [u32], work: &mut [u32]) -> Finding
 {
     let mut a = [0u32; types_cells::area::AREA];
     begin(dict);
+    index::begin(work);
     let n = word(doc, 0);
     let m = part(doc, n).len() - 1;
     paragraphs_from(doc, &mut a, dict, work, 1, m)

@@ -22,14 +22,14 @@ agreed {s} {d} {w} {row} {base} {m} {source} {c} A e = subst (AgreeTold s d w ba
 sized : {s d w row : List ℕ} {source c : ℕ} {b₁ b : Bool} → SmallTold s d w source c row b₁ → b₁ ≡ b → SmallTold s d w source c row b
 sized {s} {d} {w} {row} {source} {c} S e = subst (SmallTold s d w source c row) e S
 
-added : {global : Bool} {d is : List ℕ} {b₁ b : Bool} → NewIfTold global d is b₁ → b₁ ≡ b → NewIfTold global d is b
-added {global} {d} {is} G e = subst (NewIfTold global d is) e G
+added : {global : Bool} {d w is : List ℕ} {b₁ b : Bool} → NewIfTold global d w is b₁ → b₁ ≡ b → NewIfTold global d w is b
+added {global} {d} {w} {is} G e = subst (NewIfTold global d w is) e G
 
 module _ {s d w row : List ℕ} {base m source c : ℕ} {b₁ : Bool} (A : AgreeTold s d w base m source c row b₁) where
   pub rows-clash : {global : Bool} → b₁ ≡ false → RowsFound s d w base m source c row global 36
   rows-clash nay = clash refl (agreed A nay)
 
-  module _ (agree : b₁ ≡ true) {global b₂ : Bool} (G : NewIfTold global d (identifiersOf (rows w source c)) b₂) where
+  module _ (agree : b₁ ≡ true) {global b₂ : Bool} (G : NewIfTold global d w (identifiersOf (rows w source c)) b₂) where
     pub rows-known : b₂ ≡ false → RowsFound s d w base m source c row global 36
     rows-known nay = known refl (agreed A agree) (added G nay)
 

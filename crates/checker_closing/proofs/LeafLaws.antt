@@ -47,10 +47,10 @@ module _ (s s′ d : List ℕ) (n top x y number n′ q : ℕ) where
   as-comparison l m a b R = let e : q ≡ 23 = omega (arith, l, m, a, b) in subst (λ z. Related s s′ d n top x y number n′ (relationItems z)) (sym e) R
 
 -- 36, SECOND CASE.
-pub new-global : (g : Bool) (d is : List ℕ) (r : Bool) → g ≡ true → NewTold d is r → NewIfTold g d is r
+pub new-global : (g : Bool) (d w is : List ℕ) (r : Bool) → g ≡ true → NewTold d w is r → NewIfTold g d w is r
 unfolding globalsIf
-new-global true d is r e N = record { goes = N .goes; stops = N .stops }
-new-global false d is r e N = absurd (bool-no false e refl)
+new-global true d w is r e N = record { goes = N .goes; stops = N .stops }
+new-global false d w is r e N = absurd (bool-no false e refl)
 
 none-new : (H : Items) (U : List ℕ) (n : ℕ) (is : List ℕ) → Steady H U → Walked H (newNames n is blank) U U (λ x. ⊥)
 unfolding newNames newName nameIn
@@ -59,10 +59,10 @@ none-new H U n (i ∷ is) S =
     let W = walked-skip H U (λ x. ⊥) S in
     walked-then H skip (newNames n is blank) U U U (λ x. ⊥) S W (none-new (H ⨾ skip) U n is (W .steady))
 
-pub new-local : (g : Bool) (d is : List ℕ) → g ≡ false → NewIfTold g d is true
+pub new-local : (g : Bool) (d w is : List ℕ) → g ≡ false → NewIfTold g d w is true
 unfolding globalsIf
-new-local false d is e = record { goes = λ y D H U n h S. none-new H U n is S; stops = λ y. absurd (bool-no true refl y) }
-new-local true d is e = absurd (bool-no true refl e)
+new-local false d w is e = record { goes = λ y D H U n h S. none-new H U n is S; stops = λ y. absurd (bool-no true refl y) }
+new-local true d w is e = absurd (bool-no true refl e)
 
 -- 36 OF A DECL, by the size of its type.
 module _ (s d w : List ℕ) (base m : ℕ) (is : List ℕ) (at v : ℕ) (fine : Bool) where

@@ -12,18 +12,18 @@ use Rattle.checker_closing.specs.Nodes.{LinedAt}
 use Rattle.checker_closing.specs.declared.results.Lined.{Lined}
 
 -- 31 AND 32.
-module _ {d : List ℕ} {id name e : ℕ} (F : Newest d id e) (is : id ≡ name) where
-  newest : Newest d name e
-  newest = subst (λ z. Newest d z e) is F
+module _ {d w : List ℕ} {id name e : ℕ} (F : Newest d w id e) (is : id ≡ name) where
+  newest : Newest d w name e
+  newest = subst (λ z. Newest d w z e) is F
 
-  pub schema-absent : {q : ℕ} → e ≡ 0 → SchemaLooked d name q 31 0
-  schema-absent z = absent refl (subst (Newest d name) z newest)
+  pub schema-absent : {q : ℕ} → e ≡ 0 → SchemaLooked d w name q 31 0
+  schema-absent z = absent refl (subst (Newest d w name) z newest)
 
   module _ (some : e ≡ 0 → ⊥) {v u q : ℕ} (counts : v ≡ parametersAt d e) (asks : u ≡ q) where
-    pub schema-miscounted : (v ≡ u → ⊥) → SchemaLooked d name q 32 0
+    pub schema-miscounted : (v ≡ u → ⊥) → SchemaLooked d w name q 32 0
     schema-miscounted ne = miscounted refl e newest some (λ z. ne (counts ∙ z ∙ sym asks))
 
-    pub schema-there : v ≡ u → {at : ℕ} → at ≡ typeAt d e → at < 2 ^ 33 → SchemaLooked d name q 0 at
+    pub schema-there : v ≡ u → {at : ℕ} → at ≡ typeAt d e → at < 2 ^ 33 → SchemaLooked d w name q 0 at
     schema-there same is-at near = there refl (record { entry = e; newest = newest; some = some; count = sym counts ∙ same ∙ asks; at-is = is-at; near = near })
 
 -- 37.

@@ -17,9 +17,9 @@ use Rattle.checker_closing.specs.declared.results.Lined.{Lined}
 -- 36 and 38 of the identifiers is, whose type is of this size.
 pub data OwnTold (s d w : List ℕ) (base m : ℕ) (is : List ℕ) (at size : ℕ) (global : Bool) (number : ℕ) : Type 0 where
   clash : number ≡ 36 → FitsTold s d w base m is at size false → OwnTold s d w base m is at size global number
-  known : number ≡ 36 → FitsTold s d w base m is at size true → NewIfTold global d is false → OwnTold s d w base m is at size global number
-  large : number ≡ 38 → FitsTold s d w base m is at size true → NewIfTold global d is true → 32 < size → OwnTold s d w base m is at size global number
-  none : number ≡ 0 → FitsTold s d w base m is at size true → NewIfTold global d is true → size ≤ 32 → OwnTold s d w base m is at size global number
+  known : number ≡ 36 → FitsTold s d w base m is at size true → NewIfTold global d w is false → OwnTold s d w base m is at size global number
+  large : number ≡ 38 → FitsTold s d w base m is at size true → NewIfTold global d w is true → 32 < size → OwnTold s d w base m is at size global number
+  none : number ≡ 0 → FitsTold s d w base m is at size true → NewIfTold global d w is true → size ≤ 32 → OwnTold s d w base m is at size global number
 
 -- The identifiers enter the table.
 pub record EnterAsk (w : List ℕ) (base m : ℕ) (p : List ℕ) (at end k : ℕ) : Type 0 where

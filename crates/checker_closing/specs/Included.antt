@@ -14,14 +14,14 @@ use Rattle.checker_closing.specs.Leaves.{NewIfTold}
 -- Neither 36 nor 38.
 pub record RowsFine (s d w : List ℕ) (base m source c : ℕ) (row : List ℕ) (global : Bool) : Type 0 where
   pub agree : AgreeTold s d w base m source c row true
-  pub new : NewIfTold global d (identifiersOf (rows w source c)) true
+  pub new : NewIfTold global d w (identifiersOf (rows w source c)) true
   pub small : SmallTold s d w source c row true
 
 -- The first finding of the rows.
 pub data RowsFound (s d w : List ℕ) (base m source c : ℕ) (row : List ℕ) (global : Bool) (number : ℕ) : Type 0 where
   clash : number ≡ 36 → AgreeTold s d w base m source c row false → RowsFound s d w base m source c row global number
-  known : number ≡ 36 → AgreeTold s d w base m source c row true → NewIfTold global d (identifiersOf (rows w source c)) false → RowsFound s d w base m source c row global number
-  large : number ≡ 38 → AgreeTold s d w base m source c row true → NewIfTold global d (identifiersOf (rows w source c)) true → SmallTold s d w source c row false →
+  known : number ≡ 36 → AgreeTold s d w base m source c row true → NewIfTold global d w (identifiersOf (rows w source c)) false → RowsFound s d w base m source c row global number
+  large : number ≡ 38 → AgreeTold s d w base m source c row true → NewIfTold global d w (identifiersOf (rows w source c)) true → SmallTold s d w source c row false →
       RowsFound s d w base m source c row global number
   none : number ≡ 0 → RowsFine s d w base m source c row global → RowsFound s d w base m source c row global number
 

@@ -14,7 +14,7 @@ use Rattle.types_cells.specs.Settled.{heap, Reads}
 use Rattle.types_solver.specs.Sizes.{cap}
 use Rattle.checker_signatures.specs.Rows.{rows}
 use Rattle.checker_signatures.specs.Carried.{Carries}
-use Rattle.checker_dictionary.specs.Holds.{Holds}
+use Rattle.checker_dictionary.specs.Index.{Indexed}
 use Rattle.checker_pieces.specs.Piece.{Steady, Walked, Settled}
 use Rattle.checker_kinds.specs.Equations.{equalityItems, membershipItems, comparisonItems}
 use Rattle.checker_includes.specs.Components.{Placed}
@@ -32,6 +32,6 @@ pub record FitsTold (s d w : List ℕ) (base m : ℕ) (is : List ℕ) (at v : �
       (size g ≤ 32 → Reads (heap s d) at g) → Carries (Placed s d H U) r (rows w base m) → Refuses (mergeDeclared n is t r) (MeetsIn H) 36 n
 
 -- 36, second case, where the Text is an Axiom's; otherwise nothing is global.
-pub record NewIfTold (global : Bool) (d is : List ℕ) (fine : Bool) : Type 0 where
-  pub goes : fine ≡ true → (D : Dictionary) (H : Items) (U : List ℕ) (n : ℕ) → Holds D d → Steady H U → Walked H (newNames n is (globalsIf global D)) U U (λ x. ⊥)
-  pub stops : fine ≡ false → (D : Dictionary) (H : Items) (U : List ℕ) (n : ℕ) → Holds D d → Steady H U → Refuses (newNames n is (globalsIf global D)) (MeetsIn H) 36 n
+pub record NewIfTold (global : Bool) (d w is : List ℕ) (fine : Bool) : Type 0 where
+  pub goes : fine ≡ true → (D : Dictionary) (H : Items) (U : List ℕ) (n : ℕ) → Indexed D d w → Steady H U → Walked H (newNames n is (globalsIf global D)) U U (λ x. ⊥)
+  pub stops : fine ≡ false → (D : Dictionary) (H : Items) (U : List ℕ) (n : ℕ) → Indexed D d w → Steady H U → Refuses (newNames n is (globalsIf global D)) (MeetsIn H) 36 n

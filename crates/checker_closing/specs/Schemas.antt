@@ -5,7 +5,7 @@ use mathlib.Core.List.{List}
 use Prim.Native.Nat.{ℕ, _+_, _≤_, _<_, _^_}
 use lib.ListN.{length, getD}
 use Rattle.checker_rules.specs.Dictionary.{Dictionary}
-use Rattle.checker_dictionary.specs.Holds.{Holds}
+use Rattle.checker_dictionary.specs.Index.{Indexed}
 use Rattle.checker_dictionary.specs.Lookup.{parametersAt, typeAt, SchemaFound}
 use Rattle.checker_signatures.specs.Rows.{renames}
 use Rattle.checker_signatures.specs.Tables.{Beside, Brings, halfTable}
@@ -13,23 +13,23 @@ use Rattle.checker_lookup.specs.Components.{ComponentsAsked, ComponentRows}
 use Rattle.types_cells.specs.Layout.{dictionaryAt}
 
 -- e is the newest entry of the schema `name`.
-abbrev pub Newest : List ℕ → ℕ → ℕ → Type 0
-Newest d name e = (D : Dictionary) → Holds D d → SchemaFound D d name e
+abbrev pub Newest : List ℕ → List ℕ → ℕ → ℕ → Type 0
+Newest d w name e = (D : Dictionary) → Indexed D d w → SchemaFound D d name e
 
 -- Its entry has q parameters, and its type stands at the place `at`.
-pub record SchemaThere (d : List ℕ) (name q at : ℕ) : Type 0 where
+pub record SchemaThere (d w : List ℕ) (name q at : ℕ) : Type 0 where
   pub entry : ℕ
-  pub newest : Newest d name entry
+  pub newest : Newest d w name entry
   pub some : entry ≡ 0 → ⊥
   pub count : parametersAt d entry ≡ q
   pub at-is : at ≡ typeAt d entry
   pub near : at < 2 ^ 33
 
 -- 31, 32, or the schema.
-pub data SchemaLooked (d : List ℕ) (name q number at : ℕ) : Type 0 where
-  absent : number ≡ 31 → Newest d name 0 → SchemaLooked d name q number at
-  miscounted : number ≡ 32 → (e : ℕ) → Newest d name e → (e ≡ 0 → ⊥) → (parametersAt d e ≡ q → ⊥) → SchemaLooked d name q number at
-  there : number ≡ 0 → SchemaThere d name q at → SchemaLooked d name q number at
+pub data SchemaLooked (d w : List ℕ) (name q number at : ℕ) : Type 0 where
+  absent : number ≡ 31 → Newest d w name 0 → SchemaLooked d w name q number at
+  miscounted : number ≡ 32 → (e : ℕ) → Newest d w name e → (e ≡ 0 → ⊥) → (parametersAt d e ≡ q → ⊥) → SchemaLooked d w name q number at
+  there : number ≡ 0 → SchemaThere d w name q at → SchemaLooked d w name q number at
 
 -- The m rows of its components stand at free + 32.
 pub record RenameAsk (w : List ℕ) (free m : ℕ) (p : List ℕ) : Type 0 where

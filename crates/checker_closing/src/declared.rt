@@ -33,7 +33,7 @@ fn own_finding(
     if !declared_fits(a, d, w, base, m, p, at, size) {
         return findings::CLASH;
     }
-    if !new_if(global, d, p) {
+    if !new_if(global, d, w, p) {
         return findings::CLASH;
     }
     if limits::SIZE < size {

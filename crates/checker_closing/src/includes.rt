@@ -1,7 +1,7 @@
 // An Include by its schema: 31 and 32 before its actuals, 37 after them.
 use crate::results::Lined;
 use crate::results::lined_at;
-use checker_dictionary::lookup::entry_of_schema;
+use checker_dictionary::index::find_schema;
 use checker_dictionary::lookup::parameters_of;
 use checker_dictionary::lookup::type_place;
 use checker_lookup::components::component_rows;
@@ -24,10 +24,10 @@ pub struct Schema {
 }
 
 // The schema of the Include with the part p: its name, and the number of its parameters.
-pub fn schema_of(d: &[u32], p: &[u32]) -> Schema
-    ensures { λ r. ⌜ SchemaLooked (now (d .entry)) (getD (now (p .entry)) 1 0) (getD (now (p .entry)) 3 0) (r .number) (r .at) ⌝ }
+pub fn schema_of(d: &[u32], w: &[u32], p: &[u32]) -> Schema
+    ensures { λ r. ⌜ SchemaLooked (now (d .entry)) (now (w .entry)) (getD (now (p .entry)) 1 0) (getD (now (p .entry)) 3 0) (r .number) (r .at) ⌝ }
 {
-    let e = entry_of_schema(d, word(p, 1));
+    let e = find_schema(d, w, word(p, 1));
     if e == 0 {
         return Schema {
             number: findings::UNKNOWN_NAME,

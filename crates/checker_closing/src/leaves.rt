@@ -62,11 +62,11 @@ pub fn declared_fits(
 }
 
 // 36, second case, of a Decl with the part p in an Axiom's Text: its identifiers are not global yet.
-pub fn new_if(global: bool, d: &[u32], p: &[u32]) -> bool
-    ensures { λ r. ⌜ NewIfTold global (now (d .entry)) (drop 2 (now (p .entry))) r ⌝ }
+pub fn new_if(global: bool, d: &[u32], w: &[u32], p: &[u32]) -> bool
+    ensures { λ r. ⌜ NewIfTold global (now (d .entry)) (now (w .entry)) (drop 2 (now (p .entry))) r ⌝ }
 {
     if global {
-        return names_new(d, p, 2);
+        return names_new(d, w, p, 2);
     }
     true
 }
@@ -74,7 +74,7 @@ pub fn new_if(global: bool, d: &[u32], p: &[u32]) -> bool
 // The same of the k rows at `source` that an Include brings.
 pub fn rows_new_if(global: bool, d: &[u32], w: &[u32], source: usize, k: usize) -> bool
     requires { ⌜ source + 2 * k ≤ length (now w) ⌝ }
-    ensures { λ r. ⌜ NewIfTold global (now (d .entry)) (identifiersOf (rows (now (w .entry)) source k)) r ⌝ }
+    ensures { λ r. ⌜ NewIfTold global (now (d .entry)) (now (w .entry)) (identifiersOf (rows (now (w .entry)) source k)) r ⌝ }
 {
     if global {
         return rows_new(d, w, source, k);

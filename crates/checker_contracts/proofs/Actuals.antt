@@ -202,7 +202,7 @@ module _ (s d w : List ℕ) (stack at free k j : ℕ) (a : Expr) (xs : Exprs) (p
                 spared₂ =
                     let q = K .room .low in
                     let u = low .1 in
-                    element-spared s d w stack at free a k n (K .size) (K .few) apart numbered s₁ w₁ number place cell c₁ top₁ at₁ A w₂ scratch (omega arith)
+                    element-spared s d w stack at free a k n (K .size) (K .few) apart numbered s₁ w₁ number place cell c₁ top₁ at₁ A w₂ scratch (omega arith) (K .room .low)
 
                 -- any items before
                 module _ (Γ : Scope) (D : Dictionary) (H : Items) (U : List ℕ) (S : Steady H U) (C : Scoped s d w stack (idle H U) Γ D) (F : ElementNew a k n U) where

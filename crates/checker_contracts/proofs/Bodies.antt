@@ -154,7 +154,7 @@ module _ (s d w : List ℕ) (stack at free k : ℕ) (p : Pred) (ls : Lines) (A :
               let f = few-rows in
               let a = K .room .wide in
               let e = L .done .still .size in
-              pushed-scoped w₁ w₂ stack free m r P s₁ d (H ⨾ linesItems ls Γ (globalsIf global D) noNames) (lined H U S Γ D C F .unknowns) Γ D (linesSignature ls Γ noNames) (omega arith)
+              pushed-scoped w₁ w₂ stack free m r P s₁ d (H ⨾ linesItems ls Γ (globalsIf global D) noNames) (lined H U S Γ D C F .unknowns) Γ D (linesSignature ls Γ noNames) (omega arith) (omega arith)
               (lined H U S Γ D C F .signature) (scoped H U S Γ D C F)
 
         pub text-body : PredAsk s₁ d w₂ (stack + m) at₁ (free + tableWords) p

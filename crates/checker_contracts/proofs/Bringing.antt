@@ -92,7 +92,7 @@ module _ (s d w : List ℕ) (stack at free : ℕ) (i : Include) (A : BringsAsk s
               record {
                 done = record {
                   still = spared-on w w₁ w₂ stack free (I .done .still .spared)
-                      (record { size = E .size; scope = λ j l. E .words j (omega arith) (λ x u v. omega arith); frames = λ j x l. E .words j (omega arith) (λ x u v. omega arith) });
+                      (record { size = E .size; scope = λ j l. E .words j (omega arith) (λ x u v. omega arith); index = λ j x l. E .words j (omega arith) (λ x u v. omega arith); frames = λ j x l. E .words j (omega arith) (λ x u v. omega arith) });
                   areas = λ e. record {
                     stored = stored-again s s₁ s₂ at at₁ at₂ (I .done .areas fine .stored) (E .stored);
                     short = let x = E .new in let z = rows-few w₁ free m (rows w₁ free 0) in omega arith;

@@ -32,7 +32,7 @@ use Rattle.checker_pieces.proofs.Between.{walked-mine}
 use Rattle.checker_lookup.specs.Scoped.{Scoped}
 use Rattle.checker_includes.specs.Components.{Placed}
 use Rattle.checker_includes.specs.Storing.{Stored}
-use Rattle.checker_contracts.specs.Room.{pathTypeWords, poolEnd}
+use Rattle.checker_contracts.specs.Room.{framesAt, pathTypeWords, poolEnd}
 use Rattle.checker_contracts.specs.Predicates.{Walking}
 use Rattle.checker_contracts.specs.Schemas.{SchemaAsk, SchemaWent, SchemaDone}
 use Rattle.checker_contracts.specs.Visits.{Owned, Fresh, EachOnce, idle, Spared}
@@ -62,10 +62,11 @@ typed-rows : (s d : List ℕ) (H : Items) (U : List ℕ) (r : Signature) (rs : L
 typed-rows s d H U r rs C = carries-other (Placed s d H U) (TypedAt s d H U) (λ t p P. P .typed) r rs C
 
 -- A table written at `base` leaves what is below.
-pub spared-table : (w w′ : List ℕ) (stack base : ℕ) (rs : List (ℕ × ℕ)) (n : ℕ) → 2 * stack ≤ base → Written w w′ base rs n → Spared w w′ stack base
-spared-table w w′ stack base rs n l T = record {
+pub spared-table : (w w′ : List ℕ) (stack base : ℕ) (rs : List (ℕ × ℕ)) (n : ℕ) → 2 * stack ≤ base → framesAt ≤ base → Written w w′ base rs n → Spared w w′ stack base
+spared-table w w′ stack base rs n l low T = record {
   size = ap length (T .words) ∙ length-sets w base (flat rs);
   scope = λ i q. ap (λ z. getD z i 0) (T .words) ∙ getD-below (flat rs) w base i (omega arith);
+  index = λ i p q. ap (λ z. getD z i 0) (T .words) ∙ getD-below (flat rs) w base i (omega arith);
   frames = λ i p q. ap (λ z. getD z i 0) (T .words) ∙ getD-below (flat rs) w base i q;
 }
 
@@ -252,7 +253,7 @@ module _ (s d w : List ℕ) (stack at free k : ℕ) (a b : Schema) (A : SchemaAs
                 let q = A .walking .room .stack in
                 spared-on w w₁ w₄ stack free (P .done .still)
                 (spared-on w₁ w₃ w₄ stack free (spared-less w₁ w₃ stack stack (free + tableWords) free (omega arith) (omega arith) E)
-                (spared-table w₃ w₄ stack free (mergeRows (rows w₃ (free + tableWords) n) (rows w₃ free m)) r (omega arith) W))
+                (spared-table w₃ w₄ stack free (mergeRows (rows w₃ (free + tableWords) n) (rows w₃ free m)) r (omega arith) (omega arith) W))
 
             module _ (H : Items) (U : List ℕ) (Γ : Scope) (Z : Paired s₁ s₂ d w₁ w₂ m n free H U Γ a b) where
               abbrev met : Items

@@ -31,7 +31,8 @@ use Rattle.checker_signatures.specs.Tables.{Table}
 use Rattle.checker_signatures.proofs.CarryLaws.{carries-declare, carries-count, carries-other}
 use Rattle.checker_signatures.proofs.RowLaws.{rows-length, rows-kept, getD-below}
 use Rattle.checker_signatures.proofs.TableLaws.{table-rows, table-length, declare-count}
-use Rattle.checker_dictionary.specs.Holds.{Holds}
+use Rattle.checker_dictionary.specs.Index.{Indexed}
+use Rattle.checker_lookup.proofs.HeldLaws.{indexed-in}
 use Rattle.types_instances.specs.Clean.{Clean}
 use Rattle.types_instances.proofs.FillSizes.{size-few}
 use Rattle.types_instances.proofs.CleanLaws.{wiped-clean}
@@ -261,7 +262,7 @@ module _ (s d w : List ℕ) (stack base m at free n : ℕ) (a : Expr) (is : List
                 spared₂ =
                     let q = K .room .low in
                     let u = decl-low .1 in
-                    element-spared s d w stack at free a n 0 (K .size) (K .few) decl-apart (omega arith) s₁ w₁ number place cell c₁ top₁ at₁ A w₂ scratch (omega arith)
+                    element-spared s d w stack at free a n 0 (K .size) (K .few) decl-apart (omega arith) s₁ w₁ number place cell c₁ top₁ at₁ A w₂ scratch (omega arith) (K .room .low)
 
                 spared₂-base : Spared w w₂ stack base
                 spared₂-base = let q = Q .beside in spared-less w w₂ stack stack free base (omega arith) (omega arith) spared₂
@@ -322,7 +323,7 @@ module _ (s d w : List ℕ) (stack base m at free n : ℕ) (a : Expr) (is : List
                         fits H₁ (T₁ .unknowns) n t (T₁ .type) r (T₁ .walked .steady) (T₁ .settled) (over Γ D H U S C F r J) (T₁ .sized) (reads Γ D H U S C F r J) (J₁ Γ D H U S C F r J)
 
                   -- 36: global already.
-                  pub decl-global : ((D : Dictionary) (H : Items) (U : List ℕ) (n : ℕ) → Holds D d → Steady H U → Refuses (newNames n is (globalsIf global D)) (MeetsIn H) 36 n) →
+                  pub decl-global : ((D : Dictionary) (H : Items) (U : List ℕ) (n : ℕ) → Indexed D d w₂ → Steady H U → Refuses (newNames n is (globalsIf global D)) (MeetsIn H) 36 n) →
                       (m′ at′ : ℕ) → LinesDone s s₄ d w w₂ stack base m at free line global 36 n m′ at′
                   unfolding listed after AllPass
                   decl-global X m′ at′ =
@@ -331,14 +332,14 @@ module _ (s d w : List ℕ) (stack base m at free n : ℕ) (a : Expr) (is : List
                       let T = T₁ Γ D H U S C F r J in
                       let W = W₂ Γ D H U S C F r J in
                       refuses-at (order Γ (globalsIf global D) r) H 2 36 n (T .walked .goes, (W .goes, tt))
-                      (X D (H₁ Γ D H U S C F r J ⨾ mergeDeclared n is t r) (T .unknowns) n (C .recorded .holds) (W .steady)))
+                      (X D (H₁ Γ D H U S C F r J ⨾ mergeDeclared n is t r) (T .unknowns) n (indexed-in D d w w₂ (spared₂-base .index) (C .recorded .holds)) (W .steady)))
 
-                  module _ (new : (D : Dictionary) (H : Items) (U : List ℕ) (n : ℕ) → Holds D d → Steady H U → Walked H (newNames n is (globalsIf global D)) U U (λ x. ⊥)) where
+                  module _ (new : (D : Dictionary) (H : Items) (U : List ℕ) (n : ℕ) → Indexed D d w₂ → Steady H U → Walked H (newNames n is (globalsIf global D)) U U (λ x. ⊥)) where
                     module _ (Γ : Scope) (D : Dictionary) (H : Items) (U : List ℕ) (S : Steady H U) (C : Scoped s d w stack (idle H U) Γ D) (F : ElementNew a n 0 U) (r : Signature)
                         (J : Carries (Placed s d H U) r (rows w base m)) where
                       W₃ : Walked (H₁ Γ D H U S C F r J ⨾ mergeDeclared n is t r) (newNames n is (globalsIf global D)) (E Γ D H U S C F r J .unknowns) (E Γ D H U S C F r J .unknowns) (λ x. ⊥)
                       W₃ =
-                          new D (H₁ Γ D H U S C F r J ⨾ mergeDeclared n is t r) (E Γ D H U S C F r J .unknowns) n (C .recorded .holds) (W₂ Γ D H U S C F r J .steady)
+                          new D (H₁ Γ D H U S C F r J ⨾ mergeDeclared n is t r) (E Γ D H U S C F r J .unknowns) n (indexed-in D d w w₂ (spared₂-base .index) (C .recorded .holds)) (W₂ Γ D H U S C F r J .steady)
 
                       abbrev H₃ : Items
                       H₃ = (H₁ Γ D H U S C F r J ⨾ mergeDeclared n is t r) ⨾ newNames n is (globalsIf global D)
@@ -369,6 +370,7 @@ module _ (s d w : List ℕ) (stack base m at free n : ℕ) (a : Expr) (is : List
                           record {
                             size = table-length w₂ base w₃ (declareRows is at (rows w₂ base m)) count Tb ∙ spared₂ .size;
                             scope = λ i h. same i (omega arith) ∙ spared₂-base .scope i h;
+                            index = λ i h k. same i (omega arith) ∙ spared₂-base .index i h k;
                             frames = λ i h k. same i k ∙ spared₂-base .frames i h k;
                           }
                         where

@@ -34,6 +34,7 @@ use Rattle.checker_pieces.proofs.Walks.{stops-left}
 use Rattle.checker_lookup.specs.Scoped.{Scoped}
 use Rattle.checker_includes.specs.Components.{StandsFor}
 use Rattle.checker_includes.specs.Storing.{Stored, Scratch}
+use Rattle.checker_contracts.specs.Room.{framesAt}
 use Rattle.checker_contracts.specs.Visits.{Owned, Fresh, idle, Spared}
 use Rattle.checker_contracts.specs.Expressions.{ExprDone}
 use Rattle.checker_contracts.proofs.Nodes.{slots-same}
@@ -205,9 +206,10 @@ module _ (s d w : List ℕ) (rows at free : ℕ) (a : Expr) (n k : ℕ) (big : l
     pub element-stored : (s₄ : List ℕ) (end : ℕ) → Stored s₃ s₄ at end → Stored s s₄ at end
     element-stored s₄ end T = record { size = T .size ∙ same; before = λ i q. T .before i q ∙ below₃ i q; after = T .after; more = T .more }
 
-  pub element-spared : (w₂ : List ℕ) → Scratch w₁ w₂ free → 2 * rows ≤ free → Spared w w₂ rows free
-  element-spared w₂ T q = record {
+  pub element-spared : (w₂ : List ℕ) → Scratch w₁ w₂ free → 2 * rows ≤ free → framesAt ≤ free → Spared w w₂ rows free
+  element-spared w₂ T q low = record {
     size = T .size ∙ A .spared .size;
     scope = λ i h. T .before i (omega arith) ∙ A .spared .scope i h;
+    index = λ i h r. T .before i (omega arith) ∙ A .spared .index i h r;
     frames = λ i h r. T .before i r ∙ A .spared .frames i h r;
   }

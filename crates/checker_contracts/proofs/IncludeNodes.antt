@@ -16,7 +16,7 @@ use Rattle.reader_rules.proofs.TreeLists.{exprs-length}
 use Rattle.reader_rules.proofs.TreeWords.{included-words}
 use Rattle.reader_rules.proofs.TreeText.{Included, include-kind, include-law}
 use Rattle.checker_rules.specs.Dictionary.{Dictionary}
-use Rattle.checker_dictionary.specs.Holds.{Holds}
+use Rattle.checker_dictionary.specs.Index.{Indexed}
 use Rattle.checker_dictionary.specs.Lookup.{parametersAt, typeAt, SchemaFound}
 use Rattle.checker_signatures.specs.Rows.{renames}
 use Rattle.checker_signatures.specs.Tables.{Beside, Brings, halfTable}
@@ -75,7 +75,7 @@ module _ {doc p s d w : List ℕ} {stack at free k : ℕ} {places : List ℕ} (N
   count : exprsLength (exprsFrom doc k 4 q) ≡ q
   count = exprs-length doc k 4 q
 
-  module _ {e : ℕ} (found : (D : Dictionary) → Holds D d → SchemaFound D d id e) where
+  module _ {e : ℕ} (found : (D : Dictionary) → Indexed D d w → SchemaFound D d id e) where
     pub node-include-absent : e ≡ 0 → Told s w places 31 k 0 0
     node-include-absent z = back s w places 31 k 0 0 (include-absent s d w stack at free k id h (exprsFrom doc k 4 q) (renames p (q + 4)) places A e found z 0 0)
 

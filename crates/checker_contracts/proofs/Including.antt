@@ -25,7 +25,7 @@ use Rattle.checker_rules.specs.Signatures.{Signature, componentsOf, strokeAll, 
 use Rattle.checker_rules.specs.Unknowns.{row}
 use Rattle.types_cells.specs.Layout.{dictionaryAt, areaSize}
 use Rattle.types_cells.specs.Settled.{heap, Reads}
-use Rattle.checker_dictionary.specs.Holds.{Holds}
+use Rattle.checker_dictionary.specs.Index.{Indexed}
 use Rattle.checker_dictionary.specs.Lookup.{parametersAt, typeAt, SchemaFound, Recorded as Entry}
 use Rattle.checker_dictionary.proofs.LookupLaws.{schema-formed}
 use Rattle.checker_signatures.specs.Rows.{rows, stack as stackOf, flat, identifiersOf, strokeRows, renameRows}
@@ -99,7 +99,7 @@ module _ (s d w : List ℕ) (stack at free n id k : ℕ) (xs : Exprs) (rs : List
       After (λ H U Γ. Refuses (includeItems i Γ) (MeetsIn H) number place) → IncludeDone s s′ d w w′ stack at free i places places′ number place m at′
   stopped s′ w′ places′ number place m at′ ne S z r = record { done = done-refused (record { spared = S; row = z }) ne r }
 
-  module _ (e : ℕ) (found : (D : Dictionary) → Holds D d → SchemaFound D d id e) where
+  module _ (e : ℕ) (found : (D : Dictionary) → Indexed D d w → SchemaFound D d id e) where
     in-dictionary : (H : Items) (U : List ℕ) (Γ : Scope) (D : Dictionary) → Scoped s d w stack (idle H U) Γ D → schemaNamed id Γ ≡ schemaIn id D
     in-dictionary H U Γ D C = stacked-schema (SettledAt s d (idle H U)) D id Γ (stackOf w 0 stack) (C .stacked)
 
@@ -111,7 +111,7 @@ module _ (s d w : List ℕ) (stack at free n id k : ℕ) (xs : Exprs) (rs : List
         subst (λ c. Refuses c (MeetsIn H) 31 n) (sym (items-absent n id k xs rs Γ (in-dictionary H U Γ D C ∙ found D (C .recorded .holds) .absent z))) (refused H 31 n))
 
     module _ (some : e ≡ 0 → ⊥) where
-      entry : (D : Dictionary) → DictionaryHeld D d → Entry NamedSchema (schemaIn id D) aSchema d e
+      entry : (D : Dictionary) → DictionaryHeld D d w → Entry NamedSchema (schemaIn id D) aSchema d e
       entry D R = found D (R .holds) .present (⊎-elim (λ z. absurd (some z)) (λ z. omega arith) (eq-zero-or-pos e))
 
       -- 32
@@ -167,7 +167,7 @@ module _ (s d w : List ℕ) (stack at free n id k : ℕ) (xs : Exprs) (rs : List
             size : length s₁ ≡ areaSize
             size = P .done .areas fine .stored .size ∙ A .walking .size
 
-            module _ (D : Dictionary) (R : DictionaryHeld D d) where
+            module _ (D : Dictionary) (R : DictionaryHeld D d w) where
               limits : SchemaType (entry D R .type)
               limits = schema-limited D id (entry D R .parameters) (entry D R .type) (R .limited) (entry D R .means)
 
@@ -206,7 +206,7 @@ module _ (s d w : List ℕ) (stack at free n id k : ℕ) (xs : Exprs) (rs : List
                 }
 
             module _ (w₂ : List ℕ) (c : ℕ) (K : ComponentRows s₁ d w₁ w₂ (dictionaryAt + q) (free + halfTable) c) where
-              of : (D : Dictionary) (R : DictionaryHeld D d) → ComponentsOf s₁ d w₁ w₂ (dictionaryAt + q) (free + halfTable) c (ids D R) (gs D R)
+              of : (D : Dictionary) (R : DictionaryHeld D d w) → ComponentsOf s₁ d w₁ w₂ (dictionaryAt + q) (free + halfTable) c (ids D R) (gs D R)
               of D R = K .of (ids D R) (gs D R) (binding-reads D R)
 
               own-rows : ComponentsOf s₁ d w₁ w₂ (dictionaryAt + q) (free + halfTable) c (ids (A .walking .dictionary) (A .walking .scoped .recorded)) (gs (A .walking .dictionary) (A .walking .scoped .recorded))
@@ -236,10 +236,10 @@ module _ (s d w : List ℕ) (stack at free n id k : ℕ) (xs : Exprs) (rs : List
                     let t = A .walking .room .stack in
                     let o = A .walking .room .low in
                     spared-on w w₁ w₃ stack free (P .done .still .spared)
-                    (record { size = z ∙ table-length w₁ (free + halfTable) w₂ _ c (own-rows .table); scope = λ j y. below j (omega arith); frames = λ j x y. below j y })
+                    (record { size = z ∙ table-length w₁ (free + halfTable) w₂ _ c (own-rows .table); scope = λ j y. below j (omega arith); index = λ j x y. below j (omega arith); frames = λ j x y. below j y })
 
                 -- what is wrong with the names
-                wrong-is : (D : Dictionary) (R : DictionaryHeld D d) → wrong ≡ wrongNames k rs (componentsOf (instance nil (entry D R .type)))
+                wrong-is : (D : Dictionary) (R : DictionaryHeld D d w) → wrong ≡ wrongNames k rs (componentsOf (instance nil (entry D R .type)))
                 wrong-is D R =
                     brought-wrong (Component s₁ d nil) w₂ w₃ (free + halfTable) c free k rs wrong m B (componentsOf (instance nil (node (binding (ids D R)) (gs D R)))) (of D R .carries nil)
                     ∙ ap (λ g. wrongNames k rs (componentsOf (instance nil g))) (sym (limits D R .1 .2))

@@ -21,7 +21,8 @@ use Rattle.checker_rules.specs.Unknowns.{Valuation, row}
 use Rattle.types_cells.specs.Layout.{poolSize}
 use Rattle.types_cells.specs.Settled.{heap, Reads}
 use Rattle.types_cells.proofs.Reading.{reads-one}
-use Rattle.checker_dictionary.specs.Holds.{Holds}
+use Rattle.checker_dictionary.specs.Index.{Indexed}
+use Rattle.checker_lookup.proofs.HeldLaws.{indexed-in}
 use Rattle.checker_signatures.specs.Rows.{rows, flat, identifiersOf, mergeRows}
 use Rattle.checker_signatures.specs.Tables.{Table, Beside, tableWords}
 use Rattle.checker_signatures.specs.Carried.{Carries}
@@ -184,7 +185,7 @@ module _ (s d w : List ℕ) (stack base m at free : ℕ) (i : Include) (global :
           names = sym (carries-names (Component s₁ d (row (n i) 1 (actualCount i))) (includeSignature i Γ) (rows w₁ free c) (X .components))
 
         -- 36, a name that is global already
-        pub inclusion-known : ((E : Dictionary) (H : Items) (U : List ℕ) (k : ℕ) → Holds E d → Steady H U → Refuses (newNames k (identifiersOf (rows w₁ free c)) (globalsIf global E)) (MeetsIn H) 36 k) →
+        pub inclusion-known : ((E : Dictionary) (H : Items) (U : List ℕ) (k : ℕ) → Indexed E d w₁ → Steady H U → Refuses (newNames k (identifiersOf (rows w₁ free c)) (globalsIf global E)) (MeetsIn H) 36 k) →
             (m′ at′ : ℕ) → LinesDone s s₁ d w w₁ stack base m at free line global 36 (includeNode i) m′ at′
         unfolding listed after AllPass
         inclusion-known N m′ at′ =
@@ -194,9 +195,9 @@ module _ (s d w : List ℕ) (stack base m at free : ℕ) (i : Include) (global :
             let h = H₁ Γ D H U S C F r J in
             refuses-at (order i Γ (globalsIf global D) r) H 2 36 (n i) (X Γ D H U S C F r J .walked .goes, (Y .goes, tt))
             (subst (λ l. Refuses (newNames (n i) l (globalsIf global D)) (MeetsIn (h ⨾ merging i Γ r)) 36 (n i)) (names Γ D H U S C F r J)
-            (N D (h ⨾ merging i Γ r) (X Γ D H U S C F r J .unknowns) (n i) (C .recorded .holds) (Y .steady))))
+            (N D (h ⨾ merging i Γ r) (X Γ D H U S C F r J .unknowns) (n i) (indexed-in D d w w₁ (spared₁ .index) (C .recorded .holds)) (Y .steady))))
 
-        module _ (T₃ : (E : Dictionary) (H : Items) (U : List ℕ) (k : ℕ) → Holds E d → Steady H U → Walked H (newNames k (identifiersOf (rows w₁ free c)) (globalsIf global E)) U U (λ x. ⊥)) where
+        module _ (T₃ : (E : Dictionary) (H : Items) (U : List ℕ) (k : ℕ) → Indexed E d w₁ → Steady H U → Walked H (newNames k (identifiersOf (rows w₁ free c)) (globalsIf global E)) U U (λ x. ⊥)) where
           module _ (Γ : Scope) (D : Dictionary) (H : Items) (U : List ℕ) (S : Steady H U) (C : Scoped s d w stack (idle H U) Γ D) (F : Fresh (includeNumbers i) U) (r : Signature)
               (J : Carries (Placed s d H U) r (rows w base m)) where
             abbrev X₃ : Brought s₁ d w₁ c free H U Γ i places₁
@@ -216,7 +217,7 @@ module _ (s d w : List ℕ) (stack base m at free : ℕ) (i : Include) (global :
 
             W₃ : Walked (H₂ ⨾ b) e (X₃ .unknowns) (X₃ .unknowns) (λ x. ⊥)
             W₃ = subst (λ l. Walked (H₂ ⨾ b) (newNames (n i) l (globalsIf global D)) (X₃ .unknowns) (X₃ .unknowns) (λ x. ⊥)) (names Γ D H U S C F r J)
-                (T₃ D (H₂ ⨾ b) (X₃ .unknowns) (n i) (C .recorded .holds) (W₂ Γ D H U S C F r J .steady))
+                (T₃ D (H₂ ⨾ b) (X₃ .unknowns) (n i) (indexed-in D d w w₁ (spared₁ .index) (C .recorded .holds)) (W₂ Γ D H U S C F r J .steady))
 
             actuals₃ : ActualTypes s₁ d H₃ (X₃ .unknowns) (n i) (actualCount i) actuals
             unfolding MeetsIn
@@ -268,7 +269,7 @@ module _ (s d w : List ℕ) (stack base m at free : ℕ) (i : Include) (global :
                   let o = K .room .low in
                   let y = I .done .areas fine .few in
                   spared-on w w₁ w₂ stack free (I .done .still .spared)
-                  (record { size = E .size; scope = λ j l. E .words j (omega arith) (λ x u v. omega arith); frames = λ j x l. E .words j (omega arith) (λ x u v. omega arith) })
+                  (record { size = E .size; scope = λ j l. E .words j (omega arith) (λ x u v. omega arith); index = λ j x l. E .words j (omega arith) (λ x u v. omega arith); frames = λ j x l. E .words j (omega arith) (λ x u v. omega arith) })
 
               stored₂ : Stored s s₂ at at₂
               stored₂ = stored-again s s₁ s₂ at at₁ at₂ (I .done .areas fine .stored) (E .stored)
@@ -280,7 +281,7 @@ module _ (s d w : List ℕ) (stack base m at free : ℕ) (i : Include) (global :
                     let o = Q .low in
                     let b = Q .beside in
                     spared-on w w₂ w₃ stack base (spared-less w w₂ stack stack free base (omega arith) (omega arith) spared₂)
-                    (record { size = table-length w₂ base w₃ _ count M; scope = λ j l. kept j (omega arith); frames = λ j x l. kept j l })
+                    (record { size = table-length w₂ base w₃ _ count M; scope = λ j l. kept j (omega arith); index = λ j x l. kept j (omega arith); frames = λ j x l. kept j l })
                   where
                     kept : (j : ℕ) → j < base → getD w₃ j 0 ≡ getD w₂ j 0
                     kept j l = ap (λ v. getD v j 0) (M .words) ∙ getD-below (flat (mergeRows (rows w₂ free c) (rows w₂ base m))) w₂ base j l

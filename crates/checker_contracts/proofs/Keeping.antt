@@ -181,6 +181,7 @@ module _ (s d w : List ℕ) (stack at free k : ℕ) (a b : Schema) (A : SchemaAs
         (record {
           size = T .size;
           scope = λ i l. T .words i (omega arith) (λ j o e. omega arith);
+          index = λ i l h. T .words i (omega arith) (λ j o e. omega arith);
           frames = λ i l h. T .words i (omega arith) (λ j o e. omega arith);
         })
 

@@ -54,7 +54,7 @@ node-theta s d w rows n top at free h k stroke K p =
     let b = K .room .wide in
     let c = K .room .low in
     let f = K .room .frames in
-    record { referring = node-referring s d w rows n top at free h k K; below = omega arith; free = omega arith; stroke = p }
+    record { referring = node-referring s d w rows n top at free h k K; below = omega arith; above = omega arith; free = omega arith; stroke = p }
 
 module _ (s d w : List ℕ) (rows n top at free : ℕ) (e : Expr) (xs : Exprs) (k : ℕ) (own : Scope → Items) (S : Listing e xs k own) (K : ExprAsk s d w rows n top at free e)
     (parts : List ℕ) (fit : exprsLength xs ≤ length parts) where

@@ -22,6 +22,7 @@ use Rattle.checker_kinds.specs.Equations.{Combined}
 use Rattle.checker_kinds.specs.Formers.{DerivedList, Derived}
 use Rattle.checker_lookup.specs.References.{RefersWith}
 use Rattle.checker_lookup.specs.Thetas.{ThetaRuled}
+use Rattle.checker_contracts.specs.Room.{framesAt}
 use Rattle.checker_contracts.specs.Visits.{Owned, Fresh}
 use Rattle.checker_contracts.specs.Expressions.{ExprDone, ExprsDone}
 use Rattle.checker_contracts.specs.Parts.{Fact, nothing, Part, Ending}
@@ -129,9 +130,9 @@ module _ (s s′ d w : List ℕ) (rows n top at free k number cell n′ top′ u
       rule-ending s s′ d w w rows n top n′ top′ at free k number cell nodeCells (λ Γ. referenceItems k xs (nameAt id Γ)) (λ Γ D G. Cells s d n G (run parts 0 m) (typesOf xs)) (spared-refl w rows free) size (R .low) room clean
       (omega arith) (R .uses) (λ G St Γ D C v b. R .ruled G St k v Γ D C xs b)
 
-  pub theta-ending : (w′ : List ℕ) (id t : ℕ) → ThetaRuled s s′ d w w′ n top rows free id t number cell n′ top′ → length w′ ≡ length w → 2 * rows ≤ free →
+  pub theta-ending : (w′ : List ℕ) (id t : ℕ) → ThetaRuled s s′ d w w′ n top rows free id t number cell n′ top′ → length w′ ≡ length w → 2 * rows ≤ free → framesAt ≤ free →
       Ending s s′ d w w′ rows n top at free (λ Γ. thetaItems k t (schemaNamed id Γ) Γ) (k ∷ []) nothing (slot k 0) number k cell n′ top′ at
-  theta-ending w′ id t R e below =
+  theta-ending w′ id t R e below low =
       rule-ending s s′ d w w′ rows n top n′ top′ at free k number cell nodeCells (λ Γ. thetaItems k t (schemaNamed id Γ) Γ) nothing
-      (record { size = e; scope = λ i l. R .below i (omega arith); frames = λ i l m. R .below i m }) size (R .low) room clean (omega arith) (R .uses)
+      (record { size = e; scope = λ i l. R .below i (omega arith); index = λ i l m. R .below i (omega arith); frames = λ i l m. R .below i m }) size (R .low) room clean (omega arith) (R .uses)
       (λ G St Γ D C v b. R .ruled G St k v Γ D C)

@@ -25,6 +25,7 @@ use Rattle.types_instances.proofs.Moving.{lower-words}
 use Rattle.checker_pieces.specs.Piece.{Walked}
 use Rattle.checker_pieces.specs.Stage.{Ghost}
 use Rattle.checker_lookup.specs.Scoped.{SettledAt, Scoped}
+use Rattle.checker_lookup.proofs.HeldLaws.{held-in}
 use Rattle.checker_includes.specs.Components.{Placed}
 use Rattle.checker_includes.specs.Storing.{Stored}
 use Rattle.checker_contracts.specs.Room.{framesAt}
@@ -64,19 +65,19 @@ stored-on s s′ s″ at at′ at″ A B = record {
 
 -- SPARED: words outside the rows change.
 pub spared-refl : (w : List ℕ) (n free : ℕ) → Spared w w n free
-spared-refl w n free = record { size = refl; scope = λ i l. refl; frames = λ i l m. refl }
+spared-refl w n free = record { size = refl; scope = λ i l. refl; index = λ i l m. refl; frames = λ i l m. refl }
 
 pub spared-on : (w w′ w″ : List ℕ) (n free : ℕ) → Spared w w′ n free → Spared w′ w″ n free → Spared w w″ n free
-spared-on w w′ w″ n free A B = record { size = B .size ∙ A .size; scope = λ i l. B .scope i l ∙ A .scope i l; frames = λ i l m. B .frames i l m ∙ A .frames i l m }
+spared-on w w′ w″ n free A B = record { size = B .size ∙ A .size; scope = λ i l. B .scope i l ∙ A .scope i l; index = λ i l m. B .index i l m ∙ A .index i l m; frames = λ i l m. B .frames i l m ∙ A .frames i l m }
 
 -- Fewer rows, fewer frames.
 pub spared-less : (w w′ : List ℕ) (n m free free′ : ℕ) → m ≤ n → free′ ≤ free → Spared w w′ n free → Spared w w′ m free′
-spared-less w w′ n m free free′ p q A = record { size = A .size; scope = λ i l. A .scope i (omega arith); frames = λ i l k. A .frames i l (omega arith) }
+spared-less w w′ n m free free′ p q A = record { size = A .size; scope = λ i l. A .scope i (omega arith); index = A .index; frames = λ i l k. A .frames i l (omega arith) }
 
 pub scoped-spared : (s d w w′ : List ℕ) (n free : ℕ) (G : Ghost) (Γ : Scope) (D : Dictionary) → Spared w w′ n free → Scoped s d w n G Γ D → Scoped s d w′ n G Γ D
 scoped-spared s d w w′ n free G Γ D S C = record {
   stacked = subst (λ st. Stacked (SettledAt s d G) Γ st D) (sym (stack-kept w w′ 0 n (λ k l. S .scope k (omega arith)))) (C .stacked);
-  recorded = C .recorded;
+  recorded = held-in D d w w′ (S .index) (C .recorded);
 }
 
 pub carries-spared : (w w′ : List ℕ) (n free base m : ℕ) (R : Term → ℕ → Type 0) (r : Signature) → Spared w w′ n free → framesAt ≤ base → base + 2 * m ≤ free →

@@ -91,7 +91,7 @@ module _ (s d w w₁ : List ℕ) (rows n top at free h e : ℕ) (l rest : List �
     before₁ i p = ap (λ v. getD v i 0) (S .area) ∙ sets-before w free (saved s n top) i p
 
     pub save-spared : Spared w w₁ rows free
-    save-spared = let a = K .room .stack in let b = K .room .low in record { size = length₁; scope = λ i p. before₁ i (omega arith); frames = λ i p q. before₁ i q }
+    save-spared = let a = K .room .stack in let b = K .room .low in record { size = length₁; scope = λ i p. before₁ i (omega arith); index = λ i p q. before₁ i (omega arith); frames = λ i p q. before₁ i q }
 
     saved-fit : free + (5 * n + (top - firstRun)) ≤ length w₁
     saved-fit = let f = bounded .2 .frames in let v = K .room .wide in let z = length₁ in omega arith

@@ -2,7 +2,7 @@
 use mathlib.Core.Path.{_≡_}
 use mathlib.Core.List.{List}
 use Prim.Native.Nat.{ℕ, _≤_, _<_, _^_}
-use lib.ListN.{length}
+use lib.ListN.{length, getD}
 use Rattle.reader_rules.specs.Limited.{FewParameters, LimitedParagraph}
 use Rattle.reader_rules.specs.Tree.{Paragraph}
 use Rattle.reader_rules.specs.TreeNumbers.{paragraphNumbers}
@@ -14,6 +14,7 @@ use Rattle.checker_rules.specs.Rules.{paragraphItems}
 use Rattle.checker_rules.specs.Unknowns.{Valuation}
 use Rattle.types_cells.specs.Layout.{areaSize}
 use Rattle.types_cells.specs.Settled.{lower}
+use Rattle.checker_dictionary.specs.Index.{indexAt, indexEnd}
 use Rattle.checker_dictionary.specs.Waiting.{withEntries, waiting, Waits}
 use Rattle.types_instances.specs.Clean.{Clean}
 use Rattle.checker_lookup.specs.Scoped.{DictionaryHeld}
@@ -26,7 +27,7 @@ maxWaiting = 8192
 -- The pool is empty.
 pub record ParagraphAsk (s d w : List ℕ) (p : Paragraph) : Type 0 where
   pub dictionary : Dictionary
-  pub recorded : DictionaryHeld dictionary d
+  pub recorded : DictionaryHeld dictionary d w
   pub size : length s ≡ areaSize
   pub few : length d < 2 ^ 31
   pub wide : checkWorkWords ≤ length w
@@ -46,9 +47,10 @@ pub record Extended (w : List ℕ) (p : Paragraph) (D : Dictionary) (at count : 
   pub short : length (waiting entries) ≤ maxWaiting
   pub extends : extend p D table ≡ withEntries entries D
 
--- Number 0: the items pass, and the pool is empty again; otherwise they refuse with this number at the place.
+-- The dictionary's index stays. Number 0: the items pass, and the pool is empty again; otherwise they refuse with this number at the place.
 pub record ParagraphDone (s s′ d w w′ : List ℕ) (p : Paragraph) (number place at count : ℕ) : Type 0 where
   pub size : length w′ ≡ length w
+  pub index : (i : ℕ) → indexAt ≤ i → i < indexEnd → getD w′ i 0 ≡ getD w i 0
   pub low : number ≡ 0 → lower s′ ≡ lower s
-  pub goes : number ≡ 0 → (D : Dictionary) → DictionaryHeld D d → Extended w′ p D at count
-  pub stops : (number ≡ 0 → ⊥) → (D : Dictionary) → DictionaryHeld D d → Refuses (paragraphItems p D) Any number place
+  pub goes : number ≡ 0 → (D : Dictionary) → DictionaryHeld D d w → Extended w′ p D at count
+  pub stops : (number ≡ 0 → ⊥) → (D : Dictionary) → DictionaryHeld D d w → Refuses (paragraphItems p D) Any number place

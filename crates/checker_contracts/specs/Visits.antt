@@ -10,6 +10,7 @@ use Rattle.checker_rules.specs.Dictionary.{Dictionary, blank}
 use Rattle.checker_rules.specs.Items.{Items, skip}
 use Rattle.checker_pieces.specs.Piece.{Walked}
 use Rattle.checker_pieces.specs.Stage.{Ghost, SlotOf}
+use Rattle.checker_dictionary.specs.Index.{indexAt, indexEnd}
 use Rattle.checker_contracts.specs.Room.{framesAt}
 
 -- x is an unknown of one of the nodes l.
@@ -28,10 +29,11 @@ EachOnce l = (j : ℕ) → occurrences j l ≤ 1
 abbrev pub idle : Items → List ℕ → Ghost
 idle H U = record { equations = end; before = H; items = skip; known = U; mentioned = U; cells = end }
 
--- The words of the work area that stay: the scope's rows, and from framesAt on those below `free`.
+-- The words of the work area that stay: the scope's rows, the dictionary's index, and from framesAt on those below `free`.
 pub record Spared (w w′ : List ℕ) (rows free : ℕ) : Type 0 where
   pub size : length w′ ≡ length w
   pub scope : (i : ℕ) → i < 2 * rows → getD w′ i 0 ≡ getD w i 0
+  pub index : (i : ℕ) → indexAt ≤ i → i < indexEnd → getD w′ i 0 ≡ getD w i 0
   pub frames : (i : ℕ) → framesAt ≤ i → i < free → getD w′ i 0 ≡ getD w i 0
 
 -- The items c of the nodes l pass after H, between pieces.

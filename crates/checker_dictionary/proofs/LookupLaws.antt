@@ -1,9 +1,11 @@
--- What the newest entry of a class with a name is in the dictionary: one law for names and schemas.
+-- What the newest entry of a class with a name is in the dictionary: one law for names and schemas. And what the names of entries are.
 use mathlib.Core.Path.{_≡_, refl, sym, ap, subst, _∙_}
 use mathlib.Core.Bool.{Bool, true, false, _&&_, cond}
+use mathlib.Core.Logic.{⊎-elim}
 use mathlib.Core.List.{List, [], _∷_, _++_, append-assoc, append-nil}
 use Prim.Native.Nat.{ℕ, zero, suc, _+_, _-_, _≤_, _<_}
 use native.Mathlib.Omega.{arith}
+use native.Mathlib.Nat.{eq-or-lt-of-le}
 use lib.Dec.{eqb}
 use lib.ListN.{length, getD, drop, replicate}
 use lib.Seq.{getD-drop, drop-drop}
@@ -25,7 +27,7 @@ unfolding newest
 newest-hit f zero h e = absurd (omega arith)
 newest-hit f (suc k) h e = rw e
 
-newest-before : (f : ℕ → Bool) (k : ℕ) → f (suc k) ≡ false → newest f (suc k) ≡ newest f k
+pub newest-before : (f : ℕ → Bool) (k : ℕ) → f (suc k) ≡ false → newest f (suc k) ≡ newest f k
 unfolding newest
 newest-before f k e = rw e
 
@@ -156,3 +158,33 @@ name-formed D i p g f e = subst FormedNamed e (nameIn-formed i D f)
 pub schema-formed : (D : Dictionary) (s p : ℕ) (g : Ty) → FormedDictionary D → schemaIn s D ≡ aSchema p g → WellFormed g
 unfolding FormedFound
 schema-formed D s p g f e = subst FormedFound e (schemaIn-formed s D f)
+
+-- THE NAMES of entries that two areas have in common, as the first ones.
+names-in : (D : Dictionary) (bs cs : List Entry) (rest over d d′ : List ℕ) → d ≡ laidOutWords (entries D ++ bs) ++ rest → d′ ≡ laidOutWords (entries D ++ cs) ++ over →
+    (k : ℕ) → 1 ≤ k → k ≤ length (entries D) → nameAt d k ≡ nameAt d′ k
+unfolding entries
+names-in blank bs cs rest over d d′ q r k some most = absurd (omega (arith, some, most))
+names-in (D ▸ e) bs cs rest over d d′ q r k some most =
+    let fs = entries D in
+    let p : d ≡ laidOutWords (fs ++ (e ∷ bs)) ++ rest = q ∙ ap (λ (es : List Entry). laidOutWords es ++ rest) (append-assoc fs (e ∷ []) bs) in
+    let o : d′ ≡ laidOutWords (fs ++ (e ∷ cs)) ++ over = r ∙ ap (λ (es : List Entry). laidOutWords es ++ over) (append-assoc fs (e ∷ []) cs) in
+    let l = length-last fs e in
+    ⊎-elim
+    (λ z.
+    let n : k ≡ suc (length fs) = omega (arith, z, l) in
+    ap (nameAt d) n
+    ∙ name-at d (suc (length fs)) e _ (entry-here fs bs e rest d p)
+    ∙ sym (name-at d′ (suc (length fs)) e _ (entry-here fs cs e over d′ o))
+    ∙ ap (nameAt d′) (sym n))
+    (λ z. names-in D (e ∷ bs) (e ∷ cs) rest over d d′ p o k some (omega (arith, z, l)))
+    (eq-or-lt-of-le most)
+
+-- the names of a dictionary in an area that has more entries
+pub names-kept : (D E : Dictionary) (es : List Entry) → entries E ≡ entries D ++ es → (d d′ : List ℕ) → Holds D d → Holds E d′ → (k : ℕ) → 1 ≤ k → k ≤ count d → nameAt d k ≡ nameAt d′ k
+unfolding dictionaryWords
+names-kept D E es more d d′ H I k some most =
+    let n = count-held D d H in
+    names-in D [] es (replicate {A = ℕ} (length d - dictionaryLength D) 0) (replicate {A = ℕ} (length d′ - dictionaryLength E) 0) d d′
+    (H .laid ∙ ap (λ (fs : List Entry). laidOutWords fs ++ replicate (length d - dictionaryLength D) 0) (sym (append-nil (entries D))))
+    (I .laid ∙ ap (λ (fs : List Entry). laidOutWords fs ++ replicate (length d′ - dictionaryLength E) 0) more)
+    k some (omega (arith, most, n))

@@ -6,7 +6,7 @@ ghost use Prim.Native.Nat.{_<_, _^_};
 ghost use Rattle.layout.specs.Layout.{count, offsetAt};
 ghost use Rattle.checker_rules.specs.Dictionary.{Dictionary};
 ghost use Rattle.checker_dictionary.specs.Holds.{Holds};
-ghost use Rattle.checker_dictionary.specs.Lookup.{parametersAt, typeAt, isEntry, newest, NameFound, SchemaFound};
+ghost use Rattle.checker_dictionary.specs.Lookup.{nameAt, parametersAt, typeAt, isEntry, newest, NameFound, SchemaFound};
 
 // The words of an entry before its type: class, name, parameter count.
 pub const HEAD: usize = 3;
@@ -24,6 +24,13 @@ fn offset(d: &[u32], k: usize) -> usize
     word(d, 2 * k - 1)
 }
 
+// The name of entry k.
+pub fn name_of(d: &[u32], k: usize) -> usize
+    ensures { λ r. ⌜ (r ≡ nameAt (now (d .entry)) k) × (r < 2 ^ 32) ⌝ }
+{
+    word(d, offset(d, k) + 1)
+}
+
 // The parameter count of entry k.
 pub fn parameters_of(d: &[u32], k: usize) -> usize
     ensures { λ r. ⌜ (r ≡ parametersAt (now (d .entry)) k) × (r < 2 ^ 32) ⌝ }
@@ -39,7 +46,7 @@ pub fn type_place(d: &[u32], k: usize) -> usize
 }
 
 // Whether entry k has this class and name.
-fn is_entry(d: &[u32], class: usize, name: usize, k: usize) -> bool
+pub fn is_entry(d: &[u32], class: usize, name: usize, k: usize) -> bool
     ensures { λ r. ⌜ r ≡ isEntry (now (d .entry)) class name k ⌝ }
 {
     let at = offset(d, k);

@@ -33,6 +33,7 @@ use Rattle.checker_pieces.specs.Stage.{Ghost}
 use Rattle.checker_pieces.proofs.Between.{walked-then, walked-mine, refuses-first, refuses-second, small-noted, small-refused}
 use Rattle.checker_pieces.proofs.Stages.{next, next-stands, placed-cell}
 use Rattle.checker_lookup.specs.Scoped.{Scoped, DictionaryHeld}
+use Rattle.checker_lookup.proofs.HeldLaws.{SameIndex, same-on, indexed-in}
 use Rattle.checker_includes.specs.Storing.{Stored}
 use Rattle.checker_contracts.specs.Room.{framesAt, entriesAt}
 use Rattle.checker_contracts.specs.Expressions.{ExprAsk, ExprDone}
@@ -47,7 +48,7 @@ use Rattle.checker_entries.specs.Entries.{entryWaits}
 use Rattle.checker_entries.specs.Parameters.{ParametersPushed}
 use Rattle.checker_entries.proofs.Beginning.{nothing-before, nothing-known, no-rows, room-below, passes-any, refuses-any}
 use Rattle.checker_entries.proofs.Writing.{head-wrote}
-use Rattle.checker_entries.proofs.Waits.{one-waits}
+use Rattle.checker_entries.proofs.Waits.{one-waits, wrote-index}
 
 module _ (s d w : List ℕ) (p : Paragraph) (k i : ℕ) (ps : List ℕ) (a : Expr) (e : p ≡ abbreviation k i ps a) (A′ : ParagraphAsk s d w p)
     (s₁ w₁ : List ℕ) (n at₁ : ℕ) (P : ParametersPushed s s₁ w w₁ ps 0 n at₁) (few : n ≤ 4) where
@@ -57,7 +58,7 @@ module _ (s d w : List ℕ) (p : Paragraph) (k i : ℕ) (ps : List ℕ) (a : Exp
   abbrev around : Dictionary → Scope
   around D = withParameters ps 1 (globals D)
 
-  begun : (D : Dictionary) → DictionaryHeld D d → Scoped s₁ d w₁ n (idle skip []) (around D) D
+  begun : (D : Dictionary) → DictionaryHeld D d w → Scoped s₁ d w₁ n (idle skip []) (around D) D
   begun D R = P .scoped d (globals D) D (no-rows s d w D R)
 
   nodes-few : length (exprNumbers a) ≤ 24
@@ -102,9 +103,13 @@ module _ (s d w : List ℕ) (p : Paragraph) (k i : ℕ) (ps : List ℕ) (a : Exp
     size₂ : length w₂ ≡ length w
     size₂ = T .spared .size ∙ P .size
 
+    same₂ : SameIndex w w₂
+    same₂ = same-on w w₁ w₂ (P .index) (T .spared .index)
+
     pub expr-stopped : (number ≡ 0 → ⊥) → (at count : ℕ) → ParagraphDone s s₂ d w w₂ p number place at count
     expr-stopped z at count = subst (λ y. ParagraphDone s s₂ d w w₂ y number place at count) (sym e) (record {
       size = size₂;
+      index = same₂;
       low = λ y. absurd (z y);
       goes = λ y. absurd (z y);
       stops = λ y D R.
@@ -121,10 +126,10 @@ module _ (s d w : List ℕ) (p : Paragraph) (k i : ℕ) (ps : List ℕ) (a : Exp
       abbrev Mine : ℕ → Type 0
       Mine = Owned (exprNumbers a)
 
-      went : (D : Dictionary) → DictionaryHeld D d → Introduced s₁ s₂ d 0 firstRun n′ top′ G₀ (body D) Mine (slot (exprNode a) 0) cell
+      went : (D : Dictionary) → DictionaryHeld D d w → Introduced s₁ s₂ d 0 firstRun n′ top′ G₀ (body D) Mine (slot (exprNode a) 0) cell
       went D R = T .goes fine G₀ (opened s₁ d skip [] nothing-before (P .stored .size ∙ A .size) (A .few)) (around D) D (begun D R) (nothing-known (exprNumbers a))
 
-      ghost : (D : Dictionary) (R : DictionaryHeld D d) → Ghost
+      ghost : (D : Dictionary) (R : DictionaryHeld D d w) → Ghost
       ghost D R = next s₁ s₂ d 0 firstRun n′ top′ G₀ (body D) Mine (went D R .advanced)
 
       pub closing-asked : Closing s₂ d n′
@@ -146,6 +151,7 @@ module _ (s d w : List ℕ) (p : Paragraph) (k i : ℕ) (ps : List ℕ) (a : Exp
       pub several : (s₃ : List ℕ) → Closed s₂ s₃ d n′ false → (at count : ℕ) → ParagraphDone s s₃ d w w₂ p 34 k at count
       several s₃ C at count = subst (λ y. ParagraphDone s s₃ d w w₂ y 34 k at count) (sym e) (record {
         size = size₂;
+        index = same₂;
         low = λ y. absurd (omega arith);
         goes = λ y. absurd (omega arith);
         stops = λ y D R.
@@ -154,17 +160,17 @@ module _ (s d w : List ℕ) (p : Paragraph) (k i : ℕ) (ps : List ℕ) (a : Exp
       })
 
       module _ (s₃ : List ℕ) (C : Closed s₂ s₃ d n′ true) where
-        closed : (D : Dictionary) (R : DictionaryHeld D d) → Walked skip (piece k (body D)) [] (went D R .advanced .mentioned) Mine
+        closed : (D : Dictionary) (R : DictionaryHeld D d w) → Walked skip (piece k (body D)) [] (went D R .advanced .mentioned) Mine
         closed D R = piece-walked s₁ s₂ s₃ d n′ top′ skip [] k (body D) Mine (went D R .advanced) (A .few) C
 
-        shut : (D : Dictionary) (R : DictionaryHeld D d) → Shut s₃ d n′ (next s₁ s₂ d 0 firstRun n′ top′ G₀ (body D) Mine (went D R .advanced))
+        shut : (D : Dictionary) (R : DictionaryHeld D d w) → Shut s₃ d n′ (next s₁ s₂ d 0 firstRun n′ top′ G₀ (body D) Mine (went D R .advanced))
         shut D R =
             C .goes refl top′ (next s₁ s₂ d 0 firstRun n′ top′ G₀ (body D) Mine (went D R .advanced)) (next-stands s₁ s₂ d 0 firstRun n′ top′ G₀ (body D) Mine (went D R .advanced) (A .few))
 
-        abbrev type : (D : Dictionary) (R : DictionaryHeld D d) → Ty
+        abbrev type : (D : Dictionary) (R : DictionaryHeld D d w) → Ty
         type D R = shut D R .type cell
 
-        settled : (D : Dictionary) (R : DictionaryHeld D d) → Settled (skip ⨾ piece k (body D)) (typeOf a) (type D R)
+        settled : (D : Dictionary) (R : DictionaryHeld D d w) → Settled (skip ⨾ piece k (body D)) (typeOf a) (type D R)
         unfolding MeetsIn under
         settled D R τ m = shut D R .types k (slot (exprNode a) 0) cell (went D R .placed) τ (m .0, (tt, m .1))
 
@@ -181,31 +187,32 @@ module _ (s d w : List ℕ) (p : Paragraph) (k i : ℕ) (ps : List ℕ) (a : Exp
         pub sizing : Sizing s₃ d n′ cell
         sizing = own-sizing
 
-        refuse-second : (D : Dictionary) (R : DictionaryHeld D d) (f m : ℕ) → Refuses (rest D) (MeetsIn (skip ⨾ piece k (body D))) f m → Refuses (paragraphItems (abbreviation k i ps a) D) (MeetsIn skip) f m
+        refuse-second : (D : Dictionary) (R : DictionaryHeld D d w) (f m : ℕ) → Refuses (rest D) (MeetsIn (skip ⨾ piece k (body D))) f m → Refuses (paragraphItems (abbreviation k i ps a) D) (MeetsIn skip) f m
         unfolding paragraphItems
         refuse-second D R f m r = refuses-second skip (piece k (body D)) (rest D) f m (closed D R .goes) r
 
         -- 36
-        pub clash : NewTold d (i ∷ []) false → (at count : ℕ) → ParagraphDone s s₃ d w w₂ p 36 k at count
+        pub clash : NewTold d w₂ (i ∷ []) false → (at count : ℕ) → ParagraphDone s s₃ d w w₂ p 36 k at count
         clash N at count = subst (λ y. ParagraphDone s s₃ d w w₂ y 36 k at count) (sym e) (record {
           size = size₂;
+          index = same₂;
           low = λ y. absurd (omega arith);
           goes = λ y. absurd (omega arith);
           stops = λ y D R.
               refuses-any (paragraphItems (abbreviation k i ps a) D) 36 k
               (refuse-second D R 36 k
               (refuses-first (skip ⨾ piece k (body D)) (newNames k (i ∷ []) D) (small k (typeOf a)) 36 k
-              (N .stops refl D (skip ⨾ piece k (body D)) (went D R .advanced .mentioned) k (R .holds) (closed D R .steady))));
+              (N .stops refl D (skip ⨾ piece k (body D)) (went D R .advanced .mentioned) k (indexed-in D d w w₂ same₂ (R .holds)) (closed D R .steady))));
         })
 
-        module _ (N : NewTold d (i ∷ []) true) (v : ℕ) (Z : SizeIs s₃ d n′ cell v) where
-          new : (D : Dictionary) (R : DictionaryHeld D d) → Walked (skip ⨾ piece k (body D)) (newNames k (i ∷ []) D) (went D R .advanced .mentioned) (went D R .advanced .mentioned) (λ x. ⊥)
-          new D R = N .goes refl D (skip ⨾ piece k (body D)) (went D R .advanced .mentioned) k (R .holds) (closed D R .steady)
+        module _ (N : NewTold d w₂ (i ∷ []) true) (v : ℕ) (Z : SizeIs s₃ d n′ cell v) where
+          new : (D : Dictionary) (R : DictionaryHeld D d w) → Walked (skip ⨾ piece k (body D)) (newNames k (i ∷ []) D) (went D R .advanced .mentioned) (went D R .advanced .mentioned) (λ x. ⊥)
+          new D R = N .goes refl D (skip ⨾ piece k (body D)) (went D R .advanced .mentioned) k (indexed-in D d w w₂ same₂ (R .holds)) (closed D R .steady)
 
-          measured : (D : Dictionary) (R : DictionaryHeld D d) → v ≡ cap (size (type D R))
+          measured : (D : Dictionary) (R : DictionaryHeld D d w) → v ≡ cap (size (type D R))
           measured D R = Z (next s₁ s₂ d 0 firstRun n′ top′ G₀ (body D) Mine (went D R .advanced)) (shut D R)
 
-          settled-then : (D : Dictionary) (R : DictionaryHeld D d) → Settled ((skip ⨾ piece k (body D)) ⨾ newNames k (i ∷ []) D) (typeOf a) (type D R)
+          settled-then : (D : Dictionary) (R : DictionaryHeld D d w) → Settled ((skip ⨾ piece k (body D)) ⨾ newNames k (i ∷ []) D) (typeOf a) (type D R)
           unfolding MeetsIn
           settled-then D R τ m = settled D R τ (m .0)
 
@@ -213,6 +220,7 @@ module _ (s d w : List ℕ) (p : Paragraph) (k i : ℕ) (ps : List ℕ) (a : Exp
           pub too-large : 32 < v → (at count : ℕ) → ParagraphDone s s₃ d w w₂ p 38 k at count
           too-large l at count = subst (λ y. ParagraphDone s s₃ d w w₂ y 38 k at count) (sym e) (record {
             size = size₂;
+            index = same₂;
             low = λ y. absurd (omega arith);
             goes = λ y. absurd (omega arith);
             stops = λ y D R.
@@ -235,6 +243,7 @@ module _ (s d w : List ℕ) (p : Paragraph) (k i : ℕ) (ps : List ℕ) (a : Exp
             unfolding paragraphItems extend MeetsIn withEntries waiting entryWords under
             abbreviation-done z₃ s₄ w₃ w₄ end len c h W l hw = subst (λ y. ParagraphDone s s₄ d w w₄ y 0 place entriesAt 1) (sym e) (record {
               size = let B = wrote (A .dictionary) (A .recorded) in ap length (B .area) ∙ length-sets w₂ entriesAt (entryWaits (nameEntry i (length ps) (type (A .dictionary) (A .recorded)))) ∙ size₂;
+              index = same-on w w₂ w₄ same₂ (wrote-index w₂ w₄ entriesAt end _ (omega arith) (wrote (A .dictionary) (A .recorded)));
               low = λ z.
                   ap lower h ∙ wiped-low s s₃ 1 at₂ (A .size) (A .clean) (omega arith) low-end (stored-kept s s₂ s₃ 1 at₂ (omega arith) stored z₃ (C .low));
               goes = λ z D R.
@@ -266,7 +275,7 @@ module _ (s d w : List ℕ) (p : Paragraph) (k i : ℕ) (ps : List ℕ) (a : Exp
               stops = λ z. absurd (z refl);
             })
               where
-                wrote : (D : Dictionary) (R : DictionaryHeld D d) → Wrote w₂ w₄ entriesAt end (entryWaits (nameEntry i (length ps) (type D R)))
+                wrote : (D : Dictionary) (R : DictionaryHeld D d w) → Wrote w₂ w₄ entriesAt end (entryWaits (nameEntry i (length ps) (type D R)))
                 wrote D R =
                     subst (λ j. Wrote w₂ w₄ entriesAt end (entryWaits (nameEntry i j (type D R)))) c
                     (head-wrote (words (type D R)) w₂ w₃ w₄ entriesAt end len 1 i n (W (next s₁ s₂ d 0 firstRun n′ top′ G₀ (body D) Mine (went D R .advanced)) (shut D R)) l hw)

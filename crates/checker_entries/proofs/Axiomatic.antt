@@ -21,6 +21,7 @@ use Rattle.checker_signatures.specs.Rows.{rows}
 use Rattle.checker_signatures.proofs.RowLaws.{rows-length}
 use Rattle.checker_dictionary.specs.Waiting.{waiting}
 use Rattle.checker_lookup.specs.Scoped.{DictionaryHeld}
+use Rattle.checker_lookup.proofs.HeldLaws.{same-on}
 use Rattle.checker_contracts.specs.Room.{framesAt, entriesAt}
 use Rattle.checker_contracts.specs.Paragraphs.{ParagraphAsk, ParagraphDone}
 use Rattle.checker_contracts.specs.Texts.{TextAsk, TextDone, Declared}
@@ -30,7 +31,7 @@ use Rattle.checker_contracts.proofs.Wiping.{wiped-low}
 use Rattle.checker_entries.specs.Entries.{TypesAt, nameEntries, TableAsk}
 use Rattle.checker_entries.proofs.Beginning.{nothing-before, nothing-known, no-rows, room-below, walking-below, passes-any, refuses-any}
 use Rattle.checker_entries.proofs.CarriedTypes.{TypesOf, types-of}
-use Rattle.checker_entries.proofs.Waits.{wrote-waits, names-few}
+use Rattle.checker_entries.proofs.Waits.{wrote-waits, names-few, wrote-index}
 
 module _ (s d w : List ℕ) (p : Paragraph) (k : ℕ) (t : Text) (e : p ≡ axiomatic k t) where
   pub axiom-asked : ParagraphAsk s d w p → TextAsk s d w 0 1 framesAt t
@@ -51,16 +52,17 @@ module _ (s d w : List ℕ) (p : Paragraph) (k : ℕ) (t : Text) (e : p ≡ axio
     unfolding paragraphItems globalsIf
     axiom-stopped z at count = subst (λ x. ParagraphDone s s′ d w w′ x number place at count) (sym e) (record {
       size = T .done .still .size;
+      index = T .done .still .index;
       low = λ y. absurd (z y);
       goes = λ y. absurd (z y);
       stops = λ y D R. refuses-any (textItems t (globals D) D) number place (T .done .stops y skip [] nothing-before (globals D) D (no-rows s d w D R) tt (nothing-known (textNumbers t)));
     })
 
     module _ (A : ParagraphAsk s d w p) (fine : number ≡ 0) where
-      went : (D : Dictionary) → DictionaryHeld D d → Declared s′ d w′ 0 m framesAt skip [] (globals D) D true t
+      went : (D : Dictionary) → DictionaryHeld D d w → Declared s′ d w′ 0 m framesAt skip [] (globals D) D true t
       went D R = T .done .goes fine skip [] nothing-before (globals D) D (no-rows s d w D R) tt (nothing-known (textNumbers t))
 
-      own : (D : Dictionary) → DictionaryHeld D d → TypesOf s′ d (skip ⨾ textItems t (globals D) (globalsIf true D)) (textSignature t (globals D)) (rows w′ framesAt m)
+      own : (D : Dictionary) → DictionaryHeld D d w → TypesOf s′ d (skip ⨾ textItems t (globals D) (globalsIf true D)) (textSignature t (globals D)) (rows w′ framesAt m)
       own D R =
           let X = went D R in
           types-of s′ d (skip ⨾ textItems t (globals D) (globalsIf true D)) (X .unknowns) (textSignature t (globals D)) (rows w′ framesAt m) (X .signature)
@@ -84,6 +86,7 @@ module _ (s d w : List ℕ) (p : Paragraph) (k : ℕ) (t : Text) (e : p ≡ axio
       unfolding paragraphItems extend globalsIf MeetsIn
       axiom-done s″ w″ end h W = subst (λ x. ParagraphDone s s″ d w w″ x 0 place entriesAt m) (sym e) (record {
         size = let O = own (A .dictionary) (A .recorded) in ap length (W (O .types) (O .stand) .area) ∙ length-sets w′ entriesAt (waiting (nameEntries (rows w′ framesAt m) (O .types))) ∙ T .done .still .size;
+        index = let O = own (A .dictionary) (A .recorded) in same-on w w′ w″ (T .done .still .index) (wrote-index w′ w″ entriesAt end (waiting (nameEntries (rows w′ framesAt m) (O .types))) (omega arith) (W (O .types) (O .stand)));
         low = λ z.
             let q = T .done .areas fine .short in
             let l = T .done .areas fine .few in

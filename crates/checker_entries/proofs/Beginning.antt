@@ -29,7 +29,7 @@ nothing-before = record { passes = tt; local = λ τ τ′ h m. tt; some = (λ x
 pub nothing-known : (l : List ℕ) → Fresh l []
 nothing-known l x o i = i
 
-pub no-rows : (s d w : List ℕ) (D : Dictionary) → DictionaryHeld D d → Scoped s d w 0 (idle skip []) (globals D) D
+pub no-rows : (s d w : List ℕ) (D : Dictionary) → DictionaryHeld D d w → Scoped s d w 0 (idle skip []) (globals D) D
 unfolding Stacked stack
 no-rows s d w D R = record { stacked = refl; recorded = R }
 

@@ -36,6 +36,7 @@ module _ (s d w : List ℕ) (p : Paragraph) (k : ℕ) (q : Pred) (e : p ≡ cons
   unfolding paragraphItems extend withEntries waiting MeetsIn
   constraint-done s′ w′ number place at P = subst (λ x. ParagraphDone s s′ d w w′ x number place at 0) (sym e) (record {
     size = P .done .still .size;
+    index = P .done .still .index;
     low = P .done .areas;
     goes = λ z D R.
         let X = P .done .goes z skip [] nothing-before (globals D) D (no-rows s d w D R) tt (nothing-known (predNumbers q)) in

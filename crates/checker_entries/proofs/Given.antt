@@ -16,11 +16,12 @@ use Rattle.checker_rules.specs.Unknowns.{givenSet}
 use Rattle.types_cells.specs.Settled.{lower}
 use Rattle.types_solver.specs.Written.{Wrote}
 use Rattle.checker_dictionary.specs.Waiting.{withEntries, waiting}
+use Rattle.checker_dictionary.specs.Index.{indexEnd}
 use Rattle.checker_merging.specs.Merging.{NewTold}
 use Rattle.checker_contracts.specs.Paragraphs.{ParagraphDone}
 use Rattle.checker_entries.specs.Entries.{givenEntries}
 use Rattle.checker_entries.proofs.Beginning.{nothing-before, passes-any, refuses-any}
-use Rattle.checker_entries.proofs.Waits.{wrote-waits, givens-few}
+use Rattle.checker_entries.proofs.Waits.{wrote-waits, givens-few, wrote-index}
 
 givens-extend : (is : List ℕ) (D : Dictionary) → addGivens is D ≡ withEntries (givenEntries is) D
 unfolding addGivens withEntries givenEntries
@@ -33,20 +34,22 @@ givens-count [] = refl
 givens-count (i ∷ is) = ap suc (givens-count is)
 
 module _ (s d w : List ℕ) (p : Paragraph) (k : ℕ) (is : List ℕ) (e : p ≡ given k is) where
-  pub given-clash : NewTold d is false → (at count : ℕ) → ParagraphDone s s d w w p 36 k at count
+  pub given-clash : NewTold d w is false → (at count : ℕ) → ParagraphDone s s d w w p 36 k at count
   unfolding paragraphItems
   given-clash N at count = subst (λ x. ParagraphDone s s d w w x 36 k at count) (sym e) (record {
     size = refl;
+    index = λ i least most. refl;
     low = λ z. absurd (omega arith);
     goes = λ z. absurd (omega arith);
     stops = λ z D R. refuses-any (newNames k is D) 36 k (N .stops refl D skip [] k (R .holds) nothing-before);
   })
 
-  pub given-done : NewTold d is true → (w′ : List ℕ) (place at end : ℕ) → length is ≤ 1024 → at + 7 * length is ≤ length w → Wrote w w′ at end (waiting (givenEntries is)) →
+  pub given-done : NewTold d w is true → (w′ : List ℕ) (place at end : ℕ) → length is ≤ 1024 → at + 7 * length is ≤ length w → indexEnd ≤ at → Wrote w w′ at end (waiting (givenEntries is)) →
       ParagraphDone s s d w w′ p 0 place at (length is)
   unfolding paragraphItems extend MeetsIn
-  given-done N w′ place at end few room W = subst (λ x. ParagraphDone s s d w w′ x 0 place at (length is)) (sym e) (record {
+  given-done N w′ place at end few room high W = subst (λ x. ParagraphDone s s d w w′ x 0 place at (length is)) (sym e) (record {
     size = ap length (W .area) ∙ length-sets w at (waiting (givenEntries is));
+    index = wrote-index w w′ at end (waiting (givenEntries is)) high W;
     low = λ z. refl;
     goes = λ z D R.
         let X = N .goes refl D skip [] k (R .holds) nothing-before in

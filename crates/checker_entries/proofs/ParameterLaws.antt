@@ -20,10 +20,12 @@ use Rattle.checker_signatures.specs.Rows.{flat, stack}
 use Rattle.checker_signatures.specs.Carried.{Stacked}
 use Rattle.checker_signatures.specs.Tables.{Pushed}
 use Rattle.checker_signatures.proofs.CallLaws.{pushed-local}
+use Rattle.checker_signatures.proofs.RowLaws.{getD-above, flat-length}
 use Rattle.types_instances.specs.Clean.{Clean}
 use Rattle.types_instances.proofs.CleanLaws.{written-clean, written-below}
 use Rattle.types_instances.proofs.Moving.{moved-new}
 use Rattle.checker_lookup.specs.Scoped.{SettledAt, Scoped}
+use Rattle.checker_lookup.proofs.HeldLaws.{SameIndex, same-on, held-in}
 use Rattle.checker_includes.specs.Storing.{Stored}
 use Rattle.checker_contracts.specs.Visits.{idle}
 use Rattle.checker_contracts.proofs.Scopes.{scoped-stored, stored-on}
@@ -50,6 +52,7 @@ parameters-done s w p j n at A l e =
       stored = record { size = refl; before = λ i q. refl; after = subst (Clean s) (sym e) (A .clean); more = omega arith };
       place = omega arith;
       size = refl;
+      index = λ i low high. refl;
       scoped = λ d Γ D C. subst (λ k. Scoped s d w n (idle skip []) (withParameters (take k (drop (j + 3) p)) (suc j) Γ) D) (sym y) (subst (λ k. Scoped s d w k (idle skip []) Γ D) z C);
     }
 
@@ -88,6 +91,12 @@ module _ (s s₁ s₂ s₃ w w₁ p : List ℕ) (j n at i r : ℕ) (A : Paramete
   size₁ : length w₁ ≡ length w
   size₁ = ap length (P .words) ∙ length-sets w (0 + 2 * j) (flat ((i, at) ∷ []))
 
+  same₁ : SameIndex w w₁
+  same₁ k least most =
+      let f = A .few in
+      let c = flat-length ((i, at) ∷ []) in
+      ap (λ z. getD z k 0) (P .words) ∙ getD-above (flat ((i, at) ∷ [])) w (0 + 2 * j) k (omega arith)
+
   pub parameters-asked : ParametersAsk s₃ w₁ p (j + 1) n
   parameters-asked =
       let z = size₁ in
@@ -118,7 +127,7 @@ module _ (s s₁ s₂ s₃ w w₁ p : List ℕ) (j n at i r : ℕ) (A : Paramete
               reads = subst (λ z. Reads (heap z d) at (parameterSet (suc j))) (sym wrote) (moved-new s at (words (parameterSet (suc j))) (A .size) (omega arith) d (parameterSet (suc j)) (set-formed (suc j)) refl);
               means = λ τ m. refl;
             }));
-        recorded = C .recorded;
+        recorded = held-in D d w w₁ same₁ (C .recorded);
       }
 
   pub parameters-next : (s′ w′ : List ℕ) (end : ℕ) → ParametersPushed s₃ s′ w₁ w′ (take (n - (j + 1)) (drop (j + 1 + 3) p)) (j + 1) n end →
@@ -129,6 +138,7 @@ module _ (s s₁ s₂ s₃ w w₁ p : List ℕ) (j n at i r : ℕ) (A : Paramete
         (stored-on s s₃ s′ at (at + 4) end stored (subst (λ k. Stored s₃ s′ k end) (let x : 4 * (j + 1) + 1 ≡ at + 4 = omega arith in x) (N .stored)));
     place = N .place;
     size = N .size ∙ size₁;
+    index = same-on w w₁ w′ same₁ (N .index);
     scoped = λ d Γ D C.
         subst (λ l. Scoped s′ d w′ n (idle skip []) (withParameters l (suc j) Γ) D) (sym split)
         (subst (λ k. Scoped s′ d w′ n (idle skip []) (withParameters (take (n - (j + 1)) (drop (j + 1 + 3) p)) k (local i (powerOf (parameterOf (suc j))) Γ)) D)

@@ -20,6 +20,7 @@ use Rattle.checker_signatures.specs.Rows.{rows}
 use Rattle.checker_signatures.proofs.RowLaws.{rows-length}
 use Rattle.checker_dictionary.specs.Waiting.{withEntries, waiting}
 use Rattle.checker_lookup.specs.Scoped.{Scoped, DictionaryHeld}
+use Rattle.checker_lookup.proofs.HeldLaws.{SameIndex, same-on}
 use Rattle.checker_includes.specs.Storing.{Stored}
 use Rattle.checker_contracts.specs.Room.{framesAt, entriesAt}
 use Rattle.checker_contracts.specs.Paragraphs.{ParagraphAsk, ParagraphDone}
@@ -32,7 +33,7 @@ use Rattle.checker_entries.specs.Entries.{TypesAt, schemaOf, entryWaits,
 use Rattle.checker_entries.specs.Parameters.{ParametersPushed}
 use Rattle.checker_entries.proofs.Beginning.{nothing-before, nothing-known, no-rows, room-below, walking-below, passes-any, refuses-any}
 use Rattle.checker_entries.proofs.CarriedTypes.{TypesOf, types-of, binding-of}
-use Rattle.checker_entries.proofs.Waits.{one-waits, schema-few}
+use Rattle.checker_entries.proofs.Waits.{one-waits, schema-few, wrote-index}
 
 module _ (s d w : List ℕ) (p : Paragraph) (k name : ℕ) (ps : List ℕ) (x : Schema) (e : p ≡ schema k name ps x) (A′ : ParagraphAsk s d w p)
     (s₁ w₁ : List ℕ) (n at₁ : ℕ) (P : ParametersPushed s s₁ w w₁ ps 0 n at₁) (few : n ≤ 4) where
@@ -42,7 +43,7 @@ module _ (s d w : List ℕ) (p : Paragraph) (k name : ℕ) (ps : List ℕ) (x : 
   abbrev around : Dictionary → Scope
   around D = withParameters ps 1 (globals D)
 
-  begun : (D : Dictionary) → DictionaryHeld D d → Scoped s₁ d w₁ n (idle skip []) (around D) D
+  begun : (D : Dictionary) → DictionaryHeld D d w → Scoped s₁ d w₁ n (idle skip []) (around D) D
   begun D R = P .scoped d (globals D) D (no-rows s d w D R)
 
   pub schema-asked : SchemaAsk s₁ d w₁ n at₁ framesAt x
@@ -61,20 +62,24 @@ module _ (s d w : List ℕ) (p : Paragraph) (k name : ℕ) (ps : List ℕ) (x : 
       }
 
   module _ (s₂ w₂ : List ℕ) (number place m at₂ : ℕ) (T : SchemaDone s₁ s₂ d w₁ w₂ n at₁ framesAt x number place m at₂) where
+    same₂ : SameIndex w w₂
+    same₂ = same-on w w₁ w₂ (P .index) (T .done .still .index)
+
     pub schema-stopped : (number ≡ 0 → ⊥) → (at count : ℕ) → ParagraphDone s s₂ d w w₂ p number place at count
     unfolding paragraphItems
     schema-stopped z at count = subst (λ y. ParagraphDone s s₂ d w w₂ y number place at count) (sym e) (record {
       size = T .done .still .size ∙ P .size;
+      index = same₂;
       low = λ y. absurd (z y);
       goes = λ y. absurd (z y);
       stops = λ y D R. refuses-any (schemaItems x (around D)) number place (T .done .stops y skip [] nothing-before (around D) D (begun D R) tt (nothing-known (schemaNumbers x)));
     })
 
     module _ (fine : number ≡ 0) where
-      went : (D : Dictionary) → DictionaryHeld D d → SchemaWent s₂ d w₂ m framesAt skip [] (around D) x
+      went : (D : Dictionary) → DictionaryHeld D d w → SchemaWent s₂ d w₂ m framesAt skip [] (around D) x
       went D R = T .done .goes fine skip [] nothing-before (around D) D (begun D R) tt (nothing-known (schemaNumbers x))
 
-      own : (D : Dictionary) → DictionaryHeld D d → TypesOf s₂ d (skip ⨾ schemaItems x (around D)) (schemaSignature x (around D)) (rows w₂ framesAt m)
+      own : (D : Dictionary) → DictionaryHeld D d w → TypesOf s₂ d (skip ⨾ schemaItems x (around D)) (schemaSignature x (around D)) (rows w₂ framesAt m)
       own D R = let X = went D R in types-of s₂ d (skip ⨾ schemaItems x (around D)) (X .unknowns) (schemaSignature x (around D)) (rows w₂ framesAt m) (X .signature)
 
       stored : Stored s s₂ 1 at₂
@@ -99,6 +104,7 @@ module _ (s d w : List ℕ) (p : Paragraph) (k name : ℕ) (ps : List ℕ) (x : 
       unfolding paragraphItems extend MeetsIn withEntries waiting
       schema-done s₃ w₃ end c h W = subst (λ y. ParagraphDone s s₃ d w w₃ y 0 place entriesAt 1) (sym e) (record {
         size = let O = own (A .dictionary) (A .recorded) in ap length (W (O .types) (O .stand) .area) ∙ length-sets w₂ entriesAt (entryWaits (schemaOf name n (rows w₂ framesAt m) (O .types))) ∙ T .done .still .size ∙ P .size;
+        index = let O = own (A .dictionary) (A .recorded) in same-on w w₂ w₃ same₂ (wrote-index w₂ w₃ entriesAt end (entryWaits (schemaOf name n (rows w₂ framesAt m) (O .types))) (omega arith) (W (O .types) (O .stand)));
         low = λ z.
             let o = P .place in
             let q = T .done .areas fine .short in

@@ -3,7 +3,7 @@ use mathlib.Core.Path.{_≡_, refl, sym, ap, subst, _∙_}
 use mathlib.Core.List.{List, [], _∷_, _++_, append-assoc}
 use Prim.Native.Nat.{ℕ, suc, _+_, _*_, _≤_, _<_}
 use native.Mathlib.Omega.{arith}
-use lib.ListN.{length, take, drop, length-append}
+use lib.ListN.{getD, length, take, drop, length-append}
 use lib.Seq.{sets, sets-eq, drop-append-seam, length-take-le}
 use Rattle.types_rules.specs.Types.{Ty, Tys, tnil, tcons}
 use Rattle.types_rules.specs.Former.{tag, identifiers}
@@ -11,6 +11,9 @@ use Rattle.types_rules.specs.Words.{words, second, partWords}
 use Rattle.checker_rules.specs.Dictionary.{Entry, nameEntry, entryWords}
 use Rattle.checker_rules.specs.Unknowns.{givenSet}
 use Rattle.types_solver.specs.Written.{Wrote}
+use Rattle.types_instances.proofs.Moving.{sets-before}
+use Rattle.checker_dictionary.specs.Index.{indexEnd}
+use Rattle.checker_lookup.proofs.HeldLaws.{SameIndex}
 use Rattle.checker_dictionary.specs.Waiting.{waiting, Waits}
 use Rattle.checker_entries.specs.Entries.{TypesAt, AllSmall, nameEntries, givenEntries, entryWaits, schemaOf}
 use Rattle.checker_entries.proofs.Writing.{small-words, parts-few}
@@ -55,3 +58,7 @@ names-few (r ∷ rs) (tcons g gs) S =
 pub schema-few : (H : List ℕ) (s p : ℕ) (rs : List (ℕ × ℕ)) (gs : Tys) → TypesAt H rs gs → AllSmall gs → length (entryWaits (schemaOf s p rs gs)) ≤ 6 + typeWords * length rs
 unfolding entryWords words tag second identifiers
 schema-few H s p rs gs T S = let l = parts-few H rs gs T S in omega arith
+
+-- Entries wait above the dictionary's index.
+pub wrote-index : (w w′ : List ℕ) (at end : ℕ) (ws : List ℕ) → indexEnd ≤ at → Wrote w w′ at end ws → SameIndex w w′
+wrote-index w w′ at end ws high W i least most = ap (λ z. getD z i 0) (W .area) ∙ sets-before w at ws i (omega (arith, high, most))

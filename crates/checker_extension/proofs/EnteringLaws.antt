@@ -18,6 +18,10 @@ use Rattle.checker_rules.specs.Verdicts.{RefusesAt}
 use Rattle.checker_rules.specs.declared.Finding.the-variants.{Accepted, Refused}
 use Rattle.checker_dictionary.specs.Growth.{sizeAt}
 use Rattle.checker_dictionary.specs.Holds.{Holds}
+use Rattle.layout.specs.Layout.{count}
+use Rattle.checker_dictionary.specs.Index.{IndexedTo, Indexed}
+use Rattle.checker_dictionary.proofs.IndexLaws.{indexed-older, count-more}
+use Rattle.checker_lookup.proofs.HeldLaws.{indexed-in}
 use Rattle.checker_dictionary.specs.Waiting.{withEntries, waiting, Waits, Waiting, AppendedAll}
 use Rattle.checker_dictionary.proofs.Places.{size-held}
 use Rattle.checker_dictionary.proofs.WaitingLaws.{entries-grow}
@@ -34,7 +38,7 @@ module _ (d part : List ℕ) (n : ℕ) (e : n ≡ sizeAt d) (q : part ≡ take n
   pub visit-ask : (doc s w : List ℕ) (k : ℕ) → IsParagraph doc k → BetweenParagraphs s d w → At doc paragraphs k × ParagraphAsk s part w (paragraphAt doc k)
   visit-ask doc s w k L R =
       let at = listed-at doc k L in
-      let h = R .recorded .holds in
+      let h = R .recorded .holds .holds in
       let f = h .fits in
       let g = R .few in
       let z = size-held (R .dictionary) d h in
@@ -42,7 +46,7 @@ module _ (d part : List ℕ) (n : ℕ) (e : n ≡ sizeAt d) (q : part ≡ take n
         at,
         record {
           dictionary = R .dictionary;
-          recorded = recorded-part (R .dictionary) d part n e q (R .recorded);
+          recorded = recorded-part (R .dictionary) d part w n e q (R .recorded);
           size = R .size;
           few = omega arith;
           wide = R .wide;
@@ -56,9 +60,10 @@ module _ (d part : List ℕ) (n : ℕ) (e : n ≡ sizeAt d) (q : part ≡ take n
   pub visit-done : (s s′ w w′ : List ℕ) (p : Paragraph) (f m at c : ℕ) → ParagraphDone s s′ part w w′ p f m at c → ParagraphDone s s′ d w w′ p f m at c
   visit-done s s′ w w′ p f m at c X = record {
     size = X .size;
+    index = X .index;
     low = X .low;
-    goes = λ z D R. X .goes z D (recorded-part D d part n e q R);
-    stops = λ z D R. X .stops z D (recorded-part D d part n e q R);
+    goes = λ z D R. X .goes z D (recorded-part D d part w n e q R);
+    stops = λ z D R. X .stops z D (recorded-part D d part w n e q R);
   }
 
 -- The first n words are few.
@@ -80,7 +85,7 @@ module _ (doc : List ℕ) (k : ℕ) (L : IsParagraph doc k) (s s′ d w w′ : L
   p : Paragraph
   p = paragraphAt doc k
 
-  pub entered-refused : (f ≡ 0 → ⊥) → Entered s s′ d d (paragraphAt doc k) (Refused f m)
+  pub entered-refused : (f ≡ 0 → ⊥) → Entered s s′ d d w w′ (paragraphAt doc k) (Refused f m)
   unfolding RefusesAt
   entered-refused ne = record {
     low = λ q. let z : _≡_ {A = ℕ} 0 1 = cc in absurd (omega arith);
@@ -100,34 +105,37 @@ module _ (doc : List ℕ) (k : ℕ) (L : IsParagraph doc k) (s s′ d w w′ : L
     short-all D es H l =
         let a = grows-few D es l in
         let b = size-held D d H in
-        let e = size-held (R .dictionary) d (R .recorded .holds) in
+        let e = size-held (R .dictionary) d (R .recorded .holds .holds) in
         let g = R .few in
         omega arith
 
     module _ (d′ : List ℕ) (r : Bool) (A : (D : Dictionary) (es : List Entry) → length es ≡ c → Holds D d → Waits es w′ at → dictionaryLength (withEntries es D) ≤ 2 ^ 31 → AppendedAll D es d d′ r) where
-      appended : (D : Dictionary) (S : DictionaryHeld D d) (E : Extended w′ p D at c) → AppendedAll D (E .entries) d d′ r
-      appended D S E = A D (E .entries) (E .counted) (S .holds) (E .waits) (short-all D (E .entries) (S .holds) (E .short))
+      appended : (D : Dictionary) (S : DictionaryHeld D d w) (E : Extended w′ p D at c) → AppendedAll D (E .entries) d d′ r
+      appended D S E = A D (E .entries) (E .counted) (S .holds .holds) (E .waits) (short-all D (E .entries) (S .holds .holds) (E .short))
 
-      pub entered-accepted : r ≡ true → Entered s s′ d d′ (paragraphAt doc k) Accepted
+      pub entered-accepted : r ≡ true → (w″ : List ℕ) (n : ℕ) → n ≡ count d → (n ≤ count d′ → IndexedTo d′ w′ n → IndexedTo d′ w″ (count d′)) → Entered s s′ d d′ w w″ (paragraphAt doc k) Accepted
       unfolding p
-      entered-accepted t = record {
+      entered-accepted t w″ n is N = record {
         low = λ q. X .low z;
         goes = λ q D S.
             let E = X .goes z D S in
-            let H = subst (λ (G : Dictionary). Holds G d′) (sym (E .extends)) (appended D S E .fits t) in
+            let F = appended D S E .fits t in
+            let c = count-more D (E .entries) d d′ (S .holds .holds) F in
+            let J = indexed-older D (E .entries) d d′ w′ (indexed-in D d w w′ (X .index) (S .holds)) F in
+            let H = subst (λ (G : Dictionary). Indexed G d′ w″) (sym (E .extends)) (record { holds = F; index = N (omega (arith, c, is)) (subst (IndexedTo d′ w′) (sym is) J) }) in
             let l = grows-few D (E .entries) (E .short) in
             let h = listed-at doc k L in
             record {
               passes = E .passes;
               table = E .table;
               meets = E .meets;
-              recorded = extended-recorded p D (E .table) (E .passes) (E .meets) (listed-sized doc k L) (few-parameters doc k h) d d′ S H;
+              recorded = extended-recorded p D (E .table) (E .passes) (E .meets) (listed-sized doc k L) (few-parameters doc k h) d d′ w w″ S H;
               short = subst (λ (G : Dictionary). dictionaryLength G ≤ dictionaryLength D + maxAdded) (sym (E .extends)) l;
             };
         stops = λ g j q. let y : _≡_ {A = ℕ} 0 1 = cc in absurd (omega arith);
       }
 
-      pub entered-full : r ≡ false → Entered s s′ d d′ (paragraphAt doc k) (Refused 22 k)
+      pub entered-full : r ≡ false → Entered s s′ d d′ w w′ (paragraphAt doc k) (Refused 22 k)
       unfolding RefusesAt p
       entered-full t = record {
         low = λ q. let y : _≡_ {A = ℕ} 0 1 = cc in absurd (omega arith);

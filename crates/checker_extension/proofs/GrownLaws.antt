@@ -22,7 +22,7 @@ use Rattle.checker_rules.proofs.ItemLaws.{not-both}
 use Rattle.checker_rules.proofs.OneType.{extend-same}
 use Rattle.reader_rules.proofs.Sized.{SizedParagraph}
 use Rattle.checker_rules.proofs.SolvingRight.{Verdict, solve-right}
-use Rattle.checker_dictionary.specs.Holds.{Holds}
+use Rattle.checker_dictionary.specs.Index.{Indexed}
 use Rattle.checker_dictionary.specs.Waiting.{withEntries, waiting}
 use Rattle.checker_dictionary.proofs.Monotone.{length-more}
 use Rattle.reader_rules.specs.Limited.{FewParameters}
@@ -44,8 +44,8 @@ module _ (p : Paragraph) (D : Dictionary) (τ : Valuation) (P : Passes (paragrap
           (extend-formed (valuationOf s) (λ x. sol-fit Arity s k (λ y. integerType) (λ y. integer-formed) x) p D f)
       go (refuse g m) v k = absurd (not-both t Any g m P v)
 
-  pub extended-recorded : SizedParagraph p → FewParameters p → (d d′ : List ℕ) → DictionaryHeld D d → Holds (extend p D τ) d′ → DictionaryHeld (extend p D τ) d′
-  extended-recorded z f d d′ R H = record { holds = H; formed = extended-formed z (R .formed); limited = limited-extend p D τ f (R .limited) M }
+  pub extended-recorded : SizedParagraph p → FewParameters p → (d d′ w w′ : List ℕ) → DictionaryHeld D d w → Indexed (extend p D τ) d′ w′ → DictionaryHeld (extend p D τ) d′ w′
+  extended-recorded z f d d′ w w′ R H = record { holds = H; formed = extended-formed z (R .formed); limited = limited-extend p D τ f (R .limited) M }
 
 -- An entry that waits takes one word more in the dictionary, for its offset.
 pub entries-length : (es : List Entry) (D : Dictionary) → dictionaryLength (withEntries es D) ≡ dictionaryLength D + length (waiting es) + length es

@@ -10,6 +10,7 @@ use Rattle.checker_dictionary.specs.Growth.{sizeAt}
 use Rattle.checker_dictionary.specs.Holds.{Holds}
 use Rattle.checker_dictionary.proofs.LiftLaws.{drop-zeros}
 use Rattle.checker_dictionary.proofs.Places.{size-held}
+use Rattle.checker_dictionary.proofs.IndexLaws.{indexed-there}
 use Rattle.checker_lookup.specs.Scoped.{DictionaryHeld}
 
 take-zeros : (m k : ℕ) → take m (replicate (m + k) 0) ≡ replicate {A = ℕ} m 0
@@ -70,9 +71,9 @@ held-whole D d m H =
     }
 
 -- The words in use.
-pub recorded-part : (D : Dictionary) (d part : List ℕ) (n : ℕ) → n ≡ sizeAt d → part ≡ take n (drop 0 d) → DictionaryHeld D d → DictionaryHeld D part
-recorded-part D d part n e q R =
-    let h = R .holds in
+pub recorded-part : (D : Dictionary) (d part w : List ℕ) (n : ℕ) → n ≡ sizeAt d → part ≡ take n (drop 0 d) → DictionaryHeld D d w → DictionaryHeld D part w
+recorded-part D d part w n e q R =
+    let h = R .holds .holds in
     let s = size-held D d h in
     let f = h .fits in
-    record { holds = subst (Holds D) (sym q) (held-part D d h n (omega arith) (omega arith)); formed = R .formed; limited = R .limited }
+    record { holds = indexed-there D d part w (R .holds) (subst (Holds D) (sym q) (held-part D d h n (omega arith) (omega arith))); formed = R .formed; limited = R .limited }

@@ -41,19 +41,19 @@ pub record BetweenParagraphs (s d w : List ℕ) : Type 0 where
   pub clean : Clean s 1
   pub wide : checkWorkWords ≤ length w
   pub dictionary : Dictionary
-  pub recorded : DictionaryHeld dictionary d
+  pub recorded : DictionaryHeld dictionary d w
   pub few : dictionaryLength dictionary < 2 ^ 30
 
--- The paragraph p passes over the dictionary D, and the area d holds D with its entries.
-pub record Grown (p : Paragraph) (D : Dictionary) (d : List ℕ) : Type 0 where
+-- The paragraph p passes over the dictionary D, and the area d holds D with its entries, w their index.
+pub record Grown (p : Paragraph) (D : Dictionary) (d w : List ℕ) : Type 0 where
   pub passes : Passes (paragraphItems p D) Any
   pub table : Valuation
   pub meets : Meets (paragraphItems p D) table
-  pub recorded : DictionaryHeld (extend p D table) d
+  pub recorded : DictionaryHeld (extend p D table) d w
   pub short : dictionaryLength (extend p D table) ≤ dictionaryLength D + maxAdded
 
 -- Accepted: p passes, and the pool is empty again; otherwise p refuses, before any paragraphs ps.
-pub record Entered (s s′ d d′ : List ℕ) (p : Paragraph) (r : Finding) : Type 0 where
+pub record Entered (s s′ d d′ w w′ : List ℕ) (p : Paragraph) (r : Finding) : Type 0 where
   pub low : r ≡ Accepted → lower s′ ≡ lower s
-  pub goes : r ≡ Accepted → (D : Dictionary) → DictionaryHeld D d → Grown p D d′
-  pub stops : (f m : ℕ) → r ≡ Refused f m → (D : Dictionary) → DictionaryHeld D d → (ps : List Paragraph) → RefusesAt Any (p ∷ ps) D (length d) f m
+  pub goes : r ≡ Accepted → (D : Dictionary) → DictionaryHeld D d w → Grown p D d′ w′
+  pub stops : (f m : ℕ) → r ≡ Refused f m → (D : Dictionary) → DictionaryHeld D d w → (ps : List Paragraph) → RefusesAt Any (p ∷ ps) D (length d) f m

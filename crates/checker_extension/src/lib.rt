@@ -1,11 +1,13 @@
 // The dictionary extended by one paragraph of the Document: its finding, then 22, else its entries.
 use checker_closing::results::Lined;
 use checker_dictionary::growth::size;
+use checker_dictionary::index;
 use checker_dictionary::waiting::append_all;
 use checker_paragraphs::paragraphs::paragraph;
 use checker_rules::Finding;
 use codes::findings;
 use words::span;
+use words::word;
 ghost use mathlib.Core.Path.{_≡_};
 ghost use mathlib.Core.List.{List};
 ghost use Prim.Native.Nat.{_≤_, _^_};
@@ -40,11 +42,12 @@ fn append(dict: &mut [u32], work: &[u32], at: usize, m: usize) -> bool
     append_all(dict, work, at, m)
 }
 
-// The paragraph at node k: its finding, then 22; Accepted where the dictionary has its entries.
+// The paragraph at node k: its finding, then 22; Accepted where the dictionary and its index have its entries.
 pub fn enter(doc: &[u32], a: &mut [u32], dict: &mut [u32], work: &mut [u32], k: usize) -> Finding
     requires { ⌜ IsParagraph (now doc) k × BetweenParagraphs (now a) (now dict) (now work) ⌝ }
-    ensures { λ r. ⌜ Entered (now (a .entry)) (now (a .exit)) (now (dict .entry)) (now (dict .exit)) (paragraphAt (now (doc .entry)) k) r ⌝ }
+    ensures { λ r. ⌜ Entered (now (a .entry)) (now (a .exit)) (now (dict .entry)) (now (dict .exit)) (now (work .entry)) (now (work .exit)) (paragraphAt (now (doc .entry)) k) r ⌝ }
 {
+    let n = word(dict, 0);
     let p = visit(doc, a, dict, work, k);
     if p.number != 0 {
         return Finding::Refused {
@@ -55,6 +58,7 @@ pub fn enter(doc: &[u32], a: &mut [u32], dict: &mut [u32], work: &mut [u32], k: 
     let at = p.at;
     let m = p.count;
     if append(dict, work, at, m) {
+        index::extend(dict, work, n);
         return Finding::Accepted;
     }
     Finding::Refused {

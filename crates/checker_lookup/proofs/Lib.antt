@@ -1,4 +1,5 @@
 -- Laws of the rules that look names up.
+pub mod HeldLaws
 pub mod Standing
 pub mod BindingLaws
 pub mod RowInstances

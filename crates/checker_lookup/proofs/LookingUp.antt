@@ -19,7 +19,7 @@ use Rattle.checker_rules.specs.Items.{Items, refusal, Refuses}
 use Rattle.checker_rules.specs.Rules.{referenceItems}
 use Rattle.types_cells.specs.Layout.{dictionaryAt, areaSize, poolSize}
 use Rattle.types_cells.specs.Settled.{lower, heap, Reads, Readable, Entering}
-use Rattle.checker_dictionary.specs.Holds.{Holds}
+use Rattle.checker_dictionary.specs.Index.{Indexed}
 use Rattle.checker_dictionary.specs.Lookup.{parametersAt, typeAt, NameFound, Recorded as Entry}
 use Rattle.checker_dictionary.proofs.LookupLaws.{name-formed}
 use Rattle.checker_signatures.specs.Tables.{Finds}
@@ -67,8 +67,8 @@ unfolding Refuses
 refused H t f m = (refl, refl)
 
 -- A NAME OF THE DICTIONARY, whose entry is e.
-module _ (s d : List ℕ) (n top id e : ℕ) (found : (D : Dictionary) → Holds D d → NameFound D d id e) where
-  pub not-recorded : e ≡ 0 → Global s s d n top id 31 0 n top
+module _ (s d w : List ℕ) (n top id e : ℕ) (found : (D : Dictionary) → Indexed D d w → NameFound D d id e) where
+  pub not-recorded : e ≡ 0 → Global s s d w n top id 31 0 n top
   unfolding referenceItems
   not-recorded z = record {
     low = refl;
@@ -79,7 +79,7 @@ module _ (s d : List ℕ) (n top id e : ℕ) (found : (D : Dictionary) → Holds
   }
 
   module _ (some : e ≡ 0 → ⊥) (m : ℕ) (em : m ≡ parametersAt d e) (q : ℕ) (eq : q ≡ typeAt d e) where
-    module _ (D : Dictionary) (R : DictionaryHeld D d) where
+    module _ (D : Dictionary) (R : DictionaryHeld D d w) where
       pub entry-some : 1 ≤ e
       entry-some = ⊎-elim (λ z. absurd (some z)) (λ z. omega arith) (eq-zero-or-pos e)
 
@@ -93,7 +93,7 @@ module _ (s d : List ℕ) (n top id e : ℕ) (found : (D : Dictionary) → Holds
       type-reads z =
           dictionary-reads s d q (entry .type) (entry .after) z (name-formed D id m (entry .type) (R .formed) named) (ap (λ (x : ℕ). drop x d) eq ∙ entry .written)
 
-    unfoldable pub recorded-at : Consulted s d n top → RecordedAt s d n top (dictionaryAt + q) m
+    unfoldable pub recorded-at : Consulted s d w n top → RecordedAt s d n top (dictionaryAt + q) m
     recorded-at B =
         let D = B .dictionary in
         let R = B .recorded in
@@ -110,7 +110,7 @@ module _ (s d : List ℕ) (n top id e : ℕ) (found : (D : Dictionary) → Holds
           room = B .room;
         }
 
-    pub global : (s′ : List ℕ) (cell n′ top′ : ℕ) → Generic s s′ d n top (dictionaryAt + q) m cell n′ top′ → Global s s′ d n top id 0 cell n′ top′
+    pub global : (s′ : List ℕ) (cell n′ top′ : ℕ) → Generic s s′ d n top (dictionaryAt + q) m cell n′ top′ → Global s s′ d w n top id 0 cell n′ top′
     unfolding referenceItems
     global s′ cell n′ top′ X = record {
       low = X .low;
@@ -144,10 +144,10 @@ module _ (s d w : List ℕ) (n top rows id r : ℕ) (B : Referring s d w n top r
           (X .typed G S (x .0) (subst (SettledAt s d G (x .0)) here (x .2)) k U));
     }
 
-  unfoldable pub consulted : Consulted s d n top
+  unfoldable pub consulted : Consulted s d w n top
   consulted = record { ghost = B .ghost; stands = B .stands; node = B .node; unvisited = B .unvisited; dictionary = B .dictionary; recorded = B .scoped .recorded; room = B .room }
 
-  pub global-refers : rows ≤ r → (s′ : List ℕ) (number cell n′ top′ : ℕ) → Global s s′ d n top id number cell n′ top′ → Refers s s′ d w n top rows id number cell n′ top′
+  pub global-refers : rows ≤ r → (s′ : List ℕ) (number cell n′ top′ : ℕ) → Global s s′ d w n top id number cell n′ top′ → Refers s s′ d w n top rows id number cell n′ top′
   global-refers l s′ number cell n′ top′ X = record {
     low = X .low;
     uses = X .uses;

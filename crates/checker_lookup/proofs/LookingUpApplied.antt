@@ -18,7 +18,7 @@ use Rattle.checker_rules.specs.Items.{Items, _⨾_, refusal}
 use Rattle.checker_rules.specs.Rules.{referenceItems}
 use Rattle.checker_rules.specs.Scopes.{nameAt}
 use Rattle.checker_rules.specs.Unknowns.{row}
-use Rattle.checker_dictionary.specs.Holds.{Holds}
+use Rattle.checker_dictionary.specs.Index.{Indexed}
 use Rattle.checker_dictionary.specs.Lookup.{parametersAt, typeAt, NameFound}
 use Rattle.checker_signatures.specs.Tables.{Finds}
 use Rattle.checker_signatures.proofs.CallLaws.{found-local, no-local}
@@ -76,8 +76,8 @@ stopped s d n top k f G own e =
     rule-stops s s d n top k (suc f) 0 n top G own (λ q. omega arith) (subst (λ (x : Items). Stops (G .before) (G .items) x (suc f) k) (sym e) (refused (G .before) (G .items) (suc f) k))
 
 -- A NAME OF THE DICTIONARY, whose entry is e.
-module _ (s d : List ℕ) (n top id : ℕ) (parts : List ℕ) (m : ℕ) (B : ConsultedWith s d n top parts m) (e : ℕ) (found : (D : Dictionary) → Holds D d → NameFound D d id e) where
-  pub applied-unknown : e ≡ 0 → GlobalApplied s s d n top id parts m 31 0 n top
+module _ (s d w : List ℕ) (n top id : ℕ) (parts : List ℕ) (m : ℕ) (B : ConsultedWith s d w n top parts m) (e : ℕ) (found : (D : Dictionary) → Indexed D d w → NameFound D d id e) where
+  pub applied-unknown : e ≡ 0 → GlobalApplied s s d w n top id parts m 31 0 n top
   applied-unknown z = record {
     low = refl;
     uses = λ q. absurd (omega arith);
@@ -85,15 +85,15 @@ module _ (s d : List ℕ) (n top id : ℕ) (parts : List ℕ) (m : ℕ) (B : Con
   }
 
   module _ (some : e ≡ 0 → ⊥) (p : ℕ) (ep : p ≡ parametersAt d e) where
-    pub applied-count : (p ≡ m → ⊥) → GlobalApplied s s d n top id parts m 32 0 n top
+    pub applied-count : (p ≡ m → ⊥) → GlobalApplied s s d w n top id parts m 32 0 n top
     applied-count ne = record {
       low = refl;
       uses = λ q. absurd (omega arith);
       ruled = λ G S k U D R xs acts.
           let cnt = actuals-count s d n G parts m (B .within) xs acts in
           stopped s d n top k 31 G (referenceItems k xs (nameIn id D))
-          (ap (referenceItems k xs) (named s d n top id e found some p ep (typeAt d e) refl D R)
-          ∙ other-count k xs p (entry s d n top id e found some p ep (typeAt d e) refl D R .type) (let l = B .some in omega (arith, l, cnt)) (λ q. ne (sym q ∙ cnt)));
+          (ap (referenceItems k xs) (named s d w n top id e found some p ep (typeAt d e) refl D R)
+          ∙ other-count k xs p (entry s d w n top id e found some p ep (typeAt d e) refl D R .type) (let l = B .some in omega (arith, l, cnt)) (λ q. ne (sym q ∙ cnt)));
     }
 
     module _ (same : p ≡ m) (q : ℕ) (eq : q ≡ typeAt d e) where
@@ -102,18 +102,18 @@ module _ (s d : List ℕ) (n top id : ℕ) (parts : List ℕ) (m : ℕ) (B : Con
 
       pub applying-at : ApplyingAt s d n top (dictionaryAt + q) m parts
       unfolding recorded-at
-      applying-at = record { recorded = recorded-at s d n top id e found some m em q eq (B .consulted); expressions = B .expressions; actuals = B .actuals; within = B .within }
+      applying-at = record { recorded = recorded-at s d w n top id e found some m em q eq (B .consulted); expressions = B .expressions; actuals = B .actuals; within = B .within }
 
-      pub global-applied : (s′ : List ℕ) (number cell n′ top′ : ℕ) → AppliedAt s s′ d n top (dictionaryAt + q) m parts number cell n′ top′ → GlobalApplied s s′ d n top id parts m number cell n′ top′
+      pub global-applied : (s′ : List ℕ) (number cell n′ top′ : ℕ) → AppliedAt s s′ d n top (dictionaryAt + q) m parts number cell n′ top′ → GlobalApplied s s′ d w n top id parts m number cell n′ top′
       global-applied s′ number cell n′ top′ X = record {
         low = X .low;
         uses = X .uses;
         ruled = λ G S k U D R xs acts.
             let cnt = actuals-count s d n G parts m (B .within) xs acts in
-            let g = entry s d n top id e found some m em q eq D R .type in
+            let g = entry s d w n top id e found some m em q eq D R .type in
             subst (Ruled s s′ d n top k number cell n′ top′ G)
-            (sym (ap (referenceItems k xs) (named s d n top id e found some m em q eq D R) ∙ same-count k xs m g (let l = B .some in omega (arith, l, cnt)) cnt))
-            (X .ruled G S g (type-reads s d n top id e found some m em q eq D R (S .piece .solved .held .size)) k U xs acts);
+            (sym (ap (referenceItems k xs) (named s d w n top id e found some m em q eq D R) ∙ same-count k xs m g (let l = B .some in omega (arith, l, cnt)) cnt))
+            (X .ruled G S g (type-reads s d w n top id e found some m em q eq D R (S .piece .solved .held .size)) k U xs acts);
       }
 
 -- A NAME IN SCOPE.
@@ -142,11 +142,11 @@ module _ (s d w : List ℕ) (n top rows id : ℕ) (parts : List ℕ) (m : ℕ) (
           stopped s d n top k 31 G (referenceItems k xs (nameAt id Γ)) (ap (referenceItems k xs) (x .1) ∙ local-name k xs (x .0) (omega (arith, y, cnt)));
     }
 
-    pub consulted-with : ConsultedWith s d n top parts m
+    pub consulted-with : ConsultedWith s d w n top parts m
     unfolding consulted
     consulted-with = record { consulted = consulted s d w n top rows id r (B .referring) F; expressions = B .expressions; actuals = B .actuals; within = B .within; some = positive }
 
-    pub refers-global : rows ≤ r → (s′ : List ℕ) (number cell n′ top′ : ℕ) → GlobalApplied s s′ d n top id parts m number cell n′ top′ → RefersWith s s′ d w n top rows id parts m number cell n′ top′
+    pub refers-global : rows ≤ r → (s′ : List ℕ) (number cell n′ top′ : ℕ) → GlobalApplied s s′ d w n top id parts m number cell n′ top′ → RefersWith s s′ d w n top rows id parts m number cell n′ top′
     refers-global l s′ number cell n′ top′ X = record {
       low = X .low;
       uses = X .uses;

@@ -23,15 +23,17 @@ use Rattle.checker_signatures.specs.Carried.{Stacked}
 use Rattle.checker_pieces.specs.Stage.{Ghost}
 use Rattle.checker_lookup.specs.Scoped.{SettledAt, Scoped}
 use Rattle.checker_lookup.specs.Thetas.{InScope, RowsAsked, ComponentInScope, RowPlaced, Idle, RowsOver, RowsPlaced}
+use Rattle.checker_dictionary.specs.Index.{indexEnd}
+use Rattle.checker_lookup.proofs.HeldLaws.{held-in}
 use Rattle.checker_lookup.proofs.IdleLaws.{idle-refuses}
 use Rattle.types_cells.specs.Layout.{areaSize}
 
--- The scope is the same where its words are.
-pub scoped-below : (s d w w′ : List ℕ) (rows base : ℕ) → 2 * rows ≤ base → ((i : ℕ) → i < base → getD w′ i 0 ≡ getD w i 0) → (G : Ghost) (Γ : Scope) (D : Dictionary) → Scoped s d w rows G Γ D →
+-- The scope is the same where its words and those of the index are.
+pub scoped-below : (s d w w′ : List ℕ) (rows base : ℕ) → 2 * rows ≤ base → indexEnd ≤ base → ((i : ℕ) → i < base → getD w′ i 0 ≡ getD w i 0) → (G : Ghost) (Γ : Scope) (D : Dictionary) → Scoped s d w rows G Γ D →
     Scoped s d w′ rows G Γ D
-scoped-below s d w w′ rows base l h G Γ D C = record {
+scoped-below s d w w′ rows base l u h G Γ D C = record {
   stacked = subst (λ (st : List (ℕ × ℕ)). Stacked (SettledAt s d G) Γ st D) (sym (stack-kept w w′ 0 rows (λ i q. h i (omega arith)))) (C .stacked);
-  recorded = C .recorded;
+  recorded = held-in D d w w′ (λ i least most. h i (omega (arith, u, most))) (C .recorded);
 }
 
 -- ONE ROW.
@@ -191,12 +193,13 @@ placing-start d w rows base k = record { below = λ i l. refl; names = λ i. ref
 
 module _ (d w₀ w : List ℕ) (rows base m j k : ℕ) (A : RowsAsked d w₀ rows base m k) (I : Placing d w₀ w rows base j k) where
   scoped-now : (s : List ℕ) (G : Ghost) (Γ : Scope) (D : Dictionary) → Scoped s d w₀ rows G Γ D → Scoped s d w rows G Γ D
-  scoped-now s G Γ D C = scoped-below s d w₀ w rows base (A .below) (I .below) G Γ D C
+  scoped-now s G Γ D C = scoped-below s d w₀ w rows base (A .below) (A .above) (I .below) G Γ D C
 
   pub placing-ask : length w ≡ length w₀ → j < m → RowsAsked d w rows (base + 2 * j) 1 k
   placing-ask e l =
       let r = A .table in
       let b = A .below in
+      let u = A .above in
       record {
         store = A .store;
         size = A .size;
@@ -206,6 +209,7 @@ module _ (d w₀ w : List ℕ) (rows base m j k : ℕ) (A : RowsAsked d w₀ row
         dictionary = A .dictionary;
         scoped = scoped-now (A .store) (A .ghost) (A .scope) (A .dictionary) (A .scoped);
         below = omega arith;
+        above = omega arith;
         table = omega arith;
         stroke = A .stroke;
       }

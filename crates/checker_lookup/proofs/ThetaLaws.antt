@@ -15,7 +15,7 @@ use Rattle.checker_rules.specs.Rules.{thetaName, typeInScope}
 use Rattle.checker_rules.specs.Scopes.{Scope, nameAt}
 use Rattle.types_cells.specs.Layout.{dictionaryAt}
 use Rattle.types_cells.specs.Settled.{heap, Reads}
-use Rattle.checker_dictionary.specs.Holds.{Holds}
+use Rattle.checker_dictionary.specs.Index.{Indexed}
 use Rattle.checker_dictionary.specs.Lookup.{parametersAt, typeAt, NameFound}
 use Rattle.checker_signatures.specs.Tables.{Finds}
 use Rattle.checker_signatures.proofs.CallLaws.{found-local, no-local}
@@ -51,7 +51,7 @@ module _ (d w : List ℕ) (rows id r : ℕ) (F : Finds w 0 rows id r) where
         );
   }
 
-  module _ (l : rows ≤ r) (e : ℕ) (found : (D : Dictionary) → Holds D d → NameFound D d id e) where
+  module _ (l : rows ≤ r) (e : ℕ) (found : (D : Dictionary) → Indexed D d w → NameFound D d id e) where
     global-name : (s : List ℕ) (G : Ghost) (Γ : Scope) (D : Dictionary) → Scoped s d w rows G Γ D → nameAt id Γ ≡ nameIn id D
     global-name s G Γ D C = no-local (SettledAt s d G) D w 0 rows Γ (C .stacked) id r F l
 
@@ -66,8 +66,8 @@ module _ (d w : List ℕ) (rows id r : ℕ) (F : Finds w 0 rows id r) where
       pub scope-generic : (p ≡ 0 → ⊥) → InScope d w rows id 0
       scope-generic ne = record {
         absent = λ q s G Γ D C k.
-            let g = entry s d 0 0 id e found some p ep (typeAt d e) refl D (C .recorded) .type in
-            ap (thetaName true k) (global-name s G Γ D C ∙ named s d 0 0 id e found some p ep (typeAt d e) refl D (C .recorded)) ∙ generic-name k p g ne;
+            let g = entry s d w 0 0 id e found some p ep (typeAt d e) refl D (C .recorded) .type in
+            ap (thetaName true k) (global-name s G Γ D C ∙ named s d w 0 0 id e found some p ep (typeAt d e) refl D (C .recorded)) ∙ generic-name k p g ne;
         present = λ q. absurd (q refl);
       }
 
@@ -77,11 +77,11 @@ module _ (d w : List ℕ) (rows id r : ℕ) (F : Finds w 0 rows id r) where
         absent = λ y. absurd (omega arith);
         present = λ y s G Γ D C size.
             let e0 = sym z ∙ ep in
-            let g = entry s d 0 0 id e found some 0 e0 q eq D (C .recorded) .type in
-            let name = global-name s G Γ D C ∙ named s d 0 0 id e found some 0 e0 q eq D (C .recorded) in
+            let g = entry s d w 0 0 id e found some 0 e0 q eq D (C .recorded) .type in
+            let name = global-name s G Γ D C ∙ named s d w 0 0 id e found some 0 e0 q eq D (C .recorded) in
             let b : dictionaryAt + q ≡ dictionaryAt + 1 + q - 1 = omega arith in (
               λ k. ap (thetaName true k) name,
               subst (λ (x : Named). SettledAt s d G (typeInScope x) (dictionaryAt + 1 + q - 1)) (sym name)
-                  (subst (SettledAt s d G (instance nil g)) b (recorded-settled s d G (dictionaryAt + q) g (type-reads s d 0 0 id e found some 0 e0 q eq D (C .recorded) size))),
+                  (subst (SettledAt s d G (instance nil g)) b (recorded-settled s d G (dictionaryAt + q) g (type-reads s d w 0 0 id e found some 0 e0 q eq D (C .recorded) size))),
             );
       }

@@ -21,7 +21,7 @@ use Rattle.checker_rules.specs.Signatures.{Signature, namesOf, bindingOf, compo
 use Rattle.checker_rules.specs.Unknowns.{slot}
 use Rattle.types_cells.specs.Layout.{dictionaryAt, areaSize}
 use Rattle.types_cells.specs.Settled.{heap, Reads}
-use Rattle.checker_dictionary.specs.Holds.{Holds}
+use Rattle.checker_dictionary.specs.Index.{Indexed}
 use Rattle.checker_dictionary.specs.Lookup.{parametersAt, typeAt, SchemaFound, Recorded as Entry}
 use Rattle.checker_dictionary.proofs.LookupLaws.{schema-formed}
 use Rattle.checker_signatures.specs.Rows.{stack, flat, rows as rowsOf}
@@ -83,7 +83,7 @@ module _ (s s′ d : List ℕ) (n top n′ top′ : ℕ) (G : Ghost) (node k p :
       (introduced-idle a (idle-if (ltb 0 p) 32 node (no-parameters p (F .parameters))) s s′ d n top n′ top′ G (b ⨾ t) (SlotOf node) (slot node 0) c
       (introduced-idle b (idle-if (someStroked k r) 37 node (F .strokes)) s s′ d n top n′ top′ G t (SlotOf node) (slot node 0) c I))
 
-module _ (s d w : List ℕ) (n top rows base id k : ℕ) (B : ThetaAsked s d w n top rows base k) (e : ℕ) (found : (D : Dictionary) → Holds D d → SchemaFound D d id e) where
+module _ (s d w : List ℕ) (n top rows base id k : ℕ) (B : ThetaAsked s d w n top rows base k) (e : ℕ) (found : (D : Dictionary) → Indexed D d w → SchemaFound D d id e) where
   in-dictionary : (G : Ghost) (Γ : Scope) (D : Dictionary) → Scoped s d w rows G Γ D → schemaNamed id Γ ≡ schemaIn id D
   in-dictionary G Γ D C = stacked-schema (SettledAt s d G) D id Γ (stack w 0 rows) (C .stacked)
 
@@ -102,7 +102,7 @@ module _ (s d w : List ℕ) (n top rows base id k : ℕ) (B : ThetaAsked s d w n
     size : length s ≡ areaSize
     size = B .referring .stands .piece .solved .held .size
 
-    module _ (D : Dictionary) (R : DictionaryHeld D d) where
+    module _ (D : Dictionary) (R : DictionaryHeld D d w) where
       entry-some : 1 ≤ e
       entry-some = ⊎-elim (λ z. absurd (some z)) (λ z. omega arith) (eq-zero-or-pos e)
 
@@ -148,7 +148,7 @@ module _ (s d w : List ℕ) (n top rows base id k : ℕ) (B : ThetaAsked s d w n
         }
 
     module _ (w₁ : List ℕ) (m : ℕ) (K : ComponentRows s d w w₁ (dictionaryAt + q) base m) where
-      rows-of : (D : Dictionary) (R : DictionaryHeld D d) → ComponentsOf s d w w₁ (dictionaryAt + q) base m (ids D R) (gs D R)
+      rows-of : (D : Dictionary) (R : DictionaryHeld D d w) → ComponentsOf s d w w₁ (dictionaryAt + q) base m (ids D R) (gs D R)
       rows-of D R = K .of (ids D R) (gs D R) (binding-reads D R)
 
       abbrev own : ComponentsOf s d w w₁ (dictionaryAt + q) base m (ids (B .referring .dictionary) (B .referring .scoped .recorded)) (gs (B .referring .dictionary) (B .referring .scoped .recorded))
@@ -164,7 +164,7 @@ module _ (s d w : List ℕ) (n top rows base id k : ℕ) (B : ThetaAsked s d w n
       same-size = table-length w base w₁ _ m (own .table)
 
       scoped₁ : (G : Ghost) (Γ : Scope) (D : Dictionary) → Scoped s d w rows G Γ D → Scoped s d w₁ rows G Γ D
-      scoped₁ G Γ D C = scoped-below s d w w₁ rows base (B .below) below₁ G Γ D C
+      scoped₁ G Γ D C = scoped-below s d w w₁ rows base (B .below) (B .above) below₁ G Γ D C
 
       pub rows-asked : RowsAsked d w₁ rows base m k
       rows-asked =
@@ -181,6 +181,7 @@ module _ (s d w : List ℕ) (n top rows base id k : ℕ) (B : ThetaAsked s d w n
             dictionary = r .dictionary;
             scoped = scoped₁ (r .ghost) (r .scope) (r .dictionary) (r .scoped);
             below = B .below;
+            above = B .above;
             table = omega arith;
             stroke = B .stroke;
           }

@@ -61,21 +61,21 @@ pub record Generic (s s′ d : List ℕ) (n top p m cell n′ top′ : ℕ) : Ty
   pub typed : (G : Ghost) → Stands s d n top G → (g : Ty) → Reads (heap s d) p g → (k : ℕ) → Unvisited k G →
       Introduced s s′ d n top n′ top′ G (freshRow k 1 m ⨾ typed k (instance (row k 1 m) g)) (SlotOf k) (slot k 0) cell
 
--- A dictionary stands in the area d, below a piece with a node that is not visited yet.
-pub record Consulted (s d : List ℕ) (n top : ℕ) : Type 0 where
+-- A dictionary stands in the area d, its index in w, below a piece with a node that is not visited yet.
+pub record Consulted (s d w : List ℕ) (n top : ℕ) : Type 0 where
   pub ghost : Ghost
   pub stands : Stands s d n top ghost
   pub node : ℕ
   pub unvisited : Unvisited node ghost
   pub dictionary : Dictionary
-  pub recorded : DictionaryHeld dictionary d
+  pub recorded : DictionaryHeld dictionary d w
   pub room : Room s n top nodeCells
 
 -- A RECORDED NAME WITHOUT ACTUALS.
-pub record Global (s s′ d : List ℕ) (n top id number cell n′ top′ : ℕ) : Type 0 where
+pub record Global (s s′ d w : List ℕ) (n top id number cell n′ top′ : ℕ) : Type 0 where
   pub low : lower s′ ≡ lower s
   pub uses : number ≡ 0 → Uses s s′ n top n′ top′ nodeCells
-  pub ruled : (G : Ghost) → Stands s d n top G → (k : ℕ) → Unvisited k G → (D : Dictionary) → DictionaryHeld D d → Ruled s s′ d n top k number cell n′ top′ G (referenceItems k none (nameIn id D))
+  pub ruled : (G : Ghost) → Stands s d n top G → (k : ℕ) → Unvisited k G → (D : Dictionary) → DictionaryHeld D d w → Ruled s s′ d n top k number cell n′ top′ G (referenceItems k none (nameIn id D))
 
 -- A name may be looked up in scope.
 pub record Referring (s d w : List ℕ) (n top rows : ℕ) : Type 0 where
@@ -110,17 +110,17 @@ pub record AppliedAt (s s′ d : List ℕ) (n top p m : ℕ) (parts : List ℕ) 
       Ruled s s′ d n top k number cell n′ top′ G (arePowers k xs 1 ⨾ typed k (instance (row k 1 m) g))
 
 -- A RECORDED NAME WITH ACTUALS, one at least.
-pub record ConsultedWith (s d : List ℕ) (n top : ℕ) (parts : List ℕ) (m : ℕ) : Type 0 where
-  pub consulted : Consulted s d n top
+pub record ConsultedWith (s d w : List ℕ) (n top : ℕ) (parts : List ℕ) (m : ℕ) : Type 0 where
+  pub consulted : Consulted s d w n top
   pub expressions : Exprs
   pub actuals : Cells s d n (consulted .ghost) (run parts 0 m) (typesOf expressions)
   pub within : m ≤ length parts
   pub some : 1 ≤ m
 
-pub record GlobalApplied (s s′ d : List ℕ) (n top id : ℕ) (parts : List ℕ) (m number cell n′ top′ : ℕ) : Type 0 where
+pub record GlobalApplied (s s′ d w : List ℕ) (n top id : ℕ) (parts : List ℕ) (m number cell n′ top′ : ℕ) : Type 0 where
   pub low : lower s′ ≡ lower s
   pub uses : number ≡ 0 → Uses s s′ n top n′ top′ nodeCells
-  pub ruled : (G : Ghost) → Stands s d n top G → (k : ℕ) → Unvisited k G → (D : Dictionary) → DictionaryHeld D d → (xs : Exprs) → Cells s d n G (run parts 0 m) (typesOf xs) →
+  pub ruled : (G : Ghost) → Stands s d n top G → (k : ℕ) → Unvisited k G → (D : Dictionary) → DictionaryHeld D d w → (xs : Exprs) → Cells s d n G (run parts 0 m) (typesOf xs) →
       Ruled s s′ d n top k number cell n′ top′ G (referenceItems k xs (nameIn id D))
 
 -- REF: a name in scope with m actuals, whose cells stand in `parts`.

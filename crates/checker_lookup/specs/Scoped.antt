@@ -12,7 +12,7 @@ use Rattle.checker_rules.specs.Dictionary.{Dictionary, blank, _▸_, nameEntry,
 use Rattle.checker_rules.specs.Scopes.{Scope}
 use Rattle.checker_rules.specs.WellFormed.{FormedDictionary}
 use Rattle.types_cells.specs.Settled.{heap, Reads}
-use Rattle.checker_dictionary.specs.Holds.{Holds}
+use Rattle.checker_dictionary.specs.Index.{Indexed}
 use Rattle.checker_signatures.specs.Rows.{stack}
 use Rattle.checker_signatures.specs.Carried.{Stacked}
 use Rattle.checker_pieces.specs.Stage.{Ghost}
@@ -41,13 +41,13 @@ Limited blank = Unit {0}
 Limited (D ▸ nameEntry i p g) = Limited D × (p ≤ 4) × (size g ≤ 32)
 Limited (D ▸ schemaEntry s p g) = Limited D × SchemaType g
 
--- The area d holds the dictionary D, whose entries are well formed and within the limits.
-pub record DictionaryHeld (D : Dictionary) (d : List ℕ) : Type 0 where
-  pub holds : Holds D d
+-- The area d holds the dictionary D, w has its index, and the entries are well formed and within the limits.
+pub record DictionaryHeld (D : Dictionary) (d w : List ℕ) : Type 0 where
+  pub holds : Indexed D d w
   pub formed : FormedDictionary D
   pub limited : Limited D
 
--- The rows of w stand for the scope Γ, with the dictionary D below it.
+-- The rows of w stand for the scope Γ, with the dictionary D below it, whose index they have too.
 pub record Scoped (s d w : List ℕ) (rows : ℕ) (G : Ghost) (Γ : Scope) (D : Dictionary) : Type 0 where
   pub stacked : Stacked (SettledAt s d G) Γ (stack w 0 rows) D
-  pub recorded : DictionaryHeld D d
+  pub recorded : DictionaryHeld D d w

@@ -14,6 +14,7 @@ use Rattle.checker_rules.specs.Signatures.{Signature, namesOf, someStroked}
 use Rattle.checker_rules.specs.Strokes.{decorate, takes}
 use Rattle.types_cells.specs.Layout.{areaSize}
 use Rattle.types_cells.specs.Settled.{lower}
+use Rattle.checker_dictionary.specs.Index.{indexEnd}
 use Rattle.checker_signatures.specs.Tables.{tableWords}
 use Rattle.checker_signatures.specs.Rows.{rows as rowsOf, identifiersOf}
 use Rattle.checker_signatures.specs.Carried.{Carries}
@@ -28,7 +29,7 @@ pub record InScope (d w : List ℕ) (rows id r : ℕ) : Type 0 where
   pub present : (r ≡ 0 → ⊥) → (s : List ℕ) (G : Ghost) (Γ : Scope) (D : Dictionary) → Scoped s d w rows G Γ D → length s ≡ areaSize →
       ((k : ℕ) → thetaName true k (nameAt id Γ) ≡ skip) × SettledAt s d G (typeInScope (nameAt id Γ)) (r - 1)
 
--- The m rows at `base` lie above a scope of `rows` rows, in which identifiers with the stroke k are looked up.
+-- The m rows at `base` lie above a scope of `rows` rows and the index, where identifiers with the stroke k are looked up.
 pub record RowsAsked (d w : List ℕ) (rows base m k : ℕ) : Type 0 where
   pub store : List ℕ
   pub size : length store ≡ areaSize
@@ -38,6 +39,7 @@ pub record RowsAsked (d w : List ℕ) (rows base m k : ℕ) : Type 0 where
   pub dictionary : Dictionary
   pub scoped : Scoped store d w rows ghost scope dictionary
   pub below : 2 * rows ≤ base
+  pub above : indexEnd ≤ base
   pub table : base + 2 * m ≤ length w
   pub stroke : k < 4
 
@@ -98,6 +100,7 @@ pub record ThetaChecks (d w w′ : List ℕ) (rows base m p k number : ℕ) : Ty
 pub record ThetaAsked (s d w : List ℕ) (n top rows base k : ℕ) : Type 0 where
   pub referring : Referring s d w n top rows
   pub below : 2 * rows ≤ base
+  pub above : indexEnd ≤ base
   pub free : base + tableWords ≤ length w
   pub stroke : k < 4
 

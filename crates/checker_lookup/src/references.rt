@@ -1,5 +1,5 @@
 // References: a name's type, with an unknown for each parameter.
-use checker_dictionary::lookup::entry_of_name;
+use checker_dictionary::index::find_name;
 use checker_dictionary::lookup::parameters_of;
 use checker_dictionary::lookup::type_place;
 use checker_pieces::powers::are_powers;
@@ -67,11 +67,11 @@ fn generic(a: &mut [u32], d: &[u32], n: usize, top: usize, p: usize, m: usize) -
 }
 
 // A recorded name, without actuals.
-fn global(a: &mut [u32], d: &[u32], n: usize, top: usize, id: usize) -> LookupRuling
-    requires { ⌜ Consulted (now a) (now d) n top ⌝ }
-    ensures { λ r. ⌜ Global (now (a .entry)) (now (a .exit)) (now (d .entry)) n top id (r .number) (r .cell) (r .cells) (r .top) ⌝ }
+fn global(a: &mut [u32], d: &[u32], w: &[u32], n: usize, top: usize, id: usize) -> LookupRuling
+    requires { ⌜ Consulted (now a) (now d) (now w) n top ⌝ }
+    ensures { λ r. ⌜ Global (now (a .entry)) (now (a .exit)) (now (d .entry)) (now (w .entry)) n top id (r .number) (r .cell) (r .cells) (r .top) ⌝ }
 {
-    let e = entry_of_name(d, id);
+    let e = find_name(d, w, id);
     if e == 0 {
         return LookupRuling {
             number: findings::UNKNOWN_NAME,
@@ -114,7 +114,7 @@ pub fn reference(
             top: g.top,
         };
     }
-    global(a, d, n, top, id)
+    global(a, d, w, n, top, id)
 }
 
 // The recorded type at p with m actuals, whose cells stand in `parts`, as the type of a node: the actuals are powers of the unknowns for its parameters.
@@ -152,16 +152,17 @@ fn applied(
 fn global_applied(
     a: &mut [u32],
     d: &[u32],
+    w: &[u32],
     n: usize,
     top: usize,
     id: usize,
     parts: &[u32],
     m: usize,
 ) -> LookupRuling
-    requires { ⌜ ConsultedWith (now a) (now d) n top (now parts) m ⌝ }
-    ensures { λ r. ⌜ GlobalApplied (now (a .entry)) (now (a .exit)) (now (d .entry)) n top id (now (parts .entry)) m (r .number) (r .cell) (r .cells) (r .top) ⌝ }
+    requires { ⌜ ConsultedWith (now a) (now d) (now w) n top (now parts) m ⌝ }
+    ensures { λ r. ⌜ GlobalApplied (now (a .entry)) (now (a .exit)) (now (d .entry)) (now (w .entry)) n top id (now (parts .entry)) m (r .number) (r .cell) (r .cells) (r .top) ⌝ }
 {
-    let e = entry_of_name(d, id);
+    let e = find_name(d, w, id);
     if e == 0 {
         return LookupRuling {
             number: findings::UNKNOWN_NAME,
@@ -209,5 +210,5 @@ pub fn ref_rule(
             top: top,
         };
     }
-    global_applied(a, d, n, top, id, parts, m)
+    global_applied(a, d, w, n, top, id, parts, m)
 }

@@ -2,8 +2,8 @@
 use crate::bindings::binding;
 use crate::components::component_rows;
 use crate::references::LookupRuling;
-use checker_dictionary::lookup::entry_of_name;
-use checker_dictionary::lookup::entry_of_schema;
+use checker_dictionary::index::find_name;
+use checker_dictionary::index::find_schema;
 use checker_dictionary::lookup::parameters_of;
 use checker_dictionary::lookup::type_place;
 use checker_signatures::includes::some_stroked;
@@ -29,7 +29,7 @@ pub fn place_in_scope(d: &[u32], w: &[u32], rows: usize, id: usize) -> usize
     if r < rows {
         return word(w, 2 * r + 1) + 1;
     }
-    let e = entry_of_name(d, id);
+    let e = find_name(d, w, id);
     if e == 0 {
         return 0;
     }
@@ -112,7 +112,7 @@ pub fn theta_rule(
     requires { ⌜ ThetaAsked (now a) (now d) (now w) n top rows base stroke ⌝ }
     ensures { λ r. ⌜ ThetaRuled (now (a .entry)) (now (a .exit)) (now (d .entry)) (now (w .entry)) (now (w .exit)) n top rows base id stroke (r .number) (r .cell) (r .cells) (r .top) ⌝ }
 {
-    let e = entry_of_schema(d, id);
+    let e = find_schema(d, w, id);
     if e == 0 {
         return LookupRuling {
             number: findings::UNKNOWN_NAME,

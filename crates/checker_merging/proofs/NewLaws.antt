@@ -11,7 +11,7 @@ use Rattle.types_rules.proofs.Terms.{bool-no}
 use Rattle.checker_rules.specs.Dictionary.{Dictionary, Named, unnamed, ofGlobal, nameIn}
 use Rattle.checker_rules.specs.Items.{Items, _⨾_, Refuses, MeetsIn}
 use Rattle.checker_rules.specs.Conditions.{newName, newNames}
-use Rattle.checker_dictionary.specs.Holds.{Holds}
+use Rattle.checker_dictionary.specs.Index.{Indexed}
 use Rattle.checker_dictionary.specs.Lookup.{NameFound}
 use Rattle.checker_signatures.specs.Rows.{rows, identifiersOf}
 use Rattle.checker_pieces.specs.Piece.{Steady, Walked}
@@ -21,16 +21,16 @@ use Rattle.checker_merging.specs.Merging.{NewTold}
 abbrev None : ℕ → Type 0
 None x = ⊥
 
-module _ (d : List ℕ) where
-  pub new-none : (is : List ℕ) → is ≡ [] → NewTold d is true
+module _ (d w : List ℕ) where
+  pub new-none : (is : List ℕ) → is ≡ [] → NewTold d w is true
   unfolding newNames
   new-none is e = record {
     goes = λ z D H U n A S. subst (λ l. Walked H (newNames n l D) U U None) (sym e) (walked-skip H U None S);
     stops = λ z. absurd (bool-no true refl z);
   }
 
-  module _ (is : List ℕ) (i : ℕ) (js : List ℕ) (e : is ≡ i ∷ js) (k : ℕ) (F : (D : Dictionary) → Holds D d → NameFound D d i k) where
-    pub new-break : 1 ≤ k → NewTold d is false
+  module _ (is : List ℕ) (i : ℕ) (js : List ℕ) (e : is ≡ i ∷ js) (k : ℕ) (F : (D : Dictionary) → Indexed D d w → NameFound D d i k) where
+    pub new-break : 1 ≤ k → NewTold d w is false
     unfolding newNames newName
     new-break l = record {
       goes = λ z. absurd (bool-no false z refl);
@@ -40,7 +40,7 @@ module _ (d : List ℕ) where
           (refuses-first H (newName n (nameIn i D)) (newNames n js D) 36 n (subst (λ x. Refuses (newName n x) (MeetsIn H) 36 n) (sym m) (refused H 36 n)));
     }
 
-    pub new-next : k ≡ 0 → (b : Bool) → NewTold d js b → NewTold d is b
+    pub new-next : k ≡ 0 → (b : Bool) → NewTold d w js b → NewTold d w is b
     unfolding newNames newName
     new-next l b N = record {
       goes = λ z D H U n A S.
@@ -53,26 +53,26 @@ module _ (d : List ℕ) where
           subst (λ x. Refuses (newNames n x D) (MeetsIn H) 36 n) (sym e) (refuses-second H c (newNames n js D) 36 n (W .goes) (N .stops z D (H ⨾ c) U n A (W .steady)));
     }
       where
-        first : (D : Dictionary) (H : Items) (U : List ℕ) (n : ℕ) → Holds D d → Steady H U → Walked H (newName n (nameIn i D)) U U None
+        first : (D : Dictionary) (H : Items) (U : List ℕ) (n : ℕ) → Indexed D d w → Steady H U → Walked H (newName n (nameIn i D)) U U None
         first D H U n A S = subst (λ x. Walked H (newName n x) U U None) (sym (F D A .absent l)) (walked-skip H U None S)
 
   -- the words of a part from j on
-  module _ (ws : List ℕ) (j i : ℕ) (l : j < length ws) (e : i ≡ getD ws j 0) (k : ℕ) (F : (D : Dictionary) → Holds D d → NameFound D d i k) where
+  module _ (ws : List ℕ) (j i : ℕ) (l : j < length ws) (e : i ≡ getD ws j 0) (k : ℕ) (F : (D : Dictionary) → Indexed D d w → NameFound D d i k) where
     here : drop j ws ≡ i ∷ drop (j + 1) ws
     here = drop-next ws j l ∙ ap (λ z. z ∷ drop (j + 1) ws) (sym e)
 
-    pub names-stop : (k ≡ 0 → ⊥) → NewTold d (drop j ws) false
+    pub names-stop : (k ≡ 0 → ⊥) → NewTold d w (drop j ws) false
     names-stop q = new-break (drop j ws) i (drop (j + 1) ws) here k F (omega (arith, q))
 
-    pub names-go : k ≡ 0 → (b : Bool) → NewTold d (drop (j + 1) ws) b → NewTold d (drop j ws) b
+    pub names-go : k ≡ 0 → (b : Bool) → NewTold d w (drop (j + 1) ws) b → NewTold d w (drop j ws) b
     names-go q b N = new-next (drop j ws) i (drop (j + 1) ws) here k F q b N
 
   -- the rows of a table
-  pub rows-end : (w : List ℕ) (source m : ℕ) → m ≡ 0 → NewTold d (identifiersOf (rows w source m)) true
+  pub rows-end : (source m : ℕ) → m ≡ 0 → NewTold d w (identifiersOf (rows w source m)) true
   unfolding pairsFrom identifiersOf
-  rows-end w source m e = new-none (identifiersOf (rows w source m)) (ap (λ z. identifiersOf (rows w source z)) e)
+  rows-end source m e = new-none (identifiersOf (rows w source m)) (ap (λ z. identifiersOf (rows w source z)) e)
 
-  module _ (w : List ℕ) (source m i : ℕ) (some : m ≡ 0 → ⊥) (e : i ≡ getD w source 0) (k : ℕ) (F : (D : Dictionary) → Holds D d → NameFound D d i k) where
+  module _ (source m i : ℕ) (some : m ≡ 0 → ⊥) (e : i ≡ getD w source 0) (k : ℕ) (F : (D : Dictionary) → Indexed D d w → NameFound D d i k) where
     there : identifiersOf (rows w source m) ≡ i ∷ identifiersOf (rows w (source + 2) (m - 1))
     unfolding pairsFrom identifiersOf
     there =
@@ -80,8 +80,8 @@ module _ (d : List ℕ) where
         ∙ ap (λ z. z ∷ identifiersOf (rows w (suc (suc source)) (m - 1))) (sym e)
         ∙ ap (λ z. i ∷ identifiersOf (rows w z (m - 1))) (let z : suc (suc source) ≡ source + 2 = omega arith in z)
 
-    pub rows-stop : (k ≡ 0 → ⊥) → NewTold d (identifiersOf (rows w source m)) false
+    pub rows-stop : (k ≡ 0 → ⊥) → NewTold d w (identifiersOf (rows w source m)) false
     rows-stop q = new-break (identifiersOf (rows w source m)) i (identifiersOf (rows w (source + 2) (m - 1))) there k F (omega (arith, q))
 
-    pub rows-go : k ≡ 0 → (b : Bool) → NewTold d (identifiersOf (rows w (source + 2) (m - 1))) b → NewTold d (identifiersOf (rows w source m)) b
+    pub rows-go : k ≡ 0 → (b : Bool) → NewTold d w (identifiersOf (rows w (source + 2) (m - 1))) b → NewTold d w (identifiersOf (rows w source m)) b
     rows-go q b N = new-next (identifiersOf (rows w source m)) i (identifiersOf (rows w (source + 2) (m - 1))) there k F q b N

@@ -13,7 +13,7 @@ use Rattle.checker_rules.specs.Conditions.{sameType, mergeDeclared, mergeNames,
 use Rattle.types_cells.specs.Settled.{heap, Reads, Readable, Areas}
 use Rattle.checker_signatures.specs.Rows.{rows}
 use Rattle.checker_signatures.specs.Carried.{Carries}
-use Rattle.checker_dictionary.specs.Holds.{Holds}
+use Rattle.checker_dictionary.specs.Index.{Indexed}
 use Rattle.checker_pieces.specs.Piece.{Steady, Walked, Settled}
 
 -- The term t has one type in every table that meets H, and its words stand at the place p.
@@ -60,6 +60,6 @@ pub record RowsTold (s d w : List ℕ) (base m source k : ℕ) (fine : Bool) : T
       Carries (TypedAt s d H U) r (rows w base m) → Refuses (mergeNames n q r) (MeetsIn H) 36 n
 
 -- 36, second case: no identifier of the list is global by an earlier paragraph (document 01, finding 36; R16).
-pub record NewTold (d is : List ℕ) (fine : Bool) : Type 0 where
-  pub goes : fine ≡ true → (D : Dictionary) (H : Items) (U : List ℕ) (n : ℕ) → Holds D d → Steady H U → Walked H (newNames n is D) U U (λ x. ⊥)
-  pub stops : fine ≡ false → (D : Dictionary) (H : Items) (U : List ℕ) (n : ℕ) → Holds D d → Steady H U → Refuses (newNames n is D) (MeetsIn H) 36 n
+pub record NewTold (d w is : List ℕ) (fine : Bool) : Type 0 where
+  pub goes : fine ≡ true → (D : Dictionary) (H : Items) (U : List ℕ) (n : ℕ) → Indexed D d w → Steady H U → Walked H (newNames n is D) U U (λ x. ⊥)
+  pub stops : fine ≡ false → (D : Dictionary) (H : Items) (U : List ℕ) (n : ℕ) → Indexed D d w → Steady H U → Refuses (newNames n is D) (MeetsIn H) 36 n

@@ -1,5 +1,5 @@
 // Finding 36: the signatures of lines, and of a Conjunction's two sides, beside each other. specs/Merging.antt says what is asked and told.
-use checker_dictionary::lookup::entry_of_name;
+use checker_dictionary::index::find_name;
 use checker_signatures::tables::find;
 use words::word;
 ghost use lib.ListN.{length, drop};
@@ -72,15 +72,15 @@ pub fn rows_agree(
     false
 }
 
-// No identifier among the words from j on of the part has an entry in the dictionary.
-pub fn names_new(d: &[u32], part: &[u32], j: usize) -> bool
-    ensures { λ r. ⌜ NewTold (now (d .entry)) (drop j (now (part .entry))) r ⌝ }
+// No identifier among the words from j on of the part has an entry in the dictionary, whose index the work area has.
+pub fn names_new(d: &[u32], work: &[u32], part: &[u32], j: usize) -> bool
+    ensures { λ r. ⌜ NewTold (now (d .entry)) (now (work .entry)) (drop j (now (part .entry))) r ⌝ }
 {
     if part.len() <= j {
         return true;
     }
-    if entry_of_name(d, word(part, j)) == 0 {
-        return names_new(d, part, j + 1);
+    if find_name(d, work, word(part, j)) == 0 {
+        return names_new(d, work, part, j + 1);
     }
     false
 }
@@ -88,12 +88,12 @@ pub fn names_new(d: &[u32], part: &[u32], j: usize) -> bool
 // The same of the k rows at source.
 pub fn rows_new(d: &[u32], work: &[u32], source: usize, k: usize) -> bool
     requires { ⌜ source + 2 * k ≤ length (now work) ⌝ }
-    ensures { λ r. ⌜ NewTold (now (d .entry)) (identifiersOf (rows (now (work .entry)) source k)) r ⌝ }
+    ensures { λ r. ⌜ NewTold (now (d .entry)) (now (work .entry)) (identifiersOf (rows (now (work .entry)) source k)) r ⌝ }
 {
     if k == 0 {
         return true;
     }
-    if entry_of_name(d, word(work, source)) == 0 {
+    if find_name(d, work, word(work, source)) == 0 {
         return rows_new(d, work, source + 2, k - 1);
     }
     false

@@ -200,7 +200,7 @@ module _ {doc p s d w : List ℕ} {stack base m at free k : ℕ} (N : Node doc p
                   node-decl-clash nay {r} L = lines-told L (back s₄ w₂ 36 k 0 0
                       (decl-clash s d w stack base m at free k (exprAt doc a) (drop 2 p) global Q s₁ w₁ number place cell c₁ top₁ at₁ A fine s₂ number₂ P yes s₃ Z₁ sized s₄ w₂ v e M (T .stored) (T .scratch) (T .short) (T .stands) (F .stops nay) 0 0))
 
-                  module _ (agrees : b₁ ≡ true) {b₂ : Bool} (G : NewIfTold global d (drop 2 p) b₂) where
+                  module _ (agrees : b₁ ≡ true) {b₂ : Bool} (G : NewIfTold global d w₂ (drop 2 p) b₂) where
                     node-decl-global : b₂ ≡ false → {r : Lined} → LinedAt r 36 k 0 0 → LinesDone s s₄ d w w₂ stack base m at free (lineAt doc k end) global (r .number) (r .place) (r .count) (r .at)
                     node-decl-global nay {r} L = lines-told L (back s₄ w₂ 36 k 0 0
                         (decl-global s d w stack base m at free k (exprAt doc a) (drop 2 p) global Q s₁ w₁ number place cell c₁ top₁ at₁ A fine s₂ number₂ P yes s₃ Z₁ sized s₄ w₂ v e M (T .stored) (T .scratch) (T .short) (T .stands) (F .goes agrees) (G .stops nay) 0 0))

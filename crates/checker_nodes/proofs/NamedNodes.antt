@@ -25,14 +25,14 @@ include-told {s} {s′} {d} {w} {w′} {places} {places′} {stack} {at} {free} 
     (subst (λ z. IncludeDone s s′ d w w′ stack at free i places places′ number place count z) (sym (L .at-is)) T)))
 
 -- The schema that was looked up without a finding.
-pub schema-found : {d : List ℕ} {name q number at : ℕ} → SchemaLooked d name q number at → number ≡ 0 → SchemaThere d name q at
+pub schema-found : {d w : List ℕ} {name q number at : ℕ} → SchemaLooked d w name q number at → number ≡ 0 → SchemaThere d w name q at
 schema-found (absent e F) z = absurd (omega arith)
 schema-found (miscounted e x F some differs) z = absurd (omega arith)
 schema-found (there e T) z = T
 
 module _ {doc p s d w places : List ℕ} {stack at free k : ℕ} (N : Node doc p includes k) (K : IncludeAsk s d w stack at free (includeAt doc k) places) where
   -- 31 and 32
-  pub node-schema-refused : {number schema : ℕ} → SchemaLooked d (getD p 1 0) (getD p 3 0) number schema → (number ≡ 0 → ⊥) → {r : Lined} → LinedAt r number k 0 0 →
+  pub node-schema-refused : {number schema : ℕ} → SchemaLooked d w (getD p 1 0) (getD p 3 0) number schema → (number ≡ 0 → ⊥) → {r : Lined} → LinedAt r number k 0 0 →
       IncludeDone s s d w w stack at free (includeAt doc k) places places (r .number) (r .place) (r .count) (r .at)
   node-schema-refused (absent e F) ne L =
       include-told L (subst (λ z. IncludeDone s s d w w stack at free (includeAt doc k) places places z k 0 0) (sym e)
@@ -42,7 +42,7 @@ module _ {doc p s d w places : List ℕ} {stack at free k : ℕ} (N : Node doc p
       (node-include-count (N .at) (N .words) K (getD p 3 0) (getD p 1 0) (getD p 2 0) refl refl refl F some refl differs))
   node-schema-refused (there e T) ne L = absurd (ne e)
 
-  module _ {schema : ℕ} (T : SchemaThere d (getD p 1 0) (getD p 3 0) schema) {q : ℕ} (eq : q ≡ getD p 3 0) where
+  module _ {schema : ℕ} (T : SchemaThere d w (getD p 1 0) (getD p 3 0) schema) {q : ℕ} (eq : q ≡ getD p 3 0) where
     pub node-schema-actuals : (q ≤ 4) × ((i : ℕ) → 4 ≤ i → i < q + 4 → Lower doc k expressions (getD p i 0)) × ActualsAsk s d w stack at free k 0 (exprsFrom doc k (0 + 4) (q - 0)) places
     node-schema-actuals =
         subst (λ z. (z ≤ 4) × ((i : ℕ) → 4 ≤ i → i < z + 4 → Lower doc k expressions (getD p i 0)) × ActualsAsk s d w stack at free k 0 (exprsFrom doc k (0 + 4) (z - 0)) places) (sym eq) (

@@ -181,4 +181,4 @@ module _ {doc s d w : List ℕ} {rows n top at free k : ℕ} (N : At doc express
         (rw theta-tree
         (alone-done s d w rows n top at free (theta k id stroke) k _ (theta-alone k id stroke) theta-ask s₁ w₁ answer k cell n₁ top₁ at
         (theta-ending s s₁ d w rows n top at free k answer cell n₁ top₁ nodeCells size (alone-low s d w rows n top at free (theta k id stroke) k _ (theta-alone k id stroke) theta-ask)
-        (theta-ask .visiting .clean) w₁ id stroke R same (theta-asked .below))))
+        (theta-ask .visiting .clean) w₁ id stroke R same (theta-asked .below) (theta-asked .above))))

@@ -670,7 +670,7 @@ fn include(
     requires { ⌜ Node (now doc) (now p) includes k × IncludeAsk (now a) (now d) (now w) rows at free (includeAt (now doc) k) (now places) ⌝ }
     ensures { λ r. ⌜ IncludeDone (now (a .entry)) (now (a .exit)) (now (d .entry)) (now (w .entry)) (now (w .exit)) rows at free (includeAt (now (doc .entry)) k) (now (places .entry)) (now (places .exit)) (r .number) (r .place) (r .count) (r .at) ⌝ }
 {
-    let s = schema_of(d, p);
+    let s = schema_of(d, w, p);
     if s.number != 0 {
         return lined_at(s.number, k, 0, 0);
     }

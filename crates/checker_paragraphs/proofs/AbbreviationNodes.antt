@@ -64,10 +64,10 @@ module _ {doc p : List ℕ} {k : ℕ} (N : Node doc p paragraphs k) {s d w : Lis
 
       module _ {s₂ w₂ : List ℕ} {number place cell n′ top′ at₂ : ℕ} (T : ExprDone s₁ s₂ d w₁ w₂ n 0 firstRun at₁ framesAt (exprAt doc x) number place cell n′ top′ at₂) where
         -- its identifier
-        own : {b : Bool} → NewTold d (drop 0 (take 1 (drop 1 p))) b → NewTold d (getD p 1 0 ∷ []) b
-        own {b} = subst (λ z. NewTold d z b) (own-name (take 1 (drop 1 p)) refl)
+        own : {b : Bool} → NewTold d w₂ (drop 0 (take 1 (drop 1 p))) b → NewTold d w₂ (getD p 1 0 ∷ []) b
+        own {b} = subst (λ z. NewTold d w₂ z b) (own-name (take 1 (drop 1 p)) refl)
 
-        pub abbreviation-asked : (k < 2 ^ 32) × (n < 2 ^ 32) × AbbreviatedAsk s₂ d (drop 0 (take 1 (drop 1 p))) number cell n′ at₂
+        pub abbreviation-asked : (k < 2 ^ 32) × (n < 2 ^ 32) × AbbreviatedAsk s₂ d w₂ (drop 0 (take 1 (drop 1 p))) number cell n′ at₂
         abbreviation-asked =
             let z = N .at .small in
             let y = five .few in (
@@ -90,7 +90,7 @@ module _ {doc p : List ℕ} {k : ℕ} (N : Node doc p paragraphs k) {s d w : Lis
         Done s′ w′ f y at count = ParagraphDone s s′ d w w′ (paragraphAt doc k) f y at count
 
         -- 34, 36 and 38
-        type-told : number ≡ 0 → {s₃ : List ℕ} {f at count : ℕ} → (f ≡ 0 → ⊥) → TypeFound s₂ s₃ d n′ cell (drop 0 (take 1 (drop 1 p))) f → Done s₃ w₂ f k at count
+        type-told : number ≡ 0 → {s₃ : List ℕ} {f at count : ℕ} → (f ≡ 0 → ⊥) → TypeFound s₂ s₃ d w₂ n′ cell (drop 0 (take 1 (drop 1 p))) f → Done s₃ w₂ f k at count
         type-told fine {s₃} {f} {at} {count} ne (several e C) =
             subst (λ z. Done s₃ w₂ z k at count) (sym e)
             (open-piece s d w (paragraphAt doc k) k (getD p 1 0) ps (exprAt doc x) tree A s₁ w₁ n at₁ P (five .few) s₂ w₂ number place cell n′ top′ at₂ T fine s₃ C at count)
@@ -102,7 +102,7 @@ module _ {doc p : List ℕ} {k : ℕ} (N : Node doc p paragraphs k) {s d w : Lis
             (too-large s d w (paragraphAt doc k) k (getD p 1 0) ps (exprAt doc x) tree A s₁ w₁ n at₁ P (five .few) s₂ w₂ number place cell n′ top′ at₂ T fine s₃ C (own M) v Z l at count)
         type-told fine ne (none e F) = absurd (ne e)
 
-        entry-told : number ≡ 0 → {s₃ s₄ w₃ : List ℕ} → TypeFine s₂ s₃ d n′ cell (drop 0 (take 1 (drop 1 p))) → Entered s₃ s₄ d w₂ w₃ n′ cell (getD p 1 0) n at₂ → Done s₄ w₃ 0 k entriesAt 1
+        entry-told : number ≡ 0 → {s₃ s₄ w₃ : List ℕ} → TypeFine s₂ s₃ d w₂ n′ cell (drop 0 (take 1 (drop 1 p))) → Entered s₃ s₄ d w₂ w₃ n′ cell (getD p 1 0) n at₂ → Done s₄ w₃ 0 k entriesAt 1
         entry-told fine {s₃} {s₄} {w₃} F E =
             anywhere
             (abbreviation-done s d w (paragraphAt doc k) k (getD p 1 0) ps (exprAt doc x) tree A s₁ w₁ n at₁ P (five .few) s₂ w₂ number place cell n′ top′ at₂ T fine s₃ (F .closed) (own (F .new))

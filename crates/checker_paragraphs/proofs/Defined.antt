@@ -35,7 +35,7 @@ use Rattle.checker_paragraphs.proofs.ParagraphNodes.{paragraph-told}
 
 -- The finding-free promise does not depend on the place.
 pub anywhere : {s s′ d w w′ : List ℕ} {p : Paragraph} {x y at count : ℕ} → ParagraphDone s s′ d w w′ p 0 x at count → ParagraphDone s s′ d w w′ p 0 y at count
-anywhere D = record { size = D .size; low = D .low; goes = D .goes; stops = λ z. absurd (z refl) }
+anywhere D = record { size = D .size; index = D .index; low = D .low; goes = D .goes; stops = λ z. absurd (z refl) }
 
 module _ {doc p : List ℕ} {k : ℕ} (N : Node doc p paragraphs k) {s d w : List ℕ} (A : ParagraphAsk s d w (paragraphAt doc k)) {n : ℕ} (en : n ≡ getD p 2 0) where
   count-is : n ≡ operandAt doc k 2

@@ -110,7 +110,7 @@ module _ {doc p : List ℕ} {k : ℕ} (N : Node doc p paragraphs k) {s d w : Lis
             replaced y = moved (axiom-done s d w (paragraphAt doc k) k (textAt doc x) (three .tree) s′ w′ number place m at′ T A fine s″ w″ end h W)
               where
                 moved : ParagraphDone s s″ d w w″ (paragraphAt doc k) 0 place entriesAt m → ParagraphDone s s″ d w w″ (paragraphAt doc k) 0 y entriesAt m
-                moved D = record { size = D .size; low = D .low; goes = D .goes; stops = λ z. absurd (z refl) }
+                moved D = record { size = D .size; index = D .index; low = D .low; goes = D .goes; stops = λ z. absurd (z refl) }
 
   -- 2
   module _ (q : kindAt doc k ≡ 2) where
@@ -128,10 +128,10 @@ module _ {doc p : List ℕ} {k : ℕ} (N : Node doc p paragraphs k) {s d w : Lis
         go [] e = absurd (omega arith)
         go (y ∷ l) e = omega arith
 
-    pub given-clashes : {b : Bool} {r : Lined} → NewTold d (drop 1 p) b → b ≡ false → LinedAt r 36 k 0 0 → ParagraphDone s s d w w (paragraphAt doc k) (r .number) (r .place) (r .at) (r .count)
-    given-clashes {b} T e L = paragraph-told L (given-clash s d w (paragraphAt doc k) k (drop 1 p) two (subst (NewTold d (drop 1 p)) e T) 0 0)
+    pub given-clashes : {b : Bool} {r : Lined} → NewTold d w (drop 1 p) b → b ≡ false → LinedAt r 36 k 0 0 → ParagraphDone s s d w w (paragraphAt doc k) (r .number) (r .place) (r .at) (r .count)
+    given-clashes {b} T e L = paragraph-told L (given-clash s d w (paragraphAt doc k) k (drop 1 p) two (subst (NewTold d w (drop 1 p)) e T) 0 0)
 
-    pub given-told : {b : Bool} {w′ : List ℕ} {end : ℕ} {r : Lined} → NewTold d (drop 1 p) b → b ≡ true → Wrote w w′ entriesAt end (waiting (givenEntries (drop 1 p))) →
+    pub given-told : {b : Bool} {w′ : List ℕ} {end : ℕ} {r : Lined} → NewTold d w (drop 1 p) b → b ≡ true → Wrote w w′ entriesAt end (waiting (givenEntries (drop 1 p))) →
         LinedAt r 0 k (length p - 1) entriesAt → ParagraphDone s s d w w′ (paragraphAt doc k) (r .number) (r .place) (r .at) (r .count)
     given-told {b} {w′} {end} {r} T e W L =
         let l = length-drop 1 p in
@@ -139,4 +139,4 @@ module _ {doc p : List ℕ} {k : ℕ} (N : Node doc p paragraphs k) {s d w : Lis
         let v = A .wide in
         paragraph-told L
         (subst (λ j. ParagraphDone s s d w w′ (paragraphAt doc k) 0 k entriesAt j) (length-drop 1 p)
-        (given-done s d w (paragraphAt doc k) k (drop 1 p) two (subst (NewTold d (drop 1 p)) e T) w′ k entriesAt end (omega arith) (omega arith) W))
+        (given-done s d w (paragraphAt doc k) k (drop 1 p) two (subst (NewTold d w (drop 1 p)) e T) w′ k entriesAt end (omega arith) (omega arith) (omega arith) W))

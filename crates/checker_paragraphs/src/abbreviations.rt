@@ -24,14 +24,14 @@ ghost use Rattle.checker_paragraphs.specs.Abbreviations.{TypeAsk, TypeFo
 ghost use Rattle.checker_contracts.specs.Room.{entriesAt};
 
 // The piece of n cells, whose cell c has the type of the Abbreviation with the part p: 34, 36 of its identifier, 38 of its type; 0 for none.
-fn type_finding(a: &mut [u32], d: &[u32], n: usize, c: usize, p: &[u32]) -> u32
+fn type_finding(a: &mut [u32], d: &[u32], w: &[u32], n: usize, c: usize, p: &[u32]) -> u32
     requires { ⌜ TypeAsk (now a) (now d) n c ⌝ }
-    ensures { λ r. ⌜ TypeFound (now (a .entry)) (now (a .exit)) (now (d .entry)) n c (drop 0 (take 1 (drop 1 (now (p .entry))))) r ⌝ }
+    ensures { λ r. ⌜ TypeFound (now (a .entry)) (now (a .exit)) (now (d .entry)) (now (w .entry)) n c (drop 0 (take 1 (drop 1 (now (p .entry))))) r ⌝ }
 {
     if !close(a, d, n) {
         return findings::SEVERAL;
     }
-    if !names_new(d, span(p, 1, 1), 0) {
+    if !names_new(d, w, span(p, 1, 1), 0) {
         return findings::CLASH;
     }
     if limits::SIZE < settled_size(a, d, n, c) {
@@ -69,13 +69,13 @@ pub fn abbreviated(
     q: usize,
     x: Visit,
 ) -> Lined
-    requires { ⌜ (k < 2 ^ 32) × (q < 2 ^ 32) × AbbreviatedAsk (now a) (now d) (drop 0 (take 1 (drop 1 (now p)))) (x .number) (x .cell) (x .cells) (x .at) ⌝ }
+    requires { ⌜ (k < 2 ^ 32) × (q < 2 ^ 32) × AbbreviatedAsk (now a) (now d) (now w) (drop 0 (take 1 (drop 1 (now p)))) (x .number) (x .cell) (x .cells) (x .at) ⌝ }
     ensures { λ r. ⌜ AbbreviatedTold (now (a .entry)) (now (a .exit)) (now (d .entry)) (now (w .entry)) (now (w .exit)) (now (p .entry)) k q (x .number) (x .place) (x .cell) (x .cells) (x .at) (r .number) (r .place) (r .count) (r .at) ⌝ }
 {
     if x.number != 0 {
         return unlined(x.number, x.place);
     }
-    let number = type_finding(a, d, x.cells, x.cell, p);
+    let number = type_finding(a, d, w, x.cells, x.cell, p);
     if number != 0 {
         return lined_at(number, k, 0, 0);
     }

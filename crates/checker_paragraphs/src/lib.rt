@@ -4,4 +4,4 @@ pub mod paragraphs;
 pub mod schemas;
 
 // Where the entries of a paragraph wait in the work area.
-pub const ENTRIES: usize = 1024;
+pub const ENTRIES: usize = 6144;

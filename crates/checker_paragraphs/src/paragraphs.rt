@@ -5,6 +5,7 @@ use crate::schemas::schema;
 use checker_closing::results::Lined;
 use checker_closing::results::lined_at;
 use checker_closing::results::unlined;
+use checker_dictionary::index;
 use checker_entries::given_entries;
 use checker_entries::name_entries;
 use checker_entries::parameters::FIRST_PARAMETER;
@@ -29,15 +30,15 @@ ghost use Rattle.reader_rules.specs.Decode.{paragraphAt};
 ghost use Rattle.checker_contracts.specs.Paragraphs.{ParagraphAsk, ParagraphDone};
 ghost use Rattle.checker_closing.specs.Nodes.{Node};
 
-// The work area: rows of the scope, then tables and frames.
-const FRAMES: usize = 512;
+// The work area: rows of the scope, the dictionary's index, then tables and frames.
+const FRAMES: usize = index::END;
 
 // 2 Given: 36, and entries as written.
 fn given(doc: &[u32], a: &[u32], d: &[u32], w: &mut [u32], k: usize, p: &[u32]) -> Lined
     requires { ⌜ Node (now doc) (now p) paragraphs k × (kindAt (now doc) k ≡ 2) × ParagraphAsk (now a) (now d) (now w) (paragraphAt (now doc) k) ⌝ }
     ensures { λ r. ⌜ ParagraphDone (now (a .entry)) (now (a .entry)) (now (d .entry)) (now (w .entry)) (now (w .exit)) (paragraphAt (now (doc .entry)) k) (r .number) (r .place) (r .at) (r .count) ⌝ }
 {
-    if !names_new(d, p, 1) {
+    if !names_new(d, w, p, 1) {
         return lined_at(findings::CLASH, k, 0, 0);
     }
     given_entries(w, p, 1, ENTRIES);

@@ -36,7 +36,7 @@ abbrev paragraphs-from-calls : ℕ → paragraphs-from-lts.Claims
 paragraphs-from-calls t = (word-reads.Asked, word-reads.Learnt, operand-reads.Asked, operand-reads.Learnt, enter-reads.Asked, enter-reads.Learnt, paragraphs-from-below t, paragraphs-from.Post)
 
 paragraphs-from-returns : (t : ℕ) → paragraphs-from-lts.Need-returns (paragraphs-from-calls t) (paragraphs-from-at t) paragraphs-from.Post
-paragraphs-from-returns t c = λ D R. from-none _ _ _ (c .if1 .taken) _ D R
+paragraphs-from-returns t c = λ D R. from-none _ _ _ (c .if1 .taken) _ _ D R
 
 paragraphs-from-enter-requires : (t : ℕ) → paragraphs-from-lts.Need-enter-requires (paragraphs-from-calls t) (paragraphs-from-at t) paragraphs-from.Post
 paragraphs-from-enter-requires t c κs = (from-listed _ _ _ _ _ _ (c .before .before .before .before .before .before .before .before .before .before .pre .1) (c .before .before .before .before .before .if1 .left) _ (node-at _ _ _ _ (c .before .before .before .before .word .ensures .0) (c .before .before .before .operand .ensures .0)), c .before .before .before .before .before .before .before .before .before .before .pre .1 .ready)
@@ -49,10 +49,10 @@ paragraphs-from-paragraphs-from-requires :
 paragraphs-from-paragraphs-from-requires t c κs = (omega (arith, c .before .before .before .before .before .before .before .before .before .before .before .before .before .before .before .before .before .before .before .before .before .before .pre .0, c .before .before .before .before .before .before .before .before .before .before .before .before .before .before .before .before .before .if1 .left), from-ask _ _ _ _ _ _ (c .before .before .before .before .before .before .before .before .before .before .before .before .before .before .before .before .before .before .before .before .before .before .pre .1) (c .before .before .before .before .before .before .before .before .before .before .before .before .before .before .before .before .before .if1 .left) _ _ _ _ _ (c .before .before .before .before .before .before .before .before .before .before .before .enter .ensures) (c .before .before .before .enum-told .given .1) (c .before .before .before .before .before .before .before .before .before .before .before .enter .kept .1 .0) (c .before .before .before .before .before .before .before .before .before .before .before .enter .kept .1 .1 .1 .0))
 
 paragraphs-from-returns-2 : (t : ℕ) → paragraphs-from-lts.Need-returns-2 (paragraphs-from-calls t) (paragraphs-from-at t) paragraphs-from.Post
-paragraphs-from-returns-2 t c = λ D R. from-goes _ _ _ (c .before .before .before .before .before .before .before .before .before .before .before .before .before .before .before .before .before .before .before .before .before .before .before .before .if1 .left) _ (node-at _ _ _ _ (c .before .before .before .before .before .before .before .before .before .before .before .before .before .before .before .before .before .before .before .before .before .before .before .word .ensures .0) (c .before .before .before .before .before .before .before .before .before .before .before .before .before .before .before .before .before .before .before .before .before .before .operand .ensures .0)) _ _ _ _ _ (c .before .before .before .before .before .before .before .before .before .before .before .before .before .before .before .before .before .before .enter .ensures) (c .before .before .before .before .before .before .before .before .before .before .enum-told .given .1) (c .before .before .before .before .before .before .before .before .before .before .before .before .before .before .before .before .before .before .enter .kept .1 .1 .0) _ _ (c .before .before .before .before .before .before .paragraphs-from .ensures) D R
+paragraphs-from-returns-2 t c = λ D R. from-goes _ _ _ (c .before .before .before .before .before .before .before .before .before .before .before .before .before .before .before .before .before .before .before .before .before .before .before .before .if1 .left) _ (node-at _ _ _ _ (c .before .before .before .before .before .before .before .before .before .before .before .before .before .before .before .before .before .before .before .before .before .before .before .word .ensures .0) (c .before .before .before .before .before .before .before .before .before .before .before .before .before .before .before .before .before .before .before .before .before .before .operand .ensures .0)) _ _ _ _ _ _ _ (c .before .before .before .before .before .before .before .before .before .before .before .before .before .before .before .before .before .before .enter .ensures) (c .before .before .before .before .before .before .before .before .before .before .enum-told .given .1) (c .before .before .before .before .before .before .before .before .before .before .before .before .before .before .before .before .before .before .enter .kept .1 .1 .0) _ _ (c .before .before .before .before .before .before .paragraphs-from .ensures) D R
 
 paragraphs-from-returns-3 : (t : ℕ) → paragraphs-from-lts.Need-returns-3 (paragraphs-from-calls t) (paragraphs-from-at t) paragraphs-from.Post
-paragraphs-from-returns-3 t c = λ D R. from-stops _ _ _ (c .before .before .before .before .before .before .before .before .before .before .before .before .before .before .before .if1 .left) _ (node-at _ _ _ _ (c .before .before .before .before .before .before .before .before .before .before .before .before .before .before .word .ensures .0) (c .before .before .before .before .before .before .before .before .before .before .before .before .before .operand .ensures .0)) _ _ _ _ _ (c .before .before .before .before .before .before .before .before .before .enter .ensures) _ _ (c .before .entered .given .1) D R
+paragraphs-from-returns-3 t c = λ D R. from-stops _ _ _ (c .before .before .before .before .before .before .before .before .before .before .before .before .before .before .before .if1 .left) _ (node-at _ _ _ _ (c .before .before .before .before .before .before .before .before .before .before .before .before .before .before .word .ensures .0) (c .before .before .before .before .before .before .before .before .before .before .before .before .before .operand .ensures .0)) _ _ _ _ _ _ _ (c .before .before .before .before .before .before .before .before .before .enter .ensures) _ _ (c .before .entered .given .1) D R
 
 pub +paragraphs-from-spec : {M : Type 1} → statement M
 +paragraphs-from-spec = close μ-paragraphs-from λ t. paragraphs-from-lts.spec (paragraphs-from-calls t) (paragraphs-from-at t) paragraphs-from.Post

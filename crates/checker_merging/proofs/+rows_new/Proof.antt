@@ -7,7 +7,7 @@ use borrow.Fn.PlainCycle.{Measures, is, falls, and}
 use Rattle.checker_merging.proofs.rows_new.Reads as rows-new
 use Rattle.checker_merging.proofs.rows_new.Kinds as rows-new-kinds
 use Rattle.checker_merging.proofs.+rows_new.Lts-rows_new as rows-new-lts
-use Rattle.checker_dictionary.proofs.lookup.entry_of_name.Reads as entry-of-name-reads
+use Rattle.checker_dictionary.proofs.index.find_name.Reads as find-name-reads
 use Rattle.words.proofs.word.Reads as word-reads
 use Rattle.checker_merging.proofs.+rows_new.{statement}
 use Rattle.checker_merging.proofs.+rows_new.Tie.{close}
@@ -26,8 +26,8 @@ rows-new-below t =
 rows-new-returns : (t : ℕ) → rows-new-lts.Need-returns (
   word-reads.Asked,
   word-reads.Learnt,
-  entry-of-name-reads.Asked,
-  entry-of-name-reads.Learnt,
+  find-name-reads.Asked,
+  find-name-reads.Learnt,
   rows-new-below t,
   rows-new.Post,
 ) (rows-new-at t) rows-new.Post
@@ -37,30 +37,30 @@ rows-new-returns t c = rows-end _ _ _ _ (c .if1 .taken)
 rows-new-word-requires : (t : ℕ) → rows-new-lts.Need-word-requires (
   word-reads.Asked,
   word-reads.Learnt,
-  entry-of-name-reads.Asked,
-  entry-of-name-reads.Learnt,
+  find-name-reads.Asked,
+  find-name-reads.Learnt,
   rows-new-below t,
   rows-new.Post,
 ) (rows-new-at t) rows-new.Post
 rows-new-word-requires t c κs = search needs
 
 -- src/lib.rt:96:8
-rows-new-entry-of-name-requires : (t : ℕ) → rows-new-lts.Need-entry-of-name-requires (
+rows-new-find-name-requires : (t : ℕ) → rows-new-lts.Need-find-name-requires (
   word-reads.Asked,
   word-reads.Learnt,
-  entry-of-name-reads.Asked,
-  entry-of-name-reads.Learnt,
+  find-name-reads.Asked,
+  find-name-reads.Learnt,
   rows-new-below t,
   rows-new.Post,
 ) (rows-new-at t) rows-new.Post
-rows-new-entry-of-name-requires t c κs = search needs
+rows-new-find-name-requires t c κs = search needs
 
 -- src/lib.rt:97:34
 rows-new-add-rows-new : (t : ℕ) → rows-new-lts.Need-add-rows-new (
   word-reads.Asked,
   word-reads.Learnt,
-  entry-of-name-reads.Asked,
-  entry-of-name-reads.Learnt,
+  find-name-reads.Asked,
+  find-name-reads.Learnt,
   rows-new-below t,
   rows-new.Post,
 ) (rows-new-at t) rows-new.Post
@@ -70,8 +70,8 @@ rows-new-add-rows-new t c = search needs
 rows-new-sub-rows-new : (t : ℕ) → rows-new-lts.Need-sub-rows-new (
   word-reads.Asked,
   word-reads.Learnt,
-  entry-of-name-reads.Asked,
-  entry-of-name-reads.Learnt,
+  find-name-reads.Asked,
+  find-name-reads.Learnt,
   rows-new-below t,
   rows-new.Post,
 ) (rows-new-at t) rows-new.Post
@@ -81,8 +81,8 @@ rows-new-sub-rows-new t c = search needs
 rows-new-rows-new-requires : (t : ℕ) → rows-new-lts.Need-rows-new-requires (
   word-reads.Asked,
   word-reads.Learnt,
-  entry-of-name-reads.Asked,
-  entry-of-name-reads.Learnt,
+  find-name-reads.Asked,
+  find-name-reads.Learnt,
   rows-new-below t,
   rows-new.Post,
 ) (rows-new-at t) rows-new.Post
@@ -92,30 +92,30 @@ rows-new-rows-new-requires t c κs = (omega (arith, c .before .before .before .b
 rows-new-returns-2 : (t : ℕ) → rows-new-lts.Need-returns-2 (
   word-reads.Asked,
   word-reads.Learnt,
-  entry-of-name-reads.Asked,
-  entry-of-name-reads.Learnt,
+  find-name-reads.Asked,
+  find-name-reads.Learnt,
   rows-new-below t,
   rows-new.Post,
 ) (rows-new-at t) rows-new.Post
-rows-new-returns-2 t c = rows-go _ _ _ _ _ (c .before .before .before .before .if1 .left) (c .before .before .before .word .ensures .0) _ (c .before .before .entry-of-name .ensures) (c .before .if2 .taken) _ (c .rows-new .ensures)
+rows-new-returns-2 t c = rows-go _ _ _ _ _ (c .before .before .before .before .if1 .left) (c .before .before .before .word .ensures .0) _ (c .before .before .find-name .ensures) (c .before .if2 .taken) _ (c .rows-new .ensures)
 
 -- src/lib.rt:89:1
 rows-new-returns-3 : (t : ℕ) → rows-new-lts.Need-returns-3 (
   word-reads.Asked,
   word-reads.Learnt,
-  entry-of-name-reads.Asked,
-  entry-of-name-reads.Learnt,
+  find-name-reads.Asked,
+  find-name-reads.Learnt,
   rows-new-below t,
   rows-new.Post,
 ) (rows-new-at t) rows-new.Post
-rows-new-returns-3 t c = rows-stop _ _ _ _ _ (c .before .before .before .if1 .left) (c .before .before .word .ensures .0) _ (c .before .entry-of-name .ensures) (c .if2 .left)
+rows-new-returns-3 t c = rows-stop _ _ _ _ _ (c .before .before .before .if1 .left) (c .before .before .word .ensures .0) _ (c .before .find-name .ensures) (c .if2 .left)
 
 pub +rows-new-spec : {M : Type 1} → statement M
 +rows-new-spec = close μ-rows-new λ t. rows-new-lts.spec (
   word-reads.Asked,
   word-reads.Learnt,
-  entry-of-name-reads.Asked,
-  entry-of-name-reads.Learnt,
+  find-name-reads.Asked,
+  find-name-reads.Learnt,
   rows-new-below t,
   rows-new.Post,
 )
@@ -123,7 +123,7 @@ pub +rows-new-spec : {M : Type 1} → statement M
     rows-new.Post
     (rows-new-returns t)
     (rows-new-word-requires t)
-    (rows-new-entry-of-name-requires t)
+    (rows-new-find-name-requires t)
     (rows-new-add-rows-new t)
     (rows-new-sub-rows-new t)
     (rows-new-rows-new-requires t)

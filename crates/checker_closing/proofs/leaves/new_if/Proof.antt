@@ -10,10 +10,10 @@ names-new-requires : tie.Need-names-new-requires
 names-new-requires c κs = search needs
 
 returns : tie.Need-returns
-returns c = new-global _ _ _ _ (c .before .if1 .taken) (c .names-new .ensures)
+returns c = new-global _ _ _ _ _ (c .before .if1 .taken) (c .names-new .ensures)
 
 returns-2 : tie.Need-returns-2
-returns-2 c = new-local _ _ _ (c .if1 .left)
+returns-2 c = new-local _ _ _ _ (c .if1 .left)
 
 pub new-if-spec : {M : Type 1} → statement M
 new-if-spec = tie.close (tie.spec names-new-requires returns returns-2)

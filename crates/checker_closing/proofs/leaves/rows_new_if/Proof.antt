@@ -10,10 +10,10 @@ rows-new-requires : tie.Need-rows-new-requires
 rows-new-requires c κs = search needs
 
 returns : tie.Need-returns
-returns c = new-global _ _ _ _ (c .before .if1 .taken) (c .rows-new .ensures)
+returns c = new-global _ _ _ _ _ (c .before .if1 .taken) (c .rows-new .ensures)
 
 returns-2 : tie.Need-returns-2
-returns-2 c = new-local _ _ _ (c .if1 .left)
+returns-2 c = new-local _ _ _ _ (c .if1 .left)
 
 pub rows-new-if-spec : {M : Type 1} → statement M
 rows-new-if-spec = tie.close (tie.spec rows-new-requires returns returns-2)

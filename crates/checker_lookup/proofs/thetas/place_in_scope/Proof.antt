@@ -4,7 +4,7 @@ use Rattle.checker_lookup.proofs.thetas.place_in_scope.Statement.{state
 use Rattle.checker_lookup.proofs.thetas.place_in_scope.Tie as tie
 use Rattle.checker_lookup.proofs.thetas.place_in_scope.Reads as reads
 use Rattle.checker_lookup.proofs.thetas.place_in_scope.Lts as lts
-use Rattle.checker_dictionary.proofs.lookup.entry_of_name.Reads as entry-of-name-reads
+use Rattle.checker_dictionary.proofs.index.find_name.Reads as find-name-reads
 use Rattle.checker_dictionary.proofs.lookup.parameters_of.Reads as parameters-of-reads
 use Rattle.checker_dictionary.proofs.lookup.type_place.Reads as type-place-reads
 use Rattle.checker_signatures.proofs.tables.find.Reads as find-reads
@@ -35,12 +35,12 @@ returns : tie.Need-returns
 returns c = scope-local _ _ _ _ _ (c .before .before .find .ensures) (c .before .if1 .taken) _ (c .word .ensures .0)
 
 -- src/thetas.rt:23:9
-entry-of-name-requires : tie.Need-entry-of-name-requires
-entry-of-name-requires c κs = search needs
+find-name-requires : tie.Need-find-name-requires
+find-name-requires c κs = search needs
 
 -- src/thetas.rt:25:9
 returns-2 : tie.Need-returns-2
-returns-2 c = scope-unknown _ _ _ _ _ (c .before .before .before .find .ensures) (c .before .before .if1 .left) _ (c .before .entry-of-name .ensures) (c .if2 .taken)
+returns-2 c = scope-unknown _ _ _ _ _ (c .before .before .before .find .ensures) (c .before .before .if1 .left) _ (c .before .find-name .ensures) (c .if2 .taken)
 
 -- src/thetas.rt:27:8
 parameters-of-requires : tie.Need-parameters-of-requires
@@ -48,7 +48,7 @@ parameters-of-requires c κs = search needs
 
 -- src/thetas.rt:28:9
 returns-3 : tie.Need-returns-3
-returns-3 c = scope-generic _ _ _ _ _ (c .before .before .before .before .before .find .ensures) (c .before .before .before .before .if1 .left) _ (c .before .before .before .entry-of-name .ensures) (c .before .before .if2 .left) _ (c .before .parameters-of .ensures .0) (c .if3 .taken)
+returns-3 c = scope-generic _ _ _ _ _ (c .before .before .before .before .before .find .ensures) (c .before .before .before .before .if1 .left) _ (c .before .before .before .find-name .ensures) (c .before .before .if2 .left) _ (c .before .parameters-of .ensures .0) (c .if3 .taken)
 
 -- src/thetas.rt:30:24
 type-place-requires : tie.Need-type-place-requires
@@ -60,7 +60,7 @@ add-result-2 c = search needs
 
 -- src/thetas.rt:15:1
 returns-4 : tie.Need-returns-4
-returns-4 c = scope-recorded _ _ _ _ _ (c .before .before .before .before .before .before .find .ensures) (c .before .before .before .before .before .if1 .left) _ (c .before .before .before .before .entry-of-name .ensures) (c .before .before .before .if2 .left) _ (c .before .before .parameters-of .ensures .0) (c .before .if3 .left) _ (c .type-place .ensures .0)
+returns-4 c = scope-recorded _ _ _ _ _ (c .before .before .before .before .before .before .find .ensures) (c .before .before .before .before .before .if1 .left) _ (c .before .before .before .before .find-name .ensures) (c .before .before .before .if2 .left) _ (c .before .before .parameters-of .ensures .0) (c .before .if3 .left) _ (c .type-place .ensures .0)
 
 pub place-in-scope-spec : {M : Type 1} → statement M
 place-in-scope-spec =
@@ -72,7 +72,7 @@ place-in-scope-spec =
     word-requires
     add-result
     returns
-    entry-of-name-requires
+    find-name-requires
     returns-2
     parameters-of-requires
     returns-3

@@ -20,39 +20,27 @@ returns c = told-unvisited (c .before .if1 .taken) (c .unlined .ensures)
 
 -- src/abbreviations.rt:77:9
 type-finding-requires : tie.Need-type-finding-requires
-type-finding-requires c κs = c .before .before .before .before .before .before .before .pre .2 .type (c .before .if1 .left)
+type-finding-requires c κs = c .before .before .before .before .before .before .before .before .pre .2 .type (c .before .before .if1 .left)
 
 -- src/abbreviations.rt:79:9
 lined-at-requires : tie.Need-lined-at-requires
 lined-at-requires c κs = search needs
 
 -- src/abbreviations.rt:79:9
-same-length : tie.Need-same-length
-same-length c = search needs
-
--- src/abbreviations.rt:79:9
 returns-2 : tie.Need-returns-2
-returns-2 c = told-refused (c .before .before .before .before .before .before .if1 .left) (c .before .before .before .before .type-finding .ensures) (c .before .if2 .taken) (c .lined-at .ensures)
+returns-2 c = told-refused (c .before .before .before .before .before .before .before .if1 .left) (c .before .before .before .before .type-finding .ensures) (c .before .if2 .taken) (c .lined-at .ensures)
 
 -- src/abbreviations.rt:81:5
 enter-requires : tie.Need-enter-requires
-enter-requires c κs = let A = c .before .before .before .before .before .before .before .before .before .before .before .before .before .pre in (A .2 .entry (c .before .before .before .before .before .before .before .if1 .left) _ (type-fine (c .before .before .before .before .before .type-finding .ensures) (c .before .before .if2 .left)), A .1, A .2 .low (c .before .before .before .before .before .before .before .if1 .left))
+enter-requires c κs = let A = c .before .before .before .before .before .before .before .before .before .before .before .before .before .before .pre in (A .2 .entry (c .before .before .before .before .before .before .before .before .if1 .left) _ (type-fine (c .before .before .before .before .before .type-finding .ensures) (c .before .before .if2 .left)), A .1, A .2 .low (c .before .before .before .before .before .before .before .before .if1 .left))
 
 -- src/abbreviations.rt:82:5
 lined-at-requires-2 : tie.Need-lined-at-requires-2
 lined-at-requires-2 c κs = search needs
 
 -- src/abbreviations.rt:62:1
-same-length-2 : tie.Need-same-length-2
-same-length-2 c = search needs
-
--- src/abbreviations.rt:62:1
-same-length-3 : tie.Need-same-length-3
-same-length-3 c = search needs
-
--- src/abbreviations.rt:62:1
 returns-3 : tie.Need-returns-3
-returns-3 c = let L = c .lined-at2 .ensures in entered (c .before .before .before .before .before .before .before .before .before .before .before .before .before .if1 .left) (L .number-is) (L .place-is) (L .count-is) (L .at-is) _ (type-fine (c .before .before .before .before .before .before .before .before .before .before .before .type-finding .ensures) (c .before .before .before .before .before .before .before .before .if2 .left)) (c .before .before .before .before .before .enter .ensures)
+returns-3 c = let L = c .lined-at2 .ensures in entered (c .before .before .before .before .before .before .before .before .before .before .before .before .before .before .if1 .left) (L .number-is) (L .place-is) (L .count-is) (L .at-is) _ (type-fine (c .before .before .before .before .before .before .before .before .before .before .before .type-finding .ensures) (c .before .before .before .before .before .before .before .before .if2 .left)) (c .before .before .before .before .before .enter .ensures)
 
 pub abbreviated-spec : {M : Type 1} → statement M
 abbreviated-spec =
@@ -62,10 +50,11 @@ abbreviated-spec =
     returns
     type-finding-requires
     lined-at-requires
-    same-length
+    (λ c. search needs)
+    (λ c. search needs)
     returns-2
     enter-requires
     lined-at-requires-2
-    same-length-2
-    same-length-3
+    (λ c. search needs)
+    (λ c. search needs)
     returns-3)

@@ -40,7 +40,7 @@ returns-2 c = type-clash (c .before .before .before .before .before .before .clo
 
 -- src/abbreviations.rt:36:23
 settled-size-requires : tie.Need-settled-size-requires
-settled-size-requires c κs = type-sizing (c .before .before .before .before .before .before .before .close .ensures) (c .before .before .before .before .before .before .before .before .before .before .before .before .pre) (not-false _ (c .before .before .before .before .if1 .left))
+settled-size-requires c κs = type-sizing (c .before .before .before .before .before .before .before .close .ensures) (c .before .before .before .before .before .before .before .before .before .before .before .before .before .pre) (not-false _ (c .before .before .before .before .if1 .left))
 
 -- src/abbreviations.rt:37:9
 same-length-3 : tie.Need-same-length-3

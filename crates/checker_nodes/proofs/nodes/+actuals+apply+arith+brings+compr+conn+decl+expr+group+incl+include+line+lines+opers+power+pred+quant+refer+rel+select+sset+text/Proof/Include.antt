@@ -12,14 +12,14 @@ include-schema-of-requires t c κs = search needs
 
 include-lined-at-requires : (t : ℕ) → include-lts.Need-lined-at-requires (include-calls t) (include-at t) include.Post
 include-lined-at-requires t c κs =
-    let s = c .before .before .before .before .before .before .before .before .before in
+    let s = c .before .before .before .before .before .before .before .before .before .before in
     let z = s .pre .1 .0 .at .small in
     omega arith
 
 include-returns : (t : ℕ) → include-lts.Need-returns (include-calls t) (include-at t) include.Post
 include-returns t c =
     let l = c .before .before .before in
-    let s = l .before .before .before .before .before .before .before in
+    let s = l .before .before .before .before .before .before .before .before in
     node-schema-refused (s .pre .1 .0) (s .pre .1 .1) (l .schema-of .ensures) (c .before .if1 .taken) (c .lined-at .ensures)
 
 include-word-requires : (t : ℕ) → include-lts.Need-word-requires (include-calls t) (include-at t) include.Post
@@ -28,7 +28,7 @@ include-word-requires t c κs = search needs
 include-actuals-requires : (t : ℕ) → include-lts.Need-actuals-requires (include-calls t) (include-at t) include.Post
 include-actuals-requires t c κs =
     let l = c .before .before .before .before .before .before in
-    let s = l .before .before .before .before .before .before .before in
+    let s = l .before .before .before .before .before .before .before .before in
     let a = node-schema-actuals (s .pre .1 .0) (s .pre .1 .1) (schema-found (l .schema-of .ensures) (c .before .before .before .before .if1 .left)) (c .before .word .ensures .0) in
     let f = a .0 in
     let m = s .pre .0 in
@@ -38,23 +38,14 @@ include-named-requires : (t : ℕ) → include-lts.Need-named-requires (include-
 include-named-requires t c κs =
     let v = c .before .before .before .before .before .before .before .before in
     let l = v .before .before .before .before .before .before .before in
-    let s = l .before .before .before .before .before .before .before in
+    let s = l .before .before .before .before .before .before .before .before in
     node-schema-named (s .pre .1 .0) (s .pre .1 .1) (schema-found (l .schema-of .ensures) (v .before .before .before .before .before .if1 .left)) (v .before .before .word .ensures .0) (v .actuals .ensures)
-
-include-same-length : (t : ℕ) → include-lts.Need-same-length (include-calls t) (include-at t) include.Post
-include-same-length t c = search needs
-
-include-same-length-2 : (t : ℕ) → include-lts.Need-same-length-2 (include-calls t) (include-at t) include.Post
-include-same-length-2 t c = search needs
-
-include-same-length-3 : (t : ℕ) → include-lts.Need-same-length-3 (include-calls t) (include-at t) include.Post
-include-same-length-3 t c = search needs
 
 include-returns-2 : (t : ℕ) → include-lts.Need-returns-2 (include-calls t) (include-at t) include.Post
 include-returns-2 t c =
     let v = c .before .before .before .before .before .before .before .before .before .before .before in
     let l = v .before .before .before .before .before .before .before in
-    let s = l .before .before .before .before .before .before .before in
+    let s = l .before .before .before .before .before .before .before .before in
     node-schema-told (s .pre .1 .0) (s .pre .1 .1) (schema-found (l .schema-of .ensures) (v .before .before .before .before .before .if1 .left)) (v .before .before .word .ensures .0) (v .actuals .ensures) (c .before .before .named .ensures)
 
 pub include-closed : {M : Type 1} (t : ℕ) → include-lts.Closed (include-calls t) (include-at t) include.Post M
@@ -62,11 +53,12 @@ include-closed t =
     include-lts.spec (include-calls t) (include-at t) include.Post
     (include-schema-of-requires t)
     (include-lined-at-requires t)
+    (λ c. search needs)
     (include-returns t)
     (include-word-requires t)
     (include-actuals-requires t)
     (include-named-requires t)
-    (include-same-length t)
-    (include-same-length-2 t)
-    (include-same-length-3 t)
+    (λ c. search needs)
+    (λ c. search needs)
+    (λ c. search needs)
     (include-returns-2 t)
