@@ -2,6 +2,7 @@
 //! every machine.
 
 pub mod applied;
+pub mod brought;
 pub mod documents;
 pub mod enumerated;
 pub mod inject;
@@ -22,6 +23,8 @@ pub mod states;
 pub mod typed;
 pub mod types;
 pub mod worst;
+pub mod worst_names;
+pub mod worst_runs;
 
 use coding::Tree;
 use rng::Rng;
@@ -62,7 +65,7 @@ pub fn case(seed: u64, index: u64) -> Case {
 }
 
 fn some_document(rng: &mut Rng) -> (&'static str, Vec<u32>) {
-    match rng.below(125) {
+    match rng.below(129) {
         0..=16 => broken(rng),
         17..=23 => ("shapes", shaped(rng)),
         24..=33 => ("limits", limits::at_a_limit(rng)),
@@ -77,7 +80,8 @@ fn some_document(rng: &mut Rng) -> (&'static str, Vec<u32>) {
         100..=104 => ("powers and products", numbered(rng, enumerated::enumerated_document)),
         105..=113 => ("applications", numbered(rng, applied::applied_document)),
         114..=121 => ("types inside themselves", numbered(rng, inside::inside_document)),
-        _ => ("numberings", numberings::renumbered(rng)),
+        122..=124 => ("numberings", numberings::renumbered(rng)),
+        _ => ("names that Axioms bring", numbered(rng, brought::brought_document)),
     }
 }
 
@@ -163,6 +167,7 @@ fn areas(rng: &mut Rng, document: &[u32]) -> (usize, usize) {
         7 => rng.below(3),
         8..=10 => needed + 1 + rng.below(30),
         11..=13 => 16_385 + 2 * rng.below(500),
+        14..=26 => needed.max(16_384),
         _ => 16_384,
     };
     let work = match rng.below(40) {

@@ -1,20 +1,29 @@
 //! The worst documents that the limits allow: the largest, the deepest, types
 //! too large to write out, signatures of 16 in every place.
 
-use crate::Case;
+use crate::brought::declaring;
+use crate::{worst_names, worst_runs, Case};
 use coding::make::*;
 use coding::{encode, encode_in_order, Tree};
+use reference::state::{roles, Role};
 
 const X: u32 = 20;
 const Y: u32 = 24;
 
+/// Words of an area that suffices for most documents.
+const AREA: usize = 16_384;
+
 /// Each case with what it is.
 pub fn cases() -> Vec<(&'static str, Case)> {
     let leaves_first = encode_in_order(&largest(), &mut |_| 0);
-    let name = "1,024 nodes, leaves first";
-    let renumbered = (name, case(name, leaves_first));
-    let numbered = trees().into_iter().map(|(name, tree)| (name, case(name, encode(&tree))));
-    numbered.chain([renumbered]).collect()
+    let longest = encode(&worst_names::longest_entries());
+    let others = [
+        ("1,024 nodes, leaves first", leaves_first),
+        ("3,268 entries of 98 words", longest.clone()),
+    ];
+    let trees = trees().into_iter().map(|(name, tree)| (name, encode(&tree)));
+    let cases = trees.chain(others).map(|(name, document)| (name, case(name, document)));
+    cases.chain([tight(longest), full_state()]).collect()
 }
 
 /// Each tree with what it is.
@@ -42,6 +51,10 @@ pub fn trees() -> Vec<(&'static str, Tree)> {
         ("36 applications, first of 10 pairs", applied(0)),
         ("36 applications, last of 10 pairs", applied(9)),
     ]
+    .into_iter()
+    .chain(worst_names::trees())
+    .chain(worst_runs::trees())
+    .collect()
 }
 
 /// Documents that reading refuses as late as it can.
@@ -59,12 +72,43 @@ fn nested_text(inner: Tree, _: u32) -> Tree {
     forall(text(inner, vec![decl(integers(), &[4, 8, 12, 16, X, Y])]), truth())
 }
 
+/// The case of a document: each name of its state is 1, a given has all the
+/// elements that it can, and the dictionary has room.
 fn case(family: &'static str, document: Vec<u32>) -> Case {
+    let entry = |role: &Role| match role {
+        Role::Given(_) => vec![20],
+        Role::Declared(_) => vec![1, 1],
+    };
     let state = match reference::read(&document) {
-        Ok(read) => coding::join(&vec![vec![1, 1]; reference::state::roles(&read).len()]),
+        Ok(read) => coding::join(&roles(&read).iter().map(entry).collect::<Vec<_>>()),
         Err(_) => vec![0],
     };
-    Case { family, document, state, dictionary: 16_384, work: 16_384, output: 16_384, dirt: 1 }
+    let dictionary = dictionary_words(&document).max(AREA);
+    Case { family, document, state, dictionary, work: AREA, output: AREA, dirt: 1 }
+}
+
+/// Words that the dictionary of an accepted document takes.
+fn dictionary_words(document: &[u32]) -> usize {
+    let checked = reference::check(document, usize::MAX, reference::WORK_WORDS);
+    checked.map_or(0, |checked| checked.dictionary.length())
+}
+
+/// The document with a dictionary area that is just enough.
+fn tight(document: Vec<u32>) -> (&'static str, Case) {
+    let name = "3,268 entries, area just enough";
+    let dictionary = dictionary_words(&document);
+    (name, Case { dictionary, ..case(name, document) })
+}
+
+/// 64 sets of numbers, and a state that gives each 64 words.
+fn full_state() -> (&'static str, Case) {
+    let name = "64 names of 64 words";
+    let names: Vec<u32> = (1..=64).map(|name| id(name, 0)).collect();
+    let six = |six: &[u32]| axiom(text(truth(), vec![decl(power(integers()), six)]));
+    let document = encode(&document(names.chunks(6).map(six).collect()));
+    let value: Vec<u32> = [3, 31].into_iter().chain((0..31).flat_map(|n| [1, n])).collect();
+    let state = coding::join(&vec![value; names.len()]);
+    (name, Case { state, ..case(name, document) })
 }
 
 /// 1,024 nodes: relations of 24 nodes each.
@@ -158,12 +202,12 @@ fn wide_name() -> Vec<Tree> {
 
 /// Schema 1 with 16 components of a wide type, unstroked.
 fn sixteen() -> Vec<Tree> {
-    let part = |first: u32, n: u32| {
-        let ids: Vec<u32> = (first..first + n).map(|name| id(name, 0)).collect();
-        text(truth(), vec![decl(reference(100), &ids)])
-    };
-    let all = conjunction(conjunction(part(1_000, 6), part(1_006, 6)), part(1_012, 4));
+    let all = declaring(&reference(100), &sixteen_identifiers());
     [wide_name(), vec![schema(1, &[], all)]].concat()
+}
+
+fn sixteen_identifiers() -> Vec<u32> {
+    (1_000..1_016).map(|name| id(name, 0)).collect()
 }
 
 fn one(stroke: u32) -> Tree {
@@ -192,11 +236,7 @@ fn thetas() -> Tree {
 }
 
 fn schema_sets() -> Tree {
-    let part = |first: u32, n: u32| {
-        let ids: Vec<u32> = (first..first + n).map(|name| id(name, 0)).collect();
-        text(truth(), vec![decl(product(vec![reference(X); 3]), &ids)])
-    };
-    let all = conjunction(conjunction(part(1_000, 6), part(1_006, 6)), part(1_012, 4));
+    let all = declaring(&product(vec![reference(X); 3]), &sixteen_identifiers());
     let generic = schema(2, &[X], all);
     let user = || schema_set(include(2, 0, vec![reference(96)], &[]));
     let same = constraint(equal(set(vec![user(); 4]), set(vec![user(); 3])));
