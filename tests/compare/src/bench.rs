@@ -1,47 +1,118 @@
-//! The benchmark: the same documents to the library and to the reference, with
-//! the areas that a call takes cleared for both, and the times as a ratio.
+//! The benchmark: the same documents to the library and to the reference, and
+//! tables of the ratios of their times, of the library's times, and of the
+//! factors by which these grow.
 //!
 //! bench [--seed N] [--count M] [--call NAME] [--documents NAME]
 
-use compare::calls::{Call, Slices, CALLS, NOT_LINKED};
-use generate::{worst, Case};
+use compare::calls::NOT_LINKED;
+use compare::growth;
+use compare::measure::{Timed, Times};
+use compare::table::Table;
+use generate::{series, worst, Case};
 use std::process::ExitCode;
-use std::time::{Duration, Instant};
 
-/// The least time that one measurement takes.
-const LEAST: Duration = Duration::from_millis(80);
-/// Measurements of which the fastest counts.
-const ROUNDS: usize = 3;
+/// A row of the tables: what the documents are, and the documents.
+type Documents = (String, Vec<Case>);
+
+struct Options {
+    arguments: Vec<String>,
+}
+
+impl Options {
+    fn value(&self, name: &str) -> Option<&String> {
+        let at = self.arguments.iter().position(|argument| argument == name)?;
+        self.arguments.get(at + 1)
+    }
+
+    fn number(&self, name: &str, default: u64) -> u64 {
+        self.value(name).map_or(default, |text| text.parse().expect("a number"))
+    }
+
+    /// Does the name contain what the option asks for, if it asks?
+    fn chosen(&self, option: &str, name: &str) -> bool {
+        self.value(option).map_or(true, |part| name.contains(part))
+    }
+}
 
 fn main() -> ExitCode {
-    let arguments: Vec<String> = std::env::args().collect();
-    let number = |name: &str, default: u64| {
-        let at = arguments.iter().position(|argument| argument == name);
-        at.map_or(default, |at| arguments[at + 1].parse().expect("a number"))
+    let options = Options { arguments: std::env::args().collect() };
+    let calls: Vec<Timed> =
+        Timed::all().into_iter().filter(|call| options.chosen("--call", call.name())).collect();
+    let documents: Vec<Documents> = all_documents(&options)
+        .into_iter()
+        .filter(|(name, _)| options.chosen("--documents", name))
+        .collect();
+    let times: Vec<Vec<Times>> = documents
+        .iter()
+        .map(|(_, cases)| calls.iter().map(|call| call.times(cases)).collect())
+        .collect();
+    let table = |title, number: fn(&Times) -> f64| Table {
+        title,
+        columns: calls.iter().map(Timed::name).collect(),
+        rows: rows(&documents, &times, number),
     };
-    let (seed, count) = (number("--seed", 1), number("--count", 300));
-    let mut sets: Vec<(String, Vec<Case>)> = vec![("mixed".to_string(), mixed(seed, count))];
-    for (name, case) in worst::cases().into_iter().chain(worst::refused_cases()) {
-        sets.push((name.to_string(), vec![case]));
-    }
-    println!(
-        "{:<13}{:<34}{:>12}{:>12}{:>9}",
-        "call", "documents", "library µs", "reference", "ratio"
-    );
-    let chosen = |option: &str, name: &str| {
-        let at = arguments.iter().position(|argument| argument == option);
-        at.map_or(true, |at| name.contains(&arguments[at + 1]))
-    };
-    let mut ratios = Vec::new();
-    for call in CALLS.iter().filter(|call| chosen("--call", call.name)) {
-        for (name, cases) in sets.iter().filter(|(name, _)| chosen("--documents", name)) {
-            ratios.push(measure(call, name, cases));
-        }
-    }
-    let worst = ratios.iter().copied().fold(0.0, f64::max);
-    println!("a ratio over 1 means that the library is slower; the largest is {worst:.2}");
+    print_ratios(table("ratio", Times::ratio));
+    table("library's microseconds", |times| times.library).print();
+    print_longest(&calls, &documents, &times);
+    print_growth(&options, &calls);
     println!("not in the library yet: {NOT_LINKED:?}");
     ExitCode::SUCCESS
+}
+
+fn rows(
+    documents: &[Documents],
+    times: &[Vec<Times>],
+    number: fn(&Times) -> f64,
+) -> Vec<(String, Vec<Option<f64>>)> {
+    let row = |((name, _), times): (&Documents, &Vec<Times>)| {
+        (name.clone(), times.iter().map(|times| Some(number(times))).collect())
+    };
+    documents.iter().zip(times).map(row).collect()
+}
+
+fn print_ratios(table: Table) {
+    let worst = table.largest().into_iter().flatten().fold(0.0, f64::max);
+    table.with_largest("worst").print();
+    println!("a ratio over 1 means that the library is slower; the largest is {worst:.2}\n");
+}
+
+/// For each call the document on which the library takes longest.
+fn print_longest(calls: &[Timed], documents: &[Documents], times: &[Vec<Times>]) {
+    println!("\nlongest documents");
+    for (i, call) in calls.iter().enumerate() {
+        let library = |row: &usize| times[*row][i].library;
+        let slower = |a: &usize, b: &usize| library(a).total_cmp(&library(b));
+        if let Some(row) = (0..documents.len()).max_by(slower) {
+            println!("{:<13}{:>10.3} ms  {}", call.name(), library(&row) / 1e3, documents[row].0);
+        }
+    }
+}
+
+fn print_growth(options: &Options, calls: &[Timed]) {
+    let chosen = |one: &series::Series| options.chosen("--documents", one.doubling);
+    let all: Vec<series::Series> = series::all().into_iter().filter(chosen).collect();
+    println!();
+    let table = growth::factors(&all, calls);
+    let largest = table.largest().into_iter().flatten().fold(0.0, f64::max);
+    table.with_largest("largest").print();
+    println!("the largest factor where a number doubles is {largest:.2}");
+}
+
+fn all_documents(options: &Options) -> Vec<Documents> {
+    let (seed, count) = (options.number("--seed", 1), options.number("--count", 300));
+    let one = |(name, case): (&str, Case)| (name.to_string(), vec![case]);
+    let empty = worst::case("empty document", vec![1, 3, 1, 1]);
+    let made = vec![
+        ("mixed".to_string(), mixed(seed, count)),
+        ("mixed, under 200 words".to_string(), small(seed, count)),
+        one(("empty document", empty)),
+    ];
+    let worst = worst::cases().into_iter().chain(worst::refused_cases()).map(one);
+    made.into_iter().chain(worst).collect()
+}
+
+fn small(seed: u64, count: u64) -> Vec<Case> {
+    mixed(seed, count).into_iter().filter(|case| case.document.len() < 200).collect()
 }
 
 /// Documents that both accept, as the generator makes them, whose runs end
@@ -58,40 +129,4 @@ fn mixed(seed: u64, count: u64) -> Vec<Case> {
         .take(count as usize)
         .map(|case| Case { dictionary: 16_384, work: 16_384, ..case })
         .collect()
-}
-
-/// Prints one line of the table and gives its ratio.
-fn measure(call: &Call, name: &str, cases: &[Case]) -> f64 {
-    let area = |taken: bool| vec![0; if taken { 16_384 } else { 0 }];
-    let mut areas = [area(call.dictionary), area(call.work), area(call.output)];
-    let mut time = |function: fn(&mut Slices) -> u64| {
-        let rounds = (0..ROUNDS).map(|_| one_round(function, cases, &mut areas));
-        rounds.fold(f64::INFINITY, f64::min)
-    };
-    let (library, reference) = (time(call.function), time(call.reference));
-    let ratio = library / reference;
-    println!("{:<13}{name:<34}{library:>12.2}{reference:>12.2}{ratio:>9.2}", call.name);
-    ratio
-}
-
-/// Microseconds a call, with the areas of dictionary, work and output.
-fn one_round(
-    function: fn(&mut Slices) -> u64,
-    cases: &[Case],
-    [dictionary, work, output]: &mut [Vec<u32>; 3],
-) -> f64 {
-    let start = Instant::now();
-    let mut calls = 0;
-    while start.elapsed() < LEAST {
-        for case in cases {
-            dictionary.fill(0);
-            work.fill(0);
-            output.fill(0);
-            let (document, state) = (&case.document[..], &case.state[..]);
-            let slices = &mut Slices { document, state, dictionary, work, output };
-            std::hint::black_box(function(std::hint::black_box(slices)));
-            calls += 1;
-        }
-    }
-    start.elapsed().as_secs_f64() * 1e6 / f64::from(calls)
 }

@@ -3,9 +3,12 @@
 pub mod areas;
 pub mod calls;
 pub mod expected;
+pub mod growth;
+pub mod measure;
 pub mod numberings;
 pub mod printed;
 pub mod program;
 pub mod show;
 pub mod shrink;
+pub mod table;
 pub mod timed;

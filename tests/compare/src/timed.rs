@@ -2,6 +2,7 @@
 //! The function has the call's name.
 
 use crate::calls::Slices;
+use reference::dictionary::Dictionary;
 use reference::run::run_listing;
 use reference::{Ending, Finding};
 
@@ -37,4 +38,15 @@ pub fn z_run(s: &mut Slices) -> u64 {
 
 pub fn z_canonical(s: &mut Slices) -> u64 {
     answer(reference::canonical_into(s.document, s.output))
+}
+
+/// The lines of a check's answer in a buffer of so many bytes, with zeros after
+/// them.
+pub fn z_print(checked: &Result<Dictionary, Finding>, size: usize) -> Vec<u8> {
+    let text = reference::print::lines(checked);
+    let mut buffer = vec![0; size];
+    let (head, tail) = buffer.split_at_mut(text.len());
+    head.copy_from_slice(text.as_bytes());
+    tail.fill(0);
+    buffer
 }

@@ -17,6 +17,7 @@ pub mod rng;
 pub mod run_orders;
 pub mod runnable;
 pub mod schemas;
+pub mod series;
 pub mod shape;
 pub mod special;
 pub mod states;

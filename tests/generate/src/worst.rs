@@ -23,7 +23,8 @@ pub fn cases() -> Vec<(&'static str, Case)> {
     ];
     let trees = trees().into_iter().map(|(name, tree)| (name, encode(&tree)));
     let cases = trees.chain(others).map(|(name, document)| (name, case(name, document)));
-    cases.chain([tight(longest), full_state()]).collect()
+    let full = ("64 names of 64 words", full_state(64));
+    cases.chain([tight(longest), full]).collect()
 }
 
 /// Each tree with what it is.
@@ -74,7 +75,7 @@ fn nested_text(inner: Tree, _: u32) -> Tree {
 
 /// The case of a document: each name of its state is 1, a given has all the
 /// elements that it can, and the dictionary has room.
-fn case(family: &'static str, document: Vec<u32>) -> Case {
+pub fn case(family: &'static str, document: Vec<u32>) -> Case {
     let entry = |role: &Role| match role {
         Role::Given(_) => vec![20],
         Role::Declared(_) => vec![1, 1],
@@ -100,15 +101,14 @@ fn tight(document: Vec<u32>) -> (&'static str, Case) {
     (name, Case { dictionary, ..case(name, document) })
 }
 
-/// 64 sets of numbers, and a state that gives each 64 words.
-fn full_state() -> (&'static str, Case) {
-    let name = "64 names of 64 words";
-    let names: Vec<u32> = (1..=64).map(|name| id(name, 0)).collect();
+/// So many sets of numbers, and a state that gives each 64 words.
+pub fn full_state(count: u32) -> Case {
+    let names: Vec<u32> = (1..=count).map(|name| id(name, 0)).collect();
     let six = |six: &[u32]| axiom(text(truth(), vec![decl(power(integers()), six)]));
     let document = encode(&document(names.chunks(6).map(six).collect()));
     let value: Vec<u32> = [3, 31].into_iter().chain((0..31).flat_map(|n| [1, n])).collect();
     let state = coding::join(&vec![value; names.len()]);
-    (name, Case { state, ..case(name, document) })
+    Case { state, ..case("full state", document) }
 }
 
 /// 1,024 nodes: relations of 24 nodes each.

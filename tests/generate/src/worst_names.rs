@@ -100,21 +100,27 @@ fn most_entries() -> Tree {
     document([givens(), derived_entries(&integers(), 50)].concat())
 }
 
-/// 3,268 entries in 1,024 nodes, the types of the names with as many words as
-/// a size of 32 has: a binding of 15 givens and of a binding of 15 givens.
+/// 3,268 entries in 1,024 nodes.
 pub fn longest_entries() -> Tree {
+    long_entries(49)
+}
+
+/// 65 entries for each of so many schemas, the types of the names with as many
+/// words as a size of 32 has: a binding of 15 givens and of a binding of 15
+/// givens.
+pub fn long_entries(count: u32) -> Tree {
     const INNER: u32 = 2;
     const OUTER: u32 = 3;
+    let one = |name| include(name, 0, vec![], &[]);
     let inner: Vec<u32> = (0..SIGNATURE - 1).map(|k| id(300 + k, 0)).collect();
-    let nested = decl(schema_set(include(INNER, 0, vec![], &[])), &[id(399, 0)]);
-    let outer = conjunction(include(INNER, 0, vec![], &[]), text(truth(), vec![nested]));
+    let nested = decl(schema_set(one(INNER)), &[id(399, 0)]);
+    let outer = conjunction(one(INNER), text(truth(), vec![nested]));
     let bindings = vec![
         schema(INNER, &[], declaring(&reference(id(200, 0)), &inner)),
         schema(OUTER, &[], outer),
-        bringing(vec![include(OUTER, 0, vec![], &[])]),
+        bringing(vec![one(OUTER)]),
     ];
-    let set = schema_set(include(OUTER, 0, vec![], &[]));
-    document([givens(), bindings, derived_entries(&set, 49)].concat())
+    document([givens(), bindings, derived_entries(&schema_set(one(OUTER)), count)].concat())
 }
 
 /// 255 paragraphs, each an entry that looks the first of them up.

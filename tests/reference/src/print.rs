@@ -12,8 +12,13 @@ pub fn print(input: &[u8]) -> String {
         Some(words) => check(&words, 16_384, WORK_WORDS).map(|checked| checked.dictionary),
         None => Err(Finding { number: 11, place: 0 }),
     };
+    lines(&checked)
+}
+
+/// The lines of a check's answer.
+pub fn lines(checked: &Result<Dictionary, Finding>) -> String {
     match checked {
-        Ok(dictionary) => accepted(&dictionary),
+        Ok(dictionary) => accepted(dictionary),
         Err(finding) => format!("refused {} at {}\n", finding.number, finding.place),
     }
 }

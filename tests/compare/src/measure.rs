@@ -1,0 +1,145 @@
+//! The times of a call: the library's and the reference's on the same cases,
+//! with the areas that the call takes cleared for both.
+
+use crate::calls::{Call, Slices, CALLS};
+use crate::timed;
+use generate::Case;
+use std::hint::black_box;
+use std::time::{Duration, Instant};
+
+/// The least time that one round takes.
+const LEAST: Duration = Duration::from_millis(30);
+/// Rounds of which the fastest counts.
+const ROUNDS: usize = 5;
+
+/// Microseconds a call.
+#[derive(Clone, Copy)]
+pub struct Times {
+    pub library: f64,
+    pub reference: f64,
+}
+
+/// A call that is timed.
+#[derive(Clone, Copy)]
+pub enum Timed {
+    Call(&'static Call),
+    /// z_print, whose answer is no finding.
+    Print,
+}
+
+#[derive(Clone, Copy, PartialEq)]
+enum Side {
+    Library,
+    Reference,
+}
+
+impl Times {
+    /// Over 1 where the library is slower.
+    pub fn ratio(&self) -> f64 {
+        self.library / self.reference
+    }
+}
+
+impl Timed {
+    /// All calls.
+    pub fn all() -> Vec<Timed> {
+        CALLS.iter().map(Timed::Call).chain([Timed::Print]).collect()
+    }
+
+    pub fn name(&self) -> &'static str {
+        match self {
+            Timed::Call(call) => call.name,
+            Timed::Print => "z_print",
+        }
+    }
+
+    /// The times of a call on a case, on average over the cases: the fastest
+    /// round of each side, rounds of both in turn, so that what else the
+    /// machine does falls on both.
+    pub fn times(&self, cases: &[Case]) -> Times {
+        let mut times = Times { library: f64::INFINITY, reference: f64::INFINITY };
+        self.rounds(cases, |round| {
+            for _ in 0..ROUNDS {
+                times.library = times.library.min(round(Side::Library));
+                times.reference = times.reference.min(round(Side::Reference));
+            }
+        });
+        times
+    }
+
+    /// The library's microseconds on a case, of one round.
+    pub fn library(&self, case: &Case) -> f64 {
+        let mut time = 0.0;
+        self.rounds(std::slice::from_ref(case), |round| time = round(Side::Library));
+        time
+    }
+
+    /// Prepares the cases, and hands on what times a round of one side.
+    fn rounds(&self, cases: &[Case], measure: impl FnMut(&mut dyn FnMut(Side) -> f64)) {
+        match self {
+            Timed::Call(call) => call_rounds(call, cases, measure),
+            Timed::Print => print_rounds(cases, measure),
+        }
+    }
+}
+
+fn call_rounds(call: &Call, cases: &[Case], mut measure: impl FnMut(&mut dyn FnMut(Side) -> f64)) {
+    let longest = |length: fn(&Case) -> usize| cases.iter().map(length).max().unwrap_or(0);
+    let area = |taken: bool, words: usize| vec![0; if taken { words } else { 0 }];
+    let mut dictionary = area(call.dictionary, longest(|case| case.dictionary));
+    let mut work = area(call.work, longest(|case| case.work));
+    let mut output = area(call.output, longest(|case| case.output));
+    measure(&mut |side| {
+        let function = if side == Side::Library { call.function } else { call.reference };
+        let turn = |case: &Case| {
+            let dictionary = part(&mut dictionary, case.dictionary);
+            let (work, output) = (part(&mut work, case.work), part(&mut output, case.output));
+            let (document, state) = (&case.document[..], &case.state[..]);
+            let slices = &mut Slices { document, state, dictionary, work, output };
+            black_box(function(black_box(slices)));
+        };
+        one_round(cases, turn)
+    })
+}
+
+/// The first words of an area, cleared.
+fn part(area: &mut [u32], words: usize) -> &mut [u32] {
+    let words = words.min(area.len());
+    area[..words].fill(0);
+    &mut area[..words]
+}
+
+fn print_rounds(cases: &[Case], mut measure: impl FnMut(&mut dyn FnMut(Side) -> f64)) {
+    let checked = |case: &Case| {
+        let found = reference::check(&case.document, case.dictionary, case.work);
+        let mut words = found.as_ref().map_or(vec![], |checked| checked.dictionary.words());
+        words.resize(case.dictionary, 0);
+        (found.map(|checked| checked.dictionary), words)
+    };
+    let checked: Vec<_> = cases.iter().map(checked).collect();
+    measure(&mut |side| {
+        one_round(&checked, |(found, words)| match side {
+            Side::Library => {
+                let finding = found.as_ref().map(|_| ()).map_err(|finding| grillsonnet::Finding {
+                    number: finding.number,
+                    place: finding.place,
+                });
+                black_box(grillsonnet::print(finding, black_box(words)));
+            }
+            Side::Reference => {
+                black_box(timed::z_print(black_box(found), grillsonnet::enough(words.len())));
+            }
+        })
+    })
+}
+
+/// Microseconds a turn.
+fn one_round<T>(cases: &[T], mut turn: impl FnMut(&T)) -> f64 {
+    let start = Instant::now();
+    let mut turns = 0;
+    while start.elapsed() < LEAST {
+        cases.iter().for_each(&mut turn);
+        turns += cases.len();
+    }
+    start.elapsed().as_secs_f64() * 1e6 / turns as f64
+}
