@@ -10,5 +10,6 @@ pub mod printed;
 pub mod program;
 pub mod show;
 pub mod shrink;
+pub mod stack;
 pub mod table;
 pub mod timed;

@@ -2,6 +2,7 @@
 //! with the areas that the call takes cleared for both.
 
 use crate::calls::{Call, Slices, CALLS};
+use crate::printed::Checked;
 use crate::timed;
 use generate::Case;
 use std::hint::black_box;
@@ -110,24 +111,16 @@ fn part(area: &mut [u32], words: usize) -> &mut [u32] {
 }
 
 fn print_rounds(cases: &[Case], mut measure: impl FnMut(&mut dyn FnMut(Side) -> f64)) {
-    let checked = |case: &Case| {
-        let found = reference::check(&case.document, case.dictionary, case.work);
-        let mut words = found.as_ref().map_or(vec![], |checked| checked.dictionary.words());
-        words.resize(case.dictionary, 0);
-        (found.map(|checked| checked.dictionary), words)
-    };
-    let checked: Vec<_> = cases.iter().map(checked).collect();
+    let checked = |case: &Case| Checked::new(&case.document, case.dictionary);
+    let checked: Vec<Checked> = cases.iter().map(checked).collect();
     measure(&mut |side| {
-        one_round(&checked, |(found, words)| match side {
+        one_round(&checked, |checked| match side {
             Side::Library => {
-                let finding = found.as_ref().map(|_| ()).map_err(|finding| grillsonnet::Finding {
-                    number: finding.number,
-                    place: finding.place,
-                });
-                black_box(grillsonnet::print(finding, black_box(words)));
+                black_box(grillsonnet::print(checked.answer(), black_box(&checked.area)));
             }
             Side::Reference => {
-                black_box(timed::z_print(black_box(found), grillsonnet::enough(words.len())));
+                let size = grillsonnet::enough(checked.area.len());
+                black_box(timed::z_print(black_box(&checked.found), size));
             }
         })
     })

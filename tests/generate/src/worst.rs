@@ -43,6 +43,7 @@ pub fn trees() -> Vec<(&'static str, Tree)> {
         ("8 SchemaSets of 16 in a piece", schema_sets()),
         ("dictionary near 16,384 words", long_dictionary()),
         ("45,000 assignments", assignments()),
+        ("6 quantifiers, last of 31 cubed", worst_runs::last_in_each(3, 6)),
         ("forall over the power of 3", over(power(numbers(3)))),
         ("forall over 2 times 5", over(product(vec![numbers(2), numbers(5)]))),
         ("forall over 5 times 5, 55", over(product(vec![numbers(5), numbers(5)]))),
