@@ -1,4 +1,5 @@
 pub mod ParentLaws
+pub mod BitLaws
 pub mod MarkLaws
 pub mod RepeatLaws
 pub mod WritingLaws

@@ -3,12 +3,11 @@ use mathlib.Core.Path.{_≡_}
 use mathlib.Core.Bool.{true, false}
 use mathlib.Core.List.{List}
 use Prim.Native.Nat.{ℕ, _+_, _≤_, _<_}
-use lib.Dec.{eqb}
-use lib.ListN.{length, getD, set, drop}
+use lib.ListN.{length, getD, drop}
 use borrow.Author.Tests.{eq-eqb, ne-eqb}
 use Rattle.words.specs.Loops.{has}
 use Rattle.words.proofs.Lists.{drop-next, drop-done}
-use Rattle.reader_repeats.specs.Marks.{unmarked, marked, distinct, shares}
+use Rattle.reader_repeats.specs.Marks.{isFree, withMark, unmarked, marked, distinct, shares}
 
 module _ (xs : List ℕ) (i : ℕ) where
   pub has-here : (x : ℕ) → i < length xs → getD xs i 0 ≡ x → true ≡ has x (drop i xs)
@@ -23,12 +22,12 @@ module _ (xs : List ℕ) (i : ℕ) where
   unfolding has
   has-end x h = rw (drop-done xs i h)
 
-  pub unmarked-off : (seen : List ℕ) → i < length xs → eqb (getD seen (getD xs i 0) 0) 0 ≡ false → false ≡ unmarked (drop i xs) seen
+  pub unmarked-off : (seen : List ℕ) → i < length xs → isFree seen (getD xs i 0) ≡ false → false ≡ unmarked (drop i xs) seen
   unfolding unmarked
   unmarked-off seen h e = rw (drop-next xs i h, unmarked, e)
 
-  pub unmarked-go : (seen : List ℕ) → i < length xs → eqb (getD seen (getD xs i 0) 0) 0 ≡ true
-      → unmarked (drop i xs) seen ≡ unmarked (drop (i + 1) xs) (set seen (getD xs i 0) 1)
+  pub unmarked-go : (seen : List ℕ) → i < length xs → isFree seen (getD xs i 0) ≡ true
+      → unmarked (drop i xs) seen ≡ unmarked (drop (i + 1) xs) (withMark seen (getD xs i 0))
   unfolding unmarked
   unmarked-go seen h e = rw (drop-next xs i h, unmarked, e)
 
@@ -36,7 +35,7 @@ module _ (xs : List ℕ) (i : ℕ) where
   unfolding unmarked
   unmarked-end seen h = rw (drop-done xs i h)
 
-  pub marked-go : (seen : List ℕ) → i < length xs → marked (drop i xs) seen ≡ marked (drop (i + 1) xs) (set seen (getD xs i 0) 1)
+  pub marked-go : (seen : List ℕ) → i < length xs → marked (drop i xs) seen ≡ marked (drop (i + 1) xs) (withMark seen (getD xs i 0))
   unfolding marked
   marked-go seen h = rw (drop-next xs i h, marked)
 

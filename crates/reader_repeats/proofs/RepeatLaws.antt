@@ -2,16 +2,18 @@
 use mathlib.Core.Path.{_≡_, refl, sym, ap, _∙_}
 use mathlib.Core.Bool.{Bool, true, false, _&&_, _||_, not}
 use mathlib.Core.List.{List, [], _∷_, _++_, append-nil}
-use Prim.Native.Nat.{ℕ, suc, _+_, _-_, _≤_, _<_}
+use Prim.Native.Nat.{ℕ, suc, _+_, _-_, _*_, _/_, _%_, _^_, _≤_, _<_}
 use native.Mathlib.Omega.{arith}
 use native.Mathlib.Decide.{ℕ-discrete}
 use lib.Dec.{eqb}
 use lib.ListN.{length, getD, set, length-set, replicate, length-replicate, getD-replicate}
-use lib.Seq.{getD-set-same, getD-set-other}
+use lib.Bits.{bitOr}
+use native.Mathlib.Nat.{zero-div}
 use borrow.Author.Tests.{eq-eqb, ne-eqb}
 use Rattle.words.specs.Loops.{has}
 use Rattle.words.proofs.Lists.{has-append, joined-last}
-use Rattle.reader_repeats.specs.Marks.{unmarked, marked, Marks, distinct, shares}
+use Rattle.reader_repeats.proofs.BitLaws.{free-same, free-other}
+use Rattle.reader_repeats.specs.Marks.{bits, isFree, withMark, unmarked, marked, Marks, distinct, shares}
 use Rattle.reader_rules.specs.Repeats.{fresh, writtenBefore}
 
 -- ---- marks
@@ -20,25 +22,26 @@ AllBelow n [] = Unit {0}
 AllBelow n (x ∷ xs) = (x < n) × AllBelow n xs
 
 -- one mark more
-mark-more : (n x : ℕ) (seen written : List ℕ) → x < n → Marks n seen written → Marks n (set seen x 1) (x ∷ written)
-unfolding has
+mark-more : (n x : ℕ) (seen written : List ℕ) → x < n → Marks n seen written → Marks n (withMark seen x) (x ∷ written)
+unfolding has withMark
 mark-more n x seen written h m =
     record {
-      size = length-set seen x 1 ∙ m .size;
+      size = rw (length-set seen (x / bits) (bitOr (getD seen (x / bits) 0) (2 ^ (x % bits)))) (m .size);
       at = λ v l. go v l (ℕ-discrete x v);
     }
   where
-    go : (v : ℕ) → v < n → Dec (x ≡ v) → eqb (getD (set seen x 1) v 0) 0 ≡ not (eqb x v || has v written)
-    go v l (yes e) =
-        let s : x < length seen = rw (m .size) h in
-        rw (← e, getD-set-same seen x 1 0 s, eq-eqb x x refl)
-    go v l (no e) = rw (getD-set-other seen x v 1 0 (λ q. e (sym q)), ne-eqb x v e) (m .at v l)
+    inside : x / bits < length seen
+    inside = omega (arith, m .size)
+
+    go : (v : ℕ) → v < n → Dec (x ≡ v) → isFree (withMark seen x) v ≡ not (eqb x v || has v written)
+    go v l (yes e) = rw (← e, eq-eqb x x refl) (free-same seen x inside)
+    go v l (no e) = rw (ne-eqb x v e) (free-other seen x v inside e ∙ m .at v l)
 
 pub unmarked-fresh : (n : ℕ) (ids seen written : List ℕ) → AllBelow n ids → Marks n seen written → unmarked ids seen ≡ fresh written ids
 unfolding unmarked fresh
 unmarked-fresh n [] seen written b m = refl
 unmarked-fresh n (x ∷ xs) seen written b m =
-    rw (m .at x (b .0), unmarked-fresh n xs (set seen x 1) (x ∷ written) (b .1) (mark-more n x seen written (b .0) m))
+    rw (m .at x (b .0), unmarked-fresh n xs (withMark seen x) (x ∷ written) (b .1) (mark-more n x seen written (b .0) m))
 
 -- marks go by what stands in the list, not by its order
 marks-same : (n : ℕ) (seen a b : List ℕ) → ((v : ℕ) → has v a ≡ has v b) → Marks n seen a → Marks n seen b
@@ -61,16 +64,16 @@ marks-after n [] seen written b m = marks-same n seen written (written ++ []) (�
     none : (v : ℕ) → has v (written ++ []) ≡ has v written
     none v = rw append-nil
 marks-after n (x ∷ xs) seen written b m =
-    marks-same n (marked xs (set seen x 1)) ((x ∷ written) ++ xs) (written ++ (x ∷ xs)) (λ v. has-moved v x written xs)
-    (marks-after n xs (set seen x 1) (x ∷ written) (b .1) (mark-more n x seen written (b .0) m))
+    marks-same n (marked xs (withMark seen x)) ((x ∷ written) ++ xs) (written ++ (x ∷ xs)) (λ v. has-moved v x written xs)
+    (marks-after n xs (withMark seen x) (x ∷ written) (b .1) (mark-more n x seen written (b .0) m))
 
 -- no marks
-pub no-marks : (n : ℕ) → Marks n (replicate n 0) []
-unfolding has
+pub no-marks : (n : ℕ) → Marks (n * bits) (replicate n 0) []
+unfolding has isFree
 no-marks n =
     record {
-      size = length-replicate {A = ℕ} n 0;
-      at = λ v h. rw (getD-replicate {A = ℕ} n v 0 0 h);
+      size = rw (length-replicate {A = ℕ} n 0);
+      at = λ v h. rw (getD-replicate {A = ℕ} n (v / bits) 0 0 (omega arith), zero-div);
     }
 
 -- ---- writings

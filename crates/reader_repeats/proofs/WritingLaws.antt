@@ -20,7 +20,7 @@ use Rattle.reader_rules.proofs.Accepted.{Sound, Nodes, Once, some-words, least-
 use Rattle.reader_rules.proofs.Operands.{cond-same, sort-row}
 use Rattle.reader_rules.proofs.Parents.{child-place, place-child, child-lower, parent-some, parent-only, parent-most}
 use Rattle.reader_repeats.specs.Parents.{Linked}
-use Rattle.reader_repeats.specs.Marks.{unmarked, marked, Written, distinct, shares, sharedAt, identifierMarks, nameMarks}
+use Rattle.reader_repeats.specs.Marks.{unmarked, marked, Written, distinct, shares, sharedAt, bits, identifierMarks, nameMarks}
 use Rattle.reader_repeats.proofs.RepeatLaws.{AllBelow, unmarked-fresh, marks-after, no-marks, written-next, fresh-shares, fresh-distinct}
 use Rattle.reader_repeats.proofs.ParentLaws.{nodes-of}
 
@@ -260,6 +260,6 @@ module _ (doc up : List ℕ) (l : Linked doc up) (k : ℕ) (p : 1 ≤ k) (q : k 
       }
 
 -- before the first node
-pub written-none : (doc : List ℕ) → Written doc 1 (replicate identifierMarks 0) (replicate nameMarks 0)
+pub written-none : (doc : List ℕ) → Written doc 1 (replicate (identifierMarks / bits) 0) (replicate (nameMarks / bits) 0)
 unfolding joined
-written-none doc = record { globals = no-marks identifierMarks; schemas = no-marks nameMarks }
+written-none doc = record { globals = no-marks (identifierMarks / bits); schemas = no-marks (nameMarks / bits) }

@@ -2,28 +2,41 @@
 use mathlib.Core.Path.{_≡_}
 use mathlib.Core.List.{List, [], _∷_}
 use mathlib.Core.Bool.{Bool, true, false, _&&_, _||_, not}
-use Prim.Native.Nat.{ℕ, _<_}
+use Prim.Native.Nat.{ℕ, _<_, _*_, _/_, _%_, _^_}
 use lib.ListN.{length, getD, set}
 use lib.Dec.{ltb, eqb}
+use lib.Bits.{bitOr}
 use Rattle.words.specs.Loops.{has}
 use Rattle.reader_rules.specs.Kinds.{sortAt, isNodeSort}
 use Rattle.reader_rules.specs.Nodes.{kindAt}
 use Rattle.reader_rules.specs.Repeats.{declared, globals, schemas, writtenBefore}
 
+-- the marks of a place in a table of marks, a bit each
+abbrev pub bits : ℕ
+bits = 8
+
+-- the number v has no mark
+unfoldable pub isFree : List ℕ → ℕ → Bool
+isFree seen v = eqb (getD seen (v / bits) 0 / 2 ^ (v % bits) % 2) 0
+
+-- the table with a mark for v
+unfoldable pub withMark : List ℕ → ℕ → List ℕ
+withMark seen v = set seen (v / bits) (bitOr (getD seen (v / bits) 0) (2 ^ (v % bits)))
+
 -- none of the words is marked, or stands before itself
 unfoldable pub unmarked : List ℕ → List ℕ → Bool
 unmarked [] seen = true
-unmarked (x ∷ xs) seen = eqb (getD seen x 0) 0 && unmarked xs (set seen x 1)
+unmarked (x ∷ xs) seen = isFree seen x && unmarked xs (withMark seen x)
 
--- the table with a mark at each of the words
+-- the table with a mark for each of the words
 unfoldable pub marked : List ℕ → List ℕ → List ℕ
 marked [] seen = seen
-marked (x ∷ xs) seen = marked xs (set seen x 1)
+marked (x ∷ xs) seen = marked xs (withMark seen x)
 
--- a table of marks for the numbers below n; its marks stand at the numbers of the list `written`
+-- a table of marks for the numbers below n; its marks are those of the numbers of the list `written`
 pub record Marks (n : ℕ) (seen written : List ℕ) : Type 0 where
-  pub size : length seen ≡ n
-  pub at : (v : ℕ) → v < n → eqb (getD seen v 0) 0 ≡ not (has v written)
+  pub size : length seen * bits ≡ n
+  pub at : (v : ℕ) → v < n → isFree seen v ≡ not (has v written)
 
 -- a table for identifiers, and one for schema names
 abbrev pub identifierMarks : ℕ

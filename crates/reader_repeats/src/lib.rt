@@ -1,4 +1,5 @@
 // Finding 16: identifiers and schema names written twice, by the table of parents.
+use crate::marks::BITS;
 use crate::marks::are_distinct;
 use crate::marks::mark_new;
 use crate::marks::share;
@@ -31,8 +32,8 @@ ghost use Rattle.reader_rules.specs.Reading.{lowest};
 ghost use Rattle.reader_repeats.specs.Parents.{Linked};
 ghost use Rattle.reader_repeats.specs.Marks.{Written, sharedAt};
 
-// The places of the tables of marks: one for each name, and one for each identifier.
-const NAMES: usize = identifiers::LARGEST_NAME + 1;
+// The places of the tables of marks, which have a bit for each name, and one for each identifier.
+const NAMES: usize = (identifiers::LARGEST_NAME + 1) / BITS;
 
 const IDENTIFIERS: usize = identifiers::STROKES * NAMES;
 

@@ -3,19 +3,22 @@ use words::span;
 use words::word;
 ghost use mathlib.Core.Path.{_≡_};
 ghost use mathlib.Core.Bool.{true};
-ghost use lib.ListN.{getD, set};
-ghost use lib.Dec.{eqb};
 ghost use Rattle.words.specs.Loops.{has};
-ghost use Rattle.reader_repeats.specs.Marks.{unmarked, marked, distinct, shares};
+ghost use Rattle.reader_repeats.specs.Marks.{isFree, withMark, unmarked, marked, distinct, shares};
+
+// The marks of a place, a bit each.
+pub const BITS: usize = 8;
 
 // Marks i; whether it had no mark before.
 fn mark_one(seen: &mut [u8], i: usize) -> bool
-    ensures { λ r. ⌜ (r ≡ eqb (getD (now (seen .entry)) i 0) 0) × (now (seen .exit) ≡ set (now (seen .entry)) i 1) ⌝ }
+    ensures { λ r. ⌜ (r ≡ isFree (now (seen .entry)) i) × (now (seen .exit) ≡ withMark (now (seen .entry)) i) ⌝ }
 {
-    if i < seen.len() {
-        let old = seen[i];
-        seen[i] = 1;
-        return old == 0;
+    let at = i / BITS;
+    let k = (i % BITS) as u8;
+    if at < seen.len() {
+        let old = seen[at];
+        seen[at] = old | (1u8 << k);
+        return (old >> k) % 2 == 0;
     }
     true
 }

@@ -22,10 +22,10 @@ loop-holds : tie.Need-loop-holds Inv-loop μ-loop
 loop-holds c = (omega arith, omega arith, rw (add-sub-cancel, c .word .ensures .0), written-none _)
 
 slice-aggregate-repeat-number : tie.Need-slice-aggregate-repeat-number Inv-loop μ-loop
-slice-aggregate-repeat-number c = sym (c .before .before .loop .inv .3 .globals .size)
+slice-aggregate-repeat-number c = omega (arith, c .before .before .loop .inv .3 .globals .size)
 
 slice-aggregate-repeat-number-2 : tie.Need-slice-aggregate-repeat-number-2 Inv-loop μ-loop
-slice-aggregate-repeat-number-2 c = sym (c .before .before .before .loop .inv .3 .schemas .size)
+slice-aggregate-repeat-number-2 c = omega (arith, c .before .before .before .loop .inv .3 .schemas .size)
 
 repeat-number-requires : tie.Need-repeat-number-requires Inv-loop μ-loop
 repeat-number-requires c κs = ((c .before .before .before .before .before .before .before .pre, omega arith, omega (arith, c .before .before .before .before .word .ensures .0)), c .before .before .before .loop .inv .3)

@@ -1,7 +1,6 @@
 use Rattle.reader_repeats.proofs.MarkLaws.{unmarked-off, unmarked-go, unmarked-end, marked-go, marked-end}
-use Rattle.reader_repeats.specs.Marks.{unmarked, marked}
-use lib.Dec.{eqb}
-use lib.ListN.{length, getD, set, drop}
+use Rattle.reader_repeats.specs.Marks.{isFree, withMark, unmarked, marked}
+use lib.ListN.{length, getD, drop}
 use native.Mathlib.Omega.{arith}
 use Prim.Native.Nat.{_≤_, _-_}
 use mathlib.Core.Bool.{true, false, false≢true}
@@ -29,8 +28,8 @@ loop-again c =
     let l = c .before .before .before .before .before .before .before .loop in
     let w = c .before .before .before .before .word .ensures .0 in
     let m = c .before .before .before .mark-one .ensures in
-    let e : eqb (getD (l .seen) (getD (a .ids .now) (l .i) 0) 0) 0 ≡ true = rw w at (sym (m .0) ∙ c .if1 .taken) in
-    let s : c .before .before .before .mark-one .last .0 ≡ set (l .seen) (getD (a .ids .now) (l .i) 0) 1 = rw w at (m .1) in
+    let e : isFree (l .seen) (getD (a .ids .now) (l .i) 0) ≡ true = rw w at (sym (m .0) ∙ c .if1 .taken) in
+    let s : c .before .before .before .mark-one .last .0 ≡ withMark (l .seen) (getD (a .ids .now) (l .i) 0) = rw w at (m .1) in
     (omega arith, c .before .before .before .mark-one .kept .0 ∙ l .inv .1, rw s (l .inv .2 ∙ unmarked-go (a .ids .now) (l .i) (l .seen) (omega arith) e), rw s (l .inv .3 ∙ marked-go (a .ids .now) (l .i) (l .seen) (omega arith)))
 
 same-length : tie.Need-same-length Inv-loop μ-loop
@@ -41,7 +40,7 @@ returns c =
     let a = c .before .before .before .before .before .before .before .before .before .before .args in
     let l = c .before .before .before .before .before .before .before .loop in
     let m = c .before .before .before .mark-one .ensures in
-    let e : eqb (getD (l .seen) (getD (a .ids .now) (l .i) 0) 0) 0 ≡ false = rw (c .before .before .before .before .word .ensures .0) at (sym (m .0) ∙ c .if1 .left) in
+    let e : isFree (l .seen) (getD (a .ids .now) (l .i) 0) ≡ false = rw (c .before .before .before .before .word .ensures .0) at (sym (m .0) ∙ c .if1 .left) in
     (unmarked-off (a .ids .now) (l .i) (l .seen) (omega arith) e ∙ sym (l .inv .2), λ q. absurd (false≢true q))
 
 same-length-2 : tie.Need-same-length-2 Inv-loop μ-loop
