@@ -6,7 +6,7 @@ use codes::limits;
 use codes::type_tags;
 use types_instances::copy_words;
 use types_instances::wipe;
-use types_instances::write_filled;
+use types_instances::write_instance;
 use words::store;
 use words::word;
 ghost use mathlib.Core.Path.{_≡_};
@@ -122,7 +122,7 @@ fn keep_row(
         return e;
     }
     let p = word(w, r + 1);
-    let z = write_filled(a, d, p, row, w, e);
+    let z = write_instance(a, d, p, row, w, e);
     store(w, r + 1, own as u32);
     z
 }

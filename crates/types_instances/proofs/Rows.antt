@@ -13,7 +13,7 @@ use Rattle.types_cells.specs.Settled.{Reads}
 use Rattle.types_cells.proofs.Reading.{tag-at, second-at}
 use Rattle.types_instances.specs.Fill.{nthType, actualType, fillFormer, fill, fills}
 use Rattle.types_instances.specs.Filled.{Row, placeOf}
-use Rattle.types_instances.proofs.FillLaws.{fill-formed}
+use Rattle.types_instances.proofs.FillLaws.{fill-formed, fill-none}
 
 pub row-none : (H row : List ℕ) (hs : Tys) (i : ℕ) → Row H row hs → placeOf row i ≡ 0 → nthType hs i ≡ none
 unfolding placeOf nthType
@@ -23,6 +23,12 @@ row-none H (q ∷ row) tnil i R e = absurd R
 row-none H (q ∷ row) (tcons h hs) zero R e = refl
 row-none H (q ∷ row) (tcons h hs) (suc zero) R e = absurd (omega arith)
 row-none H (q ∷ row) (tcons h hs) (suc (suc i)) R e = row-none H row hs (suc i) (R .1) e
+
+-- A type with no actuals stays.
+pub none-stays : (H row : List ℕ) (hs : Tys) (g : Ty) → length row ≡ 0 → Row H row hs → fill hs g ≡ g
+none-stays H [] tnil g l R = fill-none g
+none-stays H [] (tcons h hs) g l R = absurd R
+none-stays H (q ∷ row) hs g l R = absurd (omega (arith, l))
 
 -- The i-th actual, where there is one.
 pub record Given (H : List ℕ) (hs : Tys) (i q : ℕ) : Type 0 where

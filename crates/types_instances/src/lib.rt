@@ -104,7 +104,7 @@ fn write_actual(a: &[u32], d: &[u32], p: usize, row: &[u32], out: &mut [u32], at
 }
 
 // The type at p with the actuals for its parameters, from `at` on: where it ends.
-pub fn write_filled(
+fn write_filled(
     a: &[u32],
     d: &[u32],
     p: usize,
@@ -133,6 +133,24 @@ pub fn write_filled(
         j += 1;
     }
     e
+}
+
+// The same; with no actuals the type stays, and its words are copied.
+pub fn write_instance(
+    a: &[u32],
+    d: &[u32],
+    p: usize,
+    row: &[u32],
+    out: &mut [u32],
+    at: usize,
+) -> usize
+    requires { ⌜ FillWriting (now a) (now d) p (now row) at ⌝ }
+    ensures { λ e. ⌜ FillWrote (now (a .entry)) (now (d .entry)) p (now (row .entry)) (now (out .entry)) (now (out .exit)) at e ⌝ }
+{
+    if row.len() == 0 {
+        return put_type(a, d, out, at, p);
+    }
+    write_filled(a, d, p, row, out, at)
 }
 
 // The k words of `from` at `first`, written at `at`.

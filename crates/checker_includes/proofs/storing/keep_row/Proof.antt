@@ -4,7 +4,7 @@ use Rattle.checker_includes.proofs.storing.keep_row.Statement.{statemen
 use Rattle.checker_includes.proofs.storing.keep_row.Tie as tie
 use Rattle.checker_includes.proofs.storing.keep_row.Reads as reads
 use Rattle.checker_includes.proofs.storing.keep_row.Lts as lts
-use Rattle.types_instances.proofs.write_filled.Reads as write-filled-reads
+use Rattle.types_instances.proofs.write_instance.Reads as write-instance-reads
 use Rattle.checker_signatures.proofs.tables.find.Reads as find-reads
 use Rattle.words.proofs.store.Reads as store-reads
 use Rattle.words.proofs.word.Reads as word-reads
@@ -49,8 +49,8 @@ add-word-3 c = search needs
 word-requires-3 : tie.Need-word-requires-3
 word-requires-3 c κs = search needs
 
-write-filled-requires : tie.Need-write-filled-requires
-write-filled-requires c κs = row-asked _ _ _ _ _ _ _ _ _ (c .before .before .before .before .before .before .before .before .before .before .before .pre) _ (c .before .word3 .ensures .0)
+write-instance-requires : tie.Need-write-instance-requires
+write-instance-requires c κs = row-asked _ _ _ _ _ _ _ _ _ (c .before .before .before .before .before .before .before .before .before .before .before .pre) _ (c .before .word3 .ensures .0)
 
 add-store-2 : tie.Need-add-store-2
 add-store-2 c = search needs
@@ -65,7 +65,7 @@ same-length-2 : tie.Need-same-length-2
 same-length-2 c = search needs
 
 returns-2 : tie.Need-returns-2
-returns-2 c = row-fresh _ _ _ _ _ _ _ _ _ (c .before .before .before .before .before .before .before .before .before .before .before .before .before .before .before .before .before .before .pre) _ (c .before .before .before .before .before .before .before .before .word3 .ensures .0) _ _ (c .before .before .before .before .before .before .write-filled .ensures) _ _ (c .before .before .before .before .before .before .before .before .before .before .before .before .word .ensures .0) (c .before .before .before .before .before .before .before .before .before .before .before .find .ensures) (c .before .before .before .before .before .before .before .before .before .before .if1 .left) _ (c .before .before .store2 .ensures)
+returns-2 c = row-fresh _ _ _ _ _ _ _ _ _ (c .before .before .before .before .before .before .before .before .before .before .before .before .before .before .before .before .before .before .pre) _ (c .before .before .before .before .before .before .before .before .word3 .ensures .0) _ _ (c .before .before .before .before .before .before .write-instance .ensures) _ _ (c .before .before .before .before .before .before .before .before .before .before .before .before .word .ensures .0) (c .before .before .before .before .before .before .before .before .before .before .before .find .ensures) (c .before .before .before .before .before .before .before .before .before .before .if1 .left) _ (c .before .before .store2 .ensures)
 
 pub keep-row-spec : {M : Type 1} → statement M
 keep-row-spec =
@@ -84,7 +84,7 @@ keep-row-spec =
     returns
     add-word-3
     word-requires-3
-    write-filled-requires
+    write-instance-requires
     add-store-2
     cast-store-2
     store-requires-2
