@@ -132,7 +132,7 @@ pub fn rows_small(a: &[u32], d: &[u32], w: &[u32], source: usize, k: usize, row:
     if k == 0 {
         return true;
     }
-    if limits::SIZE < filled_size(a, d, word(w, source + 1), row) {
+    if limits::SIZE < filled_size(a, d, word(w, source + 1), row).size {
         return false;
     }
     rows_small(a, d, w, source + 2, k - 1, row)

@@ -21,7 +21,7 @@ ghost use lib.ListN.{length, getD, replicate};
 ghost use lib.Seq.{sets};
 ghost use Rattle.types_cells.specs.Layout.{maxCells, firstRun, frozenSize, areaSize};
 ghost use Rattle.types_cells.specs.Store.{run};
-ghost use Rattle.types_cells.specs.Settled.{heap};
+ghost use Rattle.types_cells.specs.Settled.{heap, Ends};
 ghost use Rattle.types_solver.specs.Written.{Wrote};
 ghost use Rattle.types_instances.specs.Filled.{placeOf, Actuals, ActualSize, Filling, FilledSize, FillWriting, FillWrote};
 ghost use Rattle.types_instances.specs.Moved.{saved, restored, SaveAsk, RestoreAsk};
@@ -55,14 +55,25 @@ fn actual_size(a: &[u32], d: &[u32], row: &[u32], i: usize) -> usize
     type_size(a, d, q - 1)
 }
 
-// The size of the type at p with the actuals for its parameters, at most 33.
-pub fn filled_size(a: &[u32], d: &[u32], p: usize, row: &[u32]) -> usize
+// The size of a type, at most 33, and where its words end.
+pub struct Sized {
+    pub size: usize,
+    pub end: usize,
+}
+
+// The size of the type at p with the actuals for its parameters; the end is that of the words at p.
+pub fn filled_size(a: &[u32], d: &[u32], p: usize, row: &[u32]) -> Sized
     requires { ⌜ Filling (now a) (now d) p (now row) ⌝ }
-    ensures { λ v. ⌜ FilledSize (now (a .entry)) (now (d .entry)) p (now (row .entry)) v ⌝ }
+    ensures { λ v. ⌜ FilledSize (now (a .entry)) (now (d .entry)) p (now (row .entry)) (v .size) × Ends (now (a .entry)) (now (d .entry)) p (v .end) ⌝ }
 {
     let t = type_word(a, d, p);
     if t == type_tags::PARAMETER {
-        return actual_size(a, d, row, type_word(a, d, p + 1));
+        let becomes = actual_size(a, d, row, type_word(a, d, p + 1));
+        let past = p + PARAMETER_WORDS;
+        return Sized {
+            size: becomes,
+            end: past,
+        };
     }
     let w = name_words(t);
     let n = parts_of(a, d, t, p);
@@ -71,11 +82,12 @@ pub fn filled_size(a: &[u32], d: &[u32], p: usize, row: &[u32]) -> usize
     let mut j = 0;
     while j < n {
         let q = at + w;
-        sum = capped(sum + filled_size(a, d, q, row));
-        at = skip(a, d, q);
+        let part = filled_size(a, d, q, row);
+        sum = capped(sum + part.size);
+        at = part.end;
         j += 1;
     }
-    sum
+    Sized { size: sum, end: at }
 }
 
 // The k type words at p, from `at` on: where they end.
@@ -104,14 +116,7 @@ fn write_actual(a: &[u32], d: &[u32], p: usize, row: &[u32], out: &mut [u32], at
 }
 
 // The type at p with the actuals for its parameters, from `at` on: where it ends.
-fn write_filled(
-    a: &[u32],
-    d: &[u32],
-    p: usize,
-    row: &[u32],
-    out: &mut [u32],
-    at: usize,
-) -> usize
+fn write_filled(a: &[u32], d: &[u32], p: usize, row: &[u32], out: &mut [u32], at: usize) -> usize
     requires { ⌜ FillWriting (now a) (now d) p (now row) at ⌝ }
     ensures { λ e. ⌜ FillWrote (now (a .entry)) (now (d .entry)) p (now (row .entry)) (now (out .entry)) (now (out .exit)) at e ⌝ }
 {

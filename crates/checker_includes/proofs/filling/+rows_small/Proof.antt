@@ -40,7 +40,7 @@ rows-small-filled-size-requires : (t : ℕ) → rows-small-lts.Need-filled-size-
 rows-small-filled-size-requires t c κs = filling-of _ _ _ _ _ _ (c .before .if1 .left) (c .before .before .before .before .before .before .pre .1) _ (c .word .ensures .0)
 
 rows-small-returns-2 : (t : ℕ) → rows-small-lts.Need-returns-2 (rows-small-calls t) (rows-small-at t) rows-small.Post
-rows-small-returns-2 t c = small-stop _ _ _ _ _ _ (c .before .before .before .if1 .left) _ (c .before .before .word .ensures .0) _ (c .before .filled-size .ensures) (c .if2 .taken)
+rows-small-returns-2 t c = small-stop _ _ _ _ _ _ (c .before .before .before .before .if1 .left) _ (c .before .before .before .word .ensures .0) _ (c .before .before .filled-size .ensures .0) (c .if2 .taken)
 
 rows-small-add-rows-small : (t : ℕ) → rows-small-lts.Need-add-rows-small (rows-small-calls t) (rows-small-at t) rows-small.Post
 rows-small-add-rows-small t c = search needs
@@ -49,10 +49,10 @@ rows-small-sub-rows-small : (t : ℕ) → rows-small-lts.Need-sub-rows-small (ro
 rows-small-sub-rows-small t c = search needs
 
 rows-small-rows-small-requires : (t : ℕ) → rows-small-lts.Need-rows-small-requires (rows-small-calls t) (rows-small-at t) rows-small.Post
-rows-small-rows-small-requires t c κs = (omega (arith, c .before .before .before .before .before .before .before .before .pre .0, c .before .before .before .if1 .left), rows-fewer _ _ _ _ _ _ (c .before .before .before .if1 .left) (c .before .before .before .before .before .before .before .before .pre .1))
+rows-small-rows-small-requires t c κs = (omega (arith, c .before .before .before .before .before .before .before .before .before .pre .0, c .before .before .before .before .if1 .left), rows-fewer _ _ _ _ _ _ (c .before .before .before .before .if1 .left) (c .before .before .before .before .before .before .before .before .before .pre .1))
 
 rows-small-returns-3 : (t : ℕ) → rows-small-lts.Need-returns-3 (rows-small-calls t) (rows-small-at t) rows-small.Post
-rows-small-returns-3 t c = small-go _ _ _ _ _ _ (c .before .before .before .before .if1 .left) _ (c .before .before .before .word .ensures .0) _ (c .before .before .filled-size .ensures) (c .before .if2 .left) _ (c .rows-small .ensures)
+rows-small-returns-3 t c = small-go _ _ _ _ _ _ (c .before .before .before .before .before .if1 .left) _ (c .before .before .before .before .word .ensures .0) _ (c .before .before .before .filled-size .ensures .0) (c .before .if2 .left) _ (c .rows-small .ensures)
 
 pub +rows-small-spec : {M : Type 1} → statement M
 +rows-small-spec = close μ-rows-small λ t. rows-small-lts.spec (rows-small-calls t)
