@@ -6,7 +6,7 @@ use crate::measure::Timed;
 use crate::table::Table;
 use generate::series::Series;
 
-const PASSES: usize = 6;
+const PASSES: usize = 20;
 
 /// The factors of the series, a row for each step.
 pub fn factors(all: &[Series], calls: &[Timed]) -> Table {

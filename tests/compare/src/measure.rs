@@ -8,10 +8,13 @@ use generate::Case;
 use std::hint::black_box;
 use std::time::{Duration, Instant};
 
-/// The least time that one round takes.
-const LEAST: Duration = Duration::from_millis(30);
-/// Rounds of which the fastest counts.
-const ROUNDS: usize = 5;
+/// The least time that one round takes: short, so that some rounds fall where
+/// the machine does nothing else.
+const ROUND: Duration = Duration::from_millis(2);
+/// The least time that all rounds take, and the fewest rounds; the fastest
+/// counts.
+const ROUNDS: Duration = Duration::from_millis(300);
+const FEWEST: usize = 3;
 
 /// Microseconds a call.
 #[derive(Clone, Copy)]
@@ -60,9 +63,12 @@ impl Timed {
     pub fn times(&self, cases: &[Case]) -> Times {
         let mut times = Times { library: f64::INFINITY, reference: f64::INFINITY };
         self.rounds(cases, |round| {
-            for _ in 0..ROUNDS {
+            let start = Instant::now();
+            let mut rounds = 0;
+            while rounds < FEWEST || start.elapsed() < ROUNDS {
                 times.library = times.library.min(round(Side::Library));
                 times.reference = times.reference.min(round(Side::Reference));
+                rounds += 1;
             }
         });
         times
@@ -130,7 +136,7 @@ fn print_rounds(cases: &[Case], mut measure: impl FnMut(&mut dyn FnMut(Side) -> 
 fn one_round<T>(cases: &[T], mut turn: impl FnMut(&T)) -> f64 {
     let start = Instant::now();
     let mut turns = 0;
-    while start.elapsed() < LEAST {
+    while start.elapsed() < ROUND {
         cases.iter().for_each(&mut turn);
         turns += cases.len();
     }
