@@ -16,7 +16,7 @@ use Rattle.states.proofs.NameLaws.{document-names}
 use Rattle.evaluator_rules.specs.Outcomes.{Outcome}
 use Rattle.evaluator_rules.specs.Environment.{empty}
 use Rattle.evaluator_rules.specs.Paragraphs.{Step, onward, failed, runParagraphs, runDocument}
-use Rattle.evaluator_operations.specs.declared.worked.Worked.{Worked}
+use Rattle.evaluator_operations.specs.declared.worked.Judgement.{Judgement}
 use Rattle.evaluator_rules.specs.declared.Finding.{Finding}
 use Rattle.evaluator_rules.specs.declared.Finding.the-variants.{Holds, Fails, Refused}
 use Rattle.evaluator_operations.specs.Worked.{Told, fine, ceased}
@@ -24,7 +24,7 @@ use Rattle.evaluator_rules.specs.Run.{ending}
 use Rattle.evaluator_scope.specs.Named.{Declares}
 use Rattle.evaluator_paragraphs.specs.Paragraphs.{Stepped}
 
-module _ {y : Worked} where
+module _ {y : Judgement} where
   pub refused-finding : {o : Outcome Step} → Told (Stepped (λ s. Unit {0})) y o → (y .number ≡ 0 → ⊥) → Refused (y .number) (y .place) ≡ ending o .finding
   unfolding ending
   refused-finding (fine {a = onward s} z h) n = absurd (n z)
@@ -47,7 +47,7 @@ module _ (doc : List ℕ) (r : readOf doc ≡ Readable) where
   pub all-declared : Declares doc (namesOf (paragraphsFrom doc (count doc) 1 (length (part doc (count doc)) - 1)))
   all-declared = record { each = λ i a. rw (document-names doc r) a }
 
-  pub run-ending : (s : State) (f : Finding) {y : Worked} → ((o : Outcome Step) → Told (Stepped (λ z. Unit {0})) y o → f ≡ ending o .finding) →
+  pub run-ending : (s : State) (f : Finding) {y : Judgement} → ((o : Outcome Step) → Told (Stepped (λ z. Unit {0})) y o → f ≡ ending o .finding) →
       Told (Stepped (λ z. Unit {0})) y (runParagraphs (paragraphsFrom doc (count doc) 1 (length (part doc (count doc)) - 1)) s empty) → f ≡ ending (runDocument (treeOf doc) s) .finding
   unfolding runDocument
   run-ending s f h t = rw (document-law doc r .tree) (h _ t)

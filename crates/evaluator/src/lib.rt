@@ -2,7 +2,7 @@
 // Document 01, forms: "the run rests on the reader's promise and on nothing inside the checker".
 use codes::findings;
 use codes::limits;
-use evaluator_operations::worked::Worked;
+use evaluator_operations::worked::Judgement;
 use evaluator_rules::Finding;
 use layout::part;
 use reader_rules::Reading;
@@ -25,7 +25,7 @@ ghost use Rattle.evaluator_paragraphs.specs.Paragraphs.{Stepped};
 ghost use Rattle.evaluator.specs.RunCall.{RunCall};
 
 // What a result of the paragraphs says of the run.
-fn finding_of(y: Worked) -> Finding
+fn finding_of(y: Judgement) -> Finding
     ensures { λ r. ⌜ ((o : Outcome Step) → Told (Stepped (λ s. Unit {0})) y o → r ≡ ending o .finding) ⌝ }
 {
     if y.number != 0 {

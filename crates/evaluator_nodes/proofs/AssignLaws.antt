@@ -38,11 +38,11 @@ use Rattle.evaluator_rules.specs.Assignments.{Domains, noMore, domain, domains,
 use Rattle.evaluator_rules.specs.Rules.{evalExpr, evalPred, evalLines, overText, stopInclude}
 use Rattle.evaluator_nodes.specs.Turns.{bodyIf, bodyAt, turnAt}
 use Rattle.evaluator_operations.specs.Steps.{verdictOf}
-use Rattle.evaluator_operations.specs.declared.worked.Worked.{Worked}
-use Rattle.evaluator_operations.specs.Worked.{narrow, allNarrow, Holds, Told, fine, ceased, Valued, Judged, Flowed, Gathered, Stops}
+use Rattle.evaluator_operations.specs.declared.worked.Judgement.{Judgement}
+use Rattle.evaluator_operations.specs.Worked.{narrow, allNarrow, Holds, Told, fine, ceased, Valued, Judged, Flowed, Gathers, Grown, Stops}
 use Rattle.evaluator_scope.specs.Blocks.{field, Lies, Stored, inWork, Scoped, hidden, named, Pending, more, headed, Pushed, Leaves, headWords, blockWords}
 use Rattle.evaluator_scope.specs.Blocks as Blocks
-use Rattle.evaluator_nodes.specs.Ready.{Ready, Handed, Scoping, RestIn, joinDomains, linesThen, Assigns, AssignTold, EachTold, BodyTold, LinesTold}
+use Rattle.evaluator_nodes.specs.Ready.{Ready, Handed, Scoping, RestIn, joinDomains, linesThen, Assigns, Gathering, AssignTold, EachTold, BodyTold, LinesTold}
 use Rattle.evaluator_operations.proofs.ToldLaws.{after-told, stop-told, go-told, halt-told, at-pure, at-stop, choose-told}
 use Rattle.evaluator_operations.proofs.OperationLaws.{keep-fine, held-tag, tag-set, tag-none, narrow-head, narrow-tail}
 use Rattle.evaluator_nodes.proofs.NodeLaws.{in-words, few-words}
@@ -82,58 +82,60 @@ module _ {doc work : List ℕ} {n m k : ℕ} (h : Scoping doc work n m k) where
 
 -- ---- one assignment
 module _ (doc : List ℕ) (k a : ℕ) (x : a ≡ operandAt doc (operandAt doc k 1) 1) (scope : Environment) (vs : Values) where
-  pub turn-stop : {r : Worked} → Told Judged r (evalPred (predAt doc a) scope) → (r .number ≡ 0 → ⊥) → Told Flowed r (turnAt doc k scope vs)
+  pub turn-stop : {G : Values → Type 0} {r : Judgement} → Told Judged r (evalPred (predAt doc a) scope) → (r .number ≡ 0 → ⊥) → Told (Flowed G) r (turnAt doc k scope vs)
   unfolding turnAt
   turn-stop t z = rw (← x) (halt-told _ t z)
 
-  pub turn-true : {r s : Worked} → Told Judged r (evalPred (predAt doc a) scope) → r .number ≡ 0 → r .flag ≡ true → Told Flowed s (bodyAt doc k scope vs) → Told Flowed s (turnAt doc k scope vs)
+  pub turn-true : {G : Values → Type 0} {r s : Judgement} → Told Judged r (evalPred (predAt doc a) scope) → r .number ≡ 0 → r .flag ≡ true → Told (Flowed G) s (bodyAt doc k scope vs) →
+      Told (Flowed G) s (turnAt doc k scope vs)
   unfolding turnAt
   turn-true t z b g = rw (← x) (go-told t z (λ y j. choose-told y (λ w. g) (λ w. absurd (true≢false (sym b ∙ j .flag ∙ w)))))
 
-  pub turn-false : {r s : Worked} → Told Judged r (evalPred (predAt doc a) scope) → r .number ≡ 0 → r .flag ≡ false → s .number ≡ 0 → s .flag ≡ false → Holds (s .held) (Value.set vs) →
-      Told Flowed s (turnAt doc k scope vs)
+  pub turn-false : {G : Values → Type 0} {r s : Judgement} → Told Judged r (evalPred (predAt doc a) scope) → r .number ≡ 0 → r .flag ≡ false → s .number ≡ 0 → s .flag ≡ false → G vs →
+      Told (Flowed G) s (turnAt doc k scope vs)
   unfolding turnAt
   turn-false t z b y f g = rw (← x) (go-told t z (λ u j. choose-told u (λ w. absurd (true≢false (sym w ∙ sym (j .flag) ∙ b))) (λ w. fine y (f, g))))
 
-flow-verdict : (q : Quantifier) (b : Bool) (s : Worked) → s .flag ≡ verdictOf q b → Holds (s .held) (Value.set nil) → Flowed s (flowOf q b)
+flow-verdict : (G : Values → Type 0) (q : Quantifier) (b : Bool) (s : Judgement) → s .flag ≡ verdictOf q b → G nil → Flowed G s (flowOf q b)
 unfolding verdictOf flowOf
-flow-verdict forall true s f g = (f, g)
-flow-verdict forall false s f g = f
-flow-verdict exists true s f g = f
-flow-verdict exists false s f g = (f, g)
+flow-verdict G forall true s f g = (f, g)
+flow-verdict G forall false s f g = f
+flow-verdict G exists true s f g = f
+flow-verdict G exists false s f g = (f, g)
 
-gathered-flow : {s : Worked} {o : Outcome Values} → Told Gathered s o → (s .number ≡ 0 → s .flag ≡ false) → Told Flowed s (o >>= λ us. pure (go us))
+grown-flow : {doc : List ℕ} {k : ℕ} {u : List ℕ} {s : Judgement} {o : Outcome Values} → Told (Grown u) s o → Told (Flowed (Gathering doc k u)) s (o >>= λ us. pure (go us))
 unfolding _>>=_ after
-gathered-flow (fine {a = us} z g) f = fine {a = go us} z (f z, g .held)
-gathered-flow (ceased a b c) f = ceased a b c
+grown-flow (fine {a = us} z g) = fine {a = go us} z (g .flag, record { gathers = λ q. g .gathers })
+grown-flow (ceased a b c) = ceased a b c
 
 module _ (doc : List ℕ) (k b : ℕ) (x : b ≡ operandAt doc k 2) (scope : Environment) (vs : Values) where
-  pub gather-stop : kindAt doc k ≡ 46 → {r : Worked} → Told Valued r (evalExpr (exprAt doc b) scope) → (r .number ≡ 0 → ⊥) → Told Flowed r (bodyAt doc k scope vs)
+  pub gather-stop : {G : Values → Type 0} → kindAt doc k ≡ 46 → {h : Held} {r : Judgement} → Told (Valued h) r (evalExpr (exprAt doc b) scope) → (r .number ≡ 0 → ⊥) → Told (Flowed G) r (bodyAt doc k scope vs)
   unfolding bodyAt bodyIf
   gather-stop q t z = rw (eq-eqb (kindAt doc k) 46 q, ← x) (halt-told _ t z)
 
-  pub gather-go : kindAt doc k ≡ 46 → {r s : Worked} → Told Valued r (evalExpr (exprAt doc b) scope) → r .number ≡ 0 →
-      ((v : Value) → Holds (r .held) v → Told Gathered s (add k v vs) × (s .number ≡ 0 → s .flag ≡ false)) → Told Flowed s (bodyAt doc k scope vs)
+  pub gather-go : {u : List ℕ} → kindAt doc k ≡ 46 → {h : Held} {r s : Judgement} → Told (Valued h) r (evalExpr (exprAt doc b) scope) → r .number ≡ 0 →
+      ((v : Value) → Holds h v → Told (Grown u) s (add k v vs)) → Told (Flowed (Gathering doc k u)) s (bodyAt doc k scope vs)
   unfolding bodyAt bodyIf
-  gather-go q t z g = rw (eq-eqb (kindAt doc k) 46 q, ← x) (go-told t z (λ v j. let y = g v (j .held) in gathered-flow (y .0) (y .1)))
+  gather-go q t z g = rw (eq-eqb (kindAt doc k) 46 q, ← x) (go-told t z (λ v j. grown-flow (g v (j .held))))
 
-  pub decide-stop : (kindAt doc k ≡ 46 → ⊥) → {r : Worked} → Told Judged r (evalPred (predAt doc b) scope) → (r .number ≡ 0 → ⊥) → Told Flowed r (bodyAt doc k scope vs)
+  pub decide-stop : {G : Values → Type 0} → (kindAt doc k ≡ 46 → ⊥) → {r : Judgement} → Told Judged r (evalPred (predAt doc b) scope) → (r .number ≡ 0 → ⊥) → Told (Flowed G) r (bodyAt doc k scope vs)
   unfolding bodyAt bodyIf
   decide-stop q t z = rw (ne-eqb (kindAt doc k) 46 q, ← x) (halt-told _ t z)
 
-  pub decide-go : (kindAt doc k ≡ 46 → ⊥) → {r s : Worked} → Told Judged r (evalPred (predAt doc b) scope) → r .number ≡ 0 → s .number ≡ 0 → s .flag ≡ verdictOf (quantifierOf (kindAt doc k)) (r .flag) →
-      Holds (s .held) (Value.set nil) → Told Flowed s (bodyAt doc k scope vs)
+  pub decide-go : {u : List ℕ} → (kindAt doc k ≡ 46 → ⊥) → {r s : Judgement} → Told Judged r (evalPred (predAt doc b) scope) → r .number ≡ 0 → s .number ≡ 0 → s .flag ≡ verdictOf (quantifierOf (kindAt doc k)) (r .flag) →
+      Told (Flowed (Gathering doc k u)) s (bodyAt doc k scope vs)
   unfolding bodyAt bodyIf
-  decide-go q {r} {s} t z y f g =
-      rw (ne-eqb (kindAt doc k) 46 q, ← x) (go-told t z (λ v j. fine y (flow-verdict (quantifierOf (kindAt doc k)) v s (f ∙ ap (verdictOf (quantifierOf (kindAt doc k))) (j .flag)) g)))
+  decide-go {u} q {r} {s} t z y f =
+      rw (ne-eqb (kindAt doc k) 46 q, ← x)
+      (go-told t z (λ v j. fine y (flow-verdict (Gathering doc k u) (quantifierOf (kindAt doc k)) v s (f ∙ ap (verdictOf (quantifierOf (kindAt doc k))) (j .flag)) (record { gathers = λ e. absurd (q e) }))))
 
 -- ---- the assignments, then the verdict or the set
-truth-verdict : (q : Quantifier) (f : Flow) (r : Worked) (b : Bool) → Flowed r f → b ≡ verdictOf q (r .flag) → b ≡ truthOf q f
+truth-verdict : (G : Values → Type 0) (q : Quantifier) (f : Flow) (r : Judgement) (b : Bool) → Flowed G r f → b ≡ verdictOf q (r .flag) → b ≡ truthOf q f
 unfolding verdictOf truthOf
-truth-verdict forall (go vs) r b g e = e ∙ ap not (g .0)
-truth-verdict forall halt r b g e = e ∙ ap not g
-truth-verdict exists (go vs) r b g e = e ∙ g .0
-truth-verdict exists halt r b g e = e ∙ g
+truth-verdict G forall (go vs) r b g e = e ∙ ap not (g .0)
+truth-verdict G forall halt r b g e = e ∙ ap not g
+truth-verdict G exists (go vs) r b g e = e ∙ g .0
+truth-verdict G exists halt r b g e = e ∙ g
 
 module _ {doc work w : List ℕ} {n k : ℕ} (scope : Environment) (t : ℕ) (x : t ≡ getD w 1 0) where
   module _ (h : Handed doc work w predicates n k) (c : 28 ≤ kindAt doc k) (d : kindAt doc k ≤ 29) where
@@ -166,13 +168,13 @@ module _ {doc work w : List ℕ} {n k : ℕ} (scope : Environment) (t : ℕ) (x 
         subst (λ (j : ℕ). evalPred (predAt doc k) scope ≡ (linesThen doc k (linesFrom doc j 2 (length (part doc j) - 2)) noMore scope >>= λ f. pure (truthOf (quantifierOf (kindAt doc k)) f)))
         (sym (in-words h 1 t x)) (quant-tree ∙ ap quant-by (sym quant-body))
 
-    pub quant-stop : {r : Worked} → Told Flowed r (linesThen doc k (linesFrom doc t 2 (length (part doc t) - 2)) noMore scope) → (r .number ≡ 0 → ⊥) → Told Judged r (evalPred (predAt doc k) scope)
-    quant-stop {r} g z = subst (Told Judged r) (sym quant-lines) (halt-told _ g z)
+    pub quant-stop : {G : Values → Type 0} {r : Judgement} → Told (Flowed G) r (linesThen doc k (linesFrom doc t 2 (length (part doc t) - 2)) noMore scope) → (r .number ≡ 0 → ⊥) → Told Judged r (evalPred (predAt doc k) scope)
+    quant-stop {r = r} g z = subst (Told Judged r) (sym quant-lines) (halt-told _ g z)
 
-    pub quant-go : {r s : Worked} → Told Flowed r (linesThen doc k (linesFrom doc t 2 (length (part doc t) - 2)) noMore scope) → r .number ≡ 0 → s .number ≡ 0 →
+    pub quant-go : {G : Values → Type 0} {r s : Judgement} → Told (Flowed G) r (linesThen doc k (linesFrom doc t 2 (length (part doc t) - 2)) noMore scope) → r .number ≡ 0 → s .number ≡ 0 →
         s .flag ≡ verdictOf (quantifierOf (kindAt doc k)) (r .flag) → Told Judged s (evalPred (predAt doc k) scope)
-    quant-go {r} {s} g z y f =
-        subst (Told Judged s) (sym quant-lines) (go-told g z (λ u j. fine y (record { flag = truth-verdict (quantifierOf (kindAt doc k)) u r (s .flag) j f })))
+    quant-go {G} {r} {s} g z y f =
+        subst (Told Judged s) (sym quant-lines) (go-told g z (λ u j. fine y (record { flag = truth-verdict G (quantifierOf (kindAt doc k)) u r (s .flag) j f })))
 
   module _ (h : Handed doc work w expressions n k) (q : kindAt doc k ≡ 46) where
     pub compr-scoping : Scoping doc work n 6 k
@@ -204,17 +206,18 @@ module _ {doc work w : List ℕ} {n k : ℕ} (scope : Environment) (t : ℕ) (x 
         subst (λ (j : ℕ). evalExpr (exprAt doc k) scope ≡ (linesThen doc k (linesFrom doc j 2 (length (part doc j) - 2)) noMore scope >>= λ f. keep k (Value.set (gathered f))))
         (sym (in-words h 1 t x)) (compr-tree ∙ ap compr-by (sym compr-body))
 
-    pub compr-stop : {r : Worked} → Told Flowed r (linesThen doc k (linesFrom doc t 2 (length (part doc t) - 2)) noMore scope) → (r .number ≡ 0 → ⊥) → Told Valued r (evalExpr (exprAt doc k) scope)
-    compr-stop {r} g z = subst (Told Valued r) (sym compr-lines) (halt-told _ g z)
+    pub compr-stop : {G : Values → Type 0} {h : Held} {r : Judgement} → Told (Flowed G) r (linesThen doc k (linesFrom doc t 2 (length (part doc t) - 2)) noMore scope) → (r .number ≡ 0 → ⊥) → Told (Valued h) r (evalExpr (exprAt doc k) scope)
+    compr-stop {h = h} {r = r} g z = subst (Told (Valued h) r) (sym compr-lines) (halt-told _ g z)
 
-    keep-flow : (f : Flow) (r s : Worked) → Flowed r f → s .number ≡ 0 → (r .flag ≡ true → Holds (s .held) (Value.set nil)) → (r .flag ≡ false → s .held ≡ r .held) → Told Valued s (keep k (Value.set (gathered f)))
+    keep-flow : {u : List ℕ} {h : Held} (f : Flow) (r s : Judgement) → Flowed (Gathering doc k u) r f → s .number ≡ 0 → (r .flag ≡ true → Holds h (Value.set nil)) →
+        (r .flag ≡ false → (vs : Values) → Gathers u vs → Holds h (Value.set vs)) → Told (Valued h) s (keep k (Value.set (gathered f)))
     unfolding gathered
-    keep-flow (go vs) r s j y a b = keep-fine k (Value.set vs) s y (subst (λ (g : Held). Holds g (Value.set vs)) (sym (b (j .0))) (j .1))
+    keep-flow (go vs) r s j y a b = keep-fine k (Value.set vs) s y (b (j .0) vs (j .1 .gathers q))
     keep-flow halt r s j y a b = keep-fine k (Value.set nil) s y (a j)
 
-    pub compr-go : {r s : Worked} → Told Flowed r (linesThen doc k (linesFrom doc t 2 (length (part doc t) - 2)) noMore scope) → r .number ≡ 0 → s .number ≡ 0 →
-        (r .flag ≡ true → Holds (s .held) (Value.set nil)) → (r .flag ≡ false → s .held ≡ r .held) → Told Valued s (evalExpr (exprAt doc k) scope)
-    compr-go {r} {s} g z y a b = subst (Told Valued s) (sym compr-lines) (go-told g z (λ f j. keep-flow f r s j y a b))
+    pub compr-go : {u : List ℕ} {h : Held} {r s : Judgement} → Told (Flowed (Gathering doc k u)) r (linesThen doc k (linesFrom doc t 2 (length (part doc t) - 2)) noMore scope) → r .number ≡ 0 → s .number ≡ 0 →
+        (r .flag ≡ true → Holds h (Value.set nil)) → (r .flag ≡ false → (vs : Values) → Gathers u vs → Holds h (Value.set vs)) → Told (Valued h) s (evalExpr (exprAt doc k) scope)
+    compr-go {h = h} {r = r} {s = s} g z y a b = subst (Told (Valued h) s) (sym compr-lines) (go-told g z (λ f j. keep-flow f r s j y a b))
 
 -- the Text's identifiers are few
 pub few-declared : {doc work : List ℕ} {n m k : ℕ} → Scoping doc work n m k → (t : ℕ) → t ≡ operandAt doc k 1 → declaredCount (linesFrom doc t 2 (length (part doc t) - 2)) ≤ 6
@@ -240,16 +243,16 @@ pending-none Blocks.none = refl
 still-none : (w : List ℕ) {u : List ℕ} {b : ℕ} {ds : Domains} → Pending u b 0 ds → Pending w b 0 ds
 still-none w Blocks.none = Blocks.none
 
-pub assigns-none : (doc state before after : List ℕ) (n m k : ℕ) (s : Held) (r : Worked) → m ≡ 0 → Leaves n before after (BodyTold (turnAt doc k) state before n s r) →
-    Assigns n m before after (AssignTold doc k state before n m s r)
+pub assigns-none : (doc state before after : List ℕ) (n m k : ℕ) (s s1 : List ℕ) (r : Judgement) → m ≡ 0 → Leaves n before after (BodyTold doc k (turnAt doc k) state before n s s1 r) →
+    Assigns n m before after (AssignTold doc k state before n m s s1 r)
 unfolding assign
-assigns-none doc state before after n zero k s r e g =
+assigns-none doc state before after n zero k s s1 r e g =
     record {
       kept = g .kept;
       pends = λ ds p. still-none after p;
-      told = λ scope sc ds p vs h. subst (λ (d : Domains). Told Flowed r (assign d (turnAt doc k) scope vs)) (sym (pending-none p)) (g .told scope sc vs h);
+      told = λ scope sc ds p vs h. subst (λ (d : Domains). Told (Flowed (Gathering doc k s1)) r (assign d (turnAt doc k) scope vs)) (sym (pending-none p)) (g .told scope sc vs h);
     }
-assigns-none doc state before after n (suc m) k s r e g = absurd (omega arith)
+assigns-none doc state before after n (suc m) k s s1 r e g = absurd (omega arith)
 
 -- ---- the members of a block's set
 two-off : (n x y : ℕ) (zs L : List ℕ) → take (suc (suc n)) L ≡ x ∷ y ∷ zs → (take n (drop 2 L) ≡ zs) × (getD L 1 0 ≡ y)
@@ -270,15 +273,15 @@ rest-block w b c us l s n e =
       narrow = n;
     }
 
-pub assigns-some : (doc state before after : List ℕ) (n m k c : ℕ) (s : Held) (r : Worked) → (m ≡ 0 → ⊥) → c ≡ getD before (blockWords * n + 5) 0 →
-    Assigns n (m - 1 + 1) before after (EachTold doc k state before n (m - 1) 2 c s r) → Assigns n m before after (AssignTold doc k state before n m s r)
+pub assigns-some : (doc state before after : List ℕ) (n m k c : ℕ) (s s1 : List ℕ) (r : Judgement) → (m ≡ 0 → ⊥) → c ≡ getD before (blockWords * n + 5) 0 →
+    Assigns n (m - 1 + 1) before after (EachTold doc k state before n (m - 1) 2 c s s1 r) → Assigns n m before after (AssignTold doc k state before n m s s1 r)
 unfolding assign
-assigns-some doc state before after n zero k c s r e x g = absurd (e refl)
-assigns-some doc state before after n (suc m) k c s r e x g =
+assigns-some doc state before after n zero k c s s1 r e x g = absurd (e refl)
+assigns-some doc state before after n (suc m) k c s s1 r e x g =
     let q : suc m - 1 ≡ m = omega arith in
-    next-of (subst (λ (j : ℕ). Assigns n (j + 1) before after (EachTold doc k state before n j 2 c s r)) q g)
+    next-of (subst (λ (j : ℕ). Assigns n (j + 1) before after (EachTold doc k state before n j 2 c s s1 r)) q g)
   where
-    next-of : Assigns n (m + 1) before after (EachTold doc k state before n m 2 c s r) → Assigns n (suc m) before after (AssignTold doc k state before n (suc m) s r)
+    next-of : Assigns n (m + 1) before after (EachTold doc k state before n m 2 c s s1 r) → Assigns n (suc m) before after (AssignTold doc k state before n (suc m) s s1 r)
     next-of f =
         record {
           kept = f .kept;
@@ -286,5 +289,5 @@ assigns-some doc state before after n (suc m) k c s r e x g =
           told = λ scope sc ds p vs h. pick scope sc ds p vs h;
         }
       where
-        pick : (scope : Environment) → Scoped state before n scope → (ds : Domains) → Pending before n (suc m) ds → (vs : Values) → Holds s (Value.set vs) → Told Flowed r (assign ds (turnAt doc k) scope vs)
+        pick : (scope : Environment) → Scoped state before n scope → (ds : Domains) → Pending before n (suc m) ds → (vs : Values) → Gathering doc k s vs → Told (Flowed (Gathering doc k s1)) r (assign ds (turnAt doc k) scope vs)
         pick scope sc (domain i us ds) (more a l b d p) vs h = f .told scope sc i us ds (more a l b d p) us (rest-block before n c us l b d x) vs h

@@ -16,34 +16,34 @@ use Rattle.evaluator_rules.specs.Outcomes.{Outcome, _>>=_, pure}
 use Rattle.evaluator_rules.specs.Environment.{Environment, bind, valued}
 use Rattle.evaluator_rules.specs.Assignments.{Domains, noMore, domain, Flow, go, halt, next, each, assign}
 use Rattle.evaluator_nodes.specs.Turns.{turnAt}
-use Rattle.evaluator_operations.specs.declared.worked.Worked.{Worked}
-use Rattle.evaluator_operations.specs.Worked.{Holds, Told, fine, ceased, Flowed}
+use Rattle.evaluator_operations.specs.declared.worked.Judgement.{Judgement}
+use Rattle.evaluator_operations.specs.Worked.{Told, fine, ceased, Flowed}
 use Rattle.evaluator_scope.specs.Blocks.{field, Lies, Stored, inWork, Scoped, named, Pending, more, headed, headWords, blockWords}
-use Rattle.evaluator_nodes.specs.Ready.{RestIn, Assigns, AssignTold, EachTold}
+use Rattle.evaluator_nodes.specs.Ready.{RestIn, Assigns, Gathering, AssignTold, EachTold}
 use Rattle.evaluator_operations.proofs.ToldLaws.{go-told, halt-told}
 use Rattle.evaluator_operations.proofs.OperationLaws.{narrow-head, narrow-tail}
 use Rattle.evaluator_scope.proofs.BlockLaws.{same-word, same-part, same-less, scoped-same, pending-above, head-take, head-drop, head-name, head-class, head-place, head-length}
 use Rattle.evaluator_nodes.proofs.TestLaws.{lies-more}
 
 -- no member more
-pub each-end : (doc state work : List ℕ) (n m k at c : ℕ) (s : Held) (r : Worked) → c ≡ 0 → r .number ≡ 0 → r .flag ≡ false → r .held ≡ s →
-    Assigns n (m + 1) work work (EachTold doc k state work n m at c s r)
+pub each-end : (doc state work : List ℕ) (n m k at c : ℕ) (u : List ℕ) (r : Judgement) → c ≡ 0 → r .number ≡ 0 → r .flag ≡ false →
+    Assigns n (m + 1) work work (EachTold doc k state work n m at c u u r)
 unfolding each count
-each-end doc state work n m k at c s r e z f h =
+each-end doc state work n m k at c u r e z f =
     record { kept = refl; pends = λ ds p. p; told = λ scope sc i us ds p vs g ss hs. last i ds scope vs g ss hs }
   where
-    last : (i : ℕ) (ds : Domains) (scope : Environment) (vs : Values) → RestIn work n at c vs → (ss : Values) → Holds s (Value.set ss) →
-        Told Flowed r (each i vs (λ scope′ s′. assign ds (turnAt doc k) scope′ s′) scope ss)
-    last i ds scope nil g ss hs = fine {a = go ss} z (f, subst (λ (u : Held). Holds u (Value.set ss)) (sym h) hs)
+    last : (i : ℕ) (ds : Domains) (scope : Environment) (vs : Values) → RestIn work n at c vs → (ss : Values) → Gathering doc k u ss →
+        Told (Flowed (Gathering doc k u)) r (each i vs (λ scope′ s′. assign ds (turnAt doc k) scope′ s′) scope ss)
+    last i ds scope nil g ss hs = fine {a = go ss} z (f, hs)
     last i ds scope (cons v vs) g ss hs = let q = g .counted in absurd (omega arith)
 
 -- a place past the block: no set has a member there
-pub each-past : (doc state work : List ℕ) (n m k at c : ℕ) (s : Held) (r : Worked) → 64 < at → Assigns n (m + 1) work work (EachTold doc k state work n m at c s r)
-each-past doc state work n m k at c s r l =
+pub each-past : (doc state work : List ℕ) (n m k at c : ℕ) (u : List ℕ) (r : Judgement) → 64 < at → Assigns n (m + 1) work work (EachTold doc k state work n m at c u u r)
+each-past doc state work n m k at c u r l =
     record { kept = refl; pends = λ ds p. p; told = λ scope sc i us ds p vs g ss hs. let q = g .short in absurd (omega arith) }
 
-module _ (doc state w0 w1 w2 : List ℕ) (n m k at c here len : ℕ) (s : Held) (x : Worked) (eh : here ≡ blockWords * n + (4 + at)) (el : len ≡ span (drop here w0))
-    (e1 : w1 ≡ headed w0 n (getD w0 (blockWords * n) 0) 2 here len) (long : blockWords * (n + 1) ≤ length w0) (A : Assigns (n + 1) m w1 w2 (AssignTold doc k state w1 (n + 1) m s x)) (some : c ≡ 0 → ⊥) where
+module _ (doc state w0 w1 w2 : List ℕ) (n m k at c here len : ℕ) (s s1 : List ℕ) (x : Judgement) (eh : here ≡ blockWords * n + (4 + at)) (el : len ≡ span (drop here w0))
+    (e1 : w1 ≡ headed w0 n (getD w0 (blockWords * n) 0) 2 here len) (long : blockWords * (n + 1) ≤ length w0) (A : Assigns (n + 1) m w1 w2 (AssignTold doc k state w1 (n + 1) m s s1 x)) (some : c ≡ 0 → ⊥) where
   above4 : drop (blockWords * n + headWords) w1 ≡ drop (blockWords * n + headWords) w0
   above4 = rw e1 (head-drop w0 n (getD w0 (blockWords * n) 0) 2 here len)
 
@@ -137,33 +137,33 @@ module _ (doc state w0 w1 w2 : List ℕ) (n m k at c here len : ℕ) (s : Held) 
           narrow = narrow-tail v vs (g .narrow);
         }
 
-    next-told : (scope : Environment) → Scoped state w0 n scope → (i : ℕ) (us : Values) (ds : Domains) → Pending w0 n (suc m) (domain i us ds) → (ss : Values) → Holds s (Value.set ss) →
-        Told Flowed x (assign ds (turnAt doc k) (bind i (valued v) scope) ss)
+    next-told : (scope : Environment) → Scoped state w0 n scope → (i : ℕ) (us : Values) (ds : Domains) → Pending w0 n (suc m) (domain i us ds) → (ss : Values) → Gathering doc k s ss →
+        Told (Flowed (Gathering doc k s1)) x (assign ds (turnAt doc k) (bind i (valued v) scope) ss)
     next-told scope sc i us ds (more e l short nr p) ss hs =
         A .told (bind i (valued v) scope) (next-scoped scope sc i e) ds
         (subst (λ (j : ℕ). Pending w1 j m ds) (sym (add-one n)) (pending-above w0 w1 (blockWords * n + headWords) above4 (suc n) m (omega arith) p)) ss hs
 
   -- it stops, or ends all assignments
-  pub each-stop : (x .number ≡ 0 → ⊥) → EachTold doc k state w0 n m at c s x
+  pub each-stop : (x .number ≡ 0 → ⊥) → EachTold doc k state w0 n m at c s s1 x
   unfolding each count
   each-stop z scope sc i us ds p nil g ss hs = absurd (some (sym (g .counted)))
   each-stop z scope sc i us ds p (cons v vs) g ss hs = halt-told _ (next-told v vs g scope sc i us ds p ss hs) z
 
-  pub each-halt : x .number ≡ 0 → x .flag ≡ true → EachTold doc k state w0 n m at c s x
+  pub each-halt : x .number ≡ 0 → x .flag ≡ true → EachTold doc k state w0 n m at c s s1 x
   unfolding each next count
   each-halt z f scope sc i us ds p nil g ss hs = absurd (some (sym (g .counted)))
   each-halt z f scope sc i us ds p (cons v vs) g ss hs = go-told (next-told v vs g scope sc i us ds p ss hs) z (λ w j. ended w j)
     where
-      ended : (w : Flow) → Flowed x w → Told Flowed x (next (λ s′. each i vs (λ scope′ s″. assign ds (turnAt doc k) scope′ s″) scope s′) w)
+      ended : (w : Flow) → Flowed (Gathering doc k s1) x w → Told (Flowed (Gathering doc k s1)) x (next (λ s′. each i vs (λ scope′ s″. assign ds (turnAt doc k) scope′ s″) scope s′) w)
       ended (go us) j = absurd (true≢false (sym f ∙ j .0))
       ended halt j = fine {a = halt} z f
 
-  pub each-go : {r : Worked} → x .number ≡ 0 → x .flag ≡ false → EachTold doc k state w2 n m (at + len) (c - 1) (x .held) r → EachTold doc k state w0 n m at c s r
+  pub each-go : {s2 : List ℕ} {r : Judgement} → x .number ≡ 0 → x .flag ≡ false → EachTold doc k state w2 n m (at + len) (c - 1) s1 s2 r → EachTold doc k state w0 n m at c s s2 r
   unfolding each next count
   each-go z f more′ scope sc i us ds p nil g ss hs = absurd (some (sym (g .counted)))
-  each-go {r} z f more′ scope sc i us ds p (cons v vs) g ss hs = go-told (next-told v vs g scope sc i us ds p ss hs) z (λ w j. onward w j)
+  each-go {s2} {r} z f more′ scope sc i us ds p (cons v vs) g ss hs = go-told (next-told v vs g scope sc i us ds p ss hs) z (λ w j. onward w j)
     where
-      onward : (w : Flow) → Flowed x w → Told Flowed r (next (λ s′. each i vs (λ scope′ s″. assign ds (turnAt doc k) scope′ s″) scope s′) w)
+      onward : (w : Flow) → Flowed (Gathering doc k s1) x w → Told (Flowed (Gathering doc k s2)) r (next (λ s′. each i vs (λ scope′ s″. assign ds (turnAt doc k) scope′ s″) scope s′) w)
       onward (go us′) j =
           more′ scope (scoped-same state w0 w2 n each-kept sc) i us ds
           (subst (λ (q : ℕ). Pending w2 n q (domain i us ds)) (add-one m) (each-pends (domain i us ds) (subst (λ (q : ℕ). Pending w0 n q (domain i us ds)) (sym (add-one m)) p)))

@@ -20,7 +20,8 @@ use Rattle.reader_rules.proofs.TreePred.{pred-range, pred-truth}
 use Rattle.evaluator_rules.specs.Outcomes.{Outcome, pure, stop}
 use Rattle.evaluator_rules.specs.Environment.{Environment}
 use Rattle.evaluator_rules.specs.Rules.{evalExpr, evalPred}
-use Rattle.evaluator_operations.specs.declared.worked.Worked.{Worked}
+use Rattle.values.specs.declared.held.Held.{Held}
+use Rattle.evaluator_operations.specs.declared.worked.Judgement.{Judgement}
 use Rattle.evaluator_operations.specs.Worked.{Told, fine, Valued, Judged, Stops}
 use Rattle.evaluator_operations.proofs.ToldLaws.{stop-told}
 use Rattle.evaluator_operations.proofs.OperationLaws.{keep-fine}
@@ -84,16 +85,16 @@ unrun-kind doc k h u =
         ▹ (λ n. absurd (n .i (omega arith) (omega arith))) ▹ (λ n. absurd (n .i (omega arith) (omega arith))) ▹ (λ n. absurd (n .i (omega arith) (omega arith)))
         ▹ (λ n. absurd (n .i (omega arith) (omega arith))) ▹ (λ n. absurd (n .i (omega arith) (omega arith))) ▹ (λ n. absurd (n .h refl)) ▹ tt
 
-pub unrun-told : (doc : List ℕ) (k : ℕ) → At doc expressions k → Unrun (kindAt doc k) → (scope : Environment) {r : Worked} → Stops r 54 k → Told Valued r (evalExpr (exprAt doc k) scope)
-unrun-told doc k h u scope {r} s =
-    subst (Told Valued r) (sym (not-run (exprAt doc k) (unrun-kind doc k h u) scope ∙ ap (stop 54) (expr-node doc k h))) (stop-told s (λ z. omega arith))
+pub unrun-told : (doc : List ℕ) (k : ℕ) → At doc expressions k → Unrun (kindAt doc k) → (scope : Environment) {hr : Held} {r : Judgement} → Stops r 54 k → Told (Valued hr) r (evalExpr (exprAt doc k) scope)
+unrun-told doc k h u scope {hr} {r} s =
+    subst (Told (Valued hr) r) (sym (not-run (exprAt doc k) (unrun-kind doc k h u) scope ∙ ap (stop 54) (expr-node doc k h))) (stop-told s (λ z. omega arith))
 
-pub number-told : (doc : List ℕ) (k : ℕ) → At doc expressions k → kindAt doc k ≡ 31 → (z : ℕ) → z ≡ operandAt doc k 1 → (scope : Environment) {r : Worked} → Valued r (int (pos z)) → r .number ≡ 0 →
-    Told Valued r (evalExpr (exprAt doc k) scope)
+pub number-told : (doc : List ℕ) (k : ℕ) → At doc expressions k → kindAt doc k ≡ 31 → (z : ℕ) → z ≡ operandAt doc k 1 → (scope : Environment) {hr : Held} {r : Judgement} → Valued hr r (int (pos z)) → r .number ≡ 0 →
+    Told (Valued hr) r (evalExpr (exprAt doc k) scope)
 unfolding evalExpr
 number-told doc k h q z x scope v n = rw (expr-number doc k h q, ← x) (keep-fine k _ _ n (v .held))
 
-pub truth-told : (doc : List ℕ) (k : ℕ) → At doc predicates k → kindAt doc k ≡ 20 → (scope : Environment) {r : Worked} → r .number ≡ 0 → r .flag ≡ true → Told Judged r (evalPred (predAt doc k) scope)
+pub truth-told : (doc : List ℕ) (k : ℕ) → At doc predicates k → kindAt doc k ≡ 20 → (scope : Environment) {r : Judgement} → r .number ≡ 0 → r .flag ≡ true → Told Judged r (evalPred (predAt doc k) scope)
 unfolding evalPred
 truth-told doc k h q scope n f = rw (pred-truth doc k h q) (fine n (record { flag = f }))
 

@@ -27,11 +27,11 @@ use Rattle.evaluator_rules.specs.Operations.{asSet}
 use Rattle.evaluator_rules.specs.Assignments.{Domains, noMore, domain, domains, Flow, assign}
 use Rattle.evaluator_rules.specs.Rules.{evalExpr, evalLines, stopInclude}
 use Rattle.evaluator_nodes.specs.Turns.{turnAt}
-use Rattle.evaluator_operations.specs.declared.worked.Worked.{Worked}
+use Rattle.evaluator_operations.specs.declared.worked.Judgement.{Judgement}
 use Rattle.evaluator_operations.specs.Worked.{Holds, Told, fine, ceased, Valued, Flowed, Stops}
 use Rattle.evaluator_scope.specs.Blocks.{field, Scoped, hidden, Pending, more, Pushed, Leaves, blockWords}
 use Rattle.evaluator_scope.specs.Blocks as Blocks
-use Rattle.evaluator_nodes.specs.Ready.{Ready, Scoping, Assigns, AssignTold, LinesTold, joinDomains, linesThen}
+use Rattle.evaluator_nodes.specs.Ready.{Ready, Scoping, Assigns, Gathering, AssignTold, LinesTold, joinDomains, linesThen}
 use Rattle.evaluator_operations.proofs.ToldLaws.{after-told, stop-told, go-told, halt-told, at-pure, at-stop}
 use Rattle.evaluator_operations.proofs.OperationLaws.{held-tag, tag-set, tag-none}
 use Rattle.evaluator_scope.proofs.BlockLaws.{same-less, scoped-same, pending-same}
@@ -71,12 +71,12 @@ hide-more state w n (suc j) {scope} sc h =
     subst (λ (x : ℕ). Scoped state w x scope) z (hidden (hide-more state w n j sc (λ i p q. h i p (omega arith))) (h (n + j) (omega arith) (omega arith)))
 
 -- ---- outcomes one after the other
-told-after : {A : Type 0} {R : Worked → A → Type 0} {r : Worked} (t : List Event) (o : Outcome A) → Told R r (after t o) → Told R r o
+told-after : {A : Type 0} {R : Judgement → A → Type 0} {r : Judgement} (t : List Event) (o : Outcome A) → Told R r (after t o) → Told R r o
 unfolding after
 told-after t (done u a) (fine z h) = fine z h
 told-after t (stopped u n k) (ceased a b c) = ceased a b c
 
-assoc-told : {A B C : Type 0} {R : Worked → C → Type 0} {r : Worked} (o : Outcome A) (f : A → Outcome B) (g : B → Outcome C) → Told R r (o >>= λ a. f a >>= g) → Told R r (o >>= f >>= g)
+assoc-told : {A B C : Type 0} {R : Judgement → C → Type 0} {r : Judgement} (o : Outcome A) (f : A → Outcome B) (g : B → Outcome C) → Told R r (o >>= λ a. f a >>= g) → Told R r (o >>= f >>= g)
 unfolding _>>=_ after
 assoc-told {A} {B} {C} {R} {r} (done t a) f g h = go (f a) (told-after t (f a >>= g) h)
   where
@@ -85,34 +85,34 @@ assoc-told {A} {B} {C} {R} {r} (done t a) f g h = go (f a) (told-after t (f a >>
     go (stopped u n k) (ceased x y z) = ceased x y z
 assoc-told (stopped t n k) f g (ceased x y z) = ceased x y z
 
-stopped-same : {r : Worked} {t : List Event} {f w : ℕ} → Told Flowed r (stopped t f w) → Told Flowed r (stopped t f w)
+stopped-same : {G : Values → Type 0} {r : Judgement} {t : List Event} {f w : ℕ} → Told (Flowed G) r (stopped t f w) → Told (Flowed G) r (stopped t f w)
 stopped-same h = h
 
-join-told : (doc : List ℕ) (k : ℕ) (scope : Environment) (ds : Domains) (ids : List ℕ) (us : Values) {r : Worked} (o : Outcome Domains) →
-    Told Flowed r (o >>= λ es. assign (joinDomains (joinDomains ds (domains ids us noMore)) es) (turnAt doc k) scope nil) →
-    Told Flowed r (o >>= (λ es. pure (domains ids us es)) >>= λ es. assign (joinDomains ds es) (turnAt doc k) scope nil)
+join-told : (doc : List ℕ) (k : ℕ) (scope : Environment) (ds : Domains) (ids : List ℕ) (us : Values) {G : Values → Type 0} {r : Judgement} (o : Outcome Domains) →
+    Told (Flowed G) r (o >>= λ es. assign (joinDomains (joinDomains ds (domains ids us noMore)) es) (turnAt doc k) scope nil) →
+    Told (Flowed G) r (o >>= (λ es. pure (domains ids us es)) >>= λ es. assign (joinDomains ds es) (turnAt doc k) scope nil)
 unfolding _>>=_
-join-told doc k scope ds ids us {r} (done t es) h =
+join-told doc k scope ds ids us {G} {r} (done t es) h =
     assoc-told (done t es) (λ e. pure (domains ids us e)) (λ e. assign (joinDomains ds e) (turnAt doc k) scope nil) (after-told t (at-pure (λ e. assign (joinDomains ds e) (turnAt doc k) scope nil) (domains ids us es)
-    (subst (λ (d : Domains). Told Flowed r (assign d (turnAt doc k) scope nil)) (sym (ap (joinDomains ds) (join-domains ids us es) ∙ join-assoc ds (domains ids us noMore) es)) (told-after t (assign (joinDomains (joinDomains ds (domains ids us noMore)) es) (turnAt doc k) scope nil) h))))
+    (subst (λ (d : Domains). Told (Flowed G) r (assign d (turnAt doc k) scope nil)) (sym (ap (joinDomains ds) (join-domains ids us es) ∙ join-assoc ds (domains ids us noMore) es)) (told-after t (assign (joinDomains (joinDomains ds (domains ids us noMore)) es) (turnAt doc k) scope nil) h))))
 join-told doc k scope ds ids us (stopped t f w) h = stopped-same h
 
 -- ---- the lines from i on, before e
-module _ (doc : List ℕ) (k t e i : ℕ) (state work : List ℕ) (n m : ℕ) where
-  pub lines-done : (after′ : List ℕ) (s : Held) (r : Worked) → e ≤ i → Holds s (Value.set nil) → Assigns n m work after′ (AssignTold doc k state work n m s r) →
-      Leaves n work after′ (LinesTold doc k (linesFrom doc t i (e - i)) state work n m r)
+module _ (doc : List ℕ) (k t e i : ℕ) (state work : List ℕ) (n m : ℕ) (before′ last : List ℕ) where
+  pub lines-done : (after′ : List ℕ) (r : Judgement) → e ≤ i → Assigns n m work after′ (AssignTold doc k state work n m before′ last r) →
+      Leaves n work after′ (LinesTold doc k (linesFrom doc t i (e - i)) state work n m before′ last r)
   unfolding linesThen evalLines
-  lines-done after′ s r l h a =
+  lines-done after′ r l a =
       record {
         kept = a .kept;
-        told = λ scope sc sm ds p.
-            rw (lines-end doc t e i l) (at-pure _ noMore (subst (λ (d : Domains). Told Flowed r (assign d (turnAt doc k) scope nil)) (sym (join-none ds)) (a .told scope sc ds p nil h)));
+        told = λ scope sc sm ds p g.
+            rw (lines-end doc t e i l) (at-pure _ noMore (subst (λ (d : Domains). Told (Flowed (Gathering doc k last)) r (assign d (turnAt doc k) scope nil)) (sym (join-none ds)) (a .told scope sc ds p nil g)));
       }
 
   module _ (l : i < e) (v : ℕ) (x : v ≡ operandAt doc t i) (h : At doc lines v) where
-    pub include-told : kindAt doc v ≡ 12 → (r : Worked) → Stops r 54 v → LinesTold doc k (linesFrom doc t i (e - i)) state work n m r
+    pub include-told : kindAt doc v ≡ 12 → (r : Judgement) → Stops r 54 v → LinesTold doc k (linesFrom doc t i (e - i)) state work n m before′ last r
     unfolding linesThen evalLines stopInclude
-    include-told q r s scope sc sm ds p =
+    include-told q r s scope sc sm ds p gs =
         rw (lines-go doc t e i l, ← x, line-inclusion doc v q (linesFrom doc t (i + 1) (e - (i + 1))), include-law doc lines v h q (operandAt doc v 3) refl .tree) (at-stop _ s (λ z. omega arith))
 
     module _ (q : kindAt doc v ≡ 12 → ⊥) where
@@ -130,24 +130,24 @@ module _ (doc : List ℕ) (k t e i : ℕ) (state work : List ℕ) (n m : ℕ) wh
       decl-count = rw (decl-tree (operandAt doc v 1) refl) (ap (λ (j : ℕ). j + declaredCount (linesFrom doc t (i + 1) (e - (i + 1)))) (length-drop 2 (part doc v)))
 
       module _ (a : ℕ) (y : a ≡ operandAt doc v 1) where
-        pub decl-stop : (r : Worked) → ((scope : Environment) → Scoped state work (n + m) scope → Told Valued r (evalExpr (exprAt doc a) scope)) → (r .number ≡ 0 → ⊥) →
-            LinesTold doc k (linesFrom doc t i (e - i)) state work n m r
+        pub decl-stop : {hr : Held} (r : Judgement) → ((scope : Environment) → Scoped state work (n + m) scope → Told (Valued hr) r (evalExpr (exprAt doc a) scope)) → (r .number ≡ 0 → ⊥) →
+            LinesTold doc k (linesFrom doc t i (e - i)) state work n m before′ last r
         unfolding linesThen evalLines
-        decl-stop r g z scope sc sm ds p = rw (decl-tree a y) (assoc-told _ _ _ (halt-told _ (g scope sm) z))
+        decl-stop r g z scope sc sm ds p gs = rw (decl-tree a y) (assoc-told _ _ _ (halt-told _ (g scope sm) z))
 
-        pub decl-other : (x′ r : Worked) → ((scope : Environment) → Scoped state work (n + m) scope → Told Valued x′ (evalExpr (exprAt doc a) scope)) → x′ .number ≡ 0 →
-            (getD (x′ .held .words) 0 0 ≡ 3 → ⊥) → Stops r 51 v → LinesTold doc k (linesFrom doc t i (e - i)) state work n m r
+        pub decl-other : {hx′ : Held} (x′ r : Judgement) → ((scope : Environment) → Scoped state work (n + m) scope → Told (Valued hx′) x′ (evalExpr (exprAt doc a) scope)) → x′ .number ≡ 0 →
+            (getD (hx′ .words) 0 0 ≡ 3 → ⊥) → Stops r 51 v → LinesTold doc k (linesFrom doc t i (e - i)) state work n m before′ last r
         unfolding linesThen evalLines
-        decl-other x′ r g z b s scope sc sm ds p =
+        decl-other x′ r g z b s scope sc sm ds p gs =
             rw (decl-tree a y) (assoc-told _ _ _ (go-told (g scope sm) z (λ u j. assoc-told _ _ _ (rw (tag-none v u (λ w. b (held-tag _ u (j .held) ∙ w))) (at-stop _ s (λ w. omega arith))))))
 
-        pub decl-go : (w1 w2 : List ℕ) (x′ r : Worked) → ((scope : Environment) → Scoped state work (n + m) scope → Told Valued x′ (evalExpr (exprAt doc a) scope)) → x′ .number ≡ 0 →
-            getD (x′ .held .words) 0 0 ≡ 3 → take (blockWords * (n + m)) w1 ≡ take (blockWords * (n + m)) work →
-            Pushed w1 w2 (n + m) (length (part doc v) - 2) ((us : Values) → Holds (x′ .held) (Value.set us) → Pending w2 (n + m) (length (part doc v) - 2) (domains (drop 2 (part doc v)) us noMore)) →
-            LinesTold doc k (linesFrom doc t (i + 1) (e - (i + 1))) state w2 n (m + (length (part doc v) - 2)) r →
-            LinesTold doc k (linesFrom doc t i (e - i)) state work n m r
+        pub decl-go : (w1 w2 : List ℕ) {hx′ : Held} (x′ r : Judgement) → ((scope : Environment) → Scoped state work (n + m) scope → Told (Valued hx′) x′ (evalExpr (exprAt doc a) scope)) → x′ .number ≡ 0 →
+            getD (hx′ .words) 0 0 ≡ 3 → take (blockWords * (n + m)) w1 ≡ take (blockWords * (n + m)) work →
+            Pushed w1 w2 (n + m) (length (part doc v) - 2) ((us : Values) → Holds hx′ (Value.set us) → Pending w2 (n + m) (length (part doc v) - 2) (domains (drop 2 (part doc v)) us noMore)) →
+            LinesTold doc k (linesFrom doc t (i + 1) (e - (i + 1))) state w2 n (m + (length (part doc v) - 2)) before′ last r →
+            LinesTold doc k (linesFrom doc t i (e - i)) state work n m before′ last r
         unfolding linesThen evalLines asSet
-        decl-go w1 w2 x′ r g z b kept pushed more′ scope sc sm ds p =
+        decl-go w1 w2 {hx′} x′ r g z b kept pushed more′ scope sc sm ds p gs =
             rw (decl-tree a y) (assoc-told _ _ _ (go-told (g scope sm) z (λ u j. assoc-told _ _ _ (member u (j .held)))))
           where
             ls : Lines
@@ -170,13 +170,13 @@ module _ (doc : List ℕ) (k t e i : ℕ) (state work : List ℕ) (n m : ℕ) wh
                 let q′ : n + m + c ≡ n + (m + c) = omega arith in
                 subst (λ (y′ : ℕ). Scoped state w2 y′ scope) q′ (hide-more state w2 (n + m) c (scoped-same state work w2 (n + m) low sm) (pushed .hidden))
 
-            rest : (us : Values) → Holds (x′ .held) (Value.set us) → Told Flowed r (evalLines ls scope >>= λ es. assign (joinDomains (joinDomains ds (domains ids us noMore)) es) (turnAt doc k) scope nil)
-            rest us hs = more′ scope scoped2 scopedm (joinDomains ds (domains ids us noMore)) (pending-join w2 n m c (pending-same work w2 n m low p) (pushed .told us hs))
+            rest : (us : Values) → Holds hx′ (Value.set us) → Told (Flowed (Gathering doc k last)) r (evalLines ls scope >>= λ es. assign (joinDomains (joinDomains ds (domains ids us noMore)) es) (turnAt doc k) scope nil)
+            rest us hs = more′ scope scoped2 scopedm (joinDomains ds (domains ids us noMore)) (pending-join w2 n m c (pending-same work w2 n m low p) (pushed .told us hs)) gs
 
-            member : (u : Value) → Holds (x′ .held) u → Told Flowed r (asSet v u >>= λ us. evalLines ls scope >>= (λ es. pure (domains ids us es)) >>= λ es. assign (joinDomains ds es) (turnAt doc k) scope nil)
+            member : (u : Value) → Holds hx′ u → Told (Flowed (Gathering doc k last)) r (asSet v u >>= λ us. evalLines ls scope >>= (λ es. pure (domains ids us es)) >>= λ es. assign (joinDomains ds es) (turnAt doc k) scope nil)
             member u hu =
                 let s = tag-set v u (sym (held-tag _ u hu) ∙ b) in
-                rw (s .1) (at-pure _ (s .0) (join-told doc k scope ds ids (s .0) (evalLines ls scope) (rest (s .0) (subst (Holds (x′ .held)) (s .1) hu))))
+                rw (s .1) (at-pure _ (s .0) (join-told doc k scope ds ids (s .0) (evalLines ls scope) (rest (s .0) (subst (Holds hx′) (s .1) hu))))
 
 -- the expression of a Decl, with m blocks above those in scope
 pub line-ready : {doc work : List ℕ} {n k : ℕ} (h : Scoping doc work n 6 k) (m t v a : ℕ) → m ≤ 6 → t ≡ operandAt doc k 1 → Lower doc t lines v → Lower doc v expressions a →

@@ -35,7 +35,7 @@ use Rattle.evaluator_rules.specs.Environment.{Environment, lookup, refer, hasAc
 use Rattle.evaluator_rules.specs.Operations.{add, connect}
 use Rattle.evaluator_rules.specs.Rules.{evalExpr, evalExprs, evalMembers, evalPred, test}
 use Rattle.evaluator_operations.specs.Steps.{arithmeticOf, atMostOf, imageOf, decisionOf}
-use Rattle.evaluator_operations.specs.declared.worked.Worked.{Worked}
+use Rattle.evaluator_operations.specs.declared.worked.Judgement.{Judgement}
 use Rattle.evaluator_operations.specs.Worked.{narrow, allNarrow, Holds, Told, fine, ceased, Valued, Judged, Gathered, Joined}
 use Rattle.evaluator_nodes.specs.Ready.{Ready, Handed, Operands}
 use Rattle.evaluator_operations.proofs.ToldLaws.{after-told, stop-told, go-told, halt-told, at-pure}
@@ -70,51 +70,51 @@ few-words doc s k h = omega (arith, at-most doc s k h, small-rows (kindAt doc k)
 
 -- ---- expressions one after the other
 -- one stops, whatever is to be told of their values
-pub exprs-stop : {R : Worked → Values → Type 0} (doc : List ℕ) (k e i : ℕ) (scope : Environment) {r : Worked} (a : ℕ) → a ≡ operandAt doc k i → i < e → Told Valued r (evalExpr (exprAt doc a) scope) → (r .number ≡ 0 → ⊥) →
+pub exprs-stop : {R : Judgement → Values → Type 0} (doc : List ℕ) (k e i : ℕ) (scope : Environment) {hr : Held} {r : Judgement} (a : ℕ) → a ≡ operandAt doc k i → i < e → Told (Valued hr) r (evalExpr (exprAt doc a) scope) → (r .number ≡ 0 → ⊥) →
     Told R r (evalExprs (exprsFrom doc k i (e - i)) scope)
 unfolding evalExprs
 exprs-stop doc k e i scope a x h t z = rw (exprs-go doc k e i h, ← x) (halt-told _ t z)
 
 module _ (doc : List ℕ) (k e i : ℕ) (scope : Environment) (ws : List ℕ) where
-  pub parts-end : {r : Worked} {s : Held} → e ≤ i → r .number ≡ 0 → r .held ≡ s → s ≡ words ws → Told (Joined ws (e - i)) r (evalExprs (exprsFrom doc k i (e - i)) scope)
+  pub parts-end : {hr : Held} {r : Judgement} {s : Held} → e ≤ i → r .number ≡ 0 → hr ≡ s → s ≡ words ws → Told (Joined ws (e - i) hr) r (evalExprs (exprsFrom doc k i (e - i)) scope)
   unfolding evalExprs narrow Value.count encodes
   parts-end h z a b =
       let m : 0 ≡ e - i = omega arith in
       rw (exprs-end doc k e i h) (fine z (record { counted = m; words = a ∙ b ∙ ap words (sym (append-nil ws)); narrow = refl }))
 
-  more-joined : {r : Worked} (v : Value) {o : Outcome Values} → narrow v ≡ true → i < e → Told (Joined (ws ++ encode v) (e - (i + 1))) r o → Told (Joined ws (e - i)) r (o >>= λ vs. pure (cons v vs))
+  more-joined : {hr : Held} {r : Judgement} (v : Value) {o : Outcome Values} → narrow v ≡ true → i < e → Told (Joined (ws ++ encode v) (e - (i + 1)) hr) r o → Told (Joined ws (e - i) hr) r (o >>= λ vs. pure (cons v vs))
   unfolding _>>=_ Outcomes.after encodes Value.count
   more-joined v n h (fine {a = a} z j) =
       let m = j .counted in
       fine {a = cons v a} z (record { counted = omega arith; words = j .words ∙ ap words (append-assoc ws (encode v) (encodes a)); narrow = narrow-cons v a n (j .narrow) })
   more-joined v n h (ceased a b c) = ceased a b c
 
-  pub parts-go : {x r : Worked} (a : ℕ) → a ≡ operandAt doc k i → i < e → Told Valued x (evalExpr (exprAt doc a) scope) → x .number ≡ 0 →
-      ((v : Value) → Holds (x .held) v → Told (Joined (ws ++ encode v) (e - (i + 1))) r (evalExprs (exprsFrom doc k (i + 1) (e - (i + 1))) scope)) →
-      Told (Joined ws (e - i)) r (evalExprs (exprsFrom doc k i (e - i)) scope)
+  pub parts-go : {hx hr : Held} {x r : Judgement} (a : ℕ) → a ≡ operandAt doc k i → i < e → Told (Valued hx) x (evalExpr (exprAt doc a) scope) → x .number ≡ 0 →
+      ((v : Value) → Holds hx v → Told (Joined (ws ++ encode v) (e - (i + 1)) hr) r (evalExprs (exprsFrom doc k (i + 1) (e - (i + 1))) scope)) →
+      Told (Joined ws (e - i) hr) r (evalExprs (exprsFrom doc k i (e - i)) scope)
   unfolding evalExprs
   parts-go a x h t z g = rw (exprs-go doc k e i h, ← x) (go-told t z (λ v j. more-joined v (j .held .narrow) h (g v (j .held))))
 
 -- ---- members, each added as it is worked out
 module _ (doc : List ℕ) (k e i : ℕ) (scope : Environment) (vs : Values) where
-  pub adds-end : {r : Worked} → e ≤ i → r .number ≡ 0 → Holds (r .held) (Value.set vs) → Told Gathered r (evalMembers (exprsFrom doc k i (e - i)) k scope vs)
+  pub adds-end : {hr : Held} {r : Judgement} → e ≤ i → r .number ≡ 0 → Holds hr (Value.set vs) → Told (Gathered hr) r (evalMembers (exprsFrom doc k i (e - i)) k scope vs)
   unfolding evalMembers
   adds-end h z g = rw (exprs-end doc k e i h) (fine z (record { held = g }))
 
-  pub adds-stop : {r : Worked} (a : ℕ) → a ≡ operandAt doc k i → i < e → Told Valued r (evalExpr (exprAt doc a) scope) → (r .number ≡ 0 → ⊥) →
-      Told Gathered r (evalMembers (exprsFrom doc k i (e - i)) k scope vs)
+  pub adds-stop : {hr : Held} {r : Judgement} (a : ℕ) → a ≡ operandAt doc k i → i < e → Told (Valued hr) r (evalExpr (exprAt doc a) scope) → (r .number ≡ 0 → ⊥) →
+      Told (Gathered hr) r (evalMembers (exprsFrom doc k i (e - i)) k scope vs)
   unfolding evalMembers
   adds-stop a x h t z = rw (exprs-go doc k e i h, ← x) (halt-told _ t z)
 
-  pub adds-over : {x r : Worked} (a : ℕ) → a ≡ operandAt doc k i → i < e → Told Valued x (evalExpr (exprAt doc a) scope) → x .number ≡ 0 →
-      ((v : Value) → Holds (x .held) v → Told Gathered r (add k v vs)) → (r .number ≡ 0 → ⊥) → Told Gathered r (evalMembers (exprsFrom doc k i (e - i)) k scope vs)
+  pub adds-over : {hx hr : Held} {x r : Judgement} (a : ℕ) → a ≡ operandAt doc k i → i < e → Told (Valued hx) x (evalExpr (exprAt doc a) scope) → x .number ≡ 0 →
+      ((v : Value) → Holds hx v → Told (Gathered hr) r (add k v vs)) → (r .number ≡ 0 → ⊥) → Told (Gathered hr) r (evalMembers (exprsFrom doc k i (e - i)) k scope vs)
   unfolding evalMembers
   adds-over a x h t z g y = rw (exprs-go doc k e i h, ← x) (go-told t z (λ v j. halt-told _ (g v (j .held)) y))
 
-  pub adds-go : {x y r : Worked} (a : ℕ) → a ≡ operandAt doc k i → i < e → Told Valued x (evalExpr (exprAt doc a) scope) → x .number ≡ 0 →
-      ((v : Value) → Holds (x .held) v → Told Gathered y (add k v vs)) → y .number ≡ 0 →
-      ((us : Values) → Holds (y .held) (Value.set us) → Told Gathered r (evalMembers (exprsFrom doc k (i + 1) (e - (i + 1))) k scope us)) →
-      Told Gathered r (evalMembers (exprsFrom doc k i (e - i)) k scope vs)
+  pub adds-go : {hx hy hr : Held} {x y r : Judgement} (a : ℕ) → a ≡ operandAt doc k i → i < e → Told (Valued hx) x (evalExpr (exprAt doc a) scope) → x .number ≡ 0 →
+      ((v : Value) → Holds hx v → Told (Gathered hy) y (add k v vs)) → y .number ≡ 0 →
+      ((us : Values) → Holds hy (Value.set us) → Told (Gathered hr) r (evalMembers (exprsFrom doc k (i + 1) (e - (i + 1))) k scope us)) →
+      Told (Gathered hr) r (evalMembers (exprsFrom doc k i (e - i)) k scope vs)
   unfolding evalMembers
   adds-go a x h t z g y m = rw (exprs-go doc k e i h, ← x) (go-told t z (λ v j. go-told (g v (j .held)) y (λ us q. m us (q .held))))
 
@@ -125,7 +125,7 @@ handed-same u e h = record { ready = ready-same u e (h .ready); words = h .words
 pub in-words : {doc work w : List ℕ} {s n k : ℕ} → Handed doc work w s n k → (i v : ℕ) → v ≡ getD w i 0 → v ≡ operandAt doc k i
 in-words h i v e = e ∙ ap (λ (l : List ℕ). getD l i 0) (h .words)
 
-pub kept-set : (k : ℕ) {r : Worked} {o : Outcome Values} → Told Gathered r o → Told Valued r (o >>= λ vs. keep k (Value.set vs))
+pub kept-set : (k : ℕ) {hr : Held} {r : Judgement} {o : Outcome Values} → Told (Gathered hr) r o → Told (Valued hr) r (o >>= λ vs. keep k (Value.set vs))
 unfolding _>>=_
 kept-set k (fine {t} z g) = after-told t (keep-fine k _ _ z (g .held))
 kept-set k (ceased a b c) = ceased a b c
@@ -140,13 +140,13 @@ module _ {doc work w : List ℕ} {n k : ℕ} (h : Handed doc work w expressions 
     reference-tree : exprAt doc k ≡ reference k (getD w 1 0) (exprsFrom doc k 2 (length w - 2))
     reference-tree = rw (h .words) (expr-reference doc k (h .ready .at) q .tree)
 
-    pub reference-stop : (scope : Environment) {ws : List ℕ} {m : ℕ} {r : Worked} → Told (Joined ws m) r (evalExprs (exprsFrom doc k 2 (length w - 2)) scope) → (r .number ≡ 0 → ⊥) →
-        Told Valued r (evalExpr (exprAt doc k) scope)
+    pub reference-stop : (scope : Environment) {ws : List ℕ} {m : ℕ} {hr : Held} {r : Judgement} → Told (Joined ws m hr) r (evalExprs (exprsFrom doc k 2 (length w - 2)) scope) → (r .number ≡ 0 → ⊥) →
+        Told (Valued hr) r (evalExpr (exprAt doc k) scope)
     unfolding evalExpr
     reference-stop scope t z = rw reference-tree (halt-told _ t z)
 
-    pub reference-go : (scope : Environment) {ws : List ℕ} {m : ℕ} {r s : Worked} → Told (Joined ws m) r (evalExprs (exprsFrom doc k 2 (length w - 2)) scope) → r .number ≡ 0 →
-        Told Valued s (refer k (exprsFrom doc k 2 (length w - 2)) (lookup (getD w 1 0) scope)) → Told Valued s (evalExpr (exprAt doc k) scope)
+    pub reference-go : (scope : Environment) {ws : List ℕ} {m : ℕ} {hr hs : Held} {r s : Judgement} → Told (Joined ws m hr) r (evalExprs (exprsFrom doc k 2 (length w - 2)) scope) → r .number ≡ 0 →
+        Told (Valued hs) s (refer k (exprsFrom doc k 2 (length w - 2)) (lookup (getD w 1 0) scope)) → Told (Valued hs) s (evalExpr (exprAt doc k) scope)
     unfolding evalExpr
     reference-go scope t z g = rw reference-tree (go-told t z (λ vs j. g))
 
@@ -160,9 +160,9 @@ module _ {doc work w : List ℕ} {n k : ℕ} (h : Handed doc work w expressions 
       unfolding hasActuals
       no-actuals = sym (ap hasActuals (exprs-end doc k (length w) 2 l))
 
-      pub reference-plain : {s : Worked} → Told Valued s (refer k (exprsFrom doc k 2 (length w - 2)) (lookup (getD w 1 0) scope)) → Told Valued s (evalExpr (exprAt doc k) scope)
+      pub reference-plain : {hs : Held} {s : Judgement} → Told (Valued hs) s (refer k (exprsFrom doc k 2 (length w - 2)) (lookup (getD w 1 0) scope)) → Told (Valued hs) s (evalExpr (exprAt doc k) scope)
       unfolding evalExpr evalExprs
-      reference-plain {s} g = rw reference-tree (subst (λ (xs : Exprs). Told Valued s (evalExprs xs scope >>= λ vs. refer k (exprsFrom doc k 2 (length w - 2)) (lookup (getD w 1 0) scope))) (sym (exprs-end doc k (length w) 2 l)) (at-pure _ _ g))
+      reference-plain {hs} {s} g = rw reference-tree (subst (λ (xs : Exprs). Told (Valued hs) s (evalExprs xs scope >>= λ vs. refer k (exprsFrom doc k 2 (length w - 2)) (lookup (getD w 1 0) scope))) (sym (exprs-end doc k (length w) 2 l)) (at-pure _ _ g))
 
   -- 33 Set, 34 Tuple, 35 Product
   pub member-operands : (q : ℕ) → kindAt doc k ≡ q → 33 ≤ q → q ≤ 35 → Operands doc w k expressions 1
@@ -173,17 +173,17 @@ module _ {doc work w : List ℕ} {n k : ℕ} (h : Handed doc work w expressions 
   pub members-tree : (q : ℕ) → kindAt doc k ≡ q → 33 ≤ q → q ≤ 35 → exprAt doc k ≡ membersOf q k (exprsFrom doc k 1 (length w - 1))
   members-tree q e a b = rw (h .words) (expr-members doc k (h .ready .at) q e a b .tree)
 
-  pub set-told : kindAt doc k ≡ 33 → (scope : Environment) {r : Worked} → Told Gathered r (evalMembers (exprsFrom doc k 1 (length w - 1)) k scope nil) → Told Valued r (evalExpr (exprAt doc k) scope)
+  pub set-told : kindAt doc k ≡ 33 → (scope : Environment) {hr : Held} {r : Judgement} → Told (Gathered hr) r (evalMembers (exprsFrom doc k 1 (length w - 1)) k scope nil) → Told (Valued hr) r (evalExpr (exprAt doc k) scope)
   unfolding evalExpr
   set-told q scope t = rw (members-tree 33 q (omega arith) (omega arith)) (kept-set k t)
 
-  pub tuple-stop : kindAt doc k ≡ 34 → (scope : Environment) {ws : List ℕ} {m : ℕ} {r : Worked} → Told (Joined ws m) r (evalExprs (exprsFrom doc k 1 (length w - 1)) scope) → (r .number ≡ 0 → ⊥) →
-      Told Valued r (evalExpr (exprAt doc k) scope)
+  pub tuple-stop : kindAt doc k ≡ 34 → (scope : Environment) {ws : List ℕ} {m : ℕ} {hr : Held} {r : Judgement} → Told (Joined ws m hr) r (evalExprs (exprsFrom doc k 1 (length w - 1)) scope) → (r .number ≡ 0 → ⊥) →
+      Told (Valued hr) r (evalExpr (exprAt doc k) scope)
   unfolding evalExpr
   tuple-stop q scope t z = rw (members-tree 34 q (omega arith) (omega arith)) (halt-told _ t z)
 
-  pub tuple-go : kindAt doc k ≡ 34 → (scope : Environment) {r s : Worked} → Told (Joined (4 ∷ (length w - 1) ∷ []) (length w - 1)) r (evalExprs (exprsFrom doc k 1 (length w - 1)) scope) → r .number ≡ 0 →
-      ((v : Value) → r .held ≡ words (encode v) → narrow v ≡ true → Told Valued s (keep k v)) → Told Valued s (evalExpr (exprAt doc k) scope)
+  pub tuple-go : kindAt doc k ≡ 34 → (scope : Environment) {hr hs : Held} {r s : Judgement} → Told (Joined (4 ∷ (length w - 1) ∷ []) (length w - 1) hr) r (evalExprs (exprsFrom doc k 1 (length w - 1)) scope) → r .number ≡ 0 →
+      ((v : Value) → hr ≡ words (encode v) → narrow v ≡ true → Told (Valued hs) s (keep k v)) → Told (Valued hs) s (evalExpr (exprAt doc k) scope)
   unfolding evalExpr encode narrow
   tuple-go q scope t z g =
       rw (members-tree 34 q (omega arith) (omega arith))
@@ -194,14 +194,14 @@ module _ {doc work w : List ℕ} {n k : ℕ} (h : Handed doc work w expressions 
     pub apply-operands : kindAt doc k ≡ 37 → Lower doc k expressions a × Lower doc k expressions b
     apply-operands q = let l = expr-application doc k (h .ready .at) q a b (in-words h 1 a x) (in-words h 2 b y) in (l .left, l .right)
 
-    pub apply-told : kindAt doc k ≡ 37 → (scope : Environment) → {s : Worked} → Told Valued s (evalExpr (exprAt doc a) scope >>= λ u. evalExpr (exprAt doc b) scope >>= λ v. imageOf k u v) → Told Valued s (evalExpr (exprAt doc k) scope)
+    pub apply-told : kindAt doc k ≡ 37 → (scope : Environment) → {hs : Held} {s : Judgement} → Told (Valued hs) s (evalExpr (exprAt doc a) scope >>= λ u. evalExpr (exprAt doc b) scope >>= λ v. imageOf k u v) → Told (Valued hs) s (evalExpr (exprAt doc k) scope)
     unfolding evalExpr imageOf
     apply-told q scope t = rw (expr-application doc k (h .ready .at) q a b (in-words h 1 a x) (in-words h 2 b y) .tree) t
 
     pub arith-operands : 41 ≤ kindAt doc k → kindAt doc k ≤ 45 → Lower doc k expressions a × Lower doc k expressions b
     arith-operands c d = let l = expr-arithmetic doc k (h .ready .at) (kindAt doc k) refl c d a b (in-words h 1 a x) (in-words h 2 b y) in (l .left, l .right)
 
-    pub arith-told : 41 ≤ kindAt doc k → kindAt doc k ≤ 45 → (scope : Environment) → {s : Worked} → Told Valued s (evalExpr (exprAt doc a) scope >>= λ u. evalExpr (exprAt doc b) scope >>= λ v. arithmeticOf k (kindAt doc k) u v) → Told Valued s (evalExpr (exprAt doc k) scope)
+    pub arith-told : 41 ≤ kindAt doc k → kindAt doc k ≤ 45 → (scope : Environment) → {hs : Held} {s : Judgement} → Told (Valued hs) s (evalExpr (exprAt doc a) scope >>= λ u. evalExpr (exprAt doc b) scope >>= λ v. arithmeticOf k (kindAt doc k) u v) → Told (Valued hs) s (evalExpr (exprAt doc k) scope)
     unfolding evalExpr arithmeticOf
     arith-told c d scope t = rw (expr-arithmetic doc k (h .ready .at) (kindAt doc k) refl c d a b (in-words h 1 a x) (in-words h 2 b y) .tree) t
 
@@ -222,20 +222,20 @@ module _ {doc work w : List ℕ} {n k : ℕ} (h : Handed doc work w predicates n
     relation-tree = pred-relation doc k (h .ready .at) q e c d a b (in-words h 1 a x) (in-words h 2 b y) .tree
 
   module _ (a b : ℕ) (x : a ≡ getD w 1 0) (y : b ≡ getD w 2 0) (scope : Environment) where
-    pub equal-told : kindAt doc k ≡ 21 → {s : Worked} → Told Judged s (evalExpr (exprAt doc a) scope >>= λ u. evalExpr (exprAt doc b) scope >>= λ v. pure (sameValue u v)) → Told Judged s (evalPred (predAt doc k) scope)
+    pub equal-told : kindAt doc k ≡ 21 → {s : Judgement} → Told Judged s (evalExpr (exprAt doc a) scope >>= λ u. evalExpr (exprAt doc b) scope >>= λ v. pure (sameValue u v)) → Told Judged s (evalPred (predAt doc k) scope)
     unfolding evalPred
     equal-told q t = rw (relation-tree 21 q (omega arith) (omega arith) a b x y) t
 
-    pub below-told : kindAt doc k ≡ 23 → {s : Worked} → Told Judged s (evalExpr (exprAt doc a) scope >>= λ u. evalExpr (exprAt doc b) scope >>= λ v. atMostOf k u v) → Told Judged s (evalPred (predAt doc k) scope)
+    pub below-told : kindAt doc k ≡ 23 → {s : Judgement} → Told Judged s (evalExpr (exprAt doc a) scope >>= λ u. evalExpr (exprAt doc b) scope >>= λ v. atMostOf k u v) → Told Judged s (evalPred (predAt doc k) scope)
     unfolding evalPred atMostOf
     below-told q t = rw (relation-tree 23 q (omega arith) (omega arith) a b x y) t
 
-    pub member-stop : kindAt doc k ≡ 22 → {r : Worked} → Told Valued r (evalExpr (exprAt doc a) scope) → (r .number ≡ 0 → ⊥) → Told Judged r (evalPred (predAt doc k) scope)
+    pub member-stop : kindAt doc k ≡ 22 → {hr : Held} {r : Judgement} → Told (Valued hr) r (evalExpr (exprAt doc a) scope) → (r .number ≡ 0 → ⊥) → Told Judged r (evalPred (predAt doc k) scope)
     unfolding evalPred
     member-stop q t z = rw (relation-tree 22 q (omega arith) (omega arith) a b x y) (halt-told _ t z)
 
-    pub member-go : kindAt doc k ≡ 22 → {r s : Worked} → Told Valued r (evalExpr (exprAt doc a) scope) → r .number ≡ 0 →
-        ((v : Value) → Holds (r .held) v → Told Judged s (test (exprAt doc b) scope v)) → Told Judged s (evalPred (predAt doc k) scope)
+    pub member-go : kindAt doc k ≡ 22 → {hr : Held} {r s : Judgement} → Told (Valued hr) r (evalExpr (exprAt doc a) scope) → r .number ≡ 0 →
+        ((v : Value) → Holds hr v → Told Judged s (test (exprAt doc b) scope v)) → Told Judged s (evalPred (predAt doc k) scope)
     unfolding evalPred
     member-go q t z g = rw (relation-tree 22 q (omega arith) (omega arith) a b x y) (go-told t z (λ v j. g v (j .held)))
 
@@ -244,11 +244,11 @@ module _ {doc work w : List ℕ} {n k : ℕ} (h : Handed doc work w predicates n
     pub not-operand : Lower doc k predicates a
     not-operand = pred-not doc k (h .ready .at) q a (in-words h 1 a x) .first
 
-    pub not-stop : (scope : Environment) {r : Worked} → Told Judged r (evalPred (predAt doc a) scope) → (r .number ≡ 0 → ⊥) → Told Judged r (evalPred (predAt doc k) scope)
+    pub not-stop : (scope : Environment) {r : Judgement} → Told Judged r (evalPred (predAt doc a) scope) → (r .number ≡ 0 → ⊥) → Told Judged r (evalPred (predAt doc k) scope)
     unfolding evalPred
     not-stop scope t z = rw (pred-not doc k (h .ready .at) q a (in-words h 1 a x) .tree) (halt-told _ t z)
 
-    pub not-go : (scope : Environment) {r s : Worked} (b : Bool) → Told Judged r (evalPred (predAt doc a) scope) → r .number ≡ 0 → r .flag ≡ b → s .number ≡ 0 → s .flag ≡ not b →
+    pub not-go : (scope : Environment) {r s : Judgement} (b : Bool) → Told Judged r (evalPred (predAt doc a) scope) → r .number ≡ 0 → r .flag ≡ b → s .number ≡ 0 → s .flag ≡ not b →
         Told Judged s (evalPred (predAt doc k) scope)
     unfolding evalPred
     not-go scope b t z f y g = rw (pred-not doc k (h .ready .at) q a (in-words h 1 a x) .tree) (go-told t z (λ v j. fine y (record { flag = g ∙ ap not (sym f ∙ j .flag) })))
@@ -261,11 +261,11 @@ module _ {doc work w : List ℕ} {n k : ℕ} (h : Handed doc work w predicates n
     connected-tree : predAt doc k ≡ connected k (connectiveOf (kindAt doc k)) (predAt doc a) (predAt doc b)
     connected-tree = pred-connected doc k (h .ready .at) (kindAt doc k) refl c d a b (in-words h 1 a x) (in-words h 2 b y) .tree
 
-    pub connected-stop : (scope : Environment) {r : Worked} → Told Judged r (evalPred (predAt doc a) scope) → (r .number ≡ 0 → ⊥) → Told Judged r (evalPred (predAt doc k) scope)
+    pub connected-stop : (scope : Environment) {r : Judgement} → Told Judged r (evalPred (predAt doc a) scope) → (r .number ≡ 0 → ⊥) → Told Judged r (evalPred (predAt doc k) scope)
     unfolding evalPred
     connected-stop scope t z = rw connected-tree (halt-told _ t z)
 
-    known-told : (o : Connective) (l b : Bool) (right : Unit {0} → Outcome Bool) {s : Worked} → Known b ≡ decisionOf o l → s .number ≡ 0 → s .flag ≡ b → Told Judged s (connect o l right)
+    known-told : (o : Connective) (l b : Bool) (right : Unit {0} → Outcome Bool) {s : Judgement} → Known b ≡ decisionOf o l → s .number ≡ 0 → s .flag ≡ b → Told Judged s (connect o l right)
     unfolding decisionOf connect
     known-told and true b right e z f = let q : _≡_ {A = ℕ} 0 1 = cc in absurd (omega arith)
     known-told and false b right e z f = let q : b ≡ false = cc in fine z (record { flag = f ∙ q })
@@ -274,7 +274,7 @@ module _ {doc work w : List ℕ} {n k : ℕ} (h : Handed doc work w predicates n
     known-told implies true b right e z f = let q : _≡_ {A = ℕ} 0 1 = cc in absurd (omega arith)
     known-told implies false b right e z f = let q : b ≡ true = cc in fine z (record { flag = f ∙ q })
 
-    right-told : (o : Connective) (l : Bool) (right : Unit {0} → Outcome Bool) {s : Worked} → Right ≡ decisionOf o l → Told Judged s (right tt) → Told Judged s (connect o l right)
+    right-told : (o : Connective) (l : Bool) (right : Unit {0} → Outcome Bool) {s : Judgement} → Right ≡ decisionOf o l → Told Judged s (right tt) → Told Judged s (connect o l right)
     unfolding decisionOf connect
     right-told and true right e t = t
     right-told and false right e t = let q : _≡_ {A = ℕ} 0 1 = cc in absurd (omega arith)
@@ -283,12 +283,12 @@ module _ {doc work w : List ℕ} {n k : ℕ} (h : Handed doc work w predicates n
     right-told implies true right e t = t
     right-told implies false right e t = let q : _≡_ {A = ℕ} 0 1 = cc in absurd (omega arith)
 
-    pub connected-known : (scope : Environment) {r s : Worked} (v : Bool) → Told Judged r (evalPred (predAt doc a) scope) → r .number ≡ 0 →
+    pub connected-known : (scope : Environment) {r s : Judgement} (v : Bool) → Told Judged r (evalPred (predAt doc a) scope) → r .number ≡ 0 →
         Known v ≡ decisionOf (connectiveOf (kindAt doc k)) (r .flag) → s .number ≡ 0 → s .flag ≡ v → Told Judged s (evalPred (predAt doc k) scope)
     unfolding evalPred
     connected-known scope v t z e y f = rw connected-tree (go-told t z (λ l j. known-told _ l v _ (e ∙ ap (decisionOf (connectiveOf (kindAt doc k))) (j .flag)) y f))
 
-    pub connected-right : (scope : Environment) {r s : Worked} → Told Judged r (evalPred (predAt doc a) scope) → r .number ≡ 0 → Right ≡ decisionOf (connectiveOf (kindAt doc k)) (r .flag) →
+    pub connected-right : (scope : Environment) {r s : Judgement} → Told Judged r (evalPred (predAt doc a) scope) → r .number ≡ 0 → Right ≡ decisionOf (connectiveOf (kindAt doc k)) (r .flag) →
         Told Judged s (evalPred (predAt doc b) scope) → Told Judged s (evalPred (predAt doc k) scope)
     unfolding evalPred
     connected-right scope t z e g = rw connected-tree (go-told t z (λ l j. right-told _ l _ (e ∙ ap (decisionOf (connectiveOf (kindAt doc k))) (j .flag)) g))

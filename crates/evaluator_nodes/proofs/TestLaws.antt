@@ -30,7 +30,7 @@ use Rattle.evaluator_rules.specs.Environment.{Environment}
 use Rattle.evaluator_rules.specs.Operations.{asSet, asTuple, allPass, countIf, sameCount}
 use Rattle.evaluator_rules.specs.Rules.{evalExpr, amongMembers, testExpr, testExprs, test}
 use Rattle.evaluator_operations.specs.Steps.{integerTest}
-use Rattle.evaluator_operations.specs.declared.worked.Worked.{Worked}
+use Rattle.evaluator_operations.specs.declared.worked.Judgement.{Judgement}
 use Rattle.evaluator_operations.specs.Worked.{narrow, allNarrow, Holds, Told, fine, ceased, Valued, Judged, Stops}
 use Rattle.evaluator_scope.specs.Blocks.{Lies}
 use Rattle.evaluator_nodes.specs.Ready.{Ready, Handed, Operands, Rest}
@@ -88,14 +88,14 @@ module _ {doc work : List ℕ} {n k : ℕ} (h : Ready doc work expressions n k) 
       by-value (exprAt doc k) (formed-kind doc k (h .at) ∙ rw (ne-eqb (kindAt doc k) 32 a, ne-eqb (kindAt doc k) 35 b, ne-eqb (kindAt doc k) 36 c)) (evalExpr (exprAt doc k)) x scope
       ∙ ap (λ (j : ℕ). evalExpr (exprAt doc k) scope >>= amongMembers j x) (expr-node doc k (h .at))
 
-  pub value-stop : {r : Worked} → Told Valued r (evalExpr (exprAt doc k) scope) → (r .number ≡ 0 → ⊥) → Told Judged r (test (exprAt doc k) scope x)
-  value-stop {r} t z = subst (Told Judged r) (sym value-test) (halt-told _ t z)
+  pub value-stop : {hr : Held} {r : Judgement} → Told (Valued hr) r (evalExpr (exprAt doc k) scope) → (r .number ≡ 0 → ⊥) → Told Judged r (test (exprAt doc k) scope x)
+  value-stop {r = r} t z = subst (Told Judged r) (sym value-test) (halt-told _ t z)
 
-  pub value-go : {r s : Worked} → Told Valued r (evalExpr (exprAt doc k) scope) → r .number ≡ 0 → ((y : Value) → Holds (r .held) y → Told Judged s (amongMembers k x y)) →
+  pub value-go : {hr : Held} {r s : Judgement} → Told (Valued hr) r (evalExpr (exprAt doc k) scope) → r .number ≡ 0 → ((y : Value) → Holds hr y → Told Judged s (amongMembers k x y)) →
       Told Judged s (test (exprAt doc k) scope x)
-  value-go {r} {s} t z g = subst (Told Judged s) (sym value-test) (go-told t z (λ y j. g y (j .held)))
+  value-go {s = s} t z g = subst (Told Judged s) (sym value-test) (go-told t z (λ y j. g y (j .held)))
 
-pub integers-test : {doc work : List ℕ} {n k : ℕ} → Ready doc work expressions n k → kindAt doc k ≡ 32 → (x : Value) (scope : Environment) {r : Worked} → Told Judged r (integerTest k x) →
+pub integers-test : {doc work : List ℕ} {n k : ℕ} → Ready doc work expressions n k → kindAt doc k ≡ 32 → (x : Value) (scope : Environment) {r : Judgement} → Told Judged r (integerTest k x) →
     Told Judged r (test (exprAt doc k) scope x)
 unfolding testExpr integerTest
 integers-test {doc} {work} {n} {k} h q x scope t = rw (expr-integers doc k (h .at) q) t
@@ -157,25 +157,25 @@ module _ (h : Held) (at c : ℕ) (v : Value) (vs : Values) (g : Rest h at c (con
 
 -- ---- Power: every member passes
 module _ (h : Held) (at c : ℕ) (f : Value → Outcome Bool) where
-  pub all-end : (vs : Values) → Rest h at c vs → c ≡ 0 → {r : Worked} → r .number ≡ 0 → r .flag ≡ true → Told Judged r (allPass vs f)
+  pub all-end : (vs : Values) → Rest h at c vs → c ≡ 0 → {r : Judgement} → r .number ≡ 0 → r .flag ≡ true → Told Judged r (allPass vs f)
   unfolding allPass count
   all-end nil g e z b = fine z (record { flag = b })
   all-end (cons v vs) g e z b = let n = g .counted in absurd (omega arith)
 
   module _ (len : ℕ) (m : Held) (e : len ≡ span (drop at (h .words))) (q : m ≡ words (take len (drop at (h .words)))) (some : c ≡ 0 → ⊥) where
-    pub all-stop : (vs : Values) → Rest h at c vs → {r : Worked} → ((y : Value) → Holds m y → Told Judged r (f y)) → (r .number ≡ 0 → ⊥) → Told Judged r (allPass vs f)
+    pub all-stop : (vs : Values) → Rest h at c vs → {r : Judgement} → ((y : Value) → Holds m y → Told Judged r (f y)) → (r .number ≡ 0 → ⊥) → Told Judged r (allPass vs f)
     unfolding allPass count
     all-stop nil g t z = absurd (some (sym (g .counted)))
     all-stop (cons v vs) g t z = halt-told _ (t v (first-held h at c v vs g len m e q)) z
 
-    pub all-false : (vs : Values) → Rest h at c vs → {r : Worked} → ((y : Value) → Holds m y → Told Judged r (f y)) → r .number ≡ 0 → r .flag ≡ false → Told Judged r (allPass vs f)
+    pub all-false : (vs : Values) → Rest h at c vs → {r : Judgement} → ((y : Value) → Holds m y → Told Judged r (f y)) → r .number ≡ 0 → r .flag ≡ false → Told Judged r (allPass vs f)
     unfolding allPass count
     all-false nil g t z b = absurd (some (sym (g .counted)))
     all-false (cons v vs) g t z b =
         go-told (t v (first-held h at c v vs g len m e q)) z
         (λ y j. choose-told y (λ w. absurd (true≢false (sym w ∙ sym (j .flag) ∙ b))) (λ w. fine z (record { flag = b })))
 
-    pub all-go : (vs : Values) → Rest h at c vs → {x r : Worked} → ((y : Value) → Holds m y → Told Judged x (f y)) → x .number ≡ 0 → x .flag ≡ true →
+    pub all-go : (vs : Values) → Rest h at c vs → {x r : Judgement} → ((y : Value) → Holds m y → Told Judged x (f y)) → x .number ≡ 0 → x .flag ≡ true →
         ((us : Values) → Rest h (at + len) (c - 1) us → Told Judged r (allPass us f)) → Told Judged r (allPass vs f)
     unfolding allPass count
     all-go nil g t z b k = absurd (some (sym (g .counted)))
@@ -185,18 +185,18 @@ module _ (h : Held) (at c : ℕ) (f : Value → Outcome Bool) where
 
 -- ---- Product: part by part
 module _ (doc : List ℕ) (k e i : ℕ) (scope : Environment) (h : Held) (at : ℕ) where
-  pub product-end : e ≤ i → (vs : Values) {r : Worked} → r .number ≡ 0 → r .flag ≡ true → Told Judged r (testExprs (exprsFrom doc k i (e - i)) vs scope)
+  pub product-end : e ≤ i → (vs : Values) {r : Judgement} → r .number ≡ 0 → r .flag ≡ true → Told Judged r (testExprs (exprsFrom doc k i (e - i)) vs scope)
   unfolding testExprs
   product-end l vs z b = rw (exprs-end doc k e i l) (fine z (record { flag = b }))
 
   module _ (l : i < e) (len : ℕ) (m : Held) (p : len ≡ span (drop at (h .words))) (q : m ≡ words (take len (drop at (h .words)))) (a : ℕ) (x : a ≡ operandAt doc k i) where
-    pub product-stop : (vs : Values) → Rest h at (e - i) vs → {r : Worked} → ((y : Value) → Holds m y → Told Judged r (test (exprAt doc a) scope y)) → (r .number ≡ 0 → ⊥) →
+    pub product-stop : (vs : Values) → Rest h at (e - i) vs → {r : Judgement} → ((y : Value) → Holds m y → Told Judged r (test (exprAt doc a) scope y)) → (r .number ≡ 0 → ⊥) →
         Told Judged r (testExprs (exprsFrom doc k i (e - i)) vs scope)
     unfolding testExprs count
     product-stop nil g t z = let n = g .counted in absurd (omega arith)
     product-stop (cons v vs) g t z = rw (exprs-go doc k e i l, ← x) (halt-told _ (t v (first-held h at (e - i) v vs g len m p q)) z)
 
-    pub product-false : (vs : Values) → Rest h at (e - i) vs → {r : Worked} → ((y : Value) → Holds m y → Told Judged r (test (exprAt doc a) scope y)) → r .number ≡ 0 → r .flag ≡ false →
+    pub product-false : (vs : Values) → Rest h at (e - i) vs → {r : Judgement} → ((y : Value) → Holds m y → Told Judged r (test (exprAt doc a) scope y)) → r .number ≡ 0 → r .flag ≡ false →
         Told Judged r (testExprs (exprsFrom doc k i (e - i)) vs scope)
     unfolding testExprs count
     product-false nil g t z b = let n = g .counted in absurd (omega arith)
@@ -204,7 +204,7 @@ module _ (doc : List ℕ) (k e i : ℕ) (scope : Environment) (h : Held) (at : �
         rw (exprs-go doc k e i l, ← x) (go-told (t v (first-held h at (e - i) v vs g len m p q)) z
         (λ y j. choose-told y (λ w. absurd (true≢false (sym w ∙ sym (j .flag) ∙ b))) (λ w. fine z (record { flag = b }))))
 
-    pub product-go : (vs : Values) → Rest h at (e - i) vs → {s r : Worked} → ((y : Value) → Holds m y → Told Judged s (test (exprAt doc a) scope y)) → s .number ≡ 0 → s .flag ≡ true →
+    pub product-go : (vs : Values) → Rest h at (e - i) vs → {s r : Judgement} → ((y : Value) → Holds m y → Told Judged s (test (exprAt doc a) scope y)) → s .number ≡ 0 → s .flag ≡ true →
         ((us : Values) → Rest h (at + len) (e - (i + 1)) us → Told Judged r (testExprs (exprsFrom doc k (i + 1) (e - (i + 1))) us scope)) →
         Told Judged r (testExprs (exprsFrom doc k i (e - i)) vs scope)
     unfolding testExprs count
@@ -216,11 +216,11 @@ module _ (doc : List ℕ) (k e i : ℕ) (scope : Environment) (h : Held) (at : �
 
 -- ---- the nodes 35 and 36
 module _ {doc work w : List ℕ} {n k : ℕ} (h : Handed doc work w expressions n k) (v : Held) (x : Value) (hx : Holds v x) (scope : Environment) where
-  pub power-other : kindAt doc k ≡ 36 → (getD (v .words) 0 0 ≡ 3 → ⊥) → {r : Worked} → Stops r 51 k → Told Judged r (test (exprAt doc k) scope x)
+  pub power-other : kindAt doc k ≡ 36 → (getD (v .words) 0 0 ≡ 3 → ⊥) → {r : Judgement} → Stops r 51 k → Told Judged r (test (exprAt doc k) scope x)
   unfolding testExpr
   power-other q t s = rw (expr-power doc k (h .ready .at) q (operandAt doc k 1) refl .tree) (rw (tag-none k x (λ e. t (held-tag v x hx ∙ e))) (at-stop _ s (λ z. omega arith)))
 
-  pub power-told : kindAt doc k ≡ 36 → getD (v .words) 0 0 ≡ 3 → (a : ℕ) → a ≡ getD w 1 0 → {r : Worked} →
+  pub power-told : kindAt doc k ≡ 36 → getD (v .words) 0 0 ≡ 3 → (a : ℕ) → a ≡ getD w 1 0 → {r : Judgement} →
       ((vs : Values) → Rest v 2 (getD (v .words) 1 0) vs → Told Judged r (allPass vs (test (exprAt doc a) scope))) → Told Judged r (test (exprAt doc k) scope x)
   unfolding testExpr asSet
   power-told q t a y g =
@@ -228,7 +228,7 @@ module _ {doc work w : List ℕ} {n k : ℕ} (h : Handed doc work w expressions 
       rw (expr-power doc k (h .ready .at) q a (in-words h 1 a y) .tree)
       (rw (p .1) (at-pure _ _ (g (p .0) (rest-set v (p .0) (subst (Holds v) (p .1) hx)))))
 
-  pub product-other : kindAt doc k ≡ 35 → (getD (v .words) 0 0 ≡ 4 → ⊥) → {r : Worked} → Stops r 51 k → Told Judged r (test (exprAt doc k) scope x)
+  pub product-other : kindAt doc k ≡ 35 → (getD (v .words) 0 0 ≡ 4 → ⊥) → {r : Judgement} → Stops r 51 k → Told Judged r (test (exprAt doc k) scope x)
   unfolding testExpr
   product-other q t s = rw (expr-members doc k (h .ready .at) 35 q (omega arith) (omega arith) .tree) (rw (tag-single k x (λ e. t (held-tag v x hx ∙ e))) (at-stop _ s (λ z. omega arith)))
 
@@ -241,14 +241,14 @@ module _ {doc work w : List ℕ} {n k : ℕ} (h : Handed doc work w expressions 
       let g = subst (Holds v) e hx in
       rw (held-words v (encode (Value.tuple vs)) (g .words) (g .short))
 
-  pub product-uneven : kindAt doc k ≡ 35 → getD (v .words) 0 0 ≡ 4 → (getD (v .words) 1 0 + 1 ≡ length w → ⊥) → 1 ≤ length w → {r : Worked} → Stops r 51 k → Told Judged r (test (exprAt doc k) scope x)
+  pub product-uneven : kindAt doc k ≡ 35 → getD (v .words) 0 0 ≡ 4 → (getD (v .words) 1 0 + 1 ≡ length w → ⊥) → 1 ≤ length w → {r : Judgement} → Stops r 51 k → Told Judged r (test (exprAt doc k) scope x)
   unfolding testExpr asTuple sameCount countIf
   product-uneven q t u o s =
       let p = tag-tuple k x (sym (held-tag v x hx) ∙ t) in
       let c = held-count (p .0) (p .1) in
       rw (product-tree q) (rw (p .1) (at-pure _ _ (rw (exprs-length doc k 1 (length w - 1), ne-eqb (length w - 1) (count (p .0)) (λ e. u (omega arith))) (at-stop _ s (λ z. omega arith)))))
 
-  pub product-told : kindAt doc k ≡ 35 → getD (v .words) 0 0 ≡ 4 → getD (v .words) 1 0 + 1 ≡ length w → {r : Worked} →
+  pub product-told : kindAt doc k ≡ 35 → getD (v .words) 0 0 ≡ 4 → getD (v .words) 1 0 + 1 ≡ length w → {r : Judgement} →
       ((vs : Values) → Rest v 2 (length w - 1) vs → Told Judged r (testExprs (exprsFrom doc k 1 (length w - 1)) vs scope)) → Told Judged r (test (exprAt doc k) scope x)
   unfolding testExpr asTuple sameCount countIf
   product-told q t u g =

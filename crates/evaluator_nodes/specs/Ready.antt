@@ -21,8 +21,9 @@ use Rattle.evaluator_rules.specs.Environment.{Environment}
 use Rattle.evaluator_rules.specs.Assignments.{Domains, noMore, domain, Flow, Body, assign, each}
 use Rattle.evaluator_rules.specs.Rules.{evalExpr, evalPred, evalLines}
 use Rattle.evaluator_nodes.specs.Turns.{turnAt}
+use Rattle.evaluator_operations.specs.declared.worked.Judgement.{Judgement}
 use Rattle.evaluator_operations.specs.declared.worked.Worked.{Worked}
-use Rattle.evaluator_operations.specs.Worked.{allNarrow, Holds, Told, Valued, Judged, Flowed}
+use Rattle.evaluator_operations.specs.Worked.{allNarrow, Told, Valued, Judged, Flowed, Gathers}
 use Rattle.evaluator_scope.specs.Blocks.{Lies, Scoped, Pending, Leaves, blockWords, blockCount}
 use Rattle.values.specs.Value as Value
 
@@ -53,14 +54,14 @@ pub record Scoping (doc work : List ℕ) (n m k : ℕ) : Type 0 where
   pub wide : runWorkWords ≤ length work
 
 -- what a result tells, for the scope that the blocks are
-abbrev pub Tells : {A : Type 0} → List ℕ → List ℕ → ℕ → (Worked → A → Type 0) → Worked → (Environment → Outcome A) → Type 0
+abbrev pub Tells : {A : Type 0} → List ℕ → List ℕ → ℕ → (Judgement → A → Type 0) → Judgement → (Environment → Outcome A) → Type 0
 Tells state work n R r f = (scope : Environment) → Scoped state work n scope → Told R r (f scope)
 
 -- node k worked out as an expression, or as a predicate
 abbrev pub Evaluates : List ℕ → ℕ → ℕ → List ℕ → List ℕ → List ℕ → Worked → Type 0
-Evaluates doc k n state before after r = Leaves n before after (Tells state before n Valued r (evalExpr (exprAt doc k)))
+Evaluates doc k n state before after r = Leaves n before after (Tells state before n (Valued (r .held)) (r .judgement) (evalExpr (exprAt doc k)))
 
-abbrev pub Decides : List ℕ → ℕ → ℕ → List ℕ → List ℕ → List ℕ → Worked → Type 0
+abbrev pub Decides : List ℕ → ℕ → ℕ → List ℕ → List ℕ → List ℕ → Judgement → Type 0
 Decides doc k n state before after r = Leaves n before after (Tells state before n Judged r (evalPred (predAt doc k)))
 
 -- the values whose words lie in a value by value, from a place on
@@ -91,18 +92,26 @@ joinDomains (domain i vs ds) es = domain i vs (joinDomains ds es)
 unfoldable pub linesThen : List ℕ → ℕ → Lines → Domains → Environment → Outcome Flow
 linesThen doc k ls ds scope = evalLines ls scope >>= λ es. assign (joinDomains ds es) (turnAt doc k) scope Value.nil
 
-abbrev pub LinesTold : List ℕ → ℕ → Lines → List ℕ → List ℕ → ℕ → ℕ → Worked → Type 0
-LinesTold doc k ls state work n m r =
-    (scope : Environment) → Scoped state work n scope → Scoped state work (n + m) scope → (ds : Domains) → Pending work n m ds → Told Flowed r (linesThen doc k ls ds scope)
+-- the members that a Comprehension has so far, in lent words; a quantifier gathers nothing
+pub record Gathering (doc : List ℕ) (k : ℕ) (u : List ℕ) (vs : Values) : Type 0 where
+  pub gathers : kindAt doc k ≡ 46 → Gathers u vs
 
-abbrev pub AssignTold : List ℕ → ℕ → List ℕ → List ℕ → ℕ → ℕ → Held → Worked → Type 0
-AssignTold doc k state work n m s r =
-    (scope : Environment) → Scoped state work n scope → (ds : Domains) → Pending work n m ds → (vs : Values) → Holds s (Value.set vs) → Told Flowed r (assign ds (turnAt doc k) scope vs)
+-- what each tells has the lent words before, u, and after, v
+abbrev pub LinesTold : List ℕ → ℕ → Lines → List ℕ → List ℕ → ℕ → ℕ → List ℕ → List ℕ → Judgement → Type 0
+LinesTold doc k ls state work n m u v r =
+    (scope : Environment) → Scoped state work n scope → Scoped state work (n + m) scope → (ds : Domains) → Pending work n m ds → Gathering doc k u Value.nil →
+    Told (Flowed (Gathering doc k v)) r (linesThen doc k ls ds scope)
 
-abbrev pub EachTold : List ℕ → ℕ → List ℕ → List ℕ → ℕ → ℕ → ℕ → ℕ → Held → Worked → Type 0
-EachTold doc k state work n m at c s r =
+abbrev pub AssignTold : List ℕ → ℕ → List ℕ → List ℕ → ℕ → ℕ → List ℕ → List ℕ → Judgement → Type 0
+AssignTold doc k state work n m u v r =
+    (scope : Environment) → Scoped state work n scope → (ds : Domains) → Pending work n m ds → (vs : Values) → Gathering doc k u vs →
+    Told (Flowed (Gathering doc k v)) r (assign ds (turnAt doc k) scope vs)
+
+abbrev pub EachTold : List ℕ → ℕ → List ℕ → List ℕ → ℕ → ℕ → ℕ → ℕ → List ℕ → List ℕ → Judgement → Type 0
+EachTold doc k state work n m at c u v r =
     (scope : Environment) → Scoped state work n scope → (i : ℕ) (us : Values) (ds : Domains) → Pending work n (suc m) (domain i us ds) → (vs : Values) → RestIn work n at c vs →
-    (ss : Values) → Holds s (Value.set ss) → Told Flowed r (each i vs (λ scope′ s′. assign ds (turnAt doc k) scope′ s′) scope ss)
+    (ss : Values) → Gathering doc k u ss → Told (Flowed (Gathering doc k v)) r (each i vs (λ scope′ s′. assign ds (turnAt doc k) scope′ s′) scope ss)
 
-abbrev pub BodyTold : Body → List ℕ → List ℕ → ℕ → Held → Worked → Type 0
-BodyTold body state work n s r = (scope : Environment) → Scoped state work n scope → (vs : Values) → Holds s (Value.set vs) → Told Flowed r (body scope vs)
+abbrev pub BodyTold : List ℕ → ℕ → Body → List ℕ → List ℕ → ℕ → List ℕ → List ℕ → Judgement → Type 0
+BodyTold doc k body state work n u v r =
+    (scope : Environment) → Scoped state work n scope → (vs : Values) → Gathering doc k u vs → Told (Flowed (Gathering doc k v)) r (body scope vs)

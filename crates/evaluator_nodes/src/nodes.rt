@@ -21,6 +21,10 @@ use evaluator_operations::collections::tuple_head;
 use evaluator_operations::enumerations::crossed;
 use evaluator_operations::enumerations::multiplied;
 use evaluator_operations::enumerations::powered;
+use evaluator_operations::gathering::GATHERED;
+use evaluator_operations::gathering::gather;
+use evaluator_operations::gathering::gathered;
+use evaluator_operations::gathering::put_set;
 use evaluator_operations::logic::Decision;
 use evaluator_operations::logic::decides;
 use evaluator_operations::logic::verdict;
@@ -28,9 +32,12 @@ use evaluator_operations::numbers::arithmetic;
 use evaluator_operations::numbers::at_most;
 use evaluator_operations::numbers::is_integer;
 use evaluator_operations::numbers::number_value;
+use evaluator_operations::worked::Judgement;
 use evaluator_operations::worked::Worked;
 use evaluator_operations::worked::go;
+use evaluator_operations::worked::halted;
 use evaluator_operations::worked::judge;
+use evaluator_operations::worked::refuse;
 use evaluator_operations::worked::stop;
 use evaluator_scope::BLOCK;
 use evaluator_scope::IN_WORK;
@@ -78,13 +85,13 @@ fn parts(
     s: Held,
 ) -> Worked
     requires { ⌜ Handed (now doc) (now work) (now w) expressions n k × Operands (now doc) (now w) k expressions i × (i ≤ 256) ⌝ }
-    ensures { λ r. ⌜ Leaves n (now (work .entry)) (now (work .exit)) ((ws : List ℕ) → s ≡ words ws → Tells (now (state .entry)) (now (work .entry)) n (Joined ws (length (now (w .entry)) - i)) r (evalExprs (exprsFrom (now (doc .entry)) k i (length (now (w .entry)) - i)))) ⌝ }
+    ensures { λ r. ⌜ Leaves n (now (work .entry)) (now (work .exit)) ((ws : List ℕ) → s ≡ words ws → Tells (now (state .entry)) (now (work .entry)) n (Joined ws (length (now (w .entry)) - i) (r .held)) (r .judgement) (evalExprs (exprsFrom (now (doc .entry)) k i (length (now (w .entry)) - i)))) ⌝ }
 {
     if w.len() <= i {
         return go(s, false);
     }
     let x = expr(doc, state, work, n, word(w, i));
-    if x.number != 0 {
+    if x.judgement.number != 0 {
         return x;
     }
     let h = x.held;
@@ -103,18 +110,18 @@ fn adds(
     s: Held,
 ) -> Worked
     requires { ⌜ Handed (now doc) (now work) (now w) expressions n k × Operands (now doc) (now w) k expressions i × (i ≤ 256) ⌝ }
-    ensures { λ r. ⌜ Leaves n (now (work .entry)) (now (work .exit)) ((vs : Values) → Holds s (Value.set vs) → Tells (now (state .entry)) (now (work .entry)) n Gathered r (λ scope. evalMembers (exprsFrom (now (doc .entry)) k i (length (now (w .entry)) - i)) k scope vs)) ⌝ }
+    ensures { λ r. ⌜ Leaves n (now (work .entry)) (now (work .exit)) ((vs : Values) → Holds s (Value.set vs) → Tells (now (state .entry)) (now (work .entry)) n (Gathered (r .held)) (r .judgement) (λ scope. evalMembers (exprsFrom (now (doc .entry)) k i (length (now (w .entry)) - i)) k scope vs)) ⌝ }
 {
     if w.len() <= i {
         return go(s, false);
     }
     let x = expr(doc, state, work, n, word(w, i));
-    if x.number != 0 {
+    if x.judgement.number != 0 {
         return x;
     }
     let h = x.held;
     let t = added(k, s, h);
-    if t.number != 0 {
+    if t.judgement.number != 0 {
         return t;
     }
     let u = t.held;
@@ -130,7 +137,7 @@ fn refers(doc: &[u32], state: &[u32], work: &mut [u32], n: usize, k: usize, w: &
         return refer(state, &work[..], n, k, word(w, 1), false);
     }
     let x = parts(doc, state, work, n, k, w, 2, empty());
-    if x.number != 0 {
+    if x.judgement.number != 0 {
         return x;
     }
     refer(state, &work[..], n, k, word(w, 1), true)
@@ -142,7 +149,7 @@ fn tuple(doc: &[u32], state: &[u32], work: &mut [u32], n: usize, k: usize, w: &[
     ensures { λ r. ⌜ Evaluates (now (doc .entry)) k n (now (state .entry)) (now (work .entry)) (now (work .exit)) r ⌝ }
 {
     let x = parts(doc, state, work, n, k, w, 1, tuple_head(w.len()));
-    if x.number != 0 {
+    if x.judgement.number != 0 {
         return x;
     }
     let h = x.held;
@@ -155,7 +162,7 @@ fn subsets(doc: &[u32], state: &[u32], work: &mut [u32], n: usize, k: usize, w: 
     ensures { λ r. ⌜ Evaluates (now (doc .entry)) k n (now (state .entry)) (now (work .entry)) (now (work .exit)) r ⌝ }
 {
     let x = expr(doc, state, work, n, word(w, 1));
-    if x.number != 0 {
+    if x.judgement.number != 0 {
         return x;
     }
     let h = x.held;
@@ -168,7 +175,7 @@ fn tuples(doc: &[u32], state: &[u32], work: &mut [u32], n: usize, k: usize, w: &
     ensures { λ r. ⌜ Evaluates (now (doc .entry)) k n (now (state .entry)) (now (work .entry)) (now (work .exit)) r ⌝ }
 {
     let x = factors(doc, state, work, n, k, w, 1, unit(), false);
-    if x.number != 0 {
+    if x.judgement.number != 0 {
         return x;
     }
     multiplied(k, x)
@@ -187,18 +194,18 @@ fn factors(
     misfit: bool,
 ) -> Worked
     requires { ⌜ Handed (now doc) (now work) (now w) expressions n k × Operands (now doc) (now w) k expressions i × (i ≤ 256) ⌝ }
-    ensures { λ r. ⌜ Leaves n (now (work .entry)) (now (work .exit)) ((rs : List Values) → Tuples s misfit rs → Tells (now (state .entry)) (now (work .entry)) n (Crossed misfit rs) r (evalExprs (exprsFrom (now (doc .entry)) k i (length (now (w .entry)) - i)))) ⌝ }
+    ensures { λ r. ⌜ Leaves n (now (work .entry)) (now (work .exit)) ((rs : List Values) → Tuples s misfit rs → Tells (now (state .entry)) (now (work .entry)) n (Crossed misfit rs (r .held)) (r .judgement) (evalExprs (exprsFrom (now (doc .entry)) k i (length (now (w .entry)) - i)))) ⌝ }
 {
     if w.len() <= i {
         return go(s, misfit);
     }
     let x = expr(doc, state, work, n, word(w, i));
-    if x.number != 0 {
+    if x.judgement.number != 0 {
         return x;
     }
     let h = x.held;
     let t = crossed(s, misfit, h);
-    factors(doc, state, work, n, k, w, i + 1, t.held, t.flag)
+    factors(doc, state, work, n, k, w, i + 1, t.held, t.judgement.flag)
 }
 
 // 37 Apply.
@@ -207,11 +214,11 @@ fn apply(doc: &[u32], state: &[u32], work: &mut [u32], n: usize, k: usize, w: &[
     ensures { λ r. ⌜ Evaluates (now (doc .entry)) k n (now (state .entry)) (now (work .entry)) (now (work .exit)) r ⌝ }
 {
     let x = expr(doc, state, work, n, word(w, 1));
-    if x.number != 0 {
+    if x.judgement.number != 0 {
         return x;
     }
     let y = expr(doc, state, work, n, word(w, 2));
-    if y.number != 0 {
+    if y.judgement.number != 0 {
         return y;
     }
     let f = x.held;
@@ -225,11 +232,11 @@ fn arith(doc: &[u32], state: &[u32], work: &mut [u32], n: usize, k: usize, w: &[
     ensures { λ r. ⌜ Evaluates (now (doc .entry)) k n (now (state .entry)) (now (work .entry)) (now (work .exit)) r ⌝ }
 {
     let x = expr(doc, state, work, n, word(w, 1));
-    if x.number != 0 {
+    if x.judgement.number != 0 {
         return x;
     }
     let y = expr(doc, state, work, n, word(w, 2));
-    if y.number != 0 {
+    if y.judgement.number != 0 {
         return y;
     }
     let a = x.held;
@@ -243,15 +250,16 @@ fn compr(doc: &[u32], state: &[u32], work: &mut [u32], n: usize, k: usize, w: &[
     ensures { λ r. ⌜ Evaluates (now (doc .entry)) k n (now (state .entry)) (now (work .entry)) (now (work .exit)) r ⌝ }
 {
     let t = word(w, 1);
-    let x = lines(doc, state, work, n, 0, k, t, part(doc, t), 2);
+    let mut s = [0u32; GATHERED];
+    put_set(&mut s, empty_set());
+    let x = lines(doc, state, work, n, 0, k, t, part(doc, t), 2, &mut s);
     if x.number != 0 {
-        return x;
+        return halted(x);
     }
     if x.flag {
         return go(empty_set(), false);
     }
-    let h = x.held;
-    go(h, false)
+    go(gathered(&s), false)
 }
 
 // A Ref, and the predicate true below, return at once: joined with the other arms, they make a run of many assignments a fifth slower.
@@ -276,17 +284,19 @@ pub fn expr(doc: &[u32], state: &[u32], work: &mut [u32], n: usize, k: usize) ->
 }
 
 // 21 =.
-fn same(doc: &[u32], state: &[u32], work: &mut [u32], n: usize, k: usize, w: &[u32]) -> Worked
+fn same(doc: &[u32], state: &[u32], work: &mut [u32], n: usize, k: usize, w: &[u32]) -> Judgement
     requires { ⌜ Handed (now doc) (now work) (now w) predicates n k × (kindAt (now doc) k ≡ 21) ⌝ }
     ensures { λ r. ⌜ Decides (now (doc .entry)) k n (now (state .entry)) (now (work .entry)) (now (work .exit)) r ⌝ }
 {
     let x = expr(doc, state, work, n, word(w, 1));
-    if x.number != 0 {
-        return x;
+    let i = x.judgement;
+    if i.number != 0 {
+        return i;
     }
     let y = expr(doc, state, work, n, word(w, 2));
-    if y.number != 0 {
-        return y;
+    let j = y.judgement;
+    if j.number != 0 {
+        return j;
     }
     let a = x.held;
     let b = y.held;
@@ -294,30 +304,33 @@ fn same(doc: &[u32], state: &[u32], work: &mut [u32], n: usize, k: usize, w: &[u
 }
 
 // 22 member.
-fn member(doc: &[u32], state: &[u32], work: &mut [u32], n: usize, k: usize, w: &[u32]) -> Worked
+fn member(doc: &[u32], state: &[u32], work: &mut [u32], n: usize, k: usize, w: &[u32]) -> Judgement
     requires { ⌜ Handed (now doc) (now work) (now w) predicates n k × (kindAt (now doc) k ≡ 22) ⌝ }
     ensures { λ r. ⌜ Decides (now (doc .entry)) k n (now (state .entry)) (now (work .entry)) (now (work .exit)) r ⌝ }
 {
     let x = expr(doc, state, work, n, word(w, 1));
-    if x.number != 0 {
-        return x;
+    let j = x.judgement;
+    if j.number != 0 {
+        return j;
     }
     let h = x.held;
     tests(doc, state, work, n, word(w, 2), h)
 }
 
 // 23 ≤.
-fn below(doc: &[u32], state: &[u32], work: &mut [u32], n: usize, k: usize, w: &[u32]) -> Worked
+fn below(doc: &[u32], state: &[u32], work: &mut [u32], n: usize, k: usize, w: &[u32]) -> Judgement
     requires { ⌜ Handed (now doc) (now work) (now w) predicates n k × (kindAt (now doc) k ≡ 23) ⌝ }
     ensures { λ r. ⌜ Decides (now (doc .entry)) k n (now (state .entry)) (now (work .entry)) (now (work .exit)) r ⌝ }
 {
     let x = expr(doc, state, work, n, word(w, 1));
-    if x.number != 0 {
-        return x;
+    let i = x.judgement;
+    if i.number != 0 {
+        return i;
     }
     let y = expr(doc, state, work, n, word(w, 2));
-    if y.number != 0 {
-        return y;
+    let j = y.judgement;
+    if j.number != 0 {
+        return j;
     }
     let a = x.held;
     let b = y.held;
@@ -325,7 +338,7 @@ fn below(doc: &[u32], state: &[u32], work: &mut [u32], n: usize, k: usize, w: &[
 }
 
 // 24 not.
-fn negate(doc: &[u32], state: &[u32], work: &mut [u32], n: usize, k: usize, w: &[u32]) -> Worked
+fn negate(doc: &[u32], state: &[u32], work: &mut [u32], n: usize, k: usize, w: &[u32]) -> Judgement
     requires { ⌜ Handed (now doc) (now work) (now w) predicates n k × (kindAt (now doc) k ≡ 24) ⌝ }
     ensures { λ r. ⌜ Decides (now (doc .entry)) k n (now (state .entry)) (now (work .entry)) (now (work .exit)) r ⌝ }
 {
@@ -340,7 +353,7 @@ fn negate(doc: &[u32], state: &[u32], work: &mut [u32], n: usize, k: usize, w: &
 }
 
 // 25 to 27: and, or, implies skip the right side when the left decides.
-fn connect(doc: &[u32], state: &[u32], work: &mut [u32], n: usize, k: usize, w: &[u32]) -> Worked
+fn connect(doc: &[u32], state: &[u32], work: &mut [u32], n: usize, k: usize, w: &[u32]) -> Judgement
     requires { ⌜ Handed (now doc) (now work) (now w) predicates n k × (25 ≤ kindAt (now doc) k) × (kindAt (now doc) k ≤ 27) ⌝ }
     ensures { λ r. ⌜ Decides (now (doc .entry)) k n (now (state .entry)) (now (work .entry)) (now (work .exit)) r ⌝ }
 {
@@ -356,19 +369,20 @@ fn connect(doc: &[u32], state: &[u32], work: &mut [u32], n: usize, k: usize, w: 
 }
 
 // 28 forall, 29 exists.
-fn quant(doc: &[u32], state: &[u32], work: &mut [u32], n: usize, k: usize, w: &[u32]) -> Worked
+fn quant(doc: &[u32], state: &[u32], work: &mut [u32], n: usize, k: usize, w: &[u32]) -> Judgement
     requires { ⌜ Handed (now doc) (now work) (now w) predicates n k × (28 ≤ kindAt (now doc) k) × (kindAt (now doc) k ≤ 29) ⌝ }
     ensures { λ r. ⌜ Decides (now (doc .entry)) k n (now (state .entry)) (now (work .entry)) (now (work .exit)) r ⌝ }
 {
     let t = word(w, 1);
-    let x = lines(doc, state, work, n, 0, k, t, part(doc, t), 2);
+    let mut none = [0u32; 0];
+    let x = lines(doc, state, work, n, 0, k, t, part(doc, t), 2, &mut none);
     if x.number != 0 {
         return x;
     }
     judge(verdict(word(w, 0), x.flag))
 }
 
-pub fn pred(doc: &[u32], state: &[u32], work: &mut [u32], n: usize, k: usize) -> Worked
+pub fn pred(doc: &[u32], state: &[u32], work: &mut [u32], n: usize, k: usize) -> Judgement
     requires { ⌜ Ready (now doc) (now work) predicates n k ⌝ }
     ensures { λ r. ⌜ Decides (now (doc .entry)) k n (now (state .entry)) (now (work .entry)) (now (work .exit)) r ⌝ }
 {
@@ -386,7 +400,7 @@ pub fn pred(doc: &[u32], state: &[u32], work: &mut [u32], n: usize, k: usize) ->
 }
 
 // Member's test of the value v against the expression at node k.
-pub fn tests(doc: &[u32], state: &[u32], work: &mut [u32], n: usize, k: usize, v: Held) -> Worked
+pub fn tests(doc: &[u32], state: &[u32], work: &mut [u32], n: usize, k: usize, v: Held) -> Judgement
     requires { ⌜ Ready (now doc) (now work) expressions n k ⌝ }
     ensures { λ r. ⌜ Leaves n (now (work .entry)) (now (work .exit)) ((x : Value) → Holds v x → Tells (now (state .entry)) (now (work .entry)) n Judged r (λ scope. test (exprAt (now (doc .entry)) k) scope x)) ⌝ }
 {
@@ -401,13 +415,14 @@ pub fn tests(doc: &[u32], state: &[u32], work: &mut [u32], n: usize, k: usize, v
 }
 
 // Against any other E: it is worked out anew and must be a set.
-fn value(doc: &[u32], state: &[u32], work: &mut [u32], n: usize, k: usize, v: Held) -> Worked
+fn value(doc: &[u32], state: &[u32], work: &mut [u32], n: usize, k: usize, v: Held) -> Judgement
     requires { ⌜ Ready (now doc) (now work) expressions n k × (kindAt (now doc) k ≡ 32 → ⊥) × (kindAt (now doc) k ≡ 35 → ⊥) × (kindAt (now doc) k ≡ 36 → ⊥) ⌝ }
     ensures { λ r. ⌜ Leaves n (now (work .entry)) (now (work .exit)) ((x : Value) → Holds v x → Tells (now (state .entry)) (now (work .entry)) n Judged r (λ scope. test (exprAt (now (doc .entry)) k) scope x)) ⌝ }
 {
     let x = expr(doc, state, work, n, k);
-    if x.number != 0 {
-        return x;
+    let j = x.judgement;
+    if j.number != 0 {
+        return j;
     }
     let h = x.held;
     among(k, v, h)
@@ -422,12 +437,12 @@ fn power(
     k: usize,
     w: &[u32],
     v: Held,
-) -> Worked
+) -> Judgement
     requires { ⌜ Handed (now doc) (now work) (now w) expressions n k × (kindAt (now doc) k ≡ 36) ⌝ }
     ensures { λ r. ⌜ Leaves n (now (work .entry)) (now (work .exit)) ((x : Value) → Holds v x → Tells (now (state .entry)) (now (work .entry)) n Judged r (λ scope. test (exprAt (now (doc .entry)) k) scope x)) ⌝ }
 {
     if tag_of(v) != value_tags::SET {
-        return stop(findings::MISFIT, k);
+        return refuse(findings::MISFIT, k);
     }
     all(doc, state, work, n, word(w, 1), v, HEAD, count_of(v))
 }
@@ -442,7 +457,7 @@ fn all(
     v: Held,
     at: usize,
     c: usize,
-) -> Worked
+) -> Judgement
     requires { ⌜ Ready (now doc) (now work) expressions n k × (at + 96 * c < 2 ^ 60) × (c < 2 ^ 32) ⌝ }
     ensures { λ r. ⌜ Leaves n (now (work .entry)) (now (work .exit)) ((vs : Values) → Rest v at c vs → Tells (now (state .entry)) (now (work .entry)) n Judged r (λ scope. allPass vs (test (exprAt (now (doc .entry)) k) scope))) ⌝ }
 {
@@ -469,15 +484,15 @@ fn product(
     k: usize,
     w: &[u32],
     v: Held,
-) -> Worked
+) -> Judgement
     requires { ⌜ Handed (now doc) (now work) (now w) expressions n k × (kindAt (now doc) k ≡ 35) ⌝ }
     ensures { λ r. ⌜ Leaves n (now (work .entry)) (now (work .exit)) ((x : Value) → Holds v x → Tells (now (state .entry)) (now (work .entry)) n Judged r (λ scope. test (exprAt (now (doc .entry)) k) scope x)) ⌝ }
 {
     if tag_of(v) != value_tags::TUPLE {
-        return stop(findings::MISFIT, k);
+        return refuse(findings::MISFIT, k);
     }
     if count_of(v) + 1 != w.len() {
-        return stop(findings::MISFIT, k);
+        return refuse(findings::MISFIT, k);
     }
     each_part(doc, state, work, n, k, w, 1, v, HEAD)
 }
@@ -493,7 +508,7 @@ fn each_part(
     i: usize,
     v: Held,
     at: usize,
-) -> Worked
+) -> Judgement
     requires { ⌜ Handed (now doc) (now work) (now w) expressions n k × Operands (now doc) (now w) k expressions i × (i ≤ 256) × (at + 96 * (256 - i) < 2 ^ 60) ⌝ }
     ensures { λ r. ⌜ Leaves n (now (work .entry)) (now (work .exit)) ((vs : Values) → Rest v at (length (now (w .entry)) - i) vs → Tells (now (state .entry)) (now (work .entry)) n Judged r (λ scope. testExprs (exprsFrom (now (doc .entry)) k i (length (now (w .entry)) - i)) vs scope)) ⌝ }
 {
@@ -522,28 +537,30 @@ fn lines(
     t: usize,
     u: &[u32],
     i: usize,
-) -> Worked
+    s: &mut [u32],
+) -> Judgement
     requires { ⌜ Scoping (now doc) (now work) n 6 k × (t ≡ operandAt (now doc) k 1) × (now u ≡ part (now doc) t) × (2 ≤ i) × (length (now u) ≤ 256) × (m + declaredCount (linesFrom (now doc) t i (length (now u) - i)) ≤ 6) ⌝ }
-    ensures { λ r. ⌜ Leaves n (now (work .entry)) (now (work .exit)) (LinesTold (now (doc .entry)) k (linesFrom (now (doc .entry)) t i (length (now (u .entry)) - i)) (now (state .entry)) (now (work .entry)) n m r) ⌝ }
+    ensures { λ r. ⌜ Leaves n (now (work .entry)) (now (work .exit)) (LinesTold (now (doc .entry)) k (linesFrom (now (doc .entry)) t i (length (now (u .entry)) - i)) (now (state .entry)) (now (work .entry)) n m (now (s .entry)) (now (s .exit)) r) ⌝ }
 {
     if u.len() <= i {
-        return assign(doc, state, work, n, m, k, empty_set());
+        return assign(doc, state, work, n, m, k, s);
     }
     let v = word(u, i);
     let x = part(doc, v);
     if word(x, 0) == kinds::INCLUDE {
-        return stop(findings::NOT_RUN, v);
+        return refuse(findings::NOT_RUN, v);
     }
-    let s = expr(doc, state, work, n + m, word(x, 1));
-    if s.number != 0 {
-        return s;
+    let y = expr(doc, state, work, n + m, word(x, 1));
+    let j = y.judgement;
+    if j.number != 0 {
+        return j;
     }
-    let h = s.held;
+    let h = y.held;
     if tag_of(h) != value_tags::SET {
-        return stop(findings::MISFIT, v);
+        return refuse(findings::MISFIT, v);
     }
     put_domains(work, n + m, x, 2, h);
-    lines(doc, state, work, n, m + (x.len() - 2), k, t, u, i + 1)
+    lines(doc, state, work, n, m + (x.len() - 2), k, t, u, i + 1, s)
 }
 
 // The assignments of the m identifiers in the blocks from n on, the first slowest, ascending; s are the members gathered so far.
@@ -554,10 +571,10 @@ fn assign(
     n: usize,
     m: usize,
     k: usize,
-    s: Held,
-) -> Worked
+    s: &mut [u32],
+) -> Judgement
     requires { ⌜ Scoping (now doc) (now work) n m k ⌝ }
-    ensures { λ r. ⌜ Assigns n m (now (work .entry)) (now (work .exit)) (AssignTold (now (doc .entry)) k (now (state .entry)) (now (work .entry)) n m s r) ⌝ }
+    ensures { λ r. ⌜ Assigns n m (now (work .entry)) (now (work .exit)) (AssignTold (now (doc .entry)) k (now (state .entry)) (now (work .entry)) n m (now (s .entry)) (now (s .exit)) r) ⌝ }
 {
     if m == 0 {
         return turn(doc, state, work, n, k, s);
@@ -576,16 +593,16 @@ fn each(
     k: usize,
     at: usize,
     c: usize,
-    s: Held,
-) -> Worked
+    s: &mut [u32],
+) -> Judgement
     requires { ⌜ Scoping (now doc) (now work) n (m + 1) k × (at < 2 ^ 31) × (c < 2 ^ 32) ⌝ }
-    ensures { λ r. ⌜ Assigns n (m + 1) (now (work .entry)) (now (work .exit)) (EachTold (now (doc .entry)) k (now (state .entry)) (now (work .entry)) n m at c s r) ⌝ }
+    ensures { λ r. ⌜ Assigns n (m + 1) (now (work .entry)) (now (work .exit)) (EachTold (now (doc .entry)) k (now (state .entry)) (now (work .entry)) n m at c (now (s .entry)) (now (s .exit)) r) ⌝ }
 {
     if c == 0 {
-        return go(s, false);
+        return judge(false);
     }
     if limits::VALUE < at {
-        return go(s, false);
+        return judge(false);
     }
     let here = BLOCK * n + (evaluator_scope::HEAD + at);
     let len = span(from(work, here));
@@ -597,13 +614,20 @@ fn each(
     if x.flag {
         return x;
     }
-    each(doc, state, work, n, m, k, at + len, c - 1, x.held)
+    each(doc, state, work, n, m, k, at + len, c - 1, s)
 }
 
 // One assignment: the body, where the Text's predicate is true.
-fn turn(doc: &[u32], state: &[u32], work: &mut [u32], n: usize, k: usize, s: Held) -> Worked
+fn turn(
+    doc: &[u32],
+    state: &[u32],
+    work: &mut [u32],
+    n: usize,
+    k: usize,
+    s: &mut [u32],
+) -> Judgement
     requires { ⌜ Scoping (now doc) (now work) n 0 k ⌝ }
-    ensures { λ r. ⌜ Leaves n (now (work .entry)) (now (work .exit)) (BodyTold (turnAt (now (doc .entry)) k) (now (state .entry)) (now (work .entry)) n s r) ⌝ }
+    ensures { λ r. ⌜ Leaves n (now (work .entry)) (now (work .exit)) (BodyTold (now (doc .entry)) k (turnAt (now (doc .entry)) k) (now (state .entry)) (now (work .entry)) n (now (s .entry)) (now (s .exit)) r) ⌝ }
 {
     let t = word(part(doc, k), 1);
     let x = pred(doc, state, work, n, word(part(doc, t), 1));
@@ -613,7 +637,7 @@ fn turn(doc: &[u32], state: &[u32], work: &mut [u32], n: usize, k: usize, s: Hel
     if x.flag {
         return body(doc, state, work, n, k, s, part(doc, k));
     }
-    go(s, false)
+    judge(false)
 }
 
 // The body: a Comprehension adds its value, a quantifier stops where it is decided.
@@ -623,24 +647,25 @@ fn body(
     work: &mut [u32],
     n: usize,
     k: usize,
-    s: Held,
+    s: &mut [u32],
     w: &[u32],
-) -> Worked
+) -> Judgement
     requires { ⌜ Scoping (now doc) (now work) n 0 k × (now w ≡ part (now doc) k) ⌝ }
-    ensures { λ r. ⌜ Leaves n (now (work .entry)) (now (work .exit)) (BodyTold (bodyAt (now (doc .entry)) k) (now (state .entry)) (now (work .entry)) n s r) ⌝ }
+    ensures { λ r. ⌜ Leaves n (now (work .entry)) (now (work .exit)) (BodyTold (now (doc .entry)) k (bodyAt (now (doc .entry)) k) (now (state .entry)) (now (work .entry)) n (now (s .entry)) (now (s .exit)) r) ⌝ }
 {
     let b = word(w, 2);
     if word(w, 0) == kinds::COMPREHENSION {
         let x = expr(doc, state, work, n, b);
-        if x.number != 0 {
-            return x;
+        let j = x.judgement;
+        if j.number != 0 {
+            return j;
         }
         let h = x.held;
-        return added(k, s, h);
+        return gather(k, s, h);
     }
     let y = pred(doc, state, work, n, b);
     if y.number != 0 {
         return y;
     }
-    go(empty_set(), verdict(word(w, 0), y.flag))
+    judge(verdict(word(w, 0), y.flag))
 }

@@ -18,7 +18,7 @@ use Rattle.evaluator_rules.specs.Outcomes.{Outcome, stopped, _>>=_, pure, stop,
 use Rattle.evaluator_rules.specs.Operations.{asSet, asSets}
 use Rattle.evaluator_rules.specs.Listing.{NoSet, SomeNoSet, thisNoSet, laterNoSet, AllSets, noSets, oneSet, gives, stops}
 use Rattle.evaluator_rules.proofs.Comes.{Comes, finished, ceased, some-no-set, all-sets}
-use Rattle.evaluator_operations.specs.declared.worked.Worked.{Worked}
+use Rattle.evaluator_operations.specs.declared.worked.Judgement.{Judgement}
 use Rattle.evaluator_operations.specs.Steps.{powerOf, productOf}
 use Rattle.evaluator_operations.specs.Worked.{narrow, allNarrow, Holds, Told, Valued, noParts, Tuples, Crosses, Crossed, Stops}
 use Rattle.evaluator_operations.proofs.ToldLaws.{at-stop, at-pure}
@@ -48,11 +48,11 @@ unfolding narrow
 product-narrow s h = members-narrow (product-each {P = λ r. allNarrow r ≡ true} refl (λ v r p q. narrow-cons v r p q) (λ r p. p) (sets-narrow s h))
 
 -- ---- Power
-pub power-told : (k : ℕ) (vs : Values) {r : Worked} → narrow (set vs) ≡ true → (narrow (set (subsets vs)) ≡ true → Told Valued r (keep k (set (subsets vs)))) → Told Valued r (powerOf k (set vs))
+pub power-told : (k : ℕ) (vs : Values) {h : Held} {r : Judgement} → narrow (set vs) ≡ true → (narrow (set (subsets vs)) ≡ true → Told (Valued h) r (keep k (set (subsets vs)))) → Told (Valued h) r (powerOf k (set vs))
 unfolding powerOf asSet
 power-told k vs h t = at-pure _ _ (t (power-narrow vs h))
 
-pub power-misfit : (k : ℕ) (x : Value) {r : Worked} → (getD (encode x) 0 0 ≡ 3 → ⊥) → Stops r 51 k → Told Valued r (powerOf k x)
+pub power-misfit : (k : ℕ) (x : Value) {h : Held} {r : Judgement} → (getD (encode x) 0 0 ≡ 3 → ⊥) → Stops r 51 k → Told (Valued h) r (powerOf k x)
 unfolding powerOf
 power-misfit k x e s = rw (tag-none k x e) (at-stop _ s (λ z. omega arith))
 
@@ -67,16 +67,16 @@ come-stops ceased = refl
 come-gives : {A : Type 0} {o : Outcome A} {a : A} → Comes o [] (gives a) → o ≡ pure a
 come-gives finished = refl
 
-pub product-misfit : (k : ℕ) (vs : Values) {x r : Worked} → Crossed false noParts x vs → x .flag ≡ true → Stops r 51 k → Told Valued r (productOf k vs)
+pub product-misfit : (k : ℕ) (vs : Values) {g h : Held} {x r : Judgement} → Crossed false noParts g x vs → x .flag ≡ true → Stops r 51 k → Told (Valued h) r (productOf k vs)
 unfolding productOf
-product-misfit k vs {x} {r} c f s = go (c .some f)
+product-misfit k vs {h = h} {r = r} c f s = go (c .some f)
   where
-    go : (false ≡ true) ⊎ SomeNoSet vs → Told Valued r (asSets k vs >>= λ vss. keep k (set (tuples vss)))
+    go : (false ≡ true) ⊎ SomeNoSet vs → Told (Valued h) r (asSets k vs >>= λ vss. keep k (set (tuples vss)))
     go (inl e) = absurd (false≢true e)
     go (inr d) = rw (come-stops (some-no-set k d)) (at-stop _ s (λ z. omega arith))
 
-pub product-told : (k : ℕ) (vs : Values) {x r : Worked} → Crossed false noParts x vs → x .flag ≡ false →
-    ((v : Value) → x .held ≡ words (encode v) → narrow v ≡ true → Told Valued r (keep k v)) → Told Valued r (productOf k vs)
+pub product-told : (k : ℕ) (vs : Values) {g h : Held} {x r : Judgement} → Crossed false noParts g x vs → x .flag ≡ false →
+    ((v : Value) → g ≡ words (encode v) → narrow v ≡ true → Told (Valued h) r (keep k v)) → Told (Valued h) r (productOf k vs)
 unfolding productOf
 product-told k vs c f t =
     let q = c .sets f in

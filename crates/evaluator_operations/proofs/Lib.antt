@@ -1,3 +1,4 @@
 pub mod ToldLaws
 pub mod OperationLaws
 pub mod EnumerationLaws
+pub mod GatherLaws

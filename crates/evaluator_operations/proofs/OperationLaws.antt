@@ -36,7 +36,7 @@ use Rattle.evaluator_rules.specs.Outcomes.{_>>=_, pure, stop, keepIf, keep}
 use Rattle.evaluator_rules.specs.Operations.{asInteger, asSet, asTuple, addIf, add, image, findPair, keepInteger, calculate}
 use Rattle.evaluator_rules.specs.Applications.{pair, Among, here, later}
 use Rattle.evaluator_rules.proofs.Images.{Finds, findsOne, finds, found-among, applied-words}
-use Rattle.evaluator_operations.specs.declared.worked.Worked.{Worked}
+use Rattle.evaluator_operations.specs.declared.worked.Judgement.{Judgement}
 use Rattle.evaluator_operations.specs.Worked.{narrow, allNarrow, Holds, Told, fine, ceased, Valued, Judged, Gathered, Stops}
 
 -- the words that are held
@@ -44,11 +44,11 @@ pub held-whole : (h : Held) (v : Value) → Holds h v → take (h .len) (h .word
 held-whole h v g = held-part h (encode v) (g .words) (g .short)
 
 -- a value that is complete
-pub keep-fine : (k : ℕ) (v : Value) (r : Worked) → r .number ≡ 0 → Holds (r .held) v → Told Valued r (keep k v)
+pub keep-fine : (k : ℕ) (v : Value) {h : Held} (r : Judgement) → r .number ≡ 0 → Holds h v → Told (Valued h) r (keep k v)
 unfolding keep keepIf wordCount
-keep-fine k v r z h = rw (le-leb (length (encode v)) 64 (h .short)) (fine z (record { held = h }))
+keep-fine k v r z g = rw (le-leb (length (encode v)) 64 (g .short)) (fine z (record { held = g }))
 
-pub keep-over : (k : ℕ) (v : Value) (r : Worked) → Stops r 55 k → 64 < length (encode v) → Told Valued r (keep k v)
+pub keep-over : (k : ℕ) (v : Value) {h : Held} (r : Judgement) → Stops r 55 k → 64 < length (encode v) → Told (Valued h) r (keep k v)
 unfolding keep keepIf wordCount
 keep-over k v r s h = rw (lt-leb (length (encode v)) 64 h) (ceased (s .number) (s .place) (λ e. omega arith))
 
@@ -120,17 +120,17 @@ unfolding narrow
 narrow-cons v vs p q = both-narrow (narrow v) (allNarrow vs) p q
 
 -- arithmetic, ≤ and ℤ's test, by the integers that the values are
-module _ (k q : ℕ) (x y : Value) (r : Worked) where
-  pub arithmetic-left : Misfit ≡ numberOf (encode x) → Stops r 51 k → Told Valued r (arithmeticOf k q x y)
+module _ (k q : ℕ) (x y : Value) (r : Judgement) where
+  pub arithmetic-left : {h : Held} → Misfit ≡ numberOf (encode x) → Stops r 51 k → Told (Valued h) r (arithmeticOf k q x y)
   unfolding arithmeticOf
   arithmetic-left e s = rw (integer-no k x e) (at-stop _ s (λ z. omega arith))
 
-  pub arithmetic-right : narrow x ≡ true → (i : ℤ) → Integer i ≡ numberOf (encode x) → Misfit ≡ numberOf (encode y) → Stops r 51 k → Told Valued r (arithmeticOf k q x y)
+  pub arithmetic-right : {h : Held} → narrow x ≡ true → (i : ℤ) → Integer i ≡ numberOf (encode x) → Misfit ≡ numberOf (encode y) → Stops r 51 k → Told (Valued h) r (arithmeticOf k q x y)
   unfolding arithmeticOf
   arithmetic-right h i e f s = rw (integer-yes k x h i e) (at-pure _ _ (rw (integer-no k y f) (at-stop _ s (λ z. omega arith))))
 
-  pub arithmetic-both : narrow x ≡ true → narrow y ≡ true → (i j : ℤ) → Integer i ≡ numberOf (encode x) → Integer j ≡ numberOf (encode y)
-      → Told Valued r (keepInteger k (calculate (operatorOf q) i j)) → Told Valued r (arithmeticOf k q x y)
+  pub arithmetic-both : {h : Held} → narrow x ≡ true → narrow y ≡ true → (i j : ℤ) → Integer i ≡ numberOf (encode x) → Integer j ≡ numberOf (encode y)
+      → Told (Valued h) r (keepInteger k (calculate (operatorOf q) i j)) → Told (Valued h) r (arithmeticOf k q x y)
   unfolding arithmeticOf
   arithmetic-both h g i j e f t = rw (integer-yes k x h i e) (at-pure _ _ (rw (integer-yes k y g j f) (at-pure _ _ t)))
 
@@ -165,14 +165,14 @@ module _ (k q : ℕ) (x y : Value) (r : Worked) where
   among-other e s = rw (tag-none k y e) (at-stop _ s (λ z. omega arith))
 
 -- Set members added one at a time
-module _ (k : ℕ) (vs : Values) (x : Value) (r : Worked) where
-  pub add-over : 64 < length (encode (set (insertValue x vs))) → Stops r 55 k → Told Gathered r (add k x vs)
+module _ (k : ℕ) (vs : Values) (x : Value) {R : Judgement → Values → Type 0} (r : Judgement) where
+  pub add-over : 64 < length (encode (set (insertValue x vs))) → Stops r 55 k → Told R r (add k x vs)
   unfolding add addIf wordCount
   add-over h s = rw (lt-leb (length (encode (set (insertValue x vs)))) 64 h) (ceased (s .number) (s .place) (λ z. omega arith))
 
-  pub add-fits : r .number ≡ 0 → Holds (r .held) (set (insertValue x vs)) → Told Gathered r (add k x vs)
+  pub add-fits : length (encode (set (insertValue x vs))) ≤ 64 → r .number ≡ 0 → R r (insertValue x vs) → Told R r (add k x vs)
   unfolding add addIf wordCount
-  add-fits z h = rw (le-leb (length (encode (set (insertValue x vs)))) 64 (h .short)) (fine z (record { held = h }))
+  add-fits h z g = rw (le-leb (length (encode (set (insertValue x vs)))) 64 h) (fine z g)
 
 insert-narrow : (vs : Values) (x : Value) → narrow x ≡ true → allNarrow vs ≡ true → allNarrow (insertValue x vs) ≡ true
 unfolding narrow insertValue insertBy
@@ -199,9 +199,9 @@ unfolding narrow
 second-narrow x z h = and-left (narrow z) true (and-right (narrow x) _ h)
 
 -- the answer on a value's words says what Apply gives
-module _ (k : ℕ) (x y : Value) (r : Worked) (hs : length (encode x) ≤ 64) (hn : narrow x ≡ true) where
-  image-found : (vs : Values) (i : Image) → Finds y vs i → allNarrow vs ≡ true → length (encode (set vs)) ≤ 64 → (at len : ℕ) → Shows (encode (set vs)) (Found at len) i
-      → r .number ≡ 0 → r .held ≡ words (take len (drop at (encode (set vs)))) → Told Valued r (image k i >>= λ v. keep k v)
+module _ (k : ℕ) (x y : Value) (r : Judgement) (hs : length (encode x) ≤ 64) (hn : narrow x ≡ true) where
+  image-found : {h : Held} (vs : Values) (i : Image) → Finds y vs i → allNarrow vs ≡ true → length (encode (set vs)) ≤ 64 → (at len : ℕ) → Shows (encode (set vs)) (Found at len) i
+      → r .number ≡ 0 → h ≡ words (take len (drop at (encode (set vs)))) → Told (Valued h) r (image k i >>= λ v. keep k v)
   unfolding image wordCount
   image-found vs (found v) (findsOne i) h g at len s z w =
       let m = found-among i in
@@ -209,23 +209,23 @@ module _ (k : ℕ) (x y : Value) (r : Worked) (hs : length (encode x) ≤ 64) (h
   image-found vs misfit f h g at len s z w = absurd s
   image-found vs undefined f h g at len s z w = absurd s
 
-  image-misfit : (vs : Values) (i : Image) → Shows (encode (set vs)) Sets.Misfit i → Stops r 51 k → Told Valued r (image k i >>= λ v. keep k v)
+  image-misfit : {h : Held} (vs : Values) (i : Image) → Shows (encode (set vs)) Sets.Misfit i → Stops r 51 k → Told (Valued h) r (image k i >>= λ v. keep k v)
   unfolding image
   image-misfit vs (found v) s t = absurd s
   image-misfit vs misfit s t = at-stop _ t (λ z. omega arith)
   image-misfit vs undefined s t = absurd s
 
-  image-none : (vs : Values) (i : Image) → Shows (encode (set vs)) Undefined i → Stops r 52 k → Told Valued r (image k i >>= λ v. keep k v)
+  image-none : {h : Held} (vs : Values) (i : Image) → Shows (encode (set vs)) Undefined i → Stops r 52 k → Told (Valued h) r (image k i >>= λ v. keep k v)
   unfolding image
   image-none vs (found v) s t = absurd s
   image-none vs misfit s t = absurd s
   image-none vs undefined s t = at-stop _ t (λ z. omega arith)
 
-  pub apply-found : (at len : ℕ) → Found at len ≡ apply (encode x) (encode y) → r .number ≡ 0 → r .held ≡ words (take len (drop at (encode x))) → Told Valued r (imageOf k x y)
+  pub apply-found : {h : Held} (at len : ℕ) → Found at len ≡ apply (encode x) (encode y) → r .number ≡ 0 → h ≡ words (take len (drop at (encode x))) → Told (Valued h) r (imageOf k x y)
   unfolding imageOf asSet findPair apply encode narrow
-  apply-found at len e z w = go x refl
+  apply-found {h} at len e z w = go x refl
     where
-      go : (u : Value) → x ≡ u → Told Valued r (asSet k u >>= λ vs. findPair k y vs >>= λ v. keep k v)
+      go : (u : Value) → x ≡ u → Told (Valued h) r (asSet k u >>= λ vs. findPair k y vs >>= λ v. keep k v)
       go (int i) q = let f : _≡_ {A = ℕ} 0 1 = cc (ap (λ (t : Value). apply (encode t) (encode y)) q) in absurd (omega arith)
       go (element g j) q = let f : _≡_ {A = ℕ} 0 1 = cc (ap (λ (t : Value). apply (encode t) (encode y)) q) in absurd (omega arith)
       go (set vs) q =
@@ -234,11 +234,11 @@ module _ (k : ℕ) (x y : Value) (r : Worked) (hs : length (encode x) ≤ 64) (h
           at-pure _ _ (image-found vs (applyValue y vs) (finds y vs) (rw q at hn) (rw q at hs) at len s z (rw q at w))
       go (tuple vs) q = let f : _≡_ {A = ℕ} 0 1 = cc (ap (λ (t : Value). apply (encode t) (encode y)) q) in absurd (omega arith)
 
-  pub apply-misfit : Sets.Misfit ≡ apply (encode x) (encode y) → Stops r 51 k → Told Valued r (imageOf k x y)
+  pub apply-misfit : {h : Held} → Sets.Misfit ≡ apply (encode x) (encode y) → Stops r 51 k → Told (Valued h) r (imageOf k x y)
   unfolding imageOf asSet findPair apply encode
-  apply-misfit e t = go x refl
+  apply-misfit {h} e t = go x refl
     where
-      go : (u : Value) → x ≡ u → Told Valued r (asSet k u >>= λ vs. findPair k y vs >>= λ v. keep k v)
+      go : (u : Value) → x ≡ u → Told (Valued h) r (asSet k u >>= λ vs. findPair k y vs >>= λ v. keep k v)
       go (int i) q = at-stop _ t (λ z. omega arith)
       go (element g j) q = at-stop _ t (λ z. omega arith)
       go (set vs) q =
@@ -247,11 +247,11 @@ module _ (k : ℕ) (x y : Value) (r : Worked) (hs : length (encode x) ≤ 64) (h
           at-pure _ _ (image-misfit vs (applyValue y vs) s t)
       go (tuple vs) q = at-stop _ t (λ z. omega arith)
 
-  pub apply-none : Undefined ≡ apply (encode x) (encode y) → Stops r 52 k → Told Valued r (imageOf k x y)
+  pub apply-none : {h : Held} → Undefined ≡ apply (encode x) (encode y) → Stops r 52 k → Told (Valued h) r (imageOf k x y)
   unfolding imageOf asSet findPair apply encode
-  apply-none e t = go x refl
+  apply-none {h} e t = go x refl
     where
-      go : (u : Value) → x ≡ u → Told Valued r (asSet k u >>= λ vs. findPair k y vs >>= λ v. keep k v)
+      go : (u : Value) → x ≡ u → Told (Valued h) r (asSet k u >>= λ vs. findPair k y vs >>= λ v. keep k v)
       go (int i) q = let f : _≡_ {A = ℕ} 0 1 = cc (ap (λ (t : Value). apply (encode t) (encode y)) q) in absurd (omega arith)
       go (element g j) q = let f : _≡_ {A = ℕ} 0 1 = cc (ap (λ (t : Value). apply (encode t) (encode y)) q) in absurd (omega arith)
       go (set vs) q =

@@ -1,7 +1,9 @@
 // The operations on sets and tuples, each with its findings at node k.
+use crate::worked::Judgement;
 use crate::worked::Worked;
 use crate::worked::go;
 use crate::worked::judge;
+use crate::worked::refuse;
 use crate::worked::stop;
 use codes::findings;
 use codes::limits;
@@ -39,7 +41,7 @@ const TUPLE: u32 = value_tags::TUPLE as u32;
 // A value that is complete: over 64 words is 55.
 pub fn kept(k: usize, v: Held) -> Worked
     requires { ⌜ k ≤ 1024 ⌝ }
-    ensures { λ r. ⌜ ((x : Value) → v ≡ words (encode x) → narrow x ≡ true → Told Valued r (keep k x)) ⌝ }
+    ensures { λ r. ⌜ ((x : Value) → v ≡ words (encode x) → narrow x ≡ true → Told (Valued (r .held)) (r .judgement) (keep k x)) ⌝ }
 {
     if limits::VALUE < v.len {
         return stop(findings::TOO_LONG, k);
@@ -48,7 +50,7 @@ pub fn kept(k: usize, v: Held) -> Worked
 }
 
 // = compares words.
-pub fn equal(a: Held, b: Held) -> Worked
+pub fn equal(a: Held, b: Held) -> Judgement
     ensures { λ r. ⌜ ((x y : Value) → Holds a x → Holds b y → Told Judged r (pure (sameValue x y))) ⌝ }
 {
     let u = a.words;
@@ -59,7 +61,7 @@ pub fn equal(a: Held, b: Held) -> Worked
 }
 
 // Member against a value, which must be a set.
-pub fn among(k: usize, v: Held, s: Held) -> Worked
+pub fn among(k: usize, v: Held, s: Held) -> Judgement
     requires { ⌜ k ≤ 1024 ⌝ }
     ensures { λ r. ⌜ ((x y : Value) → Holds v x → Holds s y → Told Judged r (amongMembers k x y)) ⌝ }
 {
@@ -70,13 +72,13 @@ pub fn among(k: usize, v: Held, s: Held) -> Worked
     if word(&w, 0) == value_tags::SET {
         return judge(sets::is_member(words::span(&w, 0, n), words::span(&u, 0, m)));
     }
-    stop(findings::MISFIT, k)
+    refuse(findings::MISFIT, k)
 }
 
 // The set s with the member v; over 64 words is 55.
 pub fn added(k: usize, s: Held, v: Held) -> Worked
     requires { ⌜ k ≤ 1024 ⌝ }
-    ensures { λ r. ⌜ ((vs : Values) (x : Value) → Holds s (Value.set vs) → Holds v x → Told Gathered r (add k x vs) × (r .number ≡ 0 → r .flag ≡ false)) ⌝ }
+    ensures { λ r. ⌜ ((vs : Values) (x : Value) → Holds s (Value.set vs) → Holds v x → Told (Gathered (r .held)) (r .judgement) (add k x vs) × (r .judgement .number ≡ 0 → r .judgement .flag ≡ false)) ⌝ }
 {
     let u = s.words;
     let m = s.len;
@@ -92,7 +94,7 @@ pub fn added(k: usize, s: Held, v: Held) -> Worked
 // Apply.
 pub fn applied(k: usize, f: Held, a: Held) -> Worked
     requires { ⌜ k ≤ 1024 ⌝ }
-    ensures { λ r. ⌜ ((x y : Value) → Holds f x → Holds a y → Told Valued r (imageOf k x y)) ⌝ }
+    ensures { λ r. ⌜ ((x y : Value) → Holds f x → Holds a y → Told (Valued (r .held)) (r .judgement) (imageOf k x y)) ⌝ }
 {
     let u = f.words;
     let m = f.len;

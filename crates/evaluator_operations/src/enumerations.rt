@@ -20,7 +20,7 @@ ghost use Rattle.evaluator_operations.specs.Worked.{Holds, Told, Valued,
 // The power of the value v, which must be a set.
 pub fn powered(k: usize, v: Held) -> Worked
     requires { ⌜ k ≤ 1024 ⌝ }
-    ensures { λ r. ⌜ ((x : Value) → Holds v x → Told Valued r (powerOf k x)) ⌝ }
+    ensures { λ r. ⌜ ((x : Value) → Holds v x → Told (Valued (r .held)) (r .judgement) (powerOf k x)) ⌝ }
 {
     let w = v.words;
     let n = v.len;
@@ -32,7 +32,7 @@ pub fn powered(k: usize, v: Held) -> Worked
 
 // The tuples s of a Product's operands so far, with the value v as the next operand. The flag says that one of them is no set.
 pub fn crossed(s: Held, misfit: bool, v: Held) -> Worked
-    ensures { λ r. ⌜ ((rs : List Values) (x : Value) → Tuples s misfit rs → Holds v x → Crosses rs misfit r x) ⌝ }
+    ensures { λ r. ⌜ ((rs : List Values) (x : Value) → Tuples s misfit rs → Holds v x → Crosses rs misfit (r .held) (r .judgement) x) ⌝ }
 {
     let w = v.words;
     let n = v.len;
@@ -45,9 +45,10 @@ pub fn crossed(s: Held, misfit: bool, v: Held) -> Worked
 // The Product, once its last operand is crossed.
 pub fn multiplied(k: usize, x: Worked) -> Worked
     requires { ⌜ k ≤ 1024 ⌝ }
-    ensures { λ r. ⌜ ((vs : Values) → Crossed false noParts x vs → Told Valued r (productOf k vs)) ⌝ }
+    ensures { λ r. ⌜ ((vs : Values) → Crossed false noParts (x .held) (x .judgement) vs → Told (Valued (r .held)) (r .judgement) (productOf k vs)) ⌝ }
 {
-    if x.flag {
+    let j = x.judgement;
+    if j.flag {
         return stop(findings::MISFIT, k);
     }
     let s = x.held;

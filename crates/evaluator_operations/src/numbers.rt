@@ -1,7 +1,9 @@
 // The operations on integers, each with its findings at node k.
+use crate::worked::Judgement;
 use crate::worked::Worked;
 use crate::worked::go;
 use crate::worked::judge;
+use crate::worked::refuse;
 use crate::worked::stop;
 use codes::findings;
 use codes::kinds;
@@ -23,7 +25,7 @@ ghost use Rattle.evaluator_operations.specs.Worked.{Holds, Told, Valued,
 
 // An integer as a value.
 fn whole(z: i32) -> Worked
-    ensures { λ r. ⌜ Valued r (int z) × (r .number ≡ 0) ⌝ }
+    ensures { λ r. ⌜ Valued (r .held) (r .judgement) (int z) × (r .judgement .number ≡ 0) ⌝ }
 {
     go(integer_value(z), false)
 }
@@ -31,7 +33,7 @@ fn whole(z: i32) -> Worked
 // An integer that arithmetic gave.
 fn kept_integer(k: usize, z: Integer) -> Worked
     requires { ⌜ k ≤ 1024 ⌝ }
-    ensures { λ r. ⌜ Told Valued r (keepInteger k z) ⌝ }
+    ensures { λ r. ⌜ Told (Valued (r .held)) (r .judgement) (keepInteger k z) ⌝ }
 {
     match z {
         Integer::Whole(i) => whole(i),
@@ -64,7 +66,7 @@ fn number(v: Held) -> Number
 
 pub fn arithmetic(k: usize, q: usize, a: Held, b: Held) -> Worked
     requires { ⌜ k ≤ 1024 ⌝ }
-    ensures { λ r. ⌜ ((x y : Value) → Holds a x → Holds b y → Told Valued r (arithmeticOf k q x y)) ⌝ }
+    ensures { λ r. ⌜ ((x y : Value) → Holds a x → Holds b y → Told (Valued (r .held)) (r .judgement) (arithmeticOf k q x y)) ⌝ }
 {
     let x = number(a);
     let y = number(b);
@@ -77,29 +79,29 @@ pub fn arithmetic(k: usize, q: usize, a: Held, b: Held) -> Worked
     }
 }
 
-pub fn at_most(k: usize, a: Held, b: Held) -> Worked
+pub fn at_most(k: usize, a: Held, b: Held) -> Judgement
     requires { ⌜ k ≤ 1024 ⌝ }
     ensures { λ r. ⌜ ((x y : Value) → Holds a x → Holds b y → Told Judged r (atMostOf k x y)) ⌝ }
 {
     let x = number(a);
     let y = number(b);
     match x {
-        Number::Misfit => stop(findings::MISFIT, k),
+        Number::Misfit => refuse(findings::MISFIT, k),
         Number::Integer(i) => match y {
-            Number::Misfit => stop(findings::MISFIT, k),
+            Number::Misfit => refuse(findings::MISFIT, k),
             Number::Integer(j) => judge(i <= j),
         },
     }
 }
 
 // An integer passes the test against ℤ.
-pub fn is_integer(k: usize, v: Held) -> Worked
+pub fn is_integer(k: usize, v: Held) -> Judgement
     requires { ⌜ k ≤ 1024 ⌝ }
     ensures { λ r. ⌜ ((x : Value) → Holds v x → Told Judged r (integerTest k x)) ⌝ }
 {
     let x = number(v);
     match x {
-        Number::Misfit => stop(findings::MISFIT, k),
+        Number::Misfit => refuse(findings::MISFIT, k),
         Number::Integer(i) => judge(true),
     }
 }
@@ -107,7 +109,7 @@ pub fn is_integer(k: usize, v: Held) -> Worked
 // The value of a Number, at most 2,147,483,647.
 pub fn number_value(z: usize) -> Worked
     requires { ⌜ z ≤ 2147483647 ⌝ }
-    ensures { λ r. ⌜ Valued r (int (pos z)) × (r .number ≡ 0) ⌝ }
+    ensures { λ r. ⌜ Valued (r .held) (r .judgement) (int (pos z)) × (r .judgement .number ≡ 0) ⌝ }
 {
     whole(z as i32)
 }

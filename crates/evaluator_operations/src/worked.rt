@@ -1,26 +1,51 @@
-// What working something out gives, by value: a number other than 0 is a finding that stops the run, at a node. An enum cannot hold the words of a value.
+// What working something out gives, by value. An enum cannot hold the words of a value.
 use values::held::Held;
 use values::held::empty;
 ghost use mathlib.Core.Path.{_≡_};
 ghost use Prim.Native.Nat.{_≤_};
 ghost use Rattle.evaluator_operations.specs.Worked.{Stops, Plain};
 
-pub struct Worked {
-    pub held: Held,
+// A truth value; a number other than 0 is a finding that stops the run, at a node.
+pub struct Judgement {
     pub flag: bool,
     pub number: u32,
     pub place: u32,
 }
 
-pub fn stop(number: u32, k: usize) -> Worked
+// A value, where the judgement has the number 0.
+pub struct Worked {
+    pub held: Held,
+    pub judgement: Judgement,
+}
+
+pub fn refuse(number: u32, k: usize) -> Judgement
     requires { ⌜ k ≤ 1024 ⌝ }
     ensures { λ r. ⌜ Stops r number k ⌝ }
 {
-    Worked {
-        held: empty(),
+    Judgement {
         flag: false,
         number: number,
         place: k as u32,
+    }
+}
+
+pub fn judge(flag: bool) -> Judgement
+    ensures { λ r. ⌜ (r .number ≡ 0) × (r .flag ≡ flag) ⌝ }
+{
+    Judgement {
+        flag: flag,
+        number: 0,
+        place: 0,
+    }
+}
+
+pub fn stop(number: u32, k: usize) -> Worked
+    requires { ⌜ k ≤ 1024 ⌝ }
+    ensures { λ r. ⌜ Stops (r .judgement) number k ⌝ }
+{
+    Worked {
+        held: empty(),
+        judgement: refuse(number, k),
     }
 }
 
@@ -29,15 +54,16 @@ pub fn go(held: Held, flag: bool) -> Worked
 {
     Worked {
         held: held,
-        flag: flag,
-        number: 0,
-        place: 0,
+        judgement: judge(flag),
     }
 }
 
-// A truth value.
-pub fn judge(flag: bool) -> Worked
-    ensures { λ r. ⌜ (r .number ≡ 0) × (r .flag ≡ flag) ⌝ }
+// A judgement where a value is asked for.
+pub fn halted(judgement: Judgement) -> Worked
+    ensures { λ r. ⌜ r .judgement ≡ judgement ⌝ }
 {
-    go(empty(), flag)
+    Worked {
+        held: empty(),
+        judgement: judgement,
+    }
 }

@@ -11,6 +11,7 @@ use lib.ListN.{length, getD, take, drop, length-append, length-drop}
 use Rattle.words.proofs.Lists.{drop-next, drop-done}
 use Rattle.layout.specs.Layout.{count, part}
 use Rattle.values.specs.Value.{Value}
+use Rattle.values.specs.declared.held.Held.{Held}
 use Rattle.reader_rules.specs.Kinds.{expressions, predicates, texts, lines, paragraphs}
 use Rattle.reader_rules.specs.Nodes.{kindAt, operandAt}
 use Rattle.reader_rules.specs.Promise.{At, Lower}
@@ -29,7 +30,7 @@ use Rattle.evaluator_rules.specs.Outcomes.{Outcome, _>>=_, pure, stop}
 use Rattle.evaluator_rules.specs.Environment.{Environment, bind, valued, generic}
 use Rattle.evaluator_rules.specs.Rules.{evalExpr, evalPred, test, stopInclude}
 use Rattle.evaluator_rules.specs.Paragraphs.{Step, onward, failed, then, unless, bindGivens, testNames, testLines, runParagraph, runParagraphs}
-use Rattle.evaluator_operations.specs.declared.worked.Worked.{Worked}
+use Rattle.evaluator_operations.specs.declared.worked.Judgement.{Judgement}
 use Rattle.evaluator_operations.specs.Worked.{Holds, Told, fine, ceased, Valued, Judged, Stops}
 use Rattle.evaluator_scope.specs.Blocks.{Scoped}
 use Rattle.evaluator_scope.specs.Named.{Among, Declares, Extends}
@@ -38,7 +39,7 @@ use Rattle.evaluator_operations.proofs.ToldLaws.{after-told, stop-told, go-told
 use Rattle.evaluator_scope.proofs.NamedLaws.{among-left, among-right, among-as}
 
 -- ---- steps
-module _ (P : Environment → Type 0) {r : Worked} where
+module _ (P : Environment → Type 0) {r : Judgement} where
   pub step-on : (scope : Environment) → r .number ≡ 0 → r .flag ≡ true → P scope → Told (Stepped P) r (pure (onward scope))
   step-on scope z f p = fine {a = onward scope} z (f, p)
 
@@ -46,7 +47,7 @@ module _ (P : Environment → Type 0) {r : Worked} where
   step-failed k h = fine {a = failed k} (h .number) (h .flag, h .place)
 
 module _ {P Q : Environment → Type 0} {o : Outcome Step} (k : Environment → Outcome Step) where
-  pub then-go : {y r : Worked} → Told (Stepped P) y o → y .number ≡ 0 → y .flag ≡ true → ((scope : Environment) → P scope → Told (Stepped Q) r (k scope)) → Told (Stepped Q) r (o >>= then k)
+  pub then-go : {y r : Judgement} → Told (Stepped P) y o → y .number ≡ 0 → y .flag ≡ true → ((scope : Environment) → P scope → Told (Stepped Q) r (k scope)) → Told (Stepped Q) r (o >>= then k)
   unfolding then
   then-go {y} {r} t z f m = go-told t z go
     where
@@ -54,7 +55,7 @@ module _ {P Q : Environment → Type 0} {o : Outcome Step} (k : Environment → 
       go (onward scope) g = m scope (g .1)
       go (failed n) g = absurd (true≢false (sym f ∙ g .0))
 
-  pub then-failed : {y : Worked} → Told (Stepped P) y o → y .number ≡ 0 → y .flag ≡ false → Told (Stepped Q) y (o >>= then k)
+  pub then-failed : {y : Judgement} → Told (Stepped P) y o → y .number ≡ 0 → y .flag ≡ false → Told (Stepped Q) y (o >>= then k)
   unfolding then
   then-failed {y} t z f = go-told t z go
     where
@@ -63,12 +64,12 @@ module _ {P Q : Environment → Type 0} {o : Outcome Step} (k : Environment → 
       go (failed n) g = step-failed Q n (record { number = z; flag = f; place = g .1 })
 
 -- ---- a predicate that must be true
-module _ {P : Environment → Type 0} (k : ℕ) (p : Pred) (scope : Environment) {y : Worked} (t : Told Judged y (evalPred p scope)) where
+module _ {P : Environment → Type 0} (k : ℕ) (p : Pred) (scope : Environment) {y : Judgement} (t : Told Judged y (evalPred p scope)) where
   pub demand-stops : (y .number ≡ 0 → ⊥) → Told (Stepped P) y (demanded k p scope)
   unfolding demanded
   demand-stops z = halt-told _ t z
 
-  pub demand-holds : {r : Worked} → y .number ≡ 0 → y .flag ≡ true → r .number ≡ 0 → r .flag ≡ true → P scope → Told (Stepped P) r (demanded k p scope)
+  pub demand-holds : {r : Judgement} → y .number ≡ 0 → y .flag ≡ true → r .number ≡ 0 → r .flag ≡ true → P scope → Told (Stepped P) r (demanded k p scope)
   unfolding demanded unless
   demand-holds {r} z f a b h = go-told t z go
     where
@@ -76,7 +77,7 @@ module _ {P : Environment → Type 0} (k : ℕ) (p : Pred) (scope : Environment)
       go true g = step-on P scope a b h
       go false g = absurd (true≢false (sym f ∙ g .flag))
 
-  pub demand-fails : {r : Worked} → y .number ≡ 0 → y .flag ≡ false → Failed r k → Told (Stepped P) r (demanded k p scope)
+  pub demand-fails : {r : Judgement} → y .number ≡ 0 → y .flag ≡ false → Failed r k → Told (Stepped P) r (demanded k p scope)
   unfolding demanded unless
   demand-fails {r} z f h = go-told t z go
     where
@@ -86,20 +87,20 @@ module _ {P : Environment → Type 0} (k : ℕ) (p : Pred) (scope : Environment)
 
 -- ---- the identifiers of a Decl
 module _ (v : ℕ) (f : Value → Outcome Bool) (x : List ℕ) (j : ℕ) (s : State) where
-  pub names-end : {r : Worked} → length x ≤ j → r .number ≡ 0 → r .flag ≡ true → TestsTold (bindGivens (drop j x) s) r (testNames v f (drop j x) s)
+  pub names-end : {r : Judgement} → length x ≤ j → r .number ≡ 0 → r .flag ≡ true → TestsTold (bindGivens (drop j x) s) r (testNames v f (drop j x) s)
   unfolding testNames bindGivens
   names-end h z e own = rw (drop-done x j h) (step-on (λ o. o ≡ own) own z e refl)
 
-  module _ (h : j < length x) {y : Worked} (t : Told Judged y (f (s (getD x j 0)))) where
+  module _ (h : j < length x) {y : Judgement} (t : Told Judged y (f (s (getD x j 0)))) where
     pub names-stop : (y .number ≡ 0 → ⊥) → TestsTold (bindGivens (drop j x) s) y (testNames v f (drop j x) s)
     unfolding testNames bindGivens
     names-stop z own = rw (drop-next x j h) (halt-told _ t z)
 
-    pub names-failed : {r : Worked} → y .number ≡ 0 → y .flag ≡ false → Failed r v → TestsTold (bindGivens (drop j x) s) r (testNames v f (drop j x) s)
+    pub names-failed : {r : Judgement} → y .number ≡ 0 → y .flag ≡ false → Failed r v → TestsTold (bindGivens (drop j x) s) r (testNames v f (drop j x) s)
     unfolding testNames bindGivens
     names-failed z e g own = rw (drop-next x j h) (go-told t z (λ b q. choose-told b (λ n. absurd (true≢false (sym n ∙ sym (q .flag) ∙ e))) (λ n. step-failed _ v g)))
 
-    pub names-go : {r : Worked} → y .number ≡ 0 → y .flag ≡ true → TestsTold (bindGivens (drop (j + 1) x) s) r (testNames v f (drop (j + 1) x) s) →
+    pub names-go : {r : Judgement} → y .number ≡ 0 → y .flag ≡ true → TestsTold (bindGivens (drop (j + 1) x) s) r (testNames v f (drop (j + 1) x) s) →
         TestsTold (bindGivens (drop j x) s) r (testNames v f (drop j x) s)
     unfolding testNames bindGivens
     names-go z e m own =
@@ -114,7 +115,7 @@ names-counted (declaration n a xs ls) = length-append (namesAs false xs) (lineNa
 names-counted (inclusion i ls) = names-counted ls
 
 module _ (doc : List ℕ) (t : ℕ) (s : State) where
-  pub lines-over : {r : Worked} (scope : Environment) (i e : ℕ) → e ≤ i → r .number ≡ 0 → r .flag ≡ true →
+  pub lines-over : {r : Judgement} (scope : Environment) (i e : ℕ) → e ≤ i → r .number ≡ 0 → r .flag ≡ true →
       TestsTold (bindLines (linesFrom doc t i (e - i)) s) r (testLines (linesFrom doc t i (e - i)) s scope)
   unfolding testLines bindLines
   lines-over scope i e h z f own = rw (lines-end doc t e i h) (step-on (λ o. o ≡ own) own z f refl)
@@ -149,11 +150,11 @@ module _ (doc : List ℕ) (t : ℕ) (s : State) where
     these-include : kindAt doc v ≡ 12 → these ≡ inclusion (includeAt doc v) rest
     these-include k = lines-go doc t (length (part doc t)) i q ∙ (rw (← x) (line-inclusion doc v k rest))
 
-    pub include-stop : {r : Worked} (scope : Environment) → kindAt doc v ≡ 12 → Stops r 54 v → TestsTold (bindLines these s) r (testLines these s scope)
+    pub include-stop : {r : Judgement} (scope : Environment) → kindAt doc v ≡ 12 → Stops r 54 v → TestsTold (bindLines these s) r (testLines these s scope)
     unfolding testLines stopInclude
     include-stop scope k a own = rw (these-include k, include-law doc lines v this-line k (operandAt doc v 3) refl .tree) (stop-told a (λ z. omega arith))
 
-    module _ (k : kindAt doc v ≡ 11) (scope : Environment) {y : Worked} (d : TestsTold (bindGivens (drop 2 (part doc v)) s) y (testNames v (test (exprAt doc (operandAt doc v 1)) scope) (drop 2 (part doc v)) s)) where
+    module _ (k : kindAt doc v ≡ 11) (scope : Environment) {y : Judgement} (d : TestsTold (bindGivens (drop 2 (part doc v)) s) y (testNames v (test (exprAt doc (operandAt doc v 1)) scope) (drop 2 (part doc v)) s)) where
       pub decl-stop : (y .number ≡ 0 → ⊥) → TestsTold (bindLines these s) y (testLines these s scope)
       unfolding testLines
       decl-stop z own = rw (these-decl k) (halt-told _ (d own) z)
@@ -162,7 +163,7 @@ module _ (doc : List ℕ) (t : ℕ) (s : State) where
       unfolding testLines
       decl-failed z f own = rw (these-decl k) (then-failed (λ o. testLines rest s scope o) (d own) z f)
 
-      pub decl-go : {r : Worked} → y .number ≡ 0 → y .flag ≡ true → TestsTold (bindLines rest s) r (testLines rest s scope) → TestsTold (bindLines these s) r (testLines these s scope)
+      pub decl-go : {r : Judgement} → y .number ≡ 0 → y .flag ≡ true → TestsTold (bindLines rest s) r (testLines rest s scope) → TestsTold (bindLines these s) r (testLines these s scope)
       unfolding testLines bindLines
       decl-go {r} z f m own = rw (these-decl k) (then-go (λ o. testLines rest s scope o) (d own) z f (λ o e. subst (λ (z : Environment). Told (Stepped (λ a. a ≡ bindLines rest s z)) r (testLines rest s scope o)) e (m o)))
 
@@ -207,19 +208,19 @@ module _ (doc : List ℕ) (k : ℕ) (h : At doc paragraphs k) (s : State) (state
   unfolding globalsOf
   given-globals q = rw (paragraph-given doc k h q) (length-drop 1 (part doc k))
 
-  pub given-steps : {r : Worked} → kindAt doc k ≡ 2 → r .number ≡ 0 → r .flag ≡ true → Extends state w0 w1 n (n + (length (part doc k) - 1)) (bindGivens (drop 1 (part doc k)) s) →
+  pub given-steps : {r : Judgement} → kindAt doc k ≡ 2 → r .number ≡ 0 → r .flag ≡ true → Extends state w0 w1 n (n + (length (part doc k) - 1)) (bindGivens (drop 1 (part doc k)) s) →
       Steps state w0 w1 n (n + globalsOf (paragraphAt doc k)) r (runParagraph (paragraphAt doc k) s)
   unfolding runParagraph
   given-steps q z f m scope g = rw (given-globals q) (rw (paragraph-given doc k h q) (step-on (Scoped state w1 (n + (length (part doc k) - 1))) (bindGivens (drop 1 (part doc k)) s scope) z f (m scope g)))
 
-  pub schema-steps : {r : Worked} → kindAt doc k ≡ 4 → r .number ≡ 0 → r .flag ≡ true → Steps state w0 w0 n (n + globalsOf (paragraphAt doc k)) r (runParagraph (paragraphAt doc k) s)
+  pub schema-steps : {r : Judgement} → kindAt doc k ≡ 4 → r .number ≡ 0 → r .flag ≡ true → Steps state w0 w0 n (n + globalsOf (paragraphAt doc k)) r (runParagraph (paragraphAt doc k) s)
   unfolding runParagraph globalsOf
   schema-steps q z f scope g =
       let e = paragraph-schema doc k h q (operandAt doc k 2) (operandAt doc k (operandAt doc k 2 + 3)) refl refl .tree in
       let y : n + 0 ≡ n = omega arith in
       rw (e, y) (step-on (Scoped state w0 n) scope z f g)
 
-  pub constraint-steps : {r : Worked} (a : ℕ) → a ≡ operandAt doc k 1 → kindAt doc k ≡ 6 → Steps state w0 w1 n n r (demanded k (predAt doc a)) →
+  pub constraint-steps : {r : Judgement} (a : ℕ) → a ≡ operandAt doc k 1 → kindAt doc k ≡ 6 → Steps state w0 w1 n n r (demanded k (predAt doc a)) →
       Steps state w0 w1 n (n + globalsOf (paragraphAt doc k)) r (runParagraph (paragraphAt doc k) s)
   unfolding runParagraph globalsOf demanded
   constraint-steps a x q m scope g = let y : n + 0 ≡ n = omega arith in rw (paragraph-constraint doc k h q a x .tree, y) (m scope g)
@@ -235,7 +236,7 @@ module _ (doc : List ℕ) (k : ℕ) (h : At doc paragraphs k) (s : State) (state
     unfolding globalsOf
     abbreviation-globals = rw tree
 
-    pub generic-steps : {r : Worked} → (operandAt doc k 2 ≡ 0 → ⊥) → r .number ≡ 0 → r .flag ≡ true → Extends state w0 w1 n (n + 1) (bind (operandAt doc k 1) generic) →
+    pub generic-steps : {r : Judgement} → (operandAt doc k 2 ≡ 0 → ⊥) → r .number ≡ 0 → r .flag ≡ true → Extends state w0 w1 n (n + 1) (bind (operandAt doc k 1) generic) →
         Steps state w0 w1 n (n + 1) r (runParagraph (paragraphAt doc k) s)
     unfolding runParagraph
     generic-steps {r} p z f m scope g = rw tree (go (operandAt doc k 2) p (drop 3 (part doc k)) (omega (arith, length-drop 3 (part doc k), paragraph-abbreviation doc k h q (operandAt doc k 2) body refl refl .words)))
@@ -254,12 +255,12 @@ module _ (doc : List ℕ) (k : ℕ) (h : At doc paragraphs k) (s : State) (state
       plain-tree : paragraphAt doc k ≡ abbreviation k (operandAt doc k 1) [] (exprAt doc (operandAt doc k 3))
       plain-tree = tree ∙ rw p
 
-      pub plain-stops : {y : Worked} (scope : Environment) → Told Valued y (evalExpr (exprAt doc (operandAt doc k 3)) scope) → (y .number ≡ 0 → ⊥) → Told (Stepped (Scoped state w1 (n + 1))) y (runParagraph (paragraphAt doc k) s scope)
+      pub plain-stops : {h : Held} {y : Judgement} (scope : Environment) → Told (Valued h) y (evalExpr (exprAt doc (operandAt doc k 3)) scope) → (y .number ≡ 0 → ⊥) → Told (Stepped (Scoped state w1 (n + 1))) y (runParagraph (paragraphAt doc k) s scope)
       unfolding runParagraph
       plain-stops scope t z = rw plain-tree (halt-told _ t z)
 
-      pub plain-goes : {y r : Worked} (scope : Environment) → Told Valued y (evalExpr (exprAt doc (operandAt doc k 3)) scope) → y .number ≡ 0 → r .number ≡ 0 → r .flag ≡ true →
-          ((x : Value) → Holds (y .held) x → Scoped state w1 (n + 1) (bind (operandAt doc k 1) (valued x) scope)) → Told (Stepped (Scoped state w1 (n + 1))) r (runParagraph (paragraphAt doc k) s scope)
+      pub plain-goes : {h : Held} {y r : Judgement} (scope : Environment) → Told (Valued h) y (evalExpr (exprAt doc (operandAt doc k 3)) scope) → y .number ≡ 0 → r .number ≡ 0 → r .flag ≡ true →
+          ((x : Value) → Holds h x → Scoped state w1 (n + 1) (bind (operandAt doc k 1) (valued x) scope)) → Told (Stepped (Scoped state w1 (n + 1))) r (runParagraph (paragraphAt doc k) s scope)
       unfolding runParagraph
       plain-goes scope t z a b m = rw plain-tree (go-told t z (λ x g. step-on (Scoped state w1 (n + 1)) (bind (operandAt doc k 1) (valued x) scope) a b (m x (g .held))))
 
@@ -285,7 +286,7 @@ module _ (doc : List ℕ) (k : ℕ) (h : At doc paragraphs k) (q : kindAt doc k 
   unfolding paragraphNames
   axiom-names = rw axiom-tree
 
-  module _ {P : Environment → Type 0} (scope : Environment) {y : Worked} (t : TestsTold (bindLines all s) y (testLines all s scope)) where
+  module _ {P : Environment → Type 0} (scope : Environment) {y : Judgement} (t : TestsTold (bindLines all s) y (testLines all s scope)) where
     pub axiom-stops : (y .number ≡ 0 → ⊥) → Told (Stepped P) y (runParagraph (paragraphAt doc k) s scope)
     unfolding runParagraph
     axiom-stops z = rw axiom-tree (halt-told _ (t scope) z)
@@ -294,7 +295,7 @@ module _ (doc : List ℕ) (k : ℕ) (h : At doc paragraphs k) (q : kindAt doc k 
     unfolding runParagraph demanded
     axiom-fails z f = rw axiom-tree (then-failed (demanded k (predAt doc (operandAt doc a 1))) (t scope) z f)
 
-    pub axiom-goes : {r : Worked} → y .number ≡ 0 → y .flag ≡ true → Told (Stepped P) r (demanded k (predAt doc (operandAt doc a 1)) (bindLines all s scope)) →
+    pub axiom-goes : {r : Judgement} → y .number ≡ 0 → y .flag ≡ true → Told (Stepped P) r (demanded k (predAt doc (operandAt doc a 1)) (bindLines all s scope)) →
         Told (Stepped P) r (runParagraph (paragraphAt doc k) s scope)
     unfolding runParagraph demanded
     axiom-goes z f m = rw axiom-tree (then-go (demanded k (predAt doc (operandAt doc a 1))) (t scope) z f (λ own e. rw e m))
@@ -323,7 +324,7 @@ module _ (doc : List ℕ) (s : State) (i : ℕ) where
   abbrev size : ℕ
   size = length (part doc (count doc))
 
-  pub run-over : {r : Worked} (scope : Environment) → size ≤ i → r .number ≡ 0 → r .flag ≡ true → Told (Stepped (λ z. Unit {0})) r (runParagraphs (paragraphsFrom doc (count doc) i (size - i)) s scope)
+  pub run-over : {r : Judgement} (scope : Environment) → size ≤ i → r .number ≡ 0 → r .flag ≡ true → Told (Stepped (λ z. Unit {0})) r (runParagraphs (paragraphsFrom doc (count doc) i (size - i)) s scope)
   unfolding runParagraphs
   run-over scope h z f = rw (paragraphs-end doc (count doc) size i h) (step-on (λ o. Unit {0}) scope z f tt)
 
@@ -349,7 +350,7 @@ module _ (doc : List ℕ) (s : State) (i : ℕ) where
     unfolding namesOf
     declares-others e = record { each = λ j a. (rw these-paragraphs at e) .each j (among-right (paragraphNames (paragraphAt doc v)) _ a) }
 
-    module _ {P : Environment → Type 0} (scope : Environment) {y : Worked} (t : Told (Stepped P) y (runParagraph (paragraphAt doc v) s scope)) where
+    module _ {P : Environment → Type 0} (scope : Environment) {y : Judgement} (t : Told (Stepped P) y (runParagraph (paragraphAt doc v) s scope)) where
       pub run-stops : {Q : Environment → Type 0} → (y .number ≡ 0 → ⊥) → Told (Stepped Q) y (runParagraphs (paragraphsFrom doc (count doc) i (size - i)) s scope)
       unfolding runParagraphs
       run-stops z = rw these-paragraphs (halt-told _ t z)
@@ -358,7 +359,7 @@ module _ (doc : List ℕ) (s : State) (i : ℕ) where
       unfolding runParagraphs
       run-fails z f = rw these-paragraphs (then-failed (λ o. runParagraphs later s o) t z f)
 
-      pub run-goes : {Q : Environment → Type 0} {r : Worked} → y .number ≡ 0 → y .flag ≡ true → ((own : Environment) → P own → Told (Stepped Q) r (runParagraphs later s own)) →
+      pub run-goes : {Q : Environment → Type 0} {r : Judgement} → y .number ≡ 0 → y .flag ≡ true → ((own : Environment) → P own → Told (Stepped Q) r (runParagraphs later s own)) →
           Told (Stepped Q) r (runParagraphs (paragraphsFrom doc (count doc) i (size - i)) s scope)
       unfolding runParagraphs
       run-goes z f m = rw these-paragraphs (then-go (λ o. runParagraphs later s o) t z f m)

@@ -4,9 +4,9 @@ use codes::kinds;
 use evaluator_nodes::nodes::expr;
 use evaluator_nodes::nodes::pred;
 use evaluator_nodes::nodes::tests;
-use evaluator_operations::worked::Worked;
+use evaluator_operations::worked::Judgement;
 use evaluator_operations::worked::judge;
-use evaluator_operations::worked::stop;
+use evaluator_operations::worked::refuse;
 use evaluator_scope::named::bounded;
 use evaluator_scope::named::held_name;
 use evaluator_scope::named::put_names;
@@ -14,7 +14,6 @@ use evaluator_scope::put_generic;
 use evaluator_scope::put_name;
 use layout::part;
 use states::names::text_count;
-use values::held::empty;
 use words::word;
 ghost use mathlib.Core.Path.{_≡_};
 ghost use mathlib.Core.Bool.{true, false};
@@ -38,12 +37,11 @@ ghost use Rattle.evaluator_nodes.specs.Ready.{Ready};
 ghost use Rattle.evaluator_paragraphs.specs.Paragraphs.{demanded, Roomy, bindLines, Stepped, Failed, TestsTold, Steps};
 
 // A failure at node k.
-fn fail(k: usize) -> Worked
+fn fail(k: usize) -> Judgement
     requires { ⌜ k ≤ 1024 ⌝ }
     ensures { λ r. ⌜ Failed r k ⌝ }
 {
-    Worked {
-        held: empty(),
+    Judgement {
         flag: false,
         number: 0,
         place: k as u32,
@@ -60,7 +58,7 @@ fn test_names(
     v: usize,
     x: &[u32],
     j: usize,
-) -> Worked
+) -> Judgement
     requires { ⌜ Stated (now doc) (now state) (now table) × Ready (now doc) (now work) expressions n (getD (now x) 1 0) × Declares (now doc) (namesAs true (drop j (now x))) × (v ≤ 1024) × (length (now x) ≤ 256) ⌝ }
     ensures { λ r. ⌜ Leaves n (now (work .entry)) (now (work .exit)) ((scope : Environment) → Scoped (now (state .entry)) (now (work .entry)) n scope → TestsTold (bindGivens (drop j (now (x .entry))) (said (now (doc .entry)) (now (state .entry)))) r (testNames v (test (exprAt (now (doc .entry)) (getD (now (x .entry)) 1 0)) scope) (drop j (now (x .entry))) (said (now (doc .entry)) (now (state .entry))))) ⌝ }
 {
@@ -94,7 +92,7 @@ fn test_lines(
     t: usize,
     u: &[u32],
     i: usize,
-) -> Worked
+) -> Judgement
     requires { ⌜ Stated (now doc) (now state) (now table) × At (now doc) texts t × (now u ≡ part (now doc) t) × (2 ≤ i) × (i ≤ 256) × Roomy (now work) n 0 × Declares (now doc) (lineNames (linesFrom (now doc) t i (length (now u) - i))) ⌝ }
     ensures { λ r. ⌜ Leaves n (now (work .entry)) (now (work .exit)) ((scope : Environment) → Scoped (now (state .entry)) (now (work .entry)) n scope → TestsTold (bindLines (linesFrom (now (doc .entry)) t i (length (now (u .entry)) - i)) (said (now (doc .entry)) (now (state .entry)))) r (testLines (linesFrom (now (doc .entry)) t i (length (now (u .entry)) - i)) (said (now (doc .entry)) (now (state .entry))) scope)) ⌝ }
 {
@@ -104,7 +102,7 @@ fn test_lines(
     let v = word(u, i);
     let x = part(doc, v);
     if word(x, 0) == kinds::INCLUDE {
-        return stop(findings::NOT_RUN, v);
+        return refuse(findings::NOT_RUN, v);
     }
     let y = test_names(doc, state, table, work, n, v, x, 2);
     if y.number != 0 {
@@ -151,7 +149,7 @@ fn given(
     n: usize,
     k: usize,
     w: &[u32],
-) -> Worked
+) -> Judgement
     requires { ⌜ Stated (now doc) (now state) (now table) × At (now doc) paragraphs k × (kindAt (now doc) k ≡ 2) × Roomy (now work) n (globalsOf (paragraphAt (now doc) k)) × Declares (now doc) (paragraphNames (paragraphAt (now doc) k)) × (now w ≡ part (now doc) k) ⌝ }
     ensures { λ r. ⌜ Steps (now (state .entry)) (now (work .entry)) (now (work .exit)) n (n + globalsOf (paragraphAt (now (doc .entry)) k)) r (runParagraph (paragraphAt (now (doc .entry)) k) (said (now (doc .entry)) (now (state .entry)))) ⌝ }
 {
@@ -160,7 +158,7 @@ fn given(
 }
 
 // A predicate that must be true, at node p; it fails at node k.
-fn demand(doc: &[u32], state: &[u32], work: &mut [u32], n: usize, k: usize, p: usize) -> Worked
+fn demand(doc: &[u32], state: &[u32], work: &mut [u32], n: usize, k: usize, p: usize) -> Judgement
     requires { ⌜ Ready (now doc) (now work) predicates n p × (k ≤ 1024) ⌝ }
     ensures { λ r. ⌜ Steps (now (state .entry)) (now (work .entry)) (now (work .exit)) n n r (demanded k (predAt (now (doc .entry)) p)) ⌝ }
 {
@@ -183,7 +181,7 @@ fn axiom(
     n: usize,
     k: usize,
     w: &[u32],
-) -> Worked
+) -> Judgement
     requires { ⌜ Stated (now doc) (now state) (now table) × At (now doc) paragraphs k × (kindAt (now doc) k ≡ 3) × Roomy (now work) n (globalsOf (paragraphAt (now doc) k)) × Declares (now doc) (paragraphNames (paragraphAt (now doc) k)) × (now w ≡ part (now doc) k) ⌝ }
     ensures { λ r. ⌜ Steps (now (state .entry)) (now (work .entry)) (now (work .exit)) n (n + globalsOf (paragraphAt (now (doc .entry)) k)) r (runParagraph (paragraphAt (now (doc .entry)) k) (said (now (doc .entry)) (now (state .entry)))) ⌝ }
 {
@@ -208,14 +206,15 @@ fn abbreviation(
     n: usize,
     k: usize,
     w: &[u32],
-) -> Worked
+) -> Judgement
     requires { ⌜ At (now doc) paragraphs k × (kindAt (now doc) k ≡ 5) × Roomy (now work) n 1 × (now w ≡ part (now doc) k) ⌝ }
     ensures { λ r. ⌜ ((s : State) → Steps (now (state .entry)) (now (work .entry)) (now (work .exit)) n (n + 1) r (runParagraph (paragraphAt (now (doc .entry)) k) s)) ⌝ }
 {
     if word(w, 2) == 0 {
         let y = expr(doc, state, work, n, word(w, 3));
-        if y.number != 0 {
-            return y;
+        let j = y.judgement;
+        if j.number != 0 {
+            return j;
         }
         let h = y.held;
         put_name(work, n, word(w, 1), bounded(h));
@@ -233,7 +232,7 @@ fn paragraph(
     work: &mut [u32],
     n: usize,
     k: usize,
-) -> Worked
+) -> Judgement
     requires { ⌜ Stated (now doc) (now state) (now table) × At (now doc) paragraphs k × Roomy (now work) n (globalsOf (paragraphAt (now doc) k)) × Declares (now doc) (paragraphNames (paragraphAt (now doc) k)) ⌝ }
     ensures { λ r. ⌜ Steps (now (state .entry)) (now (work .entry)) (now (work .exit)) n (n + globalsOf (paragraphAt (now (doc .entry)) k)) r (runParagraph (paragraphAt (now (doc .entry)) k) (said (now (doc .entry)) (now (state .entry)))) ⌝ }
 {
@@ -272,7 +271,7 @@ pub fn run_from(
     n: usize,
     w: &[u32],
     i: usize,
-) -> Worked
+) -> Judgement
     requires { ⌜ Stated (now doc) (now state) (now table) × (now w ≡ part (now doc) (count (now doc))) × (1 ≤ i) × (i ≤ 256) × Roomy (now work) n (globalCount (paragraphsFrom (now doc) (count (now doc)) i (length (now w) - i))) × Declares (now doc) (namesOf (paragraphsFrom (now doc) (count (now doc)) i (length (now w) - i))) ⌝ }
     ensures { λ r. ⌜ ((scope : Environment) → Scoped (now (state .entry)) (now (work .entry)) n scope → Told (Stepped (λ s. Unit {0})) r (runParagraphs (paragraphsFrom (now (doc .entry)) (count (now (doc .entry))) i (length (now (w .entry)) - i)) (said (now (doc .entry)) (now (state .entry))) scope)) ⌝ }
 {

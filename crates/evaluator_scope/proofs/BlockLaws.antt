@@ -24,9 +24,10 @@ use Rattle.values.specs.Lookup.{valueAt}
 use Rattle.values.specs.Held.{keep as words}
 use Rattle.reader_rules.specs.Tree.{Exprs}
 use Rattle.reader_rules.specs.Tree as Tree
-use Rattle.evaluator_operations.specs.declared.worked.Worked.{Worked}
+use Rattle.evaluator_operations.specs.declared.worked.Judgement.{Judgement}
 use Rattle.evaluator_operations.specs.Worked.{Holds, Told, Valued, Stops}
 use Rattle.evaluator_operations.proofs.ToldLaws.{stop-told}
+use Rattle.evaluator_operations.proofs.GatherLaws.{copied}
 use Rattle.evaluator_operations.proofs.OperationLaws.{keep-fine}
 
 take-drop-take : (at len N : ℕ) (l : List ℕ) → at + len ≤ N → take len (drop at (take N l)) ≡ take len (drop at l)
@@ -207,16 +208,16 @@ module _ (work : List ℕ) (i : ℕ) where
   block-none = refl
 
 -- ---- a Ref to the name of a block
-module _ (state work : List ℕ) (b k : ℕ) (m : Meaning) (f : FoundBlock state work b m) (xs : Exprs) (r : Worked) where
-  pub refer-unknown : b ≡ 0 → Stops r 51 k → Told Valued r (refer k xs m)
+module _ (state work : List ℕ) (b k : ℕ) (m : Meaning) (f : FoundBlock state work b m) (xs : Exprs) (r : Judgement) where
+  pub refer-unknown : {h : Held} → b ≡ 0 → Stops r 51 k → Told (Valued h) r (refer k xs m)
   unfolding refer
-  refer-unknown e s = rw (unknown-of b e f) (go xs)
+  refer-unknown {h} e s = rw (unknown-of b e f) (go xs)
     where
       unknown-of : (c : ℕ) → c ≡ 0 → FoundBlock state work c m → m ≡ unknown
       unknown-of zero q g = g
       unknown-of (suc c) q g = absurd (omega arith)
 
-      go : (ys : Exprs) → Told Valued r (refer k ys unknown)
+      go : (ys : Exprs) → Told (Valued h) r (refer k ys unknown)
       go Tree.none = stop-told s (λ z. omega arith)
       go (Tree.more a ys) = stop-told s (λ z. omega arith)
 
@@ -227,36 +228,36 @@ module _ (state work : List ℕ) (b k : ℕ) (m : Meaning) (f : FoundBlock state
       go zero q g = absurd (q refl)
       go (suc c) q g = let e : c ≡ suc c - 1 = omega arith in subst (λ (j : ℕ). Means state work j m) e g
 
-  pub refer-generic : (b ≡ 0 → ⊥) → field work (b - 1) 1 ≡ 3 → Stops r 54 k → Told Valued r (refer k xs m)
+  pub refer-generic : {h : Held} → (b ≡ 0 → ⊥) → field work (b - 1) 1 ≡ 3 → Stops r 54 k → Told (Valued h) r (refer k xs m)
   unfolding refer
-  refer-generic h c s = go m (means-of h) xs
+  refer-generic {h} g c s = go m (means-of g) xs
     where
-      go : (n : Meaning) → Means state work (b - 1) n → (ys : Exprs) → Told Valued r (refer k ys n)
+      go : (n : Meaning) → Means state work (b - 1) n → (ys : Exprs) → Told (Valued h) r (refer k ys n)
       go (valued v) (inState d t) ys = absurd (omega arith)
       go (valued v) (inWork d l t) ys = absurd (omega arith)
       go generic (isGeneric d) Tree.none = stop-told s (λ z. omega arith)
       go generic (isGeneric d) (Tree.more a ys) = stop-told s (λ z. omega arith)
 
-  pub refer-actuals : (b ≡ 0 → ⊥) → (field work (b - 1) 1 ≡ 3 → ⊥) → true ≡ hasActuals xs → Stops r 51 k → Told Valued r (refer k xs m)
+  pub refer-actuals : {h : Held} → (b ≡ 0 → ⊥) → (field work (b - 1) 1 ≡ 3 → ⊥) → true ≡ hasActuals xs → Stops r 51 k → Told (Valued h) r (refer k xs m)
   unfolding refer hasActuals
-  refer-actuals h c a s = go m (means-of h) xs a
+  refer-actuals {h} g c a s = go m (means-of g) xs a
     where
-      go : (n : Meaning) → Means state work (b - 1) n → (ys : Exprs) → true ≡ hasActuals ys → Told Valued r (refer k ys n)
+      go : (n : Meaning) → Means state work (b - 1) n → (ys : Exprs) → true ≡ hasActuals ys → Told (Valued h) r (refer k ys n)
       go n q Tree.none e = absurd (true≢false e)
       go (valued v) (inState d t) (Tree.more y ys) e = stop-told s (λ z. omega arith)
       go (valued v) (inWork d l t) (Tree.more y ys) e = stop-told s (λ z. omega arith)
       go generic (isGeneric d) (Tree.more y ys) e = absurd (c d)
 
-  pub refer-value : (b ≡ 0 → ⊥) → (field work (b - 1) 1 ≡ 3 → ⊥) → false ≡ hasActuals xs → r .number ≡ 0 → r .held ≡ words (valueOf state work (b - 1)) → Told Valued r (refer k xs m)
+  pub refer-value : {h : Held} → (b ≡ 0 → ⊥) → (field work (b - 1) 1 ≡ 3 → ⊥) → false ≡ hasActuals xs → r .number ≡ 0 → h ≡ words (valueOf state work (b - 1)) → Told (Valued h) r (refer k xs m)
   unfolding refer hasActuals valueOf valueAt
-  refer-value h c a z w = go m (means-of h) xs a
+  refer-value {h} g c a z w = go m (means-of g) xs a
     where
-      go : (n : Meaning) → Means state work (b - 1) n → (ys : Exprs) → false ≡ hasActuals ys → Told Valued r (refer k ys n)
+      go : (n : Meaning) → Means state work (b - 1) n → (ys : Exprs) → false ≡ hasActuals ys → Told (Valued h) r (refer k ys n)
       go n q (Tree.more y ys) e = absurd (true≢false (sym e))
       go (valued v) (inState d t) Tree.none e =
           keep-fine k v r z (record { words = w ∙ (rw (eq-eqb (field work (b - 1) 1) 1 d) (ap words (t .words))); short = t .short; narrow = t .narrow })
       go (valued v) (inWork d l t) Tree.none e =
-          keep-fine k v r z (record { words = w ∙ (rw (ne-eqb (field work (b - 1) 1) 1 (λ g. omega arith)) (ap words (t .words))); short = t .short; narrow = t .narrow })
+          keep-fine k v r z (record { words = w ∙ (rw (ne-eqb (field work (b - 1) 1) 1 (λ y. omega arith)) (ap words (t .words))); short = t .short; narrow = t .narrow })
       go generic (isGeneric d) Tree.none e = absurd (c d)
 
 -- ---- identifiers with the set that they run through
@@ -267,22 +268,6 @@ take-sets (a ∷ ws) l N i h = take-sets ws (set l i a) N (suc i) (omega arith) 
 length-headed : (work : List ℕ) (b name class at len : ℕ) → length (headed work b name class at len) ≡ length work
 unfolding headed
 length-headed work b name class at len = simp length-set
-
-drop-sets : (ws work : List ℕ) (at : ℕ) → at + length ws ≤ length work → drop at (sets work at ws) ≡ ws ++ drop (at + length ws) work
-drop-sets ws work at h =
-    let a : length (take at work) ≡ at = length-take at work ∙ omega arith in
-    rw (sets-eq ws work at h) (simp append-assoc (drop-at (take at work) (ws ++ drop (at + length ws) work) at a))
-
--- a value's words lie where they were copied to
-pub copied : (work : List ℕ) (at : ℕ) (h : Held) (v : Value) → Holds h v → at + 64 ≤ length work → Lies (sets work at (h .words)) at (encode v)
-copied work at h v g l =
-    let e = held-words h (encode v) (g .words) (g .short) in
-    let s = g .short in
-    let z = replicate {A = ℕ} (64 - length (encode v)) 0 in
-    let n : length (encode v ++ z) ≡ 64 = length-append (encode v) z ∙ omega (arith, length-replicate {A = ℕ} (64 - length (encode v)) 0) in
-    rw e
-    (ap (λ (x : List ℕ). take (length (encode v)) x) (drop-sets (encode v ++ z) work at (omega arith))
-    ∙ take-append-le (length (encode v)) (encode v ++ z) (drop (at + length (encode v ++ z)) work) (omega arith) ∙ take-at (encode v) z (length (encode v)) refl)
 
 pub pushed-none : (work x : List ℕ) (b j : ℕ) (v : Held) → length x ≤ j →
     Pushed work work b (length x - j) ((vs : Values) → Holds v (Value.set vs) → Pending work b (length x - j) (domains (drop j x) vs noMore))

@@ -96,7 +96,7 @@ pub fn refer<'a>(
     actuals: bool,
 ) -> Worked
     requires { ⌜ (n ≤ blockCount) × (k ≤ 1024) ⌝ }
-    ensures { λ r. ⌜ ((scope : Environment) → Scoped (now (state .entry)) (now (work .entry)) n scope → (xs : Exprs) → actuals ≡ hasActuals xs → Told Valued r (refer k xs (lookup name scope))) ⌝ }
+    ensures { λ r. ⌜ ((scope : Environment) → Scoped (now (state .entry)) (now (work .entry)) n scope → (xs : Exprs) → actuals ≡ hasActuals xs → Told (Valued (r .held)) (r .judgement) (refer k xs (lookup name scope))) ⌝ }
 {
     let b = find(work, n, name);
     if b == 0 {

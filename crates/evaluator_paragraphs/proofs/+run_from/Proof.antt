@@ -178,4 +178,17 @@ run-from-returns-4 t c =
     λ scope g. rw lw (run-fails d (said d st) i (s₀ .pre .1 .0 .read) (s₀ .pre .1 .2) q v xv scope (c .before .before .before .before .before .paragraph .ensures scope g) (c .before .if2 .left) (c .if3 .left))
 
 pub +run-from-spec : {M : Type 1} → statement M
-+run-from-spec = close μ-run-from λ t. run-from-lts.spec (run-from-calls t) (run-from-at t) run-from.Post (run-from-judge-requires t) (run-from-returns t) (run-from-word-requires t) (run-from-paragraph-requires t) (run-from-same-length t) (run-from-returns-2 t) (run-from-global-count-requires t) (run-from-add-run-from t) (run-from-add-run-from-2 t) (run-from-run-from-requires t) (run-from-same-length-2 t) (run-from-returns-3 t) (run-from-same-length-3 t) (run-from-returns-4 t)
++run-from-spec = close μ-run-from λ t. run-from-lts.spec (run-from-calls t) (run-from-at t) run-from.Post (run-from-judge-requires t)
+    (run-from-returns t)
+    (run-from-word-requires t)
+    (run-from-paragraph-requires t)
+    (run-from-same-length t)
+    (run-from-returns-2 t)
+    (run-from-global-count-requires t)
+    (run-from-add-run-from t)
+    (run-from-add-run-from-2 t)
+    (run-from-run-from-requires t)
+    (run-from-same-length-2 t)
+    (run-from-returns-3 t)
+    (run-from-same-length-3 t)
+    (run-from-returns-4 t)

@@ -21,7 +21,7 @@ use Rattle.evaluator_paragraphs.proofs.+test_lines.Lts-test_lines as te
 use Rattle.evaluator_operations.proofs.worked.judge.Reads as judge-reads
 use Rattle.words.proofs.word.Reads as word-reads
 use Rattle.layout.proofs.part.Reads as part-reads
-use Rattle.evaluator_operations.proofs.worked.stop.Reads as stop-reads
+use Rattle.evaluator_operations.proofs.worked.refuse.Reads as refuse-reads
 use Rattle.evaluator_paragraphs.proofs.test_names.Reads as test-names-reads
 use Rattle.evaluator_paragraphs.proofs.+test_lines.{statement}
 use Rattle.evaluator_paragraphs.proofs.+test_lines.Tie.{close}
@@ -36,7 +36,7 @@ abbrev test-lines-below : ℕ → In 5 test-lines-kinds.ps
 test-lines-below t = and 5 test-lines-kinds.ps (falls 5 test-lines-kinds.ps _<_ μ-test-lines t) test-lines.Pre
 
 abbrev test-lines-calls : ℕ → test-lines-lts.Claims
-test-lines-calls t = (judge-reads.Asked, judge-reads.Learnt, word-reads.Asked, word-reads.Learnt, part-reads.Asked, part-reads.Learnt, stop-reads.Asked, stop-reads.Learnt, test-names-reads.Asked, test-names-reads.Learnt, test-lines-below t, test-lines.Post)
+test-lines-calls t = (judge-reads.Asked, judge-reads.Learnt, word-reads.Asked, word-reads.Learnt, part-reads.Asked, part-reads.Learnt, refuse-reads.Asked, refuse-reads.Learnt, test-names-reads.Asked, test-names-reads.Learnt, test-lines-below t, test-lines.Post)
 
 test-lines-judge-requires : (t : ℕ) → test-lines-lts.Need-judge-requires (test-lines-calls t) (test-lines-at t) test-lines.Post
 test-lines-judge-requires t c κs = search needs
@@ -63,8 +63,8 @@ test-lines-part-requires t c κs = search needs
 test-lines-word-requires-2 : (t : ℕ) → test-lines-lts.Need-word-requires-2 (test-lines-calls t) (test-lines-at t) test-lines.Post
 test-lines-word-requires-2 t c κs = search needs
 
-test-lines-stop-requires : (t : ℕ) → test-lines-lts.Need-stop-requires (test-lines-calls t) (test-lines-at t) test-lines.Post
-test-lines-stop-requires t c κs =
+test-lines-refuse-requires : (t : ℕ) → test-lines-lts.Need-refuse-requires (test-lines-calls t) (test-lines-at t) test-lines.Post
+test-lines-refuse-requires t c κs =
     let s₀ = c .before .before .before .before .before .before .before .before .before .before in
     let d = s₀ .args .doc .now in
     let st = s₀ .args .state .now in
@@ -94,7 +94,7 @@ test-lines-returns-2 t c =
     let v = c .before .before .before .before .word .result in
     let xv : v ≡ operandAt d ti i = c .before .before .before .before .word .ensures .0 ∙ ap (λ (z : List ℕ). getD z i 0) eu in
     let q : i < length (part d ti) = omega (arith, l, c .before .before .before .before .before .if1 .left) in
-    record { kept = refl; told = λ scope g. rw l (include-stop d ti (said d st) (s₀ .pre .1 .1) i (s₀ .pre .1 .3) q v xv scope (sym (c .before .before .word2 .ensures .0 ∙ ap (λ (y : List ℕ). getD y 0 0) (c .before .before .before .part .ensures)) ∙ c .before .if2 .taken) (c .stop .ensures)) }
+    record { kept = refl; told = λ scope g. rw l (include-stop d ti (said d st) (s₀ .pre .1 .1) i (s₀ .pre .1 .3) q v xv scope (sym (c .before .before .word2 .ensures .0 ∙ ap (λ (y : List ℕ). getD y 0 0) (c .before .before .before .part .ensures)) ∙ c .before .if2 .taken) (c .refuse .ensures)) }
 
 test-lines-test-names-requires : (t : ℕ) → test-lines-lts.Need-test-names-requires (test-lines-calls t) (test-lines-at t) test-lines.Post
 test-lines-test-names-requires t c κs =
@@ -215,4 +215,4 @@ test-lines-returns-5 t c =
     record { kept = c .before .before .before .before .before .test-names .ensures .kept; told = λ scope g. rw l (decl-failed d ti (said d st) (s₀ .pre .1 .1) i (s₀ .pre .1 .3) q v xv k11 scope (rw ep at (c .before .before .before .before .before .test-names .ensures .told scope g)) (c .before .if3 .left) (c .if4 .left)) }
 
 pub +test-lines-spec : {M : Type 1} → statement M
-+test-lines-spec = close μ-test-lines λ t. test-lines-lts.spec (test-lines-calls t) (test-lines-at t) test-lines.Post (test-lines-judge-requires t) (test-lines-returns t) (test-lines-word-requires t) (test-lines-part-requires t) (test-lines-word-requires-2 t) (test-lines-stop-requires t) (test-lines-returns-2 t) (test-lines-test-names-requires t) (test-lines-same-length t) (test-lines-returns-3 t) (test-lines-add-test-lines t) (test-lines-test-lines-requires t) (test-lines-same-length-2 t) (test-lines-returns-4 t) (test-lines-same-length-3 t) (test-lines-returns-5 t)
++test-lines-spec = close μ-test-lines λ t. test-lines-lts.spec (test-lines-calls t) (test-lines-at t) test-lines.Post (test-lines-judge-requires t) (test-lines-returns t) (test-lines-word-requires t) (test-lines-part-requires t) (test-lines-word-requires-2 t) (test-lines-refuse-requires t) (test-lines-returns-2 t) (test-lines-test-names-requires t) (test-lines-same-length t) (test-lines-returns-3 t) (test-lines-add-test-lines t) (test-lines-test-lines-requires t) (test-lines-same-length-2 t) (test-lines-returns-4 t) (test-lines-same-length-3 t) (test-lines-returns-5 t)

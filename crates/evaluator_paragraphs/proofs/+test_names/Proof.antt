@@ -143,4 +143,18 @@ test-names-returns-4 t c =
     record { kept = c .before .before .before .before .before .before .tests .ensures .kept; told = λ scope g. names-failed v (test (exprAt d (getD x 1 0)) scope) x j (said d st) (c .before .before .before .before .before .before .before .before .before .before .before .if1 .left) (rw (c .before .before .before .before .before .before .before .before .before .word .ensures .0, c .before .before .before .before .before .before .before .before .word2 .ensures .0) at (c .before .before .before .before .before .before .tests .ensures .told (said d st (c .before .before .before .before .before .before .before .before .word2 .result)) (c .before .before .before .before .before .before .before .held-name .ensures) scope g)) (c .before .before .if2 .left) (c .before .if3 .left) (c .fail .ensures) }
 
 pub +test-names-spec : {M : Type 1} → statement M
-+test-names-spec = close μ-test-names λ t. test-names-lts.spec (test-names-calls t) (test-names-at t) test-names.Post (test-names-judge-requires t) (test-names-returns t) (test-names-word-requires t) (test-names-word-requires-2 t) (test-names-held-name-requires t) (test-names-tests-requires t) (test-names-same-length t) (test-names-returns-2 t) (test-names-add-test-names t) (test-names-test-names-requires t) (test-names-same-length-2 t) (test-names-returns-3 t) (test-names-fail-requires t) (test-names-same-length-3 t) (test-names-returns-4 t)
++test-names-spec = close μ-test-names λ t. test-names-lts.spec (test-names-calls t) (test-names-at t) test-names.Post (test-names-judge-requires t)
+    (test-names-returns t)
+    (test-names-word-requires t)
+    (test-names-word-requires-2 t)
+    (test-names-held-name-requires t)
+    (test-names-tests-requires t)
+    (test-names-same-length t)
+    (test-names-returns-2 t)
+    (test-names-add-test-names t)
+    (test-names-test-names-requires t)
+    (test-names-same-length-2 t)
+    (test-names-returns-3 t)
+    (test-names-fail-requires t)
+    (test-names-same-length-3 t)
+    (test-names-returns-4 t)

@@ -142,4 +142,17 @@ returns-3 c =
     λ scope g. axiom-fails d k h q a e (said d st) scope (rw eu at (c .before .before .before .before .before .test-lines .ensures .told scope g)) (c .before .if1 .left) (c .if2 .left)
 
 pub axiom-spec : {M : Type 1} → statement M
-axiom-spec = tie.close (tie.spec word-requires part-requires test-lines-requires same-length returns put-lines-requires text-count-requires add-demand word-requires-2 demand-requires same-length-2 returns-2 same-length-3 returns-3)
+axiom-spec = tie.close (tie.spec word-requires
+    part-requires
+    test-lines-requires
+    same-length
+    returns
+    put-lines-requires
+    text-count-requires
+    add-demand
+    word-requires-2
+    demand-requires
+    same-length-2
+    returns-2
+    same-length-3
+    returns-3)

@@ -49,4 +49,12 @@ returns-3 c =
     λ scope g. demand-fails (s₀ .args .k) _ scope (c .before .before .before .before .before .before .pred .ensures .told scope g) (c .before .before .if1 .left) (c .before .if2 .left) (c .fail .ensures)
 
 pub demand-spec : {M : Type 1} → statement M
-demand-spec = tie.close (tie.spec pred-requires same-length returns judge-requires same-length-2 returns-2 fail-requires same-length-3 returns-3)
+demand-spec = tie.close (tie.spec pred-requires
+    same-length
+    returns
+    judge-requires
+    same-length-2
+    returns-2
+    fail-requires
+    same-length-3
+    returns-3)

@@ -46,4 +46,7 @@ returns c =
     given-steps d k (s₀ .pre .1) (said d st) st _ _ (s₀ .args .n) (s₀ .pre .2) (c .judge .ensures .0) (c .judge .ensures .1) (rw e at (c .before .before .before .put-names .ensures))
 
 pub given-spec : {M : Type 1} → statement M
-given-spec = tie.close (tie.spec put-names-requires judge-requires same-length returns)
+given-spec = tie.close (tie.spec put-names-requires
+    judge-requires
+    same-length
+    returns)

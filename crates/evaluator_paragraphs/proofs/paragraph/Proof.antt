@@ -107,4 +107,20 @@ returns-5 c =
     schema-steps d k (s₀ .pre .1) (said d st) st _ st (s₀ .args .n) (schema-kind d k (s₀ .pre .1) (λ z. r .0 .0 .0 .1 (e ∙ z)) (λ z. r .0 .0 .1 (e ∙ z)) (λ z. r .0 .1 (e ∙ z)) (λ z. r .1 (e ∙ z))) (c .judge .ensures .0) (c .judge .ensures .1)
 
 pub paragraph-spec : {M : Type 1} → statement M
-paragraph-spec = tie.close (tie.spec part-requires word-requires given-requires axiom-requires abbreviation-requires word-requires-2 demand-requires judge-requires same-length returns same-length-2 returns-2 same-length-3 returns-3 same-length-4 returns-4 returns-5)
+paragraph-spec = tie.close (tie.spec part-requires
+    word-requires
+    given-requires
+    axiom-requires
+    abbreviation-requires
+    word-requires-2
+    demand-requires
+    judge-requires
+    same-length
+    returns
+    same-length-2
+    returns-2
+    same-length-3
+    returns-3
+    same-length-4
+    returns-4
+    returns-5)

@@ -21,7 +21,8 @@ returns-2 : tie.Need-returns-2
 returns-2 c =
     λ vs x hs hx.
     let e = (rw (c .before .before .before .before .before .before .span .ensures ∙ held-whole _ (Value.set vs) hs, c .before .before .before .before .span2 .ensures ∙ held-whole _ x hx) at (c .before .before .before .insert .ensures)) ∙ ap keep (insert-value vs x (hs .short)) in
-    (add-fits _ vs x _ (c .go .ensures .number) (record { words = c .go .ensures .held ∙ e; short = held-short _ (encode (Value.set (insertValue x vs))) e (c .before .if1 .left); narrow = set-narrow vs x (hx .narrow) (hs .narrow) }), λ z. c .go .ensures .flag)
+    let l = held-short _ (encode (Value.set (insertValue x vs))) e (c .before .if1 .left) in
+    (add-fits _ vs x _ l (c .go .ensures .number) (record { held = record { words = c .go .ensures .held ∙ e; short = l; narrow = set-narrow vs x (hx .narrow) (hs .narrow) } }), λ z. c .go .ensures .flag)
 
 pub added-spec : {M : Type 1} → statement M
 added-spec =

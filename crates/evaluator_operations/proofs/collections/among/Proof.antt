@@ -14,7 +14,7 @@ returns c =
     (c .judge .ensures .1 ∙ (rw (c .before .before .before .before .span .ensures ∙ held-whole _ y hy, c .before .before .span2 .ensures ∙ held-whole _ x hx, t .1) at (c .before .is-member .ensures)) ∙ member-value (t .0) x (rw (t .1) at l))
 
 returns-2 : tie.Need-returns-2
-returns-2 c = λ x y hx hy. among-other _ 0 x y _ (λ e. c .before .if1 .left (c .before .before .word .ensures .0 ∙ held-tag _ y hy ∙ e)) (c .stop .ensures)
+returns-2 c = λ x y hx hy. among-other _ 0 x y _ (λ e. c .before .if1 .left (c .before .before .word .ensures .0 ∙ held-tag _ y hy ∙ e)) (c .refuse .ensures)
 
 pub among-spec : {M : Type 1} → statement M
 among-spec =

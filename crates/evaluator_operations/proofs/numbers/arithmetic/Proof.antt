@@ -27,7 +27,7 @@ returns-3 c =
     let fj : SFits w32 (c .before .before .before .y .given .0 .0) = record { sfits = c .before .before .known-told2 .given .0 .1 } in
     let e = rw (toZ-ofZ w32 _ fi, toZ-ofZ w32 _ fj) at (c .before .calculate .ensures) in
     arithmetic-both _ _ x y _ (hx .narrow) (hy .narrow) _ _ (sym (c .before .before .before .before .before .before .x .given .1) ∙ c .before .before .before .before .before .before .before .before .before .number .ensures x hx) (sym (c .before .before .before .y .given .1) ∙ c .before .before .before .before .before .before .before .before .number2 .ensures y hy)
-    (subst (λ (z : Integer). Told Valued (c .kept-integer .result) (keepInteger (c .before .before .before .before .before .before .before .before .before .before .args .k) z)) e (c .kept-integer .ensures))
+    (subst (λ (z : Integer). Told (Valued (c .kept-integer .result .held)) (c .kept-integer .result .judgement) (keepInteger (c .before .before .before .before .before .before .before .before .before .before .args .k) z)) e (c .kept-integer .ensures))
 
 pub arithmetic-spec : {M : Type 1} → statement M
 arithmetic-spec =

@@ -11,10 +11,10 @@ enum-told : tie.Need-enum-told
 enum-told c = search needs
 
 returns : tie.Need-returns
-returns c = λ x y hx hy. at-most-left _ 0 x y _ (sym (c .before .enum-told .given .1) ∙ c .before .before .before .before .number .ensures x hx) (c .stop .ensures)
+returns c = λ x y hx hy. at-most-left _ 0 x y _ (sym (c .before .enum-told .given .1) ∙ c .before .before .before .before .number .ensures x hx) (c .refuse .ensures)
 
 returns-2 : tie.Need-returns-2
-returns-2 c = λ x y hx hy. at-most-right _ 0 x y _ (hx .narrow) _ (sym (c .before .before .before .before .x .given .1) ∙ c .before .before .before .before .before .before .before .number .ensures x hx) (sym (c .before .enum-told2 .given .1) ∙ c .before .before .before .before .before .before .number2 .ensures y hy) (c .stop2 .ensures)
+returns-2 c = λ x y hx hy. at-most-right _ 0 x y _ (hx .narrow) _ (sym (c .before .before .before .before .x .given .1) ∙ c .before .before .before .before .before .before .before .number .ensures x hx) (sym (c .before .enum-told2 .given .1) ∙ c .before .before .before .before .before .before .number2 .ensures y hy) (c .refuse2 .ensures)
 
 returns-3 : tie.Need-returns-3
 returns-3 c =

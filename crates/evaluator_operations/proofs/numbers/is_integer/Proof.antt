@@ -8,7 +8,7 @@ enum-told : tie.Need-enum-told
 enum-told c = search needs
 
 returns : tie.Need-returns
-returns c = λ x h. test-other _ 0 x x _ (sym (c .before .enum-told .given .1) ∙ c .before .before .before .number .ensures x h) (c .stop .ensures)
+returns c = λ x h. test-other _ 0 x x _ (sym (c .before .enum-told .given .1) ∙ c .before .before .before .number .ensures x h) (c .refuse .ensures)
 
 returns-2 : tie.Need-returns-2
 returns-2 c = λ x h. test-integer _ 0 x x _ (h .narrow) _ (sym (c .before .before .x .given .1) ∙ c .before .before .before .before .number .ensures x h) (c .judge .ensures .0) (c .judge .ensures .1)

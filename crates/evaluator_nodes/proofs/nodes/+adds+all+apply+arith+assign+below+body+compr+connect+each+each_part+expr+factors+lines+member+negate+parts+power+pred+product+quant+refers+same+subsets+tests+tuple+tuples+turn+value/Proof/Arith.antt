@@ -57,7 +57,7 @@ arith-returns-3 t c =
     let g = c .before .before .before .before .before .before .before .before .expr2 .ensures in
     let s = c .before .before .before .before .before .before .before .before .before .before .before .before .before .before .before .before .before .before .before .before .before .before in
     let h = s .pre .1 .0 in
-    record { kept = g .kept ∙ e .kept; told = λ scope sc. arith-told h _ _ (c .before .before .before .before .before .before .before .before .before .before .before .before .before .before .before .before .word .ensures .0) (c .before .before .before .before .before .before .before .before .before .word2 .ensures .0) (s .pre .1 .1) (s .pre .1 .2) scope (both-told (e .told scope sc) (c .before .before .before .before .before .before .before .before .before .before .before .if1 .left) (g .told scope (scoped-same _ _ _ _ (e .kept) sc)) (c .before .before .before .before .if2 .left) (λ u v a b. subst (λ (q : ℕ). Told Valued (c .arithmetic .result) (arithmeticOf (s .args .k) q u v)) (in-words h 0 _ (c .before .word3 .ensures .0)) (c .arithmetic .ensures u v a b))) }
+    record { kept = g .kept ∙ e .kept; told = λ scope sc. arith-told h _ _ (c .before .before .before .before .before .before .before .before .before .before .before .before .before .before .before .before .word .ensures .0) (c .before .before .before .before .before .before .before .before .before .word2 .ensures .0) (s .pre .1 .1) (s .pre .1 .2) scope (both-told (e .told scope sc) (c .before .before .before .before .before .before .before .before .before .before .before .if1 .left) (g .told scope (scoped-same _ _ _ _ (e .kept) sc)) (c .before .before .before .before .if2 .left) (λ u v a b. subst (λ (q : ℕ). Told (Valued (c .arithmetic .result .held)) (c .arithmetic .result .judgement) (arithmeticOf (s .args .k) q u v)) (in-words h 0 _ (c .before .word3 .ensures .0)) (c .arithmetic .ensures u v a b))) }
 
 pub arith-closed : {M : Type 1} (t : ℕ) → arith-lts.Closed (arith-calls t) (arith-at t) arith.Post M
 arith-closed t =

@@ -23,7 +23,7 @@ use Rattle.evaluator_nodes.proofs.nodes.+adds+all+apply+arith+assign+be
 
 body-expr-requires : (t : ℕ) → body-lts.Need-expr-requires (body-calls t) (body-at t) body.Post
 body-expr-requires t c κs =
-    let s = c .before .before .before .before .before .before .before .before in
+    let s = c .before .before .before .before .before .before .before .before .before in
     let w = s .pre .1 .1 in
     let q = sym (ap (λ (l : List ℕ). getD l 0 0) w) ∙ sym (c .before .before .word2 .ensures .0) ∙ c .before .if1 .taken in
     let o = body-expr (s .pre .1 .0) q _ (c .before .before .before .word .ensures .0 ∙ ap (λ (l : List ℕ). getD l 2 0) w) in
@@ -33,23 +33,23 @@ body-expr-requires t c κs =
 
 body-returns : (t : ℕ) → body-lts.Need-returns (body-calls t) (body-at t) body.Post
 body-returns t c =
-    let s = c .before .before .before .before .before .before .before .before .before .before .before .before .before in
+    let s = c .before .before .before .before .before .before .before .before .before .before .before .before .before .before .before in
     let w = s .pre .1 .1 in
-    let e = c .before .before .before .before .expr .ensures in
-    let q = sym (ap (λ (l : List ℕ). getD l 0 0) w) ∙ sym (c .before .before .before .before .before .before .before .word2 .ensures .0) ∙ c .before .before .before .before .before .before .if1 .taken in
-    record { kept = e .kept; told = λ scope sc vs h. gather-stop (s .args .doc .now) (s .args .k) _ (c .before .before .before .before .before .before .before .before .word .ensures .0 ∙ ap (λ (l : List ℕ). getD l 2 0) w) scope vs q (e .told scope sc) (c .if2 .taken) }
+    let e = c .before .before .before .before .before .expr .ensures in
+    let q = sym (ap (λ (l : List ℕ). getD l 0 0) w) ∙ sym (c .before .before .before .before .before .before .before .before .word2 .ensures .0) ∙ c .before .before .before .before .before .before .before .if1 .taken in
+    record { kept = e .kept; told = λ scope sc vs h. gather-stop (s .args .doc .now) (s .args .k) _ (c .before .before .before .before .before .before .before .before .before .word .ensures .0 ∙ ap (λ (l : List ℕ). getD l 2 0) w) scope vs q (e .told scope sc) (c .if2 .taken) }
 
 body-returns-2 : (t : ℕ) → body-lts.Need-returns-2 (body-calls t) (body-at t) body.Post
 body-returns-2 t c =
-    let s = c .before .before .before .before .before .before .before .before .before .before .before .before .before .before .before in
+    let s = c .before .before .before .before .before .before .before .before .before .before .before .before .before .before .before .before .before .before .before .before in
     let w = s .pre .1 .1 in
-    let e = c .before .before .before .before .before .before .expr .ensures in
-    let q = sym (ap (λ (l : List ℕ). getD l 0 0) w) ∙ sym (c .before .before .before .before .before .before .before .before .before .word2 .ensures .0) ∙ c .before .before .before .before .before .before .before .before .if1 .taken in
-    record { kept = e .kept; told = λ scope sc vs h. gather-go (s .args .doc .now) (s .args .k) _ (c .before .before .before .before .before .before .before .before .before .before .word .ensures .0 ∙ ap (λ (l : List ℕ). getD l 2 0) w) scope vs q (e .told scope sc) (c .before .before .if2 .left) (λ v g. c .added .ensures vs v h g) }
+    let e = c .before .before .before .before .before .before .before .before .before .before .expr .ensures in
+    let q = sym (ap (λ (l : List ℕ). getD l 0 0) w) ∙ sym (c .before .before .before .before .before .before .before .before .before .before .before .before .before .word2 .ensures .0) ∙ c .before .before .before .before .before .before .before .before .before .before .before .before .if1 .taken in
+    record { kept = e .kept; told = λ scope sc vs h. gather-go (s .args .doc .now) (s .args .k) _ (c .before .before .before .before .before .before .before .before .before .before .before .before .before .before .word .ensures .0 ∙ ap (λ (l : List ℕ). getD l 2 0) w) scope vs q (e .told scope sc) (c .before .before .before .before .before .if2 .left) (λ v g. c .before .before .gather .ensures vs v (h .gathers q) g) }
 
 body-pred-requires : (t : ℕ) → body-lts.Need-pred-requires (body-calls t) (body-at t) body.Post
 body-pred-requires t c κs =
-    let s = c .before .before .before .before .before .before .before .before in
+    let s = c .before .before .before .before .before .before .before .before .before in
     let w = s .pre .1 .1 in
     let o = body-pred (s .pre .1 .0) (λ q. c .before .if1 .left (c .before .before .word2 .ensures .0 ∙ ap (λ (l : List ℕ). getD l 0 0) w ∙ q)) _ (c .before .before .before .word .ensures .0 ∙ ap (λ (l : List ℕ). getD l 2 0) w) in
     let b = o .below in
@@ -58,7 +58,7 @@ body-pred-requires t c κs =
 
 body-returns-3 : (t : ℕ) → body-lts.Need-returns-3 (body-calls t) (body-at t) body.Post
 body-returns-3 t c =
-    let s = c .before .before .before .before .before .before .before .before .before .before .before .before .before in
+    let s = c .before .before .before .before .before .before .before .before .before .before .before .before .before .before in
     let w = s .pre .1 .1 in
     let e = c .before .before .before .before .pred .ensures in
     record { kept = e .kept; told = λ scope sc vs h. decide-stop (s .args .doc .now) (s .args .k) _ (c .before .before .before .before .before .before .before .before .word .ensures .0 ∙ ap (λ (l : List ℕ). getD l 2 0) w) scope vs (λ q. c .before .before .before .before .before .before .if1 .left (c .before .before .before .before .before .before .before .word2 .ensures .0 ∙ ap (λ (l : List ℕ). getD l 0 0) w ∙ q)) (e .told scope sc) (c .if3 .taken) }
@@ -67,9 +67,9 @@ body-returns-4 : (t : ℕ) → body-lts.Need-returns-4 (body-calls t) (body-at t
 body-returns-4 t c =
     let s = c .before .before .before .before .before .before .before .before .before .before .before .before .before .before .before .before .before in
     let w = s .pre .1 .1 in
-    let e = c .before .before .before .before .before .before .before .before .pred .ensures in
+    let e = c .before .before .before .before .before .before .before .pred .ensures in
     let k = c .before .before .word3 .ensures .0 ∙ ap (λ (l : List ℕ). getD l 0 0) w in
-    record { kept = e .kept; told = λ scope sc vs h. decide-go (s .args .doc .now) (s .args .k) _ (c .before .before .before .before .before .before .before .before .before .before .before .before .word .ensures .0 ∙ ap (λ (l : List ℕ). getD l 2 0) w) scope vs (λ q. c .before .before .before .before .before .before .before .before .before .before .if1 .left (c .before .before .before .before .before .before .before .before .before .before .before .word2 .ensures .0 ∙ ap (λ (l : List ℕ). getD l 0 0) w ∙ q)) (e .told scope sc) (c .before .before .before .before .if3 .left) (c .go .ensures .number) (c .go .ensures .flag ∙ c .before .verdict .ensures ∙ ap (λ (j : ℕ). verdictOf (quantifierOf j) (c .before .before .before .before .before .before .before .before .pred .result .flag)) k) (subst (λ (u : Held). Holds u (Value.set Value.nil)) (sym (c .go .ensures .held)) (c .before .before .before .empty-set .ensures)) }
+    record { kept = e .kept; told = λ scope sc vs h. decide-go (s .args .doc .now) (s .args .k) _ (c .before .before .before .before .before .before .before .before .before .before .before .word .ensures .0 ∙ ap (λ (l : List ℕ). getD l 2 0) w) scope vs (λ q. c .before .before .before .before .before .before .before .before .before .if1 .left (c .before .before .before .before .before .before .before .before .before .before .word2 .ensures .0 ∙ ap (λ (l : List ℕ). getD l 0 0) w ∙ q)) (e .told scope sc) (c .before .before .before .if3 .left) (c .judge .ensures .0) (c .judge .ensures .1 ∙ c .before .verdict .ensures ∙ ap (λ (j : ℕ). verdictOf (quantifierOf j) (c .before .before .before .before .before .before .before .pred .result .flag)) k) }
 
 pub body-closed : {M : Type 1} (t : ℕ) → body-lts.Closed (body-calls t) (body-at t) body.Post M
 body-closed t =
@@ -81,11 +81,11 @@ body-closed t =
     (body-returns t)
     (λ c κs. search needs)
     (λ c. search needs)
+    (λ c. search needs)
     (body-returns-2 t)
     (body-pred-requires t)
     (λ c. search needs)
     (body-returns-3 t)
-    (λ c κs. search needs)
     (λ c κs. search needs)
     (λ c κs. search needs)
     (λ c κs. search needs)

@@ -95,6 +95,9 @@ use Rattle.evaluator_scope.proofs.put_head.Reads as put-head-reads
 use Rattle.evaluator_scope.proofs.refer.Reads as refer-reads
 use Rattle.enumeration.proofs.products.unit.Reads as unit-reads
 use Rattle.evaluator_operations.proofs.collections.added.Reads as added-reads
+use Rattle.evaluator_operations.proofs.gathering.put_set.Reads as put-set-reads
+use Rattle.evaluator_operations.proofs.gathering.gathered.Reads as gathered-reads
+use Rattle.evaluator_operations.proofs.gathering.gather.Reads as gather-reads
 use Rattle.evaluator_operations.proofs.collections.among.Reads as among-reads
 use Rattle.evaluator_operations.proofs.collections.applied.Reads as applied-reads
 use Rattle.evaluator_operations.proofs.numbers.arithmetic.Reads as arithmetic-reads
@@ -118,6 +121,8 @@ use Rattle.evaluator_operations.proofs.logic.verdict.Reads as verdict-reads
 use Rattle.evaluator_operations.proofs.worked.go.Reads as go-reads
 use Rattle.evaluator_operations.proofs.worked.judge.Reads as judge-reads
 use Rattle.evaluator_operations.proofs.worked.stop.Reads as stop-reads
+use Rattle.evaluator_operations.proofs.worked.halted.Reads as halted-reads
+use Rattle.evaluator_operations.proofs.worked.refuse.Reads as refuse-reads
 use Rattle.layout.proofs.part.Reads as part-reads
 use Rattle.values.proofs.held.empty.Reads as empty-reads
 use Rattle.values.proofs.span.span.Reads as span-reads
@@ -136,13 +141,13 @@ abbrev pub μ-apply : Measures 4 apply-kinds.ps ℕ
 abbrev pub μ-arith : Measures 4 arith-kinds.ps ℕ
 μ-arith κs a = 1099511627776 * a .1 .1 .1 .1 .0 + 1000
 
-abbrev pub μ-assign : Measures 3 assign-kinds.ps ℕ
+abbrev pub μ-assign : Measures 4 assign-kinds.ps ℕ
 μ-assign κs a = 1099511627776 * a .1 .1 .1 .1 .1 .0 + 17179869184 * a .1 .1 .1 .1 .0 + 4
 
 abbrev pub μ-below : Measures 4 below-kinds.ps ℕ
 μ-below κs a = 1099511627776 * a .1 .1 .1 .1 .0 + 1000
 
-abbrev pub μ-body : Measures 4 body-kinds.ps ℕ
+abbrev pub μ-body : Measures 5 body-kinds.ps ℕ
 μ-body κs a = 1099511627776 * a .1 .1 .1 .1 .0
 
 abbrev pub μ-compr : Measures 4 compr-kinds.ps ℕ
@@ -151,7 +156,7 @@ abbrev pub μ-compr : Measures 4 compr-kinds.ps ℕ
 abbrev pub μ-connect : Measures 4 connect-kinds.ps ℕ
 μ-connect κs a = 1099511627776 * a .1 .1 .1 .1 .0 + 1000
 
-abbrev pub μ-each : Measures 3 each-kinds.ps ℕ
+abbrev pub μ-each : Measures 4 each-kinds.ps ℕ
 μ-each κs a = 1099511627776 * a .1 .1 .1 .1 .1 .0 + 17179869184 * a .1 .1 .1 .1 .0 + 5 + a .1 .1 .1 .1 .1 .1 .1 .0
 
 abbrev pub μ-each-part : Measures 4 each-part-kinds.ps ℕ
@@ -163,7 +168,7 @@ abbrev pub μ-expr : Measures 3 expr-kinds.ps ℕ
 abbrev pub μ-factors : Measures 4 factors-kinds.ps ℕ
 μ-factors κs a = 1099511627776 * a .1 .1 .1 .1 .0 + (256 - a .1 .1 .1 .1 .1 .1 .0)
 
-abbrev pub μ-lines : Measures 4 lines-kinds.ps ℕ
+abbrev pub μ-lines : Measures 5 lines-kinds.ps ℕ
 μ-lines κs a = 1099511627776 * a .1 .1 .1 .1 .1 .0 + 274877906944 + (256 - a .1 .1 .1 .1 .1 .1 .1 .1 .0)
 
 abbrev pub μ-member : Measures 4 member-kinds.ps ℕ
@@ -205,7 +210,7 @@ abbrev pub μ-tuple : Measures 4 tuple-kinds.ps ℕ
 abbrev pub μ-tuples : Measures 4 tuples-kinds.ps ℕ
 μ-tuples κs a = 1099511627776 * a .1 .1 .1 .1 .0 + 1000
 
-abbrev pub μ-turn : Measures 3 turn-kinds.ps ℕ
+abbrev pub μ-turn : Measures 4 turn-kinds.ps ℕ
 μ-turn κs a = 1099511627776 * a .1 .1 .1 .1 .0 + 1
 
 abbrev pub μ-value : Measures 3 value-kinds.ps ℕ
@@ -235,11 +240,11 @@ arith-at t = and 4 arith-kinds.ps (is 4 arith-kinds.ps μ-arith t) arith.Pre
 abbrev pub arith-below : ℕ → In 4 arith-kinds.ps
 arith-below t = and 4 arith-kinds.ps (falls 4 arith-kinds.ps _<_ μ-arith t) arith.Pre
 
-abbrev pub assign-at : ℕ → In 3 assign-kinds.ps
-assign-at t = and 3 assign-kinds.ps (is 3 assign-kinds.ps μ-assign t) assign.Pre
+abbrev pub assign-at : ℕ → In 4 assign-kinds.ps
+assign-at t = and 4 assign-kinds.ps (is 4 assign-kinds.ps μ-assign t) assign.Pre
 
-abbrev pub assign-below : ℕ → In 3 assign-kinds.ps
-assign-below t = and 3 assign-kinds.ps (falls 3 assign-kinds.ps _<_ μ-assign t) assign.Pre
+abbrev pub assign-below : ℕ → In 4 assign-kinds.ps
+assign-below t = and 4 assign-kinds.ps (falls 4 assign-kinds.ps _<_ μ-assign t) assign.Pre
 
 abbrev pub below-at : ℕ → In 4 below-kinds.ps
 below-at t = and 4 below-kinds.ps (is 4 below-kinds.ps μ-below t) below.Pre
@@ -247,11 +252,11 @@ below-at t = and 4 below-kinds.ps (is 4 below-kinds.ps μ-below t) below.Pre
 abbrev pub below-below : ℕ → In 4 below-kinds.ps
 below-below t = and 4 below-kinds.ps (falls 4 below-kinds.ps _<_ μ-below t) below.Pre
 
-abbrev pub body-at : ℕ → In 4 body-kinds.ps
-body-at t = and 4 body-kinds.ps (is 4 body-kinds.ps μ-body t) body.Pre
+abbrev pub body-at : ℕ → In 5 body-kinds.ps
+body-at t = and 5 body-kinds.ps (is 5 body-kinds.ps μ-body t) body.Pre
 
-abbrev pub body-below : ℕ → In 4 body-kinds.ps
-body-below t = and 4 body-kinds.ps (falls 4 body-kinds.ps _<_ μ-body t) body.Pre
+abbrev pub body-below : ℕ → In 5 body-kinds.ps
+body-below t = and 5 body-kinds.ps (falls 5 body-kinds.ps _<_ μ-body t) body.Pre
 
 abbrev pub compr-at : ℕ → In 4 compr-kinds.ps
 compr-at t = and 4 compr-kinds.ps (is 4 compr-kinds.ps μ-compr t) compr.Pre
@@ -265,11 +270,11 @@ connect-at t = and 4 connect-kinds.ps (is 4 connect-kinds.ps μ-connect t) conne
 abbrev pub connect-below : ℕ → In 4 connect-kinds.ps
 connect-below t = and 4 connect-kinds.ps (falls 4 connect-kinds.ps _<_ μ-connect t) connect.Pre
 
-abbrev pub each-at : ℕ → In 3 each-kinds.ps
-each-at t = and 3 each-kinds.ps (is 3 each-kinds.ps μ-each t) each.Pre
+abbrev pub each-at : ℕ → In 4 each-kinds.ps
+each-at t = and 4 each-kinds.ps (is 4 each-kinds.ps μ-each t) each.Pre
 
-abbrev pub each-below : ℕ → In 3 each-kinds.ps
-each-below t = and 3 each-kinds.ps (falls 3 each-kinds.ps _<_ μ-each t) each.Pre
+abbrev pub each-below : ℕ → In 4 each-kinds.ps
+each-below t = and 4 each-kinds.ps (falls 4 each-kinds.ps _<_ μ-each t) each.Pre
 
 abbrev pub each-part-at : ℕ → In 4 each-part-kinds.ps
 each-part-at t = and 4 each-part-kinds.ps (is 4 each-part-kinds.ps μ-each-part t) each-part.Pre
@@ -290,11 +295,11 @@ factors-at t = and 4 factors-kinds.ps (is 4 factors-kinds.ps μ-factors t) facto
 abbrev pub factors-below : ℕ → In 4 factors-kinds.ps
 factors-below t = and 4 factors-kinds.ps (falls 4 factors-kinds.ps _<_ μ-factors t) factors.Pre
 
-abbrev pub lines-at : ℕ → In 4 lines-kinds.ps
-lines-at t = and 4 lines-kinds.ps (is 4 lines-kinds.ps μ-lines t) lines.Pre
+abbrev pub lines-at : ℕ → In 5 lines-kinds.ps
+lines-at t = and 5 lines-kinds.ps (is 5 lines-kinds.ps μ-lines t) lines.Pre
 
-abbrev pub lines-below : ℕ → In 4 lines-kinds.ps
-lines-below t = and 4 lines-kinds.ps (falls 4 lines-kinds.ps _<_ μ-lines t) lines.Pre
+abbrev pub lines-below : ℕ → In 5 lines-kinds.ps
+lines-below t = and 5 lines-kinds.ps (falls 5 lines-kinds.ps _<_ μ-lines t) lines.Pre
 
 abbrev pub member-at : ℕ → In 4 member-kinds.ps
 member-at t = and 4 member-kinds.ps (is 4 member-kinds.ps μ-member t) member.Pre
@@ -374,11 +379,11 @@ tuples-at t = and 4 tuples-kinds.ps (is 4 tuples-kinds.ps μ-tuples t) tuples.Pr
 abbrev pub tuples-below : ℕ → In 4 tuples-kinds.ps
 tuples-below t = and 4 tuples-kinds.ps (falls 4 tuples-kinds.ps _<_ μ-tuples t) tuples.Pre
 
-abbrev pub turn-at : ℕ → In 3 turn-kinds.ps
-turn-at t = and 3 turn-kinds.ps (is 3 turn-kinds.ps μ-turn t) turn.Pre
+abbrev pub turn-at : ℕ → In 4 turn-kinds.ps
+turn-at t = and 4 turn-kinds.ps (is 4 turn-kinds.ps μ-turn t) turn.Pre
 
-abbrev pub turn-below : ℕ → In 3 turn-kinds.ps
-turn-below t = and 3 turn-kinds.ps (falls 3 turn-kinds.ps _<_ μ-turn t) turn.Pre
+abbrev pub turn-below : ℕ → In 4 turn-kinds.ps
+turn-below t = and 4 turn-kinds.ps (falls 4 turn-kinds.ps _<_ μ-turn t) turn.Pre
 
 abbrev pub value-at : ℕ → In 3 value-kinds.ps
 value-at t = and 3 value-kinds.ps (is 3 value-kinds.ps μ-value t) value.Pre
@@ -405,16 +410,16 @@ abbrev pub below-calls : ℕ → below-lts.Claims
 below-calls t = (word-reads.Asked, word-reads.Learnt, expr-below t, expr.Post, at-most-reads.Asked, at-most-reads.Learnt)
 
 abbrev pub body-calls : ℕ → body-lts.Claims
-body-calls t = (word-reads.Asked, word-reads.Learnt, expr-below t, expr.Post, added-reads.Asked, added-reads.Learnt, pred-below t, pred.Post, empty-set-reads.Asked, empty-set-reads.Learnt, verdict-reads.Asked, verdict-reads.Learnt, go-reads.Asked, go-reads.Learnt)
+body-calls t = (word-reads.Asked, word-reads.Learnt, expr-below t, expr.Post, gather-reads.Asked, gather-reads.Learnt, pred-below t, pred.Post, verdict-reads.Asked, verdict-reads.Learnt, judge-reads.Asked, judge-reads.Learnt)
 
 abbrev pub compr-calls : ℕ → compr-lts.Claims
-compr-calls t = (word-reads.Asked, word-reads.Learnt, part-reads.Asked, part-reads.Learnt, lines-below t, lines.Post, empty-set-reads.Asked, empty-set-reads.Learnt, go-reads.Asked, go-reads.Learnt)
+compr-calls t = (word-reads.Asked, word-reads.Learnt, empty-set-reads.Asked, empty-set-reads.Learnt, put-set-reads.Asked, put-set-reads.Learnt, part-reads.Asked, part-reads.Learnt, lines-below t, lines.Post, halted-reads.Asked, halted-reads.Learnt, go-reads.Asked, go-reads.Learnt, gathered-reads.Asked, gathered-reads.Learnt)
 
 abbrev pub connect-calls : ℕ → connect-lts.Claims
 connect-calls t = (word-reads.Asked, word-reads.Learnt, pred-below t, pred.Post, decides-reads.Asked, decides-reads.Learnt, judge-reads.Asked, judge-reads.Learnt)
 
 abbrev pub each-calls : ℕ → each-lts.Claims
-each-calls t = (go-reads.Asked, go-reads.Learnt, from-reads.Asked, from-reads.Learnt, span-reads.Asked, span-reads.Learnt, word-reads.Asked, word-reads.Learnt, put-head-reads.Asked, put-head-reads.Learnt, assign-below t, assign.Post, each-below t, each.Post)
+each-calls t = (judge-reads.Asked, judge-reads.Learnt, from-reads.Asked, from-reads.Learnt, span-reads.Asked, span-reads.Learnt, word-reads.Asked, word-reads.Learnt, put-head-reads.Asked, put-head-reads.Learnt, assign-below t, assign.Post, each-below t, each.Post)
 
 abbrev pub each-part-calls : ℕ → each-part-lts.Claims
 each-part-calls t = (judge-reads.Asked, judge-reads.Learnt, length-at-reads.Asked, length-at-reads.Learnt, word-reads.Asked, word-reads.Learnt, member-at-reads.Asked, member-at-reads.Learnt, tests-below t, tests.Post, each-part-below t, each-part.Post)
@@ -426,7 +431,7 @@ abbrev pub factors-calls : ℕ → factors-lts.Claims
 factors-calls t = (go-reads.Asked, go-reads.Learnt, word-reads.Asked, word-reads.Learnt, expr-below t, expr.Post, crossed-reads.Asked, crossed-reads.Learnt, factors-below t, factors.Post)
 
 abbrev pub lines-calls : ℕ → lines-lts.Claims
-lines-calls t = (empty-set-reads.Asked, empty-set-reads.Learnt, assign-below t, assign.Post, word-reads.Asked, word-reads.Learnt, part-reads.Asked, part-reads.Learnt, stop-reads.Asked, stop-reads.Learnt, expr-below t, expr.Post, tag-of-reads.Asked, tag-of-reads.Learnt, put-domains-reads.Asked, put-domains-reads.Learnt, lines-below t, lines.Post)
+lines-calls t = (assign-below t, assign.Post, word-reads.Asked, word-reads.Learnt, part-reads.Asked, part-reads.Learnt, refuse-reads.Asked, refuse-reads.Learnt, expr-below t, expr.Post, tag-of-reads.Asked, tag-of-reads.Learnt, put-domains-reads.Asked, put-domains-reads.Learnt, lines-below t, lines.Post)
 
 abbrev pub member-calls : ℕ → member-lts.Claims
 member-calls t = (word-reads.Asked, word-reads.Learnt, expr-below t, expr.Post, tests-below t, tests.Post)
@@ -438,13 +443,13 @@ abbrev pub parts-calls : ℕ → parts-lts.Claims
 parts-calls t = (go-reads.Asked, go-reads.Learnt, word-reads.Asked, word-reads.Learnt, expr-below t, expr.Post, joined-reads.Asked, joined-reads.Learnt, parts-below t, parts.Post)
 
 abbrev pub power-calls : ℕ → power-lts.Claims
-power-calls t = (tag-of-reads.Asked, tag-of-reads.Learnt, stop-reads.Asked, stop-reads.Learnt, word-reads.Asked, word-reads.Learnt, count-of-reads.Asked, count-of-reads.Learnt, all-below t, all.Post)
+power-calls t = (tag-of-reads.Asked, tag-of-reads.Learnt, refuse-reads.Asked, refuse-reads.Learnt, word-reads.Asked, word-reads.Learnt, count-of-reads.Asked, count-of-reads.Learnt, all-below t, all.Post)
 
 abbrev pub pred-calls : ℕ → pred-lts.Claims
 pred-calls t = (part-reads.Asked, part-reads.Learnt, word-reads.Asked, word-reads.Learnt, same-below t, same.Post, member-below t, member.Post, below-below t, below.Post, negate-below t, negate.Post, connect-below t, connect.Post, quant-below t, quant.Post, judge-reads.Asked, judge-reads.Learnt)
 
 abbrev pub product-calls : ℕ → product-lts.Claims
-product-calls t = (tag-of-reads.Asked, tag-of-reads.Learnt, stop-reads.Asked, stop-reads.Learnt, count-of-reads.Asked, count-of-reads.Learnt, each-part-below t, each-part.Post)
+product-calls t = (tag-of-reads.Asked, tag-of-reads.Learnt, refuse-reads.Asked, refuse-reads.Learnt, count-of-reads.Asked, count-of-reads.Learnt, each-part-below t, each-part.Post)
 
 abbrev pub quant-calls : ℕ → quant-lts.Claims
 quant-calls t = (word-reads.Asked, word-reads.Learnt, part-reads.Asked, part-reads.Learnt, lines-below t, lines.Post, verdict-reads.Asked, verdict-reads.Learnt, judge-reads.Asked, judge-reads.Learnt)
@@ -468,7 +473,7 @@ abbrev pub tuples-calls : ℕ → tuples-lts.Claims
 tuples-calls t = (unit-reads.Asked, unit-reads.Learnt, factors-below t, factors.Post, multiplied-reads.Asked, multiplied-reads.Learnt)
 
 abbrev pub turn-calls : ℕ → turn-lts.Claims
-turn-calls t = (part-reads.Asked, part-reads.Learnt, word-reads.Asked, word-reads.Learnt, pred-below t, pred.Post, body-below t, body.Post, go-reads.Asked, go-reads.Learnt)
+turn-calls t = (part-reads.Asked, part-reads.Learnt, word-reads.Asked, word-reads.Learnt, pred-below t, pred.Post, body-below t, body.Post, judge-reads.Asked, judge-reads.Learnt)
 
 abbrev pub value-calls : ℕ → value-lts.Claims
 value-calls t = (expr-below t, expr.Post, among-reads.Asked, among-reads.Learnt)

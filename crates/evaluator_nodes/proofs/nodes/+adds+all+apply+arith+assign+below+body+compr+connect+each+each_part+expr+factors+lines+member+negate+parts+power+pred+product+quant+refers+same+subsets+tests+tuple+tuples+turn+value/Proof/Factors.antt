@@ -43,6 +43,9 @@ factors-add-factors t c = let s = c .before .before .before .before .before .bef
 factors-factors-requires : (t : ℕ) → factors-lts.Need-factors-requires (factors-calls t) (factors-at t) factors.Post
 factors-factors-requires t c κs =
     let s = c .before .before .before .before .before .before .before .before .before .before .before .before .before .before .before in
+    let f = s .pre .1 .0 .few in
+    let l = c .before .before .before .before .before .before .before .before .before .before .if1 .left in
+    let m = s .pre .0 in
     (omega arith, (handed-same _ (c .before .before .before .before .before .before .before .expr .kept .1 .1 .0) (s .pre .1 .0), record { each = λ j p q. s .pre .1 .1 .each j (omega arith) q }, omega arith))
 
 factors-returns-3 : (t : ℕ) → factors-lts.Need-returns-3 (factors-calls t) (factors-at t) factors.Post

@@ -24,25 +24,25 @@ member-expr-requires t c κs =
 
 member-returns : (t : ℕ) → member-lts.Need-returns (member-calls t) (member-at t) member.Post
 member-returns t c =
-    let e = c .before .before .before .before .expr .ensures in
-    let s = c .before .before .before .before .before .before .before .before .before .before .before in
-    record { kept = e .kept; told = λ scope sc. member-stop (s .pre .1 .0) _ (getD (s .args .w .now) 2 0) (c .before .before .before .before .before .word .ensures .0) refl scope (s .pre .1 .1) (e .told scope sc) (c .if1 .taken) }
+    let e = c .before .before .before .before .before .expr .ensures in
+    let s = c .before .before .before .before .before .before .before .before .before .before .before .before in
+    record { kept = e .kept; told = λ scope sc. member-stop (s .pre .1 .0) _ (getD (s .args .w .now) 2 0) (c .before .before .before .before .before .before .word .ensures .0) refl scope (s .pre .1 .1) (e .told scope sc) (c .if1 .taken) }
 
 member-tests-requires : (t : ℕ) → member-lts.Need-tests-requires (member-calls t) (member-at t) member.Post
 member-tests-requires t c κs =
-    let s = c .before .before .before .before .before .before .before .before .before .before .before .before .before .before in
+    let s = c .before .before .before .before .before .before .before .before .before .before .before .before .before .before .before in
     let h = s .pre .1 .0 in
-    let o = relation-operands h 22 (s .pre .1 .1) (omega arith) (omega arith) _ _ (c .before .before .before .before .before .before .before .before .word .ensures .0) (c .word2 .ensures .0) in
+    let o = relation-operands h 22 (s .pre .1 .1) (omega arith) (omega arith) _ _ (c .before .before .before .before .before .before .before .before .before .word .ensures .0) (c .word2 .ensures .0) in
     let x = o .1 .below in
     let m = s .pre .0 in
-    (omega arith, ready-lower _ expressions _ (c .before .before .before .before .before .before .before .expr .kept .1 .1 .0) (h .ready) (o .1))
+    (omega arith, ready-lower _ expressions _ (c .before .before .before .before .before .before .before .before .expr .kept .1 .1 .0) (h .ready) (o .1))
 
 member-returns-2 : (t : ℕ) → member-lts.Need-returns-2 (member-calls t) (member-at t) member.Post
 member-returns-2 t c =
-    let e = c .before .before .before .before .before .before .before .before .before .before .expr .ensures in
+    let e = c .before .before .before .before .before .before .before .before .before .before .before .expr .ensures in
     let g = c .before .before .tests .ensures in
-    let s = c .before .before .before .before .before .before .before .before .before .before .before .before .before .before .before .before .before in
-    record { kept = g .kept ∙ e .kept; told = λ scope sc. member-go (s .pre .1 .0) _ _ (c .before .before .before .before .before .before .before .before .before .before .before .word .ensures .0) (c .before .before .before .word2 .ensures .0) scope (s .pre .1 .1) (e .told scope sc) (c .before .before .before .before .before .before .if1 .left) (λ v h. g .told v h scope (scoped-same _ _ _ _ (e .kept) sc)) }
+    let s = c .before .before .before .before .before .before .before .before .before .before .before .before .before .before .before .before .before .before in
+    record { kept = g .kept ∙ e .kept; told = λ scope sc. member-go (s .pre .1 .0) _ _ (c .before .before .before .before .before .before .before .before .before .before .before .before .word .ensures .0) (c .before .before .before .word2 .ensures .0) scope (s .pre .1 .1) (e .told scope sc) (c .before .before .before .before .before .before .if1 .left) (λ v h. g .told v h scope (scoped-same _ _ _ _ (e .kept) sc)) }
 
 pub member-closed : {M : Type 1} (t : ℕ) → member-lts.Closed (member-calls t) (member-at t) member.Post M
 member-closed t =

@@ -19,7 +19,7 @@ use Rattle.evaluator_nodes.proofs.nodes.+adds+all+apply+arith+assign+be
 power-returns : (t : ℕ) → power-lts.Need-returns (power-calls t) (power-at t) power.Post
 power-returns t c =
     let s = c .before .before .before .before .before .before .before in
-    record { kept = refl; told = λ x h scope sc. power-other (s .pre .1 .0) _ x h scope (s .pre .1 .1) (λ e. c .before .if1 .taken (c .before .before .tag-of .ensures ∙ e)) (c .stop .ensures) }
+    record { kept = refl; told = λ x h scope sc. power-other (s .pre .1 .0) _ x h scope (s .pre .1 .1) (λ e. c .before .if1 .taken (c .before .before .tag-of .ensures ∙ e)) (c .refuse .ensures) }
 
 power-all-requires : (t : ℕ) → power-lts.Need-all-requires (power-calls t) (power-at t) power.Post
 power-all-requires t c κs =

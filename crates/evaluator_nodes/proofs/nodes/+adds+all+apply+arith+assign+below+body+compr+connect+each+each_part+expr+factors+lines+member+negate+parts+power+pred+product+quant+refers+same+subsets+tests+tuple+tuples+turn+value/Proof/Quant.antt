@@ -21,32 +21,33 @@ use Rattle.evaluator_nodes.proofs.nodes.+adds+all+apply+arith+assign+be
 
 quant-lines-requires : (t : ℕ) → quant-lts.Need-lines-requires (quant-calls t) (quant-at t) quant.Post
 quant-lines-requires t c κs =
-    let s = c .before .before .before .before .before .before .before in
+    let s = c .before .before .before .before .before .before .before .before in
     let h = s .pre .1 .0 in
-    let x = c .before .before .word .ensures .0 in
-    (omega arith, lines-start (quant-scoping empty _ x h (s .pre .1 .1) (s .pre .1 .2)) _ _ (in-words h 1 _ x) (c .part .ensures))
+    let x = c .before .before .before .word .ensures .0 in
+    (omega arith, lines-start (quant-scoping empty _ x h (s .pre .1 .1) (s .pre .1 .2)) _ _ (in-words h 1 _ x) (c .before .part .ensures))
 
 quant-returns : (t : ℕ) → quant-lts.Need-returns (quant-calls t) (quant-at t) quant.Post
 quant-returns t c =
-    let s = c .before .before .before .before .before .before .before .before .before .before .before .before in
-    let e = c .before .before .before .before .lines .ensures in
+    let s = c .before .before .before .before .before .before .before .before .before .before .before .before .before .before in
+    let e = c .before .before .before .before .before .lines .ensures in
     let h = s .pre .1 .0 in
     let z : s .args .n ≡ s .args .n + 0 = omega arith in
-    record { kept = e .kept; told = λ scope sc. quant-stop scope _ (c .before .before .before .before .before .before .before .word .ensures .0) h (s .pre .1 .1) (s .pre .1 .2) (rw (c .before .before .before .before .before .part .ensures) at (e .told scope sc (subst (λ (j : ℕ). Scoped (s .args .state .now) (s .args .work .now) j scope) z sc) noMore Blocks.none)) (c .if1 .taken) }
+    record { kept = e .kept; told = λ scope sc. quant-stop scope _ (c .before .before .before .before .before .before .before .before .before .word .ensures .0) h (s .pre .1 .1) (s .pre .1 .2) (rw (c .before .before .before .before .before .before .before .part .ensures) at (e .told scope sc (subst (λ (j : ℕ). Scoped (s .args .state .now) (s .args .work .now) j scope) z sc) noMore Blocks.none (record { gathers = λ q. absurd (omega (arith, s .pre .1 .2)) }))) (c .if1 .taken) }
 
 quant-returns-2 : (t : ℕ) → quant-lts.Need-returns-2 (quant-calls t) (quant-at t) quant.Post
 quant-returns-2 t c =
-    let s = c .before .before .before .before .before .before .before .before .before .before .before .before .before .before .before in
-    let e = c .before .before .before .before .before .before .before .lines .ensures in
+    let s = c .before .before .before .before .before .before .before .before .before .before .before .before .before .before .before .before .before in
+    let e = c .before .before .before .before .before .before .before .before .lines .ensures in
     let h = s .pre .1 .0 in
     let z : s .args .n ≡ s .args .n + 0 = omega arith in
-    record { kept = e .kept; told = λ scope sc. quant-go scope _ (c .before .before .before .before .before .before .before .before .before .before .word .ensures .0) h (s .pre .1 .1) (s .pre .1 .2) (rw (c .before .before .before .before .before .before .before .before .part .ensures) at (e .told scope sc (subst (λ (j : ℕ). Scoped (s .args .state .now) (s .args .work .now) j scope) z sc) noMore Blocks.none)) (c .before .before .before .if1 .left) (c .judge .ensures .0) (c .judge .ensures .1 ∙ c .before .verdict .ensures ∙ ap (λ (j : ℕ). verdictOf (quantifierOf j) (c .before .before .before .before .before .before .before .lines .result .flag)) (in-words h 0 _ (c .before .before .word2 .ensures .0))) }
+    record { kept = e .kept; told = λ scope sc. quant-go scope _ (c .before .before .before .before .before .before .before .before .before .before .before .before .word .ensures .0) h (s .pre .1 .1) (s .pre .1 .2) (rw (c .before .before .before .before .before .before .before .before .before .before .part .ensures) at (e .told scope sc (subst (λ (j : ℕ). Scoped (s .args .state .now) (s .args .work .now) j scope) z sc) noMore Blocks.none (record { gathers = λ q. absurd (omega (arith, s .pre .1 .2)) }))) (c .before .before .before .if1 .left) (c .judge .ensures .0) (c .judge .ensures .1 ∙ c .before .verdict .ensures ∙ ap (λ (j : ℕ). verdictOf (quantifierOf j) (c .before .before .before .before .before .before .before .before .lines .result .flag)) (in-words h 0 _ (c .before .before .word2 .ensures .0))) }
 
 pub quant-closed : {M : Type 1} (t : ℕ) → quant-lts.Closed (quant-calls t) (quant-at t) quant.Post M
 quant-closed t =
     quant-lts.spec (quant-calls t) (quant-at t) quant.Post
     (λ c κs. search needs)
     (λ c κs. search needs)
+    (λ c. search needs)
     (quant-lines-requires t)
     (λ c. search needs)
     (quant-returns t)

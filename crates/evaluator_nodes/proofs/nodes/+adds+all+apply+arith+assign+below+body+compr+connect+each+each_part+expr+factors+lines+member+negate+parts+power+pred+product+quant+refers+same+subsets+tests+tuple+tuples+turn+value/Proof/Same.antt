@@ -25,34 +25,34 @@ same-expr-requires t c κs =
 
 same-returns : (t : ℕ) → same-lts.Need-returns (same-calls t) (same-at t) same.Post
 same-returns t c =
-    let e = c .before .before .before .before .expr .ensures in
-    let s = c .before .before .before .before .before .before .before .before .before .before .before in
+    let e = c .before .before .before .before .before .expr .ensures in
+    let s = c .before .before .before .before .before .before .before .before .before .before .before .before in
     let h = s .pre .1 .0 in
-    record { kept = e .kept; told = λ scope sc. equal-told h _ (getD (s .args .w .now) 2 0) (c .before .before .before .before .before .word .ensures .0) refl scope (s .pre .1 .1) (halt-told _ (e .told scope sc) (c .if1 .taken)) }
+    record { kept = e .kept; told = λ scope sc. equal-told h _ (getD (s .args .w .now) 2 0) (c .before .before .before .before .before .before .word .ensures .0) refl scope (s .pre .1 .1) (halt-told _ (e .told scope sc) (c .if1 .taken)) }
 
 same-expr-requires-2 : (t : ℕ) → same-lts.Need-expr-requires-2 (same-calls t) (same-at t) same.Post
 same-expr-requires-2 t c κs =
-    let s = c .before .before .before .before .before .before .before .before .before .before .before .before .before in
+    let s = c .before .before .before .before .before .before .before .before .before .before .before .before .before .before in
     let h = s .pre .1 .0 in
-    let o = relation-operands h 21 (s .pre .1 .1) (omega arith) (omega arith) _ _ (c .before .before .before .before .before .before .before .word .ensures .0) (c .word2 .ensures .0) in
+    let o = relation-operands h 21 (s .pre .1 .1) (omega arith) (omega arith) _ _ (c .before .before .before .before .before .before .before .before .word .ensures .0) (c .word2 .ensures .0) in
     let x = o .1 .below in
-    (omega arith, ready-lower _ expressions _ (c .before .before .before .before .before .before .expr .kept .1 .1 .0) (h .ready) (o .1))
+    (omega arith, ready-lower _ expressions _ (c .before .before .before .before .before .before .before .expr .kept .1 .1 .0) (h .ready) (o .1))
 
 same-returns-2 : (t : ℕ) → same-lts.Need-returns-2 (same-calls t) (same-at t) same.Post
 same-returns-2 t c =
-    let e = c .before .before .before .before .before .before .before .before .before .before .before .expr .ensures in
-    let g = c .before .before .before .before .expr2 .ensures in
-    let s = c .before .before .before .before .before .before .before .before .before .before .before .before .before .before .before .before .before .before in
+    let e = c .before .before .before .before .before .before .before .before .before .before .before .before .before .expr .ensures in
+    let g = c .before .before .before .before .before .expr2 .ensures in
+    let s = c .before .before .before .before .before .before .before .before .before .before .before .before .before .before .before .before .before .before .before .before in
     let h = s .pre .1 .0 in
-    record { kept = g .kept ∙ e .kept; told = λ scope sc. equal-told h _ _ (c .before .before .before .before .before .before .before .before .before .before .before .before .word .ensures .0) (c .before .before .before .before .before .word2 .ensures .0) scope (s .pre .1 .1) (second-told (e .told scope sc) (c .before .before .before .before .before .before .before .if1 .left) (g .told scope (scoped-same _ _ _ _ (e .kept) sc)) _ (c .if2 .taken)) }
+    record { kept = g .kept ∙ e .kept; told = λ scope sc. equal-told h _ _ (c .before .before .before .before .before .before .before .before .before .before .before .before .before .before .word .ensures .0) (c .before .before .before .before .before .before .word2 .ensures .0) scope (s .pre .1 .1) (second-told (e .told scope sc) (c .before .before .before .before .before .before .before .before .if1 .left) (g .told scope (scoped-same _ _ _ _ (e .kept) sc)) _ (c .if2 .taken)) }
 
 same-returns-3 : (t : ℕ) → same-lts.Need-returns-3 (same-calls t) (same-at t) same.Post
 same-returns-3 t c =
-    let e = c .before .before .before .before .before .before .before .before .before .before .before .before .before .before .expr .ensures in
-    let g = c .before .before .before .before .before .before .before .expr2 .ensures in
-    let s = c .before .before .before .before .before .before .before .before .before .before .before .before .before .before .before .before .before .before .before .before .before in
+    let e = c .before .before .before .before .before .before .before .before .before .before .before .before .before .before .before .before .expr .ensures in
+    let g = c .before .before .before .before .before .before .before .before .expr2 .ensures in
+    let s = c .before .before .before .before .before .before .before .before .before .before .before .before .before .before .before .before .before .before .before .before .before .before .before in
     let h = s .pre .1 .0 in
-    record { kept = g .kept ∙ e .kept; told = λ scope sc. equal-told h _ _ (c .before .before .before .before .before .before .before .before .before .before .before .before .before .before .before .word .ensures .0) (c .before .before .before .before .before .before .before .before .word2 .ensures .0) scope (s .pre .1 .1) (both-told (e .told scope sc) (c .before .before .before .before .before .before .before .before .before .before .if1 .left) (g .told scope (scoped-same _ _ _ _ (e .kept) sc)) (c .before .before .before .if2 .left) (c .equal .ensures)) }
+    record { kept = g .kept ∙ e .kept; told = λ scope sc. equal-told h _ _ (c .before .before .before .before .before .before .before .before .before .before .before .before .before .before .before .before .before .word .ensures .0) (c .before .before .before .before .before .before .before .before .before .word2 .ensures .0) scope (s .pre .1 .1) (both-told (e .told scope sc) (c .before .before .before .before .before .before .before .before .before .before .before .if1 .left) (g .told scope (scoped-same _ _ _ _ (e .kept) sc)) (c .before .before .before .if2 .left) (c .equal .ensures)) }
 
 pub same-closed : {M : Type 1} (t : ℕ) → same-lts.Closed (same-calls t) (same-at t) same.Post M
 same-closed t =

@@ -23,7 +23,7 @@ use Rattle.evaluator_nodes.proofs.nodes.+adds+all+apply+arith+assign+be
 
 turn-pred-requires : (t : ℕ) → turn-lts.Need-pred-requires (turn-calls t) (turn-at t) turn.Post
 turn-pred-requires t c κs =
-    let s = c .before .before .before .before .before .before .before .before in
+    let s = c .before .before .before .before .before .before .before .before .before in
     let x = c .before .before .before .word .ensures .0 ∙ ap (λ (l : List ℕ). getD l 1 0) (c .before .before .before .before .part .ensures) in
     let y = c .word2 .ensures .0 ∙ ap (λ (l : List ℕ). getD l 1 0) (c .before .part2 .ensures) in
     let p = text-pred (s .pre .1) _ _ x y in
@@ -33,31 +33,31 @@ turn-pred-requires t c κs =
 
 turn-returns : (t : ℕ) → turn-lts.Need-returns (turn-calls t) (turn-at t) turn.Post
 turn-returns t c =
-    let s = c .before .before .before .before .before .before .before .before .before .before .before .before .before in
+    let s = c .before .before .before .before .before .before .before .before .before .before .before .before .before .before in
     let e = c .before .before .before .before .pred .ensures in
     let x = c .before .before .before .before .before .before .before .before .word .ensures .0 ∙ ap (λ (l : List ℕ). getD l 1 0) (c .before .before .before .before .before .before .before .before .before .part .ensures) in
     let y = c .before .before .before .before .before .word2 .ensures .0 ∙ ap (λ (l : List ℕ). getD l 1 0) (c .before .before .before .before .before .before .part2 .ensures) ∙ ap (λ (j : ℕ). operandAt (s .args .doc .now) j 1) x in
     record { kept = e .kept; told = λ scope sc vs h. turn-stop (s .args .doc .now) (s .args .k) _ y scope vs (e .told scope sc) (c .if1 .taken) }
 
 turn-body-requires : (t : ℕ) → turn-lts.Need-body-requires (turn-calls t) (turn-at t) turn.Post
-turn-body-requires t c κs = let s = c .before .before .before .before .before .before .before .before .before .before .before .before .before .before .before .before in (omega arith, (scoping-same (s .pre .1) _ (c .before .before .before .before .before .before .before .pred .kept .1 .1 .0), c .part3 .ensures))
+turn-body-requires t c κs = let s = c .before .before .before .before .before .before .before .before .before .before .before .before .before .before .before .before .before .before in (omega arith, (scoping-same (s .pre .1) _ (c .before .before .before .before .before .before .before .before .pred .kept .1 .1 .0), c .part3 .ensures))
 
 turn-returns-2 : (t : ℕ) → turn-lts.Need-returns-2 (turn-calls t) (turn-at t) turn.Post
 turn-returns-2 t c =
-    let s = c .before .before .before .before .before .before .before .before .before .before .before .before .before .before .before .before .before .before .before in
-    let e = c .before .before .before .before .before .before .before .before .before .before .pred .ensures in
-    let g = c .before .before .body .ensures in
-    let x = c .before .before .before .before .before .before .before .before .before .before .before .before .before .before .word .ensures .0 ∙ ap (λ (l : List ℕ). getD l 1 0) (c .before .before .before .before .before .before .before .before .before .before .before .before .before .before .before .part .ensures) in
-    let y = c .before .before .before .before .before .before .before .before .before .before .before .word2 .ensures .0 ∙ ap (λ (l : List ℕ). getD l 1 0) (c .before .before .before .before .before .before .before .before .before .before .before .before .part2 .ensures) ∙ ap (λ (j : ℕ). operandAt (s .args .doc .now) j 1) x in
-    record { kept = g .kept ∙ e .kept; told = λ scope sc vs h. turn-true (s .args .doc .now) (s .args .k) _ y scope vs (e .told scope sc) (c .before .before .before .before .before .before .if1 .left) (c .before .before .before .before .before .if2 .taken) (g .told scope (scoped-same _ _ _ _ (e .kept) sc) vs h) }
+    let s = c .before .before .before .before .before .before .before .before .before .before .before .before .before .before .before .before .before .before .before .before .before .before .before in
+    let e = c .before .before .before .before .before .before .before .before .before .before .before .before .before .pred .ensures in
+    let g = c .before .before .before .before .body .ensures in
+    let x = c .before .before .before .before .before .before .before .before .before .before .before .before .before .before .before .before .before .word .ensures .0 ∙ ap (λ (l : List ℕ). getD l 1 0) (c .before .before .before .before .before .before .before .before .before .before .before .before .before .before .before .before .before .before .part .ensures) in
+    let y = c .before .before .before .before .before .before .before .before .before .before .before .before .before .before .word2 .ensures .0 ∙ ap (λ (l : List ℕ). getD l 1 0) (c .before .before .before .before .before .before .before .before .before .before .before .before .before .before .before .part2 .ensures) ∙ ap (λ (j : ℕ). operandAt (s .args .doc .now) j 1) x in
+    record { kept = g .kept ∙ e .kept; told = λ scope sc vs h. turn-true (s .args .doc .now) (s .args .k) _ y scope vs (e .told scope sc) (c .before .before .before .before .before .before .before .before .before .if1 .left) (c .before .before .before .before .before .before .before .before .if2 .taken) (g .told scope (scoped-same _ _ _ _ (e .kept) sc) vs h) }
 
 turn-returns-3 : (t : ℕ) → turn-lts.Need-returns-3 (turn-calls t) (turn-at t) turn.Post
 turn-returns-3 t c =
-    let s = c .before .before .before .before .before .before .before .before .before .before .before .before .before .before .before in
+    let s = c .before .before .before .before .before .before .before .before .before .before .before .before .before .before .before .before in
     let e = c .before .before .before .before .before .before .pred .ensures in
     let x = c .before .before .before .before .before .before .before .before .before .before .word .ensures .0 ∙ ap (λ (l : List ℕ). getD l 1 0) (c .before .before .before .before .before .before .before .before .before .before .before .part .ensures) in
     let y = c .before .before .before .before .before .before .before .word2 .ensures .0 ∙ ap (λ (l : List ℕ). getD l 1 0) (c .before .before .before .before .before .before .before .before .part2 .ensures) ∙ ap (λ (j : ℕ). operandAt (s .args .doc .now) j 1) x in
-    record { kept = e .kept; told = λ scope sc vs h. turn-false (s .args .doc .now) (s .args .k) _ y scope vs (e .told scope sc) (c .before .before .if1 .left) (c .before .if2 .left) (c .go .ensures .number) (c .go .ensures .flag) (subst (λ (u : Held). Holds u (Value.set vs)) (sym (c .go .ensures .held)) h) }
+    record { kept = e .kept; told = λ scope sc vs h. turn-false (s .args .doc .now) (s .args .k) _ y scope vs (e .told scope sc) (c .before .before .if1 .left) (c .before .if2 .left) (c .judge .ensures .0) (c .judge .ensures .1) h }
 
 pub turn-closed : {M : Type 1} (t : ℕ) → turn-lts.Closed (turn-calls t) (turn-at t) turn.Post M
 turn-closed t =
@@ -71,6 +71,7 @@ turn-closed t =
     (turn-returns t)
     (λ c κs. search needs)
     (turn-body-requires t)
+    (λ c. search needs)
     (λ c. search needs)
     (turn-returns-2 t)
     (λ c κs. search needs)
