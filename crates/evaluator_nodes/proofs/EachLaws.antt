@@ -25,6 +25,13 @@ use Rattle.evaluator_operations.proofs.OperationLaws.{narrow-head, narrow-tail}
 use Rattle.evaluator_scope.proofs.BlockLaws.{same-word, same-part, same-less, scoped-same, pending-above, head-take, head-drop, head-name, head-class, head-place, head-length}
 use Rattle.evaluator_nodes.proofs.TestLaws.{lies-more}
 
+-- whatever the members from here on tell tells of all members: with the work area work₀ and the lent words s₀ at the first, work and s here
+pub record EachLeft (doc state : List ℕ) (n m k c : ℕ) (work₀ s₀ work s : List ℕ) (at left : ℕ) : Type 0 where
+  pub each : (after s′ : List ℕ) (r : Judgement) → Assigns n (m + 1) work after (EachTold doc k state work n m at left s s′ r) → Assigns n (m + 1) work₀ after (EachTold doc k state work₀ n m 2 c s₀ s′ r)
+
+pub left-all : (doc state : List ℕ) (n m k c : ℕ) (work s : List ℕ) → EachLeft doc state n m k c work s work s 2 c
+left-all doc state n m k c work s = record { each = λ after s′ r a. a }
+
 -- no member more
 pub each-end : (doc state work : List ℕ) (n m k at c : ℕ) (u : List ℕ) (r : Judgement) → c ≡ 0 → r .number ≡ 0 → r .flag ≡ false →
     Assigns n (m + 1) work work (EachTold doc k state work n m at c u u r)
@@ -50,7 +57,7 @@ module _ (doc state w0 w1 w2 : List ℕ) (n m k at c here len : ℕ) (s s1 : Lis
   below0 : take (blockWords * n) w1 ≡ take (blockWords * n) w0
   below0 = rw e1 (head-take w0 n (getD w0 (blockWords * n) 0) 2 here len)
 
-  pub each-kept : take (blockWords * n) w2 ≡ take (blockWords * n) w0
+  each-kept : take (blockWords * n) w2 ≡ take (blockWords * n) w0
   each-kept = same-less (blockWords * (n + 1)) w1 w2 (A .kept) (blockWords * n) (omega arith) ∙ below0
 
   drop-same : (j : ℕ) → blockWords * n + headWords ≤ j → drop j w1 ≡ drop j w0
@@ -67,7 +74,7 @@ module _ (doc state w0 w1 w2 : List ℕ) (n m k at c here len : ℕ) (s s1 : Lis
       let q : blockWords * n ≡ blockWords * n + 0 = omega arith in
       same-word (blockWords * (n + 1)) w1 w2 (A .kept) (blockWords * n + 0) (omega arith) ∙ (rw e1 (head-name w0 n (getD w0 (blockWords * n) 0) 2 here len (omega arith))) ∙ ap (λ (j : ℕ). getD w0 j 0) q
 
-  pub each-pends : (ds : Domains) → Pending w0 n (m + 1) ds → Pending w2 n (m + 1) ds
+  each-pends : (ds : Domains) → Pending w0 n (m + 1) ds → Pending w2 n (m + 1) ds
   each-pends ds p = subst (λ (j : ℕ). Pending w2 n j ds) (sym (add-one m)) (keep-all ds (subst (λ (j : ℕ). Pending w0 n j ds) (add-one m) p))
     where
       keep-all : (es : Domains) → Pending w0 n (suc m) es → Pending w2 n (suc m) es
@@ -144,12 +151,12 @@ module _ (doc state w0 w1 w2 : List ℕ) (n m k at c here len : ℕ) (s s1 : Lis
         (subst (λ (j : ℕ). Pending w1 j m ds) (sym (add-one n)) (pending-above w0 w1 (blockWords * n + headWords) above4 (suc n) m (omega arith) p)) ss hs
 
   -- it stops, or ends all assignments
-  pub each-stop : (x .number ≡ 0 → ⊥) → EachTold doc k state w0 n m at c s s1 x
+  each-stop : (x .number ≡ 0 → ⊥) → EachTold doc k state w0 n m at c s s1 x
   unfolding each count
   each-stop z scope sc i us ds p nil g ss hs = absurd (some (sym (g .counted)))
   each-stop z scope sc i us ds p (cons v vs) g ss hs = halt-told _ (next-told v vs g scope sc i us ds p ss hs) z
 
-  pub each-halt : x .number ≡ 0 → x .flag ≡ true → EachTold doc k state w0 n m at c s s1 x
+  each-halt : x .number ≡ 0 → x .flag ≡ true → EachTold doc k state w0 n m at c s s1 x
   unfolding each next count
   each-halt z f scope sc i us ds p nil g ss hs = absurd (some (sym (g .counted)))
   each-halt z f scope sc i us ds p (cons v vs) g ss hs = go-told (next-told v vs g scope sc i us ds p ss hs) z (λ w j. ended w j)
@@ -158,7 +165,7 @@ module _ (doc state w0 w1 w2 : List ℕ) (n m k at c here len : ℕ) (s s1 : Lis
       ended (go us) j = absurd (true≢false (sym f ∙ j .0))
       ended halt j = fine {a = halt} z f
 
-  pub each-go : {s2 : List ℕ} {r : Judgement} → x .number ≡ 0 → x .flag ≡ false → EachTold doc k state w2 n m (at + len) (c - 1) s1 s2 r → EachTold doc k state w0 n m at c s s2 r
+  each-go : {s2 : List ℕ} {r : Judgement} → x .number ≡ 0 → x .flag ≡ false → EachTold doc k state w2 n m (at + len) (c - 1) s1 s2 r → EachTold doc k state w0 n m at c s s2 r
   unfolding each next count
   each-go z f more′ scope sc i us ds p nil g ss hs = absurd (some (sym (g .counted)))
   each-go {s2} {r} z f more′ scope sc i us ds p (cons v vs) g ss hs = go-told (next-told v vs g scope sc i us ds p ss hs) z (λ w j. onward w j)
@@ -169,3 +176,14 @@ module _ (doc state w0 w1 w2 : List ℕ) (n m k at c here len : ℕ) (s s1 : Lis
           (subst (λ (q : ℕ). Pending w2 n q (domain i us ds)) (add-one m) (each-pends (domain i us ds) (subst (λ (q : ℕ). Pending w0 n q (domain i us ds)) (sym (add-one m)) p)))
           vs (next-rest v vs g) us′ (j .1)
       onward halt j = absurd (true≢false (sym j ∙ f))
+
+  -- with the members before
+  module _ (c₀ : ℕ) (work₀ s₀ : List ℕ) (h : EachLeft doc state n m k c₀ work₀ s₀ w0 s at c) where
+    pub left-stop : (x .number ≡ 0 → ⊥) → Assigns n (m + 1) work₀ w2 (EachTold doc k state work₀ n m 2 c₀ s₀ s1 x)
+    left-stop z = h .each w2 s1 x (record { kept = each-kept; pends = each-pends; told = each-stop z })
+
+    pub left-halt : x .number ≡ 0 → x .flag ≡ true → Assigns n (m + 1) work₀ w2 (EachTold doc k state work₀ n m 2 c₀ s₀ s1 x)
+    left-halt z f = h .each w2 s1 x (record { kept = each-kept; pends = each-pends; told = each-halt z f })
+
+    pub left-more : x .number ≡ 0 → x .flag ≡ false → EachLeft doc state n m k c₀ work₀ s₀ w2 s1 (at + len) (c - 1)
+    left-more z f = record { each = λ after s′ r e. h .each after s′ r (record { kept = e .kept ∙ each-kept; pends = λ ds p. e .pends ds (each-pends ds p); told = each-go z f (e .told) }) }

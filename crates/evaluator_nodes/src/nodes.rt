@@ -580,10 +580,10 @@ fn assign(
         return turn(doc, state, work, n, k, s);
     }
     let c = word(work, BLOCK * n + evaluator_scope::COUNT);
-    each(doc, state, work, n, m - 1, k, HEAD, c, s)
+    each(doc, state, work, n, m - 1, k, c, s)
 }
 
-// The next c members of the set of block n, which has 64 words, from a place on, each with the assignments of the m identifiers above it.
+// The members of the set of block n, which has c members and 64 words, each with the assignments of the m identifiers above it.
 fn each(
     doc: &[u32],
     state: &[u32],
@@ -591,30 +591,32 @@ fn each(
     n: usize,
     m: usize,
     k: usize,
-    at: usize,
     c: usize,
     s: &mut [u32],
 ) -> Judgement
-    requires { ⌜ Scoping (now doc) (now work) n (m + 1) k × (at < 2 ^ 31) × (c < 2 ^ 32) ⌝ }
-    ensures { λ r. ⌜ Assigns n (m + 1) (now (work .entry)) (now (work .exit)) (EachTold (now (doc .entry)) k (now (state .entry)) (now (work .entry)) n m at c (now (s .entry)) (now (s .exit)) r) ⌝ }
+    requires { ⌜ Scoping (now doc) (now work) n (m + 1) k × (c < 2 ^ 32) ⌝ }
+    ensures { λ r. ⌜ Assigns n (m + 1) (now (work .entry)) (now (work .exit)) (EachTold (now (doc .entry)) k (now (state .entry)) (now (work .entry)) n m 2 c (now (s .entry)) (now (s .exit)) r) ⌝ }
 {
-    if c == 0 {
-        return judge(false);
+    let mut at = HEAD;
+    let mut left = c;
+    while 0 < left {
+        if limits::VALUE < at {
+            return judge(false);
+        }
+        let here = BLOCK * n + (evaluator_scope::HEAD + at);
+        let len = span(from(work, here));
+        put_head(work, n, word(work, BLOCK * n), IN_WORK, here, len);
+        let x = assign(doc, state, work, n + 1, m, k, s);
+        if x.number != 0 {
+            return x;
+        }
+        if x.flag {
+            return x;
+        }
+        at += len;
+        left -= 1;
     }
-    if limits::VALUE < at {
-        return judge(false);
-    }
-    let here = BLOCK * n + (evaluator_scope::HEAD + at);
-    let len = span(from(work, here));
-    put_head(work, n, word(work, BLOCK * n), IN_WORK, here, len);
-    let x = assign(doc, state, work, n + 1, m, k, s);
-    if x.number != 0 {
-        return x;
-    }
-    if x.flag {
-        return x;
-    }
-    each(doc, state, work, n, m, k, at + len, c - 1, s)
+    judge(false)
 }
 
 // One assignment: the body, where the Text's predicate is true.

@@ -24,7 +24,7 @@ assign-each-requires t c κs =
     let f = s .pre .1 .few in
     let e = c .before .before .before .before .if1 .left in
     let w = c .before .before .word .ensures .1 in
-    (omega arith, (scoping-shift (s .pre .1) _ _ (omega arith) (omega arith), omega arith, w))
+    (omega arith, (scoping-shift (s .pre .1) _ _ (omega arith) (omega arith), w))
 
 assign-returns-2 : (t : ℕ) → assign-lts.Need-returns-2 (assign-calls t) (assign-at t) assign.Post
 assign-returns-2 t c = let s = c .before .before .before .before .before .before .before .before .before .before .before .before .before .before in assigns-some (s .args .doc .now) (s .args .state .now) _ _ (s .args .n) (s .args .m) (s .args .k) _ (s .args .s .now) _ _ (c .before .before .before .before .before .before .before .before .before .if1 .left) (c .before .before .before .before .before .before .before .word .ensures .0) (c .before .before .before .before .each .ensures)

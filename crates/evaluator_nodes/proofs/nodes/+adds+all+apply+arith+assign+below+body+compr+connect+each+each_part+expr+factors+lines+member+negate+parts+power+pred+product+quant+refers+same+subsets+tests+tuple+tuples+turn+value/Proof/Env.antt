@@ -157,7 +157,7 @@ abbrev pub μ-connect : Measures 4 connect-kinds.ps ℕ
 μ-connect κs a = 1099511627776 * a .1 .1 .1 .1 .0 + 1000
 
 abbrev pub μ-each : Measures 4 each-kinds.ps ℕ
-μ-each κs a = 1099511627776 * a .1 .1 .1 .1 .1 .0 + 17179869184 * a .1 .1 .1 .1 .0 + 5 + a .1 .1 .1 .1 .1 .1 .1 .0
+μ-each κs a = 1099511627776 * a .1 .1 .1 .1 .1 .0 + 17179869184 * a .1 .1 .1 .1 .0 + 5
 
 abbrev pub μ-each-part : Measures 4 each-part-kinds.ps ℕ
 μ-each-part κs a = 1099511627776 * a .1 .1 .1 .1 .0 + (256 - a .1 .1 .1 .1 .1 .1 .0)
@@ -419,7 +419,7 @@ abbrev pub connect-calls : ℕ → connect-lts.Claims
 connect-calls t = (word-reads.Asked, word-reads.Learnt, pred-below t, pred.Post, decides-reads.Asked, decides-reads.Learnt, judge-reads.Asked, judge-reads.Learnt)
 
 abbrev pub each-calls : ℕ → each-lts.Claims
-each-calls t = (judge-reads.Asked, judge-reads.Learnt, from-reads.Asked, from-reads.Learnt, span-reads.Asked, span-reads.Learnt, word-reads.Asked, word-reads.Learnt, put-head-reads.Asked, put-head-reads.Learnt, assign-below t, assign.Post, each-below t, each.Post)
+each-calls t = (judge-reads.Asked, judge-reads.Learnt, from-reads.Asked, from-reads.Learnt, span-reads.Asked, span-reads.Learnt, word-reads.Asked, word-reads.Learnt, put-head-reads.Asked, put-head-reads.Learnt, assign-below t, assign.Post)
 
 abbrev pub each-part-calls : ℕ → each-part-lts.Claims
 each-part-calls t = (judge-reads.Asked, judge-reads.Learnt, length-at-reads.Asked, length-at-reads.Learnt, word-reads.Asked, word-reads.Learnt, member-at-reads.Asked, member-at-reads.Learnt, tests-below t, tests.Post, each-part-below t, each-part.Post)
