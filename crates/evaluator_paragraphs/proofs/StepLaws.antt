@@ -320,6 +320,17 @@ other-globals doc k h a b c =
     (eq-or-lt-of-le l)
 
 -- ---- the paragraphs of a document, one turn at a time
+abbrev pub from : List ℕ → ℕ → List Paragraph
+from doc i = paragraphsFrom doc (count doc) i (length (part doc (count doc)) - i)
+
+-- whatever the paragraphs from j on tell, b blocks in scope, tells of all from i on, where n blocks were
+pub record RunLeft (doc : List ℕ) (s : State) (state work₀ : List ℕ) (n i : ℕ) (work : List ℕ) (b j : ℕ) : Type 0 where
+  pub run : (r : Judgement) → ((scope : Environment) → Scoped state work b scope → Told (Stepped (λ z. Unit {0})) r (runParagraphs (from doc j) s scope)) →
+      (scope : Environment) → Scoped state work₀ n scope → Told (Stepped (λ z. Unit {0})) r (runParagraphs (from doc i) s scope)
+
+pub left-all : (doc : List ℕ) (s : State) (state work : List ℕ) (n i : ℕ) → RunLeft doc s state work n i work n i
+left-all doc s state work n i = record { run = λ r h. h }
+
 module _ (doc : List ℕ) (s : State) (i : ℕ) where
   abbrev size : ℕ
   size = length (part doc (count doc))

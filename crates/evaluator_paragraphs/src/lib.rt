@@ -275,16 +275,20 @@ pub fn run_from(
     requires { ⌜ Stated (now doc) (now state) (now table) × (now w ≡ part (now doc) (count (now doc))) × (1 ≤ i) × (i ≤ 256) × Roomy (now work) n (globalCount (paragraphsFrom (now doc) (count (now doc)) i (length (now w) - i))) × Declares (now doc) (namesOf (paragraphsFrom (now doc) (count (now doc)) i (length (now w) - i))) ⌝ }
     ensures { λ r. ⌜ ((scope : Environment) → Scoped (now (state .entry)) (now (work .entry)) n scope → Told (Stepped (λ s. Unit {0})) r (runParagraphs (paragraphsFrom (now (doc .entry)) (count (now (doc .entry))) i (length (now (w .entry)) - i)) (said (now (doc .entry)) (now (state .entry))) scope)) ⌝ }
 {
-    if w.len() <= i {
-        return judge(true);
+    let mut b = n;
+    let mut j = i;
+    while j < w.len() {
+        let k = word(w, j);
+        let y = paragraph(doc, state, table, work, b, k);
+        if y.number != 0 {
+            return y;
+        }
+        if y.flag {
+            b += global_count(doc, k);
+            j += 1;
+        } else {
+            return y;
+        }
     }
-    let k = word(w, i);
-    let y = paragraph(doc, state, table, work, n, k);
-    if y.number != 0 {
-        return y;
-    }
-    if y.flag {
-        return run_from(doc, state, table, work, n + global_count(doc, k), w, i + 1);
-    }
-    y
+    judge(true)
 }
