@@ -7,7 +7,7 @@ use native.Mathlib.Omega.{arith}
 use lib.IntN.{pos}
 use lib.ListN.{getD}
 use Rattle.layout.specs.Layout.{part}
-use Rattle.values.specs.Value.{int}
+use Rattle.values.specs.Value.{Value, int, encode}
 use Rattle.reader_rules.specs.Kinds.{expressions, predicates}
 use Rattle.reader_rules.specs.Nodes.{kindAt, operandAt}
 use Rattle.reader_rules.specs.Promise.{At}
@@ -24,7 +24,7 @@ use Rattle.values.specs.declared.held.Held.{Held}
 use Rattle.evaluator_operations.specs.declared.worked.Judgement.{Judgement}
 use Rattle.evaluator_operations.specs.Worked.{Told, fine, Valued, Judged, Stops}
 use Rattle.evaluator_operations.proofs.ToldLaws.{stop-told}
-use Rattle.evaluator_operations.proofs.OperationLaws.{keep-fine}
+use Rattle.evaluator_operations.proofs.OperationLaws.{keep-told}
 
 unfoldable isRun : Expr → Bool
 isRun (reference n i xs) = true
@@ -89,10 +89,10 @@ pub unrun-told : (doc : List ℕ) (k : ℕ) → At doc expressions k → Unrun (
 unrun-told doc k h u scope {hr} {r} s =
     subst (Told (Valued hr) r) (sym (not-run (exprAt doc k) (unrun-kind doc k h u) scope ∙ ap (stop 54) (expr-node doc k h))) (stop-told s (λ z. omega arith))
 
-pub number-told : (doc : List ℕ) (k : ℕ) → At doc expressions k → kindAt doc k ≡ 31 → (z : ℕ) → z ≡ operandAt doc k 1 → (scope : Environment) {hr : Held} {r : Judgement} → Valued hr r (int (pos z)) → r .number ≡ 0 →
-    Told (Valued hr) r (evalExpr (exprAt doc k) scope)
-unfolding evalExpr
-number-told doc k h q z x scope v n = rw (expr-number doc k h q, ← x) (keep-fine k _ _ n (v .held))
+pub number-told : (doc : List ℕ) (k : ℕ) → At doc expressions k → kindAt doc k ≡ 31 → (z : ℕ) → z ≡ operandAt doc k 1 → (scope : Environment) {R : Judgement → Value → Type 0} {r : Judgement} → R r (int (pos z)) → r .number ≡ 0 →
+    Told R r (evalExpr (exprAt doc k) scope)
+unfolding evalExpr encode
+number-told doc k h q z x scope v n = rw (expr-number doc k h q, ← x) (keep-told k _ _ n (omega arith) v)
 
 pub truth-told : (doc : List ℕ) (k : ℕ) → At doc predicates k → kindAt doc k ≡ 20 → (scope : Environment) {r : Judgement} → r .number ≡ 0 → r .flag ≡ true → Told Judged r (evalPred (predAt doc k) scope)
 unfolding evalPred

@@ -160,9 +160,9 @@ module _ {doc work w : List ℕ} {n k : ℕ} (h : Handed doc work w expressions 
       unfolding hasActuals
       no-actuals = sym (ap hasActuals (exprs-end doc k (length w) 2 l))
 
-      pub reference-plain : {hs : Held} {s : Judgement} → Told (Valued hs) s (refer k (exprsFrom doc k 2 (length w - 2)) (lookup (getD w 1 0) scope)) → Told (Valued hs) s (evalExpr (exprAt doc k) scope)
+      pub reference-plain : {R : Judgement → Value → Type 0} {s : Judgement} → Told R s (refer k (exprsFrom doc k 2 (length w - 2)) (lookup (getD w 1 0) scope)) → Told R s (evalExpr (exprAt doc k) scope)
       unfolding evalExpr evalExprs
-      reference-plain {hs} {s} g = rw reference-tree (subst (λ (xs : Exprs). Told (Valued hs) s (evalExprs xs scope >>= λ vs. refer k (exprsFrom doc k 2 (length w - 2)) (lookup (getD w 1 0) scope))) (sym (exprs-end doc k (length w) 2 l)) (at-pure _ _ g))
+      reference-plain {R} {s} g = rw reference-tree (subst (λ (xs : Exprs). Told R s (evalExprs xs scope >>= λ vs. refer k (exprsFrom doc k 2 (length w - 2)) (lookup (getD w 1 0) scope))) (sym (exprs-end doc k (length w) 2 l)) (at-pure _ _ g))
 
   -- 33 Set, 34 Tuple, 35 Product
   pub member-operands : (q : ℕ) → kindAt doc k ≡ q → 33 ≤ q → q ≤ 35 → Operands doc w k expressions 1
@@ -201,7 +201,7 @@ module _ {doc work w : List ℕ} {n k : ℕ} (h : Handed doc work w expressions 
     pub arith-operands : 41 ≤ kindAt doc k → kindAt doc k ≤ 45 → Lower doc k expressions a × Lower doc k expressions b
     arith-operands c d = let l = expr-arithmetic doc k (h .ready .at) (kindAt doc k) refl c d a b (in-words h 1 a x) (in-words h 2 b y) in (l .left, l .right)
 
-    pub arith-told : 41 ≤ kindAt doc k → kindAt doc k ≤ 45 → (scope : Environment) → {hs : Held} {s : Judgement} → Told (Valued hs) s (evalExpr (exprAt doc a) scope >>= λ u. evalExpr (exprAt doc b) scope >>= λ v. arithmeticOf k (kindAt doc k) u v) → Told (Valued hs) s (evalExpr (exprAt doc k) scope)
+    pub arith-told : 41 ≤ kindAt doc k → kindAt doc k ≤ 45 → (scope : Environment) → {R : Judgement → Value → Type 0} {s : Judgement} → Told R s (evalExpr (exprAt doc a) scope >>= λ u. evalExpr (exprAt doc b) scope >>= λ v. arithmeticOf k (kindAt doc k) u v) → Told R s (evalExpr (exprAt doc k) scope)
     unfolding evalExpr arithmeticOf
     arith-told c d scope t = rw (expr-arithmetic doc k (h .ready .at) (kindAt doc k) refl c d a b (in-words h 1 a x) (in-words h 2 b y) .tree) t
 

@@ -30,9 +30,13 @@ use evaluator_operations::logic::decides;
 use evaluator_operations::logic::verdict;
 use evaluator_operations::numbers::arithmetic;
 use evaluator_operations::numbers::at_most;
+use evaluator_operations::numbers::integer_of;
 use evaluator_operations::numbers::is_integer;
+use evaluator_operations::numbers::number_operand;
 use evaluator_operations::numbers::number_value;
+use evaluator_operations::numbers::value_of;
 use evaluator_operations::worked::Judgement;
+use evaluator_operations::worked::Operand;
 use evaluator_operations::worked::Worked;
 use evaluator_operations::worked::go;
 use evaluator_operations::worked::halted;
@@ -44,6 +48,7 @@ use evaluator_scope::IN_WORK;
 use evaluator_scope::put_domains;
 use evaluator_scope::put_head;
 use evaluator_scope::refer;
+use evaluator_scope::refer_integer;
 use layout::part;
 use values::held::Held;
 use values::held::empty;
@@ -69,7 +74,7 @@ ghost use Rattle.evaluator_rules.specs.Assignments.{Domains};
 ghost use Rattle.evaluator_rules.specs.Operations.{allPass};
 ghost use Rattle.evaluator_rules.specs.Rules.{evalExpr, evalExprs, evalMembers, evalPred, test, testExprs};
 ghost use Rattle.evaluator_nodes.specs.Turns.{bodyAt, turnAt};
-ghost use Rattle.evaluator_operations.specs.Worked.{Holds, Told, Valued, Judged, Gathered, Joined, Tuples, Crossed};
+ghost use Rattle.evaluator_operations.specs.Worked.{Holds, Told, Valued, Integral, Counted, Judged, Gathered, Joined, Tuples, Crossed};
 ghost use Rattle.evaluator_scope.specs.Blocks.{Scoped, Leaves};
 ghost use Rattle.evaluator_nodes.specs.Ready.{Ready, Handed, Operands, Scoping, Assigns, Tells, Rest, Evaluates, Decides, LinesTold, AssignTold, EachTold, BodyTold};
 
@@ -227,20 +232,20 @@ fn apply(doc: &[u32], state: &[u32], work: &mut [u32], n: usize, k: usize, w: &[
 }
 
 // 41 to 45: arithmetic.
-fn arith(doc: &[u32], state: &[u32], work: &mut [u32], n: usize, k: usize, w: &[u32]) -> Worked
+fn arith(doc: &[u32], state: &[u32], work: &mut [u32], n: usize, k: usize, w: &[u32]) -> Operand
     requires { ⌜ Handed (now doc) (now work) (now w) expressions n k × (41 ≤ kindAt (now doc) k) × (kindAt (now doc) k ≤ 45) ⌝ }
-    ensures { λ r. ⌜ Evaluates (now (doc .entry)) k n (now (state .entry)) (now (work .entry)) (now (work .exit)) r ⌝ }
+    ensures { λ r. ⌜ Leaves n (now (work .entry)) (now (work .exit)) (Tells (now (state .entry)) (now (work .entry)) n (Counted (r .integer)) (r .judgement) (evalExpr (exprAt (now (doc .entry)) k))) ⌝ }
 {
-    let x = expr(doc, state, work, n, word(w, 1));
+    let x = reckon(doc, state, work, n, word(w, 1));
     if x.judgement.number != 0 {
         return x;
     }
-    let y = expr(doc, state, work, n, word(w, 2));
+    let y = reckon(doc, state, work, n, word(w, 2));
     if y.judgement.number != 0 {
         return y;
     }
-    let a = x.held;
-    let b = y.held;
+    let a = x.integer;
+    let b = y.integer;
     arithmetic(k, word(w, 0), a, b)
 }
 
@@ -277,9 +282,29 @@ pub fn expr(doc: &[u32], state: &[u32], work: &mut [u32], n: usize, k: usize) ->
         kinds::PRODUCT => tuples(doc, state, work, n, k, w),
         kinds::POWER => subsets(doc, state, work, n, k, w),
         kinds::APPLY => apply(doc, state, work, n, k, w),
-        kinds::PLUS..=kinds::MOD => arith(doc, state, work, n, k, w),
+        kinds::PLUS..=kinds::MOD => value_of(arith(doc, state, work, n, k, w)),
         kinds::COMPREHENSION => compr(doc, state, work, n, k, w),
         _ => stop(findings::NOT_RUN, k),
+    }
+}
+
+// An operand of arithmetic or of ≤: the integer that it is. A Number, a Ref without actuals and arithmetic need no value for it.
+fn reckon(doc: &[u32], state: &[u32], work: &mut [u32], n: usize, k: usize) -> Operand
+    requires { ⌜ Ready (now doc) (now work) expressions n k ⌝ }
+    ensures { λ r. ⌜ Leaves n (now (work .entry)) (now (work .exit)) (Tells (now (state .entry)) (now (work .entry)) n (Integral (r .integer)) (r .judgement) (evalExpr (exprAt (now (doc .entry)) k))) ⌝ }
+{
+    let w = part(doc, k);
+    let q = word(w, 0);
+    match q {
+        kinds::REF => {
+            if w.len() <= 2 {
+                return refer_integer(state, &work[..], n, k, word(w, 1));
+            }
+            integer_of(refers(doc, state, work, n, k, w))
+        }
+        kinds::NUMBER => number_operand(word(w, 1)),
+        kinds::PLUS..=kinds::MOD => arith(doc, state, work, n, k, w),
+        _ => integer_of(expr(doc, state, work, n, k)),
     }
 }
 
@@ -322,18 +347,18 @@ fn below(doc: &[u32], state: &[u32], work: &mut [u32], n: usize, k: usize, w: &[
     requires { ⌜ Handed (now doc) (now work) (now w) predicates n k × (kindAt (now doc) k ≡ 23) ⌝ }
     ensures { λ r. ⌜ Decides (now (doc .entry)) k n (now (state .entry)) (now (work .entry)) (now (work .exit)) r ⌝ }
 {
-    let x = expr(doc, state, work, n, word(w, 1));
+    let x = reckon(doc, state, work, n, word(w, 1));
     let i = x.judgement;
     if i.number != 0 {
         return i;
     }
-    let y = expr(doc, state, work, n, word(w, 2));
+    let y = reckon(doc, state, work, n, word(w, 2));
     let j = y.judgement;
     if j.number != 0 {
         return j;
     }
-    let a = x.held;
-    let b = y.held;
+    let a = x.integer;
+    let b = y.integer;
     at_most(k, a, b)
 }
 

@@ -8,6 +8,7 @@ use lib.Signed.{leZ}
 use lib.IntN.{ℤ}
 use lib.ListN.{length, getD, take, drop}
 use borrow.Author.Tests.{le-leb, lt-leb}
+use Rattle.values_integers.specs.Integer.{in32}
 use Rattle.values.specs.Value.{Value, int, element, set, tuple, Values, nil, cons, encode}
 use Rattle.values.specs.Held.{keep as words}
 use Rattle.values.specs.Numbers.{numberOf}
@@ -27,26 +28,30 @@ use Rattle.evaluator_rules.specs.Rules.{amongMembers}
 use Rattle.evaluator_operations.proofs.ToldLaws.{at-stop, at-pure}
 use Rattle.values.specs.SetValues.{isIn, insertValue, insertBy, Image, found, misfit, undefined, applyValue}
 use Rattle.values.specs.declared.held.Held.{Held}
+use Rattle.values.specs.declared.numbers.Number.{Number}
 use Rattle.values.specs.declared.numbers.Number.the-variants.{Integer, Misfit}
 use Rattle.values.proofs.Holding.{held-part, held-words}
 use Rattle.values.proofs.IntegerValues.{number-value}
 use Rattle.words.proofs.Loops.{and-left, and-right}
 use Rattle.evaluator_rules.specs.WordCount.{wordCount}
-use Rattle.evaluator_rules.specs.Outcomes.{_>>=_, pure, stop, keepIf, keep}
+use Rattle.evaluator_rules.specs.Outcomes.{Outcome, _>>=_, pure, stop, keepIf, keep}
 use Rattle.evaluator_rules.specs.Operations.{asInteger, asSet, asTuple, addIf, add, image, findPair, keepInteger, calculate}
 use Rattle.evaluator_rules.specs.Applications.{pair, Among, here, later}
 use Rattle.evaluator_rules.proofs.Images.{Finds, findsOne, finds, found-among, applied-words}
 use Rattle.evaluator_operations.specs.declared.worked.Judgement.{Judgement}
-use Rattle.evaluator_operations.specs.Worked.{narrow, allNarrow, Holds, Told, fine, ceased, Valued, Judged, Gathered, Stops}
+use Rattle.evaluator_operations.specs.Worked.{narrow, allNarrow, Holds, Told, fine, ceased, Is, Valued, Integral, Counted, Judged, Gathered, Stops}
 
 -- the words that are held
 pub held-whole : (h : Held) (v : Value) → Holds h v → take (h .len) (h .words) ≡ encode v
 held-whole h v g = held-part h (encode v) (g .words) (g .short)
 
 -- a value that is complete
-pub keep-fine : (k : ℕ) (v : Value) {h : Held} (r : Judgement) → r .number ≡ 0 → Holds h v → Told (Valued h) r (keep k v)
+pub keep-told : (k : ℕ) (v : Value) {R : Judgement → Value → Type 0} (r : Judgement) → r .number ≡ 0 → length (encode v) ≤ 64 → R r v → Told R r (keep k v)
 unfolding keep keepIf wordCount
-keep-fine k v r z g = rw (le-leb (length (encode v)) 64 (g .short)) (fine z (record { held = g }))
+keep-told k v r z l g = rw (le-leb (length (encode v)) 64 l) (fine z g)
+
+pub keep-fine : (k : ℕ) (v : Value) {h : Held} (r : Judgement) → r .number ≡ 0 → Holds h v → Told (Valued h) r (keep k v)
+keep-fine k v r z g = keep-told k v r z (g .short) (record { held = g })
 
 pub keep-over : (k : ℕ) (v : Value) {h : Held} (r : Judgement) → Stops r 55 k → 64 < length (encode v) → Told (Valued h) r (keep k v)
 unfolding keep keepIf wordCount
@@ -66,6 +71,31 @@ integer-no k (int y) e = let q : _≡_ {A = ℕ} 0 1 = cc in absurd (omega arith
 integer-no k (element g j) e = refl
 integer-no k (set vs) e = refl
 integer-no k (tuple vs) e = refl
+
+-- an integer is what it counts, and held it is a value
+pub counted-integral : {z : Number} {r : Judgement} {o : Outcome Value} → Told (Counted z) r o → Told (Integral z) r o
+unfolding narrow numberOf encode
+counted-integral (fine {a = v} z c) =
+    fine z (record { held = record { integer = c .integer ∙ sym (number-value (c .count) (c .narrow)) ∙ ap (λ (u : Value). numberOf (encode u)) (sym (c .value)); narrow = ap narrow (c .value) ∙ c .narrow } })
+counted-integral (ceased a b c) = ceased a b c
+
+pub valued-integral : {h : Held} {z : Number} {r : Judgement} {o : Outcome Value} → ((x : Value) → Holds h x → z ≡ numberOf (encode x)) → Told (Valued h) r o → Told (Integral z) r o
+valued-integral e (fine {a = v} z g) = fine z (record { held = record { integer = e v (g .held); narrow = g .held .narrow } })
+valued-integral e (ceased a b c) = ceased a b c
+
+pub counted-kept : (k : ℕ) (i : ℤ) (z : Number) (r : Judgement) → z ≡ Integer i → in32 i ≡ true → r .number ≡ 0 → Told (Counted z) r (keep k (int i))
+unfolding keep keepIf wordCount encode
+counted-kept k i z r e h n = fine n (record { count = i; integer = e; value = refl; narrow = h })
+
+pub counted-valued : {z : Number} {h : Held} {r s : Judgement} {o : Outcome Value} (i : ℤ) → Told (Counted z) r o → r .number ≡ 0 → z ≡ Integer i → Valued h s (int i) → s .number ≡ 0 → Told (Valued h) s o
+counted-valued {h = h} {s = s} i (fine {a = v} n c) y e g m =
+    let q : c .count ≡ i = cc (c .integer) in
+    fine m (subst (Valued h s) (sym (c .value ∙ ap int q)) g)
+counted-valued i (ceased a b c) y e g m = absurd (c (sym a ∙ y))
+
+pub counted-some : {z : Number} {r : Judgement} {o : Outcome Value} → Told (Counted z) r o → r .number ≡ 0 → z ≡ Misfit → ⊥
+counted-some (fine n c) y e = let w = c .integer in let q : _≡_ {A = ℕ} 0 1 = cc in absurd (omega arith)
+counted-some (ceased a b c) y e = c (sym a ∙ y)
 
 -- the tag of a value's words says its sort
 pub tag-set : (k : ℕ) (x : Value) → getD (encode x) 0 0 ≡ 3 → (vs : Values) × (x ≡ set vs)
@@ -121,16 +151,16 @@ narrow-cons v vs p q = both-narrow (narrow v) (allNarrow vs) p q
 
 -- arithmetic, ≤ and ℤ's test, by the integers that the values are
 module _ (k q : ℕ) (x y : Value) (r : Judgement) where
-  pub arithmetic-left : {h : Held} → Misfit ≡ numberOf (encode x) → Stops r 51 k → Told (Valued h) r (arithmeticOf k q x y)
+  pub arithmetic-left : {R : Judgement → Value → Type 0} → Misfit ≡ numberOf (encode x) → Stops r 51 k → Told R r (arithmeticOf k q x y)
   unfolding arithmeticOf
   arithmetic-left e s = rw (integer-no k x e) (at-stop _ s (λ z. omega arith))
 
-  pub arithmetic-right : {h : Held} → narrow x ≡ true → (i : ℤ) → Integer i ≡ numberOf (encode x) → Misfit ≡ numberOf (encode y) → Stops r 51 k → Told (Valued h) r (arithmeticOf k q x y)
+  pub arithmetic-right : {R : Judgement → Value → Type 0} → narrow x ≡ true → (i : ℤ) → Integer i ≡ numberOf (encode x) → Misfit ≡ numberOf (encode y) → Stops r 51 k → Told R r (arithmeticOf k q x y)
   unfolding arithmeticOf
   arithmetic-right h i e f s = rw (integer-yes k x h i e) (at-pure _ _ (rw (integer-no k y f) (at-stop _ s (λ z. omega arith))))
 
-  pub arithmetic-both : {h : Held} → narrow x ≡ true → narrow y ≡ true → (i j : ℤ) → Integer i ≡ numberOf (encode x) → Integer j ≡ numberOf (encode y)
-      → Told (Valued h) r (keepInteger k (calculate (operatorOf q) i j)) → Told (Valued h) r (arithmeticOf k q x y)
+  pub arithmetic-both : {R : Judgement → Value → Type 0} → narrow x ≡ true → narrow y ≡ true → (i j : ℤ) → Integer i ≡ numberOf (encode x) → Integer j ≡ numberOf (encode y)
+      → Told R r (keepInteger k (calculate (operatorOf q) i j)) → Told R r (arithmeticOf k q x y)
   unfolding arithmeticOf
   arithmetic-both h g i j e f t = rw (integer-yes k x h i e) (at-pure _ _ (rw (integer-yes k y g j f) (at-pure _ _ t)))
 

@@ -4,10 +4,14 @@ use mathlib.Core.List.{List, [], _∷_, _++_}
 use mathlib.Core.Logic.{_⊎_}
 use mathlib.Core.Bool.{Bool, true, false, _&&_}
 use Prim.Native.Nat.{ℕ, _≤_}
+use lib.IntN.{ℤ}
 use lib.ListN.{length, getD, take}
 use Rattle.values_integers.specs.Integer.{in32}
 use Rattle.values.specs.Value.{Value, int, element, set, tuple, Values, nil, cons, count, encode, encodes}
 use Rattle.values.specs.Held.{keep}
+use Rattle.values.specs.Numbers.{numberOf}
+use Rattle.values.specs.declared.numbers.Number.{Number}
+use Rattle.values.specs.declared.numbers.Number.the-variants.{Integer}
 use Rattle.values.specs.declared.held.Held.{Held}
 use Rattle.enumeration_rules.specs.Enumeration.{each}
 use Rattle.enumeration_rules.specs.OnWords.{grow, grown}
@@ -35,6 +39,11 @@ pub record Holds (h : Held) (v : Value) : Type 0 where
   pub short : length (encode v) ≤ 64
   pub narrow : narrow v ≡ true
 
+-- the integer that a value is, or that it is none
+pub record Is (z : Number) (v : Value) : Type 0 where
+  pub integer : z ≡ numberOf (encode v)
+  pub narrow : narrow v ≡ true
+
 -- number and place of a finding that stops; number 0 where it goes on with what R says
 pub data Told {A : Type 0} (R : Judgement → A → Type 0) (r : Judgement) : Outcome A → Type 0 where
   fine : {t : List Event} {a : A} → r .number ≡ 0 → R r a → Told R r (done t a)
@@ -43,6 +52,16 @@ pub data Told {A : Type 0} (R : Judgement → A → Type 0) (r : Judgement) : Ou
 -- a value, a truth value, what an assignment leaves, a set's members
 pub record Valued (h : Held) (r : Judgement) (v : Value) : Type 0 where
   pub held : Holds h v
+
+pub record Integral (z : Number) (r : Judgement) (v : Value) : Type 0 where
+  pub held : Is z v
+
+-- an integer
+pub record Counted (z : Number) (r : Judgement) (v : Value) : Type 0 where
+  pub count : ℤ
+  pub integer : z ≡ Integer count
+  pub value : v ≡ int count
+  pub narrow : in32 count ≡ true
 
 pub record Judged (r : Judgement) (b : Bool) : Type 0 where
   pub flag : r .flag ≡ b

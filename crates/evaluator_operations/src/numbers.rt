@@ -1,10 +1,13 @@
 // The operations on integers, each with its findings at node k.
 use crate::worked::Judgement;
+use crate::worked::Operand;
 use crate::worked::Worked;
+use crate::worked::found;
 use crate::worked::go;
+use crate::worked::halted;
 use crate::worked::judge;
+use crate::worked::no_operand;
 use crate::worked::refuse;
-use crate::worked::stop;
 use codes::findings;
 use codes::kinds;
 use values::held::Held;
@@ -19,9 +22,10 @@ ghost use lib.IntN.{pos};
 ghost use Rattle.values.specs.Numbers.{numberOf};
 ghost use Rattle.values.specs.Value.{Value, int, encode};
 ghost use Rattle.reader_rules.specs.Decode.{operatorOf};
+ghost use Rattle.evaluator_rules.specs.Outcomes.{Outcome};
 ghost use Rattle.evaluator_rules.specs.Operations.{keepInteger, calculate};
 ghost use Rattle.evaluator_operations.specs.Steps.{arithmeticOf, atMostOf, integerTest};
-ghost use Rattle.evaluator_operations.specs.Worked.{Holds, Told, Valued, Judged};
+ghost use Rattle.evaluator_operations.specs.Worked.{Holds, Is, Told, Valued, Integral, Counted, Judged};
 
 // An integer as a value.
 fn whole(z: i32) -> Worked
@@ -31,14 +35,14 @@ fn whole(z: i32) -> Worked
 }
 
 // An integer that arithmetic gave.
-fn kept_integer(k: usize, z: Integer) -> Worked
+fn kept_integer(k: usize, z: Integer) -> Operand
     requires { ⌜ k ≤ 1024 ⌝ }
-    ensures { λ r. ⌜ Told (Valued (r .held)) (r .judgement) (keepInteger k z) ⌝ }
+    ensures { λ r. ⌜ Told (Counted (r .integer)) (r .judgement) (keepInteger k z) ⌝ }
 {
     match z {
-        Integer::Whole(i) => whole(i),
-        Integer::Undefined => stop(findings::UNDEFINED, k),
-        Integer::Outside => stop(findings::OUTSIDE, k),
+        Integer::Whole(i) => found(Number::Integer(i)),
+        Integer::Undefined => no_operand(findings::UNDEFINED, k),
+        Integer::Outside => no_operand(findings::OUTSIDE, k),
     }
 }
 
@@ -64,30 +68,26 @@ fn number(v: Held) -> Number
     number_of(words::span(&w, 0, len))
 }
 
-pub fn arithmetic(k: usize, q: usize, a: Held, b: Held) -> Worked
+pub fn arithmetic(k: usize, q: usize, a: Number, b: Number) -> Operand
     requires { ⌜ k ≤ 1024 ⌝ }
-    ensures { λ r. ⌜ ((x y : Value) → Holds a x → Holds b y → Told (Valued (r .held)) (r .judgement) (arithmeticOf k q x y)) ⌝ }
+    ensures { λ r. ⌜ ((x y : Value) → Is a x → Is b y → Told (Counted (r .integer)) (r .judgement) (arithmeticOf k q x y)) ⌝ }
 {
-    let x = number(a);
-    let y = number(b);
-    match x {
-        Number::Misfit => stop(findings::MISFIT, k),
-        Number::Integer(i) => match y {
-            Number::Misfit => stop(findings::MISFIT, k),
+    match a {
+        Number::Misfit => no_operand(findings::MISFIT, k),
+        Number::Integer(i) => match b {
+            Number::Misfit => no_operand(findings::MISFIT, k),
             Number::Integer(j) => kept_integer(k, calculate(q, i, j)),
         },
     }
 }
 
-pub fn at_most(k: usize, a: Held, b: Held) -> Judgement
+pub fn at_most(k: usize, a: Number, b: Number) -> Judgement
     requires { ⌜ k ≤ 1024 ⌝ }
-    ensures { λ r. ⌜ ((x y : Value) → Holds a x → Holds b y → Told Judged r (atMostOf k x y)) ⌝ }
+    ensures { λ r. ⌜ ((x y : Value) → Is a x → Is b y → Told Judged r (atMostOf k x y)) ⌝ }
 {
-    let x = number(a);
-    let y = number(b);
-    match x {
+    match a {
         Number::Misfit => refuse(findings::MISFIT, k),
-        Number::Integer(i) => match y {
+        Number::Integer(i) => match b {
             Number::Misfit => refuse(findings::MISFIT, k),
             Number::Integer(j) => judge(i <= j),
         },
@@ -112,4 +112,37 @@ pub fn number_value(z: usize) -> Worked
     ensures { λ r. ⌜ Valued (r .held) (r .judgement) (int (pos z)) × (r .judgement .number ≡ 0) ⌝ }
 {
     whole(z as i32)
+}
+
+pub fn number_operand(z: usize) -> Operand
+    requires { ⌜ z ≤ 2147483647 ⌝ }
+    ensures { λ r. ⌜ Counted (r .integer) (r .judgement) (int (pos z)) × (r .judgement .number ≡ 0) ⌝ }
+{
+    found(Number::Integer(z as i32))
+}
+
+// A value as an operand, and an operand that arithmetic gave as a value.
+pub fn integer_of(x: Worked) -> Operand
+    ensures { λ r. ⌜ ((o : Outcome Value) → Told (Valued (x .held)) (x .judgement) o → Told (Integral (r .integer)) (r .judgement) o) ⌝ }
+{
+    let v = x.held;
+    let j = x.judgement;
+    Operand {
+        integer: number(v),
+        judgement: j,
+    }
+}
+
+pub fn value_of(x: Operand) -> Worked
+    ensures { λ r. ⌜ ((o : Outcome Value) → Told (Counted (x .integer)) (x .judgement) o → Told (Valued (r .held)) (r .judgement) o) ⌝ }
+{
+    let j = x.judgement;
+    if j.number != 0 {
+        return halted(j);
+    }
+    let z = x.integer;
+    match z {
+        Number::Integer(i) => whole(i),
+        Number::Misfit => halted(j),
+    }
 }

@@ -1,6 +1,7 @@
 // What working something out gives, by value. An enum cannot hold the words of a value.
 use values::held::Held;
 use values::held::empty;
+use values::numbers::Number;
 ghost use mathlib.Core.Path.{_≡_};
 ghost use Prim.Native.Nat.{_≤_};
 ghost use Rattle.evaluator_operations.specs.Worked.{Stops, Plain};
@@ -15,6 +16,12 @@ pub struct Judgement {
 // A value, where the judgement has the number 0.
 pub struct Worked {
     pub held: Held,
+    pub judgement: Judgement,
+}
+
+// The integer that a value is, or that it is none, where the judgement has the number 0.
+pub struct Operand {
+    pub integer: Number,
     pub judgement: Judgement,
 }
 
@@ -65,5 +72,24 @@ pub fn halted(judgement: Judgement) -> Worked
     Worked {
         held: empty(),
         judgement: judgement,
+    }
+}
+
+pub fn no_operand(number: u32, k: usize) -> Operand
+    requires { ⌜ k ≤ 1024 ⌝ }
+    ensures { λ r. ⌜ Stops (r .judgement) number k ⌝ }
+{
+    Operand {
+        integer: Number::Misfit,
+        judgement: refuse(number, k),
+    }
+}
+
+pub fn found(integer: Number) -> Operand
+    ensures { λ r. ⌜ (r .integer ≡ integer) × (r .judgement .number ≡ 0) ⌝ }
+{
+    Operand {
+        integer: integer,
+        judgement: judge(true),
     }
 }

@@ -28,7 +28,7 @@ use Rattle.evaluator_operations.specs.declared.worked.Judgement.{Judgement}
 use Rattle.evaluator_operations.specs.Worked.{Holds, Told, Valued, Stops}
 use Rattle.evaluator_operations.proofs.ToldLaws.{stop-told}
 use Rattle.evaluator_operations.proofs.GatherLaws.{copied}
-use Rattle.evaluator_operations.proofs.OperationLaws.{keep-fine}
+use Rattle.evaluator_operations.proofs.OperationLaws.{keep-told}
 
 take-drop-take : (at len N : ℕ) (l : List ℕ) → at + len ≤ N → take len (drop at (take N l)) ≡ take len (drop at l)
 take-drop-take zero len N l h = take-take len N l (omega arith)
@@ -209,15 +209,15 @@ module _ (work : List ℕ) (i : ℕ) where
 
 -- ---- a Ref to the name of a block
 module _ (state work : List ℕ) (b k : ℕ) (m : Meaning) (f : FoundBlock state work b m) (xs : Exprs) (r : Judgement) where
-  pub refer-unknown : {h : Held} → b ≡ 0 → Stops r 51 k → Told (Valued h) r (refer k xs m)
+  pub refer-unknown : {R : Judgement → Value → Type 0} → b ≡ 0 → Stops r 51 k → Told R r (refer k xs m)
   unfolding refer
-  refer-unknown {h} e s = rw (unknown-of b e f) (go xs)
+  refer-unknown {R} e s = rw (unknown-of b e f) (go xs)
     where
       unknown-of : (c : ℕ) → c ≡ 0 → FoundBlock state work c m → m ≡ unknown
       unknown-of zero q g = g
       unknown-of (suc c) q g = absurd (omega arith)
 
-      go : (ys : Exprs) → Told (Valued h) r (refer k ys unknown)
+      go : (ys : Exprs) → Told R r (refer k ys unknown)
       go Tree.none = stop-told s (λ z. omega arith)
       go (Tree.more a ys) = stop-told s (λ z. omega arith)
 
@@ -228,36 +228,35 @@ module _ (state work : List ℕ) (b k : ℕ) (m : Meaning) (f : FoundBlock state
       go zero q g = absurd (q refl)
       go (suc c) q g = let e : c ≡ suc c - 1 = omega arith in subst (λ (j : ℕ). Means state work j m) e g
 
-  pub refer-generic : {h : Held} → (b ≡ 0 → ⊥) → field work (b - 1) 1 ≡ 3 → Stops r 54 k → Told (Valued h) r (refer k xs m)
+  pub refer-generic : {R : Judgement → Value → Type 0} → (b ≡ 0 → ⊥) → field work (b - 1) 1 ≡ 3 → Stops r 54 k → Told R r (refer k xs m)
   unfolding refer
-  refer-generic {h} g c s = go m (means-of g) xs
+  refer-generic {R} g c s = go m (means-of g) xs
     where
-      go : (n : Meaning) → Means state work (b - 1) n → (ys : Exprs) → Told (Valued h) r (refer k ys n)
+      go : (n : Meaning) → Means state work (b - 1) n → (ys : Exprs) → Told R r (refer k ys n)
       go (valued v) (inState d t) ys = absurd (omega arith)
       go (valued v) (inWork d l t) ys = absurd (omega arith)
       go generic (isGeneric d) Tree.none = stop-told s (λ z. omega arith)
       go generic (isGeneric d) (Tree.more a ys) = stop-told s (λ z. omega arith)
 
-  pub refer-actuals : {h : Held} → (b ≡ 0 → ⊥) → (field work (b - 1) 1 ≡ 3 → ⊥) → true ≡ hasActuals xs → Stops r 51 k → Told (Valued h) r (refer k xs m)
+  pub refer-actuals : {R : Judgement → Value → Type 0} → (b ≡ 0 → ⊥) → (field work (b - 1) 1 ≡ 3 → ⊥) → true ≡ hasActuals xs → Stops r 51 k → Told R r (refer k xs m)
   unfolding refer hasActuals
-  refer-actuals {h} g c a s = go m (means-of g) xs a
+  refer-actuals {R} g c a s = go m (means-of g) xs a
     where
-      go : (n : Meaning) → Means state work (b - 1) n → (ys : Exprs) → true ≡ hasActuals ys → Told (Valued h) r (refer k ys n)
+      go : (n : Meaning) → Means state work (b - 1) n → (ys : Exprs) → true ≡ hasActuals ys → Told R r (refer k ys n)
       go n q Tree.none e = absurd (true≢false e)
       go (valued v) (inState d t) (Tree.more y ys) e = stop-told s (λ z. omega arith)
       go (valued v) (inWork d l t) (Tree.more y ys) e = stop-told s (λ z. omega arith)
       go generic (isGeneric d) (Tree.more y ys) e = absurd (c d)
 
-  pub refer-value : {h : Held} → (b ≡ 0 → ⊥) → (field work (b - 1) 1 ≡ 3 → ⊥) → false ≡ hasActuals xs → r .number ≡ 0 → h ≡ words (valueOf state work (b - 1)) → Told (Valued h) r (refer k xs m)
+  pub refer-value : {R : Judgement → Value → Type 0} → (b ≡ 0 → ⊥) → (field work (b - 1) 1 ≡ 3 → ⊥) → false ≡ hasActuals xs → r .number ≡ 0 →
+      ((v : Value) → Stored (valueOf state work (b - 1)) v → R r v) → Told R r (refer k xs m)
   unfolding refer hasActuals valueOf valueAt
-  refer-value {h} g c a z w = go m (means-of g) xs a
+  refer-value {R} g c a z w = go m (means-of g) xs a
     where
-      go : (n : Meaning) → Means state work (b - 1) n → (ys : Exprs) → false ≡ hasActuals ys → Told (Valued h) r (refer k ys n)
+      go : (n : Meaning) → Means state work (b - 1) n → (ys : Exprs) → false ≡ hasActuals ys → Told R r (refer k ys n)
       go n q (Tree.more y ys) e = absurd (true≢false (sym e))
-      go (valued v) (inState d t) Tree.none e =
-          keep-fine k v r z (record { words = w ∙ (rw (eq-eqb (field work (b - 1) 1) 1 d) (ap words (t .words))); short = t .short; narrow = t .narrow })
-      go (valued v) (inWork d l t) Tree.none e =
-          keep-fine k v r z (record { words = w ∙ (rw (ne-eqb (field work (b - 1) 1) 1 (λ y. omega arith)) (ap words (t .words))); short = t .short; narrow = t .narrow })
+      go (valued v) (inState d t) Tree.none e = keep-told k v r z (t .short) (w v (rw (eq-eqb (field work (b - 1) 1) 1 d) t))
+      go (valued v) (inWork d l t) Tree.none e = keep-told k v r z (t .short) (w v (rw (ne-eqb (field work (b - 1) 1) 1 (λ y. omega arith)) t))
       go generic (isGeneric d) Tree.none e = absurd (c d)
 
 -- ---- identifiers with the set that they run through

@@ -4,16 +4,21 @@ pub mod named;
 
 use codes::findings;
 use codes::limits;
+use evaluator_operations::worked::Operand;
 use evaluator_operations::worked::Worked;
+use evaluator_operations::worked::found;
 use evaluator_operations::worked::go;
+use evaluator_operations::worked::no_operand;
 use evaluator_operations::worked::stop;
 use values::held::Held;
 use values::held::hold;
 use values::lookup::value_at;
+use values::numbers::number_of;
 use words::copy;
 use words::store;
 use words::word;
 ghost use mathlib.Core.Path.{_≡_};
+ghost use mathlib.Core.Bool.{false};
 ghost use Prim.Native.Nat.{ℕ, _+_, _*_, _-_, _≤_, _<_, _^_};
 ghost use mathlib.Core.List.{List};
 ghost use Rattle.values.specs.Value.{Value, Values};
@@ -24,7 +29,7 @@ ghost use Rattle.reader_rules.specs.Tree.{Exprs};
 ghost use Rattle.evaluator_rules.specs.Run.{runWorkWords};
 ghost use Rattle.evaluator_rules.specs.Environment.{Environment, valued, generic, bind, lookup, refer, hasActuals};
 ghost use Rattle.evaluator_rules.specs.Assignments.{noMore, domains};
-ghost use Rattle.evaluator_operations.specs.Worked.{Holds, Told, Valued};
+ghost use Rattle.evaluator_operations.specs.Worked.{Holds, Told, Valued, Integral};
 ghost use Rattle.evaluator_scope.specs.Blocks.{Leaves, Stored, Scoped, Pending, Pushed, lastBlock, headed, valueOf, headWords, blockWords, blockCount};
 
 // The words of a block's head: the name, its class, and the place and length of its value.
@@ -109,6 +114,27 @@ pub fn refer<'a>(
         return stop(findings::MISFIT, k);
     }
     go(hold(value_of(state, work, b - 1)), false)
+}
+
+// The same for a Ref without actuals, of which only the integer is asked: its words are read where they lie.
+pub fn refer_integer<'a>(
+    state: &'a [u32],
+    work: &'a [u32],
+    n: usize,
+    k: usize,
+    name: usize,
+) -> Operand
+    requires { ⌜ (n ≤ blockCount) × (k ≤ 1024) ⌝ }
+    ensures { λ r. ⌜ ((scope : Environment) → Scoped (now (state .entry)) (now (work .entry)) n scope → (xs : Exprs) → false ≡ hasActuals xs → Told (Integral (r .integer)) (r .judgement) (refer k xs (lookup name scope))) ⌝ }
+{
+    let b = find(work, n, name);
+    if b == 0 {
+        return no_operand(findings::MISFIT, k);
+    }
+    if word(work, BLOCK * (b - 1) + CLASS) == classes::GENERIC {
+        return no_operand(findings::NOT_RUN, k);
+    }
+    found(number_of(value_of(state, work, b - 1)))
 }
 
 // Writes the head of block b.

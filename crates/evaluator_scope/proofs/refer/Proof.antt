@@ -33,7 +33,7 @@ returns-4 c =
     λ scope s xs a.
     let i = c .before .before .before .before .before .before .before .before .before .before .args .name in
     let f = subst (λ (b : ℕ). FoundBlock (c .before .before .before .before .before .before .before .before .before .before .args .state .now) (c .before .before .before .before .before .before .before .before .before .before .args .work .now) b (lookup i scope)) (sym (c .before .before .before .before .before .before .before .find .ensures .0)) (lookup-found _ _ i _ scope s) in
-    refer-value _ _ _ _ _ f xs _ (c .before .before .before .before .before .before .if1 .left) (λ e. c .before .before .before .before .if2 .left (c .before .before .before .before .before .word .ensures .0 ∙ e)) (sym (c .before .before .before .if3 .left) ∙ a) (c .go .ensures .number) (c .go .ensures .held ∙ c .before .hold .ensures ∙ ap keep (c .before .before .value-of .ensures))
+    refer-value _ _ _ _ _ f xs _ (c .before .before .before .before .before .before .if1 .left) (λ e. c .before .before .before .before .if2 .left (c .before .before .before .before .before .word .ensures .0 ∙ e)) (sym (c .before .before .before .if3 .left) ∙ a) (c .go .ensures .number) (λ v t. record { held = record { words = c .go .ensures .held ∙ c .before .hold .ensures ∙ ap keep (c .before .before .value-of .ensures ∙ t .words); short = t .short; narrow = t .narrow } })
 
 pub refer-spec : {M : Type 1} → statement M
 refer-spec =
