@@ -7,3 +7,7 @@ pub mod LiftLaws
 pub mod PairLaws
 pub mod GrowthLaws
 pub mod WaitingLaws
+pub mod MovingLaws
+pub mod SpacedLaws
+pub mod PlacingLaws
+pub mod AppendingLaws

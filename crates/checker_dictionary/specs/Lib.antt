@@ -4,3 +4,4 @@ pub mod Lookup
 pub mod Index
 pub mod Growth
 pub mod Waiting
+pub mod Spaced

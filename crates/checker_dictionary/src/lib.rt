@@ -2,4 +2,5 @@
 pub mod growth;
 pub mod index;
 pub mod lookup;
+pub mod moving;
 pub mod waiting;
