@@ -39,10 +39,10 @@ use Rattle.evaluator_rules.specs.Rules.{evalExpr, evalPred, evalLines, overText
 use Rattle.evaluator_nodes.specs.Turns.{bodyIf, bodyAt, turnAt}
 use Rattle.evaluator_operations.specs.Steps.{verdictOf}
 use Rattle.evaluator_operations.specs.declared.worked.Judgement.{Judgement}
-use Rattle.evaluator_operations.specs.Worked.{narrow, allNarrow, Holds, Told, fine, ceased, Valued, Judged, Flowed, Gathers, Grown, Stops}
+use Rattle.evaluator_operations.specs.Worked.{narrow, allNarrow, Holds, Told, fine, ceased, Valued, Judged, Flowed, SetIn, Grown, Stops}
 use Rattle.evaluator_scope.specs.Blocks.{field, Lies, Stored, inWork, Scoped, hidden, named, Pending, more, headed, Pushed, Leaves, headWords, blockWords}
 use Rattle.evaluator_scope.specs.Blocks as Blocks
-use Rattle.evaluator_nodes.specs.Ready.{Ready, Handed, Scoping, RestIn, joinDomains, linesThen, Assigns, Gathering, AssignTold, EachTold, BodyTold, LinesTold}
+use Rattle.evaluator_nodes.specs.Ready.{Ready, Handed, Scoping, RestIn, joinDomains, linesThen, Assigns, SoFar, AssignTold, EachTold, BodyTold, LinesTold}
 use Rattle.evaluator_operations.proofs.ToldLaws.{after-told, stop-told, go-told, halt-told, at-pure, at-stop, choose-told}
 use Rattle.evaluator_operations.proofs.OperationLaws.{keep-fine, held-tag, tag-set, tag-none, narrow-head, narrow-tail}
 use Rattle.evaluator_nodes.proofs.NodeLaws.{in-words, few-words}
@@ -103,7 +103,7 @@ flow-verdict G forall false s f g = f
 flow-verdict G exists true s f g = f
 flow-verdict G exists false s f g = (f, g)
 
-grown-flow : {doc : List ℕ} {k : ℕ} {u : List ℕ} {s : Judgement} {o : Outcome Values} → Told (Grown u) s o → Told (Flowed (Gathering doc k u)) s (o >>= λ us. pure (go us))
+grown-flow : {doc : List ℕ} {k : ℕ} {u : List ℕ} {s : Judgement} {o : Outcome Values} → Told (Grown u) s o → Told (Flowed (SoFar doc k u)) s (o >>= λ us. pure (go us))
 unfolding _>>=_ after
 grown-flow (fine {a = us} z g) = fine {a = go us} z (g .flag, record { gathers = λ q. g .gathers })
 grown-flow (ceased a b c) = ceased a b c
@@ -114,7 +114,7 @@ module _ (doc : List ℕ) (k b : ℕ) (x : b ≡ operandAt doc k 2) (scope : Env
   gather-stop q t z = rw (eq-eqb (kindAt doc k) 46 q, ← x) (halt-told _ t z)
 
   pub gather-go : {u : List ℕ} → kindAt doc k ≡ 46 → {h : Held} {r s : Judgement} → Told (Valued h) r (evalExpr (exprAt doc b) scope) → r .number ≡ 0 →
-      ((v : Value) → Holds h v → Told (Grown u) s (add k v vs)) → Told (Flowed (Gathering doc k u)) s (bodyAt doc k scope vs)
+      ((v : Value) → Holds h v → Told (Grown u) s (add k v vs)) → Told (Flowed (SoFar doc k u)) s (bodyAt doc k scope vs)
   unfolding bodyAt bodyIf
   gather-go q t z g = rw (eq-eqb (kindAt doc k) 46 q, ← x) (go-told t z (λ v j. grown-flow (g v (j .held))))
 
@@ -123,11 +123,11 @@ module _ (doc : List ℕ) (k b : ℕ) (x : b ≡ operandAt doc k 2) (scope : Env
   decide-stop q t z = rw (ne-eqb (kindAt doc k) 46 q, ← x) (halt-told _ t z)
 
   pub decide-go : {u : List ℕ} → (kindAt doc k ≡ 46 → ⊥) → {r s : Judgement} → Told Judged r (evalPred (predAt doc b) scope) → r .number ≡ 0 → s .number ≡ 0 → s .flag ≡ verdictOf (quantifierOf (kindAt doc k)) (r .flag) →
-      Told (Flowed (Gathering doc k u)) s (bodyAt doc k scope vs)
+      Told (Flowed (SoFar doc k u)) s (bodyAt doc k scope vs)
   unfolding bodyAt bodyIf
   decide-go {u} q {r} {s} t z y f =
       rw (ne-eqb (kindAt doc k) 46 q, ← x)
-      (go-told t z (λ v j. fine y (flow-verdict (Gathering doc k u) (quantifierOf (kindAt doc k)) v s (f ∙ ap (verdictOf (quantifierOf (kindAt doc k))) (j .flag)) (record { gathers = λ e. absurd (q e) }))))
+      (go-told t z (λ v j. fine y (flow-verdict (SoFar doc k u) (quantifierOf (kindAt doc k)) v s (f ∙ ap (verdictOf (quantifierOf (kindAt doc k))) (j .flag)) (record { gathers = λ e. absurd (q e) }))))
 
 -- ---- the assignments, then the verdict or the set
 truth-verdict : (G : Values → Type 0) (q : Quantifier) (f : Flow) (r : Judgement) (b : Bool) → Flowed G r f → b ≡ verdictOf q (r .flag) → b ≡ truthOf q f
@@ -209,14 +209,14 @@ module _ {doc work w : List ℕ} {n k : ℕ} (scope : Environment) (t : ℕ) (x 
     pub compr-stop : {G : Values → Type 0} {h : Held} {r : Judgement} → Told (Flowed G) r (linesThen doc k (linesFrom doc t 2 (length (part doc t) - 2)) noMore scope) → (r .number ≡ 0 → ⊥) → Told (Valued h) r (evalExpr (exprAt doc k) scope)
     compr-stop {h = h} {r = r} g z = subst (Told (Valued h) r) (sym compr-lines) (halt-told _ g z)
 
-    keep-flow : {u : List ℕ} {h : Held} (f : Flow) (r s : Judgement) → Flowed (Gathering doc k u) r f → s .number ≡ 0 → (r .flag ≡ true → Holds h (Value.set nil)) →
-        (r .flag ≡ false → (vs : Values) → Gathers u vs → Holds h (Value.set vs)) → Told (Valued h) s (keep k (Value.set (gathered f)))
+    keep-flow : {u : List ℕ} {h : Held} (f : Flow) (r s : Judgement) → Flowed (SoFar doc k u) r f → s .number ≡ 0 → (r .flag ≡ true → Holds h (Value.set nil)) →
+        (r .flag ≡ false → (vs : Values) → SetIn u vs → Holds h (Value.set vs)) → Told (Valued h) s (keep k (Value.set (gathered f)))
     unfolding gathered
     keep-flow (go vs) r s j y a b = keep-fine k (Value.set vs) s y (b (j .0) vs (j .1 .gathers q))
     keep-flow halt r s j y a b = keep-fine k (Value.set nil) s y (a j)
 
-    pub compr-go : {u : List ℕ} {h : Held} {r s : Judgement} → Told (Flowed (Gathering doc k u)) r (linesThen doc k (linesFrom doc t 2 (length (part doc t) - 2)) noMore scope) → r .number ≡ 0 → s .number ≡ 0 →
-        (r .flag ≡ true → Holds h (Value.set nil)) → (r .flag ≡ false → (vs : Values) → Gathers u vs → Holds h (Value.set vs)) → Told (Valued h) s (evalExpr (exprAt doc k) scope)
+    pub compr-go : {u : List ℕ} {h : Held} {r s : Judgement} → Told (Flowed (SoFar doc k u)) r (linesThen doc k (linesFrom doc t 2 (length (part doc t) - 2)) noMore scope) → r .number ≡ 0 → s .number ≡ 0 →
+        (r .flag ≡ true → Holds h (Value.set nil)) → (r .flag ≡ false → (vs : Values) → SetIn u vs → Holds h (Value.set vs)) → Told (Valued h) s (evalExpr (exprAt doc k) scope)
     compr-go {h = h} {r = r} {s = s} g z y a b = subst (Told (Valued h) s) (sym compr-lines) (go-told g z (λ f j. keep-flow f r s j y a b))
 
 -- the Text's identifiers are few
@@ -250,7 +250,7 @@ assigns-none doc state before after n zero k s s1 r e g =
     record {
       kept = g .kept;
       pends = λ ds p. still-none after p;
-      told = λ scope sc ds p vs h. subst (λ (d : Domains). Told (Flowed (Gathering doc k s1)) r (assign d (turnAt doc k) scope vs)) (sym (pending-none p)) (g .told scope sc vs h);
+      told = λ scope sc ds p vs h. subst (λ (d : Domains). Told (Flowed (SoFar doc k s1)) r (assign d (turnAt doc k) scope vs)) (sym (pending-none p)) (g .told scope sc vs h);
     }
 assigns-none doc state before after n (suc m) k s s1 r e g = absurd (omega arith)
 
@@ -289,5 +289,5 @@ assigns-some doc state before after n (suc m) k c s s1 r e x g =
           told = λ scope sc ds p vs h. pick scope sc ds p vs h;
         }
       where
-        pick : (scope : Environment) → Scoped state before n scope → (ds : Domains) → Pending before n (suc m) ds → (vs : Values) → Gathering doc k s vs → Told (Flowed (Gathering doc k s1)) r (assign ds (turnAt doc k) scope vs)
+        pick : (scope : Environment) → Scoped state before n scope → (ds : Domains) → Pending before n (suc m) ds → (vs : Values) → SoFar doc k s vs → Told (Flowed (SoFar doc k s1)) r (assign ds (turnAt doc k) scope vs)
         pick scope sc (domain i us ds) (more a l b d p) vs h = f .told scope sc i us ds (more a l b d p) us (rest-block before n c us l b d x) vs h

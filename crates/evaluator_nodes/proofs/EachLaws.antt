@@ -19,7 +19,7 @@ use Rattle.evaluator_nodes.specs.Turns.{turnAt}
 use Rattle.evaluator_operations.specs.declared.worked.Judgement.{Judgement}
 use Rattle.evaluator_operations.specs.Worked.{Told, fine, ceased, Flowed}
 use Rattle.evaluator_scope.specs.Blocks.{field, Lies, Stored, inWork, Scoped, named, Pending, more, headed, headWords, blockWords}
-use Rattle.evaluator_nodes.specs.Ready.{RestIn, Assigns, Gathering, AssignTold, EachTold}
+use Rattle.evaluator_nodes.specs.Ready.{RestIn, Assigns, SoFar, AssignTold, EachTold}
 use Rattle.evaluator_operations.proofs.ToldLaws.{go-told, halt-told}
 use Rattle.evaluator_operations.proofs.OperationLaws.{narrow-head, narrow-tail}
 use Rattle.evaluator_scope.proofs.BlockLaws.{same-word, same-part, same-less, scoped-same, pending-above, head-take, head-drop, head-name, head-class, head-place, head-length}
@@ -39,8 +39,8 @@ unfolding each count
 each-end doc state work n m k at c u r e z f =
     record { kept = refl; pends = λ ds p. p; told = λ scope sc i us ds p vs g ss hs. last i ds scope vs g ss hs }
   where
-    last : (i : ℕ) (ds : Domains) (scope : Environment) (vs : Values) → RestIn work n at c vs → (ss : Values) → Gathering doc k u ss →
-        Told (Flowed (Gathering doc k u)) r (each i vs (λ scope′ s′. assign ds (turnAt doc k) scope′ s′) scope ss)
+    last : (i : ℕ) (ds : Domains) (scope : Environment) (vs : Values) → RestIn work n at c vs → (ss : Values) → SoFar doc k u ss →
+        Told (Flowed (SoFar doc k u)) r (each i vs (λ scope′ s′. assign ds (turnAt doc k) scope′ s′) scope ss)
     last i ds scope nil g ss hs = fine {a = go ss} z (f, hs)
     last i ds scope (cons v vs) g ss hs = let q = g .counted in absurd (omega arith)
 
@@ -144,8 +144,8 @@ module _ (doc state w0 w1 w2 : List ℕ) (n m k at c here len : ℕ) (s s1 : Lis
           narrow = narrow-tail v vs (g .narrow);
         }
 
-    next-told : (scope : Environment) → Scoped state w0 n scope → (i : ℕ) (us : Values) (ds : Domains) → Pending w0 n (suc m) (domain i us ds) → (ss : Values) → Gathering doc k s ss →
-        Told (Flowed (Gathering doc k s1)) x (assign ds (turnAt doc k) (bind i (valued v) scope) ss)
+    next-told : (scope : Environment) → Scoped state w0 n scope → (i : ℕ) (us : Values) (ds : Domains) → Pending w0 n (suc m) (domain i us ds) → (ss : Values) → SoFar doc k s ss →
+        Told (Flowed (SoFar doc k s1)) x (assign ds (turnAt doc k) (bind i (valued v) scope) ss)
     next-told scope sc i us ds (more e l short nr p) ss hs =
         A .told (bind i (valued v) scope) (next-scoped scope sc i e) ds
         (subst (λ (j : ℕ). Pending w1 j m ds) (sym (add-one n)) (pending-above w0 w1 (blockWords * n + headWords) above4 (suc n) m (omega arith) p)) ss hs
@@ -161,7 +161,7 @@ module _ (doc state w0 w1 w2 : List ℕ) (n m k at c here len : ℕ) (s s1 : Lis
   each-halt z f scope sc i us ds p nil g ss hs = absurd (some (sym (g .counted)))
   each-halt z f scope sc i us ds p (cons v vs) g ss hs = go-told (next-told v vs g scope sc i us ds p ss hs) z (λ w j. ended w j)
     where
-      ended : (w : Flow) → Flowed (Gathering doc k s1) x w → Told (Flowed (Gathering doc k s1)) x (next (λ s′. each i vs (λ scope′ s″. assign ds (turnAt doc k) scope′ s″) scope s′) w)
+      ended : (w : Flow) → Flowed (SoFar doc k s1) x w → Told (Flowed (SoFar doc k s1)) x (next (λ s′. each i vs (λ scope′ s″. assign ds (turnAt doc k) scope′ s″) scope s′) w)
       ended (go us) j = absurd (true≢false (sym f ∙ j .0))
       ended halt j = fine {a = halt} z f
 
@@ -170,7 +170,7 @@ module _ (doc state w0 w1 w2 : List ℕ) (n m k at c here len : ℕ) (s s1 : Lis
   each-go z f more′ scope sc i us ds p nil g ss hs = absurd (some (sym (g .counted)))
   each-go {s2} {r} z f more′ scope sc i us ds p (cons v vs) g ss hs = go-told (next-told v vs g scope sc i us ds p ss hs) z (λ w j. onward w j)
     where
-      onward : (w : Flow) → Flowed (Gathering doc k s1) x w → Told (Flowed (Gathering doc k s2)) r (next (λ s′. each i vs (λ scope′ s″. assign ds (turnAt doc k) scope′ s″) scope s′) w)
+      onward : (w : Flow) → Flowed (SoFar doc k s1) x w → Told (Flowed (SoFar doc k s2)) r (next (λ s′. each i vs (λ scope′ s″. assign ds (turnAt doc k) scope′ s″) scope s′) w)
       onward (go us′) j =
           more′ scope (scoped-same state w0 w2 n each-kept sc) i us ds
           (subst (λ (q : ℕ). Pending w2 n q (domain i us ds)) (add-one m) (each-pends (domain i us ds) (subst (λ (q : ℕ). Pending w0 n q (domain i us ds)) (sym (add-one m)) p)))

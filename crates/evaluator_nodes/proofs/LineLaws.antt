@@ -31,7 +31,7 @@ use Rattle.evaluator_operations.specs.declared.worked.Judgement.{Judgement}
 use Rattle.evaluator_operations.specs.Worked.{Holds, Told, fine, ceased, Valued, Flowed, Stops}
 use Rattle.evaluator_scope.specs.Blocks.{field, Scoped, hidden, Pending, more, Pushed, Leaves, blockWords}
 use Rattle.evaluator_scope.specs.Blocks as Blocks
-use Rattle.evaluator_nodes.specs.Ready.{Ready, Scoping, Assigns, Gathering, AssignTold, LinesTold, joinDomains, linesThen}
+use Rattle.evaluator_nodes.specs.Ready.{Ready, Scoping, Assigns, SoFar, AssignTold, LinesTold, joinDomains, linesThen}
 use Rattle.evaluator_operations.proofs.ToldLaws.{after-told, stop-told, go-told, halt-told, at-pure, at-stop}
 use Rattle.evaluator_operations.proofs.OperationLaws.{held-tag, tag-set, tag-none}
 use Rattle.evaluator_scope.proofs.BlockLaws.{same-less, scoped-same, pending-same}
@@ -106,7 +106,7 @@ module _ (doc : List ℕ) (k t e i : ℕ) (state work : List ℕ) (n m : ℕ) (b
       record {
         kept = a .kept;
         told = λ scope sc sm ds p g.
-            rw (lines-end doc t e i l) (at-pure _ noMore (subst (λ (d : Domains). Told (Flowed (Gathering doc k last)) r (assign d (turnAt doc k) scope nil)) (sym (join-none ds)) (a .told scope sc ds p nil g)));
+            rw (lines-end doc t e i l) (at-pure _ noMore (subst (λ (d : Domains). Told (Flowed (SoFar doc k last)) r (assign d (turnAt doc k) scope nil)) (sym (join-none ds)) (a .told scope sc ds p nil g)));
       }
 
   module _ (l : i < e) (v : ℕ) (x : v ≡ operandAt doc t i) (h : At doc lines v) where
@@ -170,10 +170,10 @@ module _ (doc : List ℕ) (k t e i : ℕ) (state work : List ℕ) (n m : ℕ) (b
                 let q′ : n + m + c ≡ n + (m + c) = omega arith in
                 subst (λ (y′ : ℕ). Scoped state w2 y′ scope) q′ (hide-more state w2 (n + m) c (scoped-same state work w2 (n + m) low sm) (pushed .hidden))
 
-            rest : (us : Values) → Holds hx′ (Value.set us) → Told (Flowed (Gathering doc k last)) r (evalLines ls scope >>= λ es. assign (joinDomains (joinDomains ds (domains ids us noMore)) es) (turnAt doc k) scope nil)
+            rest : (us : Values) → Holds hx′ (Value.set us) → Told (Flowed (SoFar doc k last)) r (evalLines ls scope >>= λ es. assign (joinDomains (joinDomains ds (domains ids us noMore)) es) (turnAt doc k) scope nil)
             rest us hs = more′ scope scoped2 scopedm (joinDomains ds (domains ids us noMore)) (pending-join w2 n m c (pending-same work w2 n m low p) (pushed .told us hs)) gs
 
-            member : (u : Value) → Holds hx′ u → Told (Flowed (Gathering doc k last)) r (asSet v u >>= λ us. evalLines ls scope >>= (λ es. pure (domains ids us es)) >>= λ es. assign (joinDomains ds es) (turnAt doc k) scope nil)
+            member : (u : Value) → Holds hx′ u → Told (Flowed (SoFar doc k last)) r (asSet v u >>= λ us. evalLines ls scope >>= (λ es. pure (domains ids us es)) >>= λ es. assign (joinDomains ds es) (turnAt doc k) scope nil)
             member u hu =
                 let s = tag-set v u (sym (held-tag _ u hu) ∙ b) in
                 rw (s .1) (at-pure _ (s .0) (join-told doc k scope ds ids (s .0) (evalLines ls scope) (rest (s .0) (subst (Holds hx′) (s .1) hu))))

@@ -23,7 +23,7 @@ use Rattle.evaluator_rules.specs.Rules.{evalExpr, evalPred, evalLines}
 use Rattle.evaluator_nodes.specs.Turns.{turnAt}
 use Rattle.evaluator_operations.specs.declared.worked.Judgement.{Judgement}
 use Rattle.evaluator_operations.specs.declared.worked.Worked.{Worked}
-use Rattle.evaluator_operations.specs.Worked.{allNarrow, Told, Valued, Judged, Flowed, Gathers}
+use Rattle.evaluator_operations.specs.Worked.{allNarrow, Told, Valued, Judged, Flowed, SetIn}
 use Rattle.evaluator_scope.specs.Blocks.{Lies, Scoped, Pending, Leaves, blockWords, blockCount}
 use Rattle.values.specs.Value as Value
 
@@ -93,25 +93,25 @@ unfoldable pub linesThen : List ℕ → ℕ → Lines → Domains → Environmen
 linesThen doc k ls ds scope = evalLines ls scope >>= λ es. assign (joinDomains ds es) (turnAt doc k) scope Value.nil
 
 -- the members that a Comprehension has so far, in lent words; a quantifier gathers nothing
-pub record Gathering (doc : List ℕ) (k : ℕ) (u : List ℕ) (vs : Values) : Type 0 where
-  pub gathers : kindAt doc k ≡ 46 → Gathers u vs
+pub record SoFar (doc : List ℕ) (k : ℕ) (u : List ℕ) (vs : Values) : Type 0 where
+  pub gathers : kindAt doc k ≡ 46 → SetIn u vs
 
 -- what each tells has the lent words before, u, and after, v
 abbrev pub LinesTold : List ℕ → ℕ → Lines → List ℕ → List ℕ → ℕ → ℕ → List ℕ → List ℕ → Judgement → Type 0
 LinesTold doc k ls state work n m u v r =
-    (scope : Environment) → Scoped state work n scope → Scoped state work (n + m) scope → (ds : Domains) → Pending work n m ds → Gathering doc k u Value.nil →
-    Told (Flowed (Gathering doc k v)) r (linesThen doc k ls ds scope)
+    (scope : Environment) → Scoped state work n scope → Scoped state work (n + m) scope → (ds : Domains) → Pending work n m ds → SoFar doc k u Value.nil →
+    Told (Flowed (SoFar doc k v)) r (linesThen doc k ls ds scope)
 
 abbrev pub AssignTold : List ℕ → ℕ → List ℕ → List ℕ → ℕ → ℕ → List ℕ → List ℕ → Judgement → Type 0
 AssignTold doc k state work n m u v r =
-    (scope : Environment) → Scoped state work n scope → (ds : Domains) → Pending work n m ds → (vs : Values) → Gathering doc k u vs →
-    Told (Flowed (Gathering doc k v)) r (assign ds (turnAt doc k) scope vs)
+    (scope : Environment) → Scoped state work n scope → (ds : Domains) → Pending work n m ds → (vs : Values) → SoFar doc k u vs →
+    Told (Flowed (SoFar doc k v)) r (assign ds (turnAt doc k) scope vs)
 
 abbrev pub EachTold : List ℕ → ℕ → List ℕ → List ℕ → ℕ → ℕ → ℕ → ℕ → List ℕ → List ℕ → Judgement → Type 0
 EachTold doc k state work n m at c u v r =
     (scope : Environment) → Scoped state work n scope → (i : ℕ) (us : Values) (ds : Domains) → Pending work n (suc m) (domain i us ds) → (vs : Values) → RestIn work n at c vs →
-    (ss : Values) → Gathering doc k u ss → Told (Flowed (Gathering doc k v)) r (each i vs (λ scope′ s′. assign ds (turnAt doc k) scope′ s′) scope ss)
+    (ss : Values) → SoFar doc k u ss → Told (Flowed (SoFar doc k v)) r (each i vs (λ scope′ s′. assign ds (turnAt doc k) scope′ s′) scope ss)
 
 abbrev pub BodyTold : List ℕ → ℕ → Body → List ℕ → List ℕ → ℕ → List ℕ → List ℕ → Judgement → Type 0
 BodyTold doc k body state work n u v r =
-    (scope : Environment) → Scoped state work n scope → (vs : Values) → Gathering doc k u vs → Told (Flowed (Gathering doc k v)) r (body scope vs)
+    (scope : Environment) → Scoped state work n scope → (vs : Values) → SoFar doc k u vs → Told (Flowed (SoFar doc k v)) r (body scope vs)

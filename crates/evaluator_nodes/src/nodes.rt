@@ -6,7 +6,6 @@ use codes::kinds;
 use codes::limits;
 use codes::value_tags;
 use enumeration::products::unit;
-use evaluator_operations::collections::added;
 use evaluator_operations::collections::among;
 use evaluator_operations::collections::applied;
 use evaluator_operations::collections::count_of;
@@ -74,7 +73,7 @@ ghost use Rattle.evaluator_rules.specs.Assignments.{Domains};
 ghost use Rattle.evaluator_rules.specs.Operations.{allPass};
 ghost use Rattle.evaluator_rules.specs.Rules.{evalExpr, evalExprs, evalMembers, evalPred, test, testExprs};
 ghost use Rattle.evaluator_nodes.specs.Turns.{bodyAt, turnAt};
-ghost use Rattle.evaluator_operations.specs.Worked.{Holds, Told, Valued, Integral, Counted, Judged, Gathered, Joined, Tuples, Crossed};
+ghost use Rattle.evaluator_operations.specs.Worked.{Holds, Told, Valued, Integral, Counted, Judged, SetIn, Grown, Joined, Tuples, Crossed};
 ghost use Rattle.evaluator_scope.specs.Blocks.{Scoped, Leaves};
 ghost use Rattle.evaluator_nodes.specs.Ready.{Ready, Handed, Operands, Scoping, Assigns, Tells, Rest, Evaluates, Decides, LinesTold, AssignTold, EachTold, BodyTold};
 
@@ -112,25 +111,39 @@ fn adds(
     k: usize,
     w: &[u32],
     i: usize,
-    s: Held,
-) -> Worked
+    s: &mut [u32],
+) -> Judgement
     requires { ⌜ Handed (now doc) (now work) (now w) expressions n k × Operands (now doc) (now w) k expressions i × (i ≤ 256) ⌝ }
-    ensures { λ r. ⌜ Leaves n (now (work .entry)) (now (work .exit)) ((vs : Values) → Holds s (Value.set vs) → Tells (now (state .entry)) (now (work .entry)) n (Gathered (r .held)) (r .judgement) (λ scope. evalMembers (exprsFrom (now (doc .entry)) k i (length (now (w .entry)) - i)) k scope vs)) ⌝ }
+    ensures { λ r. ⌜ Leaves n (now (work .entry)) (now (work .exit)) ((vs : Values) → SetIn (now (s .entry)) vs → Tells (now (state .entry)) (now (work .entry)) n (Grown (now (s .exit))) r (λ scope. evalMembers (exprsFrom (now (doc .entry)) k i (length (now (w .entry)) - i)) k scope vs)) ⌝ }
 {
     if w.len() <= i {
-        return go(s, false);
+        return judge(false);
     }
     let x = expr(doc, state, work, n, word(w, i));
-    if x.judgement.number != 0 {
-        return x;
+    let j = x.judgement;
+    if j.number != 0 {
+        return j;
     }
     let h = x.held;
-    let t = added(k, s, h);
-    if t.judgement.number != 0 {
+    let t = gather(k, s, h);
+    if t.number != 0 {
         return t;
     }
-    let u = t.held;
-    adds(doc, state, work, n, k, w, i + 1, u)
+    adds(doc, state, work, n, k, w, i + 1, s)
+}
+
+// 33 Set.
+fn display(doc: &[u32], state: &[u32], work: &mut [u32], n: usize, k: usize, w: &[u32]) -> Worked
+    requires { ⌜ Handed (now doc) (now work) (now w) expressions n k × (kindAt (now doc) k ≡ 33) ⌝ }
+    ensures { λ r. ⌜ Evaluates (now (doc .entry)) k n (now (state .entry)) (now (work .entry)) (now (work .exit)) r ⌝ }
+{
+    let mut s = [0u32; GATHERED];
+    put_set(&mut s, empty_set());
+    let x = adds(doc, state, work, n, k, w, 1, &mut s);
+    if x.number != 0 {
+        return halted(x);
+    }
+    go(gathered(&s), false)
 }
 
 // 30 Ref.
@@ -277,7 +290,7 @@ pub fn expr(doc: &[u32], state: &[u32], work: &mut [u32], n: usize, k: usize) ->
     match q {
         kinds::REF => return refers(doc, state, work, n, k, w),
         kinds::NUMBER => number_value(word(w, 1)),
-        kinds::SET => adds(doc, state, work, n, k, w, 1, empty_set()),
+        kinds::SET => display(doc, state, work, n, k, w),
         kinds::TUPLE => tuple(doc, state, work, n, k, w),
         kinds::PRODUCT => tuples(doc, state, work, n, k, w),
         kinds::POWER => subsets(doc, state, work, n, k, w),

@@ -9,7 +9,7 @@ use Rattle.values.specs.Value.{Value, Values, encode}
 use Rattle.values.specs.Value as Value
 use Rattle.values.specs.declared.held.Held.{Held}
 use Rattle.values.proofs.Holding.{held-words, held-len}
-use Rattle.evaluator_operations.specs.Worked.{Holds, Gathers}
+use Rattle.evaluator_operations.specs.Worked.{Holds, SetIn}
 
 drop-sets : (ws work : List ℕ) (at : ℕ) → at + length ws ≤ length work → drop at (sets work at ws) ≡ ws ++ drop (at + length ws) work
 drop-sets ws work at h =
@@ -28,7 +28,7 @@ copied work at h v g l =
     ∙ take-append-le (length (encode v)) (encode v ++ z) (drop (at + length (encode v ++ z)) work) (omega arith) ∙ take-at (encode v) z (length (encode v)) refl)
 
 -- a set that is written with its number of words
-pub set-written : (u : List ℕ) (h : Held) (vs : Values) → 65 ≤ length u → Holds h (Value.set vs) → Gathers (set (sets u 0 (h .words)) 64 (h .len)) vs
+pub set-written : (u : List ℕ) (h : Held) (vs : Values) → 65 ≤ length u → Holds h (Value.set vs) → SetIn (set (sets u 0 (h .words)) 64 (h .len)) vs
 set-written u h vs l g =
     let s = g .short in
     let n = length-sets u 0 (h .words) in
@@ -40,5 +40,5 @@ set-written u h vs l g =
       narrow = g .narrow;
     }
 
-pub set-read : (u : List ℕ) (vs : Values) → Gathers u vs → take (getD u 64 0) u ≡ encode (Value.set vs)
+pub set-read : (u : List ℕ) (vs : Values) → SetIn u vs → take (getD u 64 0) u ≡ encode (Value.set vs)
 set-read u vs g = rw (g .counted) (g .words)

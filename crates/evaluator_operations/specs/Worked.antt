@@ -49,7 +49,7 @@ pub data Told {A : Type 0} (R : Judgement → A → Type 0) (r : Judgement) : Ou
   fine : {t : List Event} {a : A} → r .number ≡ 0 → R r a → Told R r (done t a)
   ceased : {t : List Event} {number node : ℕ} → r .number ≡ number → r .place ≡ node → (number ≡ 0 → ⊥) → Told R r (stopped t number node)
 
--- a value, a truth value, what an assignment leaves, a set's members
+-- a value, the integer that one is, a truth value, what an assignment leaves
 pub record Valued (h : Held) (r : Judgement) (v : Value) : Type 0 where
   pub held : Holds h v
 
@@ -70,11 +70,8 @@ abbrev pub Flowed : (Values → Type 0) → Judgement → Flow → Type 0
 Flowed G r (go vs) = (r .flag ≡ false) × G vs
 Flowed G r halt = r .flag ≡ true
 
-pub record Gathered (h : Held) (r : Judgement) (vs : Values) : Type 0 where
-  pub held : Holds h (set vs)
-
 -- a set that grows in an array: its words first, and in the word behind the room for a value their number
-pub record Gathers (u : List ℕ) (vs : Values) : Type 0 where
+pub record SetIn (u : List ℕ) (vs : Values) : Type 0 where
   pub long : 65 ≤ length u
   pub words : take (length (encode (set vs))) u ≡ encode (set vs)
   pub counted : getD u 64 0 ≡ length (encode (set vs))
@@ -83,7 +80,7 @@ pub record Gathers (u : List ℕ) (vs : Values) : Type 0 where
 
 -- one member more
 pub record Grown (u : List ℕ) (r : Judgement) (vs : Values) : Type 0 where
-  pub gathers : Gathers u vs
+  pub gathers : SetIn u vs
   pub flag : r .flag ≡ false
 
 -- n values, one after the other, behind the words ws; perhaps over 64 words

@@ -28,10 +28,9 @@ ghost use Rattle.values.specs.Value.{Value, Values, nil, encode};
 ghost use Rattle.values.specs.Value as Value;
 ghost use Rattle.values.specs.SetValues.{sameValue};
 ghost use Rattle.evaluator_rules.specs.Outcomes.{pure, keep};
-ghost use Rattle.evaluator_rules.specs.Operations.{add};
 ghost use Rattle.evaluator_operations.specs.Steps.{imageOf};
 ghost use Rattle.evaluator_rules.specs.Rules.{amongMembers};
-ghost use Rattle.evaluator_operations.specs.Worked.{narrow, Holds, Told, Valued, Judged, Gathered};
+ghost use Rattle.evaluator_operations.specs.Worked.{narrow, Holds, Told, Valued, Judged};
 
 // The tags as words.
 const SET: u32 = value_tags::SET as u32;
@@ -73,22 +72,6 @@ pub fn among(k: usize, v: Held, s: Held) -> Judgement
         return judge(sets::is_member(words::span(&w, 0, n), words::span(&u, 0, m)));
     }
     refuse(findings::MISFIT, k)
-}
-
-// The set s with the member v; over 64 words is 55.
-pub fn added(k: usize, s: Held, v: Held) -> Worked
-    requires { ⌜ k ≤ 1024 ⌝ }
-    ensures { λ r. ⌜ ((vs : Values) (x : Value) → Holds s (Value.set vs) → Holds v x → Told (Gathered (r .held)) (r .judgement) (add k x vs) × (r .judgement .number ≡ 0 → r .judgement .flag ≡ false)) ⌝ }
-{
-    let u = s.words;
-    let m = s.len;
-    let w = v.words;
-    let n = v.len;
-    let t = sets::insert(words::span(&u, 0, m), words::span(&w, 0, n));
-    if limits::VALUE < t.len {
-        return stop(findings::TOO_LONG, k);
-    }
-    go(t, false)
 }
 
 // Apply.

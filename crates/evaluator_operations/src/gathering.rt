@@ -14,7 +14,7 @@ ghost use Prim.Native.Nat.{_≤_};
 ghost use lib.ListN.{length};
 ghost use Rattle.values.specs.Value.{Value, Values, set};
 ghost use Rattle.evaluator_rules.specs.Operations.{add};
-ghost use Rattle.evaluator_operations.specs.Worked.{Holds, Told, Gathers, Grown};
+ghost use Rattle.evaluator_operations.specs.Worked.{Holds, Told, SetIn, Grown};
 
 // The words of such an array.
 pub const GATHERED: usize = limits::VALUE + 1;
@@ -22,7 +22,7 @@ pub const GATHERED: usize = limits::VALUE + 1;
 // Writes a set to an array that is long enough.
 pub fn put_set(s: &mut [u32], t: Held)
     requires { ⌜ t .len ≤ 64 ⌝ }
-    ensures { λ _. ⌜ ((vs : Values) → 65 ≤ length (now (s .entry)) → Holds t (set vs) → Gathers (now (s .exit)) vs) ⌝ }
+    ensures { λ _. ⌜ ((vs : Values) → 65 ≤ length (now (s .entry)) → Holds t (set vs) → SetIn (now (s .exit)) vs) ⌝ }
 {
     if s.len() < GATHERED {
         return;
@@ -36,7 +36,7 @@ pub fn put_set(s: &mut [u32], t: Held)
 // The set with the member v; over 64 words is 55, at node k.
 pub fn gather(k: usize, s: &mut [u32], v: Held) -> Judgement
     requires { ⌜ k ≤ 1024 ⌝ }
-    ensures { λ r. ⌜ ((vs : Values) (x : Value) → Gathers (now (s .entry)) vs → Holds v x → Told (Grown (now (s .exit))) r (add k x vs)) ⌝ }
+    ensures { λ r. ⌜ ((vs : Values) (x : Value) → SetIn (now (s .entry)) vs → Holds v x → Told (Grown (now (s .exit))) r (add k x vs)) ⌝ }
 {
     let w = v.words;
     let n = v.len;
@@ -53,7 +53,7 @@ pub fn gather(k: usize, s: &mut [u32], v: Held) -> Judgement
 
 // The set by value.
 pub fn gathered(s: &[u32]) -> Held
-    ensures { λ r. ⌜ ((vs : Values) → Gathers (now (s .entry)) vs → Holds r (set vs)) ⌝ }
+    ensures { λ r. ⌜ ((vs : Values) → SetIn (now (s .entry)) vs → Holds r (set vs)) ⌝ }
 {
     hold(words::span(s, 0, word(s, limits::VALUE)))
 }
