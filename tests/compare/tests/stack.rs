@@ -18,7 +18,7 @@ const BOUNDS: [(&str, usize); 7] = [
     ("z_state", 128),
     ("z_check", 384),
     ("z_fit", 384),
-    ("z_run", 2_048),
+    ("z_run", 256),
     ("z_canonical", 128),
     ("z_print", 32),
 ];
