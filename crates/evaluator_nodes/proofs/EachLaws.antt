@@ -10,7 +10,6 @@ use lib.Seq.{take-at, drop-at, drop-drop}
 use Rattle.values.specs.Value.{Value, Values, nil, cons, count, encode, encodes}
 use Rattle.values.specs.Value as Value
 use Rattle.values.specs.Span.{span}
-use Rattle.values.specs.declared.held.Held.{Held}
 use Rattle.values.proofs.Encoding.{span-value}
 use Rattle.evaluator_rules.specs.Outcomes.{Outcome, _>>=_, pure}
 use Rattle.evaluator_rules.specs.Environment.{Environment, bind, valued}

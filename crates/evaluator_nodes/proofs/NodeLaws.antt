@@ -38,7 +38,7 @@ use Rattle.evaluator_operations.specs.Steps.{arithmeticOf, atMostOf, imageOf, d
 use Rattle.evaluator_operations.specs.declared.worked.Judgement.{Judgement}
 use Rattle.evaluator_operations.specs.Worked.{narrow, allNarrow, Holds, Told, fine, ceased, Valued, Judged, SetIn, Grown, Joined}
 use Rattle.evaluator_nodes.specs.Ready.{Ready, Handed, Operands}
-use Rattle.evaluator_operations.proofs.ToldLaws.{after-told, stop-told, go-told, halt-told, at-pure}
+use Rattle.evaluator_operations.proofs.ToldLaws.{stop-told, go-told, halt-told, at-pure}
 use Rattle.evaluator_operations.proofs.OperationLaws.{keep-fine, narrow-cons}
 
 abbrev allBelow : ℕ → List ℕ → Bool

@@ -1,10 +1,10 @@
 -- The words of a value in an array: where they were copied to, and a set that grows there.
-use mathlib.Core.Path.{_≡_, refl, sym, ap, _∙_}
+use mathlib.Core.Path.{_≡_, refl, ap, _∙_}
 use mathlib.Core.List.{List, _++_, append-assoc}
-use Prim.Native.Nat.{ℕ, _+_, _-_, _≤_, _<_}
+use Prim.Native.Nat.{ℕ, _+_, _-_, _≤_}
 use native.Mathlib.Omega.{arith}
 use lib.ListN.{length, getD, set, take, drop, replicate, length-append, length-replicate, length-set, length-take}
-use lib.Seq.{sets, sets-eq, length-sets, take-append-le, take-at, drop-at, getD-set-same, take-set-le, take-take}
+use lib.Seq.{sets, sets-eq, length-sets, take-append-le, take-at, drop-at, getD-set-same, take-set-le}
 use Rattle.values.specs.Value.{Value, Values, encode}
 use Rattle.values.specs.Value as Value
 use Rattle.values.specs.declared.held.Held.{Held}

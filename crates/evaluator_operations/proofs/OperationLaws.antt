@@ -39,7 +39,7 @@ use Rattle.evaluator_rules.specs.Operations.{asInteger, asSet, asTuple, addIf, 
 use Rattle.evaluator_rules.specs.Applications.{pair, Among, here, later}
 use Rattle.evaluator_rules.proofs.Images.{Finds, findsOne, finds, found-among, applied-words}
 use Rattle.evaluator_operations.specs.declared.worked.Judgement.{Judgement}
-use Rattle.evaluator_operations.specs.Worked.{narrow, allNarrow, Holds, Told, fine, ceased, Is, Valued, Integral, Counted, Judged, Stops}
+use Rattle.evaluator_operations.specs.Worked.{narrow, allNarrow, Holds, Told, fine, ceased, Valued, Integral, Counted, Judged, Stops}
 
 -- the words that are held
 pub held-whole : (h : Held) (v : Value) → Holds h v → take (h .len) (h .words) ≡ encode v

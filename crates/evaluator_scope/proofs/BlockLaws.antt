@@ -1,18 +1,18 @@
 -- Laws of the blocks in the work area: what a change above them leaves, and what a new block is.
 use mathlib.Core.Path.{_≡_, refl, sym, ap, subst, _∙_}
 use mathlib.Core.Bool.{Bool, true, false, cond, true≢false}
-use mathlib.Core.List.{List, [], _∷_, _++_, append-assoc}
+use mathlib.Core.List.{List, [], _∷_}
 use Prim.Native.Nat.{ℕ, zero, suc, _+_, _*_, _-_, _≤_, _<_}
 use native.Mathlib.Omega.{arith}
 use lib.Dec.{eqb}
-use lib.ListN.{length, getD, set, take, drop, replicate, length-set, length-append, length-take, length-replicate, drop-of-length-le}
+use lib.ListN.{length, getD, set, take, drop, length-set, drop-of-length-le}
 use native.Mathlib.Nat.{eq-or-lt-of-le}
 use native.Mathlib.Numerals.{add-one}
 use mathlib.Core.Logic.{⊎-elim}
 use Rattle.words.proofs.Lists.{drop-next}
 use Rattle.values.specs.declared.held.Held.{Held}
-use Rattle.values.proofs.Holding.{held-words, held-len}
-use lib.Seq.{sets, sets-eq, length-sets, take-append-le, take-at, drop-at, getD-take, getD-drop, getD-set-same, getD-set-other, take-set-le, drop-set-lt, take-take, drop-drop}
+use Rattle.values.proofs.Holding.{held-len}
+use lib.Seq.{sets, length-sets, getD-take, getD-drop, getD-set-same, getD-set-other, take-set-le, drop-set-lt, take-take, drop-drop}
 use borrow.Author.Tests.{eq-eqb, ne-eqb, eqb-true, eqb-false}
 use Rattle.values.specs.Value.{Value, Values, encode}
 use Rattle.values.specs.Value as Value
@@ -25,7 +25,7 @@ use Rattle.values.specs.Held.{keep as words}
 use Rattle.reader_rules.specs.Tree.{Exprs}
 use Rattle.reader_rules.specs.Tree as Tree
 use Rattle.evaluator_operations.specs.declared.worked.Judgement.{Judgement}
-use Rattle.evaluator_operations.specs.Worked.{Holds, Told, Valued, Stops}
+use Rattle.evaluator_operations.specs.Worked.{Holds, Told, Stops}
 use Rattle.evaluator_operations.proofs.ToldLaws.{stop-told}
 use Rattle.evaluator_operations.proofs.GatherLaws.{copied}
 use Rattle.evaluator_operations.proofs.OperationLaws.{keep-told}

@@ -1,4 +1,4 @@
-use mathlib.Core.Path.{_≡_, refl, sym, ap, subst, _∙_}
+use mathlib.Core.Path.{refl}
 use Prim.Native.Nat.{_^_}
 use lib.Signed.{mag}
 use lib.IntN.{pos}

@@ -3,11 +3,8 @@ use mathlib.Core.List.{List}
 use Prim.Native.Nat.{_≤_, _<_}
 use lib.ListN.{length, getD}
 use native.Mathlib.Omega.{arith}
-use Rattle.values.specs.Value as Value
 use Rattle.reader_rules.specs.Kinds.{expressions}
 use Rattle.reader_rules.specs.Promise.{Lower}
-use Rattle.evaluator_operations.specs.Worked.{Holds}
-use Rattle.values.specs.declared.held.Held.{Held}
 use Rattle.evaluator_scope.proofs.BlockLaws.{scoped-same}
 use Rattle.evaluator_nodes.proofs.NodeLaws.{ready-lower, handed-same, in-words, adds-end, adds-stop, adds-over, adds-go}
 -- The answers of `adds`.

@@ -5,9 +5,6 @@ use lib.ListN.{getD}
 use native.Mathlib.Omega.{arith}
 use Rattle.reader_rules.specs.Kinds.{expressions, predicates}
 use Rattle.reader_rules.specs.Decode.{quantifierOf}
-use Rattle.values.specs.declared.held.Held.{Held}
-use Rattle.values.specs.Value as Value
-use Rattle.evaluator_operations.specs.Worked.{Holds}
 use Rattle.evaluator_operations.specs.Steps.{verdictOf}
 use Rattle.evaluator_nodes.specs.Ready.{Ready}
 use Rattle.evaluator_nodes.proofs.AssignLaws.{body-expr, body-pred, body-ready, gather-stop, gather-go, decide-stop, decide-go}

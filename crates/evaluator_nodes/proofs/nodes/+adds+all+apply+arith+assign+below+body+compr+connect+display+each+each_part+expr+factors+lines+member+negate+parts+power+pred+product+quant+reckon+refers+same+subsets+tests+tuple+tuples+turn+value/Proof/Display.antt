@@ -1,4 +1,4 @@
-use mathlib.Core.Path.{_≡_, refl, sym, ap, subst, _∙_}
+use mathlib.Core.Path.{sym, subst}
 use native.Mathlib.Omega.{arith}
 use Rattle.values.specs.Value.{nil}
 use Rattle.values.specs.Value as Value
@@ -10,11 +10,8 @@ use Rattle.evaluator_operations.specs.declared.worked.Judgement.{Judgement}
 use Rattle.evaluator_operations.specs.Worked.{Holds, Told, Valued}
 use Rattle.evaluator_nodes.proofs.NodeLaws.{member-operands, set-stop, set-go}
 -- The answers of `display`.
-use Prim.Native.Nat.{_+_, _*_, _-_}
 use borrow.Author.Needs.{needs}
-use Prim.Native.Nat.{ℕ, _<_}
-use borrow.Fn.Kinds.{In}
-use borrow.Fn.PlainCycle.{Measures, is, falls, and}
+use Prim.Native.Nat.{ℕ}
 use Rattle.evaluator_nodes.proofs.nodes.display.Reads as display
 use Rattle.evaluator_nodes.proofs.nodes.+adds+all+apply+arith+assign+below+body+compr+connect+display+each+each_part+expr+factors+lines+member+negate+parts+power+pred+product+quant+reckon+refers+same+subsets+tests+tuple+tuples+turn+value.Lts-display as display-lts
 use Rattle.evaluator_nodes.proofs.nodes.+adds+all+apply+arith+assign+below+body+compr+connect+display+each+each_part+expr+factors+lines+member+negate+parts+power+pred+product+quant+reckon+refers+same+subsets+tests+tuple+tuples+turn+value.Proof.Env.{display-at, display-calls}

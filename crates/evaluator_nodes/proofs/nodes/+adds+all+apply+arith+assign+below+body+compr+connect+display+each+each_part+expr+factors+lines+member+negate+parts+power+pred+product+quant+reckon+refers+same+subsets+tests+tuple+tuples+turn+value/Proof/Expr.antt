@@ -7,7 +7,6 @@ use lib.ListN.{getD}
 use Rattle.reader_rules.specs.Kinds.{expressions}
 use Rattle.reader_rules.specs.Nodes.{kindAt}
 use Rattle.reader_rules.proofs.TreeWords.{number-word}
-use Rattle.values.specs.Value.{nil}
 use Rattle.evaluator_nodes.proofs.NodeLaws.{handed-of, in-words}
 use Rattle.evaluator_nodes.proofs.KindLaws.{Unrun, unrun-told, number-told}
 -- The answers of `expr`.

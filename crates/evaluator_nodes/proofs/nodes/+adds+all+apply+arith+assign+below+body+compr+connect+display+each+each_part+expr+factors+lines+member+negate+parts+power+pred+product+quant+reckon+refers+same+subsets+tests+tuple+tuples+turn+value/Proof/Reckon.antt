@@ -1,6 +1,6 @@
 use mathlib.Core.Path.{_≡_, refl, sym, ap, subst, _∙_}
 use mathlib.Core.List.{List}
-use Prim.Native.Nat.{ℕ, _≤_, _<_}
+use Prim.Native.Nat.{ℕ, _≤_}
 use native.Mathlib.Omega.{arith}
 use lib.ListN.{getD}
 use Rattle.reader_rules.specs.Kinds.{expressions}
@@ -10,11 +10,8 @@ use Rattle.evaluator_operations.proofs.OperationLaws.{counted-integral}
 use Rattle.evaluator_nodes.proofs.NodeLaws.{handed-of, in-words, reference-plain, no-actuals}
 use Rattle.evaluator_nodes.proofs.KindLaws.{number-told}
 -- The answers of `reckon`.
-use Prim.Native.Nat.{_+_, _*_, _-_}
 use borrow.Author.Needs.{needs}
-use Prim.Native.Nat.{ℕ, _<_}
-use borrow.Fn.Kinds.{In}
-use borrow.Fn.PlainCycle.{Measures, is, falls, and}
+use Prim.Native.Nat.{ℕ}
 use Rattle.evaluator_nodes.proofs.nodes.reckon.Reads as reckon
 use Rattle.evaluator_nodes.proofs.nodes.+adds+all+apply+arith+assign+below+body+compr+connect+display+each+each_part+expr+factors+lines+member+negate+parts+power+pred+product+quant+reckon+refers+same+subsets+tests+tuple+tuples+turn+value.Lts-reckon as reckon-lts
 use Rattle.evaluator_nodes.proofs.nodes.+adds+all+apply+arith+assign+below+body+compr+connect+display+each+each_part+expr+factors+lines+member+negate+parts+power+pred+product+quant+reckon+refers+same+subsets+tests+tuple+tuples+turn+value.Proof.Env.{reckon-at, reckon-calls}

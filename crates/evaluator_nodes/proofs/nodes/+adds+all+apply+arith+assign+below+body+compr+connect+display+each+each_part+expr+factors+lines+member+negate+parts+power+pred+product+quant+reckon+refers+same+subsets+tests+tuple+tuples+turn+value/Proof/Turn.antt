@@ -1,13 +1,10 @@
-use mathlib.Core.Path.{_≡_, refl, sym, ap, subst, _∙_}
+use mathlib.Core.Path.{_≡_, refl, ap, subst, _∙_}
 use mathlib.Core.List.{List}
 use Prim.Native.Nat.{ℕ, _+_}
 use lib.ListN.{getD}
 use native.Mathlib.Omega.{arith}
 use Rattle.reader_rules.specs.Nodes.{operandAt}
 use Rattle.reader_rules.specs.Kinds.{predicates}
-use Rattle.values.specs.declared.held.Held.{Held}
-use Rattle.values.specs.Value as Value
-use Rattle.evaluator_operations.specs.Worked.{Holds}
 use Rattle.evaluator_nodes.specs.Ready.{Ready}
 use Rattle.evaluator_scope.proofs.BlockLaws.{scoped-same}
 use Rattle.evaluator_nodes.proofs.AssignLaws.{scoping-same, text-pred, turn-stop, turn-true, turn-false}
