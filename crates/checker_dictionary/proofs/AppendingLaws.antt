@@ -94,6 +94,9 @@ module _ (w : List ℕ) (at m : ℕ) (some : m ≡ 0 → ⊥) (len : ℕ) (is : 
             let b = length-append (entryWords e) (allWords es) in
             (omega (arith, f), omega (arith, a, b, room), omega (arith, a, b, near))
 
+    pub put-bound : at + 1 + len ≤ length w
+    put-bound = wait-bound (record { entries = A .entries; count = A .counted; waits = A .waits })
+
     pub put-rest : (d₁ : List ℕ) → length d₁ ≡ length d → PutAsk d₁ w (at + 1 + len) (m - 1) (n + 1) (end + len)
     unfolding allWords
     put-rest d₁ same = go (A .entries) (A .counted) (A .waits) (A .room) (A .near)
@@ -138,6 +141,11 @@ module _ (w : List ℕ) (at m : ℕ) (some : m ≡ 0 → ⊥) (len : ℕ) (is : 
           (others-here e fs W) (omega (arith, g, h)) in
           let s = X .shorter in
           record { rest = X .rest; after = X .after; shorter = omega (arith, s); laid = X .laid ∙ ap (λ r. spacedWords (X .rest) r ++ replicate (X .after) 0) (append-assoc es (e ∷ []) fs) }
+
+pub end-none : (w : List ℕ) (at m : ℕ) → m ≡ 0 → (es : List Entry) → length es ≡ m → Waits es w at → at ≡ at + length (waiting es)
+unfolding waiting
+end-none w at m z [] l W = omega arith
+end-none w at m z (e ∷ es) l W = absurd (omega (arith, l, z))
 
 pub put-none : (d w : List ℕ) (at m n end : ℕ) → m ≡ 0 → AllPut d d w at m n end
 put-none d w at m n end z = record { put = λ es fs gap after laid count ends pairs l W room. go es fs gap after laid l }

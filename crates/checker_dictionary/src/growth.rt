@@ -63,7 +63,7 @@ fn raise_offsets(d: &mut [u32], n: usize)
 }
 
 // The pair of entry n + 1, and the count of n + 1 entries.
-fn add_pair(d: &mut [u32], n: usize, offset: u32, len: u32)
+pub fn add_pair(d: &mut [u32], n: usize, offset: u32, len: u32)
     requires { ⌜ n < 2 ^ 32 ⌝ }
     ensures { λ _. ⌜ now (d .exit) ≡ pairAdded n offset len (now (d .entry)) ⌝ }
 {

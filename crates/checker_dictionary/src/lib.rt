@@ -3,4 +3,5 @@ pub mod growth;
 pub mod index;
 pub mod lookup;
 pub mod moving;
+pub mod placing;
 pub mod waiting;
