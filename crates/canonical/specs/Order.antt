@@ -4,7 +4,7 @@ use Rattle.words.specs.Loops.{has}
 use Rattle.layout.specs.Layout.{count}
 use Rattle.reader_rules.specs.Reading.{read_of}
 use Rattle.reader_rules.specs.declared.Reading.TheVariants.{Readable}
-use Rattle.reader_rules.specs.Below.{numbersAt}
+use Rattle.reader_rules.specs.Below.{numbers_at}
 use Rattle.canonical_rules.specs.Positions.{index_of, Distinct}
 
 -- k is a node of a readable document, and a table of 1,024 places has room for it and all below it from `at` on
@@ -12,7 +12,7 @@ pub record Visit (doc : List ℕ) (k at : ℕ) : Type 0 where
   pub read : read_of doc ≡ Readable
   pub some : 1 ≤ k
   pub most : k ≤ count doc
-  pub room : at + length (numbersAt doc k) ≤ 1024
+  pub room : at + length (numbers_at doc k) ≤ 1024
 
 -- distinct numbers, each a place of a table of m words
 pub record Numberable (nodes : List ℕ) (m : ℕ) : Type 0 where

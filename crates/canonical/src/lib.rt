@@ -11,7 +11,7 @@ ghost use Rattle.std.specs.Prelude.{◌≡◌, length, replicate};
 ghost use Rattle.std.proofs.lemmas.List.Edits.{sets};
 ghost use Rattle.reader_rules.specs.Reading.{read_of};
 ghost use Rattle.reader_rules.specs.declared.Reading.TheVariants.{Readable};
-ghost use Rattle.canonical_rules.specs.Call.{canonicalWords, CanonicalCall};
+ghost use Rattle.canonical_rules.specs.Call.{canonical_words, CanonicalCall};
 
 // The places of a table of nodes, which are numbered from 1.
 const PLACES: usize = NODES + 1;
@@ -19,7 +19,7 @@ const PLACES: usize = NODES + 1;
 // Writes a readable document's nodes again.
 fn write(doc: &[u32], output: &mut [u32])
     requires { read_of doc.now ≡ Readable }
-    ensures { output.new ≡ sets output.old 0 (canonicalWords doc.now) }
+    ensures { output.new ≡ sets output.old 0 (canonical_words doc.now) }
 {
     let mut visited = [0u32; NODES];
     let mut numbers = [0u32; PLACES];

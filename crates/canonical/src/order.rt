@@ -1,7 +1,7 @@
 // The nodes of a readable document in the order of its tree, and the number that each has in it.
 ghost use Rattle.std.specs.Prelude.{◌≡◌, ◌+◌, length};
 ghost use Rattle.std.proofs.lemmas.List.Edits.{sets};
-ghost use Rattle.reader_rules.specs.Below.{numbersAt};
+ghost use Rattle.reader_rules.specs.Below.{numbers_at};
 ghost use Rattle.canonical.specs.Order.{Visit, Numberable, Numbers};
 
 use layout::part;
@@ -13,7 +13,7 @@ use words::{store, word};
 // The numbers of node k and of all below it, from `at` on, operands before their node; where they end.
 pub fn visit(doc: &[u32], k: usize, order: &mut [u32], at: usize) -> usize
     requires { Visit doc.now k at }
-    ensures { (order.new ≡ sets order.old at (numbersAt doc.now k)) × (result ≡ at + length (numbersAt doc.now k)) }
+    ensures { (order.new ≡ sets order.old at (numbers_at doc.now k)) × (result ≡ at + length (numbers_at doc.now k)) }
 {
     let w = part(doc, k);
     let n = operand_count(w);

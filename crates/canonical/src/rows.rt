@@ -2,10 +2,10 @@
 ghost use Rattle.std.specs.Prelude.{◌≡◌, map, ◌+◌, ◌*◌, ◌≤◌, ◌<◌, ◌^◌, length};
 ghost use Rattle.std.proofs.lemmas.List.Edits.{sets};
 ghost use Rattle.layout.specs.Layout.{part};
-ghost use Rattle.layout.specs.Rows.{rowPairs, rowWords};
-ghost use Rattle.reader_rules.specs.Nodes.{documentWords};
-ghost use Rattle.canonical_rules.specs.RowMap.{mapRow};
-ghost use Rattle.canonical.specs.Rows.{table_at, operandBy, Fitting};
+ghost use Rattle.layout.specs.Rows.{row_pairs, row_words};
+ghost use Rattle.reader_rules.specs.Nodes.{document_words};
+ghost use Rattle.canonical_rules.specs.RowMap.{map_row};
+ghost use Rattle.canonical.specs.Rows.{table_at, operand_by, Fitting};
 
 use layout::part;
 use reader_nodes::operands::sort_at;
@@ -14,7 +14,7 @@ use words::{store, word};
 
 // Operand i of the node with the words w, with its new number where it is a node.
 fn new_operand(w: &[u32], numbers: &[u32], i: usize) -> usize
-    ensures { (result ≡ operandBy numbers.now w.now i) × (result < 2 ^ 32) }
+    ensures { (result ≡ operand_by numbers.now w.now i) × (result < 2 ^ 32) }
 {
     let v = word(w, i);
     if sort_at(w, i) <= sorts::LAST_PLAIN {
@@ -25,8 +25,8 @@ fn new_operand(w: &[u32], numbers: &[u32], i: usize) -> usize
 
 // The words w of a node with the new numbers of its operands, from `at` on.
 fn put_row(w: &[u32], numbers: &[u32], output: &mut [u32], at: usize)
-    requires { (1 ≤ length w.now) × (at + length w.now ≤ documentWords) }
-    ensures { output.new ≡ sets output.old at (mapRow (table_at numbers.now) w.now) }
+    requires { (1 ≤ length w.now) × (at + length w.now ≤ document_words) }
+    ensures { output.new ≡ sets output.old at (map_row (table_at numbers.now) w.now) }
 {
     let n = w.len();
     store(output, at, word(w, 0) as u32);
@@ -40,7 +40,7 @@ fn put_row(w: &[u32], numbers: &[u32], output: &mut [u32], at: usize)
 // The pairs of the nodes, whose words follow the pairs.
 pub fn put_pairs(doc: &[u32], nodes: &[u32], output: &mut [u32])
     requires { Fitting doc.now nodes.now }
-    ensures { output.new ≡ sets output.old 1 (rowPairs (map (part doc.now) nodes.now) (1 + 2 * length nodes.now)) }
+    ensures { output.new ≡ sets output.old 1 (row_pairs (map (part doc.now) nodes.now) (1 + 2 * length nodes.now)) }
 {
     let n = nodes.len();
     let mut at = 1 + 2 * n;
@@ -58,7 +58,7 @@ pub fn put_pairs(doc: &[u32], nodes: &[u32], output: &mut [u32])
 // The words of the nodes, after the pairs.
 pub fn put_rows(doc: &[u32], nodes: &[u32], numbers: &[u32], output: &mut [u32])
     requires { Fitting doc.now nodes.now }
-    ensures { output.new ≡ sets output.old (1 + 2 * length nodes.now) (rowWords (map (λ k. mapRow (table_at numbers.now) (part doc.now k)) nodes.now)) }
+    ensures { output.new ≡ sets output.old (1 + 2 * length nodes.now) (row_words (map (λ k. map_row (table_at numbers.now) (part doc.now k)) nodes.now)) }
 {
     let n = nodes.len();
     let mut at = 1 + 2 * n;

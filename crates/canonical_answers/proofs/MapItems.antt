@@ -6,59 +6,59 @@ use Rattle.types_rules.specs.Equations.{Pairs, end, pair}
 use Rattle.types_rules.specs.Trees.{Extent, Tree}
 use Rattle.checker_rules.specs.Unknowns.{Valuation, slot}
 use Rattle.checker_rules.specs.Items.{Items, skip, ◌⨾◌, fresh, equations, equate, select, small, refusal, piece}
-use Rattle.checker_rules.specs.Dictionary.{Named, unnamed, ofLocal, ofGlobal}
-use Rattle.checker_rules.specs.Signatures.{Signature, noNames, naming}
+use Rattle.checker_rules.specs.Dictionary.{Named, unnamed, of_local, of_global}
+use Rattle.checker_rules.specs.Signatures.{Signature, no_names, naming}
 use Rattle.checker_rules.specs.Scopes.{Scope, globals, local}
 
 -- A node has 8 slots; a readable document uses 7 of them.
-unfoldable pub moveSlot : (ℕ → ℕ) → ℕ → ℕ
-moveSlot f x = slot (f (x / 8)) (x % 8)
+unfoldable pub move_slot : (ℕ → ℕ) → ℕ → ℕ
+move_slot f x = slot (f (x / 8)) (x % 8)
 
 module _ (f : ℕ → ℕ) where
   unfoldable mutual
-    pub mapTerm : Term → Term
-    mapTerm (unknown x) = unknown (moveSlot f x)
-    mapTerm (con h ts) = con h (mapTerms ts)
+    pub map_term : Term → Term
+    map_term (unknown x) = unknown (move_slot f x)
+    map_term (con h ts) = con h (map_terms ts)
 
-    pub mapTerms : Terms → Terms
-    mapTerms nil = nil
-    mapTerms (cons t ts) = cons (mapTerm t) (mapTerms ts)
+    pub map_terms : Terms → Terms
+    map_terms nil = nil
+    map_terms (cons t ts) = cons (map_term t) (map_terms ts)
 
-  unfoldable pub mapPairs : Pairs Term → Pairs Term
-  mapPairs end = end
-  mapPairs (pair a b es) = pair (mapTerm a) (mapTerm b) (mapPairs es)
+  unfoldable pub map_pairs : Pairs Term → Pairs Term
+  map_pairs end = end
+  map_pairs (pair a b es) = pair (map_term a) (map_term b) (map_pairs es)
 
-  unfoldable pub mapItems : Items → Items
-  mapItems skip = skip
-  mapItems (a ⨾ b) = mapItems a ⨾ mapItems b
-  mapItems (fresh x) = fresh (moveSlot f x)
-  mapItems (equations n es) = equations (f n) (mapPairs es)
-  mapItems (equate e n a b) = equate e (f n) (mapTerm a) (mapTerm b)
-  mapItems (select n i a x) = select (f n) i (mapTerm a) (moveSlot f x)
-  mapItems (small n a) = small (f n) (mapTerm a)
-  mapItems (refusal e n) = refusal e (f n)
-  mapItems (piece n t) = piece (f n) (mapItems t)
+  unfoldable pub map_items : Items → Items
+  map_items skip = skip
+  map_items (a ⨾ b) = map_items a ⨾ map_items b
+  map_items (fresh x) = fresh (move_slot f x)
+  map_items (equations n es) = equations (f n) (map_pairs es)
+  map_items (equate e n a b) = equate e (f n) (map_term a) (map_term b)
+  map_items (select n i a x) = select (f n) i (map_term a) (move_slot f x)
+  map_items (small n a) = small (f n) (map_term a)
+  map_items (refusal e n) = refusal e (f n)
+  map_items (piece n t) = piece (f n) (map_items t)
 
-  unfoldable pub mapSignature : Signature → Signature
-  mapSignature noNames = noNames
-  mapSignature (naming i t s) = naming i (mapTerm t) (mapSignature s)
+  unfoldable pub map_signature : Signature → Signature
+  map_signature no_names = no_names
+  map_signature (naming i t s) = naming i (map_term t) (map_signature s)
 
-  unfoldable pub mapNamed : Named → Named
-  mapNamed unnamed = unnamed
-  mapNamed (ofLocal t) = ofLocal (mapTerm t)
-  mapNamed (ofGlobal p g) = ofGlobal p g
+  unfoldable pub map_named : Named → Named
+  map_named unnamed = unnamed
+  map_named (of_local t) = of_local (map_term t)
+  map_named (of_global p g) = of_global p g
 
-  unfoldable pub mapScope : Scope → Scope
-  mapScope (globals D) = globals D
-  mapScope (local i t Γ) = local i (mapTerm t) (mapScope Γ)
+  unfoldable pub map_scope : Scope → Scope
+  map_scope (globals D) = globals D
+  map_scope (local i t Γ) = local i (map_term t) (map_scope Γ)
 
-  unfoldable pub mapOption : Option Term → Option Term
-  mapOption (some t) = some (mapTerm t)
-  mapOption nothing = nothing
+  unfoldable pub map_option : Option Term → Option Term
+  map_option (some t) = some (map_term t)
+  map_option nothing = nothing
 
   -- the typing that the unknowns of the tree have in a table for the other tree, of types or of possibly infinite types
   abbrev pub pull : Valuation → Valuation
-  pull τ = λ x. τ (moveSlot f x)
+  pull τ = λ x. τ (move_slot f x)
 
-  abbrev pub pullIn : (w : Extent) → (ℕ → Tree w) → ℕ → Tree w
-  pullIn w τ = λ x. τ (moveSlot f x)
+  abbrev pub pull_in : (w : Extent) → (ℕ → Tree w) → ℕ → Tree w
+  pull_in w τ = λ x. τ (move_slot f x)

@@ -5,62 +5,62 @@ use Prim.Native.Nat.{ℕ, ◌<◌}
 use lib.ListN.{length, get_or, take}
 use Rattle.reader_rules.specs.Reading.{read_of}
 use Rattle.reader_rules.specs.declared.Reading.TheVariants.{Readable}
-use Rattle.reader_rules.specs.TreeNumbers.{nodeNumbers}
+use Rattle.reader_rules.specs.TreeNumbers.{node_numbers}
 use Rattle.reader_rules.specs.Decode.{tree_of}
-use Rattle.checker_rules.specs.Check.{Answer, accepted, refused, checkOf}
-use Rattle.checker_rules.specs.Areas.{dictionaryAfter}
+use Rattle.checker_rules.specs.Check.{Answer, accepted, refused, check_of}
+use Rattle.checker_rules.specs.Areas.{dictionary_after}
 use Rattle.canonical_rules.specs.MapNodes.{Same}
 use Rattle.canonical_rules.specs.Positions.{corresponding}
-use Rattle.canonical_rules.specs.Canonical.{canonicalOf}
+use Rattle.canonical_rules.specs.Canonical.{canonical_of}
 use Rattle.canonical_rules.specs.Call.{CanonicalCall}
-use Rattle.canonical_rules.proofs.CanonicalRead.{canonical-read}
-use Rattle.canonical_rules.proofs.CanonicalParts.{numbered-order, count_same, length-same}
-use Rattle.canonical_rules.proofs.CanonicalReadable.{canonical-readable}
-use Rattle.canonical_rules.proofs.OneCoding.{canonical-same}
-use Rattle.canonical_rules.proofs.CallAreas.{written_read, written-words}
-use Rattle.canonical_answers.specs.MapAnswers.{mapAnswer}
+use Rattle.canonical_rules.proofs.CanonicalRead.{canonical_read}
+use Rattle.canonical_rules.proofs.CanonicalParts.{numbered_order, count_same, length_same}
+use Rattle.canonical_rules.proofs.CanonicalReadable.{canonical_readable}
+use Rattle.canonical_rules.proofs.OneCoding.{canonical_same}
+use Rattle.canonical_rules.proofs.CallAreas.{written_read, written_words}
+use Rattle.canonical_answers.specs.MapAnswers.{map_answer}
 use Rattle.canonical_answers.specs.Rewritten.{Agrees, Rewritten}
-use Rattle.canonical_answers.proofs.SameChecks.{zero-stays, checks-agree}
-use Rattle.canonical_answers.proofs.SameRuns.{trees-renumbered, runs-agree}
-use Rattle.canonical_answers.proofs.SameFits.{states-agree, fits-agree}
+use Rattle.canonical_answers.proofs.SameChecks.{zero_stays, checks_agree}
+use Rattle.canonical_answers.proofs.SameRuns.{trees_renumbered, runs_agree}
+use Rattle.canonical_answers.proofs.SameFits.{states_agree, fits_agree}
 
-area-stays : (f : ℕ → ℕ) (a : Answer) (d : ℕ) → dictionaryAfter (mapAnswer f a) d ≡ dictionaryAfter a d
-unfolding mapAnswer dictionaryAfter
-area-stays f (accepted D) d = refl
-area-stays f (refused e m) d = refl
+area_stays : (f : ℕ → ℕ) (a : Answer) (d : ℕ) → dictionary_after (map_answer f a) d ≡ dictionary_after a d
+unfolding map_answer dictionary_after
+area_stays f (accepted D) d = refl
+area_stays f (refused e m) d = refl
 
-pub dictionaries-agree : (doc dup : List ℕ) → read_of doc ≡ Readable → read_of dup ≡ Readable → Same (tree_of doc) (tree_of dup)
-    → (d w : ℕ) → dictionaryAfter (checkOf dup d w) d ≡ dictionaryAfter (checkOf doc d w) d
-dictionaries-agree doc dup read reread same d w =
-    ap (λ a. dictionaryAfter a d) (checks-agree doc dup read reread same d w) ∙ area-stays (corresponding doc dup) (checkOf doc d w) d
+pub dictionaries_agree : (doc dup : List ℕ) → read_of doc ≡ Readable → read_of dup ≡ Readable → Same (tree_of doc) (tree_of dup)
+    → (d w : ℕ) → dictionary_after (check_of dup d w) d ≡ dictionary_after (check_of doc d w) d
+dictionaries_agree doc dup read reread same d w =
+    ap (λ a. dictionary_after a d) (checks_agree doc dup read reread same d w) ∙ area_stays (corresponding doc dup) (check_of doc d w) d
 
-pub documents-agree : (doc dup : List ℕ) → read_of doc ≡ Readable → read_of dup ≡ Readable → Same (tree_of doc) (tree_of dup) → Agrees doc dup
-documents-agree doc dup read reread same =
+pub documents_agree : (doc dup : List ℕ) → read_of doc ≡ Readable → read_of dup ≡ Readable → Same (tree_of doc) (tree_of dup) → Agrees doc dup
+documents_agree doc dup read reread same =
     record {
-      nodes = trees-renumbered doc dup read reread same;
-      no_node = zero-stays doc dup read reread same;
-      check = checks-agree doc dup read reread same;
-      dictionary = dictionaries-agree doc dup read reread same;
-      state = states-agree doc dup read reread same;
-      fit = fits-agree doc dup read reread same;
-      run = runs-agree doc dup read reread same;
+      nodes = trees_renumbered doc dup read reread same;
+      no_node = zero_stays doc dup read reread same;
+      check = checks_agree doc dup read reread same;
+      dictionary = dictionaries_agree doc dup read reread same;
+      state = states_agree doc dup read reread same;
+      fit = fits_agree doc dup read reread same;
+      run = runs_agree doc dup read reread same;
     }
 
-pub rewritten : (doc : List ℕ) → read_of doc ≡ Readable → Rewritten doc (canonicalOf (tree_of doc))
+pub rewritten : (doc : List ℕ) → read_of doc ≡ Readable → Rewritten doc (canonical_of (tree_of doc))
 rewritten doc read =
-    let new = canonicalOf (tree_of doc) in
-    let r : read_of new ≡ Readable = canonical-readable doc read in
-    let s : Same (tree_of doc) (tree_of new) = sym (canonical-same (tree_of doc)) in
+    let new = canonical_of (tree_of doc) in
+    let r : read_of new ≡ Readable = canonical_readable doc read in
+    let s : Same (tree_of doc) (tree_of new) = sym (canonical_same (tree_of doc)) in
     record {
       readable = r;
       same = s;
-      order = λ i h. ap (λ t. get_or (nodeNumbers t) i 0) (canonical-read (tree_of doc)) ∙ numbered-order doc read i (subst (λ n. i < n) (count_same doc read) h);
-      tree = canonical-read (tree_of doc);
+      order = λ i h. ap (λ t. get_or (node_numbers t) i 0) (canonical_read (tree_of doc)) ∙ numbered_order doc read i (subst (λ n. i < n) (count_same doc read) h);
+      tree = canonical_read (tree_of doc);
       nodes = count_same doc read;
-      words = length-same doc read;
-      answers = documents-agree doc new read r s;
+      words = length_same doc read;
+      answers = documents_agree doc new read r s;
     }
 
 -- what the call writes
-pub call-rewritten : (doc : List ℕ) (m : ℕ) (output : List ℕ) → CanonicalCall doc m Readable output → Rewritten doc (take (length doc) output)
-call-rewritten doc m output call = subst (Rewritten doc) (sym (written-words doc m output call)) (rewritten doc (written_read doc m output call))
+pub call_rewritten : (doc : List ℕ) (m : ℕ) (output : List ℕ) → CanonicalCall doc m Readable output → Rewritten doc (take (length doc) output)
+call_rewritten doc m output call = subst (Rewritten doc) (sym (written_words doc m output call)) (rewritten doc (written_read doc m output call))

@@ -8,25 +8,25 @@ use Rattle.evaluator_rules.specs.declared.Finding.TheVariants.{Holds, Fails, Ref
 
 module _ (f : ℕ → ℕ) where
   -- a dictionary has no node numbers; the place of a refusal is a node, or 0
-  unfoldable pub mapAnswer : Answer → Answer
-  mapAnswer (accepted D) = accepted D
-  mapAnswer (refused e m) = refused e (f m)
+  unfoldable pub map_answer : Answer → Answer
+  map_answer (accepted D) = accepted D
+  map_answer (refused e m) = refused e (f m)
 
   -- the fit's: below 41 the check's; the place of 41 and 42 is an entry of the state
-  unfoldable pub mapFit : Answer → Answer
-  mapFit (accepted D) = accepted D
-  mapFit (refused e m) = refused e (cond (ltb e 41) (f m) m)
+  unfoldable pub map_fit : Answer → Answer
+  map_fit (accepted D) = accepted D
+  map_fit (refused e m) = refused e (cond (ltb e 41) (f m) m)
 
   -- the place of a failure and of 51 to 55 is a node; that of 21 is 0, that of 41 an entry of the state
-  unfoldable pub mapFinding : Finding → Finding
-  mapFinding Holds = Holds
-  mapFinding (Fails n) = Fails (f n)
-  mapFinding (Refused number place) = Refused number (cond (ltb number 51) place (f place))
+  unfoldable pub map_finding : Finding → Finding
+  map_finding Holds = Holds
+  map_finding (Fails n) = Fails (f n)
+  map_finding (Refused number place) = Refused number (cond (ltb number 51) place (f place))
 
-  unfoldable pub mapEvents : List Event → List Event
-  mapEvents [] = []
-  mapEvents (worked n v ∷ t) = worked (f n) v ∷ mapEvents t
+  unfoldable pub map_events : List Event → List Event
+  map_events [] = []
+  map_events (worked n v ∷ t) = worked (f n) v ∷ map_events t
 
   -- the finding and the whole list
-  abbrev pub mapRun : Ran → Ran
-  mapRun r = ran (mapFinding r.finding) (mapEvents r.list)
+  abbrev pub map_run : Ran → Ran
+  map_run r = ran (map_finding r.finding) (map_events r.list)

@@ -12,17 +12,17 @@ use Rattle.reader_rules.specs.Findings.{and_then}
 use Rattle.reader_rules.specs.Reading.{read_of}
 use Rattle.reader_rules.specs.declared.Reading.{Reading}
 use Rattle.reader_rules.specs.declared.Reading.TheVariants.{Readable, Refused}
-use Rattle.reader_rules.proofs.Scan.{never, then-none}
+use Rattle.reader_rules.proofs.Scan.{never, then_none}
 use Rattle.reader_rules.proofs.ReadNumbers.{read_number}
-use Rattle.canonical_rules.specs.Call.{canonicalWords, canonicalCheckOf}
-use Rattle.canonical_rules.proofs.CanonicalParts.{length-same}
+use Rattle.canonical_rules.specs.Call.{canonical_words, canonical_check_of}
+use Rattle.canonical_rules.proofs.CanonicalParts.{length_same}
 
-pub reading-first : (doc : List ℕ) (m number place : ℕ) → read_of doc ≡ Refused number place → canonicalCheckOf doc m ≡ Refused number place
-unfolding canonicalCheckOf
-reading-first doc m number place e = rw e refl
+pub reading_first : (doc : List ℕ) (m number place : ℕ) → read_of doc ≡ Refused number place → canonical_check_of doc m ≡ Refused number place
+unfolding canonical_check_of
+reading_first doc m number place e = rw e refl
 
-same-refusal : (n p m q : ℕ) → Refused n p ≡ Refused m q → n ≡ m
-same-refusal n p m q e = cc
+same_refusal : (n p m q : ℕ) → Refused n p ≡ Refused m q → n ≡ m
+same_refusal n p m q e = cc
 
 -- what is left after reading
 short : (b : Bool) → cond b (Refused 27 0) Readable ≡ Refused 27 0 → b ≡ true
@@ -34,24 +34,24 @@ enough true e = never 27 0 e
 enough false e = refl
 
 module _ (doc : List ℕ) (m : ℕ) where
-  pub short-exactly : (canonicalCheckOf doc m ≡ Refused 27 0) ↔ ((read_of doc ≡ Readable) × (m < length doc))
-  unfolding canonicalCheckOf
-  short-exactly = (
+  pub short_exactly : (canonical_check_of doc m ≡ Refused 27 0) ↔ ((read_of doc ≡ Readable) × (m < length doc))
+  unfolding canonical_check_of
+  short_exactly = (
     λ e. go (read_of doc) refl e,
-    λ h. let n = length-same doc h.0 in let l = h.1 in rw (h.0, lt-ltb m (length (canonicalWords doc)) (omega (arith, n, l))) refl,
+    λ h. let n = length_same doc h.0 in let l = h.1 in rw (h.0, lt-ltb m (length (canonical_words doc)) (omega (arith, n, l))) refl,
   )
     where
-      go : (r : Reading) → read_of doc ≡ r → and_then r (cond (ltb m (length (canonicalWords doc))) (Refused 27 0) Readable) ≡ Refused 27 0 → (r ≡ Readable) × (m < length doc)
-      go Readable q e = (refl, let n = length-same doc q in let l = ltb-true m (length (canonicalWords doc)) (short _ e) in omega (arith, n, l))
-      go (Refused number place) q e = let l = read_number doc number place q in let z = same-refusal number place 27 0 e in absurd (omega (arith, l, z))
+      go : (r : Reading) → read_of doc ≡ r → and_then r (cond (ltb m (length (canonical_words doc))) (Refused 27 0) Readable) ≡ Refused 27 0 → (r ≡ Readable) × (m < length doc)
+      go Readable q e = (refl, let n = length_same doc q in let l = ltb-true m (length (canonical_words doc)) (short _ e) in omega (arith, n, l))
+      go (Refused number place) q e = let l = read_number doc number place q in let z = same_refusal number place 27 0 e in absurd (omega (arith, l, z))
 
-  pub written-exactly : (canonicalCheckOf doc m ≡ Readable) ↔ ((read_of doc ≡ Readable) × (length doc ≤ m))
-  unfolding canonicalCheckOf
-  written-exactly = (
+  pub written_exactly : (canonical_check_of doc m ≡ Readable) ↔ ((read_of doc ≡ Readable) × (length doc ≤ m))
+  unfolding canonical_check_of
+  written_exactly = (
     λ e.
-        let h = then-none (read_of doc) _ e in
-        let n = length-same doc h.0 in
-        let l = ltb-false m (length (canonicalWords doc)) (enough _ h.1) in
+        let h = then_none (read_of doc) _ e in
+        let n = length_same doc h.0 in
+        let l = ltb-false m (length (canonical_words doc)) (enough _ h.1) in
         (h.0, omega (arith, n, l)),
-    λ h. let n = length-same doc h.0 in let l = h.1 in rw (h.0, le-ltb m (length (canonicalWords doc)) (omega (arith, n, l))) refl,
+    λ h. let n = length_same doc h.0 in let l = h.1 in rw (h.0, le-ltb m (length (canonical_words doc)) (omega (arith, n, l))) refl,
   )

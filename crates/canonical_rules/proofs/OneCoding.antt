@@ -3,25 +3,25 @@ use mathlib.Core.Path.{◌≡◌, ap, sym, ◌∙◌}
 use mathlib.Core.Logic.{◌↔◌}
 use Rattle.reader_rules.specs.Tree.{Document}
 use Rattle.reader_rules.specs.Decode.{tree_of}
-use Rattle.canonical_rules.specs.MapNodes.{mapNodes, Same}
-use Rattle.layout.specs.Rows.{layOut}
-use Rattle.canonical_rules.specs.Canonical.{documentRows, canonicalOf}
-use Rattle.canonical_rules.proofs.SameTrees.{same-numbered, numbered-same, numbered-bare}
-use Rattle.canonical_rules.proofs.CanonicalRead.{canonical-read}
+use Rattle.canonical_rules.specs.MapNodes.{map_nodes, Same}
+use Rattle.layout.specs.Rows.{lay_out}
+use Rattle.canonical_rules.specs.Canonical.{document_rows, canonical_of}
+use Rattle.canonical_rules.proofs.SameTrees.{same_numbered, numbered_same, numbered_bare}
+use Rattle.canonical_rules.proofs.CanonicalRead.{canonical_read}
 
-pub same-words : (t u : Document) → Same t u → canonicalOf t ≡ canonicalOf u
-unfolding canonicalOf
-same-words t u s = ap (λ x. layOut (documentRows x)) (same-numbered t u s)
+pub same_words_lem : (t u : Document) → Same t u → canonical_of t ≡ canonical_of u
+unfolding canonical_of
+same_words_lem t u s = ap (λ x. lay_out (document_rows x)) (same_numbered t u s)
 
-pub words_same : (t u : Document) → canonicalOf t ≡ canonicalOf u → Same t u
-words_same t u e = numbered-same t u (sym (canonical-read t) ∙ ap tree_of e ∙ canonical-read u)
+pub words_same : (t u : Document) → canonical_of t ≡ canonical_of u → Same t u
+words_same t u e = numbered_same t u (sym (canonical_read t) ∙ ap tree_of e ∙ canonical_read u)
 
-pub one-coding : (t u : Document) → Same t u ↔ (canonicalOf t ≡ canonicalOf u)
-one-coding t u = (same-words t u, words_same t u)
+pub one_coding : (t u : Document) → Same t u ↔ (canonical_of t ≡ canonical_of u)
+one_coding t u = (same_words_lem t u, words_same t u)
 
 -- the canonical words have the same tree; coding them again changes nothing
-pub canonical-same : (t : Document) → Same (tree_of (canonicalOf t)) t
-canonical-same t = ap (mapNodes (λ n. 0)) (canonical-read t) ∙ numbered-bare t
+pub canonical_same : (t : Document) → Same (tree_of (canonical_of t)) t
+canonical_same t = ap (map_nodes (λ n. 0)) (canonical_read t) ∙ numbered_bare t
 
-pub canonical-again : (t : Document) → canonicalOf (tree_of (canonicalOf t)) ≡ canonicalOf t
-canonical-again t = same-words (tree_of (canonicalOf t)) t (canonical-same t)
+pub canonical_again : (t : Document) → canonical_of (tree_of (canonical_of t)) ≡ canonical_of t
+canonical_again t = same_words_lem (tree_of (canonical_of t)) t (canonical_same t)

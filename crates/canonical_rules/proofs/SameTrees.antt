@@ -7,80 +7,80 @@ use Prim.Native.Nat.{ℕ, suc, ◌≤◌}
 use native.Mathlib.Omega.{arith}
 use lib.ListN.{length, length-map}
 use Rattle.words.specs.Loops.{has, occurrences}
-use Rattle.words.proofs.Lists.{has-once}
+use Rattle.words.proofs.Lists.{has_once}
 use Rattle.layout.specs.Layout.{count}
 use Rattle.reader_rules.specs.Kinds.{between}
 use Rattle.reader_rules.specs.Reading.{read_of}
 use Rattle.reader_rules.specs.declared.Reading.TheVariants.{Readable}
 use Rattle.reader_rules.specs.Tree.{Document}
-use Rattle.reader_rules.specs.TreeNumbers.{nodeNumbers}
+use Rattle.reader_rules.specs.TreeNumbers.{node_numbers}
 use Rattle.reader_rules.specs.Decode.{tree_of}
-use Rattle.reader_rules.proofs.TreeNodes.{each-node-once}
-use Rattle.canonical_rules.specs.MapNodes.{mapNodes, Same}
-use Rattle.canonical_rules.specs.Numbered.{numberDocument}
+use Rattle.reader_rules.proofs.TreeNodes.{each_node_once}
+use Rattle.canonical_rules.specs.MapNodes.{map_nodes, Same}
+use Rattle.canonical_rules.specs.Numbered.{number_document}
 use Rattle.canonical_rules.specs.Positions.{Distinct, carry, InjectiveOn}
 use Rattle.canonical_rules.proofs.Lists.{Along}
-use Rattle.canonical_rules.proofs.Renumbered.{Gives, node-numbers, document-forgets, backDocument}
-use Rattle.canonical_rules.proofs.Positions.{fromPlace, gives, carry-map, carry-injective, once-distinct}
+use Rattle.canonical_rules.proofs.Renumbered.{Gives, node_numbers_lem, document_forgets, back_document}
+use Rattle.canonical_rules.proofs.Positions.{from_place, gives, carry_map, carry_injective, once_distinct}
 
 -- A tree is given by its numbered form and its numbers.
-module _ (t u : Document) (e : numberDocument t ≡ numberDocument u) (q : nodeNumbers t ≡ nodeNumbers u) where
-  pub tree-ext : t ≡ u
-  tree-ext =
-      sym (backDocument (fromPlace 0 (nodeNumbers u)) t (subst (λ l. Along (Gives (fromPlace 0 (nodeNumbers u))) 1 l) (sym q) (gives 0 (nodeNumbers u))))
-      ∙ ap (mapNodes (fromPlace 0 (nodeNumbers u))) e
-      ∙ backDocument (fromPlace 0 (nodeNumbers u)) u (gives 0 (nodeNumbers u))
+module _ (t u : Document) (e : number_document t ≡ number_document u) (q : node_numbers t ≡ node_numbers u) where
+  pub tree_ext : t ≡ u
+  tree_ext =
+      sym (back_document (from_place 0 (node_numbers u)) t (subst (λ l. Along (Gives (from_place 0 (node_numbers u))) 1 l) (sym q) (gives 0 (node_numbers u))))
+      ∙ ap (map_nodes (from_place 0 (node_numbers u))) e
+      ∙ back_document (from_place 0 (node_numbers u)) u (gives 0 (node_numbers u))
 
 -- the same tree: as many nodes, the same numbered form
-pub same_length : (t u : Document) → Same t u → length (nodeNumbers t) ≡ length (nodeNumbers u)
+pub same_length : (t u : Document) → Same t u → length (node_numbers t) ≡ length (node_numbers u)
 same_length t u s =
-    sym (length-map (nodeNumbers t) (λ n. 0)) ∙ ap length (sym (node-numbers (λ n. 0) t) ∙ ap nodeNumbers s ∙ node-numbers (λ n. 0) u) ∙ length-map (nodeNumbers u) (λ n. 0)
+    sym (length-map (node_numbers t) (λ n. 0)) ∙ ap length (sym (node_numbers_lem (λ n. 0) t) ∙ ap node_numbers s ∙ node_numbers_lem (λ n. 0) u) ∙ length-map (node_numbers u) (λ n. 0)
 
-pub same-numbered : (t u : Document) → Same t u → numberDocument t ≡ numberDocument u
-same-numbered t u s = sym (document-forgets (λ n. 0) t) ∙ ap numberDocument s ∙ document-forgets (λ n. 0) u
+pub same_numbered : (t u : Document) → Same t u → number_document t ≡ number_document u
+same_numbered t u s = sym (document_forgets (λ n. 0) t) ∙ ap number_document s ∙ document_forgets (λ n. 0) u
 
 zeros : (l : List ℕ) (o : ℕ) → Along (Gives (λ n. 0)) o (map (λ n. 0) l)
 zeros [] o = tt
 zeros (x ∷ l) o = (refl, zeros l (suc o))
 
 -- the numbered form is the same tree
-pub numbered-bare : (t : Document) → Same (numberDocument t) t
-numbered-bare t =
-    ap (mapNodes (λ n. 0)) (sym (document-forgets (λ n. 0) t))
-    ∙ backDocument (λ n. 0) (mapNodes (λ n. 0) t) (subst (λ l. Along (Gives (λ n. 0)) 1 l) (sym (node-numbers (λ n. 0) t)) (zeros (nodeNumbers t) 1))
+pub numbered_bare : (t : Document) → Same (number_document t) t
+numbered_bare t =
+    ap (map_nodes (λ n. 0)) (sym (document_forgets (λ n. 0) t))
+    ∙ back_document (λ n. 0) (map_nodes (λ n. 0) t) (subst (λ l. Along (Gives (λ n. 0)) 1 l) (sym (node_numbers_lem (λ n. 0) t)) (zeros (node_numbers t) 1))
 
-pub numbered-same : (t u : Document) → numberDocument t ≡ numberDocument u → Same t u
-numbered-same t u e = sym (numbered-bare t) ∙ ap (mapNodes (λ n. 0)) e ∙ numbered-bare u
+pub numbered_same : (t u : Document) → number_document t ≡ number_document u → Same t u
+numbered_same t u e = sym (numbered_bare t) ∙ ap (map_nodes (λ n. 0)) e ∙ numbered_bare u
 
 -- a renumbering is the same tree
-pub renumbered-same : (f : ℕ → ℕ) (t : Document) → Same t (mapNodes f t)
-renumbered-same f t = numbered-same t (mapNodes f t) (sym (document-forgets f t))
+pub renumbered_same : (f : ℕ → ℕ) (t : Document) → Same t (map_nodes f t)
+renumbered_same f t = numbered_same t (map_nodes f t) (sym (document_forgets f t))
 
-module _ (t u : Document) (d : Distinct (nodeNumbers t)) (s : Same t u) where
+module _ (t u : Document) (d : Distinct (node_numbers t)) (s : Same t u) where
   -- and the same tree is a renumbering
-  pub same-renumbered : mapNodes (carry (nodeNumbers t) (nodeNumbers u)) t ≡ u
-  same-renumbered =
-      let c = carry (nodeNumbers t) (nodeNumbers u) in
-      tree-ext (mapNodes c t) u (document-forgets c t ∙ same-numbered t u s) (node-numbers c t ∙ carry-map (nodeNumbers t) (nodeNumbers u) d (same_length t u s))
+  pub same_renumbered : map_nodes (carry (node_numbers t) (node_numbers u)) t ≡ u
+  same_renumbered =
+      let c = carry (node_numbers t) (node_numbers u) in
+      tree_ext (map_nodes c t) u (document_forgets c t ∙ same_numbered t u s) (node_numbers_lem c t ∙ carry_map (node_numbers t) (node_numbers u) d (same_length t u s))
 
-pub same-exactly : (t u : Document) → Distinct (nodeNumbers t) → Distinct (nodeNumbers u) → Same t u ↔ ((f : ℕ → ℕ) × InjectiveOn (nodeNumbers t) f × (mapNodes f t ≡ u))
-same-exactly t u d e = (
-  λ s. (carry (nodeNumbers t) (nodeNumbers u), carry-injective (nodeNumbers t) (nodeNumbers u) e (same_length t u s), same-renumbered t u d s),
-  λ r. subst (λ v. Same t v) r.2 (renumbered-same r.0 t),
+pub same_exactly : (t u : Document) → Distinct (node_numbers t) → Distinct (node_numbers u) → Same t u ↔ ((f : ℕ → ℕ) × InjectiveOn (node_numbers t) f × (map_nodes f t ≡ u))
+same_exactly t u d e = (
+  λ s. (carry (node_numbers t) (node_numbers u), carry_injective (node_numbers t) (node_numbers u) e (same_length t u s), same_renumbered t u d s),
+  λ r. subst (λ v. Same t v) r.2 (renumbered_same r.0 t),
 )
 
 -- A READABLE DOCUMENT has each number once.
-once-cond : (b : Bool) → cond b 1 0 ≤ 1
-once-cond true = omega arith
-once-cond false = omega arith
+once_cond : (b : Bool) → cond b 1 0 ≤ 1
+once_cond true = omega arith
+once_cond false = omega arith
 
-pub readable-distinct : (doc : List ℕ) → read_of doc ≡ Readable → Distinct (nodeNumbers (tree_of doc))
-readable-distinct doc r = once-distinct (nodeNumbers (tree_of doc)) (λ k. subst (λ z. z ≤ 1) (sym (each-node-once doc r k)) (once-cond (between 1 k (count doc))))
+pub readable_distinct : (doc : List ℕ) → read_of doc ≡ Readable → Distinct (node_numbers (tree_of doc))
+readable_distinct doc r = once_distinct (node_numbers (tree_of doc)) (λ k. subst (λ z. z ≤ 1) (sym (each_node_once doc r k)) (once_cond (between 1 k (count doc))))
 
 -- 0 is no node
-pub no_zero : (doc : List ℕ) → read_of doc ≡ Readable → has 0 (nodeNumbers (tree_of doc)) ≡ false
-no_zero doc r = go (has 0 (nodeNumbers (tree_of doc))) refl
+pub no_zero : (doc : List ℕ) → read_of doc ≡ Readable → has 0 (node_numbers (tree_of doc)) ≡ false
+no_zero doc r = go (has 0 (node_numbers (tree_of doc))) refl
   where
-    go : (b : Bool) → has 0 (nodeNumbers (tree_of doc)) ≡ b → b ≡ false
-    go true e = let x : occurrences 0 (nodeNumbers (tree_of doc)) ≡ 0 = each-node-once doc r 0 in absurd (omega (arith, has-once 0 (nodeNumbers (tree_of doc)) e))
+    go : (b : Bool) → has 0 (node_numbers (tree_of doc)) ≡ b → b ≡ false
+    go true e = let x : occurrences 0 (node_numbers (tree_of doc)) ≡ 0 = each_node_once doc r 0 in absurd (omega (arith, has_once 0 (node_numbers (tree_of doc)) e))
     go false e = refl

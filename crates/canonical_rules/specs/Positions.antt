@@ -1,7 +1,7 @@
 -- Where a number stands in a list of numbers; the function that takes the numbers of one list to those of another, place by place.
 use Rattle.std.specs.Prelude.{◌≡◌, true, false, cond, List, [], ◌∷◌, ℕ, suc, ltb, eqb, length, get_or}
 use Rattle.words.specs.Loops.{has}
-use Rattle.reader_rules.specs.TreeNumbers.{nodeNumbers}
+use Rattle.reader_rules.specs.TreeNumbers.{node_numbers}
 use Rattle.reader_rules.specs.Decode.{tree_of}
 
 -- the list's length where it does not stand there
@@ -23,4 +23,4 @@ InjectiveOn l f = (n m : ℕ) → has n l ≡ true → has m l ≡ true → f n 
 
 -- a node's number in another document with the same tree
 unfoldable pub corresponding : List ℕ → List ℕ → ℕ → ℕ
-corresponding doc dup = carry (nodeNumbers (tree_of doc)) (nodeNumbers (tree_of dup))
+corresponding doc dup = carry (node_numbers (tree_of doc)) (node_numbers (tree_of dup))

@@ -2,22 +2,22 @@
 use Rattle.std.specs.Prelude.{◌≡◌, List, ℕ, length, replicate}
 use Rattle.evaluator_rules.specs.Run.{run_of}
 use Rattle.checker_rules.specs.Check.{Answer}
-use Rattle.checker_rules.specs.Areas.{answerFinding, dictionaryAfter, workAfter}
-use Rattle.canonical_rules.specs.Call.{canonicalWords, canonicalCheckOf, outputAfter}
-use Rattle.capi_codes.specs.Code.{code_of, checkCode, runCode}
+use Rattle.checker_rules.specs.Areas.{answer_finding, dictionary_after, work_after}
+use Rattle.canonical_rules.specs.Call.{canonical_words, canonical_check_of, output_after}
+use Rattle.capi_codes.specs.Code.{code_of, check_code, run_code}
 
 -- the check call and the fit call, with areas of d and w words: the number of their answer, and what each area then holds
 pub record Decided (a : Answer) (d w code : ℕ) (dictionary work : List ℕ) : Type 0 where
-  pub finding : code ≡ checkCode (answerFinding a)
-  pub recorded : dictionary ≡ dictionaryAfter a d
-  pub cleared : work ≡ workAfter w
+  pub finding : code ≡ check_code (answer_finding a)
+  pub recorded : dictionary ≡ dictionary_after a d
+  pub cleared : work ≡ work_after w
 
 -- the run call: the number of its finding, and a work area of zeros
 pub record RunDecided (doc state before after : List ℕ) (code : ℕ) : Type 0 where
-  pub finding : code ≡ runCode (run_of doc state (length before)).finding
+  pub finding : code ≡ run_code (run_of doc state (length before)).finding
   pub cleared : after ≡ replicate (length before) 0
 
 -- the canonical call, with an output area of m words: the number of its finding, and what the area then holds
 pub record CanonicalDecided (doc : List ℕ) (m code : ℕ) (output : List ℕ) : Type 0 where
-  pub finding : code ≡ code_of (canonicalCheckOf doc m)
-  pub written : output ≡ outputAfter (canonicalCheckOf doc m) (canonicalWords doc) m
+  pub finding : code ≡ code_of (canonical_check_of doc m)
+  pub written : output ≡ output_after (canonical_check_of doc m) (canonical_words doc) m

@@ -1,12 +1,12 @@
 // The calls for C and Rust. Each gives its finding as one number.
 ghost use Rattle.std.specs.Prelude.{◌≡◌, length};
 ghost use Rattle.reader_rules.specs.Reading.{read_of};
-ghost use Rattle.states_rules.specs.States.{stateCheckOf};
-ghost use Rattle.checker_rules.specs.Check.{checkOf};
-ghost use Rattle.fitter_rules.specs.Fit.{fitOf};
-ghost use Rattle.printer_rules.specs.Print.{printOf};
+ghost use Rattle.states_rules.specs.States.{state_check_of};
+ghost use Rattle.checker_rules.specs.Check.{check_of};
+ghost use Rattle.fitter_rules.specs.Fit.{fit_of};
+ghost use Rattle.printer_rules.specs.Print.{print_of};
 ghost use Rattle.printer_rules.specs.Buffer.{Printed};
-ghost use Rattle.capi_codes.specs.Code.{code_of, codeFinding};
+ghost use Rattle.capi_codes.specs.Code.{code_of, code_finding};
 ghost use Rattle.capi.specs.Areas.{Decided, RunDecided, CanonicalDecided};
 
 use capi_codes::{check_code, code_of, finding_of, run_code};
@@ -22,7 +22,7 @@ pub extern "C" fn z_read(doc: &[u32]) -> u64
 // A document with a state: reading's finding first, then 41 with the entry, 0 for its pairs; 0 where the state is well formed.
 #[unsafe(no_mangle)]
 pub extern "C" fn z_state(doc: &[u32], state: &[u32]) -> u64
-    ensures { result ≡ code_of (stateCheckOf doc.now state.now) }
+    ensures { result ≡ code_of (state_check_of doc.now state.now) }
 {
     code_of(states::check_state(doc, state))
 }
@@ -41,7 +41,7 @@ pub extern "C" fn z_canonical(doc: &[u32], output: &mut [u32]) -> u64
 // work area is zeros afterwards.
 #[unsafe(no_mangle)]
 pub extern "C" fn z_check(doc: &[u32], dict: &mut [u32], work: &mut [u32]) -> u64
-    ensures { Decided (checkOf doc.now (length dict.old) (length work.old)) (length dict.old) (length work.old) result dict.new work.new }
+    ensures { Decided (check_of doc.now (length dict.old) (length work.old)) (length dict.old) (length work.old) result dict.new work.new }
 {
     check_code(checker::check(doc, dict, work))
 }
@@ -49,7 +49,7 @@ pub extern "C" fn z_check(doc: &[u32], dict: &mut [u32], work: &mut [u32]) -> u6
 // The check of a document, then a state against its dictionary: the check's finding first, then 41 and 42 with the entry. The areas as after a check.
 #[unsafe(no_mangle)]
 pub extern "C" fn z_fit(doc: &[u32], state: &[u32], dict: &mut [u32], work: &mut [u32]) -> u64
-    ensures { Decided (fitOf doc.now state.now (length dict.old) (length work.old)) (length dict.old) (length work.old) result dict.new work.new }
+    ensures { Decided (fit_of doc.now state.now (length dict.old) (length work.old)) (length dict.old) (length work.old) result dict.new work.new }
 {
     check_code(fitter::fit(doc, state, dict, work))
 }
@@ -66,7 +66,7 @@ pub extern "C" fn z_run(doc: &[u32], state: &[u32], work: &mut [u32]) -> u64
 // buffer is all zero.
 #[unsafe(no_mangle)]
 pub extern "C" fn z_print(finding: u64, dict: &[u32], out: &mut [u8]) -> usize
-    ensures { Printed (printOf (codeFinding finding) dict.now) (length out.old) result out.new }
+    ensures { Printed (print_of (code_finding finding) dict.now) (length out.old) result out.new }
 {
     printer::print_finding(finding_of(finding), dict, out)
 }

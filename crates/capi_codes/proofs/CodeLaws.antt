@@ -5,11 +5,11 @@ use native.Mathlib.Omega.{arith}
 use native.Mathlib.Nat.{div-add-mod', mod-lt}
 use borrow.Author.Tests.{ne_eqb}
 use Rattle.checker_rules.specs.declared.Finding.TheVariants.{Refused}
-use Rattle.capi_codes.specs.Code.{codeFinding}
+use Rattle.capi_codes.specs.Code.{code_finding}
 
-pub refused-back : (number place : ℕ) → 0 < number → place < 4294967296 → codeFinding (number * 4294967296 + place) ≡ Refused number place
-unfolding codeFinding
-refused-back number place some small =
+pub refused_back : (number place : ℕ) → 0 < number → place < 4294967296 → code_finding (number * 4294967296 + place) ≡ Refused number place
+unfolding code_finding
+refused_back number place some small =
     let code = number * 4294967296 + place in
     let t = div-add-mod' code 4294967296 in
     let l : code % 4294967296 < 4294967296 = mod-lt code (omega arith) in

@@ -13,16 +13,16 @@ code_of Readable = 0
 code_of (Refused number place) = number * 4294967296 + place
 
 -- the finding of a check that a number codes
-unfoldable pub codeFinding : ℕ → Finding
-codeFinding code = cond (eqb code 0) Accepted (Refused' (code / 4294967296) (code % 4294967296))
+unfoldable pub code_finding : ℕ → Finding
+code_finding code = cond (eqb code 0) Accepted (Refused' (code / 4294967296) (code % 4294967296))
 
 -- a check's finding, or a fit's
-unfoldable pub checkCode : Finding → ℕ
-checkCode Accepted = 0
-checkCode (Refused' number place) = number * 4294967296 + place
+unfoldable pub check_code : Finding → ℕ
+check_code Accepted = 0
+check_code (Refused' number place) = number * 4294967296 + place
 
 -- a run's finding: 0 where it holds, 1 × 2^32 + node where it fails, else number × 2^32 + place
-unfoldable pub runCode : RunFinding → ℕ
-runCode Holds = 0
-runCode (Fails node) = 4294967296 + node
-runCode (Stopped number place) = number * 4294967296 + place
+unfoldable pub run_code : RunFinding → ℕ
+run_code Holds = 0
+run_code (Fails node) = 4294967296 + node
+run_code (Stopped number place) = number * 4294967296 + place

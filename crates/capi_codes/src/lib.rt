@@ -1,6 +1,6 @@
 // A finding as one number for C and Rust, and back.
 ghost use Rattle.std.specs.Prelude.{◌≡◌};
-ghost use Rattle.capi_codes.specs.Code.{code_of, codeFinding, checkCode, runCode};
+ghost use Rattle.capi_codes.specs.Code.{code_of, code_finding, check_code, run_code};
 
 use checker_rules::Finding;
 use reader_rules::Reading;
@@ -20,7 +20,7 @@ pub fn code_of(r: Reading) -> u64
 
 // A check's finding as one number.
 pub fn check_code(f: Finding) -> u64
-    ensures { result ≡ checkCode f }
+    ensures { result ≡ check_code f }
 {
     match f {
         Finding::Accepted => 0,
@@ -30,7 +30,7 @@ pub fn check_code(f: Finding) -> u64
 
 // A run's finding as one number: 0 where it holds, 1 * 2^32 + node where it fails, else number * 2^32 + place.
 pub fn run_code(f: evaluator_rules::Finding) -> u64
-    ensures { result ≡ runCode f }
+    ensures { result ≡ run_code f }
 {
     match f {
         evaluator_rules::Finding::Holds => 0,
@@ -42,7 +42,7 @@ pub fn run_code(f: evaluator_rules::Finding) -> u64
 
 // The finding of a check that a number codes.
 pub fn finding_of(code: u64) -> Finding
-    ensures { result ≡ codeFinding code }
+    ensures { result ≡ code_finding code }
 {
     if code == 0 {
         return Finding::Accepted;

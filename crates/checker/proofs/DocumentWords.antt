@@ -6,18 +6,18 @@ use native.Mathlib.Omega.{arith}
 use lib.ListN.{length}
 use Rattle.layout.specs.Layout.{count, part}
 use Rattle.layout.proofs.Laws.{part_length}
-use Rattle.reader_rules.specs.Nodes.{documentWords}
+use Rattle.reader_rules.specs.Nodes.{document_words}
 use Rattle.reader_rules.specs.Reading.{read_of}
 use Rattle.reader_rules.proofs.Accepted.{readable, some_words}
 use Rattle.reader_rules.specs.declared.Reading.TheVariants.{Readable}
 
 -- One word for its kind at least, and no more than the document has.
 module _ (doc : List ℕ) (r : read_of doc ≡ Readable) where
-  pub words-some : 1 ≤ length (part doc (count doc))
-  words-some = let l = (readable doc r).nodes.laid in some_words doc (count doc) l l.some (omega arith)
+  pub words_some : 1 ≤ length (part doc (count doc))
+  words_some = let l = (readable doc r).nodes.laid in some_words doc (count doc) l l.some (omega arith)
 
-  pub words-few : length (part doc (count doc)) ≤ documentWords
-  words-few =
+  pub words_few : length (part doc (count doc)) ≤ document_words
+  words_few =
       let l = (readable doc r).nodes.laid in
       let s = l.some in
       let b = l.short in

@@ -1,11 +1,11 @@
 // The check call: a document's finding, and the dictionary of an accepted one. The definitions are in the crate `checker_rules`, specs/Areas and specs/Check.
 ghost use Rattle.std.specs.Prelude.{◌≡◌, ◌≤◌, ◌<◌, length};
 ghost use Rattle.layout.specs.Layout.{count};
-ghost use Rattle.reader_rules.specs.Decode.{tree_of, paragraphsFrom};
+ghost use Rattle.reader_rules.specs.Decode.{tree_of, paragraphs_from};
 ghost use Rattle.reader_rules.specs.Reading.{read_of};
 ghost use Rattle.reader_rules.specs.declared.Reading.TheVariants.{Readable};
 ghost use Rattle.checker_rules.specs.Areas.{CheckCall};
-ghost use Rattle.checker_rules.specs.Check.{paragraphsOf, checkWorkWords};
+ghost use Rattle.checker_rules.specs.Check.{paragraphs_of, check_work_words};
 ghost use Rattle.checker_rules.specs.Dictionary.{Dictionary, blank};
 ghost use Rattle.checker_lookup.specs.Scoped.{DictionaryHeld};
 ghost use Rattle.checker.specs.Answering.{ParagraphsAsk, Answered, TreeAnswered, Answering};
@@ -31,7 +31,7 @@ fn paragraphs_from(
     m: usize,
 ) -> Finding
     requires { ParagraphsAsk doc.now a.old dict.old work.old i m }
-    ensures { (D : Dictionary) → DictionaryHeld D dict.old work.old → Answered (paragraphsFrom doc.now (count doc.now) i m) D (length dict.old) dict.new result }
+    ensures { (D : Dictionary) → DictionaryHeld D dict.old work.old → Answered (paragraphs_from doc.now (count doc.now) i m) D (length dict.old) dict.new result }
 {
     if m == 0 {
         return Finding::Accepted;
@@ -50,8 +50,8 @@ fn paragraphs_from(
 
 // The paragraphs of a readable document, with areas that have room for a dictionary and for the work.
 fn check_paragraphs(doc: &[u32], dict: &mut [u32], work: &mut [u32]) -> Finding
-    requires { (read_of doc.now ≡ Readable) × (checkWorkWords ≤ length work.old) × (0 < length dict.old) }
-    ensures { Answered (paragraphsOf (tree_of doc.now)) blank (length dict.old) dict.new result }
+    requires { (read_of doc.now ≡ Readable) × (check_work_words ≤ length work.old) × (0 < length dict.old) }
+    ensures { Answered (paragraphs_of (tree_of doc.now)) blank (length dict.old) dict.new result }
 {
     let mut a = [0u32; types_cells::area::AREA];
     begin(dict);

@@ -9,26 +9,26 @@ use Rattle.checker_closing.specs.Declarations.{OwnTold, clash, known, large, non
 use Rattle.checker_closing.specs.declared.results.Lined.{Lined}
 
 module _ {s d w : List ℕ} {base m : ℕ} {is : List ℕ} {at size : ℕ} {global b : Bool} (F : FitsTold s d w base m is at size b) where
-  pub own-clash : b ≡ false → OwnTold s d w base m is at size global 36
-  own-clash nay = clash refl (subst (FitsTold s d w base m is at size) nay F)
+  pub own_clash : b ≡ false → OwnTold s d w base m is at size global 36
+  own_clash nay = clash refl (subst (FitsTold s d w base m is at size) nay F)
 
   module _ (fit : b ≡ true) {o : Bool} (G : NewIfTold global d w is o) where
     F₁ : FitsTold s d w base m is at size true
     F₁ = subst (FitsTold s d w base m is at size) fit F
 
-    pub own-known : o ≡ false → OwnTold s d w base m is at size global 36
-    own-known nay = known refl F₁ (subst (NewIfTold global d w is) nay G)
+    pub own_known : o ≡ false → OwnTold s d w base m is at size global 36
+    own_known nay = known refl F₁ (subst (NewIfTold global d w is) nay G)
 
     module _ (new : o ≡ true) where
-      pub own-large : 32 < size → OwnTold s d w base m is at size global 38
-      own-large l = large refl F₁ (subst (NewIfTold global d w is) new G) l
+      pub own_large : 32 < size → OwnTold s d w base m is at size global 38
+      own_large l = large refl F₁ (subst (NewIfTold global d w is) new G) l
 
-      pub own-none : size ≤ 32 → OwnTold s d w base m is at size global 0
-      own-none l = none refl F₁ (subst (NewIfTold global d w is) new G) l
+      pub own_none : size ≤ 32 → OwnTold s d w base m is at size global 0
+      own_none l = none refl F₁ (subst (NewIfTold global d w is) new G) l
 
 module _ {s d w : List ℕ} {base m : ℕ} {is : List ℕ} {at k : ℕ} {global : Bool} {number size end own : ℕ} (fine : number ≡ 0) (O : OwnTold s d w base m is at size global own) {r : Lined} where
-  pub typed-refused : (own ≡ 0 → ⊥) → LinedAt r own k 0 0 → TypedTold s s d w w base m is at k global number size end r
-  typed-refused n L = refused own fine O n refl refl L
+  pub typed_refused : (own ≡ 0 → ⊥) → LinedAt r own k 0 0 → TypedTold s s d w w base m is at k global number size end r
+  typed_refused n L = refused own fine O n refl refl L
 
-  pub typed-fits : own ≡ 0 → {s' w' : List ℕ} → EnterTold s s' w w' base m is at end k r → TypedTold s s' d w w' base m is at k global number size end r
-  typed-fits e T = fits fine (subst (OwnTold s d w base m is at size global) e O) T
+  pub typed_fits : own ≡ 0 → {s' w' : List ℕ} → EnterTold s s' w w' base m is at end k r → TypedTold s s' d w w' base m is at k global number size end r
+  typed_fits e T = fits fine (subst (OwnTold s d w base m is at size global) e O) T

@@ -9,21 +9,21 @@ use Rattle.checker_includes.specs.Storing.{StoreAsk}
 use Rattle.checker_closing.specs.Elements.{TypeKept, ClosedAsk, ClosedTold, several, one, ElementAsk, ElementTold, no_power, power}
 
 module _ {s s₁ d w : List ℕ} {n c at free : ℕ} {b : Bool} (Z : Closed s s₁ d n b) where
-  pub closed-several : b ≡ false → {number size end : ℕ} → number ≡ 34 → ClosedTold s s₁ d w w n c at free number size end
-  closed-several nay e = several e refl (subst (Closed s s₁ d n) nay Z)
+  pub closed_several : b ≡ false → {number size end : ℕ} → number ≡ 34 → ClosedTold s s₁ d w w n c at free number size end
+  closed_several nay e = several e refl (subst (Closed s s₁ d n) nay Z)
 
-  pub closed-storing : b ≡ true → {end : ℕ} → ClosedAsk s d w n c at end free → StoreAsk s₁ d w n c at end free
-  closed-storing y A = A.storing s₁ (subst (Closed s s₁ d n) y Z)
+  pub closed_storing : b ≡ true → {end : ℕ} → ClosedAsk s d w n c at end free → StoreAsk s₁ d w n c at end free
+  closed_storing y A = A.storing s₁ (subst (Closed s s₁ d n) y Z)
 
-  pub closed-one : b ≡ true → {s₂ w₂ : List ℕ} {number size end : ℕ} → TypeKept s₁ s₂ d w w₂ n c at free number size end → ClosedTold s s₂ d w w₂ n c at free number size end
-  closed-one y K = one s₁ (subst (Closed s s₁ d n) y Z) K
+  pub closed_one : b ≡ true → {s₂ w₂ : List ℕ} {number size end : ℕ} → TypeKept s₁ s₂ d w w₂ n c at free number size end → ClosedTold s s₂ d w w₂ n c at free number size end
+  closed_one y K = one s₁ (subst (Closed s s₁ d n) y Z) K
 
 module _ {s s₁ d w : List ℕ} {n top c at free found : ℕ} (P : Powered s s₁ d n top c found) where
-  pub element-no-power : (found ≡ 0 → ⊥) → {number size end : ℕ} → number ≡ found → ElementTold s s₁ d w w n top c at free number size end
-  element-no-power ne e = no_power (λ z. ne (sym e ∙ z)) refl (subst (Powered s s₁ d n top c) (sym e) P)
+  pub element_no_power : (found ≡ 0 → ⊥) → {number size end : ℕ} → number ≡ found → ElementTold s s₁ d w w n top c at free number size end
+  element_no_power ne e = no_power (λ z. ne (sym e ∙ z)) refl (subst (Powered s s₁ d n top c) (sym e) P)
 
-  pub element-closing : found ≡ 0 → {end : ℕ} → ElementAsk s d w n top c at end free → ClosedAsk s₁ d w (n + 2) n at end free
-  element-closing y A = A.closing s₁ (subst (Powered s s₁ d n top c) y P)
+  pub element_closing : found ≡ 0 → {end : ℕ} → ElementAsk s d w n top c at end free → ClosedAsk s₁ d w (n + 2) n at end free
+  element_closing y A = A.closing s₁ (subst (Powered s s₁ d n top c) y P)
 
-  pub element-power : found ≡ 0 → {s₂ w₂ : List ℕ} {number size end : ℕ} → ClosedTold s₁ s₂ d w w₂ (n + 2) n at free number size end → ElementTold s s₂ d w w₂ n top c at free number size end
-  element-power y T = power s₁ (subst (Powered s s₁ d n top c) y P) T
+  pub element_power : found ≡ 0 → {s₂ w₂ : List ℕ} {number size end : ℕ} → ClosedTold s₁ s₂ d w w₂ (n + 2) n at free number size end → ElementTold s s₂ d w w₂ n top c at free number size end
+  element_power y T = power s₁ (subst (Powered s s₁ d n top c) y P) T

@@ -2,7 +2,7 @@
 -- m rows at base; the type's words go to `at`.
 use Rattle.std.specs.Prelude.{◌≡◌, Bool, true, false, List, ℕ, ◌+◌, ◌*◌, ◌-◌, ◌≤◌, ◌<◌, ◌^◌, length, replicate}
 use Rattle.std.proofs.lemmas.List.Edits.{sets}
-use Rattle.checker_signatures.specs.Rows.{rows, declareRows}
+use Rattle.checker_signatures.specs.Rows.{rows, declare_rows}
 use Rattle.checker_signatures.specs.Tables.{Table}
 use Rattle.checker_merging.specs.Merging.{DeclaredAsk}
 use Rattle.checker_closing.specs.Elements.{ElementAsk, ElementTold}
@@ -25,10 +25,10 @@ pub record EnterAsk (w : List ℕ) (base m : ℕ) (p : List ℕ) (at end k : ℕ
   pub last : end < 2 ^ 32
 
 pub data EnterTold (s s' w w' : List ℕ) (base m : ℕ) (is : List ℕ) (at end k : ℕ) (r : Lined) : Type 0 where
-  many : (count : ℕ) → Table w w' base (declareRows is at (rows w base m)) count → 16 < count → s' ≡ s → LinedAt r 38 k 0 0 → EnterTold s s' w w' base m is at end k r
-  none-new : (count : ℕ) → Table w w' base (declareRows is at (rows w base m)) count → count ≡ m → s' ≡ sets s at (replicate (end - at) 0) → LinedAt r 0 k m at →
+  many : (count : ℕ) → Table w w' base (declare_rows is at (rows w base m)) count → 16 < count → s' ≡ s → LinedAt r 38 k 0 0 → EnterTold s s' w w' base m is at end k r
+  none_new : (count : ℕ) → Table w w' base (declare_rows is at (rows w base m)) count → count ≡ m → s' ≡ sets s at (replicate (end - at) 0) → LinedAt r 0 k m at →
       EnterTold s s' w w' base m is at end k r
-  some-new : (count : ℕ) → Table w w' base (declareRows is at (rows w base m)) count → count ≤ 16 → (count ≡ m → ⊥) → s' ≡ s → LinedAt r 0 k count end →
+  some_new : (count : ℕ) → Table w w' base (declare_rows is at (rows w base m)) count → count ≤ 16 → (count ≡ m → ⊥) → s' ≡ s → LinedAt r 0 k count end →
       EnterTold s s' w w' base m is at end k r
 
 -- The same with the set's finding `number`, 0 for none, and the size and the end of its elements' type.

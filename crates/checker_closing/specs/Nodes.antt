@@ -14,10 +14,10 @@ pub record Node (doc p : List ℕ) (s k : ℕ) : Type 0 where
 pub record VisitAt (r : Visit) (number place cell cells top at : ℕ) : Type 0 where
   pub number_is : r.number ≡ number
   pub place_is : r.place ≡ place
-  pub cell-is : r.cell ≡ cell
+  pub cell_is : r.cell ≡ cell
   pub cells_are : r.cells ≡ cells
-  pub top-is : r.top ≡ top
-  pub at-is : r.at ≡ at
+  pub top_is : r.top ≡ top
+  pub at_is : r.at ≡ at
 
 pub record VerdictAt (r : Verdict) (number place : ℕ) : Type 0 where
   pub number_is : r.number ≡ number
@@ -26,5 +26,5 @@ pub record VerdictAt (r : Verdict) (number place : ℕ) : Type 0 where
 pub record LinedAt (r : Lined) (number place count at : ℕ) : Type 0 where
   pub number_is : r.number ≡ number
   pub place_is : r.place ≡ place
-  pub count-is : r.count ≡ count
-  pub at-is : r.at ≡ at
+  pub count_is : r.count ≡ count
+  pub at_is : r.at ≡ at

@@ -4,7 +4,7 @@ use Rattle.std.proofs.lemmas.List.Edits.{sets}
 use Rattle.checker_pieces.specs.Building.{Working}
 use Rattle.checker_pieces.specs.Closed.{Closing, Closed}
 use Rattle.checker_kinds.specs.Equations.{Related}
-use Rattle.checker_closing.specs.Leaves.{relationItems}
+use Rattle.checker_closing.specs.Leaves.{relation_items}
 use Rattle.checker_closing.specs.Nodes.{VerdictAt}
 use Rattle.checker_closing.specs.declared.results.Verdict.{Verdict}
 
@@ -25,11 +25,11 @@ pub record RuleAsk (s d : List ℕ) (k q x y n top end : ℕ) : Type 0 where
   pub least : 21 ≤ q
   pub most : q ≤ 23
   pub working : Working s d n top 1 (x ∷ y ∷ [])
-  pub closing : (s' : List ℕ) (n' : ℕ) → Related s s' d n top x y 0 n' (relationItems q) → Closing s' d n'
+  pub closing : (s' : List ℕ) (n' : ℕ) → Related s s' d n top x y 0 n' (relation_items q) → Closing s' d n'
 
 pub data RuleTold (s s' d : List ℕ) (at k q x y n top end : ℕ) (r : Verdict) : Type 0 where
-  refused : (number n' : ℕ) → Related s s' d n top x y number n' (relationItems q) → (number ≡ 0 → ⊥) → VerdictAt r number k → RuleTold s s' d at k q x y n top end r
-  fits : (s₁ : List ℕ) (n' : ℕ) → Related s s₁ d n top x y 0 n' (relationItems q) → length s₁ ≡ length s → EndTold s₁ s' d n' at end k r → RuleTold s s' d at k q x y n top end r
+  refused : (number n' : ℕ) → Related s s' d n top x y number n' (relation_items q) → (number ≡ 0 → ⊥) → VerdictAt r number k → RuleTold s s' d at k q x y n top end r
+  fits : (s₁ : List ℕ) (n' : ℕ) → Related s s₁ d n top x y 0 n' (relation_items q) → length s₁ ≡ length s → EndTold s₁ s' d n' at end k r → RuleTold s s' d at k q x y n top end r
 
 -- The same with the finding of the right side's visit, `number` at `place`.
 pub record RelationAsk (s d : List ℕ) (k q x number y n top end : ℕ) : Type 0 where

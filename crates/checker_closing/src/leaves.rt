@@ -1,10 +1,10 @@
 // Steps of the typing rules that visit no node.
 ghost use Rattle.std.specs.Prelude.{[], ◌∷◌, ◌+◌, ◌*◌, ◌≤◌, length, drop};
-ghost use Rattle.checker_signatures.specs.Rows.{rows, identifiersOf};
+ghost use Rattle.checker_signatures.specs.Rows.{rows, identifiers_of};
 ghost use Rattle.checker_merging.specs.Merging.{DeclaredAsk};
 ghost use Rattle.checker_pieces.specs.Building.{Working};
 ghost use Rattle.checker_kinds.specs.Equations.{Related};
-ghost use Rattle.checker_closing.specs.Leaves.{relationItems, FitsTold, NewIfTold};
+ghost use Rattle.checker_closing.specs.Leaves.{relation_items, FitsTold, NewIfTold};
 
 use checker_includes::storing::none_declared;
 use checker_kinds::equations::{comparison, equality, membership};
@@ -23,7 +23,7 @@ pub fn related(
     y: usize,
 ) -> Relation
     requires { (21 ≤ q) × (q ≤ 23) × Working a.old d.now n top 1 (x ∷ y ∷ []) }
-    ensures { Related a.old a.new d.now n top x y result.number result.cells (relationItems q) }
+    ensures { Related a.old a.new d.now n top x y result.number result.cells (relation_items q) }
 {
     if q == kinds::EQUAL {
         return equality(a, d, n, x, y);
@@ -68,7 +68,7 @@ pub fn new_if(global: bool, d: &[u32], w: &[u32], p: &[u32]) -> bool
 // The same of the k rows at `source` that an Include brings.
 pub fn rows_new_if(global: bool, d: &[u32], w: &[u32], source: usize, k: usize) -> bool
     requires { source + 2 * k ≤ length w.now }
-    ensures { NewIfTold global d.now w.now (identifiersOf (rows w.now source k)) result }
+    ensures { NewIfTold global d.now w.now (identifiers_of (rows w.now source k)) result }
 {
     if global {
         return rows_new(d, w, source, k);

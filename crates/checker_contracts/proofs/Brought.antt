@@ -6,48 +6,48 @@ use mathlib.Core.Logic.{inl}
 use Prim.Native.Nat.{ℕ, suc, ◌+◌, ◌*◌, ◌≤◌, ◌<◌}
 use native.Mathlib.Omega.{arith}
 use lib.ListN.{length, get_or, take}
-use Rattle.reader_rules.specs.Tree.{Include, includeNode}
-use Rattle.reader_rules.specs.TreeNumbers.{includeNumbers}
+use Rattle.reader_rules.specs.Tree.{Include, include_node}
+use Rattle.reader_rules.specs.TreeNumbers.{include_numbers}
 use Rattle.checker_rules.specs.Items.{Items, Meets}
 use Rattle.checker_rules.specs.Unknowns.{Valuation, row}
-use Rattle.checker_rules.specs.Scopes.{includeSignature}
+use Rattle.checker_rules.specs.Scopes.{include_signature}
 use Rattle.types_rules.specs.Types.{Ty}
 use Rattle.types_cells.specs.Settled.{heap, Reads}
 use Rattle.types_instances.specs.Clean.{Clean}
 use Rattle.types_instances.specs.Moved.{Below}
-use Rattle.checker_signatures.specs.Tables.{tableWords}
+use Rattle.checker_signatures.specs.Tables.{table_words}
 use Rattle.checker_merging.specs.Merging.{Rows}
 use Rattle.checker_includes.specs.Components.{ActualTypes}
 use Rattle.checker_includes.specs.Filling.{RowsAsk, SmallTold}
 use Rattle.checker_includes.specs.Storing.{Stored, KeepAsk}
-use Rattle.checker_contracts.specs.Includes.{actualCount, Brought, IncludeDone}
+use Rattle.checker_contracts.specs.Includes.{actual_count, Brought, IncludeDone}
 use Rattle.checker_contracts.specs.Predicates.{Walking}
-use Rattle.checker_contracts.proofs.Carrying.{component-rows}
-use Rattle.types_cells.specs.Layout.{areaSize, poolSize}
+use Rattle.checker_contracts.proofs.Carrying.{component_rows_lem}
+use Rattle.types_cells.specs.Layout.{area_size, pool_size}
 
 -- Written twice from the same place on: what was written first is gone.
-pub stored-again : (s s' s'' : List ℕ) (at at' at'' : ℕ) → Stored s s' at at' → Stored s' s'' at at'' → Stored s s'' at at''
-stored-again s s' s'' at at' at'' A B = record { size = B.size ∙ A.size; before = λ i l. B.before i l ∙ A.before i l; after = B.after; more = B.more }
+pub stored_again : (s s' s'' : List ℕ) (at at' at'' : ℕ) → Stored s s' at at' → Stored s' s'' at at'' → Stored s s'' at at''
+stored_again s s' s'' at at' at'' A B = record { size = B.size ∙ A.size; before = λ i l. B.before i l ∙ A.before i l; after = B.after; more = B.more }
 
 -- The word before stays 0.
-pub stored-gap : (s s' : List ℕ) (at at' : ℕ) → at ≤ poolSize → Clean s at → Stored s s' at at' → (i : ℕ) → suc i ≡ at → get_or s' i 0 ≡ 0
-stored-gap s s' at at' r C A i e = A.before i (omega arith) ∙ C i (omega arith) (omega arith)
+pub stored_gap : (s s' : List ℕ) (at at' : ℕ) → at ≤ pool_size → Clean s at → Stored s s' at at' → (i : ℕ) → suc i ≡ at → get_or s' i 0 ≡ 0
+stored_gap s s' at at' r C A i e = A.before i (omega arith) ∙ C i (omega arith) (omega arith)
 
 -- Items that say more.
-pub actuals-more : (s d : List ℕ) (H H' : Items) (U : List ℕ) (k q : ℕ) (places : List ℕ) → ((τ : Valuation) → Meets H' τ → Meets H τ) → ActualTypes s d H U k q places → ActualTypes s d H' U k q places
-actuals-more s d H H' U k q places says A =
+pub actuals_more : (s d : List ℕ) (H H' : Items) (U : List ℕ) (k q : ℕ) (places : List ℕ) → ((τ : Valuation) → Meets H' τ → Meets H τ) → ActualTypes s d H U k q places → ActualTypes s d H' U k q places
+actuals_more s d H H' U k q places says A =
     record { types = A.types; settled = λ τ m. A.settled τ (says τ m); shown = A.shown; stand = A.stand; alike = A.alike; over = A.over }
 
-module _ (s s₁ d w w₁ : List ℕ) (stack at free h : ℕ) (i : Include) (places places₁ : List ℕ) (number place m at₁ : ℕ) (K : Walking s d w stack at free h (includeNumbers i))
+module _ (s s₁ d w w₁ : List ℕ) (stack at free h : ℕ) (i : Include) (places places₁ : List ℕ) (number place m at₁ : ℕ) (K : Walking s d w stack at free h (include_numbers i))
     (I : IncludeDone s s₁ d w w₁ stack at free i places places₁ number place m at₁) (fine : number ≡ 0) where
   brought : Brought s₁ d w₁ m free K.before K.known K.scope i places₁
   brought = I.done.goes fine K.before K.known K.steady K.scope K.dictionary K.scoped tt K.fresh
 
-  pub brought-size : length s₁ ≡ areaSize
-  brought-size = (I.done.areas fine).stored.size ∙ K.size
+  pub brought_size : length s₁ ≡ area_size
+  brought_size = (I.done.areas fine).stored.size ∙ K.size
 
-  pub brought-ask : RowsAsk s₁ d w₁ free m (take (actualCount i) places₁)
-  brought-ask =
+  pub brought_ask : RowsAsk s₁ d w₁ free m (take (actual_count i) places₁)
+  brought_ask =
       let T = brought.actuals in
       let f = K.few in
       let z = I.done.still.spared.size in
@@ -55,15 +55,15 @@ module _ (s s₁ d w w₁ : List ℕ) (stack at free h : ℕ) (i : Include) (pla
       let b = K.room.frames in
       let c = K.room.wide in
       record {
-        actuals = record { areas = record { size = brought-size; few = omega arith }; types = T.shown; stand = T.stand };
-        table = component-rows s₁ d w₁ free m (omega arith) (includeSignature i K.scope) (row (includeNode i) 1 (actualCount i)) brought.components;
+        actuals = record { areas = record { size = brought_size; few = omega arith }; types = T.shown; stand = T.stand };
+        table = component_rows_lem s₁ d w₁ free m (omega arith) (include_signature i K.scope) (row (include_node i) 1 (actual_count i)) brought.components;
       }
 
   -- They can be kept beside the n rows of a table before them, whose types were stored before the actuals.
-  pub brought-keep : SmallTold s₁ d w₁ free m (take (actualCount i) places₁) true → actualCount i ≤ 4 → (base n : ℕ) → Rows s₁ d w₁ base n → base + 2 * n ≤ free →
+  pub brought_keep : SmallTold s₁ d w₁ free m (take (actual_count i) places₁) true → actual_count i ≤ 4 → (base n : ℕ) → Rows s₁ d w₁ base n → base + 2 * n ≤ free →
       ((j : ℕ) → j < n → (g : Ty) → Reads (heap s₁ d) (get_or w₁ (base + 2 * j + 1) 0) g → Below at (get_or w₁ (base + 2 * j + 1) 0) g) →
-      KeepAsk s₁ d w₁ base n free m (take (actualCount i) places₁) at at₁ (free + tableWords)
-  brought-keep T few-actuals base n table low below =
+      KeepAsk s₁ d w₁ base n free m (take (actual_count i) places₁) at at₁ (free + table_words)
+  brought_keep T few_actuals base n table low below =
       let o = K.room.some in
       let p = K.room.pool in
       let f = K.room.frames in
@@ -72,14 +72,14 @@ module _ (s s₁ d w w₁ : List ℕ) (stack at free h : ℕ) (i : Include) (pla
       let y = (I.done.areas fine).few in
       let z = I.done.still.spared.size in
       record {
-        actuals = brought-ask.actuals;
-        rows = brought-ask.table;
+        actuals = brought_ask.actuals;
+        rows = brought_ask.table;
         sizes = T.sizes refl;
         table = table;
         below = below;
         many = y;
         clean = (I.done.areas fine).stored.after;
-        gap = stored-gap s s₁ at at₁ (omega arith) K.clean (I.done.areas fine).stored;
+        gap = stored_gap s s₁ at at₁ (omega arith) K.clean (I.done.areas fine).stored;
         some = o;
         before = (I.done.areas fine).stored.more;
         room = omega arith;

@@ -8,83 +8,83 @@ use native.Mathlib.Omega.{arith}
 use lib.ListN.{length, get_or, replicate, length-append}
 use lib.Seq.{sets, length-sets}
 use Rattle.reader_rules.specs.Limited.{LimitedExpr, LimitedLines}
-use Rattle.reader_rules.specs.Tree.{Expr, exprNode, Lines, end, declaration}
-use Rattle.reader_rules.specs.TreeNumbers.{exprNumbers, linesNumbers}
+use Rattle.reader_rules.specs.Tree.{Expr, expr_node, Lines, end, declaration}
+use Rattle.reader_rules.specs.TreeNumbers.{expr_numbers, lines_numbers}
 use Rattle.types_rules.specs.Equations.{In}
 use Rattle.types_rules.specs.Formed.{WellFormed}
 use Rattle.types_rules.specs.Types.{Ty, Term, Each, size}
-use Rattle.checker_rules.specs.Conditions.{mergeDeclared, newNames, fewNames, isPower}
+use Rattle.checker_rules.specs.Conditions.{merge_declared, new_names, few_names, is_power}
 use Rattle.checker_rules.specs.Dictionary.{Dictionary}
 use Rattle.checker_rules.specs.Items.{Items, skip, ◌⨾◌, small, piece, Refuses, MeetsIn}
-use Rattle.checker_rules.specs.Rules.{exprItems, linesItems}
-use Rattle.checker_rules.specs.Scopes.{Scope, linesSignature}
-use Rattle.checker_rules.specs.Signatures.{Signature, countNames, declare}
-use Rattle.checker_rules.specs.Unknowns.{slot, unknownAt}
+use Rattle.checker_rules.specs.Rules.{expr_items, lines_items}
+use Rattle.checker_rules.specs.Scopes.{Scope, lines_signature}
+use Rattle.checker_rules.specs.Signatures.{Signature, count_names, declare}
+use Rattle.checker_rules.specs.Unknowns.{slot, unknown_at}
 use Rattle.reader_rules.proofs.Sized.{SizedExpr}
-use Rattle.types_cells.specs.Layout.{firstRun, areaSize, poolSize, typeWords}
+use Rattle.types_cells.specs.Layout.{first_run, area_size, pool_size, type_words}
 use Rattle.types_cells.specs.Settled.{lower, heap, Reads}
 use Rattle.types_solver.specs.Sizes.{cap}
-use Rattle.types_solver.proofs.Marking.{cap-cases}
-use Rattle.checker_signatures.specs.Rows.{rows, flat, declareRows}
+use Rattle.types_solver.proofs.Marking.{cap_cases}
+use Rattle.checker_signatures.specs.Rows.{rows, flat, declare_rows}
 use Rattle.checker_signatures.specs.Carried.{Carries}
 use Rattle.checker_signatures.specs.Tables.{Table}
-use Rattle.checker_signatures.proofs.CarryLaws.{carries-declare, carries-count, carries-other}
-use Rattle.checker_signatures.proofs.RowLaws.{rows-length, rows-kept, getD-below}
-use Rattle.checker_signatures.proofs.TableLaws.{table-rows, table-length, declare-count}
+use Rattle.checker_signatures.proofs.CarryLaws.{carries_declare, carries_count, carries_other}
+use Rattle.checker_signatures.proofs.RowLaws.{rows_length_lem, rows_kept, get_d_below}
+use Rattle.checker_signatures.proofs.TableLaws.{table_rows, table_length, declare_count}
 use Rattle.checker_dictionary.specs.Index.{Indexed}
-use Rattle.checker_lookup.proofs.HeldLaws.{indexed-in}
+use Rattle.checker_lookup.proofs.HeldLaws.{indexed_in}
 use Rattle.types_instances.specs.Clean.{Clean}
 use Rattle.types_instances.proofs.FillSizes.{size_few}
-use Rattle.types_instances.proofs.CleanLaws.{wiped-clean}
-use Rattle.types_instances.proofs.Moving.{sets-before}
+use Rattle.types_instances.proofs.CleanLaws.{wiped_clean}
+use Rattle.types_instances.proofs.Moving.{sets_before}
 use Rattle.checker_pieces.specs.Piece.{Steady, Walked, Settled}
-use Rattle.checker_pieces.specs.Stage.{Ghost, Room, Uses, nodeCells}
-use Rattle.checker_pieces.proofs.Stages.{room-less}
+use Rattle.checker_pieces.specs.Stage.{Ghost, Room, Uses, node_cells}
+use Rattle.checker_pieces.proofs.Stages.{room_less}
 use Rattle.checker_pieces.specs.Building.{Powered, Working}
 use Rattle.checker_pieces.specs.Closed.{Closing, Closed, Shut, Sizing, SizeIs}
-use Rattle.checker_pieces.proofs.Between.{walked-mine, settled-later, small-noted, small-refused}
+use Rattle.checker_pieces.proofs.Between.{walked_mine, settled_later, small_noted, small_refused}
 use Rattle.checker_lookup.specs.Scoped.{Scoped}
 use Rattle.checker_includes.specs.Components.{Placed, StandsFor}
 use Rattle.checker_includes.specs.Storing.{Stored, Scratch}
-use Rattle.checker_contracts.specs.Visits.{Owned, Fresh, EachOnce, idle, Spared, globalsIf}
-use Rattle.checker_contracts.specs.Room.{Between, Inside, framesAt, nodeTypeWords}
+use Rattle.checker_contracts.specs.Visits.{Owned, Fresh, EachOnce, idle, Spared, globals_if}
+use Rattle.checker_contracts.specs.Room.{Between, Inside, frames_at, node_type_words}
 use Rattle.checker_contracts.specs.Expressions.{ExprAsk, ExprDone}
 use Rattle.checker_contracts.specs.Predicates.{Walking}
 use Rattle.checker_contracts.specs.Texts.{LinesAsk, LinesWent, LinesDone}
-use Rattle.checker_contracts.proofs.Nodes.{once-left, once-apart, owned-left, owned-right, owned-node, fresh-left, unvisited, last-in}
-use Rattle.checker_contracts.proofs.Rooms.{inside-part, begin-inside, inside-room}
-use Rattle.checker_contracts.proofs.Scopes.{spared-less, carries-stored, carries-spared, carries-walked, carries-later}
+use Rattle.checker_contracts.proofs.Nodes.{once_left, once_apart, owned_left, owned_right, owned_node, fresh_left, unvisited, last_in}
+use Rattle.checker_contracts.proofs.Rooms.{inside_part, begin_inside, inside_room}
+use Rattle.checker_contracts.proofs.Scopes.{spared_less, carries_stored, carries_spared, carries_walked, carries_later}
 use Rattle.checker_contracts.proofs.Opening.{opened}
-use Rattle.checker_contracts.proofs.Elements.{Element, ElementOwned, ElementNew, elementItems, element-stopped, element-working, element-unequal, element-closing, element-several}
-use Rattle.checker_contracts.proofs.Elements.{element-sizing, element-done, element-clean, element-gap, element-stored, element-spared, element-size}
-use Rattle.checker_contracts.proofs.ItemOrder.{Order, nothing, grouped, listed, after, AllPass, AllWalked, refuses-at, all-walked}
-use Rattle.checker_contracts.proofs.LineItems.{lineOrder}
-use Rattle.checker_contracts.proofs.Counting.{declare-grows, declare-same, declare-kept, few-noted, few-refused}
+use Rattle.checker_contracts.proofs.Elements.{Element, ElementOwned, ElementNew, element_items, element_stopped, element_working, element_unequal, element_closing, element_several}
+use Rattle.checker_contracts.proofs.Elements.{element_sizing, element_done, element_clean, element_gap, element_stored, element_spared, element_size}
+use Rattle.checker_contracts.proofs.ItemOrder.{Order, nothing, grouped, listed, after, AllPass, AllWalked, refuses_at, all_walked}
+use Rattle.checker_contracts.proofs.LineItems.{line_order}
+use Rattle.checker_contracts.proofs.Counting.{declare_grows, declare_same, declare_kept, few_noted, few_refused}
 use Rattle.checker_contracts.proofs.Refused.{done_refused}
 
 -- Words stored and wiped.
-pub stored-wiped : (s s' : List ℕ) (at e : ℕ) → length s ≡ areaSize → Clean s at → 1 ≤ at → e < poolSize → Stored s s' at e → Stored s (sets s' at (replicate (e - at) 0)) at at
-stored-wiped s s' at e z C o r T =
+pub stored_wiped : (s s' : List ℕ) (at e : ℕ) → length s ≡ area_size → Clean s at → 1 ≤ at → e < pool_size → Stored s s' at e → Stored s (sets s' at (replicate (e - at) 0)) at at
+stored_wiped s s' at e z C o r T =
     let x = T.size in
     let y = T.more in
     record {
       size = length-sets s' at (replicate (e - at) 0) ∙ T.size;
-      before = λ i l. sets-before s' at (replicate (e - at) 0) i l ∙ T.before i l;
-      after = wiped-clean s' at e o y r (omega arith) (T.before (at - 1) (omega arith) ∙ C (at - 1) (omega arith) (omega arith)) T.after;
+      before = λ i l. sets_before s' at (replicate (e - at) 0) i l ∙ T.before i l;
+      after = wiped_clean s' at e o y r (omega arith) (T.before (at - 1) (omega arith) ∙ C (at - 1) (omega arith) (omega arith)) T.after;
       more = omega arith;
     }
 
 -- Room for a power after the expression.
-pub after-room : (s s' w : List ℕ) (rows n top at free h x : ℕ) → Inside s w rows 0 firstRun at free h x → Uses s s' 0 firstRun n top (nodeCells * x) → Room s' n top 2
-after-room s s' w rows n top at free h x I U =
+pub after_room : (s s' w : List ℕ) (rows n top at free h x : ℕ) → Inside s w rows 0 first_run at free h x → Uses s s' 0 first_run n top (node_cells * x) → Room s' n top 2
+after_room s s' w rows n top at free h x I U =
     let e = I.enough in
     let f = I.few in
-    U 2 (room-less s 0 firstRun (nodeCells * x + 2) (nodeCells * (24 - I.visited) + nodeCells) (omega arith) I.store)
+    U 2 (room_less s 0 first_run (node_cells * x + 2) (node_cells * (24 - I.visited) + node_cells) (omega arith) I.store)
 
 -- A closed piece of one expression begins between pieces, where it has at most 24 nodes.
-pub begin-ask : (s d w : List ℕ) (rows at free h h' t : ℕ) (a : Expr) (l : List ℕ) (K : Walking s d w rows at free h l) → h' ≤ h → LimitedExpr h' t a →
-    length (exprNumbers a) ≤ 24 → length (exprNumbers a) ≤ length l → Fresh (exprNumbers a) K.known → EachOnce (exprNumbers a) → ExprAsk s d w rows 0 firstRun at free a
-begin-ask s d w rows at free h h' t a l K p L few part F o = record {
+pub begin_ask : (s d w : List ℕ) (rows at free h h' t : ℕ) (a : Expr) (l : List ℕ) (K : Walking s d w rows at free h l) → h' ≤ h → LimitedExpr h' t a →
+    length (expr_numbers a) ≤ 24 → length (expr_numbers a) ≤ length l → Fresh (expr_numbers a) K.known → EachOnce (expr_numbers a) → ExprAsk s d w rows 0 first_run at free a
+begin_ask s d w rows at free h h' t a l K p L few part F o = record {
   height = h';
   texts = t;
   limited = L;
@@ -99,8 +99,8 @@ begin-ask s d w rows at free h h' t a l K p L few part F o = record {
     size = K.size;
     clean = K.clean;
     room =
-        let q = ⊎_elim (λ (z : 24 ≤ K.bound). let y : length (exprNumbers a) ≤ K.bound = omega arith in y) (λ (z : length l ≤ K.bound). let y : length (exprNumbers a) ≤ K.bound = omega arith in y) K.crowd in
-        inside-part s w rows 0 firstRun at free h h' (length (exprNumbers a)) (length (exprNumbers a)) (begin-inside s w rows at free h K.bound (length (exprNumbers a)) K.room q) p (omega arith);
+        let q = ⊎_elim (λ (z : 24 ≤ K.bound). let y : length (expr_numbers a) ≤ K.bound = omega arith in y) (λ (z : length l ≤ K.bound). let y : length (expr_numbers a) ≤ K.bound = omega arith in y) K.crowd in
+        inside_part s w rows 0 first_run at free h h' (length (expr_numbers a)) (length (expr_numbers a)) (begin_inside s w rows at free h K.bound (length (expr_numbers a)) K.room q) p (omega arith);
   };
 }
 
@@ -109,127 +109,127 @@ module _ (s d w : List ℕ) (stack base m at free n : ℕ) (a : Expr) (is : List
   line = declaration n a is end
 
   abbrev l : List ℕ
-  l = exprNumbers a
+  l = expr_numbers a
 
-  abbrev K : Walking s d w stack at free Q.height (linesNumbers line)
+  abbrev K : Walking s d w stack at free Q.height (lines_numbers line)
   K = Q.walking
 
   abbrev t : Term
-  t = unknownAt n 0
+  t = unknown_at n 0
 
-  decl-once : EachOnce (l ++ (n ∷ []))
-  unfolding linesNumbers
-  decl-once = once-left (l ++ (n ∷ [])) [] K.once
+  decl_once : EachOnce (l ++ (n ∷ []))
+  unfolding lines_numbers
+  decl_once = once_left (l ++ (n ∷ [])) [] K.once
 
-  decl-apart : In n l → ⊥
-  decl-apart i = once-apart l (n ∷ []) decl-once n i (inl refl)
+  decl_apart : In n l → ⊥
+  decl_apart i = once_apart l (n ∷ []) decl_once n i (inl refl)
 
-  decl-new : (U : List ℕ) → Fresh (linesNumbers line) U → ElementNew a n 0 U
-  unfolding linesNumbers
-  decl-new U F = let G = fresh-left (l ++ (n ∷ [])) [] U F in (fresh-left l (n ∷ []) U G, unvisited (l ++ (n ∷ [])) U G n (last-in l n) 0 (omega arith))
+  decl_new : (U : List ℕ) → Fresh (lines_numbers line) U → ElementNew a n 0 U
+  unfolding lines_numbers
+  decl_new U F = let G = fresh_left (l ++ (n ∷ [])) [] U F in (fresh_left l (n ∷ []) U G, unvisited (l ++ (n ∷ [])) U G n (last_in l n) 0 (omega arith))
 
-  decl-owned : (y : ℕ) → ElementOwned a n 0 y → Owned (linesNumbers line) y
-  unfolding linesNumbers
-  decl-owned y (inl o) = owned-left (l ++ (n ∷ [])) [] y (owned-left l (n ∷ []) y o)
-  decl-owned y (inr e) = owned-left (l ++ (n ∷ [])) [] y (owned-right l (n ∷ []) y (owned-node n y (0, omega arith, e)))
+  decl_owned : (y : ℕ) → ElementOwned a n 0 y → Owned (lines_numbers line) y
+  unfolding lines_numbers
+  decl_owned y (inl o) = owned_left (l ++ (n ∷ [])) [] y (owned_left l (n ∷ []) y o)
+  decl_owned y (inr e) = owned_left (l ++ (n ∷ [])) [] y (owned_right l (n ∷ []) y (owned_node n y (0, omega arith, e)))
 
-  pub decl-ask : ExprAsk s d w stack 0 firstRun at free a
-  unfolding linesNumbers LimitedLines
-  decl-ask =
+  pub decl_ask : ExprAsk s d w stack 0 first_run at free a
+  unfolding lines_numbers LimitedLines
+  decl_ask =
       let x = length-append l (n ∷ []) in
       let y = length-append (l ++ (n ∷ [])) [] in
-      begin-ask s d w stack at free Q.height (Q.height - 1) Q.texts a ((l ++ (n ∷ [])) ++ []) K (omega arith) Q.limited.2 Q.limited.1 (omega arith)
-      (decl-new K.known K.fresh).0 (once-left l (n ∷ []) decl-once)
+      begin_ask s d w stack at free Q.height (Q.height - 1) Q.texts a ((l ++ (n ∷ [])) ++ []) K (omega arith) Q.limited.2 Q.limited.1 (omega arith)
+      (decl_new K.known K.fresh).0 (once_left l (n ∷ []) decl_once)
 
-  decl-low : (at < poolSize) × (2 * stack ≤ framesAt)
-  decl-low = let p = K.room.pool in let q = K.room.stack in (omega arith, omega arith)
+  decl_low : (at < pool_size) × (2 * stack ≤ frames_at)
+  decl_low = let p = K.room.pool in let q = K.room.stack in (omega arith, omega arith)
 
   abbrev order : Scope → Dictionary → Signature → Order
-  order Γ G r = lineOrder (piece n (elementItems a n 0 Γ)) (mergeDeclared n is t r) (newNames n is G) (small n t) (fewNames n (declare is t r)) nothing
+  order Γ G r = line_order (piece n (element_items a n 0 Γ)) (merge_declared n is t r) (new_names n is G) (small n t) (few_names n (declare is t r)) nothing
 
-  abbrev declItems : Scope → Dictionary → Signature → Items
-  declItems Γ G r = grouped (order Γ G r)
+  abbrev decl_items : Scope → Dictionary → Signature → Items
+  decl_items Γ G r = grouped (order Γ G r)
 
   -- A FINDING.
   abbrev Refused : ℕ → ℕ → Type 0
   Refused number place = (Γ : Scope) (D : Dictionary) (H : Items) (U : List ℕ) → Steady H U → Scoped s d w stack (idle H U) Γ D → ElementNew a n 0 U →
-      (r : Signature) → Carries (Placed s d H U) r (rows w base m) → Refuses (declItems Γ (globalsIf global D) r) (MeetsIn H) number place
+      (r : Signature) → Carries (Placed s d H U) r (rows w base m) → Refuses (decl_items Γ (globals_if global D) r) (MeetsIn H) number place
 
   refuses : (s' w' : List ℕ) (number place m' at' : ℕ) → Spared w w' stack base → (number ≡ 0 → ⊥) → Refused number place →
       LinesDone s s' d w w' stack base m at free line global number place m' at'
-  unfolding linesItems grouped
-  refuses s' w' number place m' at' P e R = record { done = done_refused P e (λ H U S Γ D C r I. let F = I.0 in let J = I.1 in R Γ D H U S C (decl-new U F) r J) }
+  unfolding lines_items grouped
+  refuses s' w' number place m' at' P e R = record { done = done_refused P e (λ H U S Γ D C r I. let F = I.0 in let J = I.1 in R Γ D H U S C (decl_new U F) r J) }
 
-  module _ (s₁ w₁ : List ℕ) (number place cell c₁ top₁ at₁ : ℕ) (A : ExprDone s s₁ d w w₁ stack 0 firstRun at free a number place cell c₁ top₁ at₁) where
+  module _ (s₁ w₁ : List ℕ) (number place cell c₁ top₁ at₁ : ℕ) (A : ExprDone s s₁ d w w₁ stack 0 first_run at free a number place cell c₁ top₁ at₁) where
     spared₁ : Spared w w₁ stack base
-    spared₁ = let b = Q.beside in spared-less w w₁ stack stack free base (omega arith) (omega arith) A.spared
+    spared₁ = let b = Q.beside in spared_less w w₁ stack stack free base (omega arith) (omega arith) A.spared
 
-    pub decl-stopped : (number ≡ 0 → ⊥) → (m' at' : ℕ) → LinesDone s s₁ d w w₁ stack base m at free line global number place m' at'
+    pub decl_stopped : (number ≡ 0 → ⊥) → (m' at' : ℕ) → LinesDone s s₁ d w w₁ stack base m at free line global number place m' at'
     unfolding listed after AllPass
-    decl-stopped e m' at' =
+    decl_stopped e m' at' =
         refuses s₁ w₁ number place m' at' spared₁ e
         (λ Γ D H U S C F r J.
-        refuses-at (order Γ (globalsIf global D) r) H 0 number place tt
-        (element-stopped s d w stack at free a n 0 K.size K.few decl-apart (omega arith) s₁ w₁ number place cell c₁ top₁ at₁ A Γ D H U S C F e))
+        refuses_at (order Γ (globals_if global D) r) H 0 number place tt
+        (element_stopped s d w stack at free a n 0 K.size K.few decl_apart (omega arith) s₁ w₁ number place cell c₁ top₁ at₁ A Γ D H U S C F e))
 
     module _ (fine : number ≡ 0) where
       -- Any reading gives what is asked: that of the lines' own.
-      pub decl-working : Working s₁ d c₁ top₁ 2 (cell ∷ [])
-      decl-working =
-          let I = decl-ask.visiting.room in
-          element-working s d w stack at free a n 0 K.size K.few decl-apart (omega arith) s₁ w₁ number place cell c₁ top₁ at₁ A K.scope K.dictionary K.before K.known
-          K.steady K.scoped (decl-new K.known K.fresh) fine
-          (after-room s s₁ w stack c₁ top₁ at free decl-ask.height (length l) I (A.areas fine).uses)
+      pub decl_working : Working s₁ d c₁ top₁ 2 (cell ∷ [])
+      decl_working =
+          let I = decl_ask.visiting.room in
+          element_working s d w stack at free a n 0 K.size K.few decl_apart (omega arith) s₁ w₁ number place cell c₁ top₁ at₁ A K.scope K.dictionary K.before K.known
+          K.steady K.scoped (decl_new K.known K.fresh) fine
+          (after_room s s₁ w stack c₁ top₁ at free decl_ask.height (length l) I (A.areas fine).uses)
 
       module _ (s₂ : List ℕ) (number₂ : ℕ) (P : Powered s₁ s₂ d c₁ top₁ cell number₂) where
-        pub decl-unequal : (number₂ ≡ 0 → ⊥) → (m' at' : ℕ) → LinesDone s s₂ d w w₁ stack base m at free line global number₂ n m' at'
+        pub decl_unequal : (number₂ ≡ 0 → ⊥) → (m' at' : ℕ) → LinesDone s s₂ d w w₁ stack base m at free line global number₂ n m' at'
         unfolding listed after AllPass
-        decl-unequal e m' at' =
+        decl_unequal e m' at' =
             refuses s₂ w₁ number₂ n m' at' spared₁ e
             (λ Γ D H U S C F r J.
-            refuses-at (order Γ (globalsIf global D) r) H 0 number₂ n tt
-            (element-unequal s d w stack at free a n 0 K.size K.few decl-apart (omega arith) s₁ w₁ number place cell c₁ top₁ at₁ A Γ D H U S C F fine s₂ number₂ P e))
+            refuses_at (order Γ (globals_if global D) r) H 0 number₂ n tt
+            (element_unequal s d w stack at free a n 0 K.size K.few decl_apart (omega arith) s₁ w₁ number place cell c₁ top₁ at₁ A Γ D H U S C F fine s₂ number₂ P e))
 
         module _ (yes : number₂ ≡ 0) where
-          pub decl-closing : Closing s₂ d (c₁ + 2)
-          decl-closing =
-              element-closing s d w stack at free a n 0 K.size K.few decl-apart (omega arith) s₁ w₁ number place cell c₁ top₁ at₁ A K.scope K.dictionary K.before K.known
-              K.steady K.scoped (decl-new K.known K.fresh) fine s₂ number₂ P yes
+          pub decl_closing : Closing s₂ d (c₁ + 2)
+          decl_closing =
+              element_closing s d w stack at free a n 0 K.size K.few decl_apart (omega arith) s₁ w₁ number place cell c₁ top₁ at₁ A K.scope K.dictionary K.before K.known
+              K.steady K.scoped (decl_new K.known K.fresh) fine s₂ number₂ P yes
 
           module _ (s₃ : List ℕ) where
-            pub decl-several : Closed s₂ s₃ d (c₁ + 2) false → (m' at' : ℕ) → LinesDone s s₃ d w w₁ stack base m at free line global 34 n m' at'
+            pub decl_several : Closed s₂ s₃ d (c₁ + 2) false → (m' at' : ℕ) → LinesDone s s₃ d w w₁ stack base m at free line global 34 n m' at'
             unfolding listed after AllPass
-            decl-several Z m' at' =
+            decl_several Z m' at' =
                 refuses s₃ w₁ 34 n m' at' spared₁ (λ z. omega arith)
                 (λ Γ D H U S C F r J.
-                refuses-at (order Γ (globalsIf global D) r) H 0 34 n tt
-                (element-several s d w stack at free a n 0 K.size K.few decl-apart (omega arith) s₁ w₁ number place cell c₁ top₁ at₁ A Γ D H U S C F fine s₂ number₂ P yes s₃ Z))
+                refuses_at (order Γ (globals_if global D) r) H 0 34 n tt
+                (element_several s d w stack at free a n 0 K.size K.few decl_apart (omega arith) s₁ w₁ number place cell c₁ top₁ at₁ A Γ D H U S C F fine s₂ number₂ P yes s₃ Z))
 
             module _ (Z : Closed s₂ s₃ d (c₁ + 2) true) where
-              pub decl-sizing : Sizing s₃ d (c₁ + 2) c₁
-              decl-sizing =
-                  element-sizing s d w stack at free a n 0 K.size K.few decl-apart (omega arith) s₁ w₁ number place cell c₁ top₁ at₁ A K.scope K.dictionary K.before K.known
-                  K.steady K.scoped (decl-new K.known K.fresh) fine s₂ number₂ P yes s₃ Z
+              pub decl_sizing : Sizing s₃ d (c₁ + 2) c₁
+              decl_sizing =
+                  element_sizing s d w stack at free a n 0 K.size K.few decl_apart (omega arith) s₁ w₁ number place cell c₁ top₁ at₁ A K.scope K.dictionary K.before K.known
+                  K.steady K.scoped (decl_new K.known K.fresh) fine s₂ number₂ P yes s₃ Z
 
-              pub decl-size : length s₃ ≡ areaSize
-              decl-size =
-                  element-size s d w stack at free a n 0 K.size K.few decl-apart (omega arith) s₁ w₁ number place cell c₁ top₁ at₁ A K.scope K.dictionary K.before K.known
-                  K.steady K.scoped (decl-new K.known K.fresh) fine s₂ number₂ P yes s₃ Z
+              pub decl_size : length s₃ ≡ area_size
+              decl_size =
+                  element_size s d w stack at free a n 0 K.size K.few decl_apart (omega arith) s₁ w₁ number place cell c₁ top₁ at₁ A K.scope K.dictionary K.before K.known
+                  K.steady K.scoped (decl_new K.known K.fresh) fine s₂ number₂ P yes s₃ Z
 
-              pub decl-clean : Clean s₃ at₁
-              decl-clean =
-                  element-clean s d w stack at free a n 0 K.size K.few decl-apart (omega arith) s₁ w₁ number place cell c₁ top₁ at₁ A fine s₂ number₂ P s₃ true Z
-                  (decl-size ∙ sym K.size) decl-low.0
+              pub decl_clean : Clean s₃ at₁
+              decl_clean =
+                  element_clean s d w stack at free a n 0 K.size K.few decl_apart (omega arith) s₁ w₁ number place cell c₁ top₁ at₁ A fine s₂ number₂ P s₃ true Z
+                  (decl_size ∙ sym K.size) decl_low.0
 
-              pub decl-gap : (i : ℕ) → suc i ≡ at → get_or s₃ i 0 ≡ 0
-              decl-gap =
-                  element-gap s d w stack at free a n 0 K.size K.few decl-apart (omega arith) s₁ w₁ number place cell c₁ top₁ at₁ A fine s₂ number₂ P s₃ true Z
-                  (decl-size ∙ sym K.size) decl-low.0 K.clean
+              pub decl_gap : (i : ℕ) → suc i ≡ at → get_or s₃ i 0 ≡ 0
+              decl_gap =
+                  element_gap s d w stack at free a n 0 K.size K.few decl_apart (omega arith) s₁ w₁ number place cell c₁ top₁ at₁ A fine s₂ number₂ P s₃ true Z
+                  (decl_size ∙ sym K.size) decl_low.0 K.clean
 
               -- The pool stays within its part.
-              pub decl-room : (1 ≤ at) × (at ≤ at₁) × (at₁ + nodeTypeWords ≤ 38000) × (free + typeWords ≤ length w₁) × (free < 2 ^ 32)
-              unfolding linesNumbers LimitedLines
-              decl-room =
+              pub decl_room : (1 ≤ at) × (at ≤ at₁) × (at₁ + node_type_words ≤ 38000) × (free + type_words ≤ length w₁) × (free < 2 ^ 32)
+              unfolding lines_numbers LimitedLines
+              decl_room =
                   let o = K.room.some in
                   let x = (A.areas fine).stored.more in
                   let y = (A.areas fine).short in
@@ -248,34 +248,34 @@ module _ (s d w : List ℕ) (stack base m at free n : ℕ) (a : Expr) (is : List
 
               -- THE TYPE IS STORED.
               module _ (sized : SizedExpr a) (s₄ w₂ : List ℕ) (v e : ℕ) (measured : SizeIs s₃ d (c₁ + 2) c₁ v) (stored : Stored s₃ s₄ at e) (scratch : Scratch w₁ w₂ free)
-                  (short : e ≤ at + typeWords)
+                  (short : e ≤ at + type_words)
                   (stands : (G : Ghost) (S : Shut s₃ d (c₁ + 2) G) → WellFormed (S.type c₁) → (h : Ty) × Reads (heap s₄ d) at h × StandsFor h (S.type c₁)) where
                 abbrev HasSize : Ty → Type 0
                 HasSize g = v ≡ cap (size g)
 
                 stored₄ : Stored s s₄ at e
                 stored₄ =
-                    element-stored s d w stack at free a n 0 K.size K.few decl-apart (omega arith) s₁ w₁ number place cell c₁ top₁ at₁ A fine s₂ number₂ P s₃ true Z
-                    (decl-size ∙ sym K.size) decl-low.0 s₄ e stored
+                    element_stored s d w stack at free a n 0 K.size K.few decl_apart (omega arith) s₁ w₁ number place cell c₁ top₁ at₁ A fine s₂ number₂ P s₃ true Z
+                    (decl_size ∙ sym K.size) decl_low.0 s₄ e stored
 
                 spared₂ : Spared w w₂ stack free
                 spared₂ =
                     let q = K.room.low in
-                    let u = decl-low.1 in
-                    element-spared s d w stack at free a n 0 K.size K.few decl-apart (omega arith) s₁ w₁ number place cell c₁ top₁ at₁ A w₂ scratch (omega arith) K.room.low
+                    let u = decl_low.1 in
+                    element_spared s d w stack at free a n 0 K.size K.few decl_apart (omega arith) s₁ w₁ number place cell c₁ top₁ at₁ A w₂ scratch (omega arith) K.room.low
 
-                spared₂-base : Spared w w₂ stack base
-                spared₂-base = let q = Q.beside in spared-less w w₂ stack stack free base (omega arith) (omega arith) spared₂
+                spared₂_base : Spared w w₂ stack base
+                spared₂_base = let q = Q.beside in spared_less w w₂ stack stack free base (omega arith) (omega arith) spared₂
 
                 -- any items before
                 module _ (Γ : Scope) (D : Dictionary) (H : Items) (U : List ℕ) (S : Steady H U) (C : Scoped s d w stack (idle H U) Γ D) (F : ElementNew a n 0 U) (r : Signature)
                     (J : Carries (Placed s d H U) r (rows w base m)) where
                   abbrev c : Items
-                  c = piece n (elementItems a n 0 Γ)
+                  c = piece n (element_items a n 0 Γ)
 
                   abbrev E : Element s₄ d H c U (ElementOwned a n 0) n 0 at HasSize
                   E =
-                      element-done s d w stack at free a n 0 K.size K.few decl-apart (omega arith) s₁ w₁ number place cell c₁ top₁ at₁ A fine s₂ number₂ P yes s₃ Z sized s₄ at HasSize measured
+                      element_done s d w stack at free a n 0 K.size K.few decl_apart (omega arith) s₁ w₁ number place cell c₁ top₁ at₁ A fine s₂ number₂ P yes s₃ Z sized s₄ at HasSize measured
                       stands Γ D H U S C F
 
                   over : Each (λ y. In y E.unknowns) t
@@ -291,25 +291,25 @@ module _ (s d w : List ℕ) (stack base m at free n : ℕ) (a : Expr) (is : List
                   J₁ =
                       let q = Q.beside in
                       let f = Q.few in
-                      carries-spared w w₂ stack free base m (Placed s₄ d (H ⨾ c) E.unknowns) r spared₂ Q.low (omega arith)
-                      (carries-walked s₄ d H c U E.unknowns (ElementOwned a n 0) E.walked r (rows w base m)
-                      (carries-stored s s₄ d at e K.size K.clean K.room.some decl-low.0 stored₄ H U r (rows w base m) J))
+                      carries_spared w w₂ stack free base m (Placed s₄ d (H ⨾ c) E.unknowns) r spared₂ Q.low (omega arith)
+                      (carries_walked s₄ d H c U E.unknowns (ElementOwned a n 0) E.walked r (rows w base m)
+                      (carries_stored s s₄ d at e K.size K.clean K.room.some decl_low.0 stored₄ H U r (rows w base m) J))
 
                 -- 36: beside the lines before.
-                pub decl-clash : ((H : Items) (U : List ℕ) (n : ℕ) (u : Term) (g : Ty) (r : Signature) → Steady H U → Settled H u g → Each (λ x. In x U) u → v ≡ cap (size g) →
-                    (size g ≤ 32 → Reads (heap s₄ d) at g) → Carries (Placed s₄ d H U) r (rows w₂ base m) → Refuses (mergeDeclared n is u r) (MeetsIn H) 36 n) → (m' at' : ℕ) →
+                pub decl_clash : ((H : Items) (U : List ℕ) (n : ℕ) (u : Term) (g : Ty) (r : Signature) → Steady H U → Settled H u g → Each (λ x. In x U) u → v ≡ cap (size g) →
+                    (size g ≤ 32 → Reads (heap s₄ d) at g) → Carries (Placed s₄ d H U) r (rows w₂ base m) → Refuses (merge_declared n is u r) (MeetsIn H) 36 n) → (m' at' : ℕ) →
                     LinesDone s s₄ d w w₂ stack base m at free line global 36 n m' at'
                 unfolding listed after AllPass
-                decl-clash X m' at' =
-                    refuses s₄ w₂ 36 n m' at' spared₂-base (λ z. omega arith)
+                decl_clash X m' at' =
+                    refuses s₄ w₂ 36 n m' at' spared₂_base (λ z. omega arith)
                     (λ Γ D H U S C F r J.
                     let T = E Γ D H U S C F r J in
-                    refuses-at (order Γ (globalsIf global D) r) H 1 36 n (T.walked.goes, tt)
+                    refuses_at (order Γ (globals_if global D) r) H 1 36 n (T.walked.goes, tt)
                     (X (H ⨾ c Γ D H U S C F r J) T.unknowns n t T.type r T.walked.steady T.settled (over Γ D H U S C F r J) T.sized (reads Γ D H U S C F r J)
                     (J₁ Γ D H U S C F r J)))
 
                 module _ (fits : (H : Items) (U : List ℕ) (n : ℕ) (u : Term) (g : Ty) (r : Signature) → Steady H U → Settled H u g → Each (λ x. In x U) u → v ≡ cap (size g) →
-                    (size g ≤ 32 → Reads (heap s₄ d) at g) → Carries (Placed s₄ d H U) r (rows w₂ base m) → Walked H (mergeDeclared n is u r) U U (λ x. ⊥)) where
+                    (size g ≤ 32 → Reads (heap s₄ d) at g) → Carries (Placed s₄ d H U) r (rows w₂ base m) → Walked H (merge_declared n is u r) U U (λ x. ⊥)) where
                   module _ (Γ : Scope) (D : Dictionary) (H : Items) (U : List ℕ) (S : Steady H U) (C : Scoped s d w stack (idle H U) Γ D) (F : ElementNew a n 0 U) (r : Signature)
                       (J : Carries (Placed s d H U) r (rows w base m)) where
                     abbrev H₁ : Items
@@ -318,76 +318,76 @@ module _ (s d w : List ℕ) (stack base m at free n : ℕ) (a : Expr) (is : List
                     abbrev T₁ : Element s₄ d H (c Γ D H U S C F r J) U (ElementOwned a n 0) n 0 at HasSize
                     T₁ = E Γ D H U S C F r J
 
-                    W₂ : Walked H₁ (mergeDeclared n is t r) T₁.unknowns T₁.unknowns (λ x. ⊥)
+                    W₂ : Walked H₁ (merge_declared n is t r) T₁.unknowns T₁.unknowns (λ x. ⊥)
                     W₂ =
                         fits H₁ T₁.unknowns n t T₁.type r T₁.walked.steady T₁.settled (over Γ D H U S C F r J) T₁.sized (reads Γ D H U S C F r J) (J₁ Γ D H U S C F r J)
 
                   -- 36: global already.
-                  pub decl-global : ((D : Dictionary) (H : Items) (U : List ℕ) (n : ℕ) → Indexed D d w₂ → Steady H U → Refuses (newNames n is (globalsIf global D)) (MeetsIn H) 36 n) →
+                  pub decl_global : ((D : Dictionary) (H : Items) (U : List ℕ) (n : ℕ) → Indexed D d w₂ → Steady H U → Refuses (new_names n is (globals_if global D)) (MeetsIn H) 36 n) →
                       (m' at' : ℕ) → LinesDone s s₄ d w w₂ stack base m at free line global 36 n m' at'
                   unfolding listed after AllPass
-                  decl-global X m' at' =
-                      refuses s₄ w₂ 36 n m' at' spared₂-base (λ z. omega arith)
+                  decl_global X m' at' =
+                      refuses s₄ w₂ 36 n m' at' spared₂_base (λ z. omega arith)
                       (λ Γ D H U S C F r J.
                       let T = T₁ Γ D H U S C F r J in
                       let W = W₂ Γ D H U S C F r J in
-                      refuses-at (order Γ (globalsIf global D) r) H 2 36 n (T.walked.goes, (W.goes, tt))
-                      (X D (H₁ Γ D H U S C F r J ⨾ mergeDeclared n is t r) T.unknowns n (indexed-in D d w w₂ spared₂-base.index C.recorded.holds) W.steady))
+                      refuses_at (order Γ (globals_if global D) r) H 2 36 n (T.walked.goes, (W.goes, tt))
+                      (X D (H₁ Γ D H U S C F r J ⨾ merge_declared n is t r) T.unknowns n (indexed_in D d w w₂ spared₂_base.index C.recorded.holds) W.steady))
 
-                  module _ (new : (D : Dictionary) (H : Items) (U : List ℕ) (n : ℕ) → Indexed D d w₂ → Steady H U → Walked H (newNames n is (globalsIf global D)) U U (λ x. ⊥)) where
+                  module _ (new : (D : Dictionary) (H : Items) (U : List ℕ) (n : ℕ) → Indexed D d w₂ → Steady H U → Walked H (new_names n is (globals_if global D)) U U (λ x. ⊥)) where
                     module _ (Γ : Scope) (D : Dictionary) (H : Items) (U : List ℕ) (S : Steady H U) (C : Scoped s d w stack (idle H U) Γ D) (F : ElementNew a n 0 U) (r : Signature)
                         (J : Carries (Placed s d H U) r (rows w base m)) where
-                      W₃ : Walked (H₁ Γ D H U S C F r J ⨾ mergeDeclared n is t r) (newNames n is (globalsIf global D)) (E Γ D H U S C F r J).unknowns (E Γ D H U S C F r J).unknowns (λ x. ⊥)
+                      W₃ : Walked (H₁ Γ D H U S C F r J ⨾ merge_declared n is t r) (new_names n is (globals_if global D)) (E Γ D H U S C F r J).unknowns (E Γ D H U S C F r J).unknowns (λ x. ⊥)
                       W₃ =
-                          new D (H₁ Γ D H U S C F r J ⨾ mergeDeclared n is t r) (E Γ D H U S C F r J).unknowns n (indexed-in D d w w₂ spared₂-base.index C.recorded.holds) (W₂ Γ D H U S C F r J).steady
+                          new D (H₁ Γ D H U S C F r J ⨾ merge_declared n is t r) (E Γ D H U S C F r J).unknowns n (indexed_in D d w w₂ spared₂_base.index C.recorded.holds) (W₂ Γ D H U S C F r J).steady
 
                       abbrev H₃ : Items
-                      H₃ = (H₁ Γ D H U S C F r J ⨾ mergeDeclared n is t r) ⨾ newNames n is (globalsIf global D)
+                      H₃ = (H₁ Γ D H U S C F r J ⨾ merge_declared n is t r) ⨾ new_names n is (globals_if global D)
 
                       settled₃ : Settled H₃ t (E Γ D H U S C F r J).type
                       settled₃ =
-                          settled-later (H₁ Γ D H U S C F r J ⨾ mergeDeclared n is t r) (newNames n is (globalsIf global D)) t (E Γ D H U S C F r J).type
-                          (settled-later (H₁ Γ D H U S C F r J) (mergeDeclared n is t r) t (E Γ D H U S C F r J).type (E Γ D H U S C F r J).settled)
+                          settled_later (H₁ Γ D H U S C F r J ⨾ merge_declared n is t r) (new_names n is (globals_if global D)) t (E Γ D H U S C F r J).type
+                          (settled_later (H₁ Γ D H U S C F r J) (merge_declared n is t r) t (E Γ D H U S C F r J).type (E Γ D H U S C F r J).settled)
 
                     -- 38: the type.
-                    pub decl-large : 32 < v → (m' at' : ℕ) → LinesDone s s₄ d w w₂ stack base m at free line global 38 n m' at'
+                    pub decl_large : 32 < v → (m' at' : ℕ) → LinesDone s s₄ d w w₂ stack base m at free line global 38 n m' at'
                     unfolding listed after AllPass
-                    decl-large q m' at' =
-                        refuses s₄ w₂ 38 n m' at' spared₂-base (λ z. omega arith)
+                    decl_large q m' at' =
+                        refuses s₄ w₂ 38 n m' at' spared₂_base (λ z. omega arith)
                         (λ Γ D H U S C F r J.
                         let T = T₁ Γ D H U S C F r J in
                         let x = T.sized in
-                        let o : 32 < size T.type = cap-cases (size T.type) _ (λ i j. omega arith) (λ i j. omega arith) in
-                        refuses-at (order Γ (globalsIf global D) r) H 3 38 n (T.walked.goes, ((W₂ Γ D H U S C F r J).goes, ((W₃ Γ D H U S C F r J).goes, tt)))
-                        (small-refused (H₃ Γ D H U S C F r J) T.unknowns n t T.type (W₃ Γ D H U S C F r J).steady (settled₃ Γ D H U S C F r J) o))
+                        let o : 32 < size T.type = cap_cases (size T.type) _ (λ i j. omega arith) (λ i j. omega arith) in
+                        refuses_at (order Γ (globals_if global D) r) H 3 38 n (T.walked.goes, ((W₂ Γ D H U S C F r J).goes, ((W₃ Γ D H U S C F r J).goes, tt)))
+                        (small_refused (H₃ Γ D H U S C F r J) T.unknowns n t T.type (W₃ Γ D H U S C F r J).steady (settled₃ Γ D H U S C F r J) o))
 
                     -- THE TABLE with the identifiers.
-                    module _ (light : v ≤ 32) (w₃ : List ℕ) (count : ℕ) (Tb : Table w₂ w₃ base (declareRows is at (rows w₂ base m)) count) (fit : base + 2 * (m + length is) ≤ length w₂) where
+                    module _ (light : v ≤ 32) (w₃ : List ℕ) (count : ℕ) (Tb : Table w₂ w₃ base (declare_rows is at (rows w₂ base m)) count) (fit : base + 2 * (m + length is) ≤ length w₂) where
                       spared₃ : Spared w w₃ stack base
                       spared₃ =
                           let q = Q.low in
-                          let u = decl-low.1 in
+                          let u = decl_low.1 in
                           record {
-                            size = table-length w₂ base w₃ (declareRows is at (rows w₂ base m)) count Tb ∙ spared₂.size;
-                            scope = λ i h. same i (omega arith) ∙ spared₂-base.scope i h;
-                            index = λ i h k. same i (omega arith) ∙ spared₂-base.index i h k;
-                            frames = λ i h k. same i k ∙ spared₂-base.frames i h k;
+                            size = table_length w₂ base w₃ (declare_rows is at (rows w₂ base m)) count Tb ∙ spared₂.size;
+                            scope = λ i h. same i (omega arith) ∙ spared₂_base.scope i h;
+                            index = λ i h k. same i (omega arith) ∙ spared₂_base.index i h k;
+                            frames = λ i h k. same i k ∙ spared₂_base.frames i h k;
                           }
                         where
                           same : (i : ℕ) → i < base → get_or w₃ i 0 ≡ get_or w₂ i 0
-                          same i q = ap (λ z. get_or z i 0) Tb.words ∙ getD-below (flat (declareRows is at (rows w₂ base m))) w₂ base i q
+                          same i q = ap (λ z. get_or z i 0) Tb.words ∙ get_d_below (flat (declare_rows is at (rows w₂ base m))) w₂ base i q
 
-                      count-is : count ≡ length (declareRows is at (rows w₂ base m))
-                      count-is = Tb.count
+                      count_is : count ≡ length (declare_rows is at (rows w₂ base m))
+                      count_is = Tb.count
 
                       grows : m ≤ count
-                      grows = let x = declare-grows is at (rows w₂ base m) in let y = rows-length w₂ base m in let z = count-is in omega arith
+                      grows = let x = declare_grows is at (rows w₂ base m) in let y = rows_length_lem w₂ base m in let z = count_is in omega arith
 
                       inside : base + 2 * count ≤ length w₂
-                      inside = let x = declare-count is at (rows w₂ base m) in let y = rows-length w₂ base m in let z = count-is in omega arith
+                      inside = let x = declare_count is at (rows w₂ base m) in let y = rows_length_lem w₂ base m in let z = count_is in omega arith
 
-                      rows₃ : rows w₃ base count ≡ declareRows is at (rows w₂ base m)
-                      rows₃ = table-rows w₂ base w₃ (declareRows is at (rows w₂ base m)) count Tb inside
+                      rows₃ : rows w₃ base count ≡ declare_rows is at (rows w₂ base m)
+                      rows₃ = table_rows w₂ base w₃ (declare_rows is at (rows w₂ base m)) count Tb inside
 
                       module _ (Γ : Scope) (D : Dictionary) (H : Items) (U : List ℕ) (S : Steady H U) (C : Scoped s d w stack (idle H U) Γ D) (F : ElementNew a n 0 U) (r : Signature)
                           (J : Carries (Placed s d H U) r (rows w base m)) where
@@ -403,41 +403,41 @@ module _ (s d w : List ℕ) (stack base m at free n : ℕ) (a : Expr) (is : List
                           small = small₃;
                         }
 
-                        declared : Carries (Placed s₄ d (H₁ Γ D H U S C F r J) T₃.unknowns) (declare is t r) (declareRows is at (rows w₂ base m))
-                        declared = carries-declare (Placed s₄ d (H₁ Γ D H U S C F r J) T₃.unknowns) is t at r (rows w₂ base m) placed (J₁ Γ D H U S C F r J)
+                        declared : Carries (Placed s₄ d (H₁ Γ D H U S C F r J) T₃.unknowns) (declare is t r) (declare_rows is at (rows w₂ base m))
+                        declared = carries_declare (Placed s₄ d (H₁ Γ D H U S C F r J) T₃.unknowns) is t at r (rows w₂ base m) placed (J₁ Γ D H U S C F r J)
 
-                        names : countNames (declare is t r) ≡ count
-                        names = carries-count (Placed s₄ d (H₁ Γ D H U S C F r J) T₃.unknowns) (declare is t r) (declareRows is at (rows w₂ base m)) declared ∙ sym count-is
+                        names : count_names (declare is t r) ≡ count
+                        names = carries_count (Placed s₄ d (H₁ Γ D H U S C F r J) T₃.unknowns) (declare is t r) (declare_rows is at (rows w₂ base m)) declared ∙ sym count_is
 
                         W₄ : Walked (H₃ Γ D H U S C F r J) (small n t) T₃.unknowns T₃.unknowns (λ x. ⊥)
                         W₄ =
-                            small-noted (H₃ Γ D H U S C F r J) T₃.unknowns (λ x. ⊥) n t T₃.type (W₃ Γ D H U S C F r J).steady (settled₃ Γ D H U S C F r J) small₃
+                            small_noted (H₃ Γ D H U S C F r J) T₃.unknowns (λ x. ⊥) n t T₃.type (W₃ Γ D H U S C F r J).steady (settled₃ Γ D H U S C F r J) small₃
 
                         -- all pass
-                        went : count ≤ 16 → Walked H (declItems Γ (globalsIf global D) r) U T₃.unknowns (Owned (linesNumbers line))
+                        went : count ≤ 16 → Walked H (decl_items Γ (globals_if global D) r) U T₃.unknowns (Owned (lines_numbers line))
                         unfolding listed AllWalked
                         went q =
-                            let M = Owned (linesNumbers line) in
+                            let M = Owned (lines_numbers line) in
                             let X = T₃.unknowns in
                             let x = names in
                             let no : (y : ℕ) → ⊥ → M y = λ y z. absurd z in
-                            let B = mergeDeclared n is t r in
-                            let N = newNames n is (globalsIf global D) in
-                            all-walked (order Γ (globalsIf global D) r) H U X M S (
+                            let B = merge_declared n is t r in
+                            let N = new_names n is (globals_if global D) in
+                            all_walked (order Γ (globals_if global D) r) H U X M S (
                               X,
-                              walked-mine H (c Γ D H U S C F r J) U X (ElementOwned a n 0) M decl-owned T₃.walked,
+                              walked_mine H (c Γ D H U S C F r J) U X (ElementOwned a n 0) M decl_owned T₃.walked,
                               (
                                 X,
-                                walked-mine (H₁ Γ D H U S C F r J) B X X (λ y. ⊥) M no (W₂ Γ D H U S C F r J),
+                                walked_mine (H₁ Γ D H U S C F r J) B X X (λ y. ⊥) M no (W₂ Γ D H U S C F r J),
                                 (
                                   X,
-                                  walked-mine (H₁ Γ D H U S C F r J ⨾ B) N X X (λ y. ⊥) M no (W₃ Γ D H U S C F r J),
+                                  walked_mine (H₁ Γ D H U S C F r J ⨾ B) N X X (λ y. ⊥) M no (W₃ Γ D H U S C F r J),
                                   (
                                     X,
-                                    walked-mine (H₃ Γ D H U S C F r J) (small n t) X X (λ y. ⊥) M no W₄,
+                                    walked_mine (H₃ Γ D H U S C F r J) (small n t) X X (λ y. ⊥) M no W₄,
                                     (
                                       X,
-                                      few-noted (H₃ Γ D H U S C F r J ⨾ small n t) X M n (declare is t r) W₄.steady (omega arith),
+                                      few_noted (H₃ Γ D H U S C F r J ⨾ small n t) X M n (declare is t r) W₄.steady (omega arith),
                                       refl,
                                     ),
                                   ),
@@ -446,20 +446,20 @@ module _ (s d w : List ℕ) (stack base m at free n : ℕ) (a : Expr) (is : List
                             )
 
                       -- 38: the signature.
-                      pub decl-many : 16 < count → (m' at' : ℕ) → LinesDone s s₄ d w w₃ stack base m at free line global 38 n m' at'
+                      pub decl_many : 16 < count → (m' at' : ℕ) → LinesDone s s₄ d w w₃ stack base m at free line global 38 n m' at'
                       unfolding listed after AllPass
-                      decl-many q m' at' =
+                      decl_many q m' at' =
                           refuses s₄ w₃ 38 n m' at' spared₃ (λ z. omega arith)
                           (λ Γ D H U S C F r J.
                           let T = T₁ Γ D H U S C F r J in
                           let x = names Γ D H U S C F r J in
-                          refuses-at (order Γ (globalsIf global D) r) H 4 38 n (T.walked.goes, ((W₂ Γ D H U S C F r J).goes, ((W₃ Γ D H U S C F r J).goes, ((W₄ Γ D H U S C F r J).goes, tt))))
-                          (few-refused (H₃ Γ D H U S C F r J ⨾ small n t) n (declare is t r) (omega arith)))
+                          refuses_at (order Γ (globals_if global D) r) H 4 38 n (T.walked.goes, ((W₂ Γ D H U S C F r J).goes, ((W₃ Γ D H U S C F r J).goes, ((W₄ Γ D H U S C F r J).goes, tt))))
+                          (few_refused (H₃ Γ D H U S C F r J ⨾ small n t) n (declare is t r) (omega arith)))
 
                       -- IDENTIFIERS ARE NEW.
-                      pub decl-done : (place' : ℕ) → count ≤ 16 → (count ≡ m → ⊥) → LinesDone s s₄ d w w₃ stack base m at free line global 0 place' count e
-                      unfolding linesItems linesSignature MeetsIn grouped
-                      decl-done place' q ne = record {
+                      pub decl_done : (place' : ℕ) → count ≤ 16 → (count ≡ m → ⊥) → LinesDone s s₄ d w w₃ stack base m at free line global 0 place' count e
+                      unfolding lines_items lines_signature MeetsIn grouped
+                      decl_done place' q ne = record {
                         done = record {
                           still = spared₃;
                           areas = λ z. record {
@@ -469,23 +469,23 @@ module _ (s d w : List ℕ) (stack base m at free n : ℕ) (a : Expr) (is : List
                             few = q;
                           };
                           goes = λ z H U S Γ D C r I. let G = I.0 in let J = I.1 in
-                              let F = decl-new U G in
+                              let F = decl_new U G in
                               record {
                                 unknowns = (E Γ D H U S C F r J).unknowns;
                                 walked = went Γ D H U S C F r J q;
                                 signature =
-                                    subst (Carries (Placed s₄ d (H ⨾ declItems Γ (globalsIf global D) r) (E Γ D H U S C F r J).unknowns) (declare is t r)) (sym rows₃)
-                                    (carries-later s₄ d (H₁ Γ D H U S C F r J) (H ⨾ declItems Γ (globalsIf global D) r) (E Γ D H U S C F r J).unknowns (E Γ D H U S C F r J).unknowns
-                                    (λ y i. i) (λ τ h. (h.0, h.1.0)) (declare is t r) (declareRows is at (rows w₂ base m)) (declared Γ D H U S C F r J));
+                                    subst (Carries (Placed s₄ d (H ⨾ decl_items Γ (globals_if global D) r) (E Γ D H U S C F r J).unknowns) (declare is t r)) (sym rows₃)
+                                    (carries_later s₄ d (H₁ Γ D H U S C F r J) (H ⨾ decl_items Γ (globals_if global D) r) (E Γ D H U S C F r J).unknowns (E Γ D H U S C F r J).unknowns
+                                    (λ y i. i) (λ τ h. (h.0, h.1.0)) (declare is t r) (declare_rows is at (rows w₂ base m)) (declared Γ D H U S C F r J));
                               };
                           stops = λ z. absurd (z refl);
                         };
                       }
 
                       -- NONE IS NEW: the type is not kept.
-                      pub decl-kept : (place' : ℕ) (s₅ : List ℕ) → m ≤ 16 → count ≡ m → s₅ ≡ sets s₄ at (replicate (e - at) 0) → LinesDone s s₅ d w w₃ stack base m at free line global 0 place' m at
-                      unfolding linesItems linesSignature MeetsIn grouped
-                      decl-kept place' s₅ q same wiped = record {
+                      pub decl_kept : (place' : ℕ) (s₅ : List ℕ) → m ≤ 16 → count ≡ m → s₅ ≡ sets s₄ at (replicate (e - at) 0) → LinesDone s s₅ d w w₃ stack base m at free line global 0 place' m at
+                      unfolding lines_items lines_signature MeetsIn grouped
+                      decl_kept place' s₅ q same wiped = record {
                         done = record {
                           still = spared₃;
                           areas = λ z. record {
@@ -495,19 +495,19 @@ module _ (s d w : List ℕ) (stack base m at free n : ℕ) (a : Expr) (is : List
                             few = q;
                           };
                           goes = λ z H U S Γ D C r I. let G = I.0 in let J = I.1 in
-                              let F = decl-new U G in
+                              let F = decl_new U G in
                               let N = names Γ D H U S C F r J in
-                              let I = carries-count (Placed s₄ d (H₁ Γ D H U S C F r J) (E Γ D H U S C F r J).unknowns) r (rows w₂ base m) (J₁ Γ D H U S C F r J) in
-                              let rl = rows-length w₂ base m in
+                              let I = carries_count (Placed s₄ d (H₁ Γ D H U S C F r J) (E Γ D H U S C F r J).unknowns) r (rows w₂ base m) (J₁ Γ D H U S C F r J) in
+                              let rl = rows_length_lem w₂ base m in
                               record {
                                 unknowns = (E Γ D H U S C F r J).unknowns;
                                 walked = went Γ D H U S C F r J (omega arith);
                                 signature =
-                                    subst (λ z. Carries (Placed s₅ d (H ⨾ declItems Γ (globalsIf global D) r) (E Γ D H U S C F r J).unknowns) z (rows w₃ base m))
-                                    (sym (declare-kept is t r (omega arith)))
-                                    (subst (Carries (Placed s₅ d (H ⨾ declItems Γ (globalsIf global D) r) (E Γ D H U S C F r J).unknowns) r) (sym rows_same)
-                                    (carries-later s₅ d H (H ⨾ declItems Γ (globalsIf global D) r) U (E Γ D H U S C F r J).unknowns (E Γ D H U S C F r J).walked.wider (λ τ h. h.0) r (rows w base m)
-                                    (carries-stored s s₅ d at at K.size K.clean K.room.some decl-low.0 stored₅ H U r (rows w base m) J)));
+                                    subst (λ z. Carries (Placed s₅ d (H ⨾ decl_items Γ (globals_if global D) r) (E Γ D H U S C F r J).unknowns) z (rows w₃ base m))
+                                    (sym (declare_kept is t r (omega arith)))
+                                    (subst (Carries (Placed s₅ d (H ⨾ decl_items Γ (globals_if global D) r) (E Γ D H U S C F r J).unknowns) r) (sym rows_same)
+                                    (carries_later s₅ d H (H ⨾ decl_items Γ (globals_if global D) r) U (E Γ D H U S C F r J).unknowns (E Γ D H U S C F r J).walked.wider (λ τ h. h.0) r (rows w base m)
+                                    (carries_stored s s₅ d at at K.size K.clean K.room.some decl_low.0 stored₅ H U r (rows w base m) J)));
                               };
                           stops = λ z. absurd (z refl);
                         };
@@ -517,13 +517,13 @@ module _ (s d w : List ℕ) (stack base m at free n : ℕ) (a : Expr) (is : List
                           rows_same =
                               let x = Q.beside in
                               let y = Q.few in
-                              let z = rows-length w₂ base m in
-                              let v₀ = count-is in
-                              ap (rows w₃ base) (sym same) ∙ rows₃ ∙ declare-same is at (rows w₂ base m) (omega arith)
-                              ∙ rows-kept w w₂ base m (λ i p k. let u = Q.low in spared₂.frames i (omega arith) (omega arith))
+                              let z = rows_length_lem w₂ base m in
+                              let v₀ = count_is in
+                              ap (rows w₃ base) (sym same) ∙ rows₃ ∙ declare_same is at (rows w₂ base m) (omega arith)
+                              ∙ rows_kept w w₂ base m (λ i p k. let u = Q.low in spared₂.frames i (omega arith) (omega arith))
 
                           stored₅ : Stored s s₅ at at
                           stored₅ =
                               let o = K.room.some in
                               let g = K.room.pool in
-                              subst (λ z. Stored s z at at) (sym wiped) (stored-wiped s s₄ at e K.size K.clean o (omega arith) stored₄)
+                              subst (λ z. Stored s z at at) (sym wiped) (stored_wiped s s₄ at e K.size K.clean o (omega arith) stored₄)

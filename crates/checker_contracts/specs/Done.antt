@@ -9,7 +9,7 @@ use Rattle.checker_pieces.specs.Piece.{Steady}
 use Rattle.checker_lookup.specs.Scoped.{Scoped}
 use Rattle.checker_includes.specs.Storing.{Stored}
 use Rattle.checker_contracts.specs.Visits.{idle}
-use Rattle.types_cells.specs.Layout.{typeWords}
+use Rattle.types_cells.specs.Layout.{type_words}
 
 pub record Done (s d w : List ℕ) (stack : ℕ) (kept left X : Type 0) (given : X → Items → List ℕ → Type 0) (items : X → Scope → Dictionary → Items)
     (went : X → Items → List ℕ → Scope → Dictionary → Type 0) (number place : ℕ) : Type 0 where
@@ -22,5 +22,5 @@ pub record Done (s d w : List ℕ) (stack : ℕ) (kept left X : Type 0) (given :
 -- A signature of m rows, whose types are stored from `at` to at'.
 pub record Signed (s s' : List ℕ) (at at' m : ℕ) : Type 0 where
   pub stored : Stored s s' at at'
-  pub short : at' ≤ at + typeWords * m
+  pub short : at' ≤ at + type_words * m
   pub few : m ≤ 16

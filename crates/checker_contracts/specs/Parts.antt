@@ -10,7 +10,7 @@ use Rattle.checker_pieces.specs.Building.{Introduced}
 use Rattle.checker_lookup.specs.Scoped.{Scoped}
 use Rattle.checker_includes.specs.Storing.{Stored}
 use Rattle.checker_contracts.specs.Visits.{Owned, Fresh, Spared}
-use Rattle.checker_contracts.specs.Expressions.{Visited, ghostAfter}
+use Rattle.checker_contracts.specs.Expressions.{Visited, ghost_after}
 
 -- What may hold of a piece that stands, in a scope over a dictionary.
 abbrev pub Fact : Type 1
@@ -22,7 +22,7 @@ nothing Γ D G = Unit {0}
 -- The items pass, and what held then gives what holds now.
 pub record Passing (s s' d : List ℕ) (n top n' top' : ℕ) (G : Ghost) (own : Items) (l : List ℕ) (after : Ghost → Type 0) : Type 0 where
   pub advanced : Advanced s s' d n top n' top' G own (Owned l)
-  pub holds : after (ghostAfter G own advanced.equations advanced.mentioned advanced.cells)
+  pub holds : after (ghost_after G own advanced.equations advanced.mentioned advanced.cells)
 
 -- A PART THAT PASSES, ..
 pub record Step (s s' d w w' : List ℕ) (rows n top n' top' at at' free : ℕ) (items : Scope → Items) (l : List ℕ) (before after : Fact) : Type 0 where

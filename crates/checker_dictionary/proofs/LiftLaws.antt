@@ -2,13 +2,13 @@
 use Rattle.std.proofs.Common.{◌≡◌, ℕ, zero, suc, ◌+◌, ◌-◌, ◌<◌, ◌≤◌, List, [], ◌∷◌, ◌++◌, length, get_or, take, drop, set, replicate, sym, refl, ap, ◌∙◌, append_assoc, arith, length-append, length-drop, take-append-drop, length-take-le, get_or-drop, get_or-take, take-suc, take_at}
 use lib.ListN.{get_or-append}
 use lib.Seq.{take-append_seam, take-append-add, drop-append_seam, drop-append-add, set_at, sets, sets-eq}
-use Rattle.words.proofs.Lists.{zeros-dropped}
+use Rattle.words.proofs.Lists.{zeros_dropped}
 use Rattle.checker_dictionary.specs.Growth.{lifted}
 
 -- one turn, and none
-pub lifted-go : (from i : ℕ) (d : List ℕ) → from < i → lifted from (i - from) d ≡ lifted from (i - 1 - from) (set d (i + 1) (get_or d (i - 1) 0))
+pub lifted_go : (from i : ℕ) (d : List ℕ) → from < i → lifted from (i - from) d ≡ lifted from (i - 1 - from) (set d (i + 1) (get_or d (i - 1) 0))
 unfolding lifted
-lifted-go from i d h =
+lifted_go from i d h =
     let m = i - 1 - from in
     let e : i - from ≡ suc m = omega arith in
     let to : from + m + 2 ≡ i + 1 = omega arith in
@@ -16,14 +16,14 @@ lifted-go from i d h =
     ap (λ (n : ℕ). lifted from n d) e ∙ ap (λ (j : ℕ). lifted from m (set d j (get_or d (from + m) 0))) to
     ∙ ap (λ (j : ℕ). lifted from m (set d (i + 1) (get_or d j 0))) at
 
-pub lifted-end : (from i : ℕ) (d : List ℕ) → i ≤ from → lifted from (i - from) d ≡ d
+pub lifted_end : (from i : ℕ) (d : List ℕ) → i ≤ from → lifted from (i - from) d ≡ d
 unfolding lifted
-lifted-end from i d h = let e : i - from ≡ 0 = omega arith in ap (λ (n : ℕ). lifted from n d) e
+lifted_end from i d h = let e : i - from ≡ 0 = omega arith in ap (λ (n : ℕ). lifted from n d) e
 
 -- the last of m + 1 words moves over the first of T's neighbours
-lift-one : (d : List ℕ) (from m : ℕ) (T : List ℕ) → from + suc m + 2 ≤ length d
+lift_one : (d : List ℕ) (from m : ℕ) (T : List ℕ) → from + suc m + 2 ≤ length d
     → set (take (from + suc m + 2) d ++ T) (from + m + 2) (get_or (take (from + suc m + 2) d ++ T) (from + m) 0) ≡ take (from + m + 2) d ++ (get_or d (from + m) 0 ∷ T)
-lift-one d from m T h =
+lift_one d from m T h =
     let j = from + m + 2 in
     let front = take (from + suc m + 2) d in
     let n : from + suc m + 2 ≡ suc j = omega arith in
@@ -36,21 +36,21 @@ lift-one d from m T h =
     ∙ ap (λ (w : List ℕ). set w j (get_or d (from + m) 0)) s
     ∙ set_at (take j d) (get_or d j 0) T (get_or d (from + m) 0) j (length-take-le j d (omega arith))
 
-lift-all : (d : List ℕ) (from m : ℕ) (T : List ℕ) → from + m + 2 ≤ length d
+lift_all : (d : List ℕ) (from m : ℕ) (T : List ℕ) → from + m + 2 ≤ length d
     → lifted from m (take (from + m + 2) d ++ T) ≡ take (from + 2) d ++ (take m (drop from d) ++ T)
 unfolding lifted
-lift-all d from zero T h = let e : from + 0 + 2 ≡ from + 2 = omega arith in ap (λ (k : ℕ). take k d ++ T) e
-lift-all d from (suc m) T h =
+lift_all d from zero T h = let e : from + 0 + 2 ≡ from + 2 = omega arith in ap (λ (k : ℕ). take k d ++ T) e
+lift_all d from (suc m) T h =
     let x = get_or d (from + m) 0 in
     let l = length-drop from d in
     let s : take (suc m) (drop from d) ≡ take m (drop from d) ++ (x ∷ []) =
     take-suc (drop from d) m 0 (omega (arith, l)) ∙ ap (λ (y : ℕ). take m (drop from d) ++ (y ∷ [])) (get_or-drop from d m 0) in
-    ap (lifted from m) (lift-one d from m T h)
-    ∙ lift-all d from m (x ∷ T) (omega arith)
+    ap (lifted from m) (lift_one d from m T h)
+    ∙ lift_all d from m (x ∷ T) (omega arith)
     ∙ ap (λ (w : List ℕ). take (from + 2) d ++ w) (sym (ap (λ (w : List ℕ). w ++ T) s ∙ append_assoc (take m (drop from d)) (x ∷ []) T))
 
-lift-whole : (d : List ℕ) (from m : ℕ) → from + m + 2 ≤ length d → lifted from m d ≡ take (from + 2) d ++ (take m (drop from d) ++ drop (from + m + 2) d)
-lift-whole d from m h = ap (lifted from m) (sym (take-append-drop (from + m + 2) d)) ∙ lift-all d from m (drop (from + m + 2) d) h
+lift_whole : (d : List ℕ) (from m : ℕ) → from + m + 2 ≤ length d → lifted from m d ≡ take (from + 2) d ++ (take m (drop from d) ++ drop (from + m + 2) d)
+lift_whole d from m h = ap (lifted from m) (sym (take-append-drop (from + m + 2) d)) ∙ lift_all d from m (drop (from + m + 2) d) h
 
 two : (B Z : List ℕ) (x y : ℕ) → (a : ℕ) × (b : ℕ) × (take 2 (B ++ (x ∷ (y ∷ Z))) ≡ a ∷ (b ∷ []))
 two [] Z x y = (x, y, refl)
@@ -58,9 +58,9 @@ two (a ∷ []) Z x y = (a, x, refl)
 two (a ∷ (b ∷ B)) Z x y = (a, b, refl)
 
 -- B moves over two words, and leaves two words before it
-pub lifted-lists : (A B Z : List ℕ) (x y : ℕ)
+pub lifted_lists : (A B Z : List ℕ) (x y : ℕ)
     → (a : ℕ) × (b : ℕ) × (lifted (length A) (length B) (A ++ (B ++ (x ∷ (y ∷ Z)))) ≡ A ++ (a ∷ (b ∷ (B ++ Z))))
-lifted-lists A B Z x y =
+lifted_lists A B Z x y =
     let T = x ∷ (y ∷ Z) in
     let d = A ++ (B ++ T) in
     let t = two B Z x y in
@@ -73,7 +73,7 @@ lifted-lists A B Z x y =
     ap (λ (j : ℕ). drop j d) n ∙ drop-append-add A (B ++ T) (length B + 2) ∙ drop-append-add B T 2 in (
       t.0,
       t.1,
-      lift-whole d (length A) (length B) (omega (arith, l, k))
+      lift_whole d (length A) (length B) (omega (arith, l, k))
           ∙ ap (λ (w : List ℕ). w ++ (take (length B) (drop (length A) d) ++ drop (length A + length B + 2) d)) front
           ∙ ap (λ (w : List ℕ). (A ++ (t.0 ∷ (t.1 ∷ []))) ++ (w ++ drop (length A + length B + 2) d)) middle
           ∙ ap (λ (w : List ℕ). (A ++ (t.0 ∷ (t.1 ∷ []))) ++ (B ++ w)) back
@@ -81,8 +81,8 @@ lifted-lists A B Z x y =
     )
 
 -- W over the first words of Z
-pub sets-seam : (X Z W : List ℕ) (n : ℕ) → length X ≡ n → length W ≤ length Z → sets (X ++ Z) n W ≡ X ++ (W ++ drop (length W) Z)
-sets-seam X Z W n e h =
+pub sets_seam : (X Z W : List ℕ) (n : ℕ) → length X ≡ n → length W ≤ length Z → sets (X ++ Z) n W ≡ X ++ (W ++ drop (length W) Z)
+sets_seam X Z W n e h =
     let l = length-append X Z in
     let s : n + length W ≡ length X + length W = omega (arith, e) in
     sets-eq W (X ++ Z) n (omega (arith, l, e))
@@ -90,5 +90,5 @@ sets-seam X Z W n e h =
     ∙ ap (λ (w : List ℕ). w ++ (W ++ drop (n + length W) (X ++ Z))) (take_at X Z n e)
     ∙ ap (λ (w : List ℕ). X ++ (W ++ w)) (ap (λ (j : ℕ). drop j (X ++ Z)) s ∙ drop-append-add X Z (length W))
 
-pub drop-zeros : (m k : ℕ) → drop m (replicate (m + k) 0) ≡ replicate {A = ℕ} k 0
-drop-zeros m k = let e : m + k - m ≡ k = omega arith in zeros-dropped m (m + k) ∙ ap (λ (n : ℕ). replicate n 0) e
+pub drop_zeros : (m k : ℕ) → drop m (replicate (m + k) 0) ≡ replicate {A = ℕ} k 0
+drop_zeros m k = let e : m + k - m ≡ k = omega arith in zeros_dropped m (m + k) ∙ ap (λ (n : ℕ). replicate n 0) e

@@ -2,17 +2,17 @@
 use Rattle.std.proofs.Common.{◌≡◌, ℕ, zero, suc, ◌+◌, ◌-◌, ◌<◌, ◌≤◌, List, [], ◌∷◌, ◌++◌, length, get_or, take, drop, set, replicate, sym, refl, ap, ◌∙◌, arith, length-drop, length-take, length-take-le, get_or-drop, get_or-set_other, get_or-take, take-suc}
 use lib.ListN.{length-replicate, replicate-append-replicate}
 use lib.Seq.{sets, take-nil, set_comm}
-use Rattle.words.proofs.Lists.{sets-append, drop-done}
-use Rattle.words.proofs.Copying.{sets-go}
+use Rattle.words.proofs.Lists.{sets_append, drop_done}
+use Rattle.words.proofs.Copying.{sets_go}
 
 -- words outside those that are written
-pub sets-low : (l : List ℕ) (at : ℕ) (ws : List ℕ) (i : ℕ) → i < at → get_or (sets l at ws) i 0 ≡ get_or l i 0
-sets-low l at [] i h = refl
-sets-low l at (x ∷ ws) i h = sets-low (set l at x) (suc at) ws i (omega (arith, h)) ∙ get_or-set_other l at i x 0 (λ e. absurd (omega (arith, e, h)))
+pub sets_low : (l : List ℕ) (at : ℕ) (ws : List ℕ) (i : ℕ) → i < at → get_or (sets l at ws) i 0 ≡ get_or l i 0
+sets_low l at [] i h = refl
+sets_low l at (x ∷ ws) i h = sets_low (set l at x) (suc at) ws i (omega (arith, h)) ∙ get_or-set_other l at i x 0 (λ e. absurd (omega (arith, e, h)))
 
-pub sets-high : (l : List ℕ) (at : ℕ) (ws : List ℕ) (i : ℕ) → at + length ws ≤ i → get_or (sets l at ws) i 0 ≡ get_or l i 0
-sets-high l at [] i h = refl
-sets-high l at (x ∷ ws) i h = sets-high (set l at x) (suc at) ws i (omega (arith, h)) ∙ get_or-set_other l at i x 0 (λ e. absurd (omega (arith, e, h)))
+pub sets_high : (l : List ℕ) (at : ℕ) (ws : List ℕ) (i : ℕ) → at + length ws ≤ i → get_or (sets l at ws) i 0 ≡ get_or l i 0
+sets_high l at [] i h = refl
+sets_high l at (x ∷ ws) i h = sets_high (set l at x) (suc at) ws i (omega (arith, h)) ∙ get_or-set_other l at i x 0 (λ e. absurd (omega (arith, e, h)))
 
 set_below : (l : List ℕ) (at : ℕ) (ws : List ℕ) (i x : ℕ) → i < at → set (sets l at ws) i x ≡ sets (set l i x) at ws
 set_below l at [] i x h = refl
@@ -29,10 +29,10 @@ up_next d from m to i low room less =
     let l = length-drop from d in
     let k = length-take-le m (drop from d) (omega (arith, l, low, room)) in
     let v : get_or (sets d (to + (i + 1)) (drop (i + 1) ws)) (from + i) 0 ≡ get_or ws i 0 =
-    sets-low d (to + (i + 1)) (drop (i + 1) ws) (from + i) (omega (arith, low)) ∙ sym (get_or-take m (drop from d) i 0 less ∙ get_or-drop from d i 0) in
+    sets_low d (to + (i + 1)) (drop (i + 1) ws) (from + i) (omega (arith, low)) ∙ sym (get_or-take m (drop from d) i 0 less ∙ get_or-drop from d i 0) in
     ap (λ (x : ℕ). set (sets d (to + (i + 1)) (drop (i + 1) ws)) (to + i) x) v
     ∙ set_below d (to + (i + 1)) (drop (i + 1) ws) (to + i) (get_or ws i 0) (omega arith)
-    ∙ sym (sets-go ws d to i (omega (arith, k, less)))
+    ∙ sym (sets_go ws d to i (omega (arith, k, less)))
 
 pub up_step : (d : List ℕ) (from m to i : ℕ) → from ≤ to → to + m ≤ length d → i ≤ m → 0 < i →
     set (sets d (to + i) (drop i (take m (drop from d)))) (to + (i - 1)) (get_or (sets d (to + i) (drop i (take m (drop from d)))) (from + (i - 1)) 0)
@@ -44,44 +44,44 @@ up_step d from m to i low room most some =
     ∙ up_next d from m to (i - 1) low room (omega (arith, most, some))
 
 pub up_start : (d : List ℕ) (from m to : ℕ) → d ≡ sets d (to + m) (drop m (take m (drop from d)))
-up_start d from m to = sym (ap (sets d (to + m)) (drop-done (take m (drop from d)) m (length-take-most m (drop from d))))
+up_start d from m to = sym (ap (sets d (to + m)) (drop_done (take m (drop from d)) m (length_take_most m (drop from d))))
   where
-    length-take-most : (n : ℕ) (l : List ℕ) → length (take n l) ≤ n
-    length-take-most n l = let e = length-take n l in omega (arith, e)
+    length_take_most : (n : ℕ) (l : List ℕ) → length (take n l) ≤ n
+    length_take_most n l = let e = length-take n l in omega (arith, e)
 
-pub up-end : (d : List ℕ) (ws : List ℕ) (to i : ℕ) → i ≤ 0 → sets d (to + i) (drop i ws) ≡ sets d to ws
-up-end d ws to i h = let e : i ≡ 0 = omega (arith, h) in let z : to + 0 ≡ to = omega arith in ap (λ (j : ℕ). sets d (to + j) (drop j ws)) e ∙ ap (λ (j : ℕ). sets d j ws) z
+pub up_end : (d : List ℕ) (ws : List ℕ) (to i : ℕ) → i ≤ 0 → sets d (to + i) (drop i ws) ≡ sets d to ws
+up_end d ws to i h = let e : i ≡ 0 = omega (arith, h) in let z : to + 0 ≡ to = omega arith in ap (λ (j : ℕ). sets d (to + j) (drop j ws)) e ∙ ap (λ (j : ℕ). sets d j ws) z
 
 -- DOWN: the first i words are moved, and word i comes next.
-pub down-next : (d : List ℕ) (from m to i : ℕ) → to ≤ from → from + m ≤ length d → i < m →
+pub down_next : (d : List ℕ) (from m to i : ℕ) → to ≤ from → from + m ≤ length d → i < m →
     set (sets d to (take i (drop from d))) (to + i) (get_or (sets d to (take i (drop from d))) (from + i) 0) ≡ sets d to (take (i + 1) (drop from d))
-down-next d from m to i low room less =
+down_next d from m to i low room less =
     let l = length-drop from d in
     let k = length-take-le i (drop from d) (omega (arith, l, room, less)) in
-    let v : get_or (sets d to (take i (drop from d))) (from + i) 0 ≡ get_or (drop from d) i 0 = sets-high d to (take i (drop from d)) (from + i) (omega (arith, k, low)) ∙ sym (get_or-drop from d i 0) in
+    let v : get_or (sets d to (take i (drop from d))) (from + i) 0 ≡ get_or (drop from d) i 0 = sets_high d to (take i (drop from d)) (from + i) (omega (arith, k, low)) ∙ sym (get_or-drop from d i 0) in
     let n : i + 1 ≡ suc i = omega arith in
     let j : to + length (take i (drop from d)) ≡ to + i = omega (arith, k) in
     ap (λ (x : ℕ). set (sets d to (take i (drop from d))) (to + i) x) v
     ∙ sym (ap (λ (z : ℕ). sets d to (take z (drop from d))) n
     ∙ ap (sets d to) (take-suc (drop from d) i 0 (omega (arith, l, room, less)))
-    ∙ sets-append d to (take i (drop from d)) (get_or (drop from d) i 0 ∷ [])
+    ∙ sets_append d to (take i (drop from d)) (get_or (drop from d) i 0 ∷ [])
     ∙ ap (λ (z : ℕ). set (sets d to (take i (drop from d))) z (get_or (drop from d) i 0)) j)
 
 -- ZERO: the first i words.
-zeros-more : (i : ℕ) → replicate {A = ℕ} (i + 1) 0 ≡ replicate {A = ℕ} i 0 ++ (0 ∷ [])
-zeros-more i = sym (replicate-append-replicate i 1 0)
+zeros_more : (i : ℕ) → replicate {A = ℕ} (i + 1) 0 ≡ replicate {A = ℕ} i 0 ++ (0 ∷ [])
+zeros_more i = sym (replicate-append-replicate i 1 0)
 
-erase-next : (d : List ℕ) (at i : ℕ) → set (sets d at (replicate i 0)) (at + i) 0 ≡ sets d at (replicate (i + 1) 0)
-erase-next d at i =
+erase_next : (d : List ℕ) (at i : ℕ) → set (sets d at (replicate i 0)) (at + i) 0 ≡ sets d at (replicate (i + 1) 0)
+erase_next d at i =
     let l = length-replicate {A = ℕ} i 0 in
     let j : at + length (replicate {A = ℕ} i 0) ≡ at + i = omega (arith, l) in
-    sym (ap (sets d at) (zeros-more i) ∙ sets-append d at (replicate i 0) (0 ∷ []) ∙ ap (λ (z : ℕ). set (sets d at (replicate i 0)) z 0) j)
+    sym (ap (sets d at) (zeros_more i) ∙ sets_append d at (replicate i 0) (0 ∷ []) ∙ ap (λ (z : ℕ). set (sets d at (replicate i 0)) z 0) j)
 
-pub erase-step : (d : List ℕ) (at i : ℕ) → at ≤ i → set (sets d at (replicate (i - at) 0)) i 0 ≡ sets d at (replicate (i + 1 - at) 0)
-erase-step d at i low =
+pub erase_step : (d : List ℕ) (at i : ℕ) → at ≤ i → set (sets d at (replicate (i - at) 0)) i 0 ≡ sets d at (replicate (i + 1 - at) 0)
+erase_step d at i low =
     let e : at + (i - at) ≡ i = omega (arith, low) in
     let f : i - at + 1 ≡ i + 1 - at = omega (arith, low) in
-    ap (λ (j : ℕ). set (sets d at (replicate (i - at) 0)) j 0) (sym e) ∙ erase-next d at (i - at) ∙ ap (λ (j : ℕ). sets d at (replicate j 0)) f
+    ap (λ (j : ℕ). set (sets d at (replicate (i - at) 0)) j 0) (sym e) ∙ erase_next d at (i - at) ∙ ap (λ (j : ℕ). sets d at (replicate j 0)) f
 
-pub erase-start : (d : List ℕ) (at : ℕ) → d ≡ sets d at (replicate (at - at) 0)
-erase-start d at = let e : 0 ≡ at - at = omega arith in ap (λ (j : ℕ). sets d at (replicate j 0)) e
+pub erase_start : (d : List ℕ) (at : ℕ) → d ≡ sets d at (replicate (at - at) 0)
+erase_start d at = let e : 0 ≡ at - at = omega arith in ap (λ (j : ℕ). sets d at (replicate j 0)) e

@@ -3,38 +3,38 @@ use Rattle.std.proofs.Common.{◌≡◌, ℕ, zero, suc, ◌+◌, ◌-◌, ◌*�
 use lib.ListN.{length-replicate}
 use lib.Seq.{sets}
 use Rattle.layout.specs.Layout.{count}
-use Rattle.checker_rules.specs.Dictionary.{Dictionary, blank, entries, entryPairs, allWords, laidOutWords, dictionaryWords}
+use Rattle.checker_rules.specs.Dictionary.{Dictionary, blank, entries, entry_pairs, all_words, laid_out_words, dictionary_words}
 use Rattle.checker_dictionary.specs.Holds.{Holds}
 use Rattle.checker_dictionary.specs.Spaced.{Spaced, Spacing, first_at, placed, PlaceAsk, Respaced}
 use Rattle.checker_dictionary.specs.Growth.{size_at}
-use Rattle.checker_dictionary.proofs.GrowthLaws.{blank-held}
-use Rattle.checker_dictionary.proofs.SpacedLaws.{holds-spaced, spaced-holds, count-spaced, area-spaced, size-spaced, first-spaced, respaced}
+use Rattle.checker_dictionary.proofs.GrowthLaws.{blank_held}
+use Rattle.checker_dictionary.proofs.SpacedLaws.{holds_spaced, spaced_holds, count_spaced, area_spaced, size_spaced, first_spaced, respaced}
 
-pub blank-spaced : (n : ℕ) → 0 < n → Spaced blank (replicate n 0)
-blank-spaced n h = holds-spaced blank (replicate n 0) (blank-held n h)
+pub blank_spaced : (n : ℕ) → 0 < n → Spaced blank (replicate n 0)
+blank_spaced n h = holds_spaced blank (replicate n 0) (blank_held n h)
 
 -- THE ENTRIES MOVE: what is asked, and what comes of it.
 module _ (d : List ℕ) (to : ℕ) (A : PlaceAsk d to) where
-  pub place-order : first_at d ≤ size_at d
-  place-order =
+  pub place_order : first_at d ≤ size_at d
+  place_order =
       let S = A.spacing.spaced in
-      let a = first-spaced A.spacing.dictionary d S in
-      let b = size-spaced A.spacing.dictionary d S in
+      let a = first_spaced A.spacing.dictionary d S in
+      let b = size_spaced A.spacing.dictionary d S in
       omega (arith, a, b)
 
   pub place_inside : size_at d ≤ length d
   place_inside =
       let S = A.spacing.spaced in
-      let a = area-spaced A.spacing.dictionary d S in
-      let b = size-spaced A.spacing.dictionary d S in
+      let a = area_spaced A.spacing.dictionary d S in
+      let b = size_spaced A.spacing.dictionary d S in
       omega (arith, a, b)
 
-  pub placed-entries : (D : Dictionary) → Spaced D d →
+  pub placed_entries : (D : Dictionary) → Spaced D d →
       Respaced (entries D) (placed (count d) 1 to (sets (sets d to (take (size_at d - first_at d) (drop (first_at d) d))) (to + (size_at d - first_at d)) (replicate (first_at d + (size_at d - first_at d) - (to + (size_at d - first_at d))) 0))) to
-  placed-entries D S =
-      let c = count-spaced D d S in
-      let a = first-spaced D d S in
-      let b = size-spaced D d S in
+  placed_entries D S =
+      let c = count_spaced D d S in
+      let a = first_spaced D d S in
+      let b = size_spaced D d S in
       let l = A.low in
       let m = size_at d - first_at d in
       let z : first_at d + m - (to + m) ≡ first_at d - to = omega arith in
@@ -43,23 +43,23 @@ module _ (d : List ℕ) (to : ℕ) (A : PlaceAsk d to) where
       (respaced S.gap (entries D) S.after d S.laid (first_at d) to m a (omega (arith, a, b)) (omega (arith, l, c)) A.room A.few))
 
 -- NO SPARE WORDS.
-pub close-ask : (d : List ℕ) → Spacing d → size_at d < 2 ^ 32 → PlaceAsk d (2 * count d + 1)
-close-ask d R near =
+pub close_ask : (d : List ℕ) → Spacing d → size_at d < 2 ^ 32 → PlaceAsk d (2 * count d + 1)
+close_ask d R near =
     let D = R.dictionary in
     let S = R.spaced in
-    let c = count-spaced D d S in
-    let a = first-spaced D d S in
-    let b = size-spaced D d S in
-    let l = area-spaced D d S in
+    let c = count_spaced D d S in
+    let a = first_spaced D d S in
+    let b = size_spaced D d S in
+    let l = area_spaced D d S in
     record { spacing = R; low = omega arith; room = omega (arith, c, a, b, l); few = omega (arith, c, a, b, near); near = near }
 
 pub closed : (D : Dictionary) (d d' : List ℕ) → Spaced D d → Respaced (entries D) d' (2 * count d + 1) → Holds D d'
-closed D d d' S X = let c = count-spaced D d S in let b = X.begins in spaced-holds D d' X.gap X.after (omega (arith, c, b)) X.laid
+closed D d d' S X = let c = count_spaced D d S in let b = X.begins in spaced_holds D d' X.gap X.after (omega (arith, c, b)) X.laid
 
 -- One turn of placing pairs, and none.
-pub placed-go : (n k o : ℕ) (d : List ℕ) → k < n + 1 → placed (n + 1 - k) k o d ≡ placed (n + 1 - (k + 1)) (k + 1) ((o + get_or d (2 * k) 0) % 2 ^ 32) (set d (2 * k - 1) o)
+pub placed_go : (n k o : ℕ) (d : List ℕ) → k < n + 1 → placed (n + 1 - k) k o d ≡ placed (n + 1 - (k + 1)) (k + 1) ((o + get_or d (2 * k) 0) % 2 ^ 32) (set d (2 * k - 1) o)
 unfolding placed
-placed-go n k o d h =
+placed_go n k o d h =
     let m = n + 1 - (k + 1) in
     let e : n + 1 - k ≡ suc m = omega (arith, h) in
     let f : suc k ≡ k + 1 = omega arith in

@@ -1,84 +1,84 @@
 -- Entries that wait, one after another.
 use Rattle.std.proofs.Common.{◌≡◌, ℕ, suc, ◌+◌, ◌-◌, ◌<◌, ◌≤◌, Bool, true, false, List, [], ◌∷◌, ◌++◌, length, get_or, take, drop, sym, refl, ap, ◌∙◌, subst, append_assoc, le_trans, arith, length-append, length-drop, get_or-drop, drop-drop}
 use lib.Seq.{take-append_seam, drop-append_seam}
-use Rattle.types_rules.proofs.Terms.{bool-no}
-use Rattle.checker_rules.proofs.DictionaryLaid.{entry-long}
-use Rattle.checker_rules.specs.Dictionary.{Entry, entryWords, Dictionary, ◌▸◌, dictionaryLength}
+use Rattle.types_rules.proofs.Terms.{bool_no}
+use Rattle.checker_rules.proofs.DictionaryLaid.{entry_long}
+use Rattle.checker_rules.specs.Dictionary.{Entry, entry_words, Dictionary, ◌▸◌, dictionary_length}
 use Rattle.checker_dictionary.specs.Holds.{Holds}
 use Rattle.checker_dictionary.specs.Growth.{Appended}
-use Rattle.checker_dictionary.specs.Waiting.{withEntries, waiting, Waits, Waiting, AppendedAll}
-use Rattle.checker_dictionary.proofs.Monotone.{length-grows}
+use Rattle.checker_dictionary.specs.Waiting.{with_entries, waiting, Waits, Waiting, AppendedAll}
+use Rattle.checker_dictionary.proofs.Monotone.{length_grows}
 
-pub entries-grow : (es : List Entry) (D : Dictionary) → dictionaryLength D ≤ dictionaryLength (withEntries es D)
-unfolding withEntries
-entries-grow [] D = omega arith
-entries-grow (e ∷ es) D = le_trans (length-grows D e) (entries-grow es (D ▸ e))
+pub entries_grow : (es : List Entry) (D : Dictionary) → dictionary_length D ≤ dictionary_length (with_entries es D)
+unfolding with_entries
+entries_grow [] D = omega arith
+entries_grow (e ∷ es) D = le_trans (length_grows D e) (entries_grow es (D ▸ e))
 
 -- The first of the entries.
 module _ (e : Entry) (es : List Entry) (w : List ℕ) (at : ℕ) (W : Waits (e ∷ es) w at) where
-  pub first-length : get_or w (at + 0) 0 ≡ length (entryWords e)
+  pub first_length : get_or w (at + 0) 0 ≡ length (entry_words e)
   unfolding waiting
-  first-length = sym (get_or-drop at w 0 0) ∙ ap (λ z. get_or z 0 0) W.words
+  first_length = sym (get_or-drop at w 0 0) ∙ ap (λ z. get_or z 0 0) W.words
 
-  rest : drop (at + 1) w ≡ entryWords e ++ (waiting es ++ W.after)
+  rest : drop (at + 1) w ≡ entry_words e ++ (waiting es ++ W.after)
   unfolding waiting
-  rest = sym (drop-drop 1 at w) ∙ ap (drop 1) W.words ∙ append_assoc (entryWords e) (waiting es) W.after
+  rest = sym (drop-drop 1 at w) ∙ ap (drop 1) W.words ∙ append_assoc (entry_words e) (waiting es) W.after
 
-  pub first-words : take (length (entryWords e)) (drop (at + 1) w) ≡ entryWords e
-  first-words = ap (take (length (entryWords e))) rest ∙ take-append_seam (entryWords e) (waiting es ++ W.after)
+  pub first_words_lem : take (length (entry_words e)) (drop (at + 1) w) ≡ entry_words e
+  first_words_lem = ap (take (length (entry_words e))) rest ∙ take-append_seam (entry_words e) (waiting es ++ W.after)
 
-  pub others-wait : Waits es w (at + 1 + length (entryWords e))
-  others-wait = record {
+  pub others_wait : Waits es w (at + 1 + length (entry_words e))
+  others_wait = record {
     after = W.after;
-    words = sym (drop-drop (length (entryWords e)) (at + 1) w) ∙ ap (drop (length (entryWords e))) rest ∙ drop-append_seam (entryWords e) (waiting es ++ W.after);
+    words = sym (drop-drop (length (entry_words e)) (at + 1) w) ∙ ap (drop (length (entry_words e))) rest ∙ drop-append_seam (entry_words e) (waiting es ++ W.after);
   }
 
   -- they lie inside the words
-  pub wait-inside : at + 1 + length (entryWords e) ≤ length w
-  wait-inside = let l = sym (length-drop (at + 1) w) ∙ ap length rest ∙ length-append (entryWords e) (waiting es ++ W.after) in let z = entry-long e in omega arith
+  pub wait_inside : at + 1 + length (entry_words e) ≤ length w
+  wait_inside = let l = sym (length-drop (at + 1) w) ∙ ap length rest ∙ length-append (entry_words e) (waiting es ++ W.after) in let z = entry_long e in omega arith
 
-pub wait-none : (m : ℕ) → m ≡ 0 → (d : List ℕ) (D : Dictionary) (es : List Entry) → length es ≡ m → Holds D d → AppendedAll D es d d true
-unfolding withEntries
-wait-none m e d D [] l H = record { fits = λ q. H; full = λ q. absurd (bool-no true refl q) }
-wait-none m e d D (x ∷ es) l H = absurd (omega arith)
+pub wait_none : (m : ℕ) → m ≡ 0 → (d : List ℕ) (D : Dictionary) (es : List Entry) → length es ≡ m → Holds D d → AppendedAll D es d d true
+unfolding with_entries
+wait_none m e d D [] l H = record { fits = λ q. H; full = λ q. absurd (bool_no true refl q) }
+wait_none m e d D (x ∷ es) l H = absurd (omega arith)
 
 -- One entry, then the others.
 module _ (w : List ℕ) (at m : ℕ) (some : m ≡ 0 → ⊥) (d d₁ : List ℕ) (len : ℕ) (is : len ≡ get_or w at 0) (part : List ℕ) (words_of : part ≡ take len (drop (at + 1) w)) (b : Bool)
-    (A : (D : Dictionary) (e : Entry) → Holds D d → part ≡ entryWords e → Appended D e d d₁ b) where
-  entry-is : (e : Entry) (es : List Entry) → Waits (e ∷ es) w at → part ≡ entryWords e
-  entry-is e es W = words_of ∙ ap (λ z. take z (drop (at + 1) w)) (is ∙ ap (λ z. get_or w z 0) (let z : at ≡ at + 0 = omega arith in z) ∙ first-length e es w at W) ∙ first-words e es w at W
+    (A : (D : Dictionary) (e : Entry) → Holds D d → part ≡ entry_words e → Appended D e d d₁ b) where
+  entry_is : (e : Entry) (es : List Entry) → Waits (e ∷ es) w at → part ≡ entry_words e
+  entry_is e es W = words_of ∙ ap (λ z. take z (drop (at + 1) w)) (is ∙ ap (λ z. get_or w z 0) (let z : at ≡ at + 0 = omega arith in z) ∙ first_length e es w at W) ∙ first_words_lem e es w at W
 
-  len_is : (e : Entry) (es : List Entry) → Waits (e ∷ es) w at → len ≡ length (entryWords e)
-  len_is e es W = is ∙ ap (λ z. get_or w z 0) (let z : at ≡ at + 0 = omega arith in z) ∙ first-length e es w at W
+  len_is : (e : Entry) (es : List Entry) → Waits (e ∷ es) w at → len ≡ length (entry_words e)
+  len_is e es W = is ∙ ap (λ z. get_or w z 0) (let z : at ≡ at + 0 = omega arith in z) ∙ first_length e es w at W
 
-  pub wait-full : b ≡ false → (D : Dictionary) (es : List Entry) → length es ≡ m → Holds D d → Waits es w at → AppendedAll D es d d₁ false
-  unfolding withEntries
-  wait-full q D [] l H W = absurd (some (sym l))
-  wait-full q D (e ∷ es) l H W = record {
-    fits = λ z. absurd (bool-no false z refl);
-    full = λ z. let f = ((A D e H (entry-is e es W)).full q).1 in let g = entries-grow es (D ▸ e) in omega arith;
+  pub wait_full : b ≡ false → (D : Dictionary) (es : List Entry) → length es ≡ m → Holds D d → Waits es w at → AppendedAll D es d d₁ false
+  unfolding with_entries
+  wait_full q D [] l H W = absurd (some (sym l))
+  wait_full q D (e ∷ es) l H W = record {
+    fits = λ z. absurd (bool_no false z refl);
+    full = λ z. let f = ((A D e H (entry_is e es W)).full q).1 in let g = entries_grow es (D ▸ e) in omega arith;
   }
 
-  pub wait-next : b ≡ true → length d₁ ≡ length d → (d₂ : List ℕ) (c : Bool) →
+  pub wait_next : b ≡ true → length d₁ ≡ length d → (d₂ : List ℕ) (c : Bool) →
       ((D : Dictionary) (es : List Entry) → length es ≡ m - 1 → Holds D d₁ → Waits es w (at + 1 + len) → AppendedAll D es d₁ d₂ c) →
       (D : Dictionary) (es : List Entry) → length es ≡ m → Holds D d → Waits es w at → AppendedAll D es d d₂ c
-  unfolding withEntries
-  wait-next q k d₂ c N D [] l H W = absurd (some (sym l))
-  wait-next q k d₂ c N D (e ∷ es) l H W =
-      let X = N (D ▸ e) es (omega arith) ((A D e H (entry-is e es W)).fits q) (subst (λ z. Waits es w (at + 1 + z)) (sym (len_is e es W)) (others-wait e es w at W)) in
+  unfolding with_entries
+  wait_next q k d₂ c N D [] l H W = absurd (some (sym l))
+  wait_next q k d₂ c N D (e ∷ es) l H W =
+      let X = N (D ▸ e) es (omega arith) ((A D e H (entry_is e es W)).fits q) (subst (λ z. Waits es w (at + 1 + z)) (sym (len_is e es W)) (others_wait e es w at W)) in
       record { fits = X.fits; full = λ z. let f = X.full z in omega arith }
 
-  pub wait-ready : Waiting w at m → Waiting w (at + 1 + len) (m - 1)
-  wait-ready R = go R.entries R.count R.waits
+  pub wait_ready : Waiting w at m → Waiting w (at + 1 + len) (m - 1)
+  wait_ready R = go R.entries R.count R.waits
     where
       go : (es : List Entry) → length es ≡ m → Waits es w at → Waiting w (at + 1 + len) (m - 1)
       go [] l W = absurd (some (sym l))
-      go (e ∷ es) l W = record { entries = es; count = omega arith; waits = subst (λ z. Waits es w (at + 1 + z)) (sym (len_is e es W)) (others-wait e es w at W) }
+      go (e ∷ es) l W = record { entries = es; count = omega arith; waits = subst (λ z. Waits es w (at + 1 + z)) (sym (len_is e es W)) (others_wait e es w at W) }
 
-pub wait-bound : (w : List ℕ) (at m : ℕ) → (m ≡ 0 → ⊥) → Waiting w at m → at + 1 + get_or w at 0 ≤ length w
-wait-bound w at m some R = go R.entries R.count R.waits
+pub wait_bound : (w : List ℕ) (at m : ℕ) → (m ≡ 0 → ⊥) → Waiting w at m → at + 1 + get_or w at 0 ≤ length w
+wait_bound w at m some R = go R.entries R.count R.waits
   where
     go : (es : List Entry) → length es ≡ m → Waits es w at → at + 1 + get_or w at 0 ≤ length w
     go [] l W = absurd (some (sym l))
     go (e ∷ es) l W =
-        subst (λ z. at + 1 + z ≤ length w) (sym (ap (λ z. get_or w z 0) (let z : at ≡ at + 0 = omega arith in z) ∙ first-length e es w at W)) (wait-inside e es w at W)
+        subst (λ z. at + 1 + z ≤ length w) (sym (ap (λ z. get_or w z 0) (let z : at ≡ at + 0 = omega arith in z) ∙ first_length e es w at W)) (wait_inside e es w at W)

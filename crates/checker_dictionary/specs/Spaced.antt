@@ -1,21 +1,21 @@
 -- A DICTIONARY THAT GROWS. Its area may have spare words between the pairs and the entries, over which further pairs are written, so that entries need not move
 -- for each of them. Words after the entries are zero.
 use Rattle.std.specs.Prelude.{◌≡◌, ℕ, zero, suc, ◌+◌, ◌-◌, ◌*◌, ◌%◌, ◌^◌, ◌<◌, ◌≤◌, Bool, true, false, cond, List, [], ◌∷◌, ◌++◌, length, replicate, ◌==◌, slice_index, slice_set}
-use Rattle.layout.specs.Layout.{count, offsetAt}
-use Rattle.checker_rules.specs.Dictionary.{Entry, Dictionary, entries, entryPairs, allWords, dictionaryLength}
+use Rattle.layout.specs.Layout.{count, offset_at}
+use Rattle.checker_rules.specs.Dictionary.{Entry, Dictionary, entries, entry_pairs, all_words, dictionary_length}
 use Rattle.checker_dictionary.specs.Growth.{size_at}
-use Rattle.checker_dictionary.specs.Waiting.{withEntries, Waits}
+use Rattle.checker_dictionary.specs.Waiting.{with_entries, Waits}
 
 -- count, pairs, the spare words `gap`, entries
-unfoldable pub spacedWords : List ℕ → List Entry → List ℕ
-spacedWords gap es = length es ∷ (entryPairs es (1 + 2 * length es + length gap) ++ (gap ++ allWords es))
+unfoldable pub spaced_words : List ℕ → List Entry → List ℕ
+spaced_words gap es = length es ∷ (entry_pairs es (1 + 2 * length es + length gap) ++ (gap ++ all_words es))
 
 -- The area d has the dictionary D. Where there is no entry, no word is spare.
 pub record Spaced (D : Dictionary) (d : List ℕ) : Type 0 where
   pub gap : List ℕ
   pub after : ℕ
   pub none : length (entries D) ≡ 0 → length gap ≡ 0
-  pub laid : d ≡ spacedWords gap (entries D) ++ replicate after 0
+  pub laid : d ≡ spaced_words gap (entries D) ++ replicate after 0
 
 -- Some dictionary stands in the area.
 pub record Spacing (d : List ℕ) : Type 0 where
@@ -24,7 +24,7 @@ pub record Spacing (d : List ℕ) : Type 0 where
 
 -- where the entries begin
 unfoldable pub first_at : List ℕ → ℕ
-first_at d = cond (count d == 0) 1 (offsetAt d 1)
+first_at d = cond (count d == 0) 1 (offset_at d 1)
 
 -- the offsets of m entries from k on, the first at o, by their lengths
 unfoldable pub placed : ℕ → ℕ → ℕ → List ℕ → List ℕ
@@ -44,7 +44,7 @@ pub record Respaced (es : List Entry) (d : List ℕ) (to : ℕ) : Type 0 where
   pub gap : List ℕ
   pub after : ℕ
   pub begins : to ≡ 1 + 2 * length es + length gap
-  pub laid : d ≡ spacedWords gap es ++ replicate after 0
+  pub laid : d ≡ spaced_words gap es ++ replicate after 0
 
 -- The words that a dictionary may use: all, or as many as 31 bits count.
 pub record Usable (d : List ℕ) (r : ℕ) : Type 0 where
@@ -64,9 +64,9 @@ pub record RoomAsk (d : List ℕ) (m x limit : ℕ) : Type 0 where
 pub record Roomy (es : List Entry) (d : List ℕ) (m x limit end : ℕ) : Type 0 where
   pub gap : List ℕ
   pub after : ℕ
-  pub laid : d ≡ spacedWords gap es ++ replicate after 0
+  pub laid : d ≡ spaced_words gap es ++ replicate after 0
   pub pairs : 2 * m ≤ length gap
-  pub ends : end ≡ 1 + 2 * length es + length gap + length (allWords es)
+  pub ends : end ≡ 1 + 2 * length es + length gap + length (all_words es)
   pub words : end + x ≤ limit
 
 -- ENTRIES ONE AFTER ANOTHER: m that wait, after n that end at `end`.
@@ -75,22 +75,22 @@ pub record PutAsk (d w : List ℕ) (at m n end : ℕ) : Type 0 where
   pub counted : length entries ≡ m
   pub waits : Waits entries w at
   pub few : n + m < 2 ^ 32
-  pub room : end + length (allWords entries) ≤ length d
-  pub near : end + length (allWords entries) < 2 ^ 32
+  pub room : end + length (all_words entries) ≤ length d
+  pub near : end + length (all_words entries) < 2 ^ 32
 
 -- The entries fs stand after es, over 2 m spare words.
 pub record Put (es fs : List Entry) (gap d : List ℕ) : Type 0 where
   pub rest : List ℕ
   pub after : ℕ
   pub shorter : length rest + 2 * length fs ≡ length gap
-  pub laid : d ≡ spacedWords rest (es ++ fs) ++ replicate after 0
+  pub laid : d ≡ spaced_words rest (es ++ fs) ++ replicate after 0
 
 pub record AllPut (d d' w : List ℕ) (at m n end : ℕ) : Type 0 where
-  pub put : (es fs : List Entry) (gap : List ℕ) (after : ℕ) → d ≡ spacedWords gap es ++ replicate after 0 → n ≡ length es → end ≡ 1 + 2 * length es + length gap + length (allWords es) →
-      2 * m ≤ length gap → length fs ≡ m → Waits fs w at → length (allWords fs) ≤ after → Put es fs gap d'
+  pub put : (es fs : List Entry) (gap : List ℕ) (after : ℕ) → d ≡ spaced_words gap es ++ replicate after 0 → n ≡ length es → end ≡ 1 + 2 * length es + length gap + length (all_words es) →
+      2 * m ≤ length gap → length fs ≡ m → Waits fs w at → length (all_words fs) ≤ after → Put es fs gap d'
 
 -- All entries stand after the dictionary D; or they do not fit the area.
 pub record AllAppended (D : Dictionary) (es : List Entry) (d d' : List ℕ) (r : Bool) : Type 0 where
-  pub fits : r ≡ true → Spaced (withEntries es D) d'
+  pub fits : r ≡ true → Spaced (with_entries es D) d'
   pub near : r ≡ true → size_at d' < 2 ^ 31
-  pub full : r ≡ false → dictionaryLength (withEntries es D) < 2 ^ 31 → length d < dictionaryLength (withEntries es D)
+  pub full : r ≡ false → dictionary_length (with_entries es D) < 2 ^ 31 → length d < dictionary_length (with_entries es D)

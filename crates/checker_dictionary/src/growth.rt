@@ -1,9 +1,9 @@
 // A dictionary begun in an area, and entries added to it.
 ghost use Rattle.std.specs.Prelude.{◌≡◌, ◌+◌, ◌-◌, ◌*◌, ◌^◌, ◌<◌, ◌≤◌, length};
 ghost use Rattle.words.specs.Loops.{run};
-ghost use Rattle.checker_rules.specs.Dictionary.{Entry, Dictionary, blank, entryWords};
+ghost use Rattle.checker_rules.specs.Dictionary.{Entry, Dictionary, blank, entry_words};
 ghost use Rattle.checker_dictionary.specs.Holds.{Holds};
-ghost use Rattle.checker_dictionary.specs.Growth.{size_at, lifted, raised, offsetRaised, pairAdded, grown, Appended};
+ghost use Rattle.checker_dictionary.specs.Growth.{size_at, lifted, raised, offset_raised, pair_added, grown, Appended};
 
 use words::{clear, copy, store, word};
 
@@ -49,7 +49,7 @@ fn raise(d: &mut [u32], i: usize, more: u32)
 // Each of n offsets grows by two.
 fn raise_offsets(d: &mut [u32], n: usize)
     requires { n < 2 ^ 32 }
-    ensures { d.new ≡ run offsetRaised 1 n d.old }
+    ensures { d.new ≡ run offset_raised 1 n d.old }
 {
     let mut k = 1;
     while k < n + 1 {
@@ -61,7 +61,7 @@ fn raise_offsets(d: &mut [u32], n: usize)
 // The pair of entry n + 1, and the count of n + 1 entries.
 pub fn add_pair(d: &mut [u32], n: usize, offset: u32, len: u32)
     requires { n < 2 ^ 32 }
-    ensures { d.new ≡ pairAdded n offset len d.old }
+    ensures { d.new ≡ pair_added n offset len d.old }
 {
     raise(d, 0, 1);
     store(d, 2 * n + 1, offset);
@@ -82,7 +82,7 @@ fn grow(d: &mut [u32], n: usize, end: usize, entry: &[u32])
 // The words of one entry more; false, and nothing changed, where they do not fit the area.
 pub fn append(d: &mut [u32], entry: &[u32]) -> bool
     requires { length d.old < 2 ^ 32 }
-    ensures { (D : Dictionary) (e : Entry) → Holds D d.old → entry.now ≡ entryWords e → Appended D e d.old d.new result }
+    ensures { (D : Dictionary) (e : Entry) → Holds D d.old → entry.now ≡ entry_words e → Appended D e d.old d.new result }
 {
     let n = word(d, 0);
     let end = size(d);

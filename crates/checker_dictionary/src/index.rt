@@ -2,8 +2,8 @@
 ghost use Rattle.std.specs.Prelude.{◌≡◌, ℕ, ◌-◌, ◌^◌, ◌<◌, ◌≤◌, List, length};
 ghost use Rattle.layout.specs.Layout.{count};
 ghost use Rattle.checker_rules.specs.Dictionary.{Dictionary};
-ghost use Rattle.checker_dictionary.specs.Lookup.{isEntry, newest, NameFound, SchemaFound};
-ghost use Rattle.checker_dictionary.specs.Index.{indexed, indexEnd, IndexedTo, Indexed};
+ghost use Rattle.checker_dictionary.specs.Lookup.{is_entry, newest, NameFound, SchemaFound};
+ghost use Rattle.checker_dictionary.specs.Index.{indexed, index_end, IndexedTo, Indexed};
 
 use crate::lookup::{is_entry, name_of};
 use codes::classes;
@@ -25,7 +25,7 @@ pub const END: usize = LINKS + ROOM + 1;
 
 // The index of no entry.
 pub fn begin(w: &mut [u32])
-    requires { indexEnd ≤ length w.old }
+    requires { index_end ≤ length w.old }
     ensures { (d : List ℕ) → IndexedTo d w.new 0 }
 {
     clear(&mut w[HEADS..HEADS + BUCKETS]);
@@ -33,7 +33,7 @@ pub fn begin(w: &mut [u32])
 
 // The newest entry of a class with a name, among those in the index. A link goes to an older entry.
 fn linked(d: &[u32], w: &[u32], class: usize, name: usize) -> usize
-    ensures { IndexedTo d.now w.now (count d.now) → result ≡ newest (isEntry d.now class name) (indexed (count d.now)) }
+    ensures { IndexedTo d.now w.now (count d.now) → result ≡ newest (is_entry d.now class name) (indexed (count d.now)) }
 {
     let mut k = word(w, HEADS + name % BUCKETS);
     while 0 < k {
@@ -51,7 +51,7 @@ fn linked(d: &[u32], w: &[u32], class: usize, name: usize) -> usize
 
 // The newest entry of a class with a name. Entries that have no room in the index are looked at one by one.
 fn find(d: &[u32], w: &[u32], class: usize, name: usize) -> usize
-    ensures { IndexedTo d.now w.now (count d.now) → result ≡ newest (isEntry d.now class name) (count d.now) }
+    ensures { IndexedTo d.now w.now (count d.now) → result ≡ newest (is_entry d.now class name) (count d.now) }
 {
     let mut k = word(d, 0);
     while ROOM < k {
@@ -79,7 +79,7 @@ pub fn find_schema(d: &[u32], w: &[u32], name: usize) -> usize
 
 // Entry k, after the entries before it.
 fn add(d: &[u32], w: &mut [u32], k: usize)
-    requires { (1 ≤ k) × (k < 2 ^ 32) × (indexEnd ≤ length w.old) }
+    requires { (1 ≤ k) × (k < 2 ^ 32) × (index_end ≤ length w.old) }
     ensures { IndexedTo d.now w.old (k - 1) → IndexedTo d.now w.new k }
 {
     if ROOM < k {
@@ -93,7 +93,7 @@ fn add(d: &[u32], w: &mut [u32], k: usize)
 
 // The entries after the first n.
 pub fn extend(d: &[u32], w: &mut [u32], n: usize)
-    requires { (n < 2 ^ 32) × (indexEnd ≤ length w.old) }
+    requires { (n < 2 ^ 32) × (index_end ≤ length w.old) }
     ensures { n ≤ count d.now → IndexedTo d.now w.old n → IndexedTo d.now w.new (count d.now) }
 {
     let e = word(d, 0);

@@ -1,9 +1,9 @@
 // Entries of a dictionary by their names, the newest first. An entry is known by its number, from 1; 0 stands for none.
 ghost use Rattle.std.specs.Prelude.{◌≡◌, ◌^◌, ◌<◌};
-ghost use Rattle.layout.specs.Layout.{count, offsetAt};
+ghost use Rattle.layout.specs.Layout.{count, offset_at};
 ghost use Rattle.checker_rules.specs.Dictionary.{Dictionary};
 ghost use Rattle.checker_dictionary.specs.Holds.{Holds};
-ghost use Rattle.checker_dictionary.specs.Lookup.{name_at, parametersAt, type_at, isEntry, newest, NameFound, SchemaFound};
+ghost use Rattle.checker_dictionary.specs.Lookup.{name_at, parameters_at, type_at, is_entry, newest, NameFound, SchemaFound};
 
 use codes::classes;
 use words::word;
@@ -13,7 +13,7 @@ pub const HEAD: usize = 3;
 
 // The offset of entry k.
 fn offset(d: &[u32], k: usize) -> usize
-    ensures { (result ≡ offsetAt d.now k) × (result < 2 ^ 32) }
+    ensures { (result ≡ offset_at d.now k) × (result < 2 ^ 32) }
 {
     if d.len() <= k {
         return 0;
@@ -33,7 +33,7 @@ pub fn name_of(d: &[u32], k: usize) -> usize
 
 // The parameter count of entry k.
 pub fn parameters_of(d: &[u32], k: usize) -> usize
-    ensures { (result ≡ parametersAt d.now k) × (result < 2 ^ 32) }
+    ensures { (result ≡ parameters_at d.now k) × (result < 2 ^ 32) }
 {
     word(d, offset(d, k) + 2)
 }
@@ -47,7 +47,7 @@ pub fn type_place(d: &[u32], k: usize) -> usize
 
 // Whether entry k has this class and name.
 pub fn is_entry(d: &[u32], class: usize, name: usize, k: usize) -> bool
-    ensures { result ≡ isEntry d.now class name k }
+    ensures { result ≡ is_entry d.now class name k }
 {
     let at = offset(d, k);
     if class != word(d, at) {
@@ -58,7 +58,7 @@ pub fn is_entry(d: &[u32], class: usize, name: usize, k: usize) -> bool
 
 // The newest entry of a class with a name.
 fn newest(d: &[u32], class: usize, name: usize) -> usize
-    ensures { result ≡ newest (isEntry d.now class name) (count d.now) }
+    ensures { result ≡ newest (is_entry d.now class name) (count d.now) }
 {
     let mut k = word(d, 0);
     while 0 < k {

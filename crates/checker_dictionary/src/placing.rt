@@ -4,7 +4,7 @@ ghost use Rattle.std.proofs.lemmas.List.Edits.{sets};
 ghost use Rattle.checker_rules.specs.Dictionary.{Dictionary, entries};
 ghost use Rattle.checker_dictionary.specs.Holds.{Holds};
 ghost use Rattle.checker_dictionary.specs.Spaced.{Spaced, Spacing, first_at, placed, PlaceAsk, Respaced};
-ghost use Rattle.checker_dictionary.specs.Growth.{size_at, pairAdded};
+ghost use Rattle.checker_dictionary.specs.Growth.{size_at, pair_added};
 
 use crate::growth::{add_pair, size};
 use crate::moving::{erase, shift};
@@ -23,7 +23,7 @@ pub fn first(d: &[u32]) -> usize
 // An entry after n entries that end at `end`.
 pub fn put(d: &mut [u32], n: usize, end: usize, entry: &[u32])
     requires { (n < 2 ^ 32) × (end + length entry.now ≤ length d.old) × (end + length entry.now < 2 ^ 32) }
-    ensures { d.new ≡ sets (pairAdded n end (length entry.now) d.old) end entry.now }
+    ensures { d.new ≡ sets (pair_added n end (length entry.now) d.old) end entry.now }
 {
     add_pair(d, n, end as u32, entry.len() as u32);
     copy(entry, d, end);

@@ -2,10 +2,10 @@
 use Rattle.std.specs.Prelude.{List, [], ◌∷◌, ℕ, ◌+◌, ◌*◌, ◌≤◌, ◌<◌, ◌^◌, length}
 use Rattle.types_rules.specs.Former.{binding}
 use Rattle.types_rules.specs.Types.{Ty, Tys, node, tnil, tcons, size}
-use Rattle.checker_rules.specs.Dictionary.{Entry, nameEntry, schemaEntry, entryWords}
-use Rattle.checker_rules.specs.Unknowns.{givenSet}
+use Rattle.checker_rules.specs.Dictionary.{Entry, name_entry, schema_entry, entry_words}
+use Rattle.checker_rules.specs.Unknowns.{given_set}
 use Rattle.types_cells.specs.Settled.{heap, Reads, Areas}
-use Rattle.checker_signatures.specs.Rows.{rows, identifiersOf}
+use Rattle.checker_signatures.specs.Rows.{rows, identifiers_of}
 
 -- The types of the rows: their words stand at the places.
 unfoldable pub TypesAt : List ℕ → List (ℕ × ℕ) → Tys → Type 0
@@ -20,22 +20,22 @@ AllSmall tnil = Unit {0}
 AllSmall (tcons g gs) = (size g ≤ 32) × AllSmall gs
 
 -- The entries of a Given, and of an Axiom.
-unfoldable pub givenEntries : List ℕ → List Entry
-givenEntries [] = []
-givenEntries (i ∷ is) = nameEntry i 0 (givenSet i) ∷ givenEntries is
+unfoldable pub given_entries : List ℕ → List Entry
+given_entries [] = []
+given_entries (i ∷ is) = name_entry i 0 (given_set i) ∷ given_entries is
 
-unfoldable pub nameEntries : List (ℕ × ℕ) → Tys → List Entry
-nameEntries [] gs = []
-nameEntries (r ∷ rs) tnil = []
-nameEntries (r ∷ rs) (tcons g gs) = nameEntry r.0 0 g ∷ nameEntries rs gs
+unfoldable pub name_entries : List (ℕ × ℕ) → Tys → List Entry
+name_entries [] gs = []
+name_entries (r ∷ rs) tnil = []
+name_entries (r ∷ rs) (tcons g gs) = name_entry r.0 0 g ∷ name_entries rs gs
 
 -- The entry of a schema.
-abbrev pub schemaOf : ℕ → ℕ → List (ℕ × ℕ) → Tys → Entry
-schemaOf s p rs gs = schemaEntry s p (node (binding (identifiersOf rs)) gs)
+abbrev pub schema_of : ℕ → ℕ → List (ℕ × ℕ) → Tys → Entry
+schema_of s p rs gs = schema_entry s p (node (binding (identifiers_of rs)) gs)
 
 -- One entry that waits, after its length.
-abbrev pub entryWaits : Entry → List ℕ
-entryWaits e = length (entryWords e) ∷ entryWords e
+abbrev pub entry_waits : Entry → List ℕ
+entry_waits e = length (entry_words e) ∷ entry_words e
 
 -- A type at p, of size 32 at most.
 pub record TypeAsk (s d : List ℕ) (p : ℕ) : Type 0 where

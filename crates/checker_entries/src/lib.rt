@@ -4,13 +4,13 @@ pub mod parameters;
 ghost use Rattle.std.specs.Prelude.{◌≡◌, List, [], ◌∷◌, ℕ, ◌+◌, ◌*◌, ◌-◌, ◌≤◌, ◌<◌, ◌^◌, length, drop};
 ghost use Rattle.std.proofs.lemmas.List.Edits.{sets};
 ghost use Rattle.types_rules.specs.Types.{Ty, Tys};
-ghost use Rattle.types_rules.specs.Words.{partWords};
-ghost use Rattle.checker_rules.specs.Dictionary.{nameEntry};
+ghost use Rattle.types_rules.specs.Words.{part_words};
+ghost use Rattle.checker_rules.specs.Dictionary.{name_entry};
 ghost use Rattle.types_cells.specs.Settled.{heap, Reads};
 ghost use Rattle.types_solver.specs.Written.{Wrote};
-ghost use Rattle.checker_signatures.specs.Rows.{rows, identifiersOf};
+ghost use Rattle.checker_signatures.specs.Rows.{rows, identifiers_of};
 ghost use Rattle.checker_dictionary.specs.Waiting.{waiting};
-ghost use Rattle.checker_entries.specs.Entries.{TypesAt, nameEntries, givenEntries, entryWaits, schemaOf, TypeAsk, TableAsk};
+ghost use Rattle.checker_entries.specs.Entries.{TypesAt, name_entries, given_entries, entry_waits, schema_of, TypeAsk, TableAsk};
 
 use checker_dictionary::lookup;
 use codes::{classes, type_tags};
@@ -50,7 +50,7 @@ pub fn put_head(w: &mut [u32], at: usize, len: usize, class: usize, name: usize,
 // The entries of a Given, whose identifiers are the words of its part from j on: where they end.
 pub fn given_entries(w: &mut [u32], p: &[u32], j: usize, at: usize) -> usize
     requires { at + 7 * (length p.now - j) < 2 ^ 40 }
-    ensures { Wrote w.old w.new at result (waiting (givenEntries (drop j p.now))) }
+    ensures { Wrote w.old w.new at result (waiting (given_entries (drop j p.now))) }
 {
     if p.len() <= j {
         return at;
@@ -66,7 +66,7 @@ pub fn given_entries(w: &mut [u32], p: &[u32], j: usize, at: usize) -> usize
 // The entry of the identifier id, which has the type at p: where it ends.
 pub fn name_entry(a: &[u32], d: &[u32], w: &mut [u32], id: usize, p: usize, at: usize) -> usize
     requires { (TypeAsk a.now d.now p) × (id < 2 ^ 32) × (at < 2 ^ 39) }
-    ensures { (g : Ty) → Reads (heap a.now d.now) p g → Wrote w.old w.new at result (entryWaits (nameEntry id 0 g)) }
+    ensures { (g : Ty) → Reads (heap a.now d.now) p g → Wrote w.old w.new at result (entry_waits (name_entry id 0 g)) }
 {
     let e = put_type(a, d, w, at + HEAD, p);
     put_head(w, at, e - at - 1, classes::NAME, id, 0);
@@ -76,7 +76,7 @@ pub fn name_entry(a: &[u32], d: &[u32], w: &mut [u32], id: usize, p: usize, at: 
 // The entries of an Axiom, from the m rows at base: where they end.
 pub fn name_entries(a: &[u32], d: &[u32], w: &mut [u32], base: usize, m: usize, at: usize) -> usize
     requires { TableAsk a.now d.now w.old base m at }
-    ensures { (gs : Tys) → TypesAt (heap a.now d.now) (rows w.old base m) gs → Wrote w.old w.new at result (waiting (nameEntries (rows w.old base m) gs)) }
+    ensures { (gs : Tys) → TypesAt (heap a.now d.now) (rows w.old base m) gs → Wrote w.old w.new at result (waiting (name_entries (rows w.old base m) gs)) }
 {
     if m == 0 {
         return at;
@@ -88,7 +88,7 @@ pub fn name_entries(a: &[u32], d: &[u32], w: &mut [u32], base: usize, m: usize, 
 // The identifiers and types of the m rows at base, the parts of a binding: where they end.
 fn put_parts(a: &[u32], d: &[u32], w: &mut [u32], base: usize, m: usize, at: usize) -> usize
     requires { TableAsk a.now d.now w.old base m at }
-    ensures { (gs : Tys) → TypesAt (heap a.now d.now) (rows w.old base m) gs → Wrote w.old w.new at result (partWords (identifiersOf (rows w.old base m)) gs) }
+    ensures { (gs : Tys) → TypesAt (heap a.now d.now) (rows w.old base m) gs → Wrote w.old w.new at result (part_words (identifiers_of (rows w.old base m)) gs) }
 {
     if m == 0 {
         return at;
@@ -112,7 +112,7 @@ pub fn schema_entry(
     at: usize,
 ) -> usize
     requires { (TableAsk a.now d.now w.old base m (at + 6)) × (base + 2 * m ≤ at) × (name < 2 ^ 32) × (count < 2 ^ 32) }
-    ensures { (gs : Tys) → TypesAt (heap a.now d.now) (rows w.old base m) gs → Wrote w.old w.new at result (entryWaits (schemaOf name count (rows w.old base m) gs)) }
+    ensures { (gs : Tys) → TypesAt (heap a.now d.now) (rows w.old base m) gs → Wrote w.old w.new at result (entry_waits (schema_of name count (rows w.old base m) gs)) }
 {
     let first = at + HEAD;
     store(w, first, BINDING);

@@ -10,38 +10,38 @@ use lib.ListN.{length, take, drop}
 use lib.Seq.{length-take-le}
 use Rattle.reader_rules.specs.Kinds.{paragraphs}
 use Rattle.reader_rules.specs.Promise.{At}
-use Rattle.reader_rules.specs.Decode.{paragraphAt}
+use Rattle.reader_rules.specs.Decode.{paragraph_at}
 use Rattle.reader_rules.specs.Tree.{Paragraph}
-use Rattle.reader_rules.proofs.OnceBelow.{once-at}
-use Rattle.checker_rules.specs.Dictionary.{Entry, Dictionary, dictionaryLength}
+use Rattle.reader_rules.proofs.OnceBelow.{once_at}
+use Rattle.checker_rules.specs.Dictionary.{Entry, Dictionary, dictionary_length}
 use Rattle.checker_rules.specs.Verdicts.{RefusesAt}
 use Rattle.checker_rules.specs.declared.Finding.TheVariants.{Accepted, Refused}
 use Rattle.checker_dictionary.specs.Growth.{size_at}
 use Rattle.checker_dictionary.specs.Holds.{Holds}
 use Rattle.layout.specs.Layout.{count}
 use Rattle.checker_dictionary.specs.Index.{IndexedTo, Indexed}
-use Rattle.checker_dictionary.proofs.IndexLaws.{indexed-older, count-more}
-use Rattle.checker_lookup.proofs.HeldLaws.{indexed-in}
-use Rattle.checker_dictionary.specs.Waiting.{withEntries, waiting, Waits, Waiting, AppendedAll}
-use Rattle.checker_dictionary.proofs.Places.{size-held}
-use Rattle.checker_dictionary.proofs.WaitingLaws.{entries-grow}
+use Rattle.checker_dictionary.proofs.IndexLaws.{indexed_older, count_more}
+use Rattle.checker_lookup.proofs.HeldLaws.{indexed_in}
+use Rattle.checker_dictionary.specs.Waiting.{with_entries, waiting, Waits, Waiting, AppendedAll}
+use Rattle.checker_dictionary.proofs.Places.{size_held}
+use Rattle.checker_dictionary.proofs.WaitingLaws.{entries_grow}
 use Rattle.checker_lookup.specs.Scoped.{DictionaryHeld}
-use Rattle.reader_rules.proofs.FewParameters.{few-parameters}
-use Rattle.checker_contracts.specs.Paragraphs.{ParagraphAsk, Extended, ParagraphDone, maxWaiting}
-use Rattle.checker_extension.specs.Entering.{IsParagraph, BetweenParagraphs, Entered, maxAdded}
-use Rattle.checker_extension.proofs.HeldParts.{held-part, held-rest, held_whole, recorded_part}
-use Rattle.checker_extension.proofs.ListedLaws.{listed_at, listed-limited, listed-sized, node-is}
-use Rattle.checker_extension.proofs.GrownLaws.{extended-recorded, entries-length, entries-few}
+use Rattle.reader_rules.proofs.FewParameters.{few_parameters}
+use Rattle.checker_contracts.specs.Paragraphs.{ParagraphAsk, Extended, ParagraphDone, max_waiting}
+use Rattle.checker_extension.specs.Entering.{IsParagraph, BetweenParagraphs, Entered, max_added}
+use Rattle.checker_extension.proofs.HeldParts.{held_part, held_rest, held_whole, recorded_part}
+use Rattle.checker_extension.proofs.ListedLaws.{listed_at, listed_limited, listed_sized, node_is}
+use Rattle.checker_extension.proofs.GrownLaws.{extended_recorded, entries_length, entries_few}
 
 -- The words in use are what a paragraph asks for.
 module _ (d part : List ℕ) (n : ℕ) (e : n ≡ size_at d) (q : part ≡ take n (drop 0 d)) where
-  pub visit-ask : (doc s w : List ℕ) (k : ℕ) → IsParagraph doc k → BetweenParagraphs s d w → At doc paragraphs k × ParagraphAsk s part w (paragraphAt doc k)
-  visit-ask doc s w k L R =
+  pub visit_ask : (doc s w : List ℕ) (k : ℕ) → IsParagraph doc k → BetweenParagraphs s d w → At doc paragraphs k × ParagraphAsk s part w (paragraph_at doc k)
+  visit_ask doc s w k L R =
       let at = listed_at doc k L in
       let h = R.recorded.holds.holds in
       let f = h.fits in
       let g = R.few in
-      let z = size-held R.dictionary d h in
+      let z = size_held R.dictionary d h in
       let l = ap length q ∙ length-take-le n d (omega arith) in (
         at,
         record {
@@ -51,14 +51,14 @@ module _ (d part : List ℕ) (n : ℕ) (e : n ≡ size_at d) (q : part ≡ take 
           few = omega arith;
           wide = R.wide;
           clean = R.clean;
-          limited = listed-limited doc k L;
-          once = λ j. (once-at doc k).paragraph at j;
-          parameters = few-parameters doc k at;
+          limited = listed_limited doc k L;
+          once = λ j. (once_at doc k).paragraph at j;
+          parameters = few_parameters doc k at;
         },
       )
 
-  pub visit-done : (s s' w w' : List ℕ) (p : Paragraph) (f m at c : ℕ) → ParagraphDone s s' part w w' p f m at c → ParagraphDone s s' d w w' p f m at c
-  visit-done s s' w w' p f m at c X = record {
+  pub visit_done : (s s' w w' : List ℕ) (p : Paragraph) (f m at c : ℕ) → ParagraphDone s s' part w w' p f m at c → ParagraphDone s s' d w w' p f m at c
+  visit_done s s' w w' p f m at c X = record {
     size = X.size;
     index = X.index;
     low = X.low;
@@ -67,83 +67,83 @@ module _ (d part : List ℕ) (n : ℕ) (e : n ≡ size_at d) (q : part ≡ take 
   }
 
 -- The first n words are few.
-pub part-few : (d : List ℕ) (n m : ℕ) → n ≤ length d → n < m → length (take n d) < m
-part-few d n m h l = let e = length-take-le n d h in omega arith
+pub part_few : (d : List ℕ) (n m : ℕ) → n ≤ length d → n < m → length (take n d) < m
+part_few d n m h l = let e = length-take-le n d h in omega arith
 
 -- Where the entries fit the first n words, they are appended there, and words after those are zeros.
-pub append-part : (D : Dictionary) (es : List Entry) (d d₁ : List ℕ) (r : Bool) (n : ℕ) → n ≤ length d → Holds D d → dictionaryLength (withEntries es D) ≤ n →
+pub append_part : (D : Dictionary) (es : List Entry) (d d₁ : List ℕ) (r : Bool) (n : ℕ) → n ≤ length d → Holds D d → dictionary_length (with_entries es D) ≤ n →
     (Holds D (take n d) → AppendedAll D es (take n d) d₁ r) → AppendedAll D es d (d₁ ++ drop n d) r
-append-part D es d d₁ r n high H few A =
-    let low : dictionaryLength D ≤ n = le_trans (entries-grow es D) few in
-    let X = A (held-part D d H n low high) in
+append_part D es d d₁ r n high H few A =
+    let low : dictionary_length D ≤ n = le_trans (entries_grow es D) few in
+    let X = A (held_part D d H n low high) in
     record {
-      fits = λ q. subst (λ (l : List ℕ). Holds (withEntries es D) (d₁ ++ l)) (sym (held-rest D d H n low high)) (held_whole (withEntries es D) d₁ (length d - n) (X.fits q));
+      fits = λ q. subst (λ (l : List ℕ). Holds (with_entries es D) (d₁ ++ l)) (sym (held_rest D d H n low high)) (held_whole (with_entries es D) d₁ (length d - n) (X.fits q));
       full = λ q. let l = length-take-le n d high in let z = X.full q in absurd (omega arith);
     }
 
-module _ (doc : List ℕ) (k : ℕ) (L : IsParagraph doc k) (s s' d w w' : List ℕ) (R : BetweenParagraphs s d w) (f m at c : ℕ) (X : ParagraphDone s s' d w w' (paragraphAt doc k) f m at c) where
+module _ (doc : List ℕ) (k : ℕ) (L : IsParagraph doc k) (s s' d w w' : List ℕ) (R : BetweenParagraphs s d w) (f m at c : ℕ) (X : ParagraphDone s s' d w w' (paragraph_at doc k) f m at c) where
   p : Paragraph
-  p = paragraphAt doc k
+  p = paragraph_at doc k
 
-  pub entered-refused : (f ≡ 0 → ⊥) → Entered s s' d d w w' (paragraphAt doc k) (Refused f m)
+  pub entered_refused : (f ≡ 0 → ⊥) → Entered s s' d d w w' (paragraph_at doc k) (Refused f m)
   unfolding RefusesAt
-  entered-refused ne = record {
+  entered_refused ne = record {
     low = λ q. let z : ◌≡◌ {A = ℕ} 0 1 = cc in absurd (omega arith);
     goes = λ q. let z : ◌≡◌ {A = ℕ} 0 1 = cc in absurd (omega arith);
     stops = λ g j q D S ps. let a : f ≡ g = cc in let b : m ≡ j = cc in rw (← a, ← b) (inl (X.stops ne D S));
   }
 
   module _ (z : f ≡ 0) where
-    pub entries-wait : Waiting w' at c
-    entries-wait = let E = X.goes z R.dictionary R.recorded in record { entries = E.entries; count = E.counted; waits = E.waits }
+    pub entries_wait : Waiting w' at c
+    entries_wait = let E = X.goes z R.dictionary R.recorded in record { entries = E.entries; count = E.counted; waits = E.waits }
 
     -- The dictionary with the entries has few words.
-    grows-few : (D : Dictionary) (es : List Entry) → length (waiting es) ≤ maxWaiting → dictionaryLength (withEntries es D) ≤ dictionaryLength D + maxAdded
-    grows-few D es l = let a = entries-length es D in let b = entries-few es in omega arith
+    grows_few : (D : Dictionary) (es : List Entry) → length (waiting es) ≤ max_waiting → dictionary_length (with_entries es D) ≤ dictionary_length D + max_added
+    grows_few D es l = let a = entries_length es D in let b = entries_few es in omega arith
 
-    short-all : (D : Dictionary) (es : List Entry) → Holds D d → length (waiting es) ≤ maxWaiting → dictionaryLength (withEntries es D) ≤ 2 ^ 31
-    short-all D es H l =
-        let a = grows-few D es l in
-        let b = size-held D d H in
-        let e = size-held R.dictionary d R.recorded.holds.holds in
+    short_all : (D : Dictionary) (es : List Entry) → Holds D d → length (waiting es) ≤ max_waiting → dictionary_length (with_entries es D) ≤ 2 ^ 31
+    short_all D es H l =
+        let a = grows_few D es l in
+        let b = size_held D d H in
+        let e = size_held R.dictionary d R.recorded.holds.holds in
         let g = R.few in
         omega arith
 
-    module _ (d' : List ℕ) (r : Bool) (A : (D : Dictionary) (es : List Entry) → length es ≡ c → Holds D d → Waits es w' at → dictionaryLength (withEntries es D) ≤ 2 ^ 31 → AppendedAll D es d d' r) where
+    module _ (d' : List ℕ) (r : Bool) (A : (D : Dictionary) (es : List Entry) → length es ≡ c → Holds D d → Waits es w' at → dictionary_length (with_entries es D) ≤ 2 ^ 31 → AppendedAll D es d d' r) where
       appended : (D : Dictionary) (S : DictionaryHeld D d w) (E : Extended w' p D at c) → AppendedAll D E.entries d d' r
-      appended D S E = A D E.entries E.counted S.holds.holds E.waits (short-all D E.entries S.holds.holds E.short)
+      appended D S E = A D E.entries E.counted S.holds.holds E.waits (short_all D E.entries S.holds.holds E.short)
 
-      pub entered-accepted : r ≡ true → (w'' : List ℕ) (n : ℕ) → n ≡ count d → (n ≤ count d' → IndexedTo d' w' n → IndexedTo d' w'' (count d')) → Entered s s' d d' w w'' (paragraphAt doc k) Accepted
+      pub entered_accepted : r ≡ true → (w'' : List ℕ) (n : ℕ) → n ≡ count d → (n ≤ count d' → IndexedTo d' w' n → IndexedTo d' w'' (count d')) → Entered s s' d d' w w'' (paragraph_at doc k) Accepted
       unfolding p
-      entered-accepted t w'' n is N = record {
+      entered_accepted t w'' n is N = record {
         low = λ q. X.low z;
         goes = λ q D S.
             let E = X.goes z D S in
             let F = (appended D S E).fits t in
-            let c = count-more D E.entries d d' S.holds.holds F in
-            let J = indexed-older D E.entries d d' w' (indexed-in D d w w' X.index S.holds) F in
+            let c = count_more D E.entries d d' S.holds.holds F in
+            let J = indexed_older D E.entries d d' w' (indexed_in D d w w' X.index S.holds) F in
             let H = subst (λ (G : Dictionary). Indexed G d' w'') (sym E.extends) (record { holds = F; index = N (omega (arith, c, is)) (subst (IndexedTo d' w') (sym is) J) }) in
-            let l = grows-few D E.entries E.short in
+            let l = grows_few D E.entries E.short in
             let h = listed_at doc k L in
             record {
               passes = E.passes;
               table = E.table;
               meets = E.meets;
-              recorded = extended-recorded p D E.table E.passes E.meets (listed-sized doc k L) (few-parameters doc k h) d d' w w'' S H;
-              short = subst (λ (G : Dictionary). dictionaryLength G ≤ dictionaryLength D + maxAdded) (sym E.extends) l;
+              recorded = extended_recorded p D E.table E.passes E.meets (listed_sized doc k L) (few_parameters doc k h) d d' w w'' S H;
+              short = subst (λ (G : Dictionary). dictionary_length G ≤ dictionary_length D + max_added) (sym E.extends) l;
             };
         stops = λ g j q. let y : ◌≡◌ {A = ℕ} 0 1 = cc in absurd (omega arith);
       }
 
-      pub entered-full : r ≡ false → Entered s s' d d' w w' (paragraphAt doc k) (Refused 22 k)
+      pub entered_full : r ≡ false → Entered s s' d d' w w' (paragraph_at doc k) (Refused 22 k)
       unfolding RefusesAt p
-      entered-full t = record {
+      entered_full t = record {
         low = λ q. let y : ◌≡◌ {A = ℕ} 0 1 = cc in absurd (omega arith);
         goes = λ q. let y : ◌≡◌ {A = ℕ} 0 1 = cc in absurd (omega arith);
         stops = λ g j q D S ps.
             let E = X.goes z D S in
             let a : 22 ≡ g = cc in
             let b : k ≡ j = cc in
-            let l = subst (λ (G : Dictionary). length d < dictionaryLength G) (sym E.extends) ((appended D S E).full t) in
-            inr (E.passes, (E.table, (tt, E.meets), inl (l, sym a, sym b ∙ sym (node-is doc k (listed_at doc k L)))));
+            let l = subst (λ (G : Dictionary). length d < dictionary_length G) (sym E.extends) ((appended D S E).full t) in
+            inr (E.passes, (E.table, (tt, E.meets), inl (l, sym a, sym b ∙ sym (node_is doc k (listed_at doc k L)))));
       }

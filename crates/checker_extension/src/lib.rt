@@ -1,9 +1,9 @@
 // The dictionary extended by one paragraph of the Document: its finding, then 22, else its entries.
 ghost use Rattle.std.specs.Prelude.{◌≡◌, List, ◌≤◌, ◌^◌, length};
-ghost use Rattle.reader_rules.specs.Decode.{paragraphAt};
-ghost use Rattle.checker_rules.specs.Dictionary.{Entry, Dictionary, dictionaryLength};
+ghost use Rattle.reader_rules.specs.Decode.{paragraph_at};
+ghost use Rattle.checker_rules.specs.Dictionary.{Entry, Dictionary, dictionary_length};
 ghost use Rattle.checker_dictionary.specs.Holds.{Holds};
-ghost use Rattle.checker_dictionary.specs.Waiting.{withEntries, Waits, Waiting, AppendedAll};
+ghost use Rattle.checker_dictionary.specs.Waiting.{with_entries, Waits, Waiting, AppendedAll};
 ghost use Rattle.checker_contracts.specs.Paragraphs.{ParagraphDone};
 ghost use Rattle.checker_extension.specs.Entering.{IsParagraph, BetweenParagraphs, Entered};
 
@@ -22,7 +22,7 @@ const MOST_WORDS: usize = 2147483648;
 // The paragraph at node k, over the words of the dictionary that are in use.
 fn visit(doc: &[u32], a: &mut [u32], dict: &[u32], work: &mut [u32], k: usize) -> Lined
     requires { IsParagraph doc.now k × BetweenParagraphs a.old dict.now work.old }
-    ensures { ParagraphDone a.old a.new dict.now work.old work.new (paragraphAt doc.now k) result.number result.place result.at result.count }
+    ensures { ParagraphDone a.old a.new dict.now work.old work.new (paragraph_at doc.now k) result.number result.place result.at result.count }
 {
     let n = size(dict);
     paragraph(doc, a, span(dict, 0, n), work, k)
@@ -31,7 +31,7 @@ fn visit(doc: &[u32], a: &mut [u32], dict: &[u32], work: &mut [u32], k: usize) -
 // The m entries that wait at `at` are appended, in an area of any length; false where one does not fit.
 fn append(dict: &mut [u32], work: &[u32], at: usize, m: usize) -> bool
     requires { Waiting work.now at m }
-    ensures { (D : Dictionary) (es : List Entry) → length es ≡ m → Holds D dict.old → Waits es work.now at → dictionaryLength (withEntries es D) ≤ 2 ^ 31 → AppendedAll D es dict.old dict.new result }
+    ensures { (D : Dictionary) (es : List Entry) → length es ≡ m → Holds D dict.old → Waits es work.now at → dictionary_length (with_entries es D) ≤ 2 ^ 31 → AppendedAll D es dict.old dict.new result }
 {
     if MOST_WORDS < dict.len() {
         return append_all(&mut dict[..MOST_WORDS], work, at, m);
@@ -42,7 +42,7 @@ fn append(dict: &mut [u32], work: &[u32], at: usize, m: usize) -> bool
 // The paragraph at node k: its finding, then 22; Accepted where the dictionary and its index have its entries.
 pub fn enter(doc: &[u32], a: &mut [u32], dict: &mut [u32], work: &mut [u32], k: usize) -> Finding
     requires { IsParagraph doc.now k × BetweenParagraphs a.old dict.old work.old }
-    ensures { Entered a.old a.new dict.old dict.new work.old work.new (paragraphAt doc.now k) result }
+    ensures { Entered a.old a.new dict.old dict.new work.old work.new (paragraph_at doc.now k) result }
 {
     let n = word(dict, 0);
     let p = visit(doc, a, dict, work, k);

@@ -6,36 +6,36 @@ use Prim.Native.Nat.{ℕ, suc, ◌+◌, ◌-◌, ◌*◌, ◌≤◌, ◌<◌}
 use native.Mathlib.Omega.{arith}
 use lib.ListN.{get_or}
 use Rattle.types_rules.specs.Types.{Ty, Term, under, size}
-use Rattle.types_rules.proofs.Terms.{bool-no}
+use Rattle.types_rules.proofs.Terms.{bool_no}
 use Rattle.checker_rules.specs.Unknowns.{row}
 use Rattle.checker_rules.specs.Items.{Items, ◌⨾◌, Refuses, MeetsIn}
-use Rattle.checker_rules.specs.Signatures.{Signature, noNames, naming, termIn}
-use Rattle.checker_rules.specs.Conditions.{sameType, mergeNames}
-use Rattle.reader_rules.specs.Decode.{pairsFrom}
+use Rattle.checker_rules.specs.Signatures.{Signature, no_names, naming, term_in}
+use Rattle.checker_rules.specs.Conditions.{same_type, merge_names}
+use Rattle.reader_rules.specs.Decode.{pairs_from}
 use Rattle.types_cells.specs.Settled.{heap, Reads, Readable}
 use Rattle.checker_signatures.specs.Rows.{rows}
 use Rattle.checker_signatures.specs.Tables.{Finds}
 use Rattle.checker_signatures.specs.Carried.{Carries}
-use Rattle.checker_signatures.proofs.CallLaws.{found-term, no-term}
+use Rattle.checker_signatures.proofs.CallLaws.{found_term, no_term}
 use Rattle.checker_pieces.specs.Piece.{Steady, Walked, Settled}
-use Rattle.checker_pieces.proofs.Between.{walked_skip, walked_then, equal-noted, equal-refused, refuses-first, refuses-second}
+use Rattle.checker_pieces.proofs.Between.{walked_skip, walked_then, equal_noted, equal_refused, refuses_first, refuses_second}
 use Rattle.types_instances.specs.Fill.{fill}
-use Rattle.types_instances.proofs.FillLaws.{fill-under}
+use Rattle.types_instances.proofs.FillLaws.{fill_under}
 use Rattle.checker_merging.specs.Merging.{Rows}
 use Rattle.checker_lookup.specs.Components.{Component}
 use Rattle.checker_includes.specs.Components.{Placed, ActualTypes}
 use Rattle.checker_includes.specs.Filling.{Comparing, SameFilled, RowsAsk, AgreeAsk, OneAsk, OneTold, AgreeTold}
-use Rattle.checker_includes.proofs.StandLaws.{stands-back, fill-alike}
-use Rattle.checker_includes.proofs.LaterLaws.{actuals-later, placed-later}
+use Rattle.checker_includes.proofs.StandLaws.{stands_back, fill_alike}
+use Rattle.checker_includes.proofs.LaterLaws.{actuals_later, placed_later}
 
 abbrev pub None : ℕ → Type 0
 None x = ⊥
 
 module _ (s d : List ℕ) where
   -- A component's type: the recorded type with the actuals' element types for its parameters.
-  pub component-settled : (H : Items) (U : List ℕ) (i z : ℕ) (places : List ℕ) (t : Term) (p : ℕ) (A : ActualTypes s d H U i z places) (C : Component s d (row i 1 z) t p) →
+  pub component_settled : (H : Items) (U : List ℕ) (i z : ℕ) (places : List ℕ) (t : Term) (p : ℕ) (A : ActualTypes s d H U i z places) (C : Component s d (row i 1 z) t p) →
       Settled H t (fill A.types C.type)
-  component-settled H U i z places t p A C τ m = ap (under τ) C.means ∙ fill-under τ (row i 1 z) C.type ∙ ap (λ hs. fill hs C.type) (A.settled τ m)
+  component_settled H U i z places t p A C τ m = ap (under τ) C.means ∙ fill_under τ (row i 1 z) C.type ∙ ap (λ hs. fill hs C.type) (A.settled τ m)
 
 -- One component, beside the row where its identifier is found.
 module _ (s d w : List ℕ) (base m p id : ℕ) (places : List ℕ) (r : ℕ) (F : Finds w base m id r) where
@@ -47,45 +47,45 @@ module _ (s d w : List ℕ) (base m p id : ℕ) (places : List ℕ) (r : ℕ) (F
     there k B = subst (λ z. Reads (heap s d) z k) (sym at) B
 
     pub one_found : OneTold s d w base m p id places b
-    unfolding sameType
+    unfolding same_type
     one_found = record { goes = goes'; stops = stops' }
       where
         goes' : b ≡ true → (H : Items) (U : List ℕ) (n i z : ℕ) (t : Term) (x : Signature) → Steady H U → ActualTypes s d H U i z places → Component s d (row i 1 z) t p →
-            Carries (Placed s d H U) x (rows w base m) → Walked H (sameType n t (termIn id x)) U U None
+            Carries (Placed s d H U) x (rows w base m) → Walked H (same_type n t (term_in id x)) U U None
         goes' e H U n i z t x D A C K =
-            let f = found-term (Placed s d H U) w base m id r F x K h in
+            let f = found_term (Placed s d H U) w base m id r F x K h in
             let B = f.2 in
             let k = B.typed.type in
             let y = (S.tells C.type k A.shown C.reads (there k B.typed.reads) A.stand).holds e in
-            let v = sym (fill-alike A.shown A.types A.alike C.type (subst (λ g. size g ≤ 32) (sym y) B.small)) ∙ y in
-            subst (λ o. Walked H (sameType n t o) U U None) (sym f.1)
-            (equal-noted H U None 36 n t f.0 k D (λ τ j. component-settled s d H U i z places t p A C τ j ∙ v) B.typed.settled)
+            let v = sym (fill_alike A.shown A.types A.alike C.type (subst (λ g. size g ≤ 32) (sym y) B.small)) ∙ y in
+            subst (λ o. Walked H (same_type n t o) U U None) (sym f.1)
+            (equal_noted H U None 36 n t f.0 k D (λ τ j. component_settled s d H U i z places t p A C τ j ∙ v) B.typed.settled)
 
         stops' : b ≡ false → (H : Items) (U : List ℕ) (n i z : ℕ) (t : Term) (x : Signature) → Steady H U → ActualTypes s d H U i z places → Component s d (row i 1 z) t p →
-            Carries (Placed s d H U) x (rows w base m) → Refuses (sameType n t (termIn id x)) (MeetsIn H) 36 n
+            Carries (Placed s d H U) x (rows w base m) → Refuses (same_type n t (term_in id x)) (MeetsIn H) 36 n
         stops' e H U n i z t x D A C K =
-            let f = found-term (Placed s d H U) w base m id r F x K h in
+            let f = found_term (Placed s d H U) w base m id r F x K h in
             let B = f.2 in
             let k = B.typed.type in
             let T = S.tells C.type k A.shown C.reads (there k B.typed.reads) A.stand in
-            subst (λ o. Refuses (sameType n t o) (MeetsIn H) 36 n) (sym f.1)
-            (equal-refused H 36 n t f.0 (fill A.types C.type) k (component-settled s d H U i z places t p A C) B.typed.settled
-            (λ y. T.fails e (sym (fill-alike A.types A.shown (stands-back _ _ A.alike) C.type (subst (λ g. size g ≤ 32) (sym y) B.small)) ∙ y)))
+            subst (λ o. Refuses (same_type n t o) (MeetsIn H) 36 n) (sym f.1)
+            (equal_refused H 36 n t f.0 (fill A.types C.type) k (component_settled s d H U i z places t p A C) B.typed.settled
+            (λ y. T.fails e (sym (fill_alike A.types A.shown (stands_back _ _ A.alike) C.type (subst (λ g. size g ≤ 32) (sym y) B.small)) ∙ y)))
 
-  pub one-absent : m ≤ r → OneTold s d w base m p id places true
-  unfolding sameType
-  one-absent h = record { goes = goes'; stops = λ e. absurd (bool-no true refl e) }
+  pub one_absent : m ≤ r → OneTold s d w base m p id places true
+  unfolding same_type
+  one_absent h = record { goes = goes'; stops = λ e. absurd (bool_no true refl e) }
     where
       goes' : true ≡ true → (H : Items) (U : List ℕ) (n i z : ℕ) (t : Term) (x : Signature) → Steady H U → ActualTypes s d H U i z places → Component s d (row i 1 z) t p →
-          Carries (Placed s d H U) x (rows w base m) → Walked H (sameType n t (termIn id x)) U U None
-      goes' e H U n i z t x D A C K = subst (λ o. Walked H (sameType n t o) U U None) (sym (no-term (Placed s d H U) w base m id r F x K h)) (walked_skip H U None D)
+          Carries (Placed s d H U) x (rows w base m) → Walked H (same_type n t (term_in id x)) U U None
+      goes' e H U n i z t x D A C K = subst (λ o. Walked H (same_type n t o) U U None) (sym (no_term (Placed s d H U) w base m id r F x K h)) (walked_skip H U None D)
 
-pub comparing-of : (s d w : List ℕ) (base m p : ℕ) (places : List ℕ) (r q : ℕ) → OneAsk s d w base m p places → r < m → q ≡ get_or w (base + 2 * r + 1) 0 → Comparing s d p places q
-comparing-of s d w base m p places r q A l e = record { actuals = A.actuals; left = A.type; right = subst (Readable (heap s d)) (sym e) (A.table.readable r l) }
+pub comparing_of : (s d w : List ℕ) (base m p : ℕ) (places : List ℕ) (r q : ℕ) → OneAsk s d w base m p places → r < m → q ≡ get_or w (base + 2 * r + 1) 0 → Comparing s d p places q
+comparing_of s d w base m p places r q A l e = record { actuals = A.actuals; left = A.type; right = subst (Readable (heap s d)) (sym e) (A.table.readable r l) }
 
 -- Rows but the first.
-pub rows-fewer : (s d w : List ℕ) (source k : ℕ) (places : List ℕ) → (k ≡ 0 → ⊥) → RowsAsk s d w source k places → RowsAsk s d w (source + 2) (k - 1) places
-rows-fewer s d w source k places e A = record {
+pub rows_fewer : (s d w : List ℕ) (source k : ℕ) (places : List ℕ) → (k ≡ 0 → ⊥) → RowsAsk s d w source k places → RowsAsk s d w (source + 2) (k - 1) places
+rows_fewer s d w source k places e A = record {
   actuals = A.actuals;
   table = record {
     inside = let z = A.table.inside in omega (arith, e);
@@ -93,21 +93,21 @@ rows-fewer s d w source k places e A = record {
   };
 }
 
-pub first-readable : (s d w : List ℕ) (source k : ℕ) → (k ≡ 0 → ⊥) → Rows s d w source k → (p : ℕ) → p ≡ get_or w (source + 1) 0 → Readable (heap s d) p
-first-readable s d w source k e R p q =
+pub first_readable : (s d w : List ℕ) (source k : ℕ) → (k ≡ 0 → ⊥) → Rows s d w source k → (p : ℕ) → p ≡ get_or w (source + 1) 0 → Readable (heap s d) p
+first_readable s d w source k e R p q =
     subst (Readable (heap s d)) (ap (λ z. get_or w z 0) (let z : source + 2 * 0 + 1 ≡ source + 1 = omega arith in z) ∙ sym q) (R.readable 0 (omega (arith, e)))
 
 module _ (s d w : List ℕ) (base m : ℕ) (places : List ℕ) where
-  pub agree-none : (source k : ℕ) → k ≡ 0 → AgreeTold s d w base m source k places true
-  unfolding mergeNames pairsFrom Carries
-  agree-none source k e = record { goes = goes'; stops = λ z. absurd (bool-no true refl z) }
+  pub agree_none : (source k : ℕ) → k ≡ 0 → AgreeTold s d w base m source k places true
+  unfolding merge_names pairs_from Carries
+  agree_none source k e = record { goes = goes'; stops = λ z. absurd (bool_no true refl z) }
     where
-      none : (H : Items) (U : List ℕ) (n i z : ℕ) (x r : Signature) → Steady H U → Carries (Component s d (row i 1 z)) x [] → Walked H (mergeNames n x r) U U None
-      none H U n i z noNames r S C = walked_skip H U None S
+      none : (H : Items) (U : List ℕ) (n i z : ℕ) (x r : Signature) → Steady H U → Carries (Component s d (row i 1 z)) x [] → Walked H (merge_names n x r) U U None
+      none H U n i z no_names r S C = walked_skip H U None S
       none H U n i z (naming j t x) r S C = absurd C
 
       goes' : true ≡ true → (H : Items) (U : List ℕ) (n i z : ℕ) (x r : Signature) → Steady H U → ActualTypes s d H U i z places → Carries (Component s d (row i 1 z)) x (rows w source k) →
-          Carries (Placed s d H U) r (rows w base m) → Walked H (mergeNames n x r) U U None
+          Carries (Placed s d H U) r (rows w base m) → Walked H (merge_names n x r) U U None
       goes' y H U n i z x r S A C D = none H U n i z x r S (subst (λ j. Carries (Component s d (row i 1 z)) x (rows w source j)) e C)
 
   module _ (source k j : ℕ) (e : k ≡ suc j) where
@@ -117,48 +117,48 @@ module _ (s d w : List ℕ) (base m : ℕ) (places : List ℕ) where
     abbrev p₀ : ℕ
     p₀ = get_or w (suc source) 0
 
-    agree-break : OneTold s d w base m p₀ i₀ places false → AgreeTold s d w base m source k places false
-    unfolding mergeNames pairsFrom Carries
-    agree-break O = record { goes = λ y. absurd (bool-no false y refl); stops = λ y H U n i z x r S A C D. stops' H U n i z x r S A (subst (λ v. Carries (Component s d (row i 1 z)) x (rows w source v)) e C) D }
+    agree_break : OneTold s d w base m p₀ i₀ places false → AgreeTold s d w base m source k places false
+    unfolding merge_names pairs_from Carries
+    agree_break O = record { goes = λ y. absurd (bool_no false y refl); stops = λ y H U n i z x r S A C D. stops' H U n i z x r S A (subst (λ v. Carries (Component s d (row i 1 z)) x (rows w source v)) e C) D }
       where
         stops' : (H : Items) (U : List ℕ) (n i z : ℕ) (x r : Signature) → Steady H U → ActualTypes s d H U i z places → Carries (Component s d (row i 1 z)) x (rows w source (suc j)) →
-            Carries (Placed s d H U) r (rows w base m) → Refuses (mergeNames n x r) (MeetsIn H) 36 n
-        stops' H U n i z noNames r S A C D = absurd C
-        stops' H U n i z (naming v t x) r S A C D = refuses-first H (sameType n t (termIn v r)) (mergeNames n x r) 36 n
-            (subst (λ y. Refuses (sameType n t (termIn y r)) (MeetsIn H) 36 n) (sym C.0) (O.stops refl H U n i z t r S A C.1 D))
+            Carries (Placed s d H U) r (rows w base m) → Refuses (merge_names n x r) (MeetsIn H) 36 n
+        stops' H U n i z no_names r S A C D = absurd C
+        stops' H U n i z (naming v t x) r S A C D = refuses_first H (same_type n t (term_in v r)) (merge_names n x r) 36 n
+            (subst (λ y. Refuses (same_type n t (term_in y r)) (MeetsIn H) 36 n) (sym C.0) (O.stops refl H U n i z t r S A C.1 D))
 
-    agree-next : OneTold s d w base m p₀ i₀ places true → (b : Bool) → AgreeTold s d w base m (suc (suc source)) j places b → AgreeTold s d w base m source k places b
-    unfolding mergeNames pairsFrom Carries
-    agree-next O b N = record {
+    agree_next : OneTold s d w base m p₀ i₀ places true → (b : Bool) → AgreeTold s d w base m (suc (suc source)) j places b → AgreeTold s d w base m source k places b
+    unfolding merge_names pairs_from Carries
+    agree_next O b N = record {
       goes = λ y H U n i z x r S A C D. goes' y H U n i z x r S A (subst (λ v. Carries (Component s d (row i 1 z)) x (rows w source v)) e C) D;
       stops = λ y H U n i z x r S A C D. stops' y H U n i z x r S A (subst (λ v. Carries (Component s d (row i 1 z)) x (rows w source v)) e C) D;
     }
       where
         first : (H : Items) (U : List ℕ) (n i z v : ℕ) (t : Term) (r : Signature) → Steady H U → ActualTypes s d H U i z places → v ≡ i₀ → Component s d (row i 1 z) t p₀ →
-            Carries (Placed s d H U) r (rows w base m) → Walked H (sameType n t (termIn v r)) U U None
-        first H U n i z v t r S A y C D = subst (λ x. Walked H (sameType n t (termIn x r)) U U None) (sym y) (O.goes refl H U n i z t r S A C D)
+            Carries (Placed s d H U) r (rows w base m) → Walked H (same_type n t (term_in v r)) U U None
+        first H U n i z v t r S A y C D = subst (λ x. Walked H (same_type n t (term_in x r)) U U None) (sym y) (O.goes refl H U n i z t r S A C D)
 
         goes' : b ≡ true → (H : Items) (U : List ℕ) (n i z : ℕ) (x r : Signature) → Steady H U → ActualTypes s d H U i z places → Carries (Component s d (row i 1 z)) x (rows w source (suc j)) →
-            Carries (Placed s d H U) r (rows w base m) → Walked H (mergeNames n x r) U U None
-        goes' y H U n i z noNames r S A C D = absurd C
+            Carries (Placed s d H U) r (rows w base m) → Walked H (merge_names n x r) U U None
+        goes' y H U n i z no_names r S A C D = absurd C
         goes' y H U n i z (naming v t x) r S A C D =
-            let c = sameType n t (termIn v r) in
+            let c = same_type n t (term_in v r) in
             let W = first H U n i z v t r S A C.0 C.1 D in
-            walked_then H c (mergeNames n x r) U U U None S W (N.goes y (H ⨾ c) U n i z x r W.steady (actuals-later s d H c U i z places A) C.2 (placed-later s d H c U r _ D))
+            walked_then H c (merge_names n x r) U U U None S W (N.goes y (H ⨾ c) U n i z x r W.steady (actuals_later s d H c U i z places A) C.2 (placed_later s d H c U r _ D))
 
         stops' : b ≡ false → (H : Items) (U : List ℕ) (n i z : ℕ) (x r : Signature) → Steady H U → ActualTypes s d H U i z places → Carries (Component s d (row i 1 z)) x (rows w source (suc j)) →
-            Carries (Placed s d H U) r (rows w base m) → Refuses (mergeNames n x r) (MeetsIn H) 36 n
-        stops' y H U n i z noNames r S A C D = absurd C
+            Carries (Placed s d H U) r (rows w base m) → Refuses (merge_names n x r) (MeetsIn H) 36 n
+        stops' y H U n i z no_names r S A C D = absurd C
         stops' y H U n i z (naming v t x) r S A C D =
-            let c = sameType n t (termIn v r) in
+            let c = same_type n t (term_in v r) in
             let W = first H U n i z v t r S A C.0 C.1 D in
-            refuses-second H c (mergeNames n x r) 36 n W.goes (N.stops y (H ⨾ c) U n i z x r W.steady (actuals-later s d H c U i z places A) C.2 (placed-later s d H c U r _ D))
+            refuses_second H c (merge_names n x r) 36 n W.goes (N.stops y (H ⨾ c) U n i z x r W.steady (actuals_later s d H c U i z places A) C.2 (placed_later s d H c U r _ D))
 
-  pub one-asked : (source k : ℕ) → (k ≡ 0 → ⊥) → AgreeAsk s d w base m source k places → (p : ℕ) → p ≡ get_or w (source + 1) 0 → OneAsk s d w base m p places
-  one-asked source k e A p q = record { actuals = A.brought.actuals; type = first-readable s d w source k e A.brought.table p q; table = A.table }
+  pub one_asked : (source k : ℕ) → (k ≡ 0 → ⊥) → AgreeAsk s d w base m source k places → (p : ℕ) → p ≡ get_or w (source + 1) 0 → OneAsk s d w base m p places
+  one_asked source k e A p q = record { actuals = A.brought.actuals; type = first_readable s d w source k e A.brought.table p q; table = A.table }
 
-  pub agree-fewer : (source k : ℕ) → (k ≡ 0 → ⊥) → AgreeAsk s d w base m source k places → AgreeAsk s d w base m (source + 2) (k - 1) places
-  agree-fewer source k e A = record { brought = rows-fewer s d w source k places e A.brought; table = A.table }
+  pub agree_fewer : (source k : ℕ) → (k ≡ 0 → ⊥) → AgreeAsk s d w base m source k places → AgreeAsk s d w base m (source + 2) (k - 1) places
+  agree_fewer source k e A = record { brought = rows_fewer s d w source k places e A.brought; table = A.table }
 
   module _ (source k : ℕ) (some : k ≡ 0 → ⊥) (i p : ℕ) (ei : i ≡ get_or w source 0) (ep : p ≡ get_or w (source + 1) 0) (c : Bool) (O : OneTold s d w base m p i places c) where
     less : k ≡ suc (k - 1)
@@ -167,9 +167,9 @@ module _ (s d w : List ℕ) (base m : ℕ) (places : List ℕ) where
     told : OneTold s d w base m (get_or w (suc source) 0) (get_or w source 0) places c
     told = subst (λ z. OneTold s d w base m z (get_or w source 0) places c) (ep ∙ ap (λ z. get_or w z 0) (let z : source + 1 ≡ suc source = omega arith in z)) (subst (λ z. OneTold s d w base m p z places c) ei O)
 
-    pub agree-stop : c ≡ false → AgreeTold s d w base m source k places false
-    agree-stop q = agree-break source k (k - 1) less (subst (OneTold s d w base m _ _ places) q told)
+    pub agree_stop : c ≡ false → AgreeTold s d w base m source k places false
+    agree_stop q = agree_break source k (k - 1) less (subst (OneTold s d w base m _ _ places) q told)
 
-    pub agree-go : c ≡ true → (b : Bool) → AgreeTold s d w base m (source + 2) (k - 1) places b → AgreeTold s d w base m source k places b
-    agree-go q b N = agree-next source k (k - 1) less (subst (OneTold s d w base m _ _ places) q told) b
+    pub agree_go : c ≡ true → (b : Bool) → AgreeTold s d w base m (source + 2) (k - 1) places b → AgreeTold s d w base m source k places b
+    agree_go q b N = agree_next source k (k - 1) less (subst (OneTold s d w base m _ _ places) q told) b
         (subst (λ z. AgreeTold s d w base m z (k - 1) places b) (let z : source + 2 ≡ suc (suc source) = omega arith in z) N)

@@ -1,6 +1,6 @@
 // 36 and 38 of what an Include brings.
 ghost use Rattle.std.specs.Prelude.{◌≡◌, ℕ, ◌+◌, ◌<◌, ◌^◌, length, get_or};
-ghost use Rattle.types_cells.specs.Layout.{areaSize};
+ghost use Rattle.types_cells.specs.Layout.{area_size};
 ghost use Rattle.types_cells.specs.Calls.{Tells};
 ghost use Rattle.types_cells.specs.Settled.{heap};
 ghost use Rattle.checker_includes.specs.Filling.{Comparing, SameFilled, OneAsk, OneTold, RowsAsk, AgreeAsk, AgreeTold, SmallTold};
@@ -13,7 +13,7 @@ use words::word;
 
 // The k type words at p and at q are the same.
 fn same_words(a: &[u32], d: &[u32], p: usize, q: usize, k: usize) -> bool
-    requires { (length a.now ≡ areaSize) × (p + k < 2 ^ 40) × (q + k < 2 ^ 40) }
+    requires { (length a.now ≡ area_size) × (p + k < 2 ^ 40) × (q + k < 2 ^ 40) }
     ensures { Tells result ((i : ℕ) → i < k → get_or (heap a.now d.now) (p + i) 0 ≡ get_or (heap a.now d.now) (q + i) 0) }
 {
     let mut j = 0;

@@ -13,25 +13,25 @@ use Rattle.types_cells.specs.Calls.{Above}
 use Rattle.types_solver.specs.Growth.{Builds}
 use Rattle.checker_pieces.specs.Stage.{Ghost, Stands, Cell, Unvisited, SlotOf, Uses, Ruled}
 use Rattle.checker_pieces.specs.Building.{Introduced}
-use Rattle.checker_pieces.proofs.Stages.{stands-built, introduced-typed, introduced-before, introduced-wider, rule-goes}
+use Rattle.checker_pieces.proofs.Stages.{stands_built, introduced_typed, introduced_before, introduced_wider, rule_goes}
 use Rattle.checker_kinds.specs.Formers.{OperandCells, DerivedList, Derived}
 
-pub own-slot : (k j : ℕ) → j < 8 → (y : ℕ) → y ≡ slot k j → SlotOf k y
-own-slot k j l y e = (j, l, e)
+pub own_slot : (k j : ℕ) → j < 8 → (y : ℕ) → y ≡ slot k j → SlotOf k y
+own_slot k j l y e = (j, l, e)
 
 -- The type of node k is that of the cell c, of the cells built from s to s'.
 module _ (s s' d : List ℕ) (n n' top top' : ℕ) (B : Builds s s' d n n') (A : Above (frozen s') n' top') (G : Ghost) (St : Stands s d n top G) (c : ℕ) (t : Term) (C : Cell s' d n' G c t) (k : ℕ)
     (new : In (slot k 0) G.mentioned → ⊥) where
   pub concluded : Introduced s s' d n top n' top' G (typed k t) (SlotOf k) (slot k 0) c
   concluded =
-      let I = introduced-typed s' d n' top' G (stands-built s s' d n n' top B G St top' A) c t C k new in
-      let J = introduced-before s' s' d n' top' n' top' G (typed k t) (λ y. y ≡ slot k 0) I.advanced s n top B St (slot k 0) c I.placed in
-      introduced-wider s s' d n top n' top' G (typed k t) (λ y. y ≡ slot k 0) J.advanced (SlotOf k) (own-slot k 0 (omega arith)) (slot k 0) c J.placed
+      let I = introduced_typed s' d n' top' G (stands_built s s' d n n' top B G St top' A) c t C k new in
+      let J = introduced_before s' s' d n' top' n' top' G (typed k t) (λ y. y ≡ slot k 0) I.advanced s n top B St (slot k 0) c I.placed in
+      introduced_wider s s' d n top n' top' G (typed k t) (λ y. y ≡ slot k 0) J.advanced (SlotOf k) (own_slot k 0 (omega arith)) (slot k 0) c J.placed
 
 -- Rules that ask nothing of the types.
 module _ (s s' d : List ℕ) (n n' top top' c used : ℕ) (B : Builds s s' d n n') (A : Above (frozen s') n' top') (U : Uses s s' n top n' top' used) where
   passed : (G : Ghost) → Stands s d n top G → (k : ℕ) → Unvisited k G → (t : Term) → Cell s' d n' G c t → Ruled s s' d n top k 0 c n' top' G (typed k t)
-  passed G St k W t C = rule-goes s s' d n top k 0 c n' top' G (typed k t) refl (concluded s s' d n n' top top' B A G St c t C k (W 0 (omega arith)))
+  passed G St k W t C = rule_goes s s' d n top k 0 c n' top' G (typed k t) refl (concluded s s' d n n' top top' B A G St c t C k (W 0 (omega arith)))
 
   pub listed : (l : List ℕ) (t : Exprs → Term) → ((G : Ghost) → Stands s d n top G → (xs : Exprs) → OperandCells s d n G l xs → Cell s' d n' G c (t xs)) →
       DerivedList s s' d n top l 0 c n' top' used (λ k xs. typed k (t xs))

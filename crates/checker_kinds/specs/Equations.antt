@@ -3,32 +3,32 @@
 use Rattle.std.specs.Prelude.{◌≡◌, List, [], ◌∷◌, ℕ, suc, ◌≤◌}
 use Rattle.types_rules.specs.Equations.{Pairs}
 use Rattle.types_rules.specs.Types.{Term}
-use Rattle.checker_rules.specs.Conditions.{equation, areNumbers, typed}
+use Rattle.checker_rules.specs.Conditions.{equation, are_numbers, typed}
 use Rattle.checker_rules.specs.Items.{Items, ◌⨾◌, fresh, select}
-use Rattle.checker_rules.specs.Unknowns.{slot, unknownAt, integer, powerOf, pair_of}
+use Rattle.checker_rules.specs.Unknowns.{slot, unknown_at, integer, power_of, pair_of}
 use Rattle.types_cells.specs.Settled.{lower}
 use Rattle.checker_pieces.specs.Piece.{Stops}
 use Rattle.checker_pieces.specs.Stage.{Ghost, Stands, Cell, Unvisited, SlotOf, Advanced, Ruled, Uses}
 use Rattle.checker_pieces.specs.Building.{Working}
 
 -- THE ITEMS of node k, over the terms of its operands (checker_rules/specs/Rules: equal, member, atMost, application, arithmetic, selection).
-abbrev pub equalityItems : ℕ → Term → Term → Items
-equalityItems k a b = equation k a b
+abbrev pub equality_items : ℕ → Term → Term → Items
+equality_items k a b = equation k a b
 
-abbrev pub membershipItems : ℕ → Term → Term → Items
-membershipItems k a b = equation k (powerOf a) b
+abbrev pub membership_items : ℕ → Term → Term → Items
+membership_items k a b = equation k (power_of a) b
 
-abbrev pub comparisonItems : ℕ → Term → Term → Items
-comparisonItems k a b = areNumbers k a b
+abbrev pub comparison_items : ℕ → Term → Term → Items
+comparison_items k a b = are_numbers k a b
 
-abbrev pub applyItems : ℕ → Term → Term → Items
-applyItems k a b = fresh (slot k 0) ⨾ equation k a (powerOf (pair_of b (unknownAt k 0)))
+abbrev pub apply_items : ℕ → Term → Term → Items
+apply_items k a b = fresh (slot k 0) ⨾ equation k a (power_of (pair_of b (unknown_at k 0)))
 
-abbrev pub arithmeticItems : ℕ → Term → Term → Items
-arithmeticItems k a b = areNumbers k a b ⨾ typed k integer
+abbrev pub arithmetic_items : ℕ → Term → Term → Items
+arithmetic_items k a b = are_numbers k a b ⨾ typed k integer
 
-abbrev pub selectItems : ℕ → ℕ → Term → Items
-selectItems id k a = fresh (slot k 0) ⨾ select k id a (slot k 0)
+abbrev pub select_items : ℕ → ℕ → Term → Items
+select_items id k a = fresh (slot k 0) ⨾ select k id a (slot k 0)
 
 -- WHAT IS ASKED where the function does not look at the runs: a piece that stands, operands that are cells, room for new ones.
 pub record Relating (s d : List ℕ) (n x y wanted : ℕ) : Type 0 where
@@ -57,15 +57,15 @@ Nothing x = ⊥
 
 -- Both operands are integers; cell n is ℤ.
 pub record BothPass (s s' d : List ℕ) (n top k : ℕ) (G : Ghost) (a b : Term) : Type 0 where
-  pub advanced : Advanced s s' d n top (suc n) top G (comparisonItems k a b) Nothing
-  pub integer-cell : Cell s' d (suc n) (after G (comparisonItems k a b) advanced.equations advanced.mentioned advanced.cells) n integer
+  pub advanced : Advanced s s' d n top (suc n) top G (comparison_items k a b) Nothing
+  pub integer_cell : Cell s' d (suc n) (after G (comparison_items k a b) advanced.equations advanced.mentioned advanced.cells) n integer
 
 pub record Both (s s' d : List ℕ) (n x y number : ℕ) : Type 0 where
   pub low : lower s' ≡ lower s
   pub uses : (top : ℕ) (G : Ghost) → Stands s d n top G → Uses s s' n top (suc n) top 1
   pub goes : number ≡ 0 → (top : ℕ) (G : Ghost) → Stands s d n top G → (k : ℕ) (a b : Term) → Cell s d n G x a → Cell s d n G y b → BothPass s s' d n top k G a b
   pub stops : (number ≡ 0 → ⊥) → (top : ℕ) (G : Ghost) → Stands s d n top G → (k : ℕ) (a b : Term) → Cell s d n G x a → Cell s d n G y b →
-      Stops G.before G.items (comparisonItems k a b) number k
+      Stops G.before G.items (comparison_items k a b) number k
 
 -- AN EXPRESSION of two operands: the room of `used` cells is used.
 pub record Combined (s s' d : List ℕ) (n top x y number cell n' top' used : ℕ) (own : ℕ → Term → Term → Items) : Type 0 where

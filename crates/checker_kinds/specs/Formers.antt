@@ -1,40 +1,40 @@
 -- The rules whose types are built of their operands' types. A promise is for each piece that stands, each node k, and all expressions or terms whose types
 -- the operands' cells have.
 use Rattle.std.specs.Prelude.{◌≡◌, List, [], ◌∷◌, ℕ, zero, suc, ◌≤◌}
-use Rattle.reader_rules.specs.Tree.{Exprs, exprsLength}
+use Rattle.reader_rules.specs.Tree.{Exprs, exprs_length}
 use Rattle.types_rules.specs.Types.{Term}
-use Rattle.checker_rules.specs.Conditions.{typed, types_of, arePowers, areMembers}
+use Rattle.checker_rules.specs.Conditions.{typed, types_of, are_powers, are_members}
 use Rattle.checker_rules.specs.Items.{Items, ◌⨾◌, fresh}
-use Rattle.checker_rules.specs.Unknowns.{slot, unknownAt, row, integer, powerOf, productOf}
+use Rattle.checker_rules.specs.Unknowns.{slot, unknown_at, row, integer, power_of, product_of}
 use Rattle.types_cells.specs.Settled.{lower}
 use Rattle.checker_pieces.specs.Stage.{Ghost, Stands, Room, Cell, Unvisited, Ruled, Uses}
-use Rattle.checker_pieces.specs.Building.{Cells, powerItems}
+use Rattle.checker_pieces.specs.Building.{Cells, power_items}
 
 -- The cells l have the types of the expressions xs, one by one.
 abbrev pub OperandCells : List ℕ → List ℕ → ℕ → Ghost → List ℕ → Exprs → Type 0
 OperandCells s d n G l xs = Cells s d n G l (types_of xs)
 
 -- THE ITEMS of node k, after those of its operands (checker_rules/specs/Rules: number, integers, tuple, comprehension, power, product, set).
-abbrev pub numberItems : ℕ → Exprs → Items
-numberItems k xs = typed k integer
+abbrev pub number_items : ℕ → Exprs → Items
+number_items k xs = typed k integer
 
-abbrev pub integersItems : ℕ → Exprs → Items
-integersItems k xs = typed k (powerOf integer)
+abbrev pub integers_items : ℕ → Exprs → Items
+integers_items k xs = typed k (power_of integer)
 
-abbrev pub tupleItems : ℕ → Exprs → Items
-tupleItems k xs = typed k (productOf (types_of xs))
+abbrev pub tuple_items : ℕ → Exprs → Items
+tuple_items k xs = typed k (product_of (types_of xs))
 
-abbrev pub productItems : ℕ → Exprs → Items
-productItems k xs = arePowers k xs 1 ⨾ typed k (powerOf (productOf (row k 1 (exprsLength xs))))
+abbrev pub product_items : ℕ → Exprs → Items
+product_items k xs = are_powers k xs 1 ⨾ typed k (power_of (product_of (row k 1 (exprs_length xs))))
 
-abbrev pub setItems : ℕ → Exprs → Items
-setItems k xs = fresh (slot k 1) ⨾ areMembers k xs ⨾ typed k (powerOf (unknownAt k 1))
+abbrev pub set_items : ℕ → Exprs → Items
+set_items k xs = fresh (slot k 1) ⨾ are_members k xs ⨾ typed k (power_of (unknown_at k 1))
 
-abbrev pub comprehensionItems : ℕ → Term → Items
-comprehensionItems k a = typed k (powerOf a)
+abbrev pub comprehension_items : ℕ → Term → Items
+comprehension_items k a = typed k (power_of a)
 
-abbrev pub powerRuleItems : ℕ → Term → Items
-powerRuleItems k a = powerItems (slot k 1) k a ⨾ typed k (powerOf (powerOf (unknownAt k 1)))
+abbrev pub power_rule_items : ℕ → Term → Items
+power_rule_items k a = power_items (slot k 1) k a ⨾ typed k (power_of (power_of (unknown_at k 1)))
 
 -- The numbers from n on, q of them.
 unfoldable pub up_from : ℕ → ℕ → List ℕ

@@ -2,7 +2,7 @@
 
 ghost use Rattle.std.specs.Prelude.{List, [], ◌∷◌, ◌≡◌, ℕ, ◌+◌, ◌≤◌, ◌<◌, ◌^◌, length, take};
 ghost use Rattle.checker_pieces.specs.Building.{Building, Working};
-ghost use Rattle.checker_kinds.specs.Formers.{up_from, Operating, DerivedList, Derived, numberItems, integersItems, tupleItems, productItems, setItems, comprehensionItems, powerRuleItems};
+ghost use Rattle.checker_kinds.specs.Formers.{up_from, Operating, DerivedList, Derived, number_items, integers_items, tuple_items, product_items, set_items, comprehension_items, power_rule_items};
 
 use crate::ruling::Ruling;
 use codes::limits;
@@ -10,7 +10,7 @@ use codes::limits;
 // Number: ℤ.
 pub fn number_rule(a: &mut [u32], n: usize, top: usize) -> Ruling
     requires { Building a.old n top 1 [] }
-    ensures { (d : List ℕ) → DerivedList a.old a.new d n top [] result.number result.cell result.cells result.top 1 numberItems }
+    ensures { (d : List ℕ) → DerivedList a.old a.new d n top [] result.number result.cell result.cells result.top 1 number_items }
 {
     checker_pieces::formers::integer(a, n);
     Ruling {
@@ -24,7 +24,7 @@ pub fn number_rule(a: &mut [u32], n: usize, top: usize) -> Ruling
 // The set ℤ: a power of ℤ.
 pub fn integers_rule(a: &mut [u32], n: usize, top: usize) -> Ruling
     requires { Building a.old n top 2 [] }
-    ensures { (d : List ℕ) → DerivedList a.old a.new d n top [] result.number result.cell result.cells result.top 2 integersItems }
+    ensures { (d : List ℕ) → DerivedList a.old a.new d n top [] result.number result.cell result.cells result.top 2 integers_items }
 {
     checker_pieces::formers::integer(a, n);
     checker_pieces::formers::power(a, n + 1, top, n);
@@ -39,7 +39,7 @@ pub fn integers_rule(a: &mut [u32], n: usize, top: usize) -> Ruling
 // Tuple: the product of the cells in the first m words of `parts`.
 pub fn tuple_rule(a: &mut [u32], n: usize, top: usize, parts: &[u32], m: usize) -> Ruling
     requires { (m ≤ 6) × (m ≤ length parts.now) × Building a.old n top 4 (take m parts.now) }
-    ensures { (d : List ℕ) → DerivedList a.old a.new d n top (take m parts.now) result.number result.cell result.cells result.top 4 tupleItems }
+    ensures { (d : List ℕ) → DerivedList a.old a.new d n top (take m parts.now) result.number result.cell result.cells result.top 4 tuple_items }
 {
     checker_pieces::formers::product(a, n, top, parts, m);
     Ruling {
@@ -53,7 +53,7 @@ pub fn tuple_rule(a: &mut [u32], n: usize, top: usize, parts: &[u32], m: usize) 
 // Comprehension: the power of its body's type, that of cell c.
 pub fn comprehension_rule(a: &mut [u32], n: usize, top: usize, c: usize) -> Ruling
     requires { Building a.old n top 1 (c ∷ []) }
-    ensures { (d : List ℕ) → Derived a.old a.new d n top c result.number result.cell result.cells result.top 1 comprehensionItems }
+    ensures { (d : List ℕ) → Derived a.old a.new d n top c result.number result.cell result.cells result.top 1 comprehension_items }
 {
     checker_pieces::formers::power(a, n, top, c);
     Ruling {
@@ -67,7 +67,7 @@ pub fn comprehension_rule(a: &mut [u32], n: usize, top: usize, c: usize) -> Ruli
 // Power: the operand's type is a power, and the power of that the type.
 pub fn power_rule(a: &mut [u32], d: &[u32], n: usize, top: usize, c: usize) -> Ruling
     requires { Working a.old d.now n top 4 (c ∷ []) }
-    ensures { Derived a.old a.new d.now n top c result.number result.cell result.cells result.top 4 powerRuleItems }
+    ensures { Derived a.old a.new d.now n top c result.number result.cell result.cells result.top 4 power_rule_items }
 {
     let number = checker_pieces::powers::is_power(a, d, n, top, c);
     if number == 0 {
@@ -91,7 +91,7 @@ pub fn power_rule(a: &mut [u32], d: &[u32], n: usize, top: usize, c: usize) -> R
 // Set: its members, the cells in the first m words of `parts`, have one type, and the power of that is the type.
 pub fn set_rule(a: &mut [u32], d: &[u32], n: usize, top: usize, parts: &[u32], m: usize) -> Ruling
     requires { (m ≤ length parts.now) × Operating a.old d.now n top 2 (take m parts.now) }
-    ensures { DerivedList a.old a.new d.now n top (take m parts.now) result.number result.cell result.cells result.top 2 setItems }
+    ensures { DerivedList a.old a.new d.now n top (take m parts.now) result.number result.cell result.cells result.top 2 set_items }
 {
     types_cells::growth::new_unknown(a, n);
     let number = checker_pieces::all_equal(a, d, n + 1, parts, m, n, 0);
@@ -134,7 +134,7 @@ pub fn product_rule(
     m: usize,
 ) -> Ruling
     requires { (m ≤ 6) × (m ≤ length parts.now) × Operating a.old d.now n top 17 (take m parts.now) }
-    ensures { DerivedList a.old a.new d.now n top (take m parts.now) result.number result.cell result.cells result.top 17 productItems }
+    ensures { DerivedList a.old a.new d.now n top (take m parts.now) result.number result.cell result.cells result.top 17 product_items }
 {
     let number = checker_pieces::powers::are_powers(a, d, n, top, parts, m);
     if number == 0 {

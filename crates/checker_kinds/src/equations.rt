@@ -3,7 +3,7 @@
 ghost use Rattle.std.specs.Prelude.{[], ◌∷◌, ℕ};
 ghost use Rattle.checker_pieces.specs.Building.{Working};
 ghost use Rattle.checker_pieces.specs.Stage.{Comparing};
-ghost use Rattle.checker_kinds.specs.Equations.{Relating, Related, Both, Combined, equalityItems, membershipItems, comparisonItems, applyItems, arithmeticItems, selectItems};
+ghost use Rattle.checker_kinds.specs.Equations.{Relating, Related, Both, Combined, equality_items, membership_items, comparison_items, apply_items, arithmetic_items, select_items};
 ghost use Rattle.checker_kinds.specs.Formers.{Derived};
 
 use crate::ruling::{Relation, Ruling};
@@ -13,7 +13,7 @@ use types_cells::area::SETTLED;
 // x = y.
 pub fn equality(a: &mut [u32], d: &[u32], n: usize, x: usize, y: usize) -> Relation
     requires { Comparing a.old d.now n (x ∷ []) y 0 }
-    ensures { (top : ℕ) → Related a.old a.new d.now n top x y result.number result.cells equalityItems }
+    ensures { (top : ℕ) → Related a.old a.new d.now n top x y result.number result.cells equality_items }
 {
     let number = checker_pieces::equal(a, d, n, x, y);
     Relation {
@@ -25,7 +25,7 @@ pub fn equality(a: &mut [u32], d: &[u32], n: usize, x: usize, y: usize) -> Relat
 // x in y: the power of x is y.
 pub fn membership(a: &mut [u32], d: &[u32], n: usize, top: usize, x: usize, y: usize) -> Relation
     requires { Working a.old d.now n top 1 (x ∷ y ∷ []) }
-    ensures { Related a.old a.new d.now n top x y result.number result.cells membershipItems }
+    ensures { Related a.old a.new d.now n top x y result.number result.cells membership_items }
 {
     checker_pieces::formers::power(a, n, top, x);
     let number = checker_pieces::equal(a, d, n + 1, n, y);
@@ -48,7 +48,7 @@ fn both_integers(a: &mut [u32], d: &[u32], n: usize, x: usize, y: usize) -> u32
 // x at most y.
 pub fn comparison(a: &mut [u32], d: &[u32], n: usize, x: usize, y: usize) -> Relation
     requires { Relating a.old d.now n x y 1 }
-    ensures { (top : ℕ) → Related a.old a.new d.now n top x y result.number result.cells comparisonItems }
+    ensures { (top : ℕ) → Related a.old a.new d.now n top x y result.number result.cells comparison_items }
 {
     let number = both_integers(a, d, n, x, y);
     Relation {
@@ -60,7 +60,7 @@ pub fn comparison(a: &mut [u32], d: &[u32], n: usize, x: usize, y: usize) -> Rel
 // A sum, difference, product, quotient or remainder of x and y.
 pub fn arithmetic_rule(a: &mut [u32], d: &[u32], n: usize, top: usize, x: usize, y: usize) -> Ruling
     requires { Working a.old d.now n top 1 (x ∷ y ∷ []) }
-    ensures { Combined a.old a.new d.now n top x y result.number result.cell result.cells result.top 1 arithmeticItems }
+    ensures { Combined a.old a.new d.now n top x y result.number result.cell result.cells result.top 1 arithmetic_items }
 {
     let number = both_integers(a, d, n, x, y);
     Ruling {
@@ -74,7 +74,7 @@ pub fn arithmetic_rule(a: &mut [u32], d: &[u32], n: usize, top: usize, x: usize,
 // The function x applied to y: x is the power of the pairs of y and the result, which is cell n.
 pub fn apply_rule(a: &mut [u32], d: &[u32], n: usize, top: usize, x: usize, y: usize) -> Ruling
     requires { Working a.old d.now n top 4 (x ∷ y ∷ []) }
-    ensures { Combined a.old a.new d.now n top x y result.number result.cell result.cells result.top 4 applyItems }
+    ensures { Combined a.old a.new d.now n top x y result.number result.cell result.cells result.top 4 apply_items }
 {
     types_cells::growth::new_unknown(a, n);
     checker_pieces::formers::pair(a, n + 1, top, y, n);
@@ -91,7 +91,7 @@ pub fn apply_rule(a: &mut [u32], d: &[u32], n: usize, top: usize, x: usize, y: u
 // The component id of x: that of its cell, or of its type words, which enter as a new cell.
 pub fn select_rule(a: &mut [u32], d: &[u32], n: usize, top: usize, x: usize, id: usize) -> Ruling
     requires { Working a.old d.now n top 1 (x ∷ []) }
-    ensures { Derived a.old a.new d.now n top x result.number result.cell result.cells result.top 1 (selectItems id) }
+    ensures { Derived a.old a.new d.now n top x result.number result.cell result.cells result.top 1 (select_items id) }
 {
     types_solver::acyclicity::finite(a, n);
     let v = types_solver::components::component(a, d, x, id);

@@ -7,123 +7,123 @@ use native.Mathlib.Omega.{arith}
 use lib.Dec.{ltb, eqb}
 use borrow.Author.Tests.{ltb-false}
 use Rattle.reader_rules.specs.Tree.{Text, text, Lines, end, declaration, inclusion, Schema, plain, from, both}
-use Rattle.reader_rules.specs.Tree.{Paragraph, given, axiomatic, schema, abbreviation, constraint, includeNode}
+use Rattle.reader_rules.specs.Tree.{Paragraph, given, axiomatic, schema, abbreviation, constraint, include_node}
 use Rattle.types_rules.specs.Types.{Term, under, unders, size}
-use Rattle.types_rules.specs.Formed.{partCountType}
-use Rattle.checker_rules.specs.Unknowns.{Valuation, unknownAt, givenSet}
+use Rattle.types_rules.specs.Formed.{part_count_type}
+use Rattle.checker_rules.specs.Unknowns.{Valuation, unknown_at, given_set}
 use Rattle.checker_rules.specs.Items.{Meets, MeetsIn}
-use Rattle.checker_rules.specs.Conditions.{refuseIf, smallTypes, fewNames}
-use Rattle.checker_rules.specs.Dictionary.{Dictionary, blank, ◌▸◌, nameEntry}
-use Rattle.checker_rules.specs.Signatures.{Signature, noNames, naming, countNames, names_of, termsOf, bindingOf, insertName, merge, declare}
-use Rattle.checker_rules.specs.Scopes.{Scope, globals, withParameters, includeSignature, linesSignature, textSignature, schemaSignature}
-use Rattle.checker_rules.specs.Rules.{textItems, linesItems, schemaItems, paragraphItems}
-use Rattle.checker_rules.specs.Entries.{addGivens, addSignature, extend}
+use Rattle.checker_rules.specs.Conditions.{refuse_if, small_types, few_names}
+use Rattle.checker_rules.specs.Dictionary.{Dictionary, blank, ◌▸◌, name_entry}
+use Rattle.checker_rules.specs.Signatures.{Signature, no_names, naming, count_names, names_of, terms_of, binding_of, insert_name, merge, declare}
+use Rattle.checker_rules.specs.Scopes.{Scope, globals, with_parameters, include_signature, lines_signature, text_signature, schema_signature}
+use Rattle.checker_rules.specs.Rules.{text_items, lines_items, schema_items, paragraph_items}
+use Rattle.checker_rules.specs.Entries.{add_givens, add_signature, extend}
 use Rattle.checker_lookup.specs.Scoped.{SchemaType, Limited}
 use Rattle.reader_rules.specs.Limited.{FewParameters}
-use Rattle.checker_lookup.proofs.FewNames.{FewSchemas, include-few, globals-few, parameters-few}
+use Rattle.checker_lookup.proofs.FewNames.{FewSchemas, include_few, globals_few, parameters_few}
 
 -- What a table that meets the items shows.
 module _ (τ : Valuation) where
-  refuseIf-met : (b : Bool) (f n : ℕ) → Meets (refuseIf b f n) τ → b ≡ false
-  unfolding refuseIf MeetsIn
-  refuseIf-met true f n m = absurd m
-  refuseIf-met false f n m = refl
+  refuse_if_met : (b : Bool) (f n : ℕ) → Meets (refuse_if b f n) τ → b ≡ false
+  unfolding refuse_if MeetsIn
+  refuse_if_met true f n m = absurd m
+  refuse_if_met false f n m = refl
 
-  few-met : (n : ℕ) (s : Signature) → Meets (fewNames n s) τ → countNames s ≤ 16
-  unfolding fewNames
-  few-met n s m = ltb-false 16 (countNames s) (refuseIf-met (ltb 16 (countNames s)) 38 n m)
+  few_met : (n : ℕ) (s : Signature) → Meets (few_names n s) τ → count_names s ≤ 16
+  unfolding few_names
+  few_met n s m = ltb-false 16 (count_names s) (refuse_if_met (ltb 16 (count_names s)) 38 n m)
 
   -- The types of a signature are of size 32 at most.
   unfoldable SmallTerms : Signature → Type 0
-  SmallTerms noNames = Unit {0}
+  SmallTerms no_names = Unit {0}
   SmallTerms (naming i t s) = (size (under τ t) ≤ 32) × SmallTerms s
 
-  small-met : (n : ℕ) (s : Signature) → Meets (smallTypes n s) τ → SmallTerms s
-  unfolding smallTypes MeetsIn SmallTerms
-  small-met n noNames m = tt
-  small-met n (naming i t s) m = (m.0, small-met n s m.1)
+  small_met : (n : ℕ) (s : Signature) → Meets (small_types n s) τ → SmallTerms s
+  unfolding small_types MeetsIn SmallTerms
+  small_met n no_names m = tt
+  small_met n (naming i t s) m = (m.0, small_met n s m.1)
 
-  insert-small : (i : ℕ) (t : Term) (s : Signature) → size (under τ t) ≤ 32 → SmallTerms s → SmallTerms (insertName i t s)
-  unfolding insertName SmallTerms
-  insert-small i t noNames e h = (e, tt)
-  insert-small i t (naming j u s) e h = go (eqb i j) (ltb i j) (insert-small i t s e h.1)
+  insert_small : (i : ℕ) (t : Term) (s : Signature) → size (under τ t) ≤ 32 → SmallTerms s → SmallTerms (insert_name i t s)
+  unfolding insert_name SmallTerms
+  insert_small i t no_names e h = (e, tt)
+  insert_small i t (naming j u s) e h = go (eqb i j) (ltb i j) (insert_small i t s e h.1)
     where
-      go : (a b : Bool) → SmallTerms (insertName i t s) → SmallTerms (cond a (naming j u s) (cond b (naming i t (naming j u s)) (naming j u (insertName i t s))))
+      go : (a b : Bool) → SmallTerms (insert_name i t s) → SmallTerms (cond a (naming j u s) (cond b (naming i t (naming j u s)) (naming j u (insert_name i t s))))
       go true b k = h
       go false true k = (e, h)
       go false false k = (h.0, k)
 
-  merge-small : (s r : Signature) → SmallTerms s → SmallTerms r → SmallTerms (merge s r)
+  merge_small : (s r : Signature) → SmallTerms s → SmallTerms r → SmallTerms (merge s r)
   unfolding merge SmallTerms
-  merge-small noNames r h k = k
-  merge-small (naming i t s) r h k = merge-small s (insertName i t r) h.1 (insert-small i t r h.0 k)
+  merge_small no_names r h k = k
+  merge_small (naming i t s) r h k = merge_small s (insert_name i t r) h.1 (insert_small i t r h.0 k)
 
-  declare-small : (is : List ℕ) (t : Term) (r : Signature) → size (under τ t) ≤ 32 → SmallTerms r → SmallTerms (declare is t r)
+  declare_small : (is : List ℕ) (t : Term) (r : Signature) → size (under τ t) ≤ 32 → SmallTerms r → SmallTerms (declare is t r)
   unfolding declare
-  declare-small [] t r e h = h
-  declare-small (i ∷ is) t r e h = declare-small is t (insertName i t r) e (insert-small i t r e h)
+  declare_small [] t r e h = h
+  declare_small (i ∷ is) t r e h = declare_small is t (insert_name i t r) e (insert_small i t r e h)
 
-  lines-small : (ls : Lines) (Γ : Scope) (G : Dictionary) (r : Signature) → SmallTerms r → Meets (linesItems ls Γ G r) τ → SmallTerms (linesSignature ls Γ r)
-  unfolding linesItems linesSignature MeetsIn
-  lines-small end Γ G r h m = h
-  lines-small (declaration n a is ls) Γ G r h m =
-      lines-small ls Γ G (declare is (unknownAt n 0) r) (declare-small is (unknownAt n 0) r m.1.1.0.0 h) m.1.1.1
-  lines-small (inclusion i ls) Γ G r h m =
-      lines-small ls Γ G (merge (includeSignature i Γ) r)
-      (merge-small (includeSignature i Γ) r (small-met (includeNode i) (includeSignature i Γ) m.1.1.0.0) h) m.1.1.1
+  lines_small : (ls : Lines) (Γ : Scope) (G : Dictionary) (r : Signature) → SmallTerms r → Meets (lines_items ls Γ G r) τ → SmallTerms (lines_signature ls Γ r)
+  unfolding lines_items lines_signature MeetsIn
+  lines_small end Γ G r h m = h
+  lines_small (declaration n a is ls) Γ G r h m =
+      lines_small ls Γ G (declare is (unknown_at n 0) r) (declare_small is (unknown_at n 0) r m.1.1.0.0 h) m.1.1.1
+  lines_small (inclusion i ls) Γ G r h m =
+      lines_small ls Γ G (merge (include_signature i Γ) r)
+      (merge_small (include_signature i Γ) r (small_met (include_node i) (include_signature i Γ) m.1.1.0.0) h) m.1.1.1
 
-  lines-few : (ls : Lines) (Γ : Scope) (G : Dictionary) (r : Signature) → countNames r ≤ 16 → Meets (linesItems ls Γ G r) τ → countNames (linesSignature ls Γ r) ≤ 16
-  unfolding linesItems linesSignature MeetsIn
-  lines-few end Γ G r h m = h
-  lines-few (declaration n a is ls) Γ G r h m = lines-few ls Γ G (declare is (unknownAt n 0) r) (few-met n (declare is (unknownAt n 0) r) m.1.1.0.1) m.1.1.1
-  lines-few (inclusion i ls) Γ G r h m =
-      lines-few ls Γ G (merge (includeSignature i Γ) r) (few-met (includeNode i) (merge (includeSignature i Γ) r) m.1.1.0.1) m.1.1.1
+  lines_few : (ls : Lines) (Γ : Scope) (G : Dictionary) (r : Signature) → count_names r ≤ 16 → Meets (lines_items ls Γ G r) τ → count_names (lines_signature ls Γ r) ≤ 16
+  unfolding lines_items lines_signature MeetsIn
+  lines_few end Γ G r h m = h
+  lines_few (declaration n a is ls) Γ G r h m = lines_few ls Γ G (declare is (unknown_at n 0) r) (few_met n (declare is (unknown_at n 0) r) m.1.1.0.1) m.1.1.1
+  lines_few (inclusion i ls) Γ G r h m =
+      lines_few ls Γ G (merge (include_signature i Γ) r) (few_met (include_node i) (merge (include_signature i Γ) r) m.1.1.0.1) m.1.1.1
 
-  text-small : (t : Text) (Γ : Scope) (G : Dictionary) → Meets (textItems t Γ G) τ → SmallTerms (textSignature t Γ)
-  unfolding textItems textSignature MeetsIn SmallTerms
-  text-small (text n p ls) Γ G m = lines-small ls Γ G noNames tt m.0
+  text_small : (t : Text) (Γ : Scope) (G : Dictionary) → Meets (text_items t Γ G) τ → SmallTerms (text_signature t Γ)
+  unfolding text_items text_signature MeetsIn SmallTerms
+  text_small (text n p ls) Γ G m = lines_small ls Γ G no_names tt m.0
 
-  text-few : (t : Text) (Γ : Scope) (G : Dictionary) → Meets (textItems t Γ G) τ → countNames (textSignature t Γ) ≤ 16
-  unfolding textItems textSignature MeetsIn countNames
-  text-few (text n p ls) Γ G m = lines-few ls Γ G noNames (omega arith) m.0
+  text_few : (t : Text) (Γ : Scope) (G : Dictionary) → Meets (text_items t Γ G) τ → count_names (text_signature t Γ) ≤ 16
+  unfolding text_items text_signature MeetsIn count_names
+  text_few (text n p ls) Γ G m = lines_few ls Γ G no_names (omega arith) m.0
 
-  pub schema-few : (x : Schema) (Γ : Scope) → FewSchemas Γ → Meets (schemaItems x Γ) τ → countNames (schemaSignature x Γ) ≤ 16
-  unfolding schemaItems schemaSignature MeetsIn
-  schema-few (plain t) Γ h m = text-few t Γ blank m
-  schema-few (from i) Γ h m = include-few i Γ h
-  schema-few (both n a b) Γ h m = few-met n (merge (schemaSignature b Γ) (schemaSignature a Γ)) m.1.1.1
+  pub schema_few : (x : Schema) (Γ : Scope) → FewSchemas Γ → Meets (schema_items x Γ) τ → count_names (schema_signature x Γ) ≤ 16
+  unfolding schema_items schema_signature MeetsIn
+  schema_few (plain t) Γ h m = text_few t Γ blank m
+  schema_few (from i) Γ h m = include_few i Γ h
+  schema_few (both n a b) Γ h m = few_met n (merge (schema_signature b Γ) (schema_signature a Γ)) m.1.1.1
 
-  parts-count : (s : Signature) → partCountType (unders τ (termsOf s)) ≡ countNames s
-  unfolding under termsOf countNames
-  parts-count noNames = refl
-  parts-count (naming i t s) = ap suc (parts-count s)
+  parts_count : (s : Signature) → part_count_type (unders τ (terms_of s)) ≡ count_names s
+  unfolding under terms_of count_names
+  parts_count no_names = refl
+  parts_count (naming i t s) = ap suc (parts_count s)
 
   -- What is recorded of a signature with few identifiers is the type of a schema.
-  pub binding-type : (s : Signature) → countNames s ≤ 16 → SchemaType (under τ (bindingOf s))
-  unfolding under bindingOf
-  binding-type s l = (omega (arith, parts-count s), (names_of s, unders τ (termsOf s), refl))
+  pub binding_type : (s : Signature) → count_names s ≤ 16 → SchemaType (under τ (binding_of s))
+  unfolding under binding_of
+  binding_type s l = (omega (arith, parts_count s), (names_of s, unders τ (terms_of s), refl))
 
-  pub schema-type : (x : Schema) (ps : List ℕ) (D : Dictionary) → Limited D → Meets (schemaItems x (withParameters ps 1 (globals D))) τ
-      → SchemaType (under τ (bindingOf (schemaSignature x (withParameters ps 1 (globals D)))))
-  schema-type x ps D l m =
-      let Γ = withParameters ps 1 (globals D) in
-      binding-type (schemaSignature x Γ) (schema-few x Γ (parameters-few ps 1 (globals D) (globals-few D l)) m)
+  pub schema_type : (x : Schema) (ps : List ℕ) (D : Dictionary) → Limited D → Meets (schema_items x (with_parameters ps 1 (globals D))) τ
+      → SchemaType (under τ (binding_of (schema_signature x (with_parameters ps 1 (globals D)))))
+  schema_type x ps D l m =
+      let Γ = with_parameters ps 1 (globals D) in
+      binding_type (schema_signature x Γ) (schema_few x Γ (parameters_few ps 1 (globals D) (globals_few D l)) m)
 
-  givens-limited : (is : List ℕ) (D : Dictionary) → Limited D → Limited (addGivens is D)
-  unfolding addGivens Limited size
-  givens-limited [] D l = l
-  givens-limited (i ∷ is) D l = givens-limited is (D ▸ nameEntry i 0 (givenSet i)) (l, omega arith, omega arith)
+  givens_limited : (is : List ℕ) (D : Dictionary) → Limited D → Limited (add_givens is D)
+  unfolding add_givens Limited size
+  givens_limited [] D l = l
+  givens_limited (i ∷ is) D l = givens_limited is (D ▸ name_entry i 0 (given_set i)) (l, omega arith, omega arith)
 
-  signature-limited : (s : Signature) (D : Dictionary) → SmallTerms s → Limited D → Limited (addSignature s τ D)
-  unfolding addSignature Limited SmallTerms
-  signature-limited noNames D h l = l
-  signature-limited (naming i t s) D h l = signature-limited s (D ▸ nameEntry i 0 (under τ t)) h.1 (l, omega arith, h.0)
+  signature_limited : (s : Signature) (D : Dictionary) → SmallTerms s → Limited D → Limited (add_signature s τ D)
+  unfolding add_signature Limited SmallTerms
+  signature_limited no_names D h l = l
+  signature_limited (naming i t s) D h l = signature_limited s (D ▸ name_entry i 0 (under τ t)) h.1 (l, omega arith, h.0)
 
 -- A PARAGRAPH WHOSE ITEMS ARE MET KEEPS THE DICTIONARY WITHIN ITS LIMITS.
-pub limited-extend : (p : Paragraph) (D : Dictionary) (τ : Valuation) → FewParameters p → Limited D → Meets (paragraphItems p D) τ → Limited (extend p D τ)
-unfolding paragraphItems extend MeetsIn Limited
-limited-extend (given n is) D τ f l m = givens-limited τ is D l
-limited-extend (axiomatic n t) D τ f l m = signature-limited τ (textSignature t (globals D)) D (text-small τ t (globals D) D m) l
-limited-extend (schema n s ps x) D τ f l m = (l, schema-type τ x ps D l m)
-limited-extend (abbreviation n i ps a) D τ f l m = (l, f, m.1.1)
-limited-extend (constraint n p) D τ f l m = l
+pub limited_extend : (p : Paragraph) (D : Dictionary) (τ : Valuation) → FewParameters p → Limited D → Meets (paragraph_items p D) τ → Limited (extend p D τ)
+unfolding paragraph_items extend MeetsIn Limited
+limited_extend (given n is) D τ f l m = givens_limited τ is D l
+limited_extend (axiomatic n t) D τ f l m = signature_limited τ (text_signature t (globals D)) D (text_small τ t (globals D) D m) l
+limited_extend (schema n s ps x) D τ f l m = (l, schema_type τ x ps D l m)
+limited_extend (abbreviation n i ps a) D τ f l m = (l, f, m.1.1)
+limited_extend (constraint n p) D τ f l m = l

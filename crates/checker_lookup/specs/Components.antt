@@ -4,17 +4,17 @@ use Rattle.types_rules.specs.Former.{binding}
 use Rattle.types_rules.specs.Instance.{instance}
 use Rattle.types_rules.specs.Types.{Ty, Tys, node, tnil, tcons, Term, Terms}
 use Rattle.types_rules.specs.Words.{words}
-use Rattle.checker_rules.specs.Signatures.{componentsOf}
+use Rattle.checker_rules.specs.Signatures.{components_of}
 use Rattle.types_cells.specs.Settled.{heap, Reads, Areas}
 use Rattle.checker_signatures.specs.Rows.{rows}
 use Rattle.checker_signatures.specs.Tables.{Table}
 use Rattle.checker_signatures.specs.Carried.{Carries}
 
 -- The rows of components whose words begin at `at`: identifier, words of its type, the next one.
-unfoldable pub componentRows : ℕ → List ℕ → Tys → List (ℕ × ℕ)
-componentRows at [] gs = []
-componentRows at (i ∷ ids) tnil = []
-componentRows at (i ∷ ids) (tcons g gs) = (i, at + 1) ∷ componentRows (at + 1 + length (words g)) ids gs
+unfoldable pub component_rows : ℕ → List ℕ → Tys → List (ℕ × ℕ)
+component_rows at [] gs = []
+component_rows at (i ∷ ids) tnil = []
+component_rows at (i ∷ ids) (tcons g gs) = (i, at + 1) ∷ component_rows (at + 1 + length (words g)) ids gs
 
 -- The place q has the type of a component; t is that type with the terms X for its parameters.
 pub record Component (s d : List ℕ) (X : Terms) (t : Term) (q : ℕ) : Type 0 where
@@ -39,8 +39,8 @@ pub record ComponentsAsked (s d w : List ℕ) (p base : ℕ) : Type 0 where
 -- Its m rows are written at base, whatever terms its parameters stand for.
 pub record ComponentsOf (s d w w' : List ℕ) (p base m : ℕ) (ids : List ℕ) (gs : Tys) : Type 0 where
   pub count : m ≡ length ids
-  pub table : Table w w' base (componentRows (p + 2) ids gs) m
-  pub carries : (X : Terms) → Carries (Component s d X) (componentsOf (instance X (node (binding ids) gs))) (rows w' base m)
+  pub table : Table w w' base (component_rows (p + 2) ids gs) m
+  pub carries : (X : Terms) → Carries (Component s d X) (components_of (instance X (node (binding ids) gs))) (rows w' base m)
   pub after : EachPlace (λ q. p < q) (rows w' base m)
 
 pub record ComponentRows (s d w w' : List ℕ) (p base m : ℕ) : Type 0 where

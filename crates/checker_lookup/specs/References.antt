@@ -3,15 +3,15 @@ use Rattle.std.specs.Prelude.{◌≡◌, List, ℕ, suc, ◌+◌, ◌*◌, ◌�
 use Rattle.reader_rules.specs.Tree.{Exprs, none}
 use Rattle.types_rules.specs.Instance.{instance}
 use Rattle.types_rules.specs.Types.{Ty, Term, size}
-use Rattle.checker_rules.specs.Conditions.{fresh_row, typed, types_of, arePowers}
-use Rattle.checker_rules.specs.Dictionary.{Dictionary, nameIn}
+use Rattle.checker_rules.specs.Conditions.{fresh_row, typed, types_of, are_powers}
+use Rattle.checker_rules.specs.Dictionary.{Dictionary, name_in}
 use Rattle.checker_rules.specs.Items.{◌⨾◌}
-use Rattle.checker_rules.specs.Rules.{referenceItems}
+use Rattle.checker_rules.specs.Rules.{reference_items}
 use Rattle.checker_rules.specs.Scopes.{Scope, name_at}
-use Rattle.checker_rules.specs.Unknowns.{slot, unknownAt, row}
+use Rattle.checker_rules.specs.Unknowns.{slot, unknown_at, row}
 use Rattle.types_cells.specs.Store.{run}
 use Rattle.types_cells.specs.Settled.{lower, heap, Reads}
-use Rattle.checker_pieces.specs.Stage.{Ghost, Stands, Cell, Room, Uses, Unvisited, SlotOf, Ruled, nodeCells}
+use Rattle.checker_pieces.specs.Stage.{Ghost, Stands, Cell, Room, Uses, Unvisited, SlotOf, Ruled, node_cells}
 use Rattle.checker_pieces.specs.Building.{Cells, Introduced}
 use Rattle.checker_lookup.specs.Scoped.{SettledAt, DictionaryHeld, Scoped}
 use Rattle.checker_lookup.specs.Enlarged.{Enlarged}
@@ -29,7 +29,7 @@ pub record InstanceAsked (s d : List ℕ) (n top p first m : ℕ) : Type 0 where
 -- A cell has the type, with unknowns 1 to m of node k for its parameters.
 pub record InstanceOf (s s' d : List ℕ) (n top p first m cell n' top' : ℕ) : Type 0 where
   pub enlarged : Enlarged s s' d n top n' top' 32
-  pub denoted : (G : Ghost) → Stands s d n top G → (g : Ty) → Reads (heap s d) p g → (k : ℕ) → ((i : ℕ) → i < m → Cell s d n G (first + i) (unknownAt k (suc i))) →
+  pub denoted : (G : Ghost) → Stands s d n top G → (g : Ty) → Reads (heap s d) p g → (k : ℕ) → ((i : ℕ) → i < m → Cell s d n G (first + i) (unknown_at k (suc i))) →
       Cell s' d n' G cell (instance (row k 1 m) g)
 
 -- THE TYPE OF A NODE is that of a new cell: the settled type of a term.
@@ -49,7 +49,7 @@ pub record RecordedAt (s d : List ℕ) (n top p m : ℕ) : Type 0 where
   pub reads : Reads (heap s d) p type
   pub small : size type ≤ 32
   pub few : m ≤ 4
-  pub room : Room s n top nodeCells
+  pub room : Room s n top node_cells
 
 -- The type of a node is that recorded type, with an unknown for each parameter.
 pub record Generic (s s' d : List ℕ) (n top p m cell n' top' : ℕ) : Type 0 where
@@ -66,13 +66,13 @@ pub record Consulted (s d w : List ℕ) (n top : ℕ) : Type 0 where
   pub unvisited : Unvisited node ghost
   pub dictionary : Dictionary
   pub recorded : DictionaryHeld dictionary d w
-  pub room : Room s n top nodeCells
+  pub room : Room s n top node_cells
 
 -- A RECORDED NAME WITHOUT ACTUALS.
 pub record Global (s s' d w : List ℕ) (n top id number cell n' top' : ℕ) : Type 0 where
   pub low : lower s' ≡ lower s
-  pub uses : number ≡ 0 → Uses s s' n top n' top' nodeCells
-  pub ruled : (G : Ghost) → Stands s d n top G → (k : ℕ) → Unvisited k G → (D : Dictionary) → DictionaryHeld D d w → Ruled s s' d n top k number cell n' top' G (referenceItems k none (nameIn id D))
+  pub uses : number ≡ 0 → Uses s s' n top n' top' node_cells
+  pub ruled : (G : Ghost) → Stands s d n top G → (k : ℕ) → Unvisited k G → (D : Dictionary) → DictionaryHeld D d w → Ruled s s' d n top k number cell n' top' G (reference_items k none (name_in id D))
 
 -- A name may be looked up in scope.
 pub record Referring (s d w : List ℕ) (n top rows : ℕ) : Type 0 where
@@ -84,14 +84,14 @@ pub record Referring (s d w : List ℕ) (n top rows : ℕ) : Type 0 where
   pub dictionary : Dictionary
   pub scoped : Scoped s d w rows ghost scope dictionary
   pub table : 2 * rows ≤ length w
-  pub room : Room s n top nodeCells
+  pub room : Room s n top node_cells
 
 -- REF WITHOUT ACTUALS.
 pub record Refers (s s' d w : List ℕ) (n top rows id number cell n' top' : ℕ) : Type 0 where
   pub low : lower s' ≡ lower s
-  pub uses : number ≡ 0 → Uses s s' n top n' top' nodeCells
+  pub uses : number ≡ 0 → Uses s s' n top n' top' node_cells
   pub ruled : (G : Ghost) → Stands s d n top G → (k : ℕ) → Unvisited k G → (Γ : Scope) (D : Dictionary) → Scoped s d w rows G Γ D →
-      Ruled s s' d n top k number cell n' top' G (referenceItems k none (name_at id Γ))
+      Ruled s s' d n top k number cell n' top' G (reference_items k none (name_at id Γ))
 
 -- A RECORDED TYPE WITH ACTUALS, as many as it has parameters: their cells are the first m words of `parts`.
 pub record ApplyingAt (s d : List ℕ) (n top p m : ℕ) (parts : List ℕ) : Type 0 where
@@ -102,9 +102,9 @@ pub record ApplyingAt (s d : List ℕ) (n top p m : ℕ) (parts : List ℕ) : Ty
 
 pub record AppliedAt (s s' d : List ℕ) (n top p m : ℕ) (parts : List ℕ) (number cell n' top' : ℕ) : Type 0 where
   pub low : lower s' ≡ lower s
-  pub uses : number ≡ 0 → Uses s s' n top n' top' nodeCells
+  pub uses : number ≡ 0 → Uses s s' n top n' top' node_cells
   pub ruled : (G : Ghost) → Stands s d n top G → (g : Ty) → Reads (heap s d) p g → (k : ℕ) → Unvisited k G → (xs : Exprs) → Cells s d n G (run parts 0 m) (types_of xs) →
-      Ruled s s' d n top k number cell n' top' G (arePowers k xs 1 ⨾ typed k (instance (row k 1 m) g))
+      Ruled s s' d n top k number cell n' top' G (are_powers k xs 1 ⨾ typed k (instance (row k 1 m) g))
 
 -- A RECORDED NAME WITH ACTUALS, one at least.
 pub record ConsultedWith (s d w : List ℕ) (n top : ℕ) (parts : List ℕ) (m : ℕ) : Type 0 where
@@ -116,9 +116,9 @@ pub record ConsultedWith (s d w : List ℕ) (n top : ℕ) (parts : List ℕ) (m 
 
 pub record GlobalApplied (s s' d w : List ℕ) (n top id : ℕ) (parts : List ℕ) (m number cell n' top' : ℕ) : Type 0 where
   pub low : lower s' ≡ lower s
-  pub uses : number ≡ 0 → Uses s s' n top n' top' nodeCells
+  pub uses : number ≡ 0 → Uses s s' n top n' top' node_cells
   pub ruled : (G : Ghost) → Stands s d n top G → (k : ℕ) → Unvisited k G → (D : Dictionary) → DictionaryHeld D d w → (xs : Exprs) → Cells s d n G (run parts 0 m) (types_of xs) →
-      Ruled s s' d n top k number cell n' top' G (referenceItems k xs (nameIn id D))
+      Ruled s s' d n top k number cell n' top' G (reference_items k xs (name_in id D))
 
 -- REF: a name in scope with m actuals, whose cells stand in `parts`.
 pub record ReferringWith (s d w : List ℕ) (n top rows : ℕ) (parts : List ℕ) (m : ℕ) : Type 0 where
@@ -129,6 +129,6 @@ pub record ReferringWith (s d w : List ℕ) (n top rows : ℕ) (parts : List ℕ
 
 pub record RefersWith (s s' d w : List ℕ) (n top rows id : ℕ) (parts : List ℕ) (m number cell n' top' : ℕ) : Type 0 where
   pub low : lower s' ≡ lower s
-  pub uses : number ≡ 0 → Uses s s' n top n' top' nodeCells
+  pub uses : number ≡ 0 → Uses s s' n top n' top' node_cells
   pub ruled : (G : Ghost) → Stands s d n top G → (k : ℕ) → Unvisited k G → (Γ : Scope) (D : Dictionary) → Scoped s d w rows G Γ D → (xs : Exprs) → Cells s d n G (run parts 0 m) (types_of xs) →
-      Ruled s s' d n top k number cell n' top' G (referenceItems k xs (name_at id Γ))
+      Ruled s s' d n top k number cell n' top' G (reference_items k xs (name_at id Γ))

@@ -1,12 +1,12 @@
 -- The scope at run time: a stack of rows in the work area, an identifier and the place of its settled type each, over the dictionary's area.
 use Rattle.std.specs.Prelude.{◌≡◌, List, ℕ, ◌≤◌}
 use Rattle.types_rules.specs.Equations.{In}
-use Rattle.types_rules.specs.Formed.{partCountType}
+use Rattle.types_rules.specs.Formed.{part_count_type}
 use Rattle.types_rules.specs.Former.{binding}
 use Rattle.types_rules.specs.Types.{Ty, Tys, node, Term, Each, under, size}
 use Rattle.checker_rules.specs.Unknowns.{Valuation}
 use Rattle.checker_rules.specs.Items.{◌⨾◌, Meets}
-use Rattle.checker_rules.specs.Dictionary.{Dictionary, blank, ◌▸◌, nameEntry, schemaEntry}
+use Rattle.checker_rules.specs.Dictionary.{Dictionary, blank, ◌▸◌, name_entry, schema_entry}
 use Rattle.checker_rules.specs.Scopes.{Scope}
 use Rattle.checker_rules.specs.WellFormed.{FormedDictionary}
 use Rattle.types_cells.specs.Settled.{heap, Reads}
@@ -24,7 +24,7 @@ pub record SettledAt (s d : List ℕ) (G : Ghost) (t : Term) (p : ℕ) : Type 0 
 
 -- The binding of a schema has 16 components at most (38).
 abbrev pub FewParts : Ty → Type 0
-FewParts (node h gs) = partCountType gs ≤ 16
+FewParts (node h gs) = part_count_type gs ≤ 16
 
 abbrev pub IsBinding : Ty → Type 0
 IsBinding g = (ids : List ℕ) × (gs : Tys) × (g ≡ node (binding ids) gs)
@@ -36,8 +36,8 @@ SchemaType g = FewParts g × IsBinding g
 -- Entries keep to the limits: a name has 4 parameters at most and a type of size 32 at most, a schema the type of a schema (document 01, kinds 4 and 5, and 38).
 unfoldable pub Limited : Dictionary → Type 0
 Limited blank = Unit {0}
-Limited (D ▸ nameEntry i p g) = Limited D × (p ≤ 4) × (size g ≤ 32)
-Limited (D ▸ schemaEntry s p g) = Limited D × SchemaType g
+Limited (D ▸ name_entry i p g) = Limited D × (p ≤ 4) × (size g ≤ 32)
+Limited (D ▸ schema_entry s p g) = Limited D × SchemaType g
 
 -- The area d holds the dictionary D, w has its index, and the entries are well formed and within the limits.
 pub record DictionaryHeld (D : Dictionary) (d w : List ℕ) : Type 0 where

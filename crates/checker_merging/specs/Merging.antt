@@ -4,8 +4,8 @@ use Rattle.types_rules.specs.Equations.{In}
 use Rattle.types_rules.specs.Types.{Ty, Term, Each}
 use Rattle.checker_rules.specs.Dictionary.{Dictionary}
 use Rattle.checker_rules.specs.Items.{Items, Refuses, MeetsIn}
-use Rattle.checker_rules.specs.Signatures.{Signature, termIn}
-use Rattle.checker_rules.specs.Conditions.{sameType, mergeDeclared, mergeNames, newNames}
+use Rattle.checker_rules.specs.Signatures.{Signature, term_in}
+use Rattle.checker_rules.specs.Conditions.{same_type, merge_declared, merge_names, new_names}
 use Rattle.types_cells.specs.Settled.{heap, Reads, Readable, Areas}
 use Rattle.checker_signatures.specs.Rows.{rows}
 use Rattle.checker_signatures.specs.Carried.{Carries}
@@ -32,16 +32,16 @@ pub record DeclaredAsk (s d w : List ℕ) (base m p : ℕ) : Type 0 where
 -- One identifier id, with the type at p, beside the signature r.
 pub record OneTold (s d w : List ℕ) (base m p id : ℕ) (fine : Bool) : Type 0 where
   pub goes : fine ≡ true → (H : Items) (U : List ℕ) (n : ℕ) (t : Term) (r : Signature) → Steady H U → TypedAt s d H U t p →
-      Carries (TypedAt s d H U) r (rows w base m) → Walked H (sameType n t (termIn id r)) U U (λ x. ⊥)
+      Carries (TypedAt s d H U) r (rows w base m) → Walked H (same_type n t (term_in id r)) U U (λ x. ⊥)
   pub stops : fine ≡ false → (H : Items) (U : List ℕ) (n : ℕ) (t : Term) (r : Signature) → Steady H U → TypedAt s d H U t p →
-      Carries (TypedAt s d H U) r (rows w base m) → Refuses (sameType n t (termIn id r)) (MeetsIn H) 36 n
+      Carries (TypedAt s d H U) r (rows w base m) → Refuses (same_type n t (term_in id r)) (MeetsIn H) 36 n
 
 -- A Decl's identifiers, with the type at p, beside the signature of the lines before.
 pub record DeclaredTold (s d w : List ℕ) (base m p : ℕ) (is : List ℕ) (fine : Bool) : Type 0 where
   pub goes : fine ≡ true → (H : Items) (U : List ℕ) (n : ℕ) (t : Term) (r : Signature) → Steady H U → TypedAt s d H U t p →
-      Carries (TypedAt s d H U) r (rows w base m) → Walked H (mergeDeclared n is t r) U U (λ x. ⊥)
+      Carries (TypedAt s d H U) r (rows w base m) → Walked H (merge_declared n is t r) U U (λ x. ⊥)
   pub stops : fine ≡ false → (H : Items) (U : List ℕ) (n : ℕ) (t : Term) (r : Signature) → Steady H U → TypedAt s d H U t p →
-      Carries (TypedAt s d H U) r (rows w base m) → Refuses (mergeDeclared n is t r) (MeetsIn H) 36 n
+      Carries (TypedAt s d H U) r (rows w base m) → Refuses (merge_declared n is t r) (MeetsIn H) 36 n
 
 pub record RowsAsk (s d w : List ℕ) (base m source k : ℕ) : Type 0 where
   pub areas : Areas s d
@@ -51,11 +51,11 @@ pub record RowsAsk (s d w : List ℕ) (base m source k : ℕ) : Type 0 where
 -- The rows of one signature, from number j on, beside another.
 pub record RowsTold (s d w : List ℕ) (base m source k : ℕ) (fine : Bool) : Type 0 where
   pub goes : fine ≡ true → (H : Items) (U : List ℕ) (n : ℕ) (q r : Signature) → Steady H U → Carries (TypedAt s d H U) q (rows w source k) →
-      Carries (TypedAt s d H U) r (rows w base m) → Walked H (mergeNames n q r) U U (λ x. ⊥)
+      Carries (TypedAt s d H U) r (rows w base m) → Walked H (merge_names n q r) U U (λ x. ⊥)
   pub stops : fine ≡ false → (H : Items) (U : List ℕ) (n : ℕ) (q r : Signature) → Steady H U → Carries (TypedAt s d H U) q (rows w source k) →
-      Carries (TypedAt s d H U) r (rows w base m) → Refuses (mergeNames n q r) (MeetsIn H) 36 n
+      Carries (TypedAt s d H U) r (rows w base m) → Refuses (merge_names n q r) (MeetsIn H) 36 n
 
 -- 36, second case: no identifier of the list is global by an earlier paragraph (document 01, finding 36; R16).
 pub record NewTold (d w is : List ℕ) (fine : Bool) : Type 0 where
-  pub goes : fine ≡ true → (D : Dictionary) (H : Items) (U : List ℕ) (n : ℕ) → Indexed D d w → Steady H U → Walked H (newNames n is D) U U (λ x. ⊥)
-  pub stops : fine ≡ false → (D : Dictionary) (H : Items) (U : List ℕ) (n : ℕ) → Indexed D d w → Steady H U → Refuses (newNames n is D) (MeetsIn H) 36 n
+  pub goes : fine ≡ true → (D : Dictionary) (H : Items) (U : List ℕ) (n : ℕ) → Indexed D d w → Steady H U → Walked H (new_names n is D) U U (λ x. ⊥)
+  pub stops : fine ≡ false → (D : Dictionary) (H : Items) (U : List ℕ) (n : ℕ) → Indexed D d w → Steady H U → Refuses (new_names n is D) (MeetsIn H) 36 n

@@ -1,6 +1,6 @@
 // Finding 36: the signatures of lines, and of a Conjunction's two sides, beside each other. specs/Merging.antt says what is asked and told.
 ghost use Rattle.std.specs.Prelude.{length, drop, ◌+◌, ◌*◌, ◌≤◌};
-ghost use Rattle.checker_signatures.specs.Rows.{rows, identifiersOf};
+ghost use Rattle.checker_signatures.specs.Rows.{rows, identifiers_of};
 ghost use Rattle.checker_merging.specs.Merging.{DeclaredAsk, OneTold, DeclaredTold, RowsAsk, RowsTold, NewTold};
 
 use checker_dictionary::index::find_name;
@@ -88,7 +88,7 @@ pub fn names_new(d: &[u32], work: &[u32], part: &[u32], j: usize) -> bool
 // The same of the k rows at source.
 pub fn rows_new(d: &[u32], work: &[u32], source: usize, k: usize) -> bool
     requires { source + 2 * k ≤ length work.now }
-    ensures { NewTold d.now work.now (identifiersOf (rows work.now source k)) result }
+    ensures { NewTold d.now work.now (identifiers_of (rows work.now source k)) result }
 {
     if k == 0 {
         return true;

@@ -11,8 +11,8 @@ use Rattle.checker_closing.specs.Nodes.{Node}
 pub node_of : {doc p : List ℕ} {q k : ℕ} → At doc q k → p ≡ part doc k → Node doc p q k
 node_of h e = record { at = h; words = e }
 
-pub word-at : {doc p : List ℕ} {q k : ℕ} → Node doc p q k → (j x : ℕ) → x ≡ get_or p j 0 → x ≡ operand_at doc k j
-word-at B j x e = e ∙ ap (λ (l : List ℕ). get_or l j 0) B.words
+pub word_at_lem : {doc p : List ℕ} {q k : ℕ} → Node doc p q k → (j x : ℕ) → x ≡ get_or p j 0 → x ≡ operand_at doc k j
+word_at_lem B j x e = e ∙ ap (λ (l : List ℕ). get_or l j 0) B.words
 
-pub kind-at : {doc p : List ℕ} {q k : ℕ} → Node doc p q k → (x : ℕ) → x ≡ get_or p 0 0 → kind_at doc k ≡ x
-kind-at B x e = sym (word-at B 0 x e)
+pub kind_at_lem : {doc p : List ℕ} {q k : ℕ} → Node doc p q k → (x : ℕ) → x ≡ get_or p 0 0 → kind_at doc k ≡ x
+kind_at_lem B x e = sym (word_at_lem B 0 x e)

@@ -6,7 +6,7 @@ ghost use Rattle.reader_rules.specs.Kinds.{expressions, predicates, texts, lines
 ghost use Rattle.reader_rules.specs.Nodes.{kind_at};
 ghost use Rattle.reader_rules.specs.Promise.{At, Lower};
 ghost use Rattle.reader_rules.specs.Tree.{end};
-ghost use Rattle.reader_rules.specs.Decode.{exprAt, predAt, textAt, line_at, includeAt, exprsFrom, lines_from};
+ghost use Rattle.reader_rules.specs.Decode.{expr_at, pred_at, text_at, line_at, include_at, exprs_from, lines_from};
 ghost use Rattle.checker_contracts.specs.Expressions.{ExprAsk, ExprDone, ExprsAsk, ExprsDone};
 ghost use Rattle.checker_contracts.specs.Predicates.{PredAsk, PredDone};
 ghost use Rattle.checker_contracts.specs.Texts.{TextAsk, TextDone, LinesAsk, LinesDone};
@@ -54,8 +54,8 @@ fn opers(
     parts: &mut [u32],
     j: usize,
 ) -> Visit
-    requires { Node doc.now p.now expressions k × (i ≤ 256) × ((q : ℕ) → i ≤ q → q < length p.now → Lower doc.now k expressions (get_or p.now q 0)) × ExprsAsk a.old d.now w.old rows n top at free (exprsFrom doc.now k i (length p.now - i)) parts.old j }
-    ensures { ExprsDone a.old a.new d.now w.old w.new rows n top at free (exprsFrom doc.now k i (length p.now - i)) parts.old parts.new j result.number result.place result.cells result.top result.at }
+    requires { Node doc.now p.now expressions k × (i ≤ 256) × ((q : ℕ) → i ≤ q → q < length p.now → Lower doc.now k expressions (get_or p.now q 0)) × ExprsAsk a.old d.now w.old rows n top at free (exprs_from doc.now k i (length p.now - i)) parts.old j }
+    ensures { ExprsDone a.old a.new d.now w.old w.new rows n top at free (exprs_from doc.now k i (length p.now - i)) parts.old parts.new j result.number result.place result.cells result.top result.at }
 {
     if p.len() <= i {
         return visit_at(0, k, 0, n, top, at);
@@ -98,8 +98,8 @@ fn refer(
     k: usize,
     p: &[u32],
 ) -> Visit
-    requires { Node doc.now p.now expressions k × (kind_at doc.now k ≡ 30) × ExprAsk a.old d.now w.old rows n top at free (exprAt doc.now k) }
-    ensures { ExprDone a.old a.new d.now w.old w.new rows n top at free (exprAt doc.now k) result.number result.place result.cell result.cells result.top result.at }
+    requires { Node doc.now p.now expressions k × (kind_at doc.now k ≡ 30) × ExprAsk a.old d.now w.old rows n top at free (expr_at doc.now k) }
+    ensures { ExprDone a.old a.new d.now w.old w.new rows n top at free (expr_at doc.now k) result.number result.place result.cell result.cells result.top result.at }
 {
     let mut parts = [0u32; limits::PARTS];
     let x = opers(doc, a, d, w, rows, n, top, at, free, k, p, 2, &mut parts, 0);
@@ -135,8 +135,8 @@ fn group(
     k: usize,
     p: &[u32],
 ) -> Visit
-    requires { Node doc.now p.now expressions k × (33 ≤ kind_at doc.now k) × (kind_at doc.now k ≤ 35) × ExprAsk a.old d.now w.old rows n top at free (exprAt doc.now k) }
-    ensures { ExprDone a.old a.new d.now w.old w.new rows n top at free (exprAt doc.now k) result.number result.place result.cell result.cells result.top result.at }
+    requires { Node doc.now p.now expressions k × (33 ≤ kind_at doc.now k) × (kind_at doc.now k ≤ 35) × ExprAsk a.old d.now w.old rows n top at free (expr_at doc.now k) }
+    ensures { ExprDone a.old a.new d.now w.old w.new rows n top at free (expr_at doc.now k) result.number result.place result.cell result.cells result.top result.at }
 {
     let mut parts = [0u32; limits::PARTS];
     let x = opers(doc, a, d, w, rows, n, top, at, free, k, p, 1, &mut parts, 0);
@@ -172,8 +172,8 @@ fn power(
     k: usize,
     p: &[u32],
 ) -> Visit
-    requires { Node doc.now p.now expressions k × (kind_at doc.now k ≡ 36) × ExprAsk a.old d.now w.old rows n top at free (exprAt doc.now k) }
-    ensures { ExprDone a.old a.new d.now w.old w.new rows n top at free (exprAt doc.now k) result.number result.place result.cell result.cells result.top result.at }
+    requires { Node doc.now p.now expressions k × (kind_at doc.now k ≡ 36) × ExprAsk a.old d.now w.old rows n top at free (expr_at doc.now k) }
+    ensures { ExprDone a.old a.new d.now w.old w.new rows n top at free (expr_at doc.now k) result.number result.place result.cell result.cells result.top result.at }
 {
     let x = expr(doc, a, d, w, rows, n, top, at, free, word(p, 1));
     if x.number != 0 {
@@ -198,8 +198,8 @@ fn select(
     k: usize,
     p: &[u32],
 ) -> Visit
-    requires { Node doc.now p.now expressions k × (kind_at doc.now k ≡ 38) × ExprAsk a.old d.now w.old rows n top at free (exprAt doc.now k) }
-    ensures { ExprDone a.old a.new d.now w.old w.new rows n top at free (exprAt doc.now k) result.number result.place result.cell result.cells result.top result.at }
+    requires { Node doc.now p.now expressions k × (kind_at doc.now k ≡ 38) × ExprAsk a.old d.now w.old rows n top at free (expr_at doc.now k) }
+    ensures { ExprDone a.old a.new d.now w.old w.new rows n top at free (expr_at doc.now k) result.number result.place result.cell result.cells result.top result.at }
 {
     let x = expr(doc, a, d, w, rows, n, top, at, free, word(p, 1));
     if x.number != 0 {
@@ -224,8 +224,8 @@ fn apply(
     k: usize,
     p: &[u32],
 ) -> Visit
-    requires { Node doc.now p.now expressions k × (kind_at doc.now k ≡ 37) × ExprAsk a.old d.now w.old rows n top at free (exprAt doc.now k) }
-    ensures { ExprDone a.old a.new d.now w.old w.new rows n top at free (exprAt doc.now k) result.number result.place result.cell result.cells result.top result.at }
+    requires { Node doc.now p.now expressions k × (kind_at doc.now k ≡ 37) × ExprAsk a.old d.now w.old rows n top at free (expr_at doc.now k) }
+    ensures { ExprDone a.old a.new d.now w.old w.new rows n top at free (expr_at doc.now k) result.number result.place result.cell result.cells result.top result.at }
 {
     let x = expr(doc, a, d, w, rows, n, top, at, free, word(p, 1));
     if x.number != 0 {
@@ -254,8 +254,8 @@ fn arith(
     k: usize,
     p: &[u32],
 ) -> Visit
-    requires { Node doc.now p.now expressions k × (41 ≤ kind_at doc.now k) × (kind_at doc.now k ≤ 45) × ExprAsk a.old d.now w.old rows n top at free (exprAt doc.now k) }
-    ensures { ExprDone a.old a.new d.now w.old w.new rows n top at free (exprAt doc.now k) result.number result.place result.cell result.cells result.top result.at }
+    requires { Node doc.now p.now expressions k × (41 ≤ kind_at doc.now k) × (kind_at doc.now k ≤ 45) × ExprAsk a.old d.now w.old rows n top at free (expr_at doc.now k) }
+    ensures { ExprDone a.old a.new d.now w.old w.new rows n top at free (expr_at doc.now k) result.number result.place result.cell result.cells result.top result.at }
 {
     let x = expr(doc, a, d, w, rows, n, top, at, free, word(p, 1));
     if x.number != 0 {
@@ -284,8 +284,8 @@ fn compr(
     k: usize,
     p: &[u32],
 ) -> Visit
-    requires { Node doc.now p.now expressions k × (kind_at doc.now k ≡ 46) × ExprAsk a.old d.now w.old rows n top at free (exprAt doc.now k) }
-    ensures { ExprDone a.old a.new d.now w.old w.new rows n top at free (exprAt doc.now k) result.number result.place result.cell result.cells result.top result.at }
+    requires { Node doc.now p.now expressions k × (kind_at doc.now k ≡ 46) × ExprAsk a.old d.now w.old rows n top at free (expr_at doc.now k) }
+    ensures { ExprDone a.old a.new d.now w.old w.new rows n top at free (expr_at doc.now k) result.number result.place result.cell result.cells result.top result.at }
 {
     let e = save(a, n, top, w, free);
     let t = text(doc, a, d, w, rows, at, e, word(p, 1), false);
@@ -316,8 +316,8 @@ fn sset(
     k: usize,
     p: &[u32],
 ) -> Visit
-    requires { Node doc.now p.now expressions k × (kind_at doc.now k ≡ 40) × ExprAsk a.old d.now w.old rows n top at free (exprAt doc.now k) }
-    ensures { ExprDone a.old a.new d.now w.old w.new rows n top at free (exprAt doc.now k) result.number result.place result.cell result.cells result.top result.at }
+    requires { Node doc.now p.now expressions k × (kind_at doc.now k ≡ 40) × ExprAsk a.old d.now w.old rows n top at free (expr_at doc.now k) }
+    ensures { ExprDone a.old a.new d.now w.old w.new rows n top at free (expr_at doc.now k) result.number result.place result.cell result.cells result.top result.at }
 {
     let e = save(a, n, top, w, free);
     let i = brings(doc, a, d, w, rows, at, e, word(p, 1));
@@ -343,8 +343,8 @@ pub fn expr(
     free: usize,
     k: usize,
 ) -> Visit
-    requires { At doc.now expressions k × ExprAsk a.old d.now w.old rows n top at free (exprAt doc.now k) }
-    ensures { ExprDone a.old a.new d.now w.old w.new rows n top at free (exprAt doc.now k) result.number result.place result.cell result.cells result.top result.at }
+    requires { At doc.now expressions k × ExprAsk a.old d.now w.old rows n top at free (expr_at doc.now k) }
+    ensures { ExprDone a.old a.new d.now w.old w.new rows n top at free (expr_at doc.now k) result.number result.place result.cell result.cells result.top result.at }
 {
     let p = part(doc, k);
     let q = word(p, 0);
@@ -385,8 +385,8 @@ fn rel(
     k: usize,
     p: &[u32],
 ) -> Verdict
-    requires { Node doc.now p.now predicates k × (21 ≤ kind_at doc.now k) × (kind_at doc.now k ≤ 23) × PredAsk a.old d.now w.old rows at free (predAt doc.now k) }
-    ensures { PredDone a.old a.new d.now w.old w.new rows at free (predAt doc.now k) result.number result.place }
+    requires { Node doc.now p.now predicates k × (21 ≤ kind_at doc.now k) × (kind_at doc.now k ≤ 23) × PredAsk a.old d.now w.old rows at free (pred_at doc.now k) }
+    ensures { PredDone a.old a.new d.now w.old w.new rows at free (pred_at doc.now k) result.number result.place }
 {
     let x = expr(doc, a, d, w, rows, 0, FIRST_RUN, at, free, word(p, 1));
     if x.number != 0 {
@@ -409,8 +409,8 @@ fn conn(
     k: usize,
     p: &[u32],
 ) -> Verdict
-    requires { Node doc.now p.now predicates k × (25 ≤ kind_at doc.now k) × (kind_at doc.now k ≤ 27) × PredAsk a.old d.now w.old rows at free (predAt doc.now k) }
-    ensures { PredDone a.old a.new d.now w.old w.new rows at free (predAt doc.now k) result.number result.place }
+    requires { Node doc.now p.now predicates k × (25 ≤ kind_at doc.now k) × (kind_at doc.now k ≤ 27) × PredAsk a.old d.now w.old rows at free (pred_at doc.now k) }
+    ensures { PredDone a.old a.new d.now w.old w.new rows at free (pred_at doc.now k) result.number result.place }
 {
     let x = pred(doc, a, d, w, rows, at, free, word(p, 1));
     if x.number != 0 {
@@ -432,8 +432,8 @@ fn quant(
     k: usize,
     p: &[u32],
 ) -> Verdict
-    requires { Node doc.now p.now predicates k × (28 ≤ kind_at doc.now k) × (kind_at doc.now k ≤ 29) × PredAsk a.old d.now w.old rows at free (predAt doc.now k) }
-    ensures { PredDone a.old a.new d.now w.old w.new rows at free (predAt doc.now k) result.number result.place }
+    requires { Node doc.now p.now predicates k × (28 ≤ kind_at doc.now k) × (kind_at doc.now k ≤ 29) × PredAsk a.old d.now w.old rows at free (pred_at doc.now k) }
+    ensures { PredDone a.old a.new d.now w.old w.new rows at free (pred_at doc.now k) result.number result.place }
 {
     let t = text(doc, a, d, w, rows, at, free, word(p, 1), false);
     if t.number != 0 {
@@ -459,8 +459,8 @@ pub fn pred(
     free: usize,
     k: usize,
 ) -> Verdict
-    requires { At doc.now predicates k × PredAsk a.old d.now w.old rows at free (predAt doc.now k) }
-    ensures { PredDone a.old a.new d.now w.old w.new rows at free (predAt doc.now k) result.number result.place }
+    requires { At doc.now predicates k × PredAsk a.old d.now w.old rows at free (pred_at doc.now k) }
+    ensures { PredDone a.old a.new d.now w.old w.new rows at free (pred_at doc.now k) result.number result.place }
 {
     let p = part(doc, k);
     let q = word(p, 0);
@@ -486,8 +486,8 @@ pub fn text(
     k: usize,
     global: bool,
 ) -> Lined
-    requires { At doc.now texts k × TextAsk a.old d.now w.old rows at free (textAt doc.now k) }
-    ensures { TextDone a.old a.new d.now w.old w.new rows at free (textAt doc.now k) global result.number result.place result.count result.at }
+    requires { At doc.now texts k × TextAsk a.old d.now w.old rows at free (text_at doc.now k) }
+    ensures { TextDone a.old a.new d.now w.old w.new rows at free (text_at doc.now k) global result.number result.place result.count result.at }
 {
     let p = part(doc, k);
     let r = lines(
@@ -644,8 +644,8 @@ pub fn brings(
     free: usize,
     k: usize,
 ) -> Lined
-    requires { At doc.now includes k × BringsAsk a.old d.now w.old rows at free (includeAt doc.now k) }
-    ensures { BringsDone a.old a.new d.now w.old w.new rows at free (includeAt doc.now k) result.number result.place result.count result.at }
+    requires { At doc.now includes k × BringsAsk a.old d.now w.old rows at free (include_at doc.now k) }
+    ensures { BringsDone a.old a.new d.now w.old w.new rows at free (include_at doc.now k) result.number result.place result.count result.at }
 {
     let p = part(doc, k);
     let mut places = [0u32; limits::PARAMETERS];
@@ -667,8 +667,8 @@ fn include(
     p: &[u32],
     places: &mut [u32],
 ) -> Lined
-    requires { Node doc.now p.now includes k × IncludeAsk a.old d.now w.old rows at free (includeAt doc.now k) places.old }
-    ensures { IncludeDone a.old a.new d.now w.old w.new rows at free (includeAt doc.now k) places.old places.new result.number result.place result.count result.at }
+    requires { Node doc.now p.now includes k × IncludeAsk a.old d.now w.old rows at free (include_at doc.now k) places.old }
+    ensures { IncludeDone a.old a.new d.now w.old w.new rows at free (include_at doc.now k) places.old places.new result.number result.place result.count result.at }
 {
     let s = schema_of(d, w, p);
     if s.number != 0 {
@@ -694,8 +694,8 @@ fn actuals(
     q: usize,
     places: &mut [u32],
 ) -> Lined
-    requires { Node doc.now p.now includes k × (q ≤ 4) × ((i : ℕ) → 4 ≤ i → i < q + 4 → Lower doc.now k expressions (get_or p.now i 0)) × ActualsAsk a.old d.now w.old rows at free k j (exprsFrom doc.now k (j + 4) (q - j)) places.old }
-    ensures { ActualsDone a.old a.new d.now w.old w.new rows at free k j (exprsFrom doc.now k (j + 4) (q - j)) places.old places.new result.number result.place result.at }
+    requires { Node doc.now p.now includes k × (q ≤ 4) × ((i : ℕ) → 4 ≤ i → i < q + 4 → Lower doc.now k expressions (get_or p.now i 0)) × ActualsAsk a.old d.now w.old rows at free k j (exprs_from doc.now k (j + 4) (q - j)) places.old }
+    ensures { ActualsDone a.old a.new d.now w.old w.new rows at free k j (exprs_from doc.now k (j + 4) (q - j)) places.old places.new result.number result.place result.at }
 {
     if q <= j {
         return lined_at(0, k, 0, at);

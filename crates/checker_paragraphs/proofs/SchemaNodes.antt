@@ -7,56 +7,56 @@ use Prim.Native.Nat.{ℕ, ◌+◌, ◌*◌, ◌≤◌, ◌<◌}
 use native.Mathlib.Omega.{arith}
 use lib.ListN.{length, get_or}
 use Rattle.layout.specs.Layout.{part}
-use Rattle.reader_rules.specs.Kinds.{schemaExpressions, texts, includes}
+use Rattle.reader_rules.specs.Kinds.{schema_expressions, texts, includes}
 use Rattle.reader_rules.specs.Nodes.{kind_at}
 use Rattle.reader_rules.specs.Promise.{At}
 use Rattle.reader_rules.specs.Tree.{Schema, both}
-use Rattle.reader_rules.specs.Decode.{schemaAt, textAt, includeAt}
+use Rattle.reader_rules.specs.Decode.{schema_at, text_at, include_at}
 use Rattle.reader_rules.proofs.TreeShape.{Two}
-use Rattle.reader_rules.proofs.TreeText.{schema-kinds, schema-both, schema-plain, schema-from, as-text, as-include}
-use Rattle.checker_signatures.specs.Rows.{rows, mergeRows}
-use Rattle.checker_signatures.specs.Tables.{Table, Beside, tableWords}
+use Rattle.reader_rules.proofs.TreeText.{schema_kinds, schema_both, schema_plain, schema_from, as_text, as_include}
+use Rattle.checker_signatures.specs.Rows.{rows, merge_rows}
+use Rattle.checker_signatures.specs.Tables.{Table, Beside, table_words}
 use Rattle.checker_merging.specs.Merging.{RowsTold}
 use Rattle.checker_includes.specs.Storing.{KeepAsk, RowsKept}
-use Rattle.checker_contracts.specs.Room.{frameWords}
+use Rattle.checker_contracts.specs.Room.{frame_words}
 use Rattle.checker_contracts.specs.Joining.{JoinAsk, Joined}
 use Rattle.checker_contracts.specs.Schemas.{SchemaAsk, SchemaDone}
 use Rattle.checker_contracts.specs.Texts.{TextAsk, TextDone}
 use Rattle.checker_contracts.specs.Includes.{BringsAsk, BringsDone}
-use Rattle.checker_contracts.proofs.SchemaKinds.{text-asked, text-schema, include-asked, include-schema}
-use Rattle.checker_contracts.proofs.Conjoining.{both_first, both-first-stops, both-second, both-second-stops}
-use Rattle.checker_contracts.proofs.Keeping.{join-asked, both-joined}
+use Rattle.checker_contracts.proofs.SchemaKinds.{text_asked, text_schema, include_asked, include_schema}
+use Rattle.checker_contracts.proofs.Conjoining.{both_first, both_first_stops, both_second, both_second_stops}
+use Rattle.checker_contracts.proofs.Keeping.{join_asked, both_joined}
 use Rattle.checker_closing.specs.Nodes.{LinedAt}
 use Rattle.checker_closing.specs.declared.results.Lined.{Lined}
 
 -- A CONJUNCTION'S ROWS.
 module _ (s d w : List ℕ) (free m n at end k : ℕ) where
-  pub join-clash : (b : Bool) → RowsTold s d w free m (free + tableWords) n b → b ≡ false → (r : Lined) → LinedAt r 36 k 0 0 → Joined s s d w w free m n at end k r.number r.place r.count r.at
-  join-clash b T e r L =
-      record { place_is = L.place_is; found = inl (record { number_is = L.number_is; told = subst (RowsTold s d w free m (free + tableWords) n) e T; still = refl; same = refl }) }
+  pub join_clash : (b : Bool) → RowsTold s d w free m (free + table_words) n b → b ≡ false → (r : Lined) → LinedAt r 36 k 0 0 → Joined s s d w w free m n at end k r.number r.place r.count r.at
+  join_clash b T e r L =
+      record { place_is = L.place_is; found = inl (record { number_is = L.number_is; told = subst (RowsTold s d w free m (free + table_words) n) e T; still = refl; same = refl }) }
 
-  pub keep-ready : (A : JoinAsk s d w free m n at end) (row : List ℕ) → row ≡ [] → (free' : ℕ) → free' ≡ free + frameWords → KeepAsk s d w free m (free + tableWords) n row at end free'
-  keep-ready A row e free' q = subst (λ z. KeepAsk s d w free m (free + tableWords) n row at end z) (sym q) (subst (λ z. KeepAsk s d w free m (free + tableWords) n z at end (free + frameWords)) (sym e) A.keep)
+  pub keep_ready : (A : JoinAsk s d w free m n at end) (row : List ℕ) → row ≡ [] → (free' : ℕ) → free' ≡ free + frame_words → KeepAsk s d w free m (free + table_words) n row at end free'
+  keep_ready A row e free' q = subst (λ z. KeepAsk s d w free m (free + table_words) n row at end z) (sym q) (subst (λ z. KeepAsk s d w free m (free + table_words) n z at end (free + frame_words)) (sym e) A.keep)
 
-  module _ (A : JoinAsk s d w free m n at end) (s' w₁ row : List ℕ) (er : row ≡ []) (free' last : ℕ) (ef : free' ≡ free + frameWords) (K : RowsKept s s' d w w₁ free m (free + tableWords) n row at end free' last) where
-    pub merge-ready : Beside (length w₁) free (m + n) (free + tableWords) n
-    merge-ready =
+  module _ (A : JoinAsk s d w free m n at end) (s' w₁ row : List ℕ) (er : row ≡ []) (free' last : ℕ) (ef : free' ≡ free + frame_words) (K : RowsKept s s' d w w₁ free m (free + table_words) n row at end free' last) where
+    pub merge_ready : Beside (length w₁) free (m + n) (free + table_words) n
+    merge_ready =
         let l = A.few in
         let q = A.keep.many in
         let z = A.keep.scratch in
         let y = K.size in
         record { room = omega arith; inside = omega arith; apart = inl (omega arith) }
 
-    plain : RowsKept s s' d w w₁ free m (free + tableWords) n [] at end (free + frameWords) last
-    plain = subst (λ z. RowsKept s s' d w w₁ free m (free + tableWords) n z at end (free + frameWords) last) er (subst (λ z. RowsKept s s' d w w₁ free m (free + tableWords) n row at end z last) ef K)
+    plain : RowsKept s s' d w w₁ free m (free + table_words) n [] at end (free + frame_words) last
+    plain = subst (λ z. RowsKept s s' d w w₁ free m (free + table_words) n z at end (free + frame_words) last) er (subst (λ z. RowsKept s s' d w w₁ free m (free + table_words) n row at end z last) ef K)
 
-    module _ (b : Bool) (T : RowsTold s d w free m (free + tableWords) n b) (eb : b ≡ true) (w₂ : List ℕ) (total : ℕ) (M : Table w₁ w₂ free (mergeRows (rows w₁ (free + tableWords) n) (rows w₁ free m)) total) (r : Lined) where
-      join-with : r.place ≡ k → ((r.number ≡ 38) × (16 < total)) ⊎ ((r.number ≡ 0) × (total ≤ 16) × (r.count ≡ total) × (r.at ≡ last)) →
+    module _ (b : Bool) (T : RowsTold s d w free m (free + table_words) n b) (eb : b ≡ true) (w₂ : List ℕ) (total : ℕ) (M : Table w₁ w₂ free (merge_rows (rows w₁ (free + table_words) n) (rows w₁ free m)) total) (r : Lined) where
+      join_with : r.place ≡ k → ((r.number ≡ 38) × (16 < total)) ⊎ ((r.number ≡ 0) × (total ≤ 16) × (r.count ≡ total) × (r.at ≡ last)) →
           Joined s s' d w w₂ free m n at end k r.number r.place r.count r.at
-      join-with p o = record {
+      join_with p o = record {
         place_is = p;
         found = inr (record {
-          told = subst (RowsTold s d w free m (free + tableWords) n) eb T;
+          told = subst (RowsTold s d w free m (free + table_words) n) eb T;
           between = w₁;
           last = last;
           kept = plain;
@@ -66,44 +66,44 @@ module _ (s d w : List ℕ) (free m n at end k : ℕ) where
         });
       }
 
-      pub join-many : 16 < total → LinedAt r 38 k 0 0 → Joined s s' d w w₂ free m n at end k r.number r.place r.count r.at
-      join-many l L = join-with L.place_is (inl (L.number_is, l))
+      pub join_many : 16 < total → LinedAt r 38 k 0 0 → Joined s s' d w w₂ free m n at end k r.number r.place r.count r.at
+      join_many l L = join_with L.place_is (inl (L.number_is, l))
 
-      pub join-done : total ≤ 16 → LinedAt r 0 k total last → Joined s s' d w w₂ free m n at end k r.number r.place r.count r.at
-      join-done l L = join-with L.place_is (inr (L.number_is, l, L.count-is, L.at-is))
+      pub join_done : total ≤ 16 → LinedAt r 0 k total last → Joined s s' d w w₂ free m n at end k r.number r.place r.count r.at
+      join_done l L = join_with L.place_is (inr (L.number_is, l, L.count_is, L.at_is))
 
 -- A SCHEMA EXPRESSION. q is its kind, p its words.
-module _ (doc p : List ℕ) (k q : ℕ) (N : At doc schemaExpressions k) (ep : p ≡ part doc k) (eq : q ≡ get_or p 0 0) (s d w : List ℕ) (stack at free : ℕ) (A : SchemaAsk s d w stack at free (schemaAt doc k)) where
+module _ (doc p : List ℕ) (k q : ℕ) (N : At doc schema_expressions k) (ep : p ≡ part doc k) (eq : q ≡ get_or p 0 0) (s d w : List ℕ) (stack at free : ℕ) (A : SchemaAsk s d w stack at free (schema_at doc k)) where
   kind : q ≡ kind_at doc k
   kind = eq ∙ ap (λ z. get_or z 0 0) ep
 
-  pub plain_at : q ≡ 10 → At doc texts k
-  plain_at e = as-text doc schemaExpressions k N (sym kind ∙ e)
+  pub plain_at_lem : q ≡ 10 → At doc texts k
+  plain_at_lem e = as_text doc schema_expressions k N (sym kind ∙ e)
 
-  pub plain-ask : q ≡ 10 → TextAsk s d w stack at free (textAt doc k)
-  plain-ask e = text-asked s d w stack at free (schemaAt doc k) (textAt doc k) (schema-plain doc k (sym kind ∙ e)) A
+  pub plain_ask : q ≡ 10 → TextAsk s d w stack at free (text_at doc k)
+  plain_ask e = text_asked s d w stack at free (schema_at doc k) (text_at doc k) (schema_plain doc k (sym kind ∙ e)) A
 
-  pub plain_done : q ≡ 10 → (s' w' : List ℕ) (number place m at' : ℕ) → TextDone s s' d w w' stack at free (textAt doc k) false number place m at' →
-      SchemaDone s s' d w w' stack at free (schemaAt doc k) number place m at'
-  plain_done e = text-schema s d w stack at free (schemaAt doc k) (textAt doc k) (schema-plain doc k (sym kind ∙ e))
+  pub plain_done : q ≡ 10 → (s' w' : List ℕ) (number place m at' : ℕ) → TextDone s s' d w w' stack at free (text_at doc k) false number place m at' →
+      SchemaDone s s' d w w' stack at free (schema_at doc k) number place m at'
+  plain_done e = text_schema s d w stack at free (schema_at doc k) (text_at doc k) (schema_plain doc k (sym kind ∙ e))
 
   pub from_at : q ≡ 12 → At doc includes k
-  from_at e = as-include doc schemaExpressions k N (sym kind ∙ e)
+  from_at e = as_include doc schema_expressions k N (sym kind ∙ e)
 
-  pub from-ask : q ≡ 12 → BringsAsk s d w stack at free (includeAt doc k)
-  from-ask e = include-asked s d w stack at free (schemaAt doc k) (includeAt doc k) (schema-from doc k (sym kind ∙ e)) A
+  pub from_ask : q ≡ 12 → BringsAsk s d w stack at free (include_at doc k)
+  from_ask e = include_asked s d w stack at free (schema_at doc k) (include_at doc k) (schema_from doc k (sym kind ∙ e)) A
 
-  pub from-done : q ≡ 12 → (s' w' : List ℕ) (number place m at' : ℕ) → BringsDone s s' d w w' stack at free (includeAt doc k) number place m at' →
-      SchemaDone s s' d w w' stack at free (schemaAt doc k) number place m at'
-  from-done e = include-schema s d w stack at free (schemaAt doc k) (includeAt doc k) (schema-from doc k (sym kind ∙ e))
+  pub from_done : q ≡ 12 → (s' w' : List ℕ) (number place m at' : ℕ) → BringsDone s s' d w w' stack at free (include_at doc k) number place m at' →
+      SchemaDone s s' d w w' stack at free (schema_at doc k) number place m at'
+  from_done e = include_schema s d w stack at free (schema_at doc k) (include_at doc k) (schema_from doc k (sym kind ∙ e))
 
   -- 15, with the operands x and y
   module _ (no_text : q ≡ 10 → ⊥) (no-include : q ≡ 12 → ⊥) where
     fifteen : kind_at doc k ≡ 15
-    fifteen = ⊎_elim (λ z. absurd (no_text (kind ∙ z))) (λ y. ⊎_elim (λ z. absurd (no-include (kind ∙ z))) (λ z. z) y) (schema-kinds doc k N)
+    fifteen = ⊎_elim (λ z. absurd (no_text (kind ∙ z))) (λ y. ⊎_elim (λ z. absurd (no-include (kind ∙ z))) (λ z. z) y) (schema_kinds doc k N)
 
-    operands : Two doc k schemaExpressions schemaExpressions (get_or (part doc k) 1 0) (get_or (part doc k) 2 0) (schemaAt doc k ≡ both k (schemaAt doc (get_or (part doc k) 1 0)) (schemaAt doc (get_or (part doc k) 2 0)))
-    operands = schema-both doc k N fifteen (get_or (part doc k) 1 0) (get_or (part doc k) 2 0) refl refl
+    operands : Two doc k schema_expressions schema_expressions (get_or (part doc k) 1 0) (get_or (part doc k) 2 0) (schema_at doc k ≡ both k (schema_at doc (get_or (part doc k) 1 0)) (schema_at doc (get_or (part doc k) 2 0)))
+    operands = schema_both doc k N fifteen (get_or (part doc k) 1 0) (get_or (part doc k) 2 0) refl refl
 
     abbrev x₀ : ℕ
     x₀ = get_or (part doc k) 1 0
@@ -111,64 +111,64 @@ module _ (doc p : List ℕ) (k q : ℕ) (N : At doc schemaExpressions k) (ep : p
     abbrev y₀ : ℕ
     y₀ = get_or (part doc k) 2 0
 
-    A' : SchemaAsk s d w stack at free (both k (schemaAt doc x₀) (schemaAt doc y₀))
+    A' : SchemaAsk s d w stack at free (both k (schema_at doc x₀) (schema_at doc y₀))
     A' = subst (SchemaAsk s d w stack at free) operands.tree A
 
-    back : (s' w' : List ℕ) (number place m at' : ℕ) → SchemaDone s s' d w w' stack at free (both k (schemaAt doc x₀) (schemaAt doc y₀)) number place m at' →
-        SchemaDone s s' d w w' stack at free (schemaAt doc k) number place m at'
+    back : (s' w' : List ℕ) (number place m at' : ℕ) → SchemaDone s s' d w w' stack at free (both k (schema_at doc x₀) (schema_at doc y₀)) number place m at' →
+        SchemaDone s s' d w w' stack at free (schema_at doc k) number place m at'
     back s' w' number place m at' D = subst (λ z. SchemaDone s s' d w w' stack at free z number place m at') (sym operands.tree) D
 
-    pub near : free + tableWords < 100000
+    pub near : free + table_words < 100000
     near = let z = A.walking.room.frames in omega arith
 
     module _ (x : ℕ) (ex : x ≡ get_or p 1 0) where
-      first-is : x ≡ x₀
-      first-is = ex ∙ ap (λ z. get_or z 1 0) ep
+      first_is : x ≡ x₀
+      first_is = ex ∙ ap (λ z. get_or z 1 0) ep
 
-      pub left_at : At doc schemaExpressions x
-      left_at = subst (At doc schemaExpressions) (sym first-is) operands.left.at
+      pub left_at : At doc schema_expressions x
+      left_at = subst (At doc schema_expressions) (sym first_is) operands.left.at
 
-      pub left-lower : x < k
-      left-lower = subst (λ z. z < k) (sym first-is) operands.left.below
+      pub left_lower : x < k
+      left_lower = subst (λ z. z < k) (sym first_is) operands.left.below
 
-      pub left-asked : SchemaAsk s d w stack at free (schemaAt doc x)
-      left-asked = subst (λ z. SchemaAsk s d w stack at free (schemaAt doc z)) (sym first-is) (both_first s d w stack at free k (schemaAt doc x₀) (schemaAt doc y₀) A')
+      pub left_asked : SchemaAsk s d w stack at free (schema_at doc x)
+      left_asked = subst (λ z. SchemaAsk s d w stack at free (schema_at doc z)) (sym first_is) (both_first s d w stack at free k (schema_at doc x₀) (schema_at doc y₀) A')
 
-      module _ (s₁ w₁ : List ℕ) (number place m at₁ : ℕ) (P : SchemaDone s s₁ d w w₁ stack at free (schemaAt doc x) number place m at₁) where
-        P' : SchemaDone s s₁ d w w₁ stack at free (schemaAt doc x₀) number place m at₁
-        P' = subst (λ z. SchemaDone s s₁ d w w₁ stack at free (schemaAt doc z) number place m at₁) first-is P
+      module _ (s₁ w₁ : List ℕ) (number place m at₁ : ℕ) (P : SchemaDone s s₁ d w w₁ stack at free (schema_at doc x) number place m at₁) where
+        P' : SchemaDone s s₁ d w w₁ stack at free (schema_at doc x₀) number place m at₁
+        P' = subst (λ z. SchemaDone s s₁ d w w₁ stack at free (schema_at doc z) number place m at₁) first_is P
 
-        pub left-stops : (number ≡ 0 → ⊥) → SchemaDone s s₁ d w w₁ stack at free (schemaAt doc k) number place m at₁
-        left-stops z = back s₁ w₁ number place m at₁ (both-first-stops s d w stack at free k (schemaAt doc x₀) (schemaAt doc y₀) A' s₁ w₁ number place m at₁ P' z)
+        pub left_stops_lem : (number ≡ 0 → ⊥) → SchemaDone s s₁ d w w₁ stack at free (schema_at doc k) number place m at₁
+        left_stops_lem z = back s₁ w₁ number place m at₁ (both_first_stops s d w stack at free k (schema_at doc x₀) (schema_at doc y₀) A' s₁ w₁ number place m at₁ P' z)
 
         module _ (fine : number ≡ 0) (y : ℕ) (ey : y ≡ get_or p 2 0) where
           second_is : y ≡ y₀
           second_is = ey ∙ ap (λ z. get_or z 2 0) ep
 
-          pub right-at : At doc schemaExpressions y
-          right-at = subst (At doc schemaExpressions) (sym second_is) operands.right.at
+          pub right_at : At doc schema_expressions y
+          right_at = subst (At doc schema_expressions) (sym second_is) operands.right.at
 
-          pub right-lower : y < k
-          right-lower = subst (λ z. z < k) (sym second_is) operands.right.below
+          pub right_lower : y < k
+          right_lower = subst (λ z. z < k) (sym second_is) operands.right.below
 
-          pub right-asked : SchemaAsk s₁ d w₁ stack at₁ (free + tableWords) (schemaAt doc y)
-          right-asked = subst (λ z. SchemaAsk s₁ d w₁ stack at₁ (free + tableWords) (schemaAt doc z)) (sym second_is)
-              (both-second s d w stack at free k (schemaAt doc x₀) (schemaAt doc y₀) A' s₁ w₁ number place m at₁ P' fine)
+          pub right_asked : SchemaAsk s₁ d w₁ stack at₁ (free + table_words) (schema_at doc y)
+          right_asked = subst (λ z. SchemaAsk s₁ d w₁ stack at₁ (free + table_words) (schema_at doc z)) (sym second_is)
+              (both_second s d w stack at free k (schema_at doc x₀) (schema_at doc y₀) A' s₁ w₁ number place m at₁ P' fine)
 
-          module _ (s₂ w₂ : List ℕ) (number' place' n at₂ : ℕ) (Q : SchemaDone s₁ s₂ d w₁ w₂ stack at₁ (free + tableWords) (schemaAt doc y) number' place' n at₂) where
-            Q' : SchemaDone s₁ s₂ d w₁ w₂ stack at₁ (free + tableWords) (schemaAt doc y₀) number' place' n at₂
-            Q' = subst (λ z. SchemaDone s₁ s₂ d w₁ w₂ stack at₁ (free + tableWords) (schemaAt doc z) number' place' n at₂) second_is Q
+          module _ (s₂ w₂ : List ℕ) (number' place' n at₂ : ℕ) (Q : SchemaDone s₁ s₂ d w₁ w₂ stack at₁ (free + table_words) (schema_at doc y) number' place' n at₂) where
+            Q' : SchemaDone s₁ s₂ d w₁ w₂ stack at₁ (free + table_words) (schema_at doc y₀) number' place' n at₂
+            Q' = subst (λ z. SchemaDone s₁ s₂ d w₁ w₂ stack at₁ (free + table_words) (schema_at doc z) number' place' n at₂) second_is Q
 
-            pub right-stops : (number' ≡ 0 → ⊥) → SchemaDone s s₂ d w w₂ stack at free (schemaAt doc k) number' place' n at₂
-            right-stops z =
+            pub right_stops_lem : (number' ≡ 0 → ⊥) → SchemaDone s s₂ d w w₂ stack at free (schema_at doc k) number' place' n at₂
+            right_stops_lem z =
                 back s₂ w₂ number' place' n at₂
-                (both-second-stops s d w stack at free k (schemaAt doc x₀) (schemaAt doc y₀) A' s₁ w₁ number place m at₁ P' fine s₂ w₂ number' place' n at₂ Q' z)
+                (both_second_stops s d w stack at free k (schema_at doc x₀) (schema_at doc y₀) A' s₁ w₁ number place m at₁ P' fine s₂ w₂ number' place' n at₂ Q' z)
 
             module _ (fine' : number' ≡ 0) where
-              pub rows-asked : JoinAsk s₂ d w₂ free m n at₁ at₂
-              rows-asked = join-asked s d w stack at free k (schemaAt doc x₀) (schemaAt doc y₀) A' s₁ w₁ number place m at₁ P' fine s₂ w₂ number' place' n at₂ Q' fine'
+              pub rows_asked : JoinAsk s₂ d w₂ free m n at₁ at₂
+              rows_asked = join_asked s d w stack at free k (schema_at doc x₀) (schema_at doc y₀) A' s₁ w₁ number place m at₁ P' fine s₂ w₂ number' place' n at₂ Q' fine'
 
-              pub rows-joined : (s₃ w₃ : List ℕ) (f z c e : ℕ) → Joined s₂ s₃ d w₂ w₃ free m n at₁ at₂ k f z c e → SchemaDone s s₃ d w w₃ stack at free (schemaAt doc k) f z c e
-              rows-joined s₃ w₃ f z c e J =
+              pub rows_joined : (s₃ w₃ : List ℕ) (f z c e : ℕ) → Joined s₂ s₃ d w₂ w₃ free m n at₁ at₂ k f z c e → SchemaDone s s₃ d w w₃ stack at free (schema_at doc k) f z c e
+              rows_joined s₃ w₃ f z c e J =
                   back s₃ w₃ f z c e
-                  (both-joined s d w stack at free k (schemaAt doc x₀) (schemaAt doc y₀) A' s₁ w₁ number place m at₁ P' fine s₂ w₂ number' place' n at₂ Q' fine' s₃ w₃ f z c e J)
+                  (both_joined s d w stack at free k (schema_at doc x₀) (schema_at doc y₀) A' s₁ w₁ number place m at₁ P' fine s₂ w₂ number' place' n at₂ Q' fine' s₃ w₃ f z c e J)

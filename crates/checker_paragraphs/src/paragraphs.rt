@@ -3,7 +3,7 @@ ghost use Rattle.std.specs.Prelude.{◌≡◌};
 ghost use Rattle.reader_rules.specs.Kinds.{paragraphs};
 ghost use Rattle.reader_rules.specs.Nodes.{kind_at};
 ghost use Rattle.reader_rules.specs.Promise.{At};
-ghost use Rattle.reader_rules.specs.Decode.{paragraphAt};
+ghost use Rattle.reader_rules.specs.Decode.{paragraph_at};
 ghost use Rattle.checker_contracts.specs.Paragraphs.{ParagraphAsk, ParagraphDone};
 ghost use Rattle.checker_closing.specs.Nodes.{Node};
 
@@ -27,8 +27,8 @@ const FRAMES: usize = index::END;
 
 // 2 Given: 36, and entries as written.
 fn given(doc: &[u32], a: &[u32], d: &[u32], w: &mut [u32], k: usize, p: &[u32]) -> Lined
-    requires { Node doc.now p.now paragraphs k × (kind_at doc.now k ≡ 2) × ParagraphAsk a.now d.now w.old (paragraphAt doc.now k) }
-    ensures { ParagraphDone a.now a.now d.now w.old w.new (paragraphAt doc.now k) result.number result.place result.at result.count }
+    requires { Node doc.now p.now paragraphs k × (kind_at doc.now k ≡ 2) × ParagraphAsk a.now d.now w.old (paragraph_at doc.now k) }
+    ensures { ParagraphDone a.now a.now d.now w.old w.new (paragraph_at doc.now k) result.number result.place result.at result.count }
 {
     if !names_new(d, w, p, 1) {
         return lined_at(findings::CLASH, k, 0, 0);
@@ -39,8 +39,8 @@ fn given(doc: &[u32], a: &[u32], d: &[u32], w: &mut [u32], k: usize, p: &[u32]) 
 
 // 3 Axiom: its Text's identifiers become global.
 fn axiomatic(doc: &[u32], a: &mut [u32], d: &[u32], w: &mut [u32], k: usize, p: &[u32]) -> Lined
-    requires { Node doc.now p.now paragraphs k × (kind_at doc.now k ≡ 3) × ParagraphAsk a.old d.now w.old (paragraphAt doc.now k) }
-    ensures { ParagraphDone a.old a.new d.now w.old w.new (paragraphAt doc.now k) result.number result.place result.at result.count }
+    requires { Node doc.now p.now paragraphs k × (kind_at doc.now k ≡ 3) × ParagraphAsk a.old d.now w.old (paragraph_at doc.now k) }
+    ensures { ParagraphDone a.old a.new d.now w.old w.new (paragraph_at doc.now k) result.number result.place result.at result.count }
 {
     let t = text(doc, a, d, w, 0, POOL_START, FRAMES, word(p, 1), true);
     if t.number != 0 {
@@ -60,8 +60,8 @@ fn schema_paragraph(
     k: usize,
     p: &[u32],
 ) -> Lined
-    requires { Node doc.now p.now paragraphs k × (kind_at doc.now k ≡ 4) × ParagraphAsk a.old d.now w.old (paragraphAt doc.now k) }
-    ensures { ParagraphDone a.old a.new d.now w.old w.new (paragraphAt doc.now k) result.number result.place result.at result.count }
+    requires { Node doc.now p.now paragraphs k × (kind_at doc.now k ≡ 4) × ParagraphAsk a.old d.now w.old (paragraph_at doc.now k) }
+    ensures { ParagraphDone a.old a.new d.now w.old w.new (paragraph_at doc.now k) result.number result.place result.at result.count }
 {
     let n = word(p, 2);
     let at = push_parameters(a, w, p, 0, n);
@@ -76,8 +76,8 @@ fn schema_paragraph(
 
 // 5 Abbreviation: parameters, its expression as a closed piece, one entry.
 fn abbreviation(doc: &[u32], a: &mut [u32], d: &[u32], w: &mut [u32], k: usize, p: &[u32]) -> Lined
-    requires { Node doc.now p.now paragraphs k × (kind_at doc.now k ≡ 5) × ParagraphAsk a.old d.now w.old (paragraphAt doc.now k) }
-    ensures { ParagraphDone a.old a.new d.now w.old w.new (paragraphAt doc.now k) result.number result.place result.at result.count }
+    requires { Node doc.now p.now paragraphs k × (kind_at doc.now k ≡ 5) × ParagraphAsk a.old d.now w.old (paragraph_at doc.now k) }
+    ensures { ParagraphDone a.old a.new d.now w.old w.new (paragraph_at doc.now k) result.number result.place result.at result.count }
 {
     let n = word(p, 2);
     let at = push_parameters(a, w, p, 0, n);
@@ -98,8 +98,8 @@ fn abbreviation(doc: &[u32], a: &mut [u32], d: &[u32], w: &mut [u32], k: usize, 
 
 // 6 Constraint: no entry.
 fn constraint(doc: &[u32], a: &mut [u32], d: &[u32], w: &mut [u32], k: usize, p: &[u32]) -> Lined
-    requires { Node doc.now p.now paragraphs k × (kind_at doc.now k ≡ 6) × ParagraphAsk a.old d.now w.old (paragraphAt doc.now k) }
-    ensures { ParagraphDone a.old a.new d.now w.old w.new (paragraphAt doc.now k) result.number result.place result.at result.count }
+    requires { Node doc.now p.now paragraphs k × (kind_at doc.now k ≡ 6) × ParagraphAsk a.old d.now w.old (paragraph_at doc.now k) }
+    ensures { ParagraphDone a.old a.new d.now w.old w.new (paragraph_at doc.now k) result.number result.place result.at result.count }
 {
     let x = pred(doc, a, d, w, 0, POOL_START, FRAMES, word(p, 1));
     unlined(x.number, x.place)
@@ -107,8 +107,8 @@ fn constraint(doc: &[u32], a: &mut [u32], d: &[u32], w: &mut [u32], k: usize, p:
 
 // A paragraph: `count` of its entries wait at the place `at` of the work area.
 pub fn paragraph(doc: &[u32], a: &mut [u32], d: &[u32], w: &mut [u32], k: usize) -> Lined
-    requires { At doc.now paragraphs k × ParagraphAsk a.old d.now w.old (paragraphAt doc.now k) }
-    ensures { ParagraphDone a.old a.new d.now w.old w.new (paragraphAt doc.now k) result.number result.place result.at result.count }
+    requires { At doc.now paragraphs k × ParagraphAsk a.old d.now w.old (paragraph_at doc.now k) }
+    ensures { ParagraphDone a.old a.new d.now w.old w.new (paragraph_at doc.now k) result.number result.place result.at result.count }
 {
     let p = part(doc, k);
     let q = word(p, 0);

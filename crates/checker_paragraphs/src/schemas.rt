@@ -1,8 +1,8 @@
 // Schema expressions: a Text, an Include, a Conjunction. What one declares is a table at `free`.
 ghost use Rattle.std.specs.Prelude.{◌<◌, ◌^◌};
-ghost use Rattle.reader_rules.specs.Kinds.{schemaExpressions};
+ghost use Rattle.reader_rules.specs.Kinds.{schema_expressions};
 ghost use Rattle.reader_rules.specs.Promise.{At};
-ghost use Rattle.reader_rules.specs.Decode.{schemaAt};
+ghost use Rattle.reader_rules.specs.Decode.{schema_at};
 ghost use Rattle.checker_contracts.specs.Joining.{JoinAsk, Joined};
 ghost use Rattle.checker_contracts.specs.Schemas.{SchemaAsk, SchemaDone};
 
@@ -54,8 +54,8 @@ pub fn schema(
     free: usize,
     k: usize,
 ) -> Lined
-    requires { At doc.now schemaExpressions k × SchemaAsk a.old d.now w.old rows at free (schemaAt doc.now k) }
-    ensures { SchemaDone a.old a.new d.now w.old w.new rows at free (schemaAt doc.now k) result.number result.place result.count result.at }
+    requires { At doc.now schema_expressions k × SchemaAsk a.old d.now w.old rows at free (schema_at doc.now k) }
+    ensures { SchemaDone a.old a.new d.now w.old w.new rows at free (schema_at doc.now k) result.number result.place result.count result.at }
 {
     let p = part(doc, k);
     let q = word(p, 0);

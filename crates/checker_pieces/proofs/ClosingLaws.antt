@@ -10,29 +10,29 @@ use Rattle.types_rules.specs.Types.{Ty}
 use Rattle.types_rules.specs.Trees.{finite}
 use Rattle.checker_rules.specs.Unknowns.{Valuation}
 use Rattle.checker_rules.specs.Items.{Items, ◌⨾◌, piece, Meets, Agree, Passes, Refuses, MeetsIn}
-use Rattle.types_cells.specs.Layout.{maxCells}
+use Rattle.types_cells.specs.Layout.{max_cells}
 use Rattle.types_cells.specs.Store.{frozen, tag_at, Solved}
 use Rattle.types_cells.specs.Settled.{Pinned, Fits}
 use Rattle.types_solver.specs.Sizes.{Same, TestedFinite}
 use Rattle.types_solver.specs.Answers.{SolutionOf, Finite, Left, Differ}
-use Rattle.types_solver.proofs.Accepted.{same-pinned, same-obeys}
-use Rattle.types_solver.proofs.Opening.{finite-none}
+use Rattle.types_solver.proofs.Accepted.{same_pinned, same_obeys}
+use Rattle.types_solver.proofs.Opening.{finite_none}
 use Rattle.checker_pieces.specs.Piece.{Solution, Matches, SameOn, Local, Goes, Piece, Accounted, Later, Steady, Extends}
 use Rattle.types_solver.proofs.Marking.{same_back}
-use Rattle.checker_pieces.proofs.Between.{passes-after}
-use Rattle.checker_pieces.proofs.Walks.{passes-more}
+use Rattle.checker_pieces.proofs.Between.{passes_after}
+use Rattle.checker_pieces.proofs.Walks.{passes_more}
 
-pub all_in : (R : ℕ → ℕ → Type 0) (P : Pairs ℕ) (a b : ℕ) → AllP R P → InP a b P → R a b
-all_in R end a b q i = absurd i
-all_in R (pair c e P) a b q (inl i) = subst (λ z. R z b) (sym i.0) (subst (λ z. R c z) (sym i.1) q.0)
-all_in R (pair c e P) a b q (inr i) = all_in R P a b q.1 i
+pub all_in_lem : (R : ℕ → ℕ → Type 0) (P : Pairs ℕ) (a b : ℕ) → AllP R P → InP a b P → R a b
+all_in_lem R end a b q i = absurd i
+all_in_lem R (pair c e P) a b q (inl i) = subst (λ z. R z b) (sym i.0) (subst (λ z. R c z) (sym i.1) q.0)
+all_in_lem R (pair c e P) a b q (inr i) = all_in_lem R P a b q.1 i
 
 -- The same store with other words, where the same assignments are solutions.
 module _ (s s' d : List ℕ) (n : ℕ) (P₀ L : Pairs ℕ) (S' : Solved s' n P₀ L) (P' : Pinned s' d n) (still : (i : ℕ) → i < n → tag_at (frozen s') i ≡ tag_at (frozen s) i)
     (to : (σ : ℕ → Ty) → Solution s d n P₀ σ → Solution s' d n P₀ σ) (from : (σ : ℕ → Ty) → Solution s' d n P₀ σ → Solution s d n P₀ σ)
     (H t : Items) (U₀ U : List ℕ) (ρ : Pairs ℕ) (Q : Piece s d n P₀ H t U₀ U ρ) where
   accounted : (i : ℕ) → i < n → tag_at (frozen s') i ≡ 0 → Accounted s' d n P₀ ρ i
-  accounted i l e = ⊎_elim inl (λ z. inr (z.0, λ σ S. z.1 σ (from σ S))) (Q.open-cells i l (sym (still i l) ∙ e))
+  accounted i l e = ⊎_elim inl (λ z. inr (z.0, λ σ S. z.1 σ (from σ S))) (Q.open_cells i l (sym (still i l) ∙ e))
 
   pub moved : Piece s' d n P₀ H t U₀ U ρ
   moved = record {
@@ -49,7 +49,7 @@ module _ (s s' d : List ℕ) (n : ℕ) (P₀ L : Pairs ℕ) (S' : Solved s' n P�
     opened = Q.opened;
     passes = Q.passes;
     agree = Q.agree;
-    open-cells = accounted;
+    open_cells = accounted;
   }
 
   -- THE PIECE AROUND IS TAKEN UP AGAIN after items c of pieces inside it.
@@ -71,9 +71,9 @@ module _ (s s' d : List ℕ) (n : ℕ) (P₀ L : Pairs ℕ) (S' : Solved s' n P�
       some = (Q.some.0, to Q.some.0 Q.some.1);
       start = Q.start;
       opened = Q.opened;
-      passes = passes-more H t c Q.passes goes;
+      passes = passes_more H t c Q.passes goes;
       agree = λ τ τ'. (λ h. (Q.agree τ τ').0 h.0, λ h. ((Q.agree τ τ').1 h, agrees τ τ'));
-      open-cells = accounted;
+      open_cells = accounted;
     }
       where
         tracked' : (R : Pairs ℕ) → AllP (λ x i. In x U × (i < n)) R → AllP (λ x i. In x U' × (i < n)) R
@@ -84,44 +84,44 @@ module _ (s s' d : List ℕ) (n : ℕ) (P₀ L : Pairs ℕ) (S' : Solved s' n P�
         matched end τ τ' σ e q m = tt
         matched (pair x i R) τ τ' σ e q m = (e x q.0.0 ∙ m.0, matched R τ τ' σ e q.1 m.1)
 
-    pub resumed-later : Later s s' d n n P₀ P₀ H t (t ⨾ c) ρ ρ
+    pub resumed_later : Later s s' d n n P₀ P₀ H t (t ⨾ c) ρ ρ
     unfolding MeetsIn
-    resumed-later = record { solutions = from; items = λ τ m. (m.0, m.1.0); unknowns = λ τ σ m. m }
+    resumed_later = record { solutions = from; items = λ τ m. (m.0, m.1.0); unknowns = λ τ σ m. m }
 
 -- `finite` on a piece: it answers true, and the piece stands.
 module _ (s s' d : List ℕ) (n : ℕ) (b : Bool) (T : TestedFinite s s' n b) (P₀ : Pairs ℕ) (H t : Items) (U₀ U : List ℕ) (ρ : Pairs ℕ) (Q : Piece s d n P₀ H t U₀ U ρ) where
   plain : (σ : ℕ → Ty) → Solution s d n P₀ σ → SolutionOf s d n P₀
   plain σ S = record { σ = σ; fits = S.fits; sat = S.sat; obeys = S.obeys }
 
-  pub tested-true : b ≡ true
-  tested-true = go b refl
+  pub tested_true : b ≡ true
+  tested_true = go b refl
     where
       go : (c : Bool) → b ≡ c → c ≡ true
       go true e = refl
-      go false e = absurd (finite-none s s' d n (subst (TestedFinite s s' n) e T) P₀ Q.L Q.solved (plain Q.some.0 Q.some.1))
+      go false e = absurd (finite_none s s' d n (subst (TestedFinite s s' n) e T) P₀ Q.L Q.solved (plain Q.some.0 Q.some.1))
 
-  few : n ≤ maxCells
+  few : n ≤ max_cells
   few = Q.solved.held.few
 
-  pub to-tested : (σ : ℕ → Ty) → Solution s d n P₀ σ → Solution s' d n P₀ σ
-  to-tested σ S = record { fits = subst (λ w. Fits w n σ) (sym T.still) S.fits; sat = S.sat; obeys = same-obeys s s' d n T.same few finite σ S.obeys }
+  pub to_tested : (σ : ℕ → Ty) → Solution s d n P₀ σ → Solution s' d n P₀ σ
+  to_tested σ S = record { fits = subst (λ w. Fits w n σ) (sym T.still) S.fits; sat = S.sat; obeys = same_obeys s s' d n T.same few finite σ S.obeys }
 
-  from-tested : (σ : ℕ → Ty) → Solution s' d n P₀ σ → Solution s d n P₀ σ
-  from-tested σ S = record { fits = subst (λ w. Fits w n σ) T.still S.fits; sat = S.sat; obeys = same-obeys s' s d n (same_back s s' T.same) few finite σ S.obeys }
+  from_tested : (σ : ℕ → Ty) → Solution s' d n P₀ σ → Solution s d n P₀ σ
+  from_tested σ S = record { fits = subst (λ w. Fits w n σ) T.still S.fits; sat = S.sat; obeys = same_obeys s' s d n (same_back s s' T.same) few finite σ S.obeys }
 
   pub tested : Piece s' d n P₀ H t U₀ U ρ
-  tested = moved s s' d n P₀ Q.L (T.grown P₀ Q.L Q.solved) (same-pinned s s' d n T.same few Q.pinned) (λ i l. ap (λ w. tag_at w i) T.still) to-tested from-tested H t U₀ U ρ Q
+  tested = moved s s' d n P₀ Q.L (T.grown P₀ Q.L Q.solved) (same_pinned s s' d n T.same few Q.pinned) (λ i l. ap (λ w. tag_at w i) T.still) to_tested from_tested H t U₀ U ρ Q
 
-  pub tested-finite : Finite (frozen s') n Q.L
-  tested-finite i l = subst (λ w. Finite w n Q.L) (sym T.still) (λ j k. (T.sizes tested-true P₀ Q.L Q.solved j k).finite) i l
+  pub tested_finite : Finite (frozen s') n Q.L
+  tested_finite i l = subst (λ w. Finite w n Q.L) (sym T.still) (λ j k. (T.sizes tested_true P₀ Q.L Q.solved j k).finite) i l
 
-  pub tested-later : Later s s' d n n P₀ P₀ H t t ρ ρ
-  tested-later = record { solutions = from-tested; items = λ τ m. m; unknowns = λ τ σ m. m }
+  pub tested_later : Later s s' d n n P₀ P₀ H t t ρ ρ
+  tested_later = record { solutions = from_tested; items = λ τ m. m; unknowns = λ τ σ m. m }
 
   -- the same of the piece that stands
-  pub finite-after : Finite (frozen s') n tested.L
+  pub finite_after : Finite (frozen s') n tested.L
   unfolding tested moved
-  finite-after = tested-finite
+  finite_after = tested_finite
 
 -- A PIECE IS CLOSED at the node m.
 module _ (s d : List ℕ) (n : ℕ) (P₀ : Pairs ℕ) (H t : Items) (U₀ U : List ℕ) (ρ : Pairs ℕ) (Q : Piece s d n P₀ H t U₀ U ρ) (m : ℕ) (F : Finite (frozen s) n Q.L) where
@@ -132,9 +132,9 @@ module _ (s d : List ℕ) (n : ℕ) (P₀ : Pairs ℕ) (H t : Items) (U₀ U : L
   part X = record { fits = X.fits; sat = X.sat; obeys = X.obeys }
 
   -- 34: two solutions.
-  pub closed-stops : Left s n true → Passes t (MeetsIn H) → Refuses (piece m t) (MeetsIn H) 34 m
+  pub closed_stops : Left s n true → Passes t (MeetsIn H) → Refuses (piece m t) (MeetsIn H) 34 m
   unfolding Refuses MeetsIn
-  closed-stops Z p =
+  closed_stops Z p =
       let D = Z.several refl d P₀ Q.L Q.solved Q.pinned F in
       let a = Q.complete D.one.σ (part D.one) Q.start.0 Q.start.1 in
       let b = Q.complete D.other.σ (part D.other) Q.start.0 Q.start.1 in
@@ -142,9 +142,9 @@ module _ (s d : List ℕ) (n : ℕ) (P₀ : Pairs ℕ) (H t : Items) (U₀ U : L
     where
       apart : (D : Differ s d n P₀) (τ τ' : Valuation) → Matches ρ τ D.one.σ → Matches ρ τ' D.other.σ → AllP (λ x c. τ x ≡ τ' x) ρ → ⊥
       apart D τ τ' j k q = D.differ (⊎_elim
-          (λ z. sym (all_in (λ x c. τ x ≡ D.one.σ c) ρ z.0 D.cell j z.1) ∙ all_in (λ x c. τ x ≡ τ' x) ρ z.0 D.cell q z.1 ∙ all_in (λ x c. τ' x ≡ D.other.σ c) ρ z.0 D.cell k z.1)
+          (λ z. sym (all_in_lem (λ x c. τ x ≡ D.one.σ c) ρ z.0 D.cell j z.1) ∙ all_in_lem (λ x c. τ x ≡ τ' x) ρ z.0 D.cell q z.1 ∙ all_in_lem (λ x c. τ' x ≡ D.other.σ c) ρ z.0 D.cell k z.1)
           (λ z. z.1 D.one.σ (part D.one) ∙ sym (z.1 D.other.σ (part D.other)))
-          (Q.open-cells D.cell D.made D.bare))
+          (Q.open_cells D.cell D.made D.bare))
 
   module _ (Z : Left s n false) where
     pub one : (σ σ' : ℕ → Ty) → Solution s d n P₀ σ → Solution s d n P₀ σ' → (i : ℕ) → i < n → σ i ≡ σ' i
@@ -157,25 +157,25 @@ module _ (s d : List ℕ) (n : ℕ) (P₀ : Pairs ℕ) (H t : Items) (U₀ U : L
         go end σ σ' S S' k a b = tt
         go (pair x c R) σ σ' S S' k a b = (a.0 ∙ one σ σ' S S' c k.0.1 ∙ sym b.0, go R σ σ' S S' k.1 a.1 b.1)
 
-    pub closed-goes : Passes t (MeetsIn H) → Passes (piece m t) (MeetsIn H)
+    pub closed_goes : Passes t (MeetsIn H) → Passes (piece m t) (MeetsIn H)
     unfolding Passes MeetsIn
-    closed-goes p = (p, λ τ τ' h h'. (Q.agree τ τ').1 (agreed τ τ' (h.0, h.1) (h'.0, h'.1)))
+    closed_goes p = (p, λ τ τ' h h'. (Q.agree τ τ').1 (agreed τ τ' (h.0, h.1) (h'.0, h'.1)))
 
-    pub closed-extends : Extends H (piece m t) U₀
+    pub closed_extends : Extends H (piece m t) U₀
     unfolding MeetsIn
-    closed-extends τ h = let q = Q.complete Q.some.0 Q.some.1 τ h in (q.0, (q.1.0, q.1.1), q.3)
+    closed_extends τ h = let q = Q.complete Q.some.0 Q.some.1 τ h in (q.0, (q.1.0, q.1.1), q.3)
 
-    pub closed-steady : Steady (H ⨾ piece m t) U
+    pub closed_steady : Steady (H ⨾ piece m t) U
     unfolding MeetsIn
-    closed-steady = record {
-      passes = passes-after H (piece m t) Q.opened (closed-goes Q.passes);
+    closed_steady = record {
+      passes = passes_after H (piece m t) Q.opened (closed_goes Q.passes);
       local = λ τ τ' h k. let z = Q.local τ τ' h (k.0, k.1) in (z.0, z.1);
       some = let q = Q.complete Q.some.0 Q.some.1 Q.start.0 Q.start.1 in (q.0, (q.1.0, q.1.1));
     }
 
     -- each unknown has one type
-    pub closed-type : (σ : ℕ → Ty) → Solution s d n P₀ σ → (x c : ℕ) → InP x c ρ → (τ : Valuation) → Meets (H ⨾ piece m t) τ → τ x ≡ σ c
+    pub closed_type : (σ : ℕ → Ty) → Solution s d n P₀ σ → (x c : ℕ) → InP x c ρ → (τ : Valuation) → Meets (H ⨾ piece m t) τ → τ x ≡ σ c
     unfolding MeetsIn
-    closed-type σ S x c i τ h =
+    closed_type σ S x c i τ h =
         let a = Q.sound τ (h.0, h.1) in
-        all_in (λ y k. τ y ≡ a.0 k) ρ x c a.2 i ∙ one a.0 σ a.1 S c (all_in (λ y k. In y U × (k < n)) ρ x c Q.tracked i).1
+        all_in_lem (λ y k. τ y ≡ a.0 k) ρ x c a.2 i ∙ one a.0 σ a.1 S c (all_in_lem (λ y k. In y U × (k < n)) ρ x c Q.tracked i).1

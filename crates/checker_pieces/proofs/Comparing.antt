@@ -4,7 +4,7 @@ use mathlib.Core.List.{List}
 use Prim.Native.Nat.{ℕ}
 use Rattle.types_solver.specs.Equation.{Equating, Equation}
 use Rattle.checker_pieces.specs.Stage.{Comparing, Equated}
-use Rattle.checker_pieces.proofs.Equating.{equated, equated-goes, equated-later, stop}
+use Rattle.checker_pieces.proofs.Equating.{equated, equated_goes, equated_later, stop}
 
 module _ (s d : List ℕ) (n : ℕ) (l : List ℕ) (y k : ℕ) (C : Comparing s d n l y k) where
   pub equating : Equating s d n l y k
@@ -18,9 +18,9 @@ module _ (s d : List ℕ) (n : ℕ) (l : List ℕ) (y k : ℕ) (C : Comparing s 
     still = M.still;
     goes = λ q top G S es D m.
         let M' = subst (Equation s s' d n l y k) q M in (
-          equated-goes s s' d n l y k G S.piece es D m M',
+          equated_goes s s' d n l y k G S.piece es D m M',
           equated s s' d n l y k G S.piece es D m M',
-          equated-later s s' d n l y k G S.piece es D m M',
+          equated_later s s' d n l y k G S.piece es D m M',
         );
     stops = λ q top G S es D m. stop s s' d n l y k G S.piece es D m number M q;
   }

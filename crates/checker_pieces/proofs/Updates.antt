@@ -14,13 +14,13 @@ choose false g h = h
 pub put : ℕ → Ty → (ℕ → Ty) → ℕ → Ty
 put x g f y = choose (eqb y x) g (f y)
 
-pub put-hit : (x : ℕ) (g : Ty) (f : ℕ → Ty) → put x g f x ≡ g
+pub put_hit : (x : ℕ) (g : Ty) (f : ℕ → Ty) → put x g f x ≡ g
 unfolding put
-put-hit x g f = ap (λ b. choose b g (f x)) (eq-eqb x x refl)
+put_hit x g f = ap (λ b. choose b g (f x)) (eq-eqb x x refl)
 
-pub put-miss : (x : ℕ) (g : Ty) (f : ℕ → Ty) (y : ℕ) → (y ≡ x → ⊥) → put x g f y ≡ f y
+pub put_miss : (x : ℕ) (g : Ty) (f : ℕ → Ty) (y : ℕ) → (y ≡ x → ⊥) → put x g f y ≡ f y
 unfolding put
-put-miss x g f y d = go (eqb y x) refl
+put_miss x g f y d = go (eqb y x) refl
   where
     go : (b : Bool) → eqb y x ≡ b → choose b g (f y) ≡ f y
     go true e = absurd (d (eqb-true y x e))

@@ -1,12 +1,12 @@
 -- New cells with formers: ℤ, a power, a product. What the functions that build them ask and promise.
 use Rattle.std.specs.Prelude.{◌≡◌, List, [], ◌∷◌, map, ℕ, suc, ◌+◌, ◌<◌, length}
 use Rattle.types_rules.specs.Equations.{In, InP, Pairs}
-use Rattle.types_rules.specs.Finite.{fromList}
+use Rattle.types_rules.specs.Finite.{from_list}
 use Rattle.types_rules.specs.Former.{Former}
 use Rattle.types_rules.specs.Types.{Ty, node, Term, unknown, Terms, nil, cons}
 use Rattle.checker_rules.specs.Conditions.{equation}
 use Rattle.checker_rules.specs.Items.{Items, ◌⨾◌, fresh}
-use Rattle.checker_rules.specs.Unknowns.{powerOf}
+use Rattle.checker_rules.specs.Unknowns.{power_of}
 use Rattle.types_cells.specs.Store.{frozen, load, run, Solved}
 use Rattle.types_cells.specs.Calls.{Above}
 use Rattle.types_solver.specs.Growth.{Builds}
@@ -34,7 +34,7 @@ pub record Laid (s s' : List ℕ) (n top : ℕ) (l : List ℕ) : Type 0 where
 pub record Built (s s' : List ℕ) (n top top' x : ℕ) (h : Former) (l : List ℕ) : Type 0 where
   pub builds : (d : List ℕ) → Builds s s' d n (suc n)
   pub above : Above (frozen s') (suc n) top'
-  pub type : (σ : ℕ → Ty) → Fits (frozen s') (suc n) σ → σ n ≡ node h (fromList (map σ l))
+  pub type : (σ : ℕ → Ty) → Fits (frozen s') (suc n) σ → σ n ≡ node h (from_list (map σ l))
   pub uses : Uses s s' n top (suc n) top' x
 
 -- The same for ℤ, which has no words in the runs: these may end anywhere.
@@ -62,14 +62,14 @@ pub record Working (s d : List ℕ) (n top x : ℕ) (l : List ℕ) : Type 0 wher
   pub room : Room s n top x
 
 -- The unknown x is new, and the term a is the power of it, at node m.
-abbrev pub powerItems : ℕ → ℕ → Term → Items
-powerItems x m a = fresh x ⨾ equation m a (powerOf (unknown x))
+abbrev pub power_items : ℕ → ℕ → Term → Items
+power_items x m a = fresh x ⨾ equation m a (power_of (unknown x))
 
 -- IS_POWER: the type of cell c is a power, of the new unknown cell n.
 pub record Powered (s s' d : List ℕ) (n top c number : ℕ) : Type 0 where
   pub low : lower s' ≡ lower s
   pub uses : Uses s s' n top (n + 2) (top + 1) 2
   pub goes : number ≡ 0 → (G : Ghost) → Stands s d n top G → (x : ℕ) → (In x G.mentioned → ⊥) → (m : ℕ) (a : Term) → Cell s d n G c a →
-      Introduced s s' d n top (n + 2) (top + 1) G (powerItems x m a) (λ y. y ≡ x) x n
+      Introduced s s' d n top (n + 2) (top + 1) G (power_items x m a) (λ y. y ≡ x) x n
   pub stops : (number ≡ 0 → ⊥) → (G : Ghost) → Stands s d n top G → (x : ℕ) → (In x G.mentioned → ⊥) → (m : ℕ) (a : Term) → Cell s d n G c a →
-      Stops G.before G.items (powerItems x m a) number m
+      Stops G.before G.items (power_items x m a) number m

@@ -52,7 +52,7 @@ pub record Piece (s d : List ℕ) (n : ℕ) (P₀ : Pairs ℕ) (H t : Items) (U�
   pub opened : Passes H Any
   pub passes : Passes t (MeetsIn H)
   pub agree : (τ τ' : Valuation) → Agree t τ τ' ↔ AllP (λ x c. τ x ≡ τ' x) ρ
-  pub open-cells : (i : ℕ) → i < n → tag_at (frozen s) i ≡ 0 → Accounted s d n P₀ ρ i
+  pub open_cells : (i : ℕ) → i < n → tag_at (frozen s) i ≡ 0 → Accounted s d n P₀ ρ i
 
 -- The cell c has the type of the term a, in every solution and valuation that belong together.
 abbrev pub Denotes : List ℕ → List ℕ → ℕ → Pairs ℕ → Items → Items → Pairs ℕ → ℕ → Term → Type 0

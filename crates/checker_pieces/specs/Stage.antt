@@ -5,11 +5,11 @@ use Rattle.types_rules.specs.Equations.{In, InP, Pairs, end, pair}
 use Rattle.types_rules.specs.Types.{Term, Each}
 use Rattle.checker_rules.specs.Unknowns.{slot}
 use Rattle.checker_rules.specs.Items.{Items, ◌⨾◌, equations}
-use Rattle.types_cells.specs.Layout.{maxPending, frozenSize, maxCells}
+use Rattle.types_cells.specs.Layout.{max_pending, frozen_size, max_cells}
 use Rattle.types_cells.specs.Store.{frozen, load}
 use Rattle.types_cells.specs.Settled.{lower}
 use Rattle.types_cells.specs.Calls.{Above}
-use Rattle.types_solver.specs.Equation.{pairsWith, Within}
+use Rattle.types_solver.specs.Equation.{pairs_with, Within}
 use Rattle.checker_pieces.specs.Piece.{Piece, Denotes, Later, Goes, Stops}
 
 pub record Ghost : Type 0 where
@@ -38,14 +38,14 @@ pub record Comparing (s d : List ℕ) (n : ℕ) (l : List ℕ) (y k : ℕ) : Typ
   pub step : k ≤ 2
 
 -- The cells that the rule of one node makes, at most.
-abbrev pub nodeCells : ℕ
-nodeCells = 40
+abbrev pub node_cells : ℕ
+node_cells = 40
 
 -- Room for x cells more, of two words each.
 pub record Room (s : List ℕ) (n top x : ℕ) : Type 0 where
-  pub cells : n + x ≤ maxCells
-  pub words : top + 2 * x ≤ frozenSize
-  pub fit : load (frozen s) n + 2 * x < maxPending
+  pub cells : n + x ≤ max_cells
+  pub words : top + 2 * x ≤ frozen_size
+  pub fit : load (frozen s) n + 2 * x < max_pending
 
 -- The term a is the type of the cell c, which is one of the n.
 pub record Cell (s d : List ℕ) (n : ℕ) (G : Ghost) (c : ℕ) (a : Term) : Type 0 where
@@ -101,7 +101,7 @@ pub record Equated (s s' d : List ℕ) (n : ℕ) (l : List ℕ) (y k number : �
   pub still : frozen s' ≡ frozen s
   pub goes : number ≡ 0 → (top : ℕ) (G : Ghost) → Stands s d n top G → (es : Pairs Term) → Sides s d n G l y k es → (m : ℕ) →
       Goes G.before G.items (equations m es)
-      × Piece s' d n (pairsWith l y k G.equations) G.before (G.items ⨾ equations m es) G.known G.mentioned G.cells
-      × Later s s' d n n G.equations (pairsWith l y k G.equations) G.before G.items (G.items ⨾ equations m es) G.cells G.cells
+      × Piece s' d n (pairs_with l y k G.equations) G.before (G.items ⨾ equations m es) G.known G.mentioned G.cells
+      × Later s s' d n n G.equations (pairs_with l y k G.equations) G.before G.items (G.items ⨾ equations m es) G.cells G.cells
   pub stops : (number ≡ 0 → ⊥) → (top : ℕ) (G : Ghost) → Stands s d n top G → (es : Pairs Term) → Sides s d n G l y k es → (m : ℕ) →
       Stops G.before G.items (equations m es) number m

@@ -2,7 +2,7 @@
 
 ghost use Rattle.std.specs.Prelude.{[], ◌∷◌, ◌+◌, ◌≤◌, length, take};
 ghost use Rattle.types_rules.specs.Former.{int, power, product};
-ghost use Rattle.types_cells.specs.Layout.{firstRun};
+ghost use Rattle.types_cells.specs.Layout.{first_run};
 ghost use Rattle.types_cells.specs.Calls.{Making};
 ghost use Rattle.checker_pieces.specs.Building.{Building, Laid, Built, Integer};
 
@@ -18,7 +18,7 @@ const FIRST_RUN: u32 = types_cells::area::FIRST_RUN as u32;
 
 // ℤ.
 pub fn integer(a: &mut [u32], n: usize)
-    requires { Making a.old n 1 0 firstRun 0 }
+    requires { Making a.old n 1 0 first_run 0 }
     ensures { Integer a.old a.new n int [] }
 {
     types_cells::growth::new_cell(a, n, INTEGERS, 0, FIRST_RUN, 0);

@@ -6,93 +6,93 @@ use Prim.Native.Nat.{ℕ, suc, ◌+◌, ◌*◌, ◌≤◌}
 use native.Mathlib.Omega.{arith}
 use lib.ListN.{length, length-map}
 use Rattle.layout.specs.declared.Form.{Form}
-use Rattle.layout.specs.Layout.{offsetAt, length_at, laidOut, part}
-use Rattle.layout.specs.Rows.{Rows, rowPairs, rowWords, layOut}
+use Rattle.layout.specs.Layout.{offset_at, length_at, laid_out, part}
+use Rattle.layout.specs.Rows.{Rows, row_pairs, row_words, lay_out}
 use Rattle.layout.proofs.LaidRows as rows
-use Rattle.layout.proofs.LaidRows.{Long, rows-laid, laid-length}
+use Rattle.layout.proofs.LaidRows.{Long, rows_laid, laid_length}
 use Rattle.types_rules.specs.Types.{Ty, node}
 use Rattle.types_rules.specs.Words.{words}
-use Rattle.checker_rules.specs.Dictionary.{Entry, nameEntry, schemaEntry, Dictionary, entryWords, entries, entryPairs, allWords, laidOutWords}
-use Rattle.checker_rules.specs.Dictionary.{dictionaryWords, dictionaryLength}
+use Rattle.checker_rules.specs.Dictionary.{Entry, name_entry, schema_entry, Dictionary, entry_words, entries, entry_pairs, all_words, laid_out_words}
+use Rattle.checker_rules.specs.Dictionary.{dictionary_words, dictionary_length}
 
-type-words : (g : Ty) → 1 ≤ length (words g)
+type_words_lem : (g : Ty) → 1 ≤ length (words g)
 unfolding words
-type-words (node h gs) = omega arith
+type_words_lem (node h gs) = omega arith
 
 -- class, name, parameter count, and at least one type word
-pub entry-long : (e : Entry) → 4 ≤ length (entryWords e)
-unfolding entryWords
-entry-long (nameEntry i p g) = omega (arith, type-words g)
-entry-long (schemaEntry s p g) = omega (arith, type-words g)
+pub entry_long : (e : Entry) → 4 ≤ length (entry_words e)
+unfolding entry_words
+entry_long (name_entry i p g) = omega (arith, type_words_lem g)
+entry_long (schema_entry s p g) = omega (arith, type_words_lem g)
 
 -- The entries as rows.
-pairs-rows : (es : List Entry) (o : ℕ) → entryPairs es o ≡ rowPairs (map entryWords es) o
-unfolding entryPairs rowPairs
-pairs-rows [] o = refl
-pairs-rows (e ∷ es) o = ap (λ (w : List ℕ). o ∷ length (entryWords e) ∷ w) (pairs-rows es (o + length (entryWords e)))
+pairs_rows : (es : List Entry) (o : ℕ) → entry_pairs es o ≡ row_pairs (map entry_words es) o
+unfolding entry_pairs row_pairs
+pairs_rows [] o = refl
+pairs_rows (e ∷ es) o = ap (λ (w : List ℕ). o ∷ length (entry_words e) ∷ w) (pairs_rows es (o + length (entry_words e)))
 
-words-rows : (es : List Entry) → allWords es ≡ rowWords (map entryWords es)
-unfolding allWords rowWords
-words-rows [] = refl
-words-rows (e ∷ es) = ap (λ (w : List ℕ). entryWords e ++ w) (words-rows es)
+words_rows : (es : List Entry) → all_words es ≡ row_words (map entry_words es)
+unfolding all_words row_words
+words_rows [] = refl
+words_rows (e ∷ es) = ap (λ (w : List ℕ). entry_words e ++ w) (words_rows es)
 
-laid-rows : (es : List Entry) → laidOutWords es ≡ layOut (map entryWords es)
-unfolding laidOutWords layOut
-laid-rows es =
-    let n = length-map es entryWords in
-    ap₂ (λ (p w : List ℕ). length es ∷ (p ++ w)) (pairs-rows es (1 + 2 * length es)) (words-rows es)
-    ∙ ap (λ (m : ℕ). m ∷ (rowPairs (map entryWords es) (1 + 2 * m) ++ rowWords (map entryWords es))) (sym n)
+laid_rows : (es : List Entry) → laid_out_words es ≡ lay_out (map entry_words es)
+unfolding laid_out_words lay_out
+laid_rows es =
+    let n = length-map es entry_words in
+    ap₂ (λ (p w : List ℕ). length es ∷ (p ++ w)) (pairs_rows es (1 + 2 * length es)) (words_rows es)
+    ∙ ap (λ (m : ℕ). m ∷ (row_pairs (map entry_words es) (1 + 2 * m) ++ row_words (map entry_words es))) (sym n)
 
-rows_append : (fs bs : List Entry) → map entryWords (fs ++ bs) ≡ map entryWords fs ++ map entryWords bs
+rows_append : (fs bs : List Entry) → map entry_words (fs ++ bs) ≡ map entry_words fs ++ map entry_words bs
 rows_append [] bs = refl
-rows_append (a ∷ fs) bs = ap (λ (ws : Rows). entryWords a ∷ ws) (rows_append fs bs)
+rows_append (a ∷ fs) bs = ap (λ (ws : Rows). entry_words a ∷ ws) (rows_append fs bs)
 
-rows_long : (es : List Entry) → Long 4 (map entryWords es)
+rows_long : (es : List Entry) → Long 4 (map entry_words es)
 rows_long [] = tt
-rows_long (e ∷ es) = (entry-long e, rows_long es)
+rows_long (e ∷ es) = (entry_long e, rows_long es)
 
-pub pairs-length : (es : List Entry) (o : ℕ) → length (entryPairs es o) ≡ 2 * length es
-pairs-length es o =
-    let n = length-map es entryWords in
-    ap length (pairs-rows es o) ∙ rows.pairs-length (map entryWords es) o ∙ ap (λ (m : ℕ). 2 * m) n
+pub pairs_length : (es : List Entry) (o : ℕ) → length (entry_pairs es o) ≡ 2 * length es
+pairs_length es o =
+    let n = length-map es entry_words in
+    ap length (pairs_rows es o) ∙ rows.pairs_length (map entry_words es) o ∙ ap (λ (m : ℕ). 2 * m) n
 
 -- entries of at least 4 words, in an area of d words
-abbrev pub dictionaryForm : ℕ → Form
-dictionaryForm d = record { fewest = 0; most = d; shortest = 4; longest = d }
+abbrev pub dictionary_form : ℕ → Form
+dictionary_form d = record { fewest = 0; most = d; shortest = 4; longest = d }
 
 -- The words of a dictionary that fits its area are laid out.
-pub dictionary-laid : (D : Dictionary) (d : ℕ) → dictionaryLength D ≤ d → laidOut (dictionaryForm d) (dictionaryWords D) ≡ true
-unfolding dictionaryWords
-dictionary-laid D d h =
-    let ws = map entryWords (entries D) in
-    let e = laid-rows (entries D) in
+pub dictionary_laid : (D : Dictionary) (d : ℕ) → dictionary_length D ≤ d → laid_out (dictionary_form d) (dictionary_words D) ≡ true
+unfolding dictionary_words
+dictionary_laid D d h =
+    let ws = map entry_words (entries D) in
+    let e = laid_rows (entries D) in
     let l = ap length e in
-    let m = laid-length ws in
-    ap (laidOut (dictionaryForm d)) e ∙ rows-laid (dictionaryForm d) ws (rows_long (entries D)) (omega arith) (omega (arith, h, l, m)) (omega (arith, h, l))
+    let m = laid_length ws in
+    ap (laid_out (dictionary_form d)) e ∙ rows_laid (dictionary_form d) ws (rows_long (entries D)) (omega arith) (omega (arith, h, l, m)) (omega (arith, h, l))
 
 -- Entry k of the words is the k-th entry.
-pub pairs-at : (fs bs : List Entry) (e : Entry) (pre body w : List ℕ) (k o : ℕ) → w ≡ pre ++ (entryPairs (fs ++ (e ∷ bs)) o ++ body) → length pre + 1 ≡ 2 * k
-    → (offsetAt w (k + length fs) ≡ o + length (allWords fs)) × (length_at w (k + length fs) ≡ length (entryWords e))
-pairs-at fs bs e pre body w k o q n =
-    let r = pairs-rows (fs ++ (e ∷ bs)) o ∙ ap (λ (ws : Rows). rowPairs ws o) (rows_append fs (e ∷ bs)) in
-    let h = rows.pairs-at (map entryWords fs) (map entryWords bs) (entryWords e) pre body w k o (q ∙ ap (λ (p : List ℕ). pre ++ (p ++ body)) r) n in
-    let m = length-map fs entryWords in
-    (ap (λ (j : ℕ). offsetAt w (k + j)) (sym m) ∙ h.0 ∙ ap (λ (v : List ℕ). o + length v) (sym (words-rows fs)), ap (λ (j : ℕ). length_at w (k + j)) (sym m) ∙ h.1)
+pub pairs_at_lem : (fs bs : List Entry) (e : Entry) (pre body w : List ℕ) (k o : ℕ) → w ≡ pre ++ (entry_pairs (fs ++ (e ∷ bs)) o ++ body) → length pre + 1 ≡ 2 * k
+    → (offset_at w (k + length fs) ≡ o + length (all_words fs)) × (length_at w (k + length fs) ≡ length (entry_words e))
+pairs_at_lem fs bs e pre body w k o q n =
+    let r = pairs_rows (fs ++ (e ∷ bs)) o ∙ ap (λ (ws : Rows). row_pairs ws o) (rows_append fs (e ∷ bs)) in
+    let h = rows.pairs_at_lem (map entry_words fs) (map entry_words bs) (entry_words e) pre body w k o (q ∙ ap (λ (p : List ℕ). pre ++ (p ++ body)) r) n in
+    let m = length-map fs entry_words in
+    (ap (λ (j : ℕ). offset_at w (k + j)) (sym m) ∙ h.0 ∙ ap (λ (v : List ℕ). o + length v) (sym (words_rows fs)), ap (λ (j : ℕ). length_at w (k + j)) (sym m) ∙ h.1)
 
-pub words_append : (fs bs : List Entry) → allWords (fs ++ bs) ≡ allWords fs ++ allWords bs
+pub words_append : (fs bs : List Entry) → all_words (fs ++ bs) ≡ all_words fs ++ all_words bs
 words_append fs bs =
-    words-rows (fs ++ bs)
-    ∙ ap rowWords (rows_append fs bs)
-    ∙ rows.words_append (map entryWords fs) (map entryWords bs)
-    ∙ ap₂ (λ (v w : List ℕ). v ++ w) (sym (words-rows fs)) (sym (words-rows bs))
+    words_rows (fs ++ bs)
+    ∙ ap row_words (rows_append fs bs)
+    ∙ rows.words_append (map entry_words fs) (map entry_words bs)
+    ∙ ap₂ (λ (v w : List ℕ). v ++ w) (sym (words_rows fs)) (sym (words_rows bs))
 
-parts-of : (fs bs : List Entry) (e : Entry) → part (laidOutWords (fs ++ (e ∷ bs))) (suc (length fs)) ≡ entryWords e
-parts-of fs bs e =
-    let m = length-map fs entryWords in
-    ap₂ (λ (w : List ℕ) (j : ℕ). part w (suc j)) (laid-rows (fs ++ (e ∷ bs)) ∙ ap layOut (rows_append fs (e ∷ bs))) (sym m)
-    ∙ rows.parts-of (map entryWords fs) (map entryWords bs) (entryWords e)
+parts_of_lem : (fs bs : List Entry) (e : Entry) → part (laid_out_words (fs ++ (e ∷ bs))) (suc (length fs)) ≡ entry_words e
+parts_of_lem fs bs e =
+    let m = length-map fs entry_words in
+    ap₂ (λ (w : List ℕ) (j : ℕ). part w (suc j)) (laid_rows (fs ++ (e ∷ bs)) ∙ ap lay_out (rows_append fs (e ∷ bs))) (sym m)
+    ∙ rows.parts_of_lem (map entry_words fs) (map entry_words bs) (entry_words e)
 
-pub entry-part : (D : Dictionary) (fs : List Entry) (e : Entry) (bs : List Entry) → entries D ≡ fs ++ (e ∷ bs)
-    → part (dictionaryWords D) (suc (length fs)) ≡ entryWords e
-unfolding dictionaryWords
-entry-part D fs e bs q = ap (λ (es : List Entry). part (laidOutWords es) (suc (length fs))) q ∙ parts-of fs bs e
+pub entry_part : (D : Dictionary) (fs : List Entry) (e : Entry) (bs : List Entry) → entries D ≡ fs ++ (e ∷ bs)
+    → part (dictionary_words D) (suc (length fs)) ≡ entry_words e
+unfolding dictionary_words
+entry_part D fs e bs q = ap (λ (es : List Entry). part (laid_out_words es) (suc (length fs))) q ∙ parts_of_lem fs bs e

@@ -6,32 +6,32 @@ use mathlib.Core.Option.{Option, some, none as nothing}
 use Prim.Native.Nat.{ℕ, zero, suc, ◌≤◌}
 use native.Mathlib.Omega.{arith}
 use lib.Dec.{ltb, eqb}
-use Rattle.reader_rules.specs.Tree.{Expr, reference, number, integers, set, tuple, product, power, application, selection, theta, schemaSet, arithmetic}
+use Rattle.reader_rules.specs.Tree.{Expr, reference, number, integers, set, tuple, product, power, application, selection, theta, schema_set, arithmetic}
 use Rattle.reader_rules.specs.Tree.{comprehension, Exprs, none, more, Pred, truth, equal, member, at_most, not, connected, quantified, Text, text, Lines}
 use Rattle.reader_rules.specs.Tree.{end, declaration, inclusion, Include, include, Schema, plain, from, both, Paragraph, given, axiomatic, schema}
-use Rattle.reader_rules.specs.Tree.{abbreviation, constraint, exprsLength, includeNode}
+use Rattle.reader_rules.specs.Tree.{abbreviation, constraint, exprs_length, include_node}
 use Rattle.types_rules.specs.Equations.{Pairs, AllP}
 use Rattle.types_rules.specs.Types.{Term, nil}
 use Rattle.types_rules.specs.Instance.{instance}
 use Rattle.types_rules.specs.Formed.{part_count, Formed, Formeds, Ascending, Arity}
 use Rattle.checker_rules.specs.Strokes.{decorate, takes}
-use Rattle.checker_rules.specs.Unknowns.{unknownAt, row}
+use Rattle.checker_rules.specs.Unknowns.{unknown_at, row}
 use Rattle.checker_rules.specs.Items.{Items, skip, ◌⨾◌, fresh, equations, equate, select, small, refusal, piece}
-use Rattle.checker_rules.specs.Dictionary.{Dictionary, blank, Named, unnamed, ofLocal, ofGlobal, nameIn, NamedSchema, noSchema, aSchema}
-use Rattle.checker_rules.specs.Signatures.{Signature, noNames, naming, countNames, names_of, componentsOf, termIn, merge, declare, someStroked}
-use Rattle.checker_rules.specs.Signatures.{wrongNames}
-use Rattle.checker_rules.specs.Scopes.{Scope, globals, name_at, schemaNamed, withParameters, includeSignature, inside, schemaSignature}
-use Rattle.checker_rules.specs.Conditions.{refuseIf, sameType, mergeDeclared, mergeNames, newName, newNames, smallTypes, fewNames, types_of, typed}
-use Rattle.checker_rules.specs.Conditions.{isPower, powers, arePowers, members, areMembers, fresh_row}
-use Rattle.checker_rules.specs.Rules.{referenceItems, thetaName, thetaNames, typeInScope, thetaSignature, thetaItems, includeRule, exprItems}
-use Rattle.checker_rules.specs.Rules.{exprsItems, predItems, textItems, linesItems, includeItems, actualItems, schemaItems, paragraphItems}
+use Rattle.checker_rules.specs.Dictionary.{Dictionary, blank, Named, unnamed, of_local, of_global, name_in, NamedSchema, no_schema, a_schema}
+use Rattle.checker_rules.specs.Signatures.{Signature, no_names, naming, count_names, names_of, components_of, term_in, merge, declare, some_stroked}
+use Rattle.checker_rules.specs.Signatures.{wrong_names}
+use Rattle.checker_rules.specs.Scopes.{Scope, globals, name_at, schema_named, with_parameters, include_signature, inside, schema_signature}
+use Rattle.checker_rules.specs.Conditions.{refuse_if, same_type, merge_declared, merge_names, new_name, new_names, small_types, few_names, types_of, typed}
+use Rattle.checker_rules.specs.Conditions.{is_power, powers, are_powers, members, are_members, fresh_row}
+use Rattle.checker_rules.specs.Rules.{reference_items, theta_name, theta_names, type_in_scope, theta_signature, theta_items, include_rule, expr_items}
+use Rattle.checker_rules.specs.Rules.{exprs_items, pred_items, text_items, lines_items, include_items, actual_items, schema_items, paragraph_items}
 use Rattle.checker_rules.specs.WellFormed.{FormedDictionary}
-use Rattle.checker_rules.proofs.FormedInstances.{FormedOption, instance-formed, row-formed, nil-formed}
-use Rattle.checker_rules.proofs.SignatureTerms.{merge-having, termIn-having, none-having}
-use Rattle.checker_rules.proofs.FormedSignatures.{FormedTerms, declare-formed, components-rising}
-use Rattle.checker_rules.proofs.FormedSignatures.{binding-formed}
-use Rattle.checker_rules.proofs.FormedScopes.{FormedScope, FormedNamed, FormedFound, nameAt-formed, schemaNamed-formed, included-formed}
-use Rattle.checker_rules.proofs.FormedScopes.{schema-formed, inside-formed, parameters-formed, included-rising}
+use Rattle.checker_rules.proofs.FormedInstances.{FormedOption, instance_formed, row_formed, nil_formed}
+use Rattle.checker_rules.proofs.SignatureTerms.{merge_having, term_in_having, none_having}
+use Rattle.checker_rules.proofs.FormedSignatures.{FormedTerms, declare_formed, components_rising}
+use Rattle.checker_rules.proofs.FormedSignatures.{binding_formed}
+use Rattle.checker_rules.proofs.FormedScopes.{FormedScope, FormedNamed, FormedFound, name_at_formed, schema_named_formed, included_formed}
+use Rattle.checker_rules.proofs.FormedScopes.{schema_formed, inside_formed, parameters_formed, included_rising}
 use Rattle.reader_rules.proofs.Sized.{SizedExpr, SizedExprs, SizedPred, SizedText, SizedLines, SizedInclude, SizedSchema, SizedParagraph}
 
 unfoldable pub FormedItems : Items → Type 0
@@ -46,251 +46,251 @@ FormedItems (refusal g n) = Unit {0}
 FormedItems (piece n t) = FormedItems t
 
 -- Items.
-pub refuseIf-formed : (b : Bool) (f n : ℕ) → FormedItems (refuseIf b f n)
-unfolding refuseIf FormedItems
-refuseIf-formed true f n = tt
-refuseIf-formed false f n = tt
+pub refuse_if_formed : (b : Bool) (f n : ℕ) → FormedItems (refuse_if b f n)
+unfolding refuse_if FormedItems
+refuse_if_formed true f n = tt
+refuse_if_formed false f n = tt
 
-pub cond-formed : (b : Bool) (x y : Items) → FormedItems x → FormedItems y → FormedItems (cond b x y)
-cond-formed true x y h k = h
-cond-formed false x y h k = k
+pub cond_formed : (b : Bool) (x y : Items) → FormedItems x → FormedItems y → FormedItems (cond b x y)
+cond_formed true x y h k = h
+cond_formed false x y h k = k
 
-pub sameType-formed : (n : ℕ) (t : Term) (o : Option Term) → Formed Arity t → FormedOption o → FormedItems (sameType n t o)
-unfolding sameType FormedItems
-sameType-formed n t (some u) h k = (h, k)
-sameType-formed n t nothing h k = tt
+pub same_type_formed : (n : ℕ) (t : Term) (o : Option Term) → Formed Arity t → FormedOption o → FormedItems (same_type n t o)
+unfolding same_type FormedItems
+same_type_formed n t (some u) h k = (h, k)
+same_type_formed n t nothing h k = tt
 
-pub mergeDeclared-formed : (n : ℕ) (xs : List ℕ) (t : Term) (r : Signature) → Formed Arity t → FormedTerms r → FormedItems (mergeDeclared n xs t r)
-unfolding mergeDeclared FormedItems
-mergeDeclared-formed n [] t r h k = tt
-mergeDeclared-formed n (i ∷ xs) t r h k = (sameType-formed n t (termIn i r) h (termIn-having (Formed Arity) i r k), mergeDeclared-formed n xs t r h k)
+pub merge_declared_formed : (n : ℕ) (xs : List ℕ) (t : Term) (r : Signature) → Formed Arity t → FormedTerms r → FormedItems (merge_declared n xs t r)
+unfolding merge_declared FormedItems
+merge_declared_formed n [] t r h k = tt
+merge_declared_formed n (i ∷ xs) t r h k = (same_type_formed n t (term_in i r) h (term_in_having (Formed Arity) i r k), merge_declared_formed n xs t r h k)
 
-pub mergeNames-formed : (n : ℕ) (s r : Signature) → FormedTerms s → FormedTerms r → FormedItems (mergeNames n s r)
-unfolding mergeNames FormedItems
-mergeNames-formed n noNames r h k = tt
-mergeNames-formed n (naming i t s) r h k = (sameType-formed n t (termIn i r) h.0 (termIn-having (Formed Arity) i r k), mergeNames-formed n s r h.1 k)
+pub merge_names_formed : (n : ℕ) (s r : Signature) → FormedTerms s → FormedTerms r → FormedItems (merge_names n s r)
+unfolding merge_names FormedItems
+merge_names_formed n no_names r h k = tt
+merge_names_formed n (naming i t s) r h k = (same_type_formed n t (term_in i r) h.0 (term_in_having (Formed Arity) i r k), merge_names_formed n s r h.1 k)
 
-pub newName-formed : (n : ℕ) (m : Named) → FormedItems (newName n m)
-unfolding newName FormedItems
-newName-formed n unnamed = tt
-newName-formed n (ofLocal t) = tt
-newName-formed n (ofGlobal p g) = tt
+pub new_name_formed : (n : ℕ) (m : Named) → FormedItems (new_name n m)
+unfolding new_name FormedItems
+new_name_formed n unnamed = tt
+new_name_formed n (of_local t) = tt
+new_name_formed n (of_global p g) = tt
 
-pub newNames-formed : (n : ℕ) (xs : List ℕ) (D : Dictionary) → FormedItems (newNames n xs D)
-unfolding newNames FormedItems
-newNames-formed n [] D = tt
-newNames-formed n (i ∷ xs) D = (newName-formed n (nameIn i D), newNames-formed n xs D)
+pub new_names_formed : (n : ℕ) (xs : List ℕ) (D : Dictionary) → FormedItems (new_names n xs D)
+unfolding new_names FormedItems
+new_names_formed n [] D = tt
+new_names_formed n (i ∷ xs) D = (new_name_formed n (name_in i D), new_names_formed n xs D)
 
-pub smallTypes-formed : (n : ℕ) (s : Signature) → FormedItems (smallTypes n s)
-unfolding smallTypes FormedItems
-smallTypes-formed n noNames = tt
-smallTypes-formed n (naming i t s) = (tt, smallTypes-formed n s)
+pub small_types_formed : (n : ℕ) (s : Signature) → FormedItems (small_types n s)
+unfolding small_types FormedItems
+small_types_formed n no_names = tt
+small_types_formed n (naming i t s) = (tt, small_types_formed n s)
 
-pub fewNames-formed : (n : ℕ) (s : Signature) → FormedItems (fewNames n s)
-unfolding fewNames
-fewNames-formed n s = refuseIf-formed (ltb 16 (countNames s)) 38 n
+pub few_names_formed : (n : ℕ) (s : Signature) → FormedItems (few_names n s)
+unfolding few_names
+few_names_formed n s = refuse_if_formed (ltb 16 (count_names s)) 38 n
 
-pub typed-formed : (n : ℕ) (t : Term) → Formed Arity t → FormedItems (typed n t)
+pub typed_formed : (n : ℕ) (t : Term) → Formed Arity t → FormedItems (typed n t)
 unfolding FormedItems Formed
-typed-formed n t h = (tt, ((tt, h), tt))
+typed_formed n t h = (tt, ((tt, h), tt))
 
-pub isPower-formed : (n k : ℕ) (e : Expr) → FormedItems (isPower n k e)
+pub is_power_formed : (n k : ℕ) (e : Expr) → FormedItems (is_power n k e)
 unfolding FormedItems Formed Arity
-isPower-formed n k e = (tt, ((tt, (refl, (tt, tt))), tt))
+is_power_formed n k e = (tt, ((tt, (refl, (tt, tt))), tt))
 
-pub freshRow-formed : (n k p : ℕ) → FormedItems (fresh_row n k p)
+pub fresh_row_formed : (n k p : ℕ) → FormedItems (fresh_row n k p)
 unfolding fresh_row FormedItems
-freshRow-formed n k zero = tt
-freshRow-formed n k (suc p) = (tt, freshRow-formed n (suc k) p)
+fresh_row_formed n k zero = tt
+fresh_row_formed n k (suc p) = (tt, fresh_row_formed n (suc k) p)
 
 abbrev FormedPairs : Pairs Term → Type 0
 FormedPairs P = AllP (λ a b. Formed Arity a × Formed Arity b) P
 
-members-formed : (n : ℕ) (es : Exprs) → FormedPairs (members n es)
+members_formed : (n : ℕ) (es : Exprs) → FormedPairs (members n es)
 unfolding members Formed
-members-formed n none = tt
-members-formed n (more e es) = ((tt, tt), members-formed n es)
+members_formed n none = tt
+members_formed n (more e es) = ((tt, tt), members_formed n es)
 
-pub areMembers-formed : (n : ℕ) (es : Exprs) → FormedItems (areMembers n es)
-unfolding areMembers FormedItems
-areMembers-formed n es = members-formed n es
+pub are_members_formed : (n : ℕ) (es : Exprs) → FormedItems (are_members n es)
+unfolding are_members FormedItems
+are_members_formed n es = members_formed n es
 
-powers-formed : (n : ℕ) (es : Exprs) (k : ℕ) → FormedPairs (powers n es k)
+powers_formed : (n : ℕ) (es : Exprs) (k : ℕ) → FormedPairs (powers n es k)
 unfolding powers Formed Arity
-powers-formed n none k = tt
-powers-formed n (more e es) k = ((tt, (refl, (tt, tt))), powers-formed n es (suc k))
+powers_formed n none k = tt
+powers_formed n (more e es) k = ((tt, (refl, (tt, tt))), powers_formed n es (suc k))
 
-pub arePowers-formed : (n : ℕ) (es : Exprs) (k : ℕ) → FormedItems (arePowers n es k)
-unfolding arePowers FormedItems
-arePowers-formed n es k = (freshRow-formed n k (exprsLength es), powers-formed n es k)
+pub are_powers_formed : (n : ℕ) (es : Exprs) (k : ℕ) → FormedItems (are_powers n es k)
+unfolding are_powers FormedItems
+are_powers_formed n es k = (fresh_row_formed n k (exprs_length es), powers_formed n es k)
 
-pub reference-formed : (n : ℕ) (xs : Exprs) (m : Named) → FormedNamed m → FormedItems (referenceItems n xs m)
-unfolding referenceItems FormedItems FormedNamed
-reference-formed n none unnamed h = tt
-reference-formed n none (ofLocal t) h = typed-formed n t h
-reference-formed n none (ofGlobal p g) h = (freshRow-formed n 1 p, typed-formed n _ (instance-formed (row n 1 p) g (row-formed n 1 p) h))
-reference-formed n (more e es) unnamed h = tt
-reference-formed n (more e es) (ofLocal t) h = tt
-reference-formed n (more e es) (ofGlobal p g) h = cond-formed (eqb (exprsLength (more e es)) p) (arePowers n (more e es) 1 ⨾ typed n (instance (row n 1 p) g)) (refusal 32 n) (arePowers-formed n (more e es) 1, typed-formed n (instance (row n 1 p) g) (instance-formed (row n 1 p) g (row-formed n 1 p) h)) tt
+pub reference_formed : (n : ℕ) (xs : Exprs) (m : Named) → FormedNamed m → FormedItems (reference_items n xs m)
+unfolding reference_items FormedItems FormedNamed
+reference_formed n none unnamed h = tt
+reference_formed n none (of_local t) h = typed_formed n t h
+reference_formed n none (of_global p g) h = (fresh_row_formed n 1 p, typed_formed n _ (instance_formed (row n 1 p) g (row_formed n 1 p) h))
+reference_formed n (more e es) unnamed h = tt
+reference_formed n (more e es) (of_local t) h = tt
+reference_formed n (more e es) (of_global p g) h = cond_formed (eqb (exprs_length (more e es)) p) (are_powers n (more e es) 1 ⨾ typed n (instance (row n 1 p) g)) (refusal 32 n) (are_powers_formed n (more e es) 1, typed_formed n (instance (row n 1 p) g) (instance_formed (row n 1 p) g (row_formed n 1 p) h)) tt
 
-pub thetaName-formed : (b : Bool) (n : ℕ) (m : Named) → FormedItems (thetaName b n m)
-unfolding thetaName FormedItems
-thetaName-formed false n m = tt
-thetaName-formed true n unnamed = tt
-thetaName-formed true n (ofLocal t) = tt
-thetaName-formed true n (ofGlobal zero g) = tt
-thetaName-formed true n (ofGlobal (suc p) g) = tt
+pub theta_name_formed : (b : Bool) (n : ℕ) (m : Named) → FormedItems (theta_name b n m)
+unfolding theta_name FormedItems
+theta_name_formed false n m = tt
+theta_name_formed true n unnamed = tt
+theta_name_formed true n (of_local t) = tt
+theta_name_formed true n (of_global zero g) = tt
+theta_name_formed true n (of_global (suc p) g) = tt
 
-pub thetaNames-formed : (n k : ℕ) (s : Signature) (Γ : Scope) → FormedItems (thetaNames n k s Γ)
-unfolding thetaNames FormedItems
-thetaNames-formed n k noNames Γ = tt
-thetaNames-formed n k (naming i t s) Γ = (thetaName-formed (takes k i) n (name_at (decorate k i) Γ), thetaNames-formed n k s Γ)
+pub theta_names_formed : (n k : ℕ) (s : Signature) (Γ : Scope) → FormedItems (theta_names n k s Γ)
+unfolding theta_names FormedItems
+theta_names_formed n k no_names Γ = tt
+theta_names_formed n k (naming i t s) Γ = (theta_name_formed (takes k i) n (name_at (decorate k i) Γ), theta_names_formed n k s Γ)
 
-pub typeInScope-formed : (m : Named) → FormedNamed m → Formed Arity (typeInScope m)
-unfolding typeInScope FormedNamed Formed Arity
-typeInScope-formed unnamed h = (refl, tt)
-typeInScope-formed (ofLocal t) h = h
-typeInScope-formed (ofGlobal p g) h = instance-formed nil g nil-formed h
+pub type_in_scope_formed : (m : Named) → FormedNamed m → Formed Arity (type_in_scope m)
+unfolding type_in_scope FormedNamed Formed Arity
+type_in_scope_formed unnamed h = (refl, tt)
+type_in_scope_formed (of_local t) h = h
+type_in_scope_formed (of_global p g) h = instance_formed nil g nil_formed h
 
-pub thetaSignature-formed : (k : ℕ) (s : Signature) (Γ : Scope) → FormedScope Γ → FormedTerms (thetaSignature k s Γ)
-unfolding thetaSignature
-thetaSignature-formed k noNames Γ h = tt
-thetaSignature-formed k (naming i t s) Γ h = (typeInScope-formed (name_at (decorate k i) Γ) (nameAt-formed (decorate k i) Γ h), thetaSignature-formed k s Γ h)
+pub theta_signature_formed : (k : ℕ) (s : Signature) (Γ : Scope) → FormedScope Γ → FormedTerms (theta_signature k s Γ)
+unfolding theta_signature
+theta_signature_formed k no_names Γ h = tt
+theta_signature_formed k (naming i t s) Γ h = (type_in_scope_formed (name_at (decorate k i) Γ) (name_at_formed (decorate k i) Γ h), theta_signature_formed k s Γ h)
 
-theta-names : (k : ℕ) (s : Signature) (Γ : Scope) → names_of (thetaSignature k s Γ) ≡ names_of s
-unfolding thetaSignature names_of
-theta-names k noNames Γ = refl
-theta-names k (naming i t s) Γ = ap (◌∷◌ i) (theta-names k s Γ)
+theta_names_lem : (k : ℕ) (s : Signature) (Γ : Scope) → names_of (theta_signature k s Γ) ≡ names_of s
+unfolding theta_signature names_of
+theta_names_lem k no_names Γ = refl
+theta_names_lem k (naming i t s) Γ = ap (◌∷◌ i) (theta_names_lem k s Γ)
 
-pub thetaItems-formed : (n k : ℕ) (f : NamedSchema) (Γ : Scope) → FormedFound f → FormedScope Γ → FormedItems (thetaItems n k f Γ)
-unfolding thetaItems FormedItems FormedFound
-thetaItems-formed n k noSchema Γ w h = tt
-thetaItems-formed n k (aSchema p g) Γ w h = (
-  thetaNames-formed n k (componentsOf (instance nil g)) Γ,
+pub theta_items_formed : (n k : ℕ) (f : NamedSchema) (Γ : Scope) → FormedFound f → FormedScope Γ → FormedItems (theta_items n k f Γ)
+unfolding theta_items FormedItems FormedFound
+theta_items_formed n k no_schema Γ w h = tt
+theta_items_formed n k (a_schema p g) Γ w h = (
+  theta_names_formed n k (components_of (instance nil g)) Γ,
   (
-    refuseIf-formed (ltb 0 p) 32 n,
+    refuse_if_formed (ltb 0 p) 32 n,
     (
-      refuseIf-formed (someStroked k (componentsOf (instance nil g))) 37 n,
-      typed-formed n _ (binding-formed (thetaSignature k (componentsOf (instance nil g)) Γ) (thetaSignature-formed k (componentsOf (instance nil g)) Γ h)
-          (subst Ascending (sym (theta-names k (componentsOf (instance nil g)) Γ)) (components-rising (instance nil g) (instance-formed nil g nil-formed w)))),
+      refuse_if_formed (some_stroked k (components_of (instance nil g))) 37 n,
+      typed_formed n _ (binding_formed (theta_signature k (components_of (instance nil g)) Γ) (theta_signature_formed k (components_of (instance nil g)) Γ h)
+          (subst Ascending (sym (theta_names_lem k (components_of (instance nil g)) Γ)) (components_rising (instance nil g) (instance_formed nil g nil_formed w)))),
     ),
   ),
 )
 
-pub includeRule-formed : (f : NamedSchema) (i : Include) (acts : Items) → FormedItems acts → FormedItems (includeRule f i acts)
-unfolding includeRule FormedItems
-includeRule-formed noSchema (include n s k xs rs) acts h = tt
-includeRule-formed (aSchema p g) (include n s k xs rs) acts h = cond-formed (eqb (exprsLength xs) p) (acts ⨾ refuseIf (wrongNames k rs (componentsOf (instance nil g))) 37 n) (refusal 32 n) (h, refuseIf-formed (wrongNames k rs (componentsOf (instance nil g))) 37 n) tt
+pub include_rule_formed : (f : NamedSchema) (i : Include) (acts : Items) → FormedItems acts → FormedItems (include_rule f i acts)
+unfolding include_rule FormedItems
+include_rule_formed no_schema (include n s k xs rs) acts h = tt
+include_rule_formed (a_schema p g) (include n s k xs rs) acts h = cond_formed (eqb (exprs_length xs) p) (acts ⨾ refuse_if (wrong_names k rs (components_of (instance nil g))) 37 n) (refusal 32 n) (h, refuse_if_formed (wrong_names k rs (components_of (instance nil g))) 37 n) tt
 
-types-count : (xs : Exprs) → part_count (types_of xs) ≡ exprsLength xs
-unfolding types_of exprsLength
-types-count none = refl
-types-count (more a xs) = ap suc (types-count xs)
+types_count : (xs : Exprs) → part_count (types_of xs) ≡ exprs_length xs
+unfolding types_of exprs_length
+types_count none = refl
+types_count (more a xs) = ap suc (types_count xs)
 
-row_count : (n k p : ℕ) → part_count (row n k p) ≡ p
+row_count_lem : (n k p : ℕ) → part_count (row n k p) ≡ p
 unfolding row
-row_count n k zero = refl
-row_count n k (suc p) = ap suc (row_count n (suc k) p)
+row_count_lem n k zero = refl
+row_count_lem n k (suc p) = ap suc (row_count_lem n (suc k) p)
 
-pub typesOf-formed : (es : Exprs) → Formeds Arity (types_of es)
+pub types_of_formed : (es : Exprs) → Formeds Arity (types_of es)
 unfolding types_of Formed
-typesOf-formed none = tt
-typesOf-formed (more e es) = (tt, typesOf-formed es)
+types_of_formed none = tt
+types_of_formed (more e es) = (tt, types_of_formed es)
 
-two-to-six : {m n : ℕ} → m ≡ n → (2 ≤ n) × (n ≤ 6) → (2 ≤ m) × (m ≤ 6)
-two-to-six e h = (omega (arith, e, h.0), omega (arith, e, h.1))
+two_to_six : {m n : ℕ} → m ≡ n → (2 ≤ n) × (n ≤ 6) → (2 ≤ m) × (m ≤ 6)
+two_to_six e h = (omega (arith, e, h.0), omega (arith, e, h.1))
 
 mutual
-  unfolding exprItems FormedItems Formed Arity SizedExpr
+  unfolding expr_items FormedItems Formed Arity SizedExpr
 
-  pub formedExpr : (e : Expr) (Γ : Scope) → SizedExpr e → FormedScope Γ → FormedItems (exprItems e Γ)
-  formedExpr (reference n i xs) Γ z h = (formedExprs xs Γ z h, reference-formed n xs (name_at i Γ) (nameAt-formed i Γ h))
-  formedExpr (number n k) Γ z h = (tt, ((tt, (refl, tt)), tt))
-  formedExpr (integers n) Γ z h = (tt, ((tt, (refl, ((refl, tt), tt))), tt))
-  formedExpr (set n es) Γ z h = (formedExprs es Γ z h, (tt, (areMembers-formed n es, (tt, ((tt, (refl, (tt, tt))), tt)))))
-  formedExpr (tuple n es) Γ z h = (formedExprs es Γ z.1 h, (tt, ((tt, (two-to-six (types-count es) z.0, typesOf-formed es)), tt)))
-  formedExpr (product n es) Γ z h = (
-    formedExprs es Γ z.1 h,
-    (arePowers-formed n es 1, (tt, ((tt, (refl, ((two-to-six (row_count n 1 (exprsLength es)) z.0, row-formed n 1 (exprsLength es)), tt))), tt))),
+  pub formed_expr : (e : Expr) (Γ : Scope) → SizedExpr e → FormedScope Γ → FormedItems (expr_items e Γ)
+  formed_expr (reference n i xs) Γ z h = (formed_exprs xs Γ z h, reference_formed n xs (name_at i Γ) (name_at_formed i Γ h))
+  formed_expr (number n k) Γ z h = (tt, ((tt, (refl, tt)), tt))
+  formed_expr (integers n) Γ z h = (tt, ((tt, (refl, ((refl, tt), tt))), tt))
+  formed_expr (set n es) Γ z h = (formed_exprs es Γ z h, (tt, (are_members_formed n es, (tt, ((tt, (refl, (tt, tt))), tt)))))
+  formed_expr (tuple n es) Γ z h = (formed_exprs es Γ z.1 h, (tt, ((tt, (two_to_six (types_count es) z.0, types_of_formed es)), tt)))
+  formed_expr (product n es) Γ z h = (
+    formed_exprs es Γ z.1 h,
+    (are_powers_formed n es 1, (tt, ((tt, (refl, ((two_to_six (row_count_lem n 1 (exprs_length es)) z.0, row_formed n 1 (exprs_length es)), tt))), tt))),
   )
-  formedExpr (power n e) Γ z h = (formedExpr e Γ z h, (isPower-formed n 1 e, (tt, ((tt, (refl, ((refl, (tt, tt)), tt))), tt))))
-  formedExpr (application n f a) Γ z h =
-      (formedExpr f Γ z.0 h, (formedExpr a Γ z.1 h, (tt, ((tt, (refl, (((omega arith, omega arith), (tt, (tt, tt))), tt))), tt))))
-  formedExpr (selection n e i) Γ z h = (formedExpr e Γ z h, (tt, tt))
-  formedExpr (theta n s k) Γ z h = thetaItems-formed n k (schemaNamed s Γ) Γ (schemaNamed-formed s Γ h) h
-  formedExpr (schemaSet n i) Γ z h = (
-    formedInclude i Γ z h,
-    (smallTypes-formed (includeNode i) (includeSignature i Γ), (tt, ((tt, (refl, (binding-formed (includeSignature i Γ) (included-formed i Γ h) (included-rising i Γ), tt))), tt))),
+  formed_expr (power n e) Γ z h = (formed_expr e Γ z h, (is_power_formed n 1 e, (tt, ((tt, (refl, ((refl, (tt, tt)), tt))), tt))))
+  formed_expr (application n f a) Γ z h =
+      (formed_expr f Γ z.0 h, (formed_expr a Γ z.1 h, (tt, ((tt, (refl, (((omega arith, omega arith), (tt, (tt, tt))), tt))), tt))))
+  formed_expr (selection n e i) Γ z h = (formed_expr e Γ z h, (tt, tt))
+  formed_expr (theta n s k) Γ z h = theta_items_formed n k (schema_named s Γ) Γ (schema_named_formed s Γ h) h
+  formed_expr (schema_set n i) Γ z h = (
+    formed_include i Γ z h,
+    (small_types_formed (include_node i) (include_signature i Γ), (tt, ((tt, (refl, (binding_formed (include_signature i Γ) (included_formed i Γ h) (included_rising i Γ), tt))), tt))),
   )
-  formedExpr (arithmetic n o a b) Γ z h =
-      (formedExpr a Γ z.0 h, (formedExpr b Γ z.1 h, (((tt, (refl, tt)), ((tt, (refl, tt)), tt)), (tt, ((tt, (refl, tt)), tt)))))
-  formedExpr (comprehension n t e) Γ z h =
-      (formedText t Γ blank z.0 h, (formedExpr e (inside t Γ) z.1 (inside-formed t Γ h), (tt, ((tt, (refl, (tt, tt))), tt))))
+  formed_expr (arithmetic n o a b) Γ z h =
+      (formed_expr a Γ z.0 h, (formed_expr b Γ z.1 h, (((tt, (refl, tt)), ((tt, (refl, tt)), tt)), (tt, ((tt, (refl, tt)), tt)))))
+  formed_expr (comprehension n t e) Γ z h =
+      (formed_text t Γ blank z.0 h, (formed_expr e (inside t Γ) z.1 (inside_formed t Γ h), (tt, ((tt, (refl, (tt, tt))), tt))))
 
-  pub formedExprs : (es : Exprs) (Γ : Scope) → SizedExprs es → FormedScope Γ → FormedItems (exprsItems es Γ)
-  formedExprs none Γ z h = tt
-  formedExprs (more e es) Γ z h = (formedExpr e Γ z.0 h, formedExprs es Γ z.1 h)
+  pub formed_exprs : (es : Exprs) (Γ : Scope) → SizedExprs es → FormedScope Γ → FormedItems (exprs_items es Γ)
+  formed_exprs none Γ z h = tt
+  formed_exprs (more e es) Γ z h = (formed_expr e Γ z.0 h, formed_exprs es Γ z.1 h)
 
-  pub formedPred : (p : Pred) (Γ : Scope) → SizedPred p → FormedScope Γ → FormedItems (predItems p Γ)
-  formedPred (truth n) Γ z h = tt
-  formedPred (equal n a b) Γ z h = (formedExpr a Γ z.0 h, (formedExpr b Γ z.1 h, ((tt, tt), tt)))
-  formedPred (member n a b) Γ z h = (formedExpr a Γ z.0 h, (formedExpr b Γ z.1 h, (((refl, (tt, tt)), tt), tt)))
-  formedPred (at_most n a b) Γ z h = (formedExpr a Γ z.0 h, (formedExpr b Γ z.1 h, ((tt, (refl, tt)), ((tt, (refl, tt)), tt))))
-  formedPred (not n p) Γ z h = formedPred p Γ z h
-  formedPred (connected n o p q) Γ z h = (formedPred p Γ z.0 h, formedPred q Γ z.1 h)
-  formedPred (quantified n q t p) Γ z h = (formedText t Γ blank z.0 h, formedPred p (inside t Γ) z.1 (inside-formed t Γ h))
+  pub formed_pred : (p : Pred) (Γ : Scope) → SizedPred p → FormedScope Γ → FormedItems (pred_items p Γ)
+  formed_pred (truth n) Γ z h = tt
+  formed_pred (equal n a b) Γ z h = (formed_expr a Γ z.0 h, (formed_expr b Γ z.1 h, ((tt, tt), tt)))
+  formed_pred (member n a b) Γ z h = (formed_expr a Γ z.0 h, (formed_expr b Γ z.1 h, (((refl, (tt, tt)), tt), tt)))
+  formed_pred (at_most n a b) Γ z h = (formed_expr a Γ z.0 h, (formed_expr b Γ z.1 h, ((tt, (refl, tt)), ((tt, (refl, tt)), tt))))
+  formed_pred (not n p) Γ z h = formed_pred p Γ z h
+  formed_pred (connected n o p q) Γ z h = (formed_pred p Γ z.0 h, formed_pred q Γ z.1 h)
+  formed_pred (quantified n q t p) Γ z h = (formed_text t Γ blank z.0 h, formed_pred p (inside t Γ) z.1 (inside_formed t Γ h))
 
-  pub formedText : (t : Text) (Γ : Scope) (D : Dictionary) → SizedText t → FormedScope Γ → FormedItems (textItems t Γ D)
-  formedText (text n p ls) Γ D z h =
-      (formedLines ls Γ D noNames z.1 h (none-having (Formed Arity)), formedPred p (inside (text n p ls) Γ) z.0 (inside-formed (text n p ls) Γ h))
+  pub formed_text : (t : Text) (Γ : Scope) (D : Dictionary) → SizedText t → FormedScope Γ → FormedItems (text_items t Γ D)
+  formed_text (text n p ls) Γ D z h =
+      (formed_lines ls Γ D no_names z.1 h (none_having (Formed Arity)), formed_pred p (inside (text n p ls) Γ) z.0 (inside_formed (text n p ls) Γ h))
 
-  pub formedLines : (ls : Lines) (Γ : Scope) (D : Dictionary) (r : Signature) → SizedLines ls → FormedScope Γ → FormedTerms r → FormedItems (linesItems ls Γ D r)
-  formedLines end Γ D r z h k = tt
-  formedLines (declaration n e xs ls) Γ D r z h k = (
-    (formedExpr e Γ z.0 h, isPower-formed n 0 e),
+  pub formed_lines : (ls : Lines) (Γ : Scope) (D : Dictionary) (r : Signature) → SizedLines ls → FormedScope Γ → FormedTerms r → FormedItems (lines_items ls Γ D r)
+  formed_lines end Γ D r z h k = tt
+  formed_lines (declaration n e xs ls) Γ D r z h k = (
+    (formed_expr e Γ z.0 h, is_power_formed n 0 e),
     (
-      (mergeDeclared-formed n xs (unknownAt n 0) r tt k, newNames-formed n xs D),
-      ((tt, fewNames-formed n (declare xs (unknownAt n 0) r)), formedLines ls Γ D (declare xs (unknownAt n 0) r) z.1 h (declare-formed xs n r k)),
+      (merge_declared_formed n xs (unknown_at n 0) r tt k, new_names_formed n xs D),
+      ((tt, few_names_formed n (declare xs (unknown_at n 0) r)), formed_lines ls Γ D (declare xs (unknown_at n 0) r) z.1 h (declare_formed xs n r k)),
     ),
   )
-  formedLines (inclusion i ls) Γ D r z h k = (
-    formedInclude i Γ z.0 h,
+  formed_lines (inclusion i ls) Γ D r z h k = (
+    formed_include i Γ z.0 h,
     (
-      (mergeNames-formed (includeNode i) (includeSignature i Γ) r (included-formed i Γ h) k, newNames-formed (includeNode i) (names_of (includeSignature i Γ)) D),
+      (merge_names_formed (include_node i) (include_signature i Γ) r (included_formed i Γ h) k, new_names_formed (include_node i) (names_of (include_signature i Γ)) D),
       (
-        (smallTypes-formed (includeNode i) (includeSignature i Γ), fewNames-formed (includeNode i) (merge (includeSignature i Γ) r)),
-        formedLines ls Γ D (merge (includeSignature i Γ) r) z.1 h (merge-having (Formed Arity) (includeSignature i Γ) r (included-formed i Γ h) k),
+        (small_types_formed (include_node i) (include_signature i Γ), few_names_formed (include_node i) (merge (include_signature i Γ) r)),
+        formed_lines ls Γ D (merge (include_signature i Γ) r) z.1 h (merge_having (Formed Arity) (include_signature i Γ) r (included_formed i Γ h) k),
       ),
     ),
   )
 
-  pub formedInclude : (i : Include) (Γ : Scope) → SizedInclude i → FormedScope Γ → FormedItems (includeItems i Γ)
-  formedInclude (include n s k xs rs) Γ z h = includeRule-formed (schemaNamed s Γ) (include n s k xs rs) (actualItems xs n 1 Γ) (formedActuals xs n 1 Γ z.1 h)
+  pub formed_include : (i : Include) (Γ : Scope) → SizedInclude i → FormedScope Γ → FormedItems (include_items i Γ)
+  formed_include (include n s k xs rs) Γ z h = include_rule_formed (schema_named s Γ) (include n s k xs rs) (actual_items xs n 1 Γ) (formed_actuals xs n 1 Γ z.1 h)
 
-  pub formedActuals : (xs : Exprs) (n k : ℕ) (Γ : Scope) → SizedExprs xs → FormedScope Γ → FormedItems (actualItems xs n k Γ)
-  formedActuals none n k Γ z h = tt
-  formedActuals (more e es) n k Γ z h = ((formedExpr e Γ z.0 h, isPower-formed n k e), formedActuals es n (suc k) Γ z.1 h)
+  pub formed_actuals : (xs : Exprs) (n k : ℕ) (Γ : Scope) → SizedExprs xs → FormedScope Γ → FormedItems (actual_items xs n k Γ)
+  formed_actuals none n k Γ z h = tt
+  formed_actuals (more e es) n k Γ z h = ((formed_expr e Γ z.0 h, is_power_formed n k e), formed_actuals es n (suc k) Γ z.1 h)
 
-pub formedSchema : (x : Schema) (Γ : Scope) → SizedSchema x → FormedScope Γ → FormedItems (schemaItems x Γ)
-unfolding schemaItems FormedItems SizedSchema
-formedSchema (plain t) Γ z h = formedText t Γ blank z h
-formedSchema (from i) Γ z h = (formedInclude i Γ z h, smallTypes-formed (includeNode i) (includeSignature i Γ))
-formedSchema (both n a b) Γ z h = (
-  formedSchema a Γ z.0 h,
+pub formed_schema : (x : Schema) (Γ : Scope) → SizedSchema x → FormedScope Γ → FormedItems (schema_items x Γ)
+unfolding schema_items FormedItems SizedSchema
+formed_schema (plain t) Γ z h = formed_text t Γ blank z h
+formed_schema (from i) Γ z h = (formed_include i Γ z h, small_types_formed (include_node i) (include_signature i Γ))
+formed_schema (both n a b) Γ z h = (
+  formed_schema a Γ z.0 h,
   (
-    formedSchema b Γ z.1 h,
+    formed_schema b Γ z.1 h,
     (
-      mergeNames-formed n (schemaSignature b Γ) (schemaSignature a Γ) (schema-formed b Γ h) (schema-formed a Γ h),
-      fewNames-formed n (merge (schemaSignature b Γ) (schemaSignature a Γ)),
+      merge_names_formed n (schema_signature b Γ) (schema_signature a Γ) (schema_formed b Γ h) (schema_formed a Γ h),
+      few_names_formed n (merge (schema_signature b Γ) (schema_signature a Γ)),
     ),
   ),
 )
 
-pub formedParagraph : (p : Paragraph) (D : Dictionary) → SizedParagraph p → FormedDictionary D → FormedItems (paragraphItems p D)
-unfolding paragraphItems FormedItems FormedScope SizedParagraph
-formedParagraph (given n xs) D z h = newNames-formed n xs D
-formedParagraph (axiomatic n t) D z h = formedText t (globals D) D z h
-formedParagraph (schema n s ps x) D z h = formedSchema x (withParameters ps 1 (globals D)) z (parameters-formed ps 1 (globals D) h)
-formedParagraph (abbreviation n i ps e) D z h =
-    (formedExpr e (withParameters ps 1 (globals D)) z (parameters-formed ps 1 (globals D) h), (newNames-formed n (i ∷ []) D, tt))
-formedParagraph (constraint n p) D z h = formedPred p (globals D) z h
+pub formed_paragraph : (p : Paragraph) (D : Dictionary) → SizedParagraph p → FormedDictionary D → FormedItems (paragraph_items p D)
+unfolding paragraph_items FormedItems FormedScope SizedParagraph
+formed_paragraph (given n xs) D z h = new_names_formed n xs D
+formed_paragraph (axiomatic n t) D z h = formed_text t (globals D) D z h
+formed_paragraph (schema n s ps x) D z h = formed_schema x (with_parameters ps 1 (globals D)) z (parameters_formed ps 1 (globals D) h)
+formed_paragraph (abbreviation n i ps e) D z h =
+    (formed_expr e (with_parameters ps 1 (globals D)) z (parameters_formed ps 1 (globals D) h), (new_names_formed n (i ∷ []) D, tt))
+formed_paragraph (constraint n p) D z h = formed_pred p (globals D) z h

@@ -4,21 +4,21 @@ use mathlib.Core.Bool.{Bool, true, false, cond}
 use mathlib.Core.List.{List, [], ◌∷◌}
 use Prim.Native.Nat.{ℕ, suc}
 use lib.Dec.{eqb}
-use Rattle.reader_rules.specs.Tree.{Text, text, Lines, end, declaration, inclusion, Include, include, Schema, plain, from, both, exprsLength}
+use Rattle.reader_rules.specs.Tree.{Text, text, Lines, end, declaration, inclusion, Include, include, Schema, plain, from, both, exprs_length}
 use Rattle.types_rules.specs.Types.{Terms}
 use Rattle.types_rules.specs.Instance.{instance}
 use Rattle.types_rules.specs.Formed.{Formed, Formeds, Arity, WellFormed}
-use Rattle.checker_rules.specs.Unknowns.{unknownAt, row, powerOf, parameterOf}
-use Rattle.checker_rules.specs.Dictionary.{nameEntry, schemaEntry, Dictionary, blank, ◌▸◌, Named, unnamed, ofLocal, ofGlobal, nameIn, NamedSchema, noSchema}
-use Rattle.checker_rules.specs.Dictionary.{aSchema, schemaIn}
-use Rattle.checker_rules.specs.Signatures.{Signature, noNames, naming, names_of, componentsOf, merge, declare, strokeAll}
-use Rattle.checker_rules.specs.Scopes.{Scope, globals, local, name_at, schemaNamed, withParameters, enter, brought, includeSignature, linesSignature}
-use Rattle.checker_rules.specs.Scopes.{textSignature, inside, schemaSignature}
+use Rattle.checker_rules.specs.Unknowns.{unknown_at, row, power_of, parameter_of}
+use Rattle.checker_rules.specs.Dictionary.{name_entry, schema_entry, Dictionary, blank, ◌▸◌, Named, unnamed, of_local, of_global, name_in, NamedSchema, no_schema}
+use Rattle.checker_rules.specs.Dictionary.{a_schema, schema_in}
+use Rattle.checker_rules.specs.Signatures.{Signature, no_names, naming, names_of, components_of, merge, declare, stroke_all}
+use Rattle.checker_rules.specs.Scopes.{Scope, globals, local, name_at, schema_named, with_parameters, enter, brought, include_signature, lines_signature}
+use Rattle.checker_rules.specs.Scopes.{text_signature, inside, schema_signature}
 use Rattle.checker_rules.specs.WellFormed.{FormedDictionary}
-use Rattle.checker_rules.proofs.FormedInstances.{instance-formed, row-formed}
-use Rattle.checker_rules.proofs.SignatureTerms.{merge-having, stroke-having, rename-having}
-use Rattle.checker_rules.proofs.FormedSignatures.{FormedTerms, declare-formed, components-formed, Rising}
-use Rattle.checker_rules.proofs.FormedSignatures.{merge-rising, declare-rising, rename-rising}
+use Rattle.checker_rules.proofs.FormedInstances.{instance_formed, row_formed}
+use Rattle.checker_rules.proofs.SignatureTerms.{merge_having, stroke_having, rename_having}
+use Rattle.checker_rules.proofs.FormedSignatures.{FormedTerms, declare_formed, components_formed, Rising}
+use Rattle.checker_rules.proofs.FormedSignatures.{merge_rising, declare_rising, rename_rising}
 
 unfoldable pub FormedScope : Scope → Type 0
 FormedScope (globals D) = FormedDictionary D
@@ -26,104 +26,104 @@ FormedScope (local i t Γ) = Formed Arity t × FormedScope Γ
 
 unfoldable pub FormedNamed : Named → Type 0
 FormedNamed unnamed = Unit {0}
-FormedNamed (ofLocal t) = Formed Arity t
-FormedNamed (ofGlobal p g) = WellFormed g
+FormedNamed (of_local t) = Formed Arity t
+FormedNamed (of_global p g) = WellFormed g
 
 unfoldable pub FormedFound : NamedSchema → Type 0
-FormedFound noSchema = Unit {0}
-FormedFound (aSchema p g) = WellFormed g
+FormedFound no_schema = Unit {0}
+FormedFound (a_schema p g) = WellFormed g
 
 -- Lookups.
-pub cond-named : (b : Bool) (a m : Named) → FormedNamed a → FormedNamed m → FormedNamed (cond b a m)
-cond-named true a m h k = h
-cond-named false a m h k = k
+pub cond_named : (b : Bool) (a m : Named) → FormedNamed a → FormedNamed m → FormedNamed (cond b a m)
+cond_named true a m h k = h
+cond_named false a m h k = k
 
-pub nameIn-formed : (i : ℕ) (D : Dictionary) → FormedDictionary D → FormedNamed (nameIn i D)
-unfolding nameIn FormedDictionary FormedNamed
-nameIn-formed i blank h = tt
-nameIn-formed i (D ▸ nameEntry j p g) h = cond-named (eqb i j) (ofGlobal p g) (nameIn i D) h.1 (nameIn-formed i D h.0)
-nameIn-formed i (D ▸ schemaEntry s p g) h = nameIn-formed i D h.0
+pub name_in_formed : (i : ℕ) (D : Dictionary) → FormedDictionary D → FormedNamed (name_in i D)
+unfolding name_in FormedDictionary FormedNamed
+name_in_formed i blank h = tt
+name_in_formed i (D ▸ name_entry j p g) h = cond_named (eqb i j) (of_global p g) (name_in i D) h.1 (name_in_formed i D h.0)
+name_in_formed i (D ▸ schema_entry s p g) h = name_in_formed i D h.0
 
-pub nameAt-formed : (i : ℕ) (Γ : Scope) → FormedScope Γ → FormedNamed (name_at i Γ)
+pub name_at_formed : (i : ℕ) (Γ : Scope) → FormedScope Γ → FormedNamed (name_at i Γ)
 unfolding name_at FormedScope FormedNamed
-nameAt-formed i (globals D) h = nameIn-formed i D h
-nameAt-formed i (local j t Γ) h = cond-named (eqb i j) (ofLocal t) (name_at i Γ) h.0 (nameAt-formed i Γ h.1)
+name_at_formed i (globals D) h = name_in_formed i D h
+name_at_formed i (local j t Γ) h = cond_named (eqb i j) (of_local t) (name_at i Γ) h.0 (name_at_formed i Γ h.1)
 
-pub cond-found : (b : Bool) (a m : NamedSchema) → FormedFound a → FormedFound m → FormedFound (cond b a m)
-cond-found true a m h k = h
-cond-found false a m h k = k
+pub cond_found : (b : Bool) (a m : NamedSchema) → FormedFound a → FormedFound m → FormedFound (cond b a m)
+cond_found true a m h k = h
+cond_found false a m h k = k
 
-pub schemaIn-formed : (s : ℕ) (D : Dictionary) → FormedDictionary D → FormedFound (schemaIn s D)
-unfolding schemaIn FormedDictionary FormedFound
-schemaIn-formed s blank h = tt
-schemaIn-formed s (D ▸ nameEntry j p g) h = schemaIn-formed s D h.0
-schemaIn-formed s (D ▸ schemaEntry r p g) h = cond-found (eqb s r) (aSchema p g) (schemaIn s D) h.1 (schemaIn-formed s D h.0)
+pub schema_in_formed : (s : ℕ) (D : Dictionary) → FormedDictionary D → FormedFound (schema_in s D)
+unfolding schema_in FormedDictionary FormedFound
+schema_in_formed s blank h = tt
+schema_in_formed s (D ▸ name_entry j p g) h = schema_in_formed s D h.0
+schema_in_formed s (D ▸ schema_entry r p g) h = cond_found (eqb s r) (a_schema p g) (schema_in s D) h.1 (schema_in_formed s D h.0)
 
-pub schemaNamed-formed : (s : ℕ) (Γ : Scope) → FormedScope Γ → FormedFound (schemaNamed s Γ)
-unfolding schemaNamed FormedScope
-schemaNamed-formed s (globals D) h = schemaIn-formed s D h
-schemaNamed-formed s (local j t Γ) h = schemaNamed-formed s Γ h.1
+pub schema_named_formed : (s : ℕ) (Γ : Scope) → FormedScope Γ → FormedFound (schema_named s Γ)
+unfolding schema_named FormedScope
+schema_named_formed s (globals D) h = schema_in_formed s D h
+schema_named_formed s (local j t Γ) h = schema_named_formed s Γ h.1
 
-pub brought-formed : (f : NamedSchema) (r : Terms) (k : ℕ) (rs : List (ℕ × ℕ)) → FormedFound f → Formeds Arity r → FormedTerms (brought f r k rs)
+pub brought_formed : (f : NamedSchema) (r : Terms) (k : ℕ) (rs : List (ℕ × ℕ)) → FormedFound f → Formeds Arity r → FormedTerms (brought f r k rs)
 unfolding brought FormedFound
-brought-formed noSchema r k rs h hr = tt
-brought-formed (aSchema p g) r k rs h hr = rename-having (Formed Arity) rs (strokeAll k (componentsOf (instance r g))) (stroke-having (Formed Arity) k (componentsOf (instance r g)) (components-formed (instance r g) (instance-formed r g hr h)))
+brought_formed no_schema r k rs h hr = tt
+brought_formed (a_schema p g) r k rs h hr = rename_having (Formed Arity) rs (stroke_all k (components_of (instance r g))) (stroke_having (Formed Arity) k (components_of (instance r g)) (components_formed (instance r g) (instance_formed r g hr h)))
 
-pub included-formed : (i : Include) (Γ : Scope) → FormedScope Γ → FormedTerms (includeSignature i Γ)
-unfolding includeSignature
-included-formed (include n s k xs rs) Γ h = brought-formed (schemaNamed s Γ) (row n 1 (exprsLength xs)) k rs (schemaNamed-formed s Γ h) (row-formed n 1 (exprsLength xs))
+pub included_formed : (i : Include) (Γ : Scope) → FormedScope Γ → FormedTerms (include_signature i Γ)
+unfolding include_signature
+included_formed (include n s k xs rs) Γ h = brought_formed (schema_named s Γ) (row n 1 (exprs_length xs)) k rs (schema_named_formed s Γ h) (row_formed n 1 (exprs_length xs))
 
-pub lines-formed : (ls : Lines) (Γ : Scope) (r : Signature) → FormedScope Γ → FormedTerms r → FormedTerms (linesSignature ls Γ r)
-unfolding linesSignature
-lines-formed end Γ r h k = k
-lines-formed (declaration n e xs ls) Γ r h k = lines-formed ls Γ (declare xs (unknownAt n 0) r) h (declare-formed xs n r k)
-lines-formed (inclusion i ls) Γ r h k = lines-formed ls Γ (merge (includeSignature i Γ) r) h (merge-having (Formed Arity) (includeSignature i Γ) r (included-formed i Γ h) k)
+pub lines_formed : (ls : Lines) (Γ : Scope) (r : Signature) → FormedScope Γ → FormedTerms r → FormedTerms (lines_signature ls Γ r)
+unfolding lines_signature
+lines_formed end Γ r h k = k
+lines_formed (declaration n e xs ls) Γ r h k = lines_formed ls Γ (declare xs (unknown_at n 0) r) h (declare_formed xs n r k)
+lines_formed (inclusion i ls) Γ r h k = lines_formed ls Γ (merge (include_signature i Γ) r) h (merge_having (Formed Arity) (include_signature i Γ) r (included_formed i Γ h) k)
 
-pub text-formed : (t : Text) (Γ : Scope) → FormedScope Γ → FormedTerms (textSignature t Γ)
-unfolding textSignature
-text-formed (text n p ls) Γ h = lines-formed ls Γ noNames h tt
+pub text_formed : (t : Text) (Γ : Scope) → FormedScope Γ → FormedTerms (text_signature t Γ)
+unfolding text_signature
+text_formed (text n p ls) Γ h = lines_formed ls Γ no_names h tt
 
-pub schema-formed : (x : Schema) (Γ : Scope) → FormedScope Γ → FormedTerms (schemaSignature x Γ)
-unfolding schemaSignature
-schema-formed (plain t) Γ h = text-formed t Γ h
-schema-formed (from i) Γ h = included-formed i Γ h
-schema-formed (both n a b) Γ h = merge-having (Formed Arity) (schemaSignature b Γ) (schemaSignature a Γ) (schema-formed b Γ h) (schema-formed a Γ h)
+pub schema_formed : (x : Schema) (Γ : Scope) → FormedScope Γ → FormedTerms (schema_signature x Γ)
+unfolding schema_signature
+schema_formed (plain t) Γ h = text_formed t Γ h
+schema_formed (from i) Γ h = included_formed i Γ h
+schema_formed (both n a b) Γ h = merge_having (Formed Arity) (schema_signature b Γ) (schema_signature a Γ) (schema_formed b Γ h) (schema_formed a Γ h)
 
-pub enter-formed : (s : Signature) (Γ : Scope) → FormedTerms s → FormedScope Γ → FormedScope (enter s Γ)
+pub enter_formed : (s : Signature) (Γ : Scope) → FormedTerms s → FormedScope Γ → FormedScope (enter s Γ)
 unfolding enter FormedScope
-enter-formed noNames Γ h k = k
-enter-formed (naming i t s) Γ h k = enter-formed s (local i t Γ) h.1 (h.0, k)
+enter_formed no_names Γ h k = k
+enter_formed (naming i t s) Γ h k = enter_formed s (local i t Γ) h.1 (h.0, k)
 
-pub inside-formed : (t : Text) (Γ : Scope) → FormedScope Γ → FormedScope (inside t Γ)
+pub inside_formed : (t : Text) (Γ : Scope) → FormedScope Γ → FormedScope (inside t Γ)
 unfolding inside
-inside-formed t Γ h = enter-formed (textSignature t Γ) Γ (text-formed t Γ h) h
+inside_formed t Γ h = enter_formed (text_signature t Γ) Γ (text_formed t Γ h) h
 
-pub parameters-formed : (xs : List ℕ) (k : ℕ) (Γ : Scope) → FormedScope Γ → FormedScope (withParameters xs k Γ)
-unfolding withParameters FormedScope Formed Arity
-parameters-formed [] k Γ h = h
-parameters-formed (i ∷ xs) k Γ h = parameters-formed xs (suc k) (local i (powerOf (parameterOf k)) Γ) ((refl, ((refl, tt), tt)), h)
+pub parameters_formed : (xs : List ℕ) (k : ℕ) (Γ : Scope) → FormedScope Γ → FormedScope (with_parameters xs k Γ)
+unfolding with_parameters FormedScope Formed Arity
+parameters_formed [] k Γ h = h
+parameters_formed (i ∷ xs) k Γ h = parameters_formed xs (suc k) (local i (power_of (parameter_of k)) Γ) ((refl, ((refl, tt), tt)), h)
 
 -- Identifiers ascending.
-pub included-rising : (i : Include) (Γ : Scope) → Rising (includeSignature i Γ)
-unfolding includeSignature
-included-rising (include n s k xs rs) Γ = go (schemaNamed s Γ)
+pub included_rising : (i : Include) (Γ : Scope) → Rising (include_signature i Γ)
+unfolding include_signature
+included_rising (include n s k xs rs) Γ = go (schema_named s Γ)
   where
-    go : (f : NamedSchema) → Rising (brought f (row n 1 (exprsLength xs)) k rs)
-    go noSchema = unfold brought names_of in tt
-    go (aSchema p g) = unfold brought in rename-rising rs (strokeAll k (componentsOf (instance (row n 1 (exprsLength xs)) g)))
+    go : (f : NamedSchema) → Rising (brought f (row n 1 (exprs_length xs)) k rs)
+    go no_schema = unfold brought names_of in tt
+    go (a_schema p g) = unfold brought in rename_rising rs (stroke_all k (components_of (instance (row n 1 (exprs_length xs)) g)))
 
-pub lines-rising : (ls : Lines) (Γ : Scope) (r : Signature) → Rising r → Rising (linesSignature ls Γ r)
-unfolding linesSignature
-lines-rising end Γ r h = h
-lines-rising (declaration n a is ls) Γ r h = lines-rising ls Γ (declare is (unknownAt n 0) r) (declare-rising is (unknownAt n 0) r h)
-lines-rising (inclusion i ls) Γ r h = lines-rising ls Γ (merge (includeSignature i Γ) r) (merge-rising (includeSignature i Γ) r h)
+pub lines_rising : (ls : Lines) (Γ : Scope) (r : Signature) → Rising r → Rising (lines_signature ls Γ r)
+unfolding lines_signature
+lines_rising end Γ r h = h
+lines_rising (declaration n a is ls) Γ r h = lines_rising ls Γ (declare is (unknown_at n 0) r) (declare_rising is (unknown_at n 0) r h)
+lines_rising (inclusion i ls) Γ r h = lines_rising ls Γ (merge (include_signature i Γ) r) (merge_rising (include_signature i Γ) r h)
 
-pub text-rising : (t : Text) (Γ : Scope) → Rising (textSignature t Γ)
-unfolding textSignature names_of
-text-rising (text n p ls) Γ = lines-rising ls Γ noNames tt
+pub text_rising : (t : Text) (Γ : Scope) → Rising (text_signature t Γ)
+unfolding text_signature names_of
+text_rising (text n p ls) Γ = lines_rising ls Γ no_names tt
 
-pub schema-rising : (x : Schema) (Γ : Scope) → Rising (schemaSignature x Γ)
-unfolding schemaSignature
-schema-rising (plain t) Γ = text-rising t Γ
-schema-rising (from i) Γ = included-rising i Γ
-schema-rising (both n a b) Γ = merge-rising (schemaSignature b Γ) (schemaSignature a Γ) (schema-rising a Γ)
+pub schema_rising : (x : Schema) (Γ : Scope) → Rising (schema_signature x Γ)
+unfolding schema_signature
+schema_rising (plain t) Γ = text_rising t Γ
+schema_rising (from i) Γ = included_rising i Γ
+schema_rising (both n a b) Γ = merge_rising (schema_signature b Γ) (schema_signature a Γ) (schema_rising a Γ)

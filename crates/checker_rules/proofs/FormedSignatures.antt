@@ -11,38 +11,38 @@ use Rattle.types_rules.specs.Former.{Former, int, given, parameter, power, produ
 use Rattle.types_rules.specs.Types.{Term, unknown, con, Terms, nil, cons}
 use Rattle.types_rules.specs.Formed.{part_count, Formed, Formeds, Ascending, Arity}
 use Rattle.checker_rules.specs.Strokes.{decorate}
-use Rattle.checker_rules.specs.Unknowns.{unknownAt}
-use Rattle.checker_rules.specs.Signatures.{Signature, noNames, naming, names_of, termsOf, bindingOf, withNames, componentsOf}
-use Rattle.checker_rules.specs.Signatures.{insertName, merge, declare, strokeAll, renamed, renameAll}
-use Rattle.checker_rules.proofs.SignatureTerms.{Having, declare-having}
+use Rattle.checker_rules.specs.Unknowns.{unknown_at}
+use Rattle.checker_rules.specs.Signatures.{Signature, no_names, naming, names_of, terms_of, binding_of, with_names, components_of}
+use Rattle.checker_rules.specs.Signatures.{insert_name, merge, declare, stroke_all, renamed, rename_all}
+use Rattle.checker_rules.proofs.SignatureTerms.{Having, declare_having}
 
 abbrev pub FormedTerms : Signature → Type 0
 FormedTerms s = Having (Formed Arity) s
 
-pub declare-formed : (xs : List ℕ) (n : ℕ) (r : Signature) → FormedTerms r → FormedTerms (declare xs (unknownAt n 0) r)
+pub declare_formed : (xs : List ℕ) (n : ℕ) (r : Signature) → FormedTerms r → FormedTerms (declare xs (unknown_at n 0) r)
 unfolding Formed
-declare-formed xs n r k = declare-having (Formed Arity) xs (unknownAt n 0) r tt k
+declare_formed xs n r k = declare_having (Formed Arity) xs (unknown_at n 0) r tt k
 
-pub withNames-formed : (is : List ℕ) (ts : Terms) → Formeds Arity ts → FormedTerms (withNames is ts)
-unfolding withNames Formed
-withNames-formed [] ts h = tt
-withNames-formed (i ∷ is) nil h = tt
-withNames-formed (i ∷ is) (cons t ts) h = (h.0, withNames-formed is ts h.1)
+pub with_names_formed : (is : List ℕ) (ts : Terms) → Formeds Arity ts → FormedTerms (with_names is ts)
+unfolding with_names Formed
+with_names_formed [] ts h = tt
+with_names_formed (i ∷ is) nil h = tt
+with_names_formed (i ∷ is) (cons t ts) h = (h.0, with_names_formed is ts h.1)
 
-pub components-formed : (t : Term) → Formed Arity t → FormedTerms (componentsOf t)
-unfolding componentsOf Formed
-components-formed (unknown x) h = tt
-components-formed (con k ts) h = withNames-formed (identifiers k) ts h.1
+pub components_formed : (t : Term) → Formed Arity t → FormedTerms (components_of t)
+unfolding components_of Formed
+components_formed (unknown x) h = tt
+components_formed (con k ts) h = with_names_formed (identifiers k) ts h.1
 
-pub terms-count : (s : Signature) → part_count (termsOf s) ≡ length (names_of s)
-unfolding termsOf names_of
-terms-count noNames = refl
-terms-count (naming i t s) = ap suc (terms-count s)
+pub terms_count : (s : Signature) → part_count (terms_of s) ≡ length (names_of s)
+unfolding terms_of names_of
+terms_count no_names = refl
+terms_count (naming i t s) = ap suc (terms_count s)
 
-pub terms-formed : (s : Signature) → FormedTerms s → Formeds Arity (termsOf s)
-unfolding termsOf Formed
-terms-formed noNames h = tt
-terms-formed (naming i t s) h = (h.0, terms-formed s h.1)
+pub terms_formed : (s : Signature) → FormedTerms s → Formeds Arity (terms_of s)
+unfolding terms_of Formed
+terms_formed no_names h = tt
+terms_formed (naming i t s) h = (h.0, terms_formed s h.1)
 
 -- Identifiers ascending.
 abbrev pub Rising : Signature → Type 0
@@ -59,70 +59,70 @@ apart i j e l = go (ltb-false i j l) (eqb-false i j e)
         below false q = absurd (k (let m : i ≤ j = ltb-false j i q in omega (arith, h, m)))
 
 -- after j, an identifier more
-after-rising : (j i : ℕ) (t : Term) (s : Signature) → j < i → Ascending (j ∷ names_of s) → Ascending (j ∷ names_of (insertName i t s))
-unfolding insertName names_of
-after-rising j i t noNames l h = (l, tt)
-after-rising j i t (naming k u s) l h = go (λ q. after-rising k i t s q h.1) (eqb i k) refl (ltb i k) refl
+after_rising : (j i : ℕ) (t : Term) (s : Signature) → j < i → Ascending (j ∷ names_of s) → Ascending (j ∷ names_of (insert_name i t s))
+unfolding insert_name names_of
+after_rising j i t no_names l h = (l, tt)
+after_rising j i t (naming k u s) l h = go (λ q. after_rising k i t s q h.1) (eqb i k) refl (ltb i k) refl
   where
-    go : (k < i → Ascending (k ∷ names_of (insertName i t s))) → (a : Bool) → eqb i k ≡ a → (b : Bool) → ltb i k ≡ b
-        → Ascending (j ∷ names_of (cond a (naming k u s) (cond b (naming i t (naming k u s)) (naming k u (insertName i t s)))))
+    go : (k < i → Ascending (k ∷ names_of (insert_name i t s))) → (a : Bool) → eqb i k ≡ a → (b : Bool) → ltb i k ≡ b
+        → Ascending (j ∷ names_of (cond a (naming k u s) (cond b (naming i t (naming k u s)) (naming k u (insert_name i t s)))))
     go f true e b q = h
     go f false e true q = (l, (ltb-true i k q, h.1))
     go f false e false q = (h.0, f (apart i k e q))
 
-pub insert-rising : (i : ℕ) (t : Term) (s : Signature) → Rising s → Rising (insertName i t s)
-unfolding insertName names_of
-insert-rising i t noNames h = tt
-insert-rising i t (naming k u s) h = go (eqb i k) refl (ltb i k) refl
+pub insert_rising : (i : ℕ) (t : Term) (s : Signature) → Rising s → Rising (insert_name i t s)
+unfolding insert_name names_of
+insert_rising i t no_names h = tt
+insert_rising i t (naming k u s) h = go (eqb i k) refl (ltb i k) refl
   where
-    go : (a : Bool) → eqb i k ≡ a → (b : Bool) → ltb i k ≡ b → Rising (cond a (naming k u s) (cond b (naming i t (naming k u s)) (naming k u (insertName i t s))))
+    go : (a : Bool) → eqb i k ≡ a → (b : Bool) → ltb i k ≡ b → Rising (cond a (naming k u s) (cond b (naming i t (naming k u s)) (naming k u (insert_name i t s))))
     go true e b q = h
     go false e true q = (ltb-true i k q, h)
-    go false e false q = after-rising k i t s (apart i k e q) h
+    go false e false q = after_rising k i t s (apart i k e q) h
 
-pub merge-rising : (s r : Signature) → Rising r → Rising (merge s r)
+pub merge_rising : (s r : Signature) → Rising r → Rising (merge s r)
 unfolding merge
-merge-rising noNames r h = h
-merge-rising (naming i t s) r h = merge-rising s (insertName i t r) (insert-rising i t r h)
+merge_rising no_names r h = h
+merge_rising (naming i t s) r h = merge_rising s (insert_name i t r) (insert_rising i t r h)
 
-pub declare-rising : (is : List ℕ) (t : Term) (r : Signature) → Rising r → Rising (declare is t r)
+pub declare_rising : (is : List ℕ) (t : Term) (r : Signature) → Rising r → Rising (declare is t r)
 unfolding declare
-declare-rising [] t r h = h
-declare-rising (i ∷ is) t r h = declare-rising is t (insertName i t r) (insert-rising i t r h)
+declare_rising [] t r h = h
+declare_rising (i ∷ is) t r h = declare_rising is t (insert_name i t r) (insert_rising i t r h)
 
-pub stroke-rising : (k : ℕ) (s : Signature) → Rising s → Rising (strokeAll k s)
-unfolding strokeAll names_of decorate
-stroke-rising k noNames h = tt
-stroke-rising k (naming i t noNames) h = tt
-stroke-rising k (naming i t (naming j u s)) h = (omega (arith, h.0), stroke-rising k (naming j u s) h.1)
+pub stroke_rising : (k : ℕ) (s : Signature) → Rising s → Rising (stroke_all k s)
+unfolding stroke_all names_of decorate
+stroke_rising k no_names h = tt
+stroke_rising k (naming i t no_names) h = tt
+stroke_rising k (naming i t (naming j u s)) h = (omega (arith, h.0), stroke_rising k (naming j u s) h.1)
 
-pub rename-rising : (rs : List (ℕ × ℕ)) (s : Signature) → Rising (renameAll rs s)
-unfolding renameAll names_of
-rename-rising rs noNames = tt
-rename-rising rs (naming i t s) = insert-rising (renamed rs i) t (renameAll rs s) (rename-rising rs s)
+pub rename_rising : (rs : List (ℕ × ℕ)) (s : Signature) → Rising (rename_all rs s)
+unfolding rename_all names_of
+rename_rising rs no_names = tt
+rename_rising rs (naming i t s) = insert_rising (renamed rs i) t (rename_all rs s) (rename_rising rs s)
 
-withNames-rising : (is : List ℕ) (ts : Terms) → Ascending is → Rising (withNames is ts)
-unfolding withNames names_of
-withNames-rising [] ts h = tt
-withNames-rising (i ∷ is) nil h = tt
-withNames-rising (i ∷ []) (cons t ts) h = tt
-withNames-rising (i ∷ (j ∷ is)) (cons t nil) h = tt
-withNames-rising (i ∷ (j ∷ is)) (cons t (cons u ts)) h = (h.0, withNames-rising (j ∷ is) (cons u ts) h.1)
+with_names_rising : (is : List ℕ) (ts : Terms) → Ascending is → Rising (with_names is ts)
+unfolding with_names names_of
+with_names_rising [] ts h = tt
+with_names_rising (i ∷ is) nil h = tt
+with_names_rising (i ∷ []) (cons t ts) h = tt
+with_names_rising (i ∷ (j ∷ is)) (cons t nil) h = tt
+with_names_rising (i ∷ (j ∷ is)) (cons t (cons u ts)) h = (h.0, with_names_rising (j ∷ is) (cons u ts) h.1)
 
-identifiers-rising : (h : Former) (n : ℕ) → Arity h n → Ascending (identifiers h)
+identifiers_rising : (h : Former) (n : ℕ) → Arity h n → Ascending (identifiers h)
 unfolding Arity identifiers
-identifiers-rising int n a = tt
-identifiers-rising (given g) n a = tt
-identifiers-rising (parameter i) n a = tt
-identifiers-rising power n a = tt
-identifiers-rising product n a = tt
-identifiers-rising (binding l) n a = a.1
+identifiers_rising int n a = tt
+identifiers_rising (given g) n a = tt
+identifiers_rising (parameter i) n a = tt
+identifiers_rising power n a = tt
+identifiers_rising product n a = tt
+identifiers_rising (binding l) n a = a.1
 
-pub components-rising : (t : Term) → Formed Arity t → Rising (componentsOf t)
-unfolding componentsOf Formed names_of
-components-rising (unknown x) h = tt
-components-rising (con k ts) h = withNames-rising (identifiers k) ts (identifiers-rising k (part_count ts) h.0)
+pub components_rising : (t : Term) → Formed Arity t → Rising (components_of t)
+unfolding components_of Formed names_of
+components_rising (unknown x) h = tt
+components_rising (con k ts) h = with_names_rising (identifiers k) ts (identifiers_rising k (part_count ts) h.0)
 
-pub binding-formed : (s : Signature) → FormedTerms s → Rising s → Formed Arity (bindingOf s)
-unfolding bindingOf Formed Arity
-binding-formed s h r = ((sym (terms-count s), r), terms-formed s h)
+pub binding_formed : (s : Signature) → FormedTerms s → Rising s → Formed Arity (binding_of s)
+unfolding binding_of Formed Arity
+binding_formed s h r = ((sym (terms_count s), r), terms_formed s h)

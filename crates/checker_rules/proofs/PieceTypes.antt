@@ -7,7 +7,7 @@ use Prim.Native.Nat.{ℕ}
 use native.Mathlib.Omega.{arith}
 use lib.Dec.{eqb}
 use borrow.Author.Tests.{eqb-true, eqb-false, ne_eqb}
-use Rattle.types_rules.specs.Types.{Ty, integerType, ℙℤ}
+use Rattle.types_rules.specs.Types.{Ty, integer_type, ℙℤ}
 use Rattle.types_rules.specs.Substitution.{update}
 use Rattle.types_rules.proofs.Terms.{update_same, update_other}
 use Rattle.types_rules.specs.Trees.{finite}
@@ -16,18 +16,18 @@ use Rattle.reader_rules.specs.Decode.{tree_of}
 use Rattle.checker_rules.specs.Unknowns.{Valuation, slot}
 use Rattle.checker_rules.specs.Items.{Items, skip, ◌⨾◌, fresh, equations, equate, select, small, refusal, piece, MeetsIn, Agree, Any, And, Passes, Typings}
 use Rattle.checker_rules.specs.Dictionary.{Dictionary, blank}
-use Rattle.checker_rules.specs.Rules.{paragraphItems}
+use Rattle.checker_rules.specs.Rules.{paragraph_items}
 use Rattle.checker_rules.specs.Entries.{extend}
 use Rattle.checker_rules.specs.ExpressionNodes.{InParagraph}
 use Rattle.checker_rules.specs.AcceptedTypes.{HasType, TheType}
 use Rattle.checker_rules.specs.Pieces.{Owns, InPiece, EachPiece, PieceTypes}
 use Rattle.checker_rules.specs.PieceEquations.{Settled}
-use Rattle.checker_rules.specs.Check.{accepted, checkOf, paragraphsOf}
+use Rattle.checker_rules.specs.Check.{accepted, check_of, paragraphs_of}
 use Rattle.checker_rules.specs.Verdicts.{Accepts}
 use Rattle.checker_rules.proofs.ItemLaws.{Agrees}
 use Rattle.checker_rules.proofs.FindingLaws.{either}
-use Rattle.checker_rules.proofs.OneType.{onePara, one_type, extend_same}
-use Rattle.checker_rules.proofs.CheckRight.{accepted-says}
+use Rattle.checker_rules.proofs.OneType.{one_para, one_type, extend_same}
+use Rattle.checker_rules.proofs.CheckRight.{accepted_says}
 use Rattle.checker_rules.proofs.AcceptedTypes.{the_type}
 
 -- ---- every solution of a piece agrees on the piece's own unknowns with the typing τ of the whole
@@ -44,18 +44,18 @@ owned (small n a) σ τ h x q = absurd q
 owned (refusal f n) σ τ h x q = absurd q
 owned (piece n t) σ τ h x q = absurd q
 
-each-piece : (t : Items) (P : Typings) (T : ℕ → Ty → Type 0) (τ : Valuation) → Passes t P → And P t finite τ → ((m : ℕ) → T m (τ (slot m 0))) → EachPiece t P T
+each_piece : (t : Items) (P : Typings) (T : ℕ → Ty → Type 0) (τ : Valuation) → Passes t P → And P t finite τ → ((m : ℕ) → T m (τ (slot m 0))) → EachPiece t P T
 unfolding Passes MeetsIn EachPiece
-each-piece skip P T τ p h f = tt
-each-piece (a ⨾ b) P T τ p h f = (each-piece a P T τ p.0 (h.0, h.1.0) f, each-piece b (And P a) T τ p.1 ((h.0, h.1.0), h.1.1) f)
-each-piece (fresh x) P T τ p h f = tt
-each-piece (equations n es) P T τ p h f = tt
-each-piece (equate g n a b) P T τ p h f = tt
-each-piece (select n i a x) P T τ p h f = tt
-each-piece (small n a) P T τ p h f = tt
-each-piece (refusal g n) P T τ p h f = tt
-each-piece (piece n t) P T τ p h f =
-    (λ σ w m q. subst (T m) (sym (owned t σ τ (p.1 σ τ w h) (slot m 0) q)) (f m), each-piece t P T τ p.0 h f)
+each_piece skip P T τ p h f = tt
+each_piece (a ⨾ b) P T τ p h f = (each_piece a P T τ p.0 (h.0, h.1.0) f, each_piece b (And P a) T τ p.1 ((h.0, h.1.0), h.1.1) f)
+each_piece (fresh x) P T τ p h f = tt
+each_piece (equations n es) P T τ p h f = tt
+each_piece (equate g n a b) P T τ p h f = tt
+each_piece (select n i a x) P T τ p h f = tt
+each_piece (small n a) P T τ p h f = tt
+each_piece (refusal g n) P T τ p h f = tt
+each_piece (piece n t) P T τ p h f =
+    (λ σ w m q. subst (T m) (sym (owned t σ τ (p.1 σ τ w h) (slot m 0) q)) (f m), each_piece t P T τ p.0 h f)
 
 -- What has passed is settled.
 pub settled : (t : Items) (P : Typings) → Passes t P → Settled t P
@@ -76,33 +76,33 @@ settled (piece n t) P p σ τ g h x (inr q) = settled t P p.0 σ τ g h x q
 never : ⊥ ⊎ (⊥ → ⊥)
 never = inr (λ z. z)
 
-pub owns-decide : (t : Items) (x : ℕ) → Owns t x ⊎ (Owns t x → ⊥)
+pub owns_decide : (t : Items) (x : ℕ) → Owns t x ⊎ (Owns t x → ⊥)
 unfolding Owns
-owns-decide skip x = never
-owns-decide (a ⨾ b) x = either _ _ (owns-decide a x) (owns-decide b x)
-owns-decide (fresh y) x = go (eqb y x) refl
+owns_decide skip x = never
+owns_decide (a ⨾ b) x = either _ _ (owns_decide a x) (owns_decide b x)
+owns_decide (fresh y) x = go (eqb y x) refl
   where
     go : (b : Bool) → eqb y x ≡ b → (y ≡ x) ⊎ (y ≡ x → ⊥)
     go true e = inl (eqb-true y x e)
     go false e = inr (eqb-false y x e)
-owns-decide (equations n es) x = never
-owns-decide (equate f n a b) x = never
-owns-decide (select n i a y) x = never
-owns-decide (small n a) x = never
-owns-decide (refusal f n) x = never
-owns-decide (piece n t) x = never
+owns_decide (equations n es) x = never
+owns_decide (equate f n a b) x = never
+owns_decide (select n i a y) x = never
+owns_decide (small n a) x = never
+owns_decide (refusal f n) x = never
+owns_decide (piece n t) x = never
 
-in-decide : (t : Items) (x : ℕ) → InPiece t x ⊎ (InPiece t x → ⊥)
+in_decide : (t : Items) (x : ℕ) → InPiece t x ⊎ (InPiece t x → ⊥)
 unfolding InPiece
-in-decide skip x = never
-in-decide (a ⨾ b) x = either _ _ (in-decide a x) (in-decide b x)
-in-decide (fresh y) x = never
-in-decide (equations n es) x = never
-in-decide (equate f n a b) x = never
-in-decide (select n i a y) x = never
-in-decide (small n a) x = never
-in-decide (refusal f n) x = never
-in-decide (piece n t) x = either _ _ (owns-decide t x) (in-decide t x)
+in_decide skip x = never
+in_decide (a ⨾ b) x = either _ _ (in_decide a x) (in_decide b x)
+in_decide (fresh y) x = never
+in_decide (equations n es) x = never
+in_decide (equate f n a b) x = never
+in_decide (select n i a y) x = never
+in_decide (small n a) x = never
+in_decide (refusal f n) x = never
+in_decide (piece n t) x = either _ _ (owns_decide t x) (in_decide t x)
 
 module _ (x : ℕ) (σ τ : Valuation) (e : (y : ℕ) → (y ≡ x → ⊥) → σ y ≡ τ y) where
   unowned : (t : Items) → (Owns t x → ⊥) → Agree t σ τ
@@ -129,36 +129,36 @@ module _ (x : ℕ) (σ τ : Valuation) (e : (y : ℕ) → (y ≡ x → ⊥) → 
   outside (refusal f n) P p w = p
   outside (piece n t) P p w = (unowned t (λ z. w (inl z)), outside t P p.0 (λ z. w (inr z)))
 
-in-piece : (p : Paragraph) (D : Dictionary) → Passes (paragraphItems p D) Any → (m : ℕ) → InParagraph m p → InPiece (paragraphItems p D) (slot m 0)
-in-piece p D h m q = go (in-decide (paragraphItems p D) (slot m 0))
+in_piece : (p : Paragraph) (D : Dictionary) → Passes (paragraph_items p D) Any → (m : ℕ) → InParagraph m p → InPiece (paragraph_items p D) (slot m 0)
+in_piece p D h m q = go (in_decide (paragraph_items p D) (slot m 0))
   where
     σ : Valuation
-    σ = λ y. integerType
+    σ = λ y. integer_type
 
     τ : Valuation
-    τ = update (λ y. integerType) (slot m 0) ℙℤ
+    τ = update (λ y. integer_type) (slot m 0) ℙℤ
 
     differ : σ (slot m 0) ≡ τ (slot m 0) → ⊥
-    differ e = let r = update_same (λ y. integerType) (slot m 0) ℙℤ in let z : ◌≡◌ {A = ℕ} 0 1 = cc in omega arith
+    differ e = let r = update_same (λ y. integer_type) (slot m 0) ℙℤ in let z : ◌≡◌ {A = ℕ} 0 1 = cc in omega arith
 
-    go : InPiece (paragraphItems p D) (slot m 0) ⊎ (InPiece (paragraphItems p D) (slot m 0) → ⊥) → InPiece (paragraphItems p D) (slot m 0)
+    go : InPiece (paragraph_items p D) (slot m 0) ⊎ (InPiece (paragraph_items p D) (slot m 0) → ⊥) → InPiece (paragraph_items p D) (slot m 0)
     go (inl z) = z
     go (inr w) =
-        absurd (differ (onePara σ τ p D (outside (slot m 0) σ τ (λ y n. sym (update_other (λ y. integerType) (slot m 0) ℙℤ y (ne_eqb y (slot m 0) n))) (paragraphItems p D) Any h w) m q))
+        absurd (differ (one_para σ τ p D (outside (slot m 0) σ τ (λ y n. sym (update_other (λ y. integer_type) (slot m 0) ℙℤ y (ne_eqb y (slot m 0) n))) (paragraph_items p D) Any h w) m q))
 
 -- ---- through the document
-piece-types : (ps : List Paragraph) (D : Dictionary) (d : ℕ) (E : Dictionary) (T : ℕ → Ty → Type 0) → Accepts Any ps D d E → ((m : ℕ) (g : Ty) → HasType ps D m g → T m g) → PieceTypes ps D T
+piece_types : (ps : List Paragraph) (D : Dictionary) (d : ℕ) (E : Dictionary) (T : ℕ → Ty → Type 0) → Accepts Any ps D d E → ((m : ℕ) (g : Ty) → HasType ps D m g → T m g) → PieceTypes ps D T
 unfolding Accepts HasType PieceTypes
-piece-types [] D d E T h f = tt
-piece-types (p ∷ ps) D d E T h f = (
-  λ m q. in-piece p D h.0 m q,
-  each-piece (paragraphItems p D) Any (λ m g. InParagraph m p → T m g) h.1.0 h.0 h.1.1
+piece_types [] D d E T h f = tt
+piece_types (p ∷ ps) D d E T h f = (
+  λ m q. in_piece p D h.0 m q,
+  each_piece (paragraph_items p D) Any (λ m g. InParagraph m p → T m g) h.1.0 h.0 h.1.1
       (λ m q. f m (h.1.0 (slot m 0)) ((h.1.0, h.1.1.1), inl (q, λ τ s. one_type p D h.0 τ h.1.0 s h.1.1.1 m q))),
   λ τ s. subst (λ X. PieceTypes ps X T) (extend_same p D h.0 h.1.0 τ h.1.1.1 s)
-      (piece-types ps (extend p D h.1.0) d E T h.1.3 (λ m g t. f m g ((h.1.0, h.1.1.1), inr (λ υ s. subst (λ X. HasType ps X m g) (extend_same p D h.0 h.1.0 υ h.1.1.1 s) t)))),
+      (piece_types ps (extend p D h.1.0) d E T h.1.3 (λ m g t. f m g ((h.1.0, h.1.1.1), inr (λ υ s. subst (λ X. HasType ps X m g) (extend_same p D h.0 h.1.0 υ h.1.1.1 s) t)))),
 )
 
 -- In every solution of its piece a node has the accepted type, and no other.
-pub accepted-pieces : (doc : List ℕ) (d w : ℕ) (E : Dictionary) → checkOf doc d w ≡ accepted E → PieceTypes (paragraphsOf (tree_of doc)) blank (TheType doc)
-accepted-pieces doc d w E e =
-    piece-types (paragraphsOf (tree_of doc)) blank d E (TheType doc) (accepted-says doc d w E e).passes (λ m g t. the_type doc d w E e m g t)
+pub accepted_pieces : (doc : List ℕ) (d w : ℕ) (E : Dictionary) → check_of doc d w ≡ accepted E → PieceTypes (paragraphs_of (tree_of doc)) blank (TheType doc)
+accepted_pieces doc d w E e =
+    piece_types (paragraphs_of (tree_of doc)) blank d E (TheType doc) (accepted_says doc d w E e).passes (λ m g t. the_type doc d w E e m g t)

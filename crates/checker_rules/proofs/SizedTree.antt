@@ -7,12 +7,12 @@ use Rattle.reader_rules.specs.declared.Reading.TheVariants.{Readable}
 use Rattle.reader_rules.specs.Tree.{Document, document}
 use Rattle.reader_rules.specs.Decode.{tree_of}
 use Rattle.reader_rules.proofs.Sized.{SizedParagraphs, SizedDocument}
-use Rattle.reader_rules.proofs.SizedTree.{document-sized}
-use Rattle.checker_rules.specs.Check.{paragraphsOf}
+use Rattle.reader_rules.proofs.SizedTree.{document_sized}
+use Rattle.checker_rules.specs.Check.{paragraphs_of}
 
-paragraphs-sized : (tree : Document) → SizedDocument tree → SizedParagraphs (paragraphsOf tree)
-unfolding SizedDocument paragraphsOf
-paragraphs-sized (document n ps) h = h
+paragraphs_sized : (tree : Document) → SizedDocument tree → SizedParagraphs (paragraphs_of tree)
+unfolding SizedDocument paragraphs_of
+paragraphs_sized (document n ps) h = h
 
-pub tree-sized : (doc : List ℕ) → read_of doc ≡ Readable → SizedParagraphs (paragraphsOf (tree_of doc))
-tree-sized doc r = paragraphs-sized (tree_of doc) (document-sized doc r)
+pub tree_sized : (doc : List ℕ) → read_of doc ≡ Readable → SizedParagraphs (paragraphs_of (tree_of doc))
+tree_sized doc r = paragraphs_sized (tree_of doc) (document_sized doc r)

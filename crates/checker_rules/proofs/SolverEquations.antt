@@ -6,13 +6,13 @@ use Rattle.types_rules.specs.Types.{Term, under}
 use Rattle.types_rules.specs.Substitution.{Substitution, Respects}
 use Rattle.types_rules.specs.Equations.{Pairs, Solves}
 use Rattle.types_rules.specs.Classify.{Solvable, Verdict, solvable, clashing, endless, Right}
-use Rattle.types_rules.specs.Infinite.{Inf, underInf}
-use Rattle.types_rules.specs.Trees.{finite, infinite, underIn}
-use Rattle.types_rules.proofs.Infinite.{clash-none, infinite-fits}
+use Rattle.types_rules.specs.Infinite.{Inf, under_inf}
+use Rattle.types_rules.specs.Trees.{finite, infinite, under_in}
+use Rattle.types_rules.proofs.Infinite.{clash_none, infinite_fits}
 use Rattle.checker_rules.specs.Unknowns.{Valuation}
 use Rattle.checker_rules.specs.Items.{Items, Meets, MeetsIn, Typings, And, Unsolved}
-use Rattle.checker_rules.specs.Solving.{joinPairs, number_of}
-use Rattle.checker_rules.proofs.ItemEquations.{StandingIn, equations-standing}
+use Rattle.checker_rules.specs.Solving.{join_pairs, number_of}
+use Rattle.checker_rules.proofs.ItemEquations.{StandingIn, equations_standing}
 
 -- The types that solve E are those of the state s, and the possibly infinite types that do are those of P.
 pub record Collected (P : Typings) (E : Pairs Term) (s : Substitution) : Type 0 where
@@ -21,14 +21,14 @@ pub record Collected (P : Typings) (E : Pairs Term) (s : Substitution) : Type 0 
 
 -- The valuations that solve E.
 abbrev pub By : Pairs Term → Typings
-By E w τ = Solves (underIn w τ) E
+By E w τ = Solves (under_in w τ) E
 
 pub by_itself : (E : Pairs Term) → StandingIn finite (By E) E
 by_itself E τ = (λ h. h, λ h. h)
 
-pub collected-more : (t : Items) (P : Typings) (E F : Pairs Term) (s r : Substitution) → StandingIn finite (And (By E) t) F → StandingIn infinite (And P t) F
+pub collected_more : (t : Items) (P : Typings) (E F : Pairs Term) (s r : Substitution) → StandingIn finite (And (By E) t) F → StandingIn infinite (And P t) F
     → ((τ : Valuation) → Respects τ r ↔ (Respects τ s × Meets t τ)) → Collected P E s → Collected (And P t) F r
-collected-more t P E F s r f i e c = record {
+collected_more t P E F s r f i e c = record {
   types = λ τ. (
     λ h. let z = (f τ).1 h in (e τ).1 ((c.types τ).0 z.0, z.1),
     λ h. let z = (e τ).0 h in (f τ).0 ((c.types τ).1 z.0, z.1),
@@ -37,12 +37,12 @@ collected-more t P E F s r f i e c = record {
 }
 
 -- 33 where no possibly infinite types solve the equations of the node with those before it, 39 where some do.
-pub number-right : (P : Typings) (E : Pairs Term) (n : ℕ) (es : Pairs Term) → StandingIn infinite P E → (Solvable (joinPairs es E) → ⊥)
-    → (v : Verdict) → Right (joinPairs es E) v → Unsolved (number_of v) ((ρ : ℕ → Inf) × P infinite ρ × Solves (underInf ρ) es)
+pub number_right : (P : Typings) (E : Pairs Term) (n : ℕ) (es : Pairs Term) → StandingIn infinite P E → (Solvable (join_pairs es E) → ⊥)
+    → (v : Verdict) → Right (join_pairs es E) v → Unsolved (number_of v) ((ρ : ℕ → Inf) × P infinite ρ × Solves (under_inf ρ) es)
 unfolding number_of MeetsIn
-number-right P E n es i none solvable r = absurd (none r.0)
-number-right P E n es i none clashing r = inl (refl, λ z. clash-none (joinPairs es E) r.0 z.0 ((equations-standing infinite P E n es i z.0).0 (z.1, z.2)))
-number-right P E n es i none endless r =
-    let z = infinite-fits (joinPairs es E) r.0 in
-    let h = (equations-standing infinite P E n es i z.0).1 z.1 in
+number_right P E n es i none solvable r = absurd (none r.0)
+number_right P E n es i none clashing r = inl (refl, λ z. clash_none (join_pairs es E) r.0 z.0 ((equations_standing infinite P E n es i z.0).0 (z.1, z.2)))
+number_right P E n es i none endless r =
+    let z = infinite_fits (join_pairs es E) r.0 in
+    let h = (equations_standing infinite P E n es i z.0).1 z.1 in
     inr (refl, (z.0, h.0, h.1))

@@ -9,7 +9,7 @@ use Rattle.checker_rules.specs.Unknowns.{Valuation, slot}
 use Rattle.checker_rules.specs.Dictionary.{Dictionary, blank}
 use Rattle.checker_rules.specs.Entries.{extend}
 use Rattle.checker_rules.specs.ExpressionNodes.{InParagraph}
-use Rattle.checker_rules.specs.Check.{paragraphsOf}
+use Rattle.checker_rules.specs.Check.{paragraphs_of}
 use Rattle.checker_rules.specs.Typing.{TypedParagraph}
 
 unfoldable pub HasTyping : List Paragraph → Dictionary → ℕ → Ty → Type 0
@@ -21,6 +21,6 @@ HasTyping (p ∷ ps) D m g =
 
 -- The node's type in all typings, a well-formed one, and that there is no other.
 pub record TypedAs (doc : List ℕ) (m : ℕ) (g : Ty) : Type 0 where
-  pub has : HasTyping (paragraphsOf (tree_of doc)) blank m g
-  pub only : (k : Ty) → HasTyping (paragraphsOf (tree_of doc)) blank m k → g ≡ k
+  pub has : HasTyping (paragraphs_of (tree_of doc)) blank m g
+  pub only : (k : Ty) → HasTyping (paragraphs_of (tree_of doc)) blank m k → g ≡ k
   pub formed : WellFormed g

@@ -3,23 +3,23 @@
 use Rattle.std.specs.Prelude.{List, [], ◌∷◌, ℕ, length}
 use Rattle.reader_rules.specs.Tree.{Paragraph, given, axiomatic, schema, abbreviation, constraint}
 use Rattle.types_rules.specs.Types.{under}
-use Rattle.checker_rules.specs.Unknowns.{Valuation, givenSet}
-use Rattle.checker_rules.specs.Dictionary.{nameEntry, schemaEntry, Dictionary, ◌▸◌}
-use Rattle.checker_rules.specs.Signatures.{Signature, noNames, naming, bindingOf}
-use Rattle.checker_rules.specs.Scopes.{globals, withParameters, textSignature, schemaSignature}
+use Rattle.checker_rules.specs.Unknowns.{Valuation, given_set}
+use Rattle.checker_rules.specs.Dictionary.{name_entry, schema_entry, Dictionary, ◌▸◌}
+use Rattle.checker_rules.specs.Signatures.{Signature, no_names, naming, binding_of}
+use Rattle.checker_rules.specs.Scopes.{globals, with_parameters, text_signature, schema_signature}
 use Rattle.checker_rules.specs.Conditions.{type_of}
 
-unfoldable pub addGivens : List ℕ → Dictionary → Dictionary
-addGivens [] D = D
-addGivens (i ∷ is) D = addGivens is (D ▸ nameEntry i 0 (givenSet i))
+unfoldable pub add_givens : List ℕ → Dictionary → Dictionary
+add_givens [] D = D
+add_givens (i ∷ is) D = add_givens is (D ▸ name_entry i 0 (given_set i))
 
-unfoldable pub addSignature : Signature → Valuation → Dictionary → Dictionary
-addSignature noNames τ D = D
-addSignature (naming i t s) τ D = addSignature s τ (D ▸ nameEntry i 0 (under τ t))
+unfoldable pub add_signature : Signature → Valuation → Dictionary → Dictionary
+add_signature no_names τ D = D
+add_signature (naming i t s) τ D = add_signature s τ (D ▸ name_entry i 0 (under τ t))
 
 unfoldable pub extend : Paragraph → Dictionary → Valuation → Dictionary
-extend (given n is) D τ = addGivens is D
-extend (axiomatic n t) D τ = addSignature (textSignature t (globals D)) τ D
-extend (schema n s ps x) D τ = D ▸ schemaEntry s (length ps) (under τ (bindingOf (schemaSignature x (withParameters ps 1 (globals D)))))
-extend (abbreviation n i ps a) D τ = D ▸ nameEntry i (length ps) (under τ (type_of a))
+extend (given n is) D τ = add_givens is D
+extend (axiomatic n t) D τ = add_signature (text_signature t (globals D)) τ D
+extend (schema n s ps x) D τ = D ▸ schema_entry s (length ps) (under τ (binding_of (schema_signature x (with_parameters ps 1 (globals D)))))
+extend (abbreviation n i ps a) D τ = D ▸ name_entry i (length ps) (under τ (type_of a))
 extend (constraint n p) D τ = D

@@ -1,6 +1,6 @@
 -- The expression nodes of a paragraph: m is the number of one.
 use Rattle.std.specs.Prelude.{◌≡◌, List, [], ◌∷◌, ◌⊎◌, ℕ}
-use Rattle.reader_rules.specs.Tree.{Expr, reference, number, integers, set, tuple, product, power, application, selection, theta, schemaSet, arithmetic}
+use Rattle.reader_rules.specs.Tree.{Expr, reference, number, integers, set, tuple, product, power, application, selection, theta, schema_set, arithmetic}
 use Rattle.reader_rules.specs.Tree.{comprehension, Exprs, none, more, Pred, truth, equal, member, at_most, not, connected, quantified, Text, text, Lines}
 use Rattle.reader_rules.specs.Tree.{end, declaration, inclusion, Include, include, Schema, plain, from, both, Paragraph, given, axiomatic, schema}
 use Rattle.reader_rules.specs.Tree.{abbreviation, constraint}
@@ -17,7 +17,7 @@ unfoldable mutual
   InExpr m (application n f a) = (n ≡ m) ⊎ (InExpr m f ⊎ InExpr m a)
   InExpr m (selection n e i) = (n ≡ m) ⊎ InExpr m e
   InExpr m (theta n s k) = n ≡ m
-  InExpr m (schemaSet n i) = (n ≡ m) ⊎ InInclude m i
+  InExpr m (schema_set n i) = (n ≡ m) ⊎ InInclude m i
   InExpr m (arithmetic n o a b) = (n ≡ m) ⊎ (InExpr m a ⊎ InExpr m b)
   InExpr m (comprehension n t e) = (n ≡ m) ⊎ (InText m t ⊎ InExpr m e)
 

@@ -2,11 +2,11 @@
 -- least one"; R16).
 use Rattle.std.specs.Prelude.{◌≡◌, Bool, true, false, List, [], ◌∷◌, ◌⊎◌, ℕ}
 use Rattle.words.specs.Loops.{has}
-use Rattle.reader_rules.specs.Tree.{Text, text, Lines, end, declaration, inclusion, Paragraph, given, axiomatic, schema, abbreviation, constraint, includeNode}
+use Rattle.reader_rules.specs.Tree.{Text, text, Lines, end, declaration, inclusion, Paragraph, given, axiomatic, schema, abbreviation, constraint, include_node}
 use Rattle.checker_rules.specs.Unknowns.{Valuation}
-use Rattle.checker_rules.specs.Dictionary.{Dictionary, Named, unnamed, ofLocal, ofGlobal, nameIn}
+use Rattle.checker_rules.specs.Dictionary.{Dictionary, Named, unnamed, of_local, of_global, name_in}
 use Rattle.checker_rules.specs.Signatures.{names_of}
-use Rattle.checker_rules.specs.Scopes.{Scope, globals, includeSignature}
+use Rattle.checker_rules.specs.Scopes.{Scope, globals, include_signature}
 use Rattle.checker_rules.specs.Entries.{extend}
 
 -- written in a Given, an Axiom Decl or an Abbreviation; or brought by an Axiom's Include
@@ -19,7 +19,7 @@ unfoldable pub LinesDeclare : Lines → Scope → ℕ → ℕ → Way → Type 0
 LinesDeclare end Γ m i w = ⊥
 LinesDeclare (declaration n a is ls) Γ m i w = ((m ≡ n) × (has i is ≡ true) × (w ≡ written)) ⊎ LinesDeclare ls Γ m i w
 LinesDeclare (inclusion x ls) Γ m i w =
-    ((m ≡ includeNode x) × (has i (names_of (includeSignature x Γ)) ≡ true) × (w ≡ included)) ⊎ LinesDeclare ls Γ m i w
+    ((m ≡ include_node x) × (has i (names_of (include_signature x Γ)) ≡ true) × (w ≡ included)) ⊎ LinesDeclare ls Γ m i w
 
 unfoldable pub TextDeclares : Text → Scope → ℕ → ℕ → Way → Type 0
 TextDeclares (text n p ls) Γ m i w = LinesDeclare ls Γ m i w
@@ -36,23 +36,23 @@ Declares (constraint n p) D m i w = ⊥
 abbrev pub History : Type 0
 History = List (Paragraph × Valuation)
 
-unfoldable pub paragraphsIn : History → List Paragraph
-paragraphsIn [] = []
-paragraphsIn (h ∷ hs) = h.0 ∷ paragraphsIn hs
+unfoldable pub paragraphs_in : History → List Paragraph
+paragraphs_in [] = []
+paragraphs_in (h ∷ hs) = h.0 ∷ paragraphs_in hs
 
-unfoldable pub dictionaryFrom : History → Dictionary → Dictionary
-dictionaryFrom [] D = D
-dictionaryFrom (h ∷ hs) D = dictionaryFrom hs (extend h.0 D h.1)
+unfoldable pub dictionary_from : History → Dictionary → Dictionary
+dictionary_from [] D = D
+dictionary_from (h ∷ hs) D = dictionary_from hs (extend h.0 D h.1)
 
 unfoldable pub Earlier : History → Dictionary → ℕ → Way → Type 0
 Earlier [] D i w = ⊥
 Earlier (h ∷ hs) D i w = ((m : ℕ) × Declares h.0 D m i w) ⊎ Earlier hs (extend h.0 D h.1) i w
 
--- What the rule asks (specs/Conditions, newNames): the identifier has a name entry.
-unfoldable pub isNamed : Named → Bool
-isNamed unnamed = false
-isNamed (ofLocal t) = true
-isNamed (ofGlobal p g) = true
+-- What the rule asks (specs/Conditions, new_names): the identifier has a name entry.
+unfoldable pub is_named : Named → Bool
+is_named unnamed = false
+is_named (of_local t) = true
+is_named (of_global p g) = true
 
-abbrev pub isGlobal : ℕ → Dictionary → Bool
-isGlobal i D = isNamed (nameIn i D)
+abbrev pub is_global : ℕ → Dictionary → Bool
+is_global i D = is_named (name_in i D)

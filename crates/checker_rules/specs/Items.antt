@@ -6,10 +6,10 @@
 use Rattle.std.specs.Prelude.{◌≡◌, ◌⊎◌, ℕ, ◌≤◌, ◌<◌}
 use Rattle.std.proofs.Math.Option.{Option, some, none as nothing}
 use Rattle.types_rules.specs.Types.{Ty, Term, under, size}
-use Rattle.types_rules.specs.Component.{componentType}
+use Rattle.types_rules.specs.Component.{component_type}
 use Rattle.types_rules.specs.Equations.{Pairs, Solves}
-use Rattle.types_rules.specs.Infinite.{Inf, underInf}
-use Rattle.types_rules.specs.Trees.{Extent, finite, infinite, Tree, underIn, componentIn}
+use Rattle.types_rules.specs.Infinite.{Inf, under_inf}
+use Rattle.types_rules.specs.Trees.{Extent, finite, infinite, Tree, under_in, component_in}
 use Rattle.checker_rules.specs.Unknowns.{Valuation}
 
 infixr 15 ◌⨾◌
@@ -46,10 +46,10 @@ unfoldable pub MeetsIn : Items → (w : Extent) → (ℕ → Tree w) → Type 0
 MeetsIn skip w τ = Unit {0}
 MeetsIn (a ⨾ b) w τ = MeetsIn a w τ × MeetsIn b w τ
 MeetsIn (fresh x) w τ = Unit {0}
-MeetsIn (equations n es) w τ = Solves (underIn w τ) es
-MeetsIn (equate f n a b) w τ = underIn w τ a ≡ underIn w τ b
-MeetsIn (select n i a x) w τ = componentIn w i (underIn w τ a) ≡ some (τ x)
-MeetsIn (small n a) w τ = Small w (underIn w τ a)
+MeetsIn (equations n es) w τ = Solves (under_in w τ) es
+MeetsIn (equate f n a b) w τ = under_in w τ a ≡ under_in w τ b
+MeetsIn (select n i a x) w τ = component_in w i (under_in w τ a) ≡ some (τ x)
+MeetsIn (small n a) w τ = Small w (under_in w τ a)
 MeetsIn (refusal f n) w τ = ⊥
 MeetsIn (piece n t) w τ = MeetsIn t w τ
 
@@ -86,7 +86,7 @@ Passes (fresh x) P = Unit {0}
 Passes (equations n es) P = (τ : Valuation) × P finite τ × Solves (under τ) es
 Passes (equate f n a b) P = (τ : Valuation) × P finite τ × (under τ a ≡ under τ b)
 Passes (select n i a x) P =
-    ((τ : Valuation) → P finite τ → Known (componentType i (under τ a))) × ((τ : Valuation) × P finite τ × (componentType i (under τ a) ≡ some (τ x)))
+    ((τ : Valuation) → P finite τ → Known (component_type i (under τ a))) × ((τ : Valuation) × P finite τ × (component_type i (under τ a) ≡ some (τ x)))
 Passes (small n a) P = (τ : Valuation) → P finite τ → size (under τ a) ≤ 32
 Passes (refusal f n) P = ⊥
 Passes (piece n t) P = Passes t P × ((σ τ : Valuation) → And P t finite σ → And P t finite τ → Agree t σ τ)
@@ -101,12 +101,12 @@ Refuses skip P f m = ⊥
 Refuses (a ⨾ b) P f m = Refuses a P f m ⊎ (Passes a P × Refuses b (And P a) f m)
 Refuses (fresh x) P f m = ⊥
 Refuses (equations n es) P f m =
-    (m ≡ n) × ((τ : Valuation) → P finite τ → Solves (under τ) es → ⊥) × Unsolved f ((ρ : ℕ → Inf) × P infinite ρ × Solves (underInf ρ) es)
+    (m ≡ n) × ((τ : Valuation) → P finite τ → Solves (under τ) es → ⊥) × Unsolved f ((ρ : ℕ → Inf) × P infinite ρ × Solves (under_inf ρ) es)
 Refuses (equate g n a b) P f m = (f ≡ g) × (m ≡ n) × ((τ : Valuation) → P finite τ → under τ a ≡ under τ b → ⊥)
 Refuses (select n i a x) P f m =
-    ((f ≡ 35) × (m ≡ n) × ((τ : Valuation) × P finite τ × (Known (componentType i (under τ a)) → ⊥)))
-    ⊎ ((f ≡ 33) × (m ≡ n) × ((τ : Valuation) → P finite τ → Known (componentType i (under τ a)))
-    × ((τ : Valuation) → P finite τ → componentType i (under τ a) ≡ some (τ x) → ⊥))
+    ((f ≡ 35) × (m ≡ n) × ((τ : Valuation) × P finite τ × (Known (component_type i (under τ a)) → ⊥)))
+    ⊎ ((f ≡ 33) × (m ≡ n) × ((τ : Valuation) → P finite τ → Known (component_type i (under τ a)))
+    × ((τ : Valuation) → P finite τ → component_type i (under τ a) ≡ some (τ x) → ⊥))
 Refuses (small n a) P f m = (f ≡ 38) × (m ≡ n) × ((τ : Valuation) × P finite τ × (32 < size (under τ a)))
 Refuses (refusal g n) P f m = (f ≡ g) × (m ≡ n)
 Refuses (piece n t) P f m =

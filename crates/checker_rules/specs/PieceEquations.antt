@@ -4,13 +4,13 @@ use Rattle.std.specs.Prelude.{◌≡◌, List, [], ◌∷◌, ◌↔◌, ℕ}
 use Rattle.std.proofs.Math.Option.{some}
 use Rattle.reader_rules.specs.Tree.{Paragraph}
 use Rattle.types_rules.specs.Types.{under}
-use Rattle.types_rules.specs.Component.{componentType}
+use Rattle.types_rules.specs.Component.{component_type}
 use Rattle.types_rules.specs.Equations.{Solves}
 use Rattle.types_rules.specs.Trees.{finite}
 use Rattle.checker_rules.specs.Unknowns.{Valuation}
 use Rattle.checker_rules.specs.Items.{Items, skip, ◌⨾◌, fresh, equations, equate, select, small, refusal, piece, Known, Meets, Agree, Any, And, Passes, Refuses, Typings}
 use Rattle.checker_rules.specs.Dictionary.{Dictionary}
-use Rattle.checker_rules.specs.Rules.{paragraphItems}
+use Rattle.checker_rules.specs.Rules.{paragraph_items}
 use Rattle.checker_rules.specs.Entries.{extend}
 use Rattle.checker_rules.specs.Pieces.{Owns, InPiece}
 
@@ -21,7 +21,7 @@ SolvesOwn (a ⨾ b) τ = SolvesOwn a τ × SolvesOwn b τ
 SolvesOwn (fresh x) τ = Unit {0}
 SolvesOwn (equations n es) τ = Solves (under τ) es
 SolvesOwn (equate f n a b) τ = Unit {0}
-SolvesOwn (select n i a x) τ = componentType i (under τ a) ≡ some (τ x)
+SolvesOwn (select n i a x) τ = component_type i (under τ a) ≡ some (τ x)
 SolvesOwn (small n a) τ = Unit {0}
 SolvesOwn (refusal f n) τ = Unit {0}
 SolvesOwn (piece n t) τ = Unit {0}
@@ -46,7 +46,7 @@ ByOwnEquations (equations n es) w P E =
     (τ : Valuation) → P finite τ → (((f : ℕ) × Refuses (equations n es) P f n) ↔ ((σ : Valuation) → OwnSolution w E τ σ → Solves (under σ) es → ⊥))
 ByOwnEquations (equate f n a b) w P E = Unit {0}
 ByOwnEquations (select n i a x) w P E =
-    (τ : Valuation) → P finite τ → (Refuses (select n i a x) P 35 n ↔ ((σ : Valuation) × OwnSolution w E τ σ × (Known (componentType i (under σ a)) → ⊥)))
+    (τ : Valuation) → P finite τ → (Refuses (select n i a x) P 35 n ↔ ((σ : Valuation) × OwnSolution w E τ σ × (Known (component_type i (under σ a)) → ⊥)))
 ByOwnEquations (small n a) w P E = Unit {0}
 ByOwnEquations (refusal f n) w P E = Unit {0}
 ByOwnEquations (piece n t) w P E =
@@ -62,4 +62,4 @@ Settled t P = (σ τ : Valuation) → And P t finite σ → And P t finite τ �
 -- through paragraphs, over the dictionary so far, with any typing of each; no piece is around a paragraph
 unfoldable pub PiecesAlone : List Paragraph → Dictionary → Type 0
 PiecesAlone [] D = Unit {0}
-PiecesAlone (p ∷ ps) D = ByOwnEquations (paragraphItems p D) skip Any (Any finite) × ((τ : Valuation) → Meets (paragraphItems p D) τ → PiecesAlone ps (extend p D τ))
+PiecesAlone (p ∷ ps) D = ByOwnEquations (paragraph_items p D) skip Any (Any finite) × ((τ : Valuation) → Meets (paragraph_items p D) τ → PiecesAlone ps (extend p D τ))

@@ -7,7 +7,7 @@ use Rattle.types_rules.specs.Trees.{finite}
 use Rattle.checker_rules.specs.Unknowns.{Valuation, slot}
 use Rattle.checker_rules.specs.Items.{Items, skip, ◌⨾◌, fresh, equations, equate, select, small, refusal, piece, Meets, Any, And, Typings}
 use Rattle.checker_rules.specs.Dictionary.{Dictionary}
-use Rattle.checker_rules.specs.Rules.{paragraphItems}
+use Rattle.checker_rules.specs.Rules.{paragraph_items}
 use Rattle.checker_rules.specs.Entries.{extend}
 use Rattle.checker_rules.specs.ExpressionNodes.{InParagraph}
 
@@ -51,6 +51,6 @@ EachPiece (piece n t) P T = ((σ : Valuation) → And P t finite σ → (m : ℕ
 unfoldable pub PieceTypes : List Paragraph → Dictionary → (ℕ → Ty → Type 0) → Type 0
 PieceTypes [] D T = Unit {0}
 PieceTypes (p ∷ ps) D T =
-    ((m : ℕ) → InParagraph m p → InPiece (paragraphItems p D) (slot m 0))
-    × EachPiece (paragraphItems p D) Any (λ m g. InParagraph m p → T m g)
-    × ((τ : Valuation) → Meets (paragraphItems p D) τ → PieceTypes ps (extend p D τ) T)
+    ((m : ℕ) → InParagraph m p → InPiece (paragraph_items p D) (slot m 0))
+    × EachPiece (paragraph_items p D) Any (λ m g. InParagraph m p → T m g)
+    × ((τ : Valuation) → Meets (paragraph_items p D) τ → PieceTypes ps (extend p D τ) T)

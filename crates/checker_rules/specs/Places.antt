@@ -1,10 +1,10 @@
 -- The column "Place" of the table of findings: which of the numbers 31 to 39 a node of each kind can get at most. f at j in a tree: j is one of its nodes, of
 -- a kind that can get f; 33 and 39 stand at every kind whose rule has equations.
 use Rattle.std.specs.Prelude.{List, [], ◌∷◌, ◌⊎◌, ℕ}
-use Rattle.reader_rules.specs.Tree.{Expr, reference, number, integers, set, tuple, product, power, application, selection, theta, schemaSet, arithmetic}
+use Rattle.reader_rules.specs.Tree.{Expr, reference, number, integers, set, tuple, product, power, application, selection, theta, schema_set, arithmetic}
 use Rattle.reader_rules.specs.Tree.{comprehension, Exprs, none, more, Pred, truth, equal, member, at_most, not, connected, quantified, Text, text, Lines}
 use Rattle.reader_rules.specs.Tree.{end, declaration, inclusion, Include, include, Schema, plain, from, both, Paragraph, given, axiomatic, schema}
-use Rattle.reader_rules.specs.Tree.{abbreviation, constraint, includeNode, paragraphNode}
+use Rattle.reader_rules.specs.Tree.{abbreviation, constraint, include_node, paragraph_node}
 use Rattle.reader_rules.specs.Places.{At}
 
 unfoldable mutual
@@ -19,7 +19,7 @@ unfoldable mutual
   PlacedExpr f j (application n a b) = At f j n (33 ∷ 39 ∷ []) ⊎ (PlacedExpr f j a ⊎ PlacedExpr f j b)
   PlacedExpr f j (selection n a i) = At f j n (33 ∷ 35 ∷ []) ⊎ PlacedExpr f j a
   PlacedExpr f j (theta n s k) = At f j n (31 ∷ 32 ∷ 33 ∷ 37 ∷ 39 ∷ [])
-  PlacedExpr f j (schemaSet n i) = At f j n (33 ∷ 39 ∷ []) ⊎ (At f j (includeNode i) (38 ∷ []) ⊎ PlacedInclude f j i)
+  PlacedExpr f j (schema_set n i) = At f j n (33 ∷ 39 ∷ []) ⊎ (At f j (include_node i) (38 ∷ []) ⊎ PlacedInclude f j i)
   PlacedExpr f j (arithmetic n o a b) = At f j n (33 ∷ 39 ∷ []) ⊎ (PlacedExpr f j a ⊎ PlacedExpr f j b)
   PlacedExpr f j (comprehension n t a) = At f j n (33 ∷ 39 ∷ []) ⊎ (PlacedText f j t ⊎ PlacedExpr f j a)
 
@@ -43,14 +43,14 @@ unfoldable mutual
   pub PlacedLines : ℕ → ℕ → Lines → Type 0
   PlacedLines f j end = ⊥
   PlacedLines f j (declaration n a is ls) = At f j n (33 ∷ 34 ∷ 36 ∷ 38 ∷ 39 ∷ []) ⊎ (PlacedExpr f j a ⊎ PlacedLines f j ls)
-  PlacedLines f j (inclusion i ls) = At f j (includeNode i) (36 ∷ 38 ∷ []) ⊎ (PlacedInclude f j i ⊎ PlacedLines f j ls)
+  PlacedLines f j (inclusion i ls) = At f j (include_node i) (36 ∷ 38 ∷ []) ⊎ (PlacedInclude f j i ⊎ PlacedLines f j ls)
 
   pub PlacedInclude : ℕ → ℕ → Include → Type 0
   PlacedInclude f j (include n s k xs rs) = At f j n (31 ∷ 32 ∷ 33 ∷ 34 ∷ 37 ∷ 39 ∷ []) ⊎ PlacedExprs f j xs
 
 unfoldable pub PlacedSchema : ℕ → ℕ → Schema → Type 0
 PlacedSchema f j (plain t) = PlacedText f j t
-PlacedSchema f j (from i) = At f j (includeNode i) (38 ∷ []) ⊎ PlacedInclude f j i
+PlacedSchema f j (from i) = At f j (include_node i) (38 ∷ []) ⊎ PlacedInclude f j i
 PlacedSchema f j (both n a b) = At f j n (36 ∷ 38 ∷ []) ⊎ (PlacedSchema f j a ⊎ PlacedSchema f j b)
 
 unfoldable pub PlacedParagraph : ℕ → ℕ → Paragraph → Type 0
@@ -63,4 +63,4 @@ PlacedParagraph f j (constraint n p) = PlacedPred f j p
 -- 22 at a paragraph
 unfoldable pub PlacedParagraphs : ℕ → ℕ → List Paragraph → Type 0
 PlacedParagraphs f j [] = ⊥
-PlacedParagraphs f j (p ∷ ps) = PlacedParagraph f j p ⊎ (At f j (paragraphNode p) (22 ∷ []) ⊎ PlacedParagraphs f j ps)
+PlacedParagraphs f j (p ∷ ps) = PlacedParagraph f j p ⊎ (At f j (paragraph_node p) (22 ∷ []) ⊎ PlacedParagraphs f j ps)

@@ -13,7 +13,7 @@ use Rattle.types_rules.specs.Trees.{finite}
 use Rattle.checker_rules.specs.Unknowns.{Valuation}
 use Rattle.checker_rules.specs.Items.{Items, skip, ◌⨾◌, fresh, equations, equate, select, small, refusal, piece, Meets, Typings, Any, And, Passes, Refuses}
 use Rattle.checker_rules.specs.Dictionary.{Dictionary}
-use Rattle.checker_rules.specs.Rules.{paragraphItems}
+use Rattle.checker_rules.specs.Rules.{paragraph_items}
 use Rattle.checker_rules.specs.Entries.{extend}
 
 -- The items state the equation a = b.
@@ -77,4 +77,4 @@ BySides (piece n t) H P = BySides t H P
 -- through paragraphs, over the dictionary so far, with any typing of each
 unfoldable pub SidesDecide : List Paragraph → Dictionary → Type 0
 SidesDecide [] D = Unit {0}
-SidesDecide (p ∷ ps) D = BySides (paragraphItems p D) skip Any × ((τ : Valuation) → Meets (paragraphItems p D) τ → SidesDecide ps (extend p D τ))
+SidesDecide (p ∷ ps) D = BySides (paragraph_items p D) skip Any × ((τ : Valuation) → Meets (paragraph_items p D) τ → SidesDecide ps (extend p D τ))

@@ -12,30 +12,30 @@ Valuation = ℕ → Ty
 unfoldable pub slot : ℕ → ℕ → ℕ
 slot n k = n * 8 + k
 
-abbrev pub unknownAt : ℕ → ℕ → Term
-unknownAt n k = unknown (slot n k)
+abbrev pub unknown_at : ℕ → ℕ → Term
+unknown_at n k = unknown (slot n k)
 
 -- unknowns k, k + 1, .. of node n, p of them
 unfoldable pub row : ℕ → ℕ → ℕ → Terms
 row n k zero = nil
-row n k (suc p) = cons (unknownAt n k) (row n (suc k) p)
+row n k (suc p) = cons (unknown_at n k) (row n (suc k) p)
 
 -- ℤ, power, product, parameter i
 abbrev pub integer : Term
 integer = con int nil
 
-abbrev pub powerOf : Term → Term
-powerOf t = con power (cons t nil)
+abbrev pub power_of : Term → Term
+power_of t = con power (cons t nil)
 
-abbrev pub productOf : Terms → Term
-productOf ts = con product ts
+abbrev pub product_of : Terms → Term
+product_of ts = con product ts
 
 abbrev pub pair_of : Term → Term → Term
-pair_of a b = productOf (cons a (cons b nil))
+pair_of a b = product_of (cons a (cons b nil))
 
-abbrev pub parameterOf : ℕ → Term
-parameterOf i = con (parameter i) nil
+abbrev pub parameter_of : ℕ → Term
+parameter_of i = con (parameter i) nil
 
 -- the type of a given: power g
-abbrev pub givenSet : ℕ → Ty
-givenSet g = node power (tcons (node (given g) tnil) tnil)
+abbrev pub given_set : ℕ → Ty
+given_set g = node power (tcons (node (given g) tnil) tnil)

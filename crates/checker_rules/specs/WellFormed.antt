@@ -4,13 +4,13 @@ use Rattle.types_rules.specs.Formed.{WellFormed}
 use Rattle.types_rules.specs.Trees.{finite, infinite}
 use Rattle.checker_rules.specs.Unknowns.{Valuation}
 use Rattle.checker_rules.specs.Items.{Typings}
-use Rattle.checker_rules.specs.Dictionary.{nameEntry, schemaEntry, Dictionary, blank, ◌▸◌}
+use Rattle.checker_rules.specs.Dictionary.{name_entry, schema_entry, Dictionary, blank, ◌▸◌}
 use Rattle.checker_rules.specs.Check.{Answer, accepted, refused}
 
 unfoldable pub FormedDictionary : Dictionary → Type 0
 FormedDictionary blank = Unit {0}
-FormedDictionary (D ▸ nameEntry i p g) = FormedDictionary D × WellFormed g
-FormedDictionary (D ▸ schemaEntry s p g) = FormedDictionary D × WellFormed g
+FormedDictionary (D ▸ name_entry i p g) = FormedDictionary D × WellFormed g
+FormedDictionary (D ▸ schema_entry s p g) = FormedDictionary D × WellFormed g
 
 abbrev pub FormedAnswer : Answer → Type 0
 FormedAnswer (accepted E) = FormedDictionary E

@@ -2,12 +2,12 @@
 use Rattle.std.specs.Prelude.{◌≡◌, List, [], ◌∷◌, ℕ}
 use Rattle.types_rules.specs.Types.{Term}
 use Rattle.checker_rules.specs.Dictionary.{Dictionary}
-use Rattle.checker_rules.specs.Signatures.{Signature, noNames, naming}
+use Rattle.checker_rules.specs.Signatures.{Signature, no_names, naming}
 use Rattle.checker_rules.specs.Scopes.{Scope, globals, local}
 
 unfoldable pub Carries : (Term → ℕ → Type 0) → Signature → List (ℕ × ℕ) → Type 0
-Carries R noNames [] = Unit {0}
-Carries R noNames (r ∷ rs) = ⊥
+Carries R no_names [] = Unit {0}
+Carries R no_names (r ∷ rs) = ⊥
 Carries R (naming i t s) [] = ⊥
 Carries R (naming i t s) (r ∷ rs) = (i ≡ r.0) × R t r.1 × Carries R s rs
 

@@ -2,14 +2,14 @@
 use Rattle.std.specs.Prelude.{◌≡◌, Bool, false, ◌⊎◌, List, ℕ, ◌+◌, ◌*◌, ◌≤◌, ◌<◌, length, get_or}
 use Rattle.std.proofs.Math.Option.{some, none as nothing}
 use Rattle.std.proofs.lemmas.List.Edits.{sets}
-use Rattle.checker_signatures.specs.Rows.{rows, flat, place_in, strokeRows, renameRows, wrongRows}
+use Rattle.checker_signatures.specs.Rows.{rows, flat, place_in, stroke_rows, rename_rows, wrong_rows}
 
 -- The words of a table for a signature's 16 rows; and of one with room for as many rows again.
-abbrev pub halfTable : ℕ
-halfTable = 32
+abbrev pub half_table : ℕ
+half_table = 32
 
-abbrev pub tableWords : ℕ
-tableWords = 2 * halfTable
+abbrev pub table_words : ℕ
+table_words = 2 * half_table
 
 -- w with the rows rs written from base on is w'; n is their number
 pub record Table (w w' : List ℕ) (base : ℕ) (rs : List (ℕ × ℕ)) (n : ℕ) : Type 0 where
@@ -32,9 +32,9 @@ pub record Beside (l base n source k : ℕ) : Type 0 where
 -- What an Include brings: the m rows at `source` take the stroke k there, and with the pairs ps renamed they are written from base on. Where the
 -- names are wrong, 37, nothing is said of the rows; words below both stay.
 pub record Brings (w w' : List ℕ) (source m base k : ℕ) (ps : List (ℕ × ℕ)) (wrong : Bool) (n : ℕ) : Type 0 where
-  pub finding : wrong ≡ wrongRows k ps (rows w source m)
+  pub finding : wrong ≡ wrong_rows k ps (rows w source m)
   pub words : wrong ≡ false
-      → Table (sets w source (flat (strokeRows k (rows w source m)))) w' base (renameRows ps (strokeRows k (rows w source m))) n
+      → Table (sets w source (flat (stroke_rows k (rows w source m)))) w' base (rename_rows ps (stroke_rows k (rows w source m))) n
   pub below : (i : ℕ) → i < source → i < base → get_or w' i 0 ≡ get_or w i 0
 
 -- r rows of the stack at base: rs on top of n rows

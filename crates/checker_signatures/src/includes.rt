@@ -2,8 +2,8 @@
 ghost use Rattle.std.specs.Prelude.{◌≡◌, false, ◌+◌, ◌*◌, ◌≤◌, ◌<◌, ◌^◌, length};
 ghost use Rattle.std.proofs.lemmas.List.Edits.{sets};
 ghost use Rattle.checker_rules.specs.Strokes.{takes};
-ghost use Rattle.checker_rules.specs.Signatures.{renamed, hasOld};
-ghost use Rattle.checker_signatures.specs.Rows.{rows, flat, renames, strokedRows, strokeRows, renameRows, wrongOldRows};
+ghost use Rattle.checker_rules.specs.Signatures.{renamed, has_old};
+ghost use Rattle.checker_signatures.specs.Rows.{rows, flat, renames, stroked_rows, stroke_rows, rename_rows, wrong_old_rows};
 ghost use Rattle.checker_signatures.specs.Tables.{Table, Beside, Brings};
 
 use crate::tables::{find, insert, put_row};
@@ -23,7 +23,7 @@ pub fn takes(k: usize, id: usize) -> bool
 // One of the m identifiers at base cannot take the stroke k.
 pub fn some_stroked(work: &[u32], base: usize, m: usize, k: usize) -> bool
     requires { base + 2 * m ≤ length work.now }
-    ensures { result ≡ strokedRows k (rows work.now base m) }
+    ensures { result ≡ stroked_rows k (rows work.now base m) }
 {
     let mut j = 0;
     while j < m {
@@ -37,8 +37,8 @@ pub fn some_stroked(work: &[u32], base: usize, m: usize, k: usize) -> bool
 
 // The stroke k on each of the m identifiers at base.
 pub fn stroke(work: &mut [u32], base: usize, m: usize, k: usize)
-    requires { (base + 2 * m ≤ length work.old) × (k < 4) × (strokedRows k (rows work.old base m) ≡ false) }
-    ensures { work.new ≡ sets work.old base (flat (strokeRows k (rows work.old base m))) }
+    requires { (base + 2 * m ≤ length work.old) × (k < 4) × (stroked_rows k (rows work.old base m) ≡ false) }
+    ensures { work.new ≡ sets work.old base (flat (stroke_rows k (rows work.old base m))) }
 {
     let mut j = 0;
     while j < m {
@@ -76,7 +76,7 @@ pub fn rename(
     first: usize,
 ) -> usize
     requires { (Beside (length work.old) base m source m) × (first ≤ length part.now) }
-    ensures { Table work.old work.new base (renameRows (renames part.now first) (rows work.old source m)) result }
+    ensures { Table work.old work.new base (rename_rows (renames part.now first) (rows work.old source m)) result }
 {
     let mut n = 0;
     let mut j = m;
@@ -94,7 +94,7 @@ pub fn rename(
 // A pair from word i of the part on has the old name id.
 fn has_old(part: &[u32], i: usize, id: usize) -> bool
     requires { i ≤ length part.now }
-    ensures { result ≡ hasOld id (renames part.now i) }
+    ensures { result ≡ has_old id (renames part.now i) }
 {
     let e = part.len();
     let mut p = i;
@@ -110,7 +110,7 @@ fn has_old(part: &[u32], i: usize, id: usize) -> bool
 // An old name of the part is none of the m identifiers at base, or stands twice.
 pub fn wrong_old(work: &[u32], base: usize, m: usize, part: &[u32], first: usize) -> bool
     requires { (base + 2 * m ≤ length work.now) × (first ≤ length part.now) }
-    ensures { result ≡ wrongOldRows (renames part.now first) (rows work.now base m) }
+    ensures { result ≡ wrong_old_rows (renames part.now first) (rows work.now base m) }
 {
     let e = part.len();
     let mut i = first;

@@ -1,7 +1,7 @@
 // Tables of rows: looked up, and with identifiers more.
 ghost use Rattle.std.specs.Prelude.{◌≡◌, ◌+◌, ◌-◌, ◌*◌, ◌≤◌, ◌<◌, ◌^◌, [], ◌∷◌, length, drop};
 ghost use Rattle.std.proofs.lemmas.List.Edits.{sets};
-ghost use Rattle.checker_signatures.specs.Rows.{rows, flat, insertRow, mergeRows, declareRows};
+ghost use Rattle.checker_signatures.specs.Rows.{rows, flat, insert_row, merge_rows, declare_rows};
 ghost use Rattle.checker_signatures.specs.Tables.{Table, Finds, Beside};
 
 use codes::limits;
@@ -59,7 +59,7 @@ fn put_before(work: &mut [u32], at: usize, k: usize, id: usize, place: usize)
 // One identifier more in the table of m rows at base; one that is there stays as it is. The number of rows then.
 pub fn insert(work: &mut [u32], base: usize, m: usize, id: usize, place: usize) -> usize
     requires { (base + 2 * (m + 1) ≤ length work.old) × (id < 2 ^ 32) × (place < 2 ^ 32) }
-    ensures { Table work.old work.new base (insertRow id place (rows work.old base m)) result }
+    ensures { Table work.old work.new base (insert_row id place (rows work.old base m)) result }
 {
     let mut j = 0;
     while j < m {
@@ -80,7 +80,7 @@ pub fn insert(work: &mut [u32], base: usize, m: usize, id: usize, place: usize) 
 // The k rows at `source` inserted one by one into the table of m rows at base. The number of rows then.
 pub fn merge(work: &mut [u32], source: usize, k: usize, base: usize, m: usize) -> usize
     requires { Beside (length work.old) base (m + k) source k }
-    ensures { Table work.old work.new base (mergeRows (rows work.old source k) (rows work.old base m)) result }
+    ensures { Table work.old work.new base (merge_rows (rows work.old source k) (rows work.old base m)) result }
 {
     let mut n = m;
     let mut j = 0;
@@ -105,7 +105,7 @@ pub fn declare(
     place: usize,
 ) -> usize
     requires { (base + 2 * (m + (length part.now - first)) ≤ length work.old) × (place < 2 ^ 32) }
-    ensures { Table work.old work.new base (declareRows (drop first part.now) place (rows work.old base m)) result }
+    ensures { Table work.old work.new base (declare_rows (drop first part.now) place (rows work.old base m)) result }
 {
     let e = part.len();
     let mut n = m;

@@ -3,7 +3,7 @@ ghost use Rattle.std.specs.Prelude.{◌≡◌, ℕ, ◌^◌, ◌≤◌, List, �
 ghost use Rattle.values.specs.Held.{keep, Building};
 ghost use Rattle.values.specs.Value.{Values, set, encode};
 ghost use Rattle.enumeration_rules.specs.Enumeration.{subsets};
-ghost use Rattle.enumeration_rules.specs.OnWords.{masks, takenOn, maskedOn, setsOn};
+ghost use Rattle.enumeration_rules.specs.OnWords.{masks, taken_on, masked_on, sets_on};
 
 use codes::{limits, value_tags};
 use values::building::{built, put};
@@ -26,7 +26,7 @@ const TWICE: usize = 2 * (limits::VALUE - HEAD);
 
 // Of n members, how many the mask takes.
 fn taken(n: usize, mask: usize) -> usize
-    ensures { (result ≡ takenOn n mask) × (result ≤ n) }
+    ensures { (result ≡ taken_on n mask) × (result ≤ n) }
 {
     if n == 0 {
         return 0;
@@ -36,7 +36,7 @@ fn taken(n: usize, mask: usize) -> usize
 
 // After what is built, those of the n values from w on that the mask takes.
 fn chosen(u: &mut [u32], at: usize, n: usize, mask: usize, w: &[u32]) -> usize
-    ensures { (ws : List ℕ) → Building u.old at ws → Building u.new result (ws ++ maskedOn n mask w.now) }
+    ensures { (ws : List ℕ) → Building u.old at ws → Building u.new result (ws ++ masked_on n mask w.now) }
 {
     if n == 0 {
         return at;
@@ -52,7 +52,7 @@ fn chosen(u: &mut [u32], at: usize, n: usize, mask: usize, w: &[u32]) -> usize
 // The set of those members.
 fn subset(u: &mut [u32], at: usize, n: usize, mask: usize, w: &[u32]) -> usize
     requires { n ≤ 3 }
-    ensures { (ws : List ℕ) → Building u.old at ws → Building u.new result (ws ++ (3 ∷ takenOn n mask ∷ maskedOn n mask w.now)) }
+    ensures { (ws : List ℕ) → Building u.old at ws → Building u.new result (ws ++ (3 ∷ taken_on n mask ∷ masked_on n mask w.now)) }
 {
     let head = [SET, taken(n, mask) as u32];
     let a = put(u, at, &head);
@@ -62,7 +62,7 @@ fn subset(u: &mut [u32], at: usize, n: usize, mask: usize, w: &[u32]) -> usize
 // The sets of the masks from j on that are below e, which is 2 to the n.
 fn subsets(u: &mut [u32], at: usize, j: usize, n: usize, e: usize, w: &[u32]) -> usize
     requires { (n ≤ 3) × (e ≡ 2 ^ n) }
-    ensures { (ws : List ℕ) → Building u.old at ws → Building u.new result (ws ++ setsOn (drop j masks) n w.now) }
+    ensures { (ws : List ℕ) → Building u.old at ws → Building u.new result (ws ++ sets_on (drop j masks) n w.now) }
 {
     if MASKS.len() <= j {
         return at;

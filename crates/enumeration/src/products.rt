@@ -3,7 +3,7 @@ ghost use Rattle.std.specs.Prelude.{◌≡◌, ℕ, ◌+◌, ◌*◌, ◌^◌, �
 ghost use Rattle.values.specs.Held.{keep, Building};
 ghost use Rattle.values.specs.Value.{Values, nil, set, tuple, encode};
 ghost use Rattle.enumeration_rules.specs.Enumeration.{each};
-ghost use Rattle.enumeration_rules.specs.OnWords.{grow, longer, endingsOn, tuplesOn, growOn};
+ghost use Rattle.enumeration_rules.specs.OnWords.{grow, longer, endings_on, tuples_on, grow_on};
 
 use codes::{limits, value_tags};
 use values::building::{built, put};
@@ -31,7 +31,7 @@ fn longer(u: &mut [u32], at: usize, t: &[u32], m: &[u32]) -> usize
 
 // The tuple t with each of the n values from w on.
 fn endings(u: &mut [u32], at: usize, n: usize, t: &[u32], w: &[u32]) -> usize
-    ensures { (ws : List ℕ) → Building u.old at ws → Building u.new result (ws ++ endingsOn n t.now w.now) }
+    ensures { (ws : List ℕ) → Building u.old at ws → Building u.new result (ws ++ endings_on n t.now w.now) }
 {
     if n == 0 {
         return at;
@@ -43,7 +43,7 @@ fn endings(u: &mut [u32], at: usize, n: usize, t: &[u32], w: &[u32]) -> usize
 
 // The m tuples from p on, with each of the n values from w on.
 fn tuples(u: &mut [u32], at: usize, m: usize, p: &[u32], n: usize, w: &[u32]) -> usize
-    ensures { (ws : List ℕ) → Building u.old at ws → Building u.new result (ws ++ tuplesOn m p.now n w.now) }
+    ensures { (ws : List ℕ) → Building u.old at ws → Building u.new result (ws ++ tuples_on m p.now n w.now) }
 {
     if m == 0 {
         return at;
@@ -55,7 +55,7 @@ fn tuples(u: &mut [u32], at: usize, m: usize, p: &[u32], n: usize, w: &[u32]) ->
 
 // The set p of tuples, with each member of the set s after each.
 fn grow(p: &[u32], s: &[u32]) -> Held
-    ensures { result ≡ keep (growOn p.now s.now) }
+    ensures { result ≡ keep (grow_on p.now s.now) }
 {
     let m = word(p, 1);
     let n = word(s, 1);

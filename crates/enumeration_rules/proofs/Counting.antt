@@ -11,168 +11,168 @@ use borrow.Author.Tests.{leb-true, leb-false, le-leb}
 use Rattle.words.proofs.Loops.{and_right}
 use Rattle.words.proofs.Lists.{same_test}
 use Rattle.values.specs.Value.{Value, set, tuple, Values, nil, cons, count, encode, encodes}
-use Rattle.values.proofs.Encoding.{words-some}
+use Rattle.values.proofs.Encoding.{words_some}
 use Rattle.values.proofs.Unique.{both}
-use Rattle.enumeration_rules.specs.Enumeration.{before, rows, choices, choicesFrom, picks, each, subsets, tuples}
-use Rattle.enumeration_rules.specs.WordCounts.{powerFits, rowCount, rowWords, productWords}
+use Rattle.enumeration_rules.specs.Enumeration.{before, rows, choices, choices_from, picks, each, subsets, tuples}
+use Rattle.enumeration_rules.specs.WordCounts.{power_fits, row_count, row_words, product_words}
 
 -- the words of all rows, without a head for each
-unfoldable pub rowsLength : List Values → ℕ
-rowsLength [] = 0
-rowsLength (r ∷ rs) = length (encodes r) + rowsLength rs
+unfoldable pub rows_length : List Values → ℕ
+rows_length [] = 0
+rows_length (r ∷ rs) = length (encodes r) + rows_length rs
 
-pub lengths-append : (xs ys : List Values) → rowsLength (xs ++ ys) ≡ rowsLength xs + rowsLength ys
-unfolding rowsLength
-lengths-append [] ys = omega arith
-lengths-append (r ∷ xs) ys = omega (arith, lengths-append xs ys)
+pub lengths_append : (xs ys : List Values) → rows_length (xs ++ ys) ≡ rows_length xs + rows_length ys
+unfolding rows_length
+lengths_append [] ys = omega arith
+lengths_append (r ∷ xs) ys = omega (arith, lengths_append xs ys)
 
-before-number : (v : Value) (xs : List Values) → length (before v xs) ≡ length xs
+before_number : (v : Value) (xs : List Values) → length (before v xs) ≡ length xs
 unfolding before
-before-number v [] = refl
-before-number v (r ∷ xs) = ap suc (before-number v xs)
+before_number v [] = refl
+before_number v (r ∷ xs) = ap suc (before_number v xs)
 
-before-length : (v : Value) (xs : List Values) → rowsLength (before v xs) ≡ length xs * length (encode v) + rowsLength xs
-unfolding before rowsLength encode
-before-length v [] = omega arith
-before-length v (r ∷ xs) = omega (arith, before-length v xs, length-append (encode v) (encodes r))
+before_length : (v : Value) (xs : List Values) → rows_length (before v xs) ≡ length xs * length (encode v) + rows_length xs
+unfolding before rows_length encode
+before_length v [] = omega arith
+before_length v (r ∷ xs) = omega (arith, before_length v xs, length-append (encode v) (encodes r))
 
-pub each-count : (f : Values → Value) (xs : List Values) → count (each f xs) ≡ length xs
+pub each_count : (f : Values → Value) (xs : List Values) → count (each f xs) ≡ length xs
 unfolding each count
-each-count f [] = refl
-each-count f (r ∷ xs) = ap suc (each-count f xs)
+each_count f [] = refl
+each_count f (r ∷ xs) = ap suc (each_count f xs)
 
 -- with a tag and a count for each row
-pub each-length : (f : Values → Value) → ((r : Values) → length (encode (f r)) ≡ 2 + length (encodes r)) → (xs : List Values) → length (encodes (each f xs)) ≡ 2 * length xs + rowsLength xs
-unfolding each encode rowsLength
-each-length f e [] = omega arith
-each-length f e (r ∷ xs) = omega (arith, each-length f e xs, e r, length-append (encode (f r)) (encodes (each f xs)))
+pub each_length : (f : Values → Value) → ((r : Values) → length (encode (f r)) ≡ 2 + length (encodes r)) → (xs : List Values) → length (encodes (each f xs)) ≡ 2 * length xs + rows_length xs
+unfolding each encode rows_length
+each_length f e [] = omega arith
+each_length f e (r ∷ xs) = omega (arith, each_length f e xs, e r, length-append (encode (f r)) (encodes (each f xs)))
 
 -- ---- the power
 
 -- a member more: each choice without it, and each with it
 module _ (v : Value) (vs : Values) where
-  sizes-number : (n k : ℕ) → length (choicesFrom (suc k) n (cons v vs)) ≡ length (choicesFrom k n vs) + length (choicesFrom (suc k) n vs)
-  unfolding choicesFrom choices rows
-  sizes-number zero k = omega arith
-  sizes-number (suc n) k =
+  sizes_number : (n k : ℕ) → length (choices_from (suc k) n (cons v vs)) ≡ length (choices_from k n vs) + length (choices_from (suc k) n vs)
+  unfolding choices_from choices rows
+  sizes_number zero k = omega arith
+  sizes_number (suc n) k =
       omega (
         arith,
-        sizes-number n (suc k),
-        before-number v (choices k vs),
+        sizes_number n (suc k),
+        before_number v (choices k vs),
         length-append (before v (choices k vs)) (rows vs (choices k)),
-        length-append (before v (choices k vs) ++ rows vs (choices k)) (choicesFrom (suc (suc k)) n (cons v vs)),
-        length-append (choices k vs) (choicesFrom (suc k) n vs),
-        length-append (rows vs (choices k)) (choicesFrom (suc (suc k)) n vs),
+        length-append (before v (choices k vs) ++ rows vs (choices k)) (choices_from (suc (suc k)) n (cons v vs)),
+        length-append (choices k vs) (choices_from (suc k) n vs),
+        length-append (rows vs (choices k)) (choices_from (suc (suc k)) n vs),
       )
 
-  sizes-length : (n k : ℕ) → rowsLength (choicesFrom (suc k) n (cons v vs)) ≡ length (choicesFrom k n vs) * length (encode v) + rowsLength (choicesFrom k n vs) + rowsLength (choicesFrom (suc k) n vs)
-  unfolding choicesFrom choices rows rowsLength
-  sizes-length zero k = omega arith
-  sizes-length (suc n) k =
-      rw (length-append (choices k vs) (choicesFrom (suc k) n vs))
+  sizes_length : (n k : ℕ) → rows_length (choices_from (suc k) n (cons v vs)) ≡ length (choices_from k n vs) * length (encode v) + rows_length (choices_from k n vs) + rows_length (choices_from (suc k) n vs)
+  unfolding choices_from choices rows rows_length
+  sizes_length zero k = omega arith
+  sizes_length (suc n) k =
+      rw (length-append (choices k vs) (choices_from (suc k) n vs))
       (omega (
         arith,
-        sizes-length n (suc k),
-        before-length v (choices k vs),
-        lengths-append (before v (choices k vs)) (rows vs (choices k)),
-        lengths-append (before v (choices k vs) ++ rows vs (choices k)) (choicesFrom (suc (suc k)) n (cons v vs)),
-        lengths-append (choices k vs) (choicesFrom (suc k) n vs),
-        lengths-append (rows vs (choices k)) (choicesFrom (suc (suc k)) n vs),
+        sizes_length n (suc k),
+        before_length v (choices k vs),
+        lengths_append (before v (choices k vs)) (rows vs (choices k)),
+        lengths_append (before v (choices k vs) ++ rows vs (choices k)) (choices_from (suc (suc k)) n (cons v vs)),
+        lengths_append (choices k vs) (choices_from (suc k) n vs),
+        lengths_append (rows vs (choices k)) (choices_from (suc (suc k)) n vs),
       ))
 
 -- of no member there is no choice but the empty one
-sizes-nil : (n k : ℕ) → choicesFrom (suc k) n nil ≡ []
-unfolding choicesFrom choices rows
-sizes-nil zero k = refl
-sizes-nil (suc n) k = sizes-nil n (suc k)
+sizes_nil : (n k : ℕ) → choices_from (suc k) n nil ≡ []
+unfolding choices_from choices rows
+sizes_nil zero k = refl
+sizes_nil (suc n) k = sizes_nil n (suc k)
 
-choices-number : (vs : Values) (n : ℕ) → count vs < n → length (choicesFrom 0 n vs) ≡ 2 ^ count vs
-unfolding choicesFrom choices count
-choices-number nil zero l = absurd (omega arith)
-choices-number nil (suc n) l = rw (sizes-nil n 0)
-choices-number (cons v vs) zero l = absurd (omega arith)
-choices-number (cons v vs) (suc n) l =
-    let a = choices-number vs n (omega arith) in
-    let b = choices-number vs (suc n) (omega arith) in
-    omega (arith, sizes-number v vs n 0, two-pow-succ (count vs))
+choices_number : (vs : Values) (n : ℕ) → count vs < n → length (choices_from 0 n vs) ≡ 2 ^ count vs
+unfolding choices_from choices count
+choices_number nil zero l = absurd (omega arith)
+choices_number nil (suc n) l = rw (sizes_nil n 0)
+choices_number (cons v vs) zero l = absurd (omega arith)
+choices_number (cons v vs) (suc n) l =
+    let a = choices_number vs n (omega arith) in
+    let b = choices_number vs (suc n) (omega arith) in
+    omega (arith, sizes_number v vs n 0, two-pow-succ (count vs))
 
 -- each member stands in half of the choices
-choices-length : (vs : Values) (n : ℕ) → count vs < n → 2 * rowsLength (choicesFrom 0 n vs) ≡ 2 ^ count vs * length (encodes vs)
-unfolding choicesFrom choices count rowsLength encode
-choices-length nil zero l = absurd (omega arith)
-choices-length nil (suc n) l = rw (sizes-nil n 0)
-choices-length (cons v vs) zero l = absurd (omega arith)
-choices-length (cons v vs) (suc n) l =
-    let a = choices-length vs n (omega arith) in
-    let b = choices-length vs (suc n) (omega arith) in
-    rw (two-pow-succ (count vs), length-append (encode v) (encodes vs), sizes-length v vs n 0, choices-number vs n (omega arith)) (omega arith)
+choices_length : (vs : Values) (n : ℕ) → count vs < n → 2 * rows_length (choices_from 0 n vs) ≡ 2 ^ count vs * length (encodes vs)
+unfolding choices_from choices count rows_length encode
+choices_length nil zero l = absurd (omega arith)
+choices_length nil (suc n) l = rw (sizes_nil n 0)
+choices_length (cons v vs) zero l = absurd (omega arith)
+choices_length (cons v vs) (suc n) l =
+    let a = choices_length vs n (omega arith) in
+    let b = choices_length vs (suc n) (omega arith) in
+    rw (two-pow-succ (count vs), length-append (encode v) (encodes vs), sizes_length v vs n 0, choices_number vs n (omega arith)) (omega arith)
 
 -- 2 + 2^m (4 + w) / 2 words
-pub power-words : (vs : Values) → 2 * length (encode (set (subsets vs))) ≡ 4 + 2 ^ count vs * (4 + length (encodes vs))
+pub power_words : (vs : Values) → 2 * length (encode (set (subsets vs))) ≡ 4 + 2 ^ count vs * (4 + length (encodes vs))
 unfolding subsets encode
-power-words vs =
-    let n = choices-number vs (suc (count vs)) (omega arith) in
-    let w = choices-length vs (suc (count vs)) (omega arith) in
-    omega (arith, each-length set (λ r. omega arith) (choicesFrom 0 (suc (count vs)) vs))
+power_words vs =
+    let n = choices_number vs (suc (count vs)) (omega arith) in
+    let w = choices_length vs (suc (count vs)) (omega arith) in
+    omega (arith, each_length set (λ r. omega arith) (choices_from 0 (suc (count vs)) vs))
 
-two-words : (vs : Values) → 2 * count vs ≤ length (encodes vs)
+two_words : (vs : Values) → 2 * count vs ≤ length (encodes vs)
 unfolding count encode
-two-words nil = omega arith
-two-words (cons v vs) = omega (arith, two-words vs, words-some v, length-append (encode v) (encodes vs))
+two_words nil = omega arith
+two_words (cons v vs) = omega (arith, two_words vs, words_some v, length-append (encode v) (encodes vs))
 
 -- no set of four members or more has a power of at most 64 words
-pub power-few : (vs : Values) → length (encode (set (subsets vs))) ≤ 64 → count vs ≤ 3
-power-few vs l = go (leb (count vs) 3) refl
+pub power_few : (vs : Values) → length (encode (set (subsets vs))) ≤ 64 → count vs ≤ 3
+power_few vs l = go (leb (count vs) 3) refl
   where
     go : (b : Bool) → leb (count vs) 3 ≡ b → count vs ≤ 3
     go true q = leb-true (count vs) 3 q
     go false q =
         let m = leb-false (count vs) 3 q in
         let p : 2 ^ 4 ≤ 2 ^ count vs = pow-le-pow_right (omega arith) m in
-        let w : 12 ≤ 4 + length (encodes vs) = omega (arith, two-words vs) in
-        absurd (omega (arith, power-words vs, mul-le-mul p w))
+        let w : 12 ≤ 4 + length (encodes vs) = omega (arith, two_words vs) in
+        absurd (omega (arith, power_words vs, mul-le-mul p w))
 
 -- 55, decided by the count and the words
-pub power-fits : (vs : Values) → leb (length (encode (set (subsets vs)))) 64 ≡ powerFits (count vs) (length (encodes vs))
-unfolding powerFits
-power-fits vs =
+pub power_fits_lem : (vs : Values) → leb (length (encode (set (subsets vs)))) 64 ≡ power_fits (count vs) (length (encodes vs))
+unfolding power_fits
+power_fits_lem vs =
     let n = length (encode (set (subsets vs))) in
     let p = 2 ^ count vs * (4 + length (encodes vs)) in
     same_test (leb n 64) (leb (count vs) 3 && leb p 124)
-    (λ e. both (leb (count vs) 3) _ (le-leb (count vs) 3 (power-few vs (leb-true n 64 e))) (le-leb p 124 (omega (arith, power-words vs, leb-true n 64 e))))
-    (λ e. le-leb n 64 (omega (arith, power-words vs, leb-true p 124 (and_right (leb (count vs) 3) _ e))))
+    (λ e. both (leb (count vs) 3) _ (le-leb (count vs) 3 (power_few vs (leb-true n 64 e))) (le-leb p 124 (omega (arith, power_words vs, leb-true n 64 e))))
+    (λ e. le-leb n 64 (omega (arith, power_words vs, leb-true p 124 (and_right (leb (count vs) 3) _ e))))
 
 -- ---- the product
 
-rows-number : (xs : List Values) (vs : Values) → length (rows vs (λ us. xs)) ≡ count vs * length xs
+rows_number : (xs : List Values) (vs : Values) → length (rows vs (λ us. xs)) ≡ count vs * length xs
 unfolding rows count
-rows-number xs nil = omega arith
-rows-number xs (cons v vs) = omega (arith, rows-number xs vs, before-number v xs, length-append (before v xs) (rows vs (λ us. xs)))
+rows_number xs nil = omega arith
+rows_number xs (cons v vs) = omega (arith, rows_number xs vs, before_number v xs, length-append (before v xs) (rows vs (λ us. xs)))
 
-rows-length : (xs : List Values) (vs : Values) → rowsLength (rows vs (λ us. xs)) ≡ length (encodes vs) * length xs + count vs * rowsLength xs
-unfolding rows count rowsLength encode
-rows-length xs nil = omega arith
-rows-length xs (cons v vs) =
-    rw (length-append (encode v) (encodes vs)) (omega (arith, rows-length xs vs, before-length v xs, lengths-append (before v xs) (rows vs (λ us. xs))))
+rows_length_lem : (xs : List Values) (vs : Values) → rows_length (rows vs (λ us. xs)) ≡ length (encodes vs) * length xs + count vs * rows_length xs
+unfolding rows count rows_length encode
+rows_length_lem xs nil = omega arith
+rows_length_lem xs (cons v vs) =
+    rw (length-append (encode v) (encodes vs)) (omega (arith, rows_length_lem xs vs, before_length v xs, lengths_append (before v xs) (rows vs (λ us. xs))))
 
-picks-number : (vss : List Values) → length (picks vss) ≡ rowCount vss
-unfolding picks rowCount
-picks-number [] = refl
-picks-number (vs ∷ vss) = rows-number (picks vss) vs ∙ ap (λ (n : ℕ). count vs * n) (picks-number vss)
+picks_number : (vss : List Values) → length (picks vss) ≡ row_count vss
+unfolding picks row_count
+picks_number [] = refl
+picks_number (vs ∷ vss) = rows_number (picks vss) vs ∙ ap (λ (n : ℕ). count vs * n) (picks_number vss)
 
-picks-length : (vss : List Values) → rowsLength (picks vss) ≡ rowWords vss
-unfolding picks rowWords rowsLength encode
-picks-length [] = refl
-picks-length (vs ∷ vss) = rw (rows-length (picks vss) vs, picks-number vss, picks-length vss)
+picks_length : (vss : List Values) → rows_length (picks vss) ≡ row_words vss
+unfolding picks row_words rows_length encode
+picks_length [] = refl
+picks_length (vs ∷ vss) = rw (rows_length_lem (picks vss) vs, picks_number vss, picks_length vss)
 
-pub product-count : (vss : List Values) → count (tuples vss) ≡ rowCount vss
+pub product_count : (vss : List Values) → count (tuples vss) ≡ row_count vss
 unfolding tuples
-product-count vss = each-count tuple (picks vss) ∙ picks-number vss
+product_count vss = each_count tuple (picks vss) ∙ picks_number vss
 
-pub product-words : (vss : List Values) → length (encode (set (tuples vss))) ≡ productWords vss
-unfolding tuples productWords encode
-product-words vss = omega (arith, each-length tuple (λ r. omega arith) (picks vss), picks-number vss, picks-length vss)
+pub product_words_lem : (vss : List Values) → length (encode (set (tuples vss))) ≡ product_words vss
+unfolding tuples product_words encode
+product_words_lem vss = omega (arith, each_length tuple (λ r. omega arith) (picks vss), picks_number vss, picks_length vss)
 
 pub power_count : (vs : Values) → count (subsets vs) ≡ 2 ^ count vs
 unfolding subsets
-power_count vs = each-count set (choicesFrom 0 (suc (count vs)) vs) ∙ choices-number vs (suc (count vs)) (omega arith)
+power_count vs = each_count set (choices_from 0 (suc (count vs)) vs) ∙ choices_number vs (suc (count vs)) (omega arith)

@@ -1,7 +1,7 @@
 -- The members of a power and of a product, in ascending order. Both are lists of rows: a row is the members of a subset, or the parts of a tuple.
 use Rattle.std.specs.Prelude.{Bool, true, false, ◌&&◌, List, [], ◌∷◌, ◌++◌, ℕ, zero, suc}
 use Rattle.values.specs.Value.{Value, int, element, set, tuple, Values, nil, cons, count}
-use Rattle.values.specs.SetValues.{isIn}
+use Rattle.values.specs.SetValues.{is_in}
 
 -- v before each of the rows
 unfoldable pub before : Value → List Values → List Values
@@ -19,9 +19,9 @@ choices zero vs = nil ∷ []
 choices (suc k) vs = rows vs (choices k)
 
 -- n sizes of choices from k on: a set's count goes before its members
-unfoldable pub choicesFrom : ℕ → ℕ → Values → List Values
-choicesFrom k zero vs = []
-choicesFrom k (suc n) vs = choices k vs ++ choicesFrom (suc k) n vs
+unfoldable pub choices_from : ℕ → ℕ → Values → List Values
+choices_from k zero vs = []
+choices_from k (suc n) vs = choices k vs ++ choices_from (suc k) n vs
 
 -- one member of each operand
 unfoldable pub picks : List Values → List Values
@@ -34,33 +34,33 @@ each f (r ∷ rs) = cons (f r) (each f rs)
 
 -- the members of the power of the set of vs
 unfoldable pub subsets : Values → Values
-subsets vs = each set (choicesFrom 0 (suc (count vs)) vs)
+subsets vs = each set (choices_from 0 (suc (count vs)) vs)
 
 -- the members of the product of the sets of vss
 unfoldable pub tuples : List Values → Values
 tuples vss = each tuple (picks vss)
 
 -- every one of ws is a member of vs
-unfoldable pub allIn : Values → Values → Bool
-allIn nil vs = true
-allIn (cons w ws) vs = isIn w vs && allIn ws vs
+unfoldable pub all_in : Values → Values → Bool
+all_in nil vs = true
+all_in (cons w ws) vs = is_in w vs && all_in ws vs
 
 -- as many parts as operands, each a member of its own
-unfoldable pub eachIn : Values → List Values → Bool
-eachIn nil [] = true
-eachIn nil (vs ∷ vss) = false
-eachIn (cons w ws) [] = false
-eachIn (cons w ws) (vs ∷ vss) = isIn w vs && eachIn ws vss
+unfoldable pub each_in : Values → List Values → Bool
+each_in nil [] = true
+each_in nil (vs ∷ vss) = false
+each_in (cons w ws) [] = false
+each_in (cons w ws) (vs ∷ vss) = is_in w vs && each_in ws vss
 
 -- who is a member: a set whose members are all members, a tuple of that many parts, each a member of its operand; no other value
-unfoldable pub inPower : Value → Values → Bool
-inPower (int z) vs = false
-inPower (element g k) vs = false
-inPower (set ws) vs = allIn ws vs
-inPower (tuple ws) vs = false
+unfoldable pub in_power : Value → Values → Bool
+in_power (int z) vs = false
+in_power (element g k) vs = false
+in_power (set ws) vs = all_in ws vs
+in_power (tuple ws) vs = false
 
-unfoldable pub inProduct : Value → List Values → Bool
-inProduct (int z) vss = false
-inProduct (element g k) vss = false
-inProduct (set ws) vss = false
-inProduct (tuple ws) vss = eachIn ws vss
+unfoldable pub in_product : Value → List Values → Bool
+in_product (int z) vss = false
+in_product (element g k) vss = false
+in_product (set ws) vss = false
+in_product (tuple ws) vss = each_in ws vss

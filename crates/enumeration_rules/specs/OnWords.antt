@@ -25,17 +25,17 @@ grown rs (vs ∷ vss) = grown (grow rs vs) vss
 unfoldable pub longer : List ℕ → List ℕ → List ℕ
 longer t m = 4 ∷ (get_or t 1 0 + 1) % 2 ^ 32 ∷ (drop 2 t ++ m)
 
-unfoldable pub endingsOn : ℕ → List ℕ → List ℕ → List ℕ
-endingsOn zero t ws = []
-endingsOn (suc n) t ws = longer t (first ws) ++ endingsOn n t (rest ws)
+unfoldable pub endings_on : ℕ → List ℕ → List ℕ → List ℕ
+endings_on zero t ws = []
+endings_on (suc n) t ws = longer t (first ws) ++ endings_on n t (rest ws)
 
-unfoldable pub tuplesOn : ℕ → List ℕ → ℕ → List ℕ → List ℕ
-tuplesOn zero ps n ws = []
-tuplesOn (suc m) ps n ws = endingsOn n (first ps) ws ++ tuplesOn m (rest ps) n ws
+unfoldable pub tuples_on : ℕ → List ℕ → ℕ → List ℕ → List ℕ
+tuples_on zero ps n ws = []
+tuples_on (suc m) ps n ws = endings_on n (first ps) ws ++ tuples_on m (rest ps) n ws
 
 -- the set p of tuples, with each member of the set s after each
-unfoldable pub growOn : List ℕ → List ℕ → List ℕ
-growOn p s = 3 ∷ get_or p 1 0 * get_or s 1 0 % 2 ^ 32 ∷ tuplesOn (get_or p 1 0) (drop 2 p) (get_or s 1 0) (drop 2 s)
+unfoldable pub grow_on : List ℕ → List ℕ → List ℕ
+grow_on p s = 3 ∷ get_or p 1 0 * get_or s 1 0 % 2 ^ 32 ∷ tuples_on (get_or p 1 0) (drop 2 p) (get_or s 1 0) (drop 2 s)
 
 -- ---- a power of at most three members goes by masks: bit i stands for member i
 
@@ -47,23 +47,23 @@ unfoldable pub masked : ℕ → Values → Values
 masked mask nil = nil
 masked mask (cons v vs) = cond (eqb (mask % 2) 1) (cons v (masked (mask / 2) vs)) (masked (mask / 2) vs)
 
-unfoldable pub byMasks : List ℕ → Values → List Values
-byMasks [] vs = []
-byMasks (m ∷ ms) vs = cond (ltb m (2 ^ count vs)) (masked m vs ∷ byMasks ms vs) (byMasks ms vs)
+unfoldable pub by_masks : List ℕ → Values → List Values
+by_masks [] vs = []
+by_masks (m ∷ ms) vs = cond (ltb m (2 ^ count vs)) (masked m vs ∷ by_masks ms vs) (by_masks ms vs)
 
 -- on words: of n members from ws on, how many the mask takes, and their words
-unfoldable pub takenOn : ℕ → ℕ → ℕ
-takenOn zero mask = 0
-takenOn (suc n) mask = mask % 2 + takenOn n (mask / 2)
+unfoldable pub taken_on : ℕ → ℕ → ℕ
+taken_on zero mask = 0
+taken_on (suc n) mask = mask % 2 + taken_on n (mask / 2)
 
-unfoldable pub maskedOn : ℕ → ℕ → List ℕ → List ℕ
-maskedOn zero mask ws = []
-maskedOn (suc n) mask ws = cond (eqb (mask % 2) 1) (first ws) [] ++ maskedOn n (mask / 2) (rest ws)
+unfoldable pub masked_on : ℕ → ℕ → List ℕ → List ℕ
+masked_on zero mask ws = []
+masked_on (suc n) mask ws = cond (eqb (mask % 2) 1) (first ws) [] ++ masked_on n (mask / 2) (rest ws)
 
-unfoldable pub setsOn : List ℕ → ℕ → List ℕ → List ℕ
-setsOn [] n ws = []
-setsOn (m ∷ ms) n ws = cond (ltb m (2 ^ n)) (3 ∷ takenOn n m ∷ maskedOn n m ws) [] ++ setsOn ms n ws
+unfoldable pub sets_on : List ℕ → ℕ → List ℕ → List ℕ
+sets_on [] n ws = []
+sets_on (m ∷ ms) n ws = cond (ltb m (2 ^ n)) (3 ∷ taken_on n m ∷ masked_on n m ws) [] ++ sets_on ms n ws
 
 -- the power of the set s
-unfoldable pub powerOn : List ℕ → List ℕ
-powerOn s = 3 ∷ 2 ^ get_or s 1 0 ∷ setsOn masks (get_or s 1 0) (drop 2 s)
+unfoldable pub power_on : List ℕ → List ℕ
+power_on s = 3 ∷ 2 ^ get_or s 1 0 ∷ sets_on masks (get_or s 1 0) (drop 2 s)

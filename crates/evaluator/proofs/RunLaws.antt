@@ -8,14 +8,14 @@ use lib.ListN.{length}
 use Rattle.layout.specs.Layout.{count, part}
 use Rattle.reader_rules.specs.Reading.{read_of}
 use Rattle.reader_rules.specs.declared.Reading.TheVariants.{Readable}
-use Rattle.reader_rules.specs.Decode.{paragraphsFrom, tree_of}
-use Rattle.reader_rules.proofs.TreeParagraph.{document-law}
+use Rattle.reader_rules.specs.Decode.{paragraphs_from, tree_of}
+use Rattle.reader_rules.proofs.TreeParagraph.{document_law}
 use Rattle.states_rules.specs.Names.{names_of}
 use Rattle.states_rules.specs.States.{State}
-use Rattle.states.proofs.NameLaws.{document-names}
+use Rattle.states.proofs.NameLaws.{document_names_lem}
 use Rattle.evaluator_rules.specs.Outcomes.{Outcome}
 use Rattle.evaluator_rules.specs.Environment.{empty}
-use Rattle.evaluator_rules.specs.Paragraphs.{Step, onward, failed, runParagraphs, runDocument}
+use Rattle.evaluator_rules.specs.Paragraphs.{Step, onward, failed, run_paragraphs, run_document}
 use Rattle.evaluator_operations.specs.declared.worked.Judgement.{Judgement}
 use Rattle.evaluator_rules.specs.declared.Finding.{Finding}
 use Rattle.evaluator_rules.specs.declared.Finding.TheVariants.{Holds, Fails, Refused}
@@ -25,29 +25,29 @@ use Rattle.evaluator_scope.specs.Named.{Declares}
 use Rattle.evaluator_paragraphs.specs.Paragraphs.{Stepped}
 
 module _ {y : Judgement} where
-  pub refused-finding : {o : Outcome Step} → Told (Stepped (λ s. Unit {0})) y o → (y.number ≡ 0 → ⊥) → Refused y.number y.place ≡ (ending o).finding
+  pub refused_finding : {o : Outcome Step} → Told (Stepped (λ s. Unit {0})) y o → (y.number ≡ 0 → ⊥) → Refused y.number y.place ≡ (ending o).finding
   unfolding ending
-  refused-finding (fine {a = onward s} z h) n = absurd (n z)
-  refused-finding (fine {a = failed k} z h) n = absurd (n z)
-  refused-finding (ceased a b c) n = rw (a, b)
+  refused_finding (fine {a = onward s} z h) n = absurd (n z)
+  refused_finding (fine {a = failed k} z h) n = absurd (n z)
+  refused_finding (ceased a b c) n = rw (a, b)
 
-  pub holds-finding : {o : Outcome Step} → Told (Stepped (λ s. Unit {0})) y o → y.number ≡ 0 → y.flag ≡ true → Holds ≡ (ending o).finding
+  pub holds_finding : {o : Outcome Step} → Told (Stepped (λ s. Unit {0})) y o → y.number ≡ 0 → y.flag ≡ true → Holds ≡ (ending o).finding
   unfolding ending
-  holds-finding (fine {a = onward s} z h) n f = refl
-  holds-finding (fine {a = failed k} z h) n f = absurd (true≢false (sym f ∙ h.0))
-  holds-finding (ceased a b c) n f = absurd (c (sym a ∙ n))
+  holds_finding (fine {a = onward s} z h) n f = refl
+  holds_finding (fine {a = failed k} z h) n f = absurd (true≢false (sym f ∙ h.0))
+  holds_finding (ceased a b c) n f = absurd (c (sym a ∙ n))
 
-  pub fails-finding : {o : Outcome Step} → Told (Stepped (λ s. Unit {0})) y o → y.number ≡ 0 → y.flag ≡ false → Fails y.place ≡ (ending o).finding
+  pub fails_finding : {o : Outcome Step} → Told (Stepped (λ s. Unit {0})) y o → y.number ≡ 0 → y.flag ≡ false → Fails y.place ≡ (ending o).finding
   unfolding ending
-  fails-finding (fine {a = onward s} z h) n f = absurd (true≢false (sym h.0 ∙ f))
-  fails-finding (fine {a = failed k} z h) n f = ap Fails h.1
-  fails-finding (ceased a b c) n f = absurd (c (sym a ∙ n))
+  fails_finding (fine {a = onward s} z h) n f = absurd (true≢false (sym h.0 ∙ f))
+  fails_finding (fine {a = failed k} z h) n f = ap Fails h.1
+  fails_finding (ceased a b c) n f = absurd (c (sym a ∙ n))
 
 module _ (doc : List ℕ) (r : read_of doc ≡ Readable) where
-  pub all-declared : Declares doc (names_of (paragraphsFrom doc (count doc) 1 (length (part doc (count doc)) - 1)))
-  all-declared = record { each = λ i a. rw (document-names doc r) a }
+  pub all_declared : Declares doc (names_of (paragraphs_from doc (count doc) 1 (length (part doc (count doc)) - 1)))
+  all_declared = record { each = λ i a. rw (document_names_lem doc r) a }
 
-  pub run-ending : (s : State) (f : Finding) {y : Judgement} → ((o : Outcome Step) → Told (Stepped (λ z. Unit {0})) y o → f ≡ (ending o).finding) →
-      Told (Stepped (λ z. Unit {0})) y (runParagraphs (paragraphsFrom doc (count doc) 1 (length (part doc (count doc)) - 1)) s empty) → f ≡ (ending (runDocument (tree_of doc) s)).finding
-  unfolding runDocument
-  run-ending s f h t = rw (document-law doc r).tree (h _ t)
+  pub run_ending : (s : State) (f : Finding) {y : Judgement} → ((o : Outcome Step) → Told (Stepped (λ z. Unit {0})) y o → f ≡ (ending o).finding) →
+      Told (Stepped (λ z. Unit {0})) y (run_paragraphs (paragraphs_from doc (count doc) 1 (length (part doc (count doc)) - 1)) s empty) → f ≡ (ending (run_document (tree_of doc) s)).finding
+  unfolding run_document
+  run_ending s f h t = rw (document_law doc r).tree (h _ t)

@@ -4,11 +4,11 @@ ghost use Rattle.std.specs.Prelude.{◌≡◌, ◌≤◌, length};
 ghost use Rattle.reader_rules.specs.Reading.{read_of};
 ghost use Rattle.reader_rules.specs.Decode.{tree_of};
 ghost use Rattle.reader_rules.specs.declared.Reading.TheVariants.{Readable};
-ghost use Rattle.states_rules.specs.Names.{documentNames};
+ghost use Rattle.states_rules.specs.Names.{document_names};
 ghost use Rattle.states_rules.specs.States.{state_of};
 ghost use Rattle.evaluator_rules.specs.Outcomes.{Outcome};
-ghost use Rattle.evaluator_rules.specs.Paragraphs.{Step, runDocument};
-ghost use Rattle.evaluator_rules.specs.Run.{ending, runState, run_of, runWorkWords};
+ghost use Rattle.evaluator_rules.specs.Paragraphs.{Step, run_document};
+ghost use Rattle.evaluator_rules.specs.Run.{ending, run_state, run_of, run_work_words};
 ghost use Rattle.evaluator_operations.specs.Worked.{Told};
 ghost use Rattle.evaluator_scope.specs.Named.{said};
 ghost use Rattle.evaluator_paragraphs.specs.Paragraphs.{Stepped};
@@ -39,8 +39,8 @@ fn finding_of(y: Judgement) -> Finding
 
 // The run over the paragraphs, for a well-formed state.
 fn run_paragraphs(doc: &[u32], state: &[u32], work: &mut [u32]) -> Finding
-    requires { (read_of doc.now ≡ Readable) × (state_of (documentNames (tree_of doc.now)) state.now ≡ Readable) × (runWorkWords ≤ length work.old) }
-    ensures { result ≡ (ending (runDocument (tree_of doc.now) (said doc.now state.now))).finding }
+    requires { (read_of doc.now ≡ Readable) × (state_of (document_names (tree_of doc.now)) state.now ≡ Readable) × (run_work_words ≤ length work.old) }
+    ensures { result ≡ (ending (run_document (tree_of doc.now) (said doc.now state.now))).finding }
 {
     let mut table = [0u32; states::names::TABLE_WORDS];
     states::names::put_names(doc, state, &mut table);
@@ -57,8 +57,8 @@ fn run_paragraphs(doc: &[u32], state: &[u32], work: &mut [u32]) -> Finding
 
 // A readable document, with a work area that is large enough: 41, then the paragraphs.
 fn run_state(doc: &[u32], state: &[u32], work: &mut [u32]) -> Finding
-    requires { (read_of doc.now ≡ Readable) × (runWorkWords ≤ length work.old) }
-    ensures { result ≡ (runState (state_of (documentNames (tree_of doc.now)) state.now) (tree_of doc.now) state.now).finding }
+    requires { (read_of doc.now ≡ Readable) × (run_work_words ≤ length work.old) }
+    ensures { result ≡ (run_state (state_of (document_names (tree_of doc.now)) state.now) (tree_of doc.now) state.now).finding }
 {
     let c = states::first_ill_formed(doc, state);
     match c {

@@ -14,72 +14,72 @@ use Rattle.values.proofs.Encoding.{span_value}
 use Rattle.evaluator_rules.specs.Outcomes.{Outcome, ◌>>=◌, pure}
 use Rattle.evaluator_rules.specs.Environment.{Environment, bind, valued}
 use Rattle.evaluator_rules.specs.Assignments.{Domains, no_more, domain, Flow, go, halt, next, each, assign}
-use Rattle.evaluator_nodes.specs.Turns.{turnAt}
+use Rattle.evaluator_nodes.specs.Turns.{turn_at}
 use Rattle.evaluator_operations.specs.declared.worked.Judgement.{Judgement}
 use Rattle.evaluator_operations.specs.Worked.{Told, fine, ceased, Flowed}
-use Rattle.evaluator_scope.specs.Blocks.{field, Lies, Stored, inWork, Scoped, named, Pending, more, headed, headWords, blockWords}
+use Rattle.evaluator_scope.specs.Blocks.{field, Lies, Stored, in_work, Scoped, named, Pending, more, headed, head_words, block_words}
 use Rattle.evaluator_nodes.specs.Ready.{RestIn, Assigns, SoFar, AssignTold, EachTold}
-use Rattle.evaluator_operations.proofs.ToldLaws.{go-told, halt-told}
-use Rattle.evaluator_operations.proofs.OperationLaws.{narrow-head, narrow-tail}
-use Rattle.evaluator_scope.proofs.BlockLaws.{same_word, same-part, same-less, scoped-same, pending-above, head-take, head-drop, head-name, head-class, head-place, head-length}
+use Rattle.evaluator_operations.proofs.ToldLaws.{go_told, halt_told}
+use Rattle.evaluator_operations.proofs.OperationLaws.{narrow_head, narrow_tail}
+use Rattle.evaluator_scope.proofs.BlockLaws.{same_word, same_part, same_less, scoped_same, pending_above, head_take, head_drop, head_name, head_class, head_place, head_length}
 use Rattle.evaluator_nodes.proofs.TestLaws.{lies_more}
 
 -- whatever the members from here on tell tells of all members: with the work area work₀ and the lent words s₀ at the first, work and s here
 pub record EachLeft (doc state : List ℕ) (n m k c : ℕ) (work₀ s₀ work s : List ℕ) (at left : ℕ) : Type 0 where
   pub each : (after s' : List ℕ) (r : Judgement) → Assigns n (m + 1) work after (EachTold doc k state work n m at left s s' r) → Assigns n (m + 1) work₀ after (EachTold doc k state work₀ n m 2 c s₀ s' r)
 
-pub left-all : (doc state : List ℕ) (n m k c : ℕ) (work s : List ℕ) → EachLeft doc state n m k c work s work s 2 c
-left-all doc state n m k c work s = record { each = λ after s' r a. a }
+pub left_all : (doc state : List ℕ) (n m k c : ℕ) (work s : List ℕ) → EachLeft doc state n m k c work s work s 2 c
+left_all doc state n m k c work s = record { each = λ after s' r a. a }
 
 -- no member more
-pub each-end : (doc state work : List ℕ) (n m k at c : ℕ) (u : List ℕ) (r : Judgement) → c ≡ 0 → r.number ≡ 0 → r.flag ≡ false →
+pub each_end : (doc state work : List ℕ) (n m k at c : ℕ) (u : List ℕ) (r : Judgement) → c ≡ 0 → r.number ≡ 0 → r.flag ≡ false →
     Assigns n (m + 1) work work (EachTold doc k state work n m at c u u r)
 unfolding each count
-each-end doc state work n m k at c u r e z f =
+each_end doc state work n m k at c u r e z f =
     record { kept = refl; pends = λ ds p. p; told = λ scope sc i us ds p vs g ss hs. last i ds scope vs g ss hs }
   where
     last : (i : ℕ) (ds : Domains) (scope : Environment) (vs : Values) → RestIn work n at c vs → (ss : Values) → SoFar doc k u ss →
-        Told (Flowed (SoFar doc k u)) r (each i vs (λ scope' s'. assign ds (turnAt doc k) scope' s') scope ss)
+        Told (Flowed (SoFar doc k u)) r (each i vs (λ scope' s'. assign ds (turn_at doc k) scope' s') scope ss)
     last i ds scope nil g ss hs = fine {a = go ss} z (f, hs)
     last i ds scope (cons v vs) g ss hs = let q = g.counted in absurd (omega arith)
 
 -- a place past the block: no set has a member there
-pub each-past : (doc state work : List ℕ) (n m k at c : ℕ) (u : List ℕ) (r : Judgement) → 64 < at → Assigns n (m + 1) work work (EachTold doc k state work n m at c u u r)
-each-past doc state work n m k at c u r l =
+pub each_past : (doc state work : List ℕ) (n m k at c : ℕ) (u : List ℕ) (r : Judgement) → 64 < at → Assigns n (m + 1) work work (EachTold doc k state work n m at c u u r)
+each_past doc state work n m k at c u r l =
     record { kept = refl; pends = λ ds p. p; told = λ scope sc i us ds p vs g ss hs. let q = g.short in absurd (omega arith) }
 
-module _ (doc state w0 w1 w2 : List ℕ) (n m k at c here len : ℕ) (s s1 : List ℕ) (x : Judgement) (eh : here ≡ blockWords * n + (4 + at)) (el : len ≡ span (drop here w0))
-    (e1 : w1 ≡ headed w0 n (get_or w0 (blockWords * n) 0) 2 here len) (long : blockWords * (n + 1) ≤ length w0) (A : Assigns (n + 1) m w1 w2 (AssignTold doc k state w1 (n + 1) m s s1 x)) (some : c ≡ 0 → ⊥) where
-  above4 : drop (blockWords * n + headWords) w1 ≡ drop (blockWords * n + headWords) w0
-  above4 = rw e1 (head-drop w0 n (get_or w0 (blockWords * n) 0) 2 here len)
+module _ (doc state w0 w1 w2 : List ℕ) (n m k at c here len : ℕ) (s s1 : List ℕ) (x : Judgement) (eh : here ≡ block_words * n + (4 + at)) (el : len ≡ span (drop here w0))
+    (e1 : w1 ≡ headed w0 n (get_or w0 (block_words * n) 0) 2 here len) (long : block_words * (n + 1) ≤ length w0) (A : Assigns (n + 1) m w1 w2 (AssignTold doc k state w1 (n + 1) m s s1 x)) (some : c ≡ 0 → ⊥) where
+  above4 : drop (block_words * n + head_words) w1 ≡ drop (block_words * n + head_words) w0
+  above4 = rw e1 (head_drop w0 n (get_or w0 (block_words * n) 0) 2 here len)
 
-  below0 : take (blockWords * n) w1 ≡ take (blockWords * n) w0
-  below0 = rw e1 (head-take w0 n (get_or w0 (blockWords * n) 0) 2 here len)
+  below0 : take (block_words * n) w1 ≡ take (block_words * n) w0
+  below0 = rw e1 (head_take w0 n (get_or w0 (block_words * n) 0) 2 here len)
 
-  each-kept : take (blockWords * n) w2 ≡ take (blockWords * n) w0
-  each-kept = same-less (blockWords * (n + 1)) w1 w2 A.kept (blockWords * n) (omega arith) ∙ below0
+  each_kept : take (block_words * n) w2 ≡ take (block_words * n) w0
+  each_kept = same_less (block_words * (n + 1)) w1 w2 A.kept (block_words * n) (omega arith) ∙ below0
 
-  drop-same : (j : ℕ) → blockWords * n + headWords ≤ j → drop j w1 ≡ drop j w0
-  drop-same j l =
-      let q : j ≡ blockWords * n + headWords + (j - (blockWords * n + headWords)) = omega arith in
-      rw q (sym (drop-drop (j - (blockWords * n + headWords)) (blockWords * n + headWords) w1) ∙ ap (λ (y : List ℕ). drop (j - (blockWords * n + headWords)) y) above4 ∙ drop-drop (j - (blockWords * n + headWords)) (blockWords * n + headWords) w0)
+  drop_same : (j : ℕ) → block_words * n + head_words ≤ j → drop j w1 ≡ drop j w0
+  drop_same j l =
+      let q : j ≡ block_words * n + head_words + (j - (block_words * n + head_words)) = omega arith in
+      rw q (sym (drop-drop (j - (block_words * n + head_words)) (block_words * n + head_words) w1) ∙ ap (λ (y : List ℕ). drop (j - (block_words * n + head_words)) y) above4 ∙ drop-drop (j - (block_words * n + head_words)) (block_words * n + head_words) w0)
 
   -- the words of block n stay
-  block_same : (j : ℕ) (ws : List ℕ) → blockWords * n + headWords ≤ j → j + length ws ≤ blockWords * (n + 1) → Lies w0 j ws → Lies w2 j ws
-  block_same j ws a b l = same-part (blockWords * (n + 1)) w1 w2 A.kept j (length ws) b ∙ ap (λ (y : List ℕ). take (length ws) y) (drop-same j a) ∙ l
+  block_same : (j : ℕ) (ws : List ℕ) → block_words * n + head_words ≤ j → j + length ws ≤ block_words * (n + 1) → Lies w0 j ws → Lies w2 j ws
+  block_same j ws a b l = same_part (block_words * (n + 1)) w1 w2 A.kept j (length ws) b ∙ ap (λ (y : List ℕ). take (length ws) y) (drop_same j a) ∙ l
 
-  name-same : field w2 n 0 ≡ field w0 n 0
-  name-same =
-      let q : blockWords * n ≡ blockWords * n + 0 = omega arith in
-      same_word (blockWords * (n + 1)) w1 w2 A.kept (blockWords * n + 0) (omega arith) ∙ (rw e1 (head-name w0 n (get_or w0 (blockWords * n) 0) 2 here len (omega arith))) ∙ ap (λ (j : ℕ). get_or w0 j 0) q
+  name_same : field w2 n 0 ≡ field w0 n 0
+  name_same =
+      let q : block_words * n ≡ block_words * n + 0 = omega arith in
+      same_word (block_words * (n + 1)) w1 w2 A.kept (block_words * n + 0) (omega arith) ∙ (rw e1 (head_name w0 n (get_or w0 (block_words * n) 0) 2 here len (omega arith))) ∙ ap (λ (j : ℕ). get_or w0 j 0) q
 
-  each-pends : (ds : Domains) → Pending w0 n (m + 1) ds → Pending w2 n (m + 1) ds
-  each-pends ds p = subst (λ (j : ℕ). Pending w2 n j ds) (sym (add-one m)) (keep_all ds (subst (λ (j : ℕ). Pending w0 n j ds) (add-one m) p))
+  each_pends : (ds : Domains) → Pending w0 n (m + 1) ds → Pending w2 n (m + 1) ds
+  each_pends ds p = subst (λ (j : ℕ). Pending w2 n j ds) (sym (add-one m)) (keep_all ds (subst (λ (j : ℕ). Pending w0 n j ds) (add-one m) p))
     where
       keep_all : (es : Domains) → Pending w0 n (suc m) es → Pending w2 n (suc m) es
       keep_all (domain i us es) (more e l short nr p) =
-          more (name-same ∙ e) (block_same (blockWords * n + headWords) (encode (Value.set us)) (omega arith) (omega arith) l) short nr
-          (subst (λ (j : ℕ). Pending w2 j m es) (add-one n) (A.pends es (subst (λ (j : ℕ). Pending w1 j m es) (sym (add-one n)) (pending-above w0 w1 (blockWords * n + headWords) above4 (suc n) m (omega arith) p))))
+          more (name_same ∙ e) (block_same (block_words * n + head_words) (encode (Value.set us)) (omega arith) (omega arith) l) short nr
+          (subst (λ (j : ℕ). Pending w2 j m es) (add-one n) (A.pends es (subst (λ (j : ℕ). Pending w1 j m es) (sym (add-one n)) (pending_above w0 w1 (block_words * n + head_words) above4 (suc n) m (omega arith) p))))
 
   -- the next member and the rest
   module _ (v : Value) (vs : Values) (g : RestIn w0 n at c (cons v vs)) where
@@ -87,102 +87,102 @@ module _ (doc state w0 w1 w2 : List ℕ) (n m k at c here len : ℕ) (s s1 : Lis
     unfolding encodes
     lies0 = rw eh g.lies
 
-    next-len : len ≡ length (encode v)
+    next_len : len ≡ length (encode v)
     unfolding encodes
-    next-len =
+    next_len =
         let a = g.short in
         let b = length-append (encode v) (encodes vs) in
         el ∙ (rw (lies_more w0 here v vs lies0) (span_value v _ (omega arith)))
 
-    next-stored : Stored (take len (drop here w1)) v
+    next_stored : Stored (take len (drop here w1)) v
     unfolding encodes
-    next-stored =
+    next_stored =
         let a = g.short in
         let b = length-append (encode v) (encodes vs) in
         record {
           words =
-              ap (λ (j : ℕ). take j (drop here w1)) next-len ∙ ap (λ (y : List ℕ). take (length (encode v)) y) (drop-same here (omega arith) ∙ lies_more w0 here v vs lies0)
+              ap (λ (j : ℕ). take j (drop here w1)) next_len ∙ ap (λ (y : List ℕ). take (length (encode v)) y) (drop_same here (omega arith) ∙ lies_more w0 here v vs lies0)
               ∙ take_at (encode v) _ (length (encode v)) refl;
           short = omega arith;
-          narrow = narrow-head v vs g.narrow;
+          narrow = narrow_head v vs g.narrow;
         }
 
-    next-scoped : (scope : Environment) → Scoped state w0 n scope → (i : ℕ) → field w0 n 0 ≡ i → Scoped state w1 (n + 1) (bind i (valued v) scope)
+    next_scoped : (scope : Environment) → Scoped state w0 n scope → (i : ℕ) → field w0 n 0 ≡ i → Scoped state w1 (n + 1) (bind i (valued v) scope)
     unfolding encodes
-    next-scoped scope sc i e =
+    next_scoped scope sc i e =
         let a = g.short in
         let b = length-append (encode v) (encodes vs) in
-        let l4 : blockWords * n + headWords ≤ length w0 = omega arith in
-        let z = next-len in
-        let q : blockWords * n ≡ blockWords * n + 0 = omega arith in
-        let name : field w1 n 0 ≡ get_or w0 (blockWords * n) 0 = (rw e1 (head-name w0 n (get_or w0 (blockWords * n) 0) 2 here len l4)) in
-        let class : field w1 n 1 ≡ 2 = (rw e1 (head-class w0 n (get_or w0 (blockWords * n) 0) 2 here len l4)) in
-        let place : field w1 n 2 ≡ here = (rw e1 (head-place w0 n (get_or w0 (blockWords * n) 0) 2 here len l4)) in
-        let size : field w1 n 3 ≡ len = (rw e1 (head-length w0 n (get_or w0 (blockWords * n) 0) 2 here len l4)) in
+        let l4 : block_words * n + head_words ≤ length w0 = omega arith in
+        let z = next_len in
+        let q : block_words * n ≡ block_words * n + 0 = omega arith in
+        let name : field w1 n 0 ≡ get_or w0 (block_words * n) 0 = (rw e1 (head_name w0 n (get_or w0 (block_words * n) 0) 2 here len l4)) in
+        let class : field w1 n 1 ≡ 2 = (rw e1 (head_class w0 n (get_or w0 (block_words * n) 0) 2 here len l4)) in
+        let place : field w1 n 2 ≡ here = (rw e1 (head_place w0 n (get_or w0 (block_words * n) 0) 2 here len l4)) in
+        let size : field w1 n 3 ≡ len = (rw e1 (head_length w0 n (get_or w0 (block_words * n) 0) 2 here len l4)) in
         rw (add-one n)
-        (named (scoped-same state w0 w1 n below0 sc) (name ∙ ap (λ (j : ℕ). get_or w0 j 0) q ∙ e)
-        (inWork {v = v} class (rw (place, size) (omega arith)) (rw (place, size) next-stored)))
+        (named (scoped_same state w0 w1 n below0 sc) (name ∙ ap (λ (j : ℕ). get_or w0 j 0) q ∙ e)
+        (in_work {v = v} class (rw (place, size) (omega arith)) (rw (place, size) next_stored)))
 
-    next-rest : RestIn w2 n (at + len) (c - 1) vs
+    next_rest : RestIn w2 n (at + len) (c - 1) vs
     unfolding encodes count
-    next-rest =
+    next_rest =
         let a = g.short in
         let b = length-append (encode v) (encodes vs) in
-        let z = next-len in
+        let z = next_len in
         let d = g.counted in
-        let t : blockWords * n + (4 + (at + len)) ≡ here + length (encode v) = omega arith in
-        let l : Lies w0 (blockWords * n + (4 + (at + len))) (encodes vs) =
+        let t : block_words * n + (4 + (at + len)) ≡ here + length (encode v) = omega arith in
+        let l : Lies w0 (block_words * n + (4 + (at + len))) (encodes vs) =
         rw t (ap (λ (y : List ℕ). take (length (encodes vs)) y)
         (sym (drop-drop (length (encode v)) here w0) ∙ ap (λ (y : List ℕ). drop (length (encode v)) y) (lies_more w0 here v vs lies0) ∙ drop_at (encode v) _ (length (encode v)) refl)
         ∙ take_at (encodes vs) _ (length (encodes vs)) refl)
         in
         record {
-          lies = block_same (blockWords * n + (4 + (at + len))) (encodes vs) (omega arith) (omega arith) l;
+          lies = block_same (block_words * n + (4 + (at + len))) (encodes vs) (omega arith) (omega arith) l;
           short = omega arith;
           counted = omega arith;
-          narrow = narrow-tail v vs g.narrow;
+          narrow = narrow_tail v vs g.narrow;
         }
 
-    next-told : (scope : Environment) → Scoped state w0 n scope → (i : ℕ) (us : Values) (ds : Domains) → Pending w0 n (suc m) (domain i us ds) → (ss : Values) → SoFar doc k s ss →
-        Told (Flowed (SoFar doc k s1)) x (assign ds (turnAt doc k) (bind i (valued v) scope) ss)
-    next-told scope sc i us ds (more e l short nr p) ss hs =
-        A.told (bind i (valued v) scope) (next-scoped scope sc i e) ds
-        (subst (λ (j : ℕ). Pending w1 j m ds) (sym (add-one n)) (pending-above w0 w1 (blockWords * n + headWords) above4 (suc n) m (omega arith) p)) ss hs
+    next_told : (scope : Environment) → Scoped state w0 n scope → (i : ℕ) (us : Values) (ds : Domains) → Pending w0 n (suc m) (domain i us ds) → (ss : Values) → SoFar doc k s ss →
+        Told (Flowed (SoFar doc k s1)) x (assign ds (turn_at doc k) (bind i (valued v) scope) ss)
+    next_told scope sc i us ds (more e l short nr p) ss hs =
+        A.told (bind i (valued v) scope) (next_scoped scope sc i e) ds
+        (subst (λ (j : ℕ). Pending w1 j m ds) (sym (add-one n)) (pending_above w0 w1 (block_words * n + head_words) above4 (suc n) m (omega arith) p)) ss hs
 
   -- it stops, or ends all assignments
-  each-stop : (x.number ≡ 0 → ⊥) → EachTold doc k state w0 n m at c s s1 x
+  each_stop : (x.number ≡ 0 → ⊥) → EachTold doc k state w0 n m at c s s1 x
   unfolding each count
-  each-stop z scope sc i us ds p nil g ss hs = absurd (some (sym g.counted))
-  each-stop z scope sc i us ds p (cons v vs) g ss hs = halt-told _ (next-told v vs g scope sc i us ds p ss hs) z
+  each_stop z scope sc i us ds p nil g ss hs = absurd (some (sym g.counted))
+  each_stop z scope sc i us ds p (cons v vs) g ss hs = halt_told _ (next_told v vs g scope sc i us ds p ss hs) z
 
-  each-halt : x.number ≡ 0 → x.flag ≡ true → EachTold doc k state w0 n m at c s s1 x
+  each_halt : x.number ≡ 0 → x.flag ≡ true → EachTold doc k state w0 n m at c s s1 x
   unfolding each next count
-  each-halt z f scope sc i us ds p nil g ss hs = absurd (some (sym g.counted))
-  each-halt z f scope sc i us ds p (cons v vs) g ss hs = go-told (next-told v vs g scope sc i us ds p ss hs) z (λ w j. ended w j)
+  each_halt z f scope sc i us ds p nil g ss hs = absurd (some (sym g.counted))
+  each_halt z f scope sc i us ds p (cons v vs) g ss hs = go_told (next_told v vs g scope sc i us ds p ss hs) z (λ w j. ended w j)
     where
-      ended : (w : Flow) → Flowed (SoFar doc k s1) x w → Told (Flowed (SoFar doc k s1)) x (next (λ s'. each i vs (λ scope' s''. assign ds (turnAt doc k) scope' s'') scope s') w)
+      ended : (w : Flow) → Flowed (SoFar doc k s1) x w → Told (Flowed (SoFar doc k s1)) x (next (λ s'. each i vs (λ scope' s''. assign ds (turn_at doc k) scope' s'') scope s') w)
       ended (go us) j = absurd (true≢false (sym f ∙ j.0))
       ended halt j = fine {a = halt} z f
 
-  each-go : {s2 : List ℕ} {r : Judgement} → x.number ≡ 0 → x.flag ≡ false → EachTold doc k state w2 n m (at + len) (c - 1) s1 s2 r → EachTold doc k state w0 n m at c s s2 r
+  each_go : {s2 : List ℕ} {r : Judgement} → x.number ≡ 0 → x.flag ≡ false → EachTold doc k state w2 n m (at + len) (c - 1) s1 s2 r → EachTold doc k state w0 n m at c s s2 r
   unfolding each next count
-  each-go z f more' scope sc i us ds p nil g ss hs = absurd (some (sym g.counted))
-  each-go {s2} {r} z f more' scope sc i us ds p (cons v vs) g ss hs = go-told (next-told v vs g scope sc i us ds p ss hs) z (λ w j. onward w j)
+  each_go z f more' scope sc i us ds p nil g ss hs = absurd (some (sym g.counted))
+  each_go {s2} {r} z f more' scope sc i us ds p (cons v vs) g ss hs = go_told (next_told v vs g scope sc i us ds p ss hs) z (λ w j. onward w j)
     where
-      onward : (w : Flow) → Flowed (SoFar doc k s1) x w → Told (Flowed (SoFar doc k s2)) r (next (λ s'. each i vs (λ scope' s''. assign ds (turnAt doc k) scope' s'') scope s') w)
+      onward : (w : Flow) → Flowed (SoFar doc k s1) x w → Told (Flowed (SoFar doc k s2)) r (next (λ s'. each i vs (λ scope' s''. assign ds (turn_at doc k) scope' s'') scope s') w)
       onward (go us') j =
-          more' scope (scoped-same state w0 w2 n each-kept sc) i us ds
-          (subst (λ (q : ℕ). Pending w2 n q (domain i us ds)) (add-one m) (each-pends (domain i us ds) (subst (λ (q : ℕ). Pending w0 n q (domain i us ds)) (sym (add-one m)) p)))
-          vs (next-rest v vs g) us' j.1
+          more' scope (scoped_same state w0 w2 n each_kept sc) i us ds
+          (subst (λ (q : ℕ). Pending w2 n q (domain i us ds)) (add-one m) (each_pends (domain i us ds) (subst (λ (q : ℕ). Pending w0 n q (domain i us ds)) (sym (add-one m)) p)))
+          vs (next_rest v vs g) us' j.1
       onward halt j = absurd (true≢false (sym j ∙ f))
 
   -- with the members before
   module _ (c₀ : ℕ) (work₀ s₀ : List ℕ) (h : EachLeft doc state n m k c₀ work₀ s₀ w0 s at c) where
-    pub left-stop : (x.number ≡ 0 → ⊥) → Assigns n (m + 1) work₀ w2 (EachTold doc k state work₀ n m 2 c₀ s₀ s1 x)
-    left-stop z = h.each w2 s1 x (record { kept = each-kept; pends = each-pends; told = each-stop z })
+    pub left_stop : (x.number ≡ 0 → ⊥) → Assigns n (m + 1) work₀ w2 (EachTold doc k state work₀ n m 2 c₀ s₀ s1 x)
+    left_stop z = h.each w2 s1 x (record { kept = each_kept; pends = each_pends; told = each_stop z })
 
-    pub left-halt : x.number ≡ 0 → x.flag ≡ true → Assigns n (m + 1) work₀ w2 (EachTold doc k state work₀ n m 2 c₀ s₀ s1 x)
-    left-halt z f = h.each w2 s1 x (record { kept = each-kept; pends = each-pends; told = each-halt z f })
+    pub left_halt : x.number ≡ 0 → x.flag ≡ true → Assigns n (m + 1) work₀ w2 (EachTold doc k state work₀ n m 2 c₀ s₀ s1 x)
+    left_halt z f = h.each w2 s1 x (record { kept = each_kept; pends = each_pends; told = each_halt z f })
 
-    pub left-more : x.number ≡ 0 → x.flag ≡ false → EachLeft doc state n m k c₀ work₀ s₀ w2 s1 (at + len) (c - 1)
-    left-more z f = record { each = λ after s' r e. h.each after s' r (record { kept = e.kept ∙ each-kept; pends = λ ds p. e.pends ds (each-pends ds p); told = each-go z f e.told }) }
+    pub left_more : x.number ≡ 0 → x.flag ≡ false → EachLeft doc state n m k c₀ work₀ s₀ w2 s1 (at + len) (c - 1)
+    left_more z f = record { each = λ after s' r e. h.each after s' r (record { kept = e.kept ∙ each_kept; pends = λ ds p. e.pends ds (each_pends ds p); told = each_go z f e.told }) }

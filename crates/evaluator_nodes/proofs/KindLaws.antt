@@ -11,51 +11,51 @@ use Rattle.values.specs.Value.{Value, int, encode}
 use Rattle.reader_rules.specs.Kinds.{expressions, predicates}
 use Rattle.reader_rules.specs.Nodes.{kind_at, operand_at}
 use Rattle.reader_rules.specs.Promise.{At}
-use Rattle.reader_rules.specs.Tree.{Expr, reference, number, integers, product, power, application, selection, theta, schemaSet, arithmetic, comprehension, exprNode}
+use Rattle.reader_rules.specs.Tree.{Expr, reference, number, integers, product, power, application, selection, theta, schema_set, arithmetic, comprehension, expr_node}
 use Rattle.reader_rules.specs.Tree as Tree
-use Rattle.reader_rules.specs.Decode.{unlisted, makers, exprAt, predAt}
-use Rattle.reader_rules.proofs.TreeShape.{AllFrom, all-at, ◌▹◌, sub, as-made}
-use Rattle.reader_rules.proofs.TreeExpr.{expr-range, expr-number, expr-node}
-use Rattle.reader_rules.proofs.TreePred.{pred-range, pred-truth}
+use Rattle.reader_rules.specs.Decode.{unlisted, makers, expr_at, pred_at}
+use Rattle.reader_rules.proofs.TreeShape.{AllFrom, all_at, ◌▹◌, sub, as_made}
+use Rattle.reader_rules.proofs.TreeExpr.{expr_range, expr_number, expr_node_lem}
+use Rattle.reader_rules.proofs.TreePred.{pred_range, pred_truth}
 use Rattle.evaluator_rules.specs.Outcomes.{Outcome, pure, stop}
 use Rattle.evaluator_rules.specs.Environment.{Environment}
-use Rattle.evaluator_rules.specs.Rules.{evalExpr, evalPred}
+use Rattle.evaluator_rules.specs.Rules.{eval_expr, eval_pred}
 use Rattle.values.specs.declared.held.Held.{Held}
 use Rattle.evaluator_operations.specs.declared.worked.Judgement.{Judgement}
 use Rattle.evaluator_operations.specs.Worked.{Told, fine, Valued, Judged, Stops}
-use Rattle.evaluator_operations.proofs.ToldLaws.{stop-told}
-use Rattle.evaluator_operations.proofs.OperationLaws.{keep-told}
+use Rattle.evaluator_operations.proofs.ToldLaws.{stop_told}
+use Rattle.evaluator_operations.proofs.OperationLaws.{keep_told}
 
-unfoldable isRun : Expr → Bool
-isRun (reference n i xs) = true
-isRun (number n k) = true
-isRun (integers n) = false
-isRun (Tree.set n xs) = true
-isRun (Tree.tuple n xs) = true
-isRun (product n xs) = true
-isRun (power n a) = true
-isRun (application n f a) = true
-isRun (selection n a i) = false
-isRun (theta n s k) = false
-isRun (schemaSet n i) = false
-isRun (arithmetic n o a b) = true
-isRun (comprehension n t a) = true
+unfoldable is_run : Expr → Bool
+is_run (reference n i xs) = true
+is_run (number n k) = true
+is_run (integers n) = false
+is_run (Tree.set n xs) = true
+is_run (Tree.tuple n xs) = true
+is_run (product n xs) = true
+is_run (power n a) = true
+is_run (application n f a) = true
+is_run (selection n a i) = false
+is_run (theta n s k) = false
+is_run (schema_set n i) = false
+is_run (arithmetic n o a b) = true
+is_run (comprehension n t a) = true
 
-not-run : (e : Expr) → isRun e ≡ false → (scope : Environment) → evalExpr e scope ≡ stop 54 (exprNode e)
-unfolding isRun evalExpr exprNode
-not-run (reference n i xs) h scope = absurd (true≢false h)
-not-run (number n k) h scope = absurd (true≢false h)
-not-run (integers n) h scope = refl
-not-run (Tree.set n xs) h scope = absurd (true≢false h)
-not-run (Tree.tuple n xs) h scope = absurd (true≢false h)
-not-run (product n xs) h scope = absurd (true≢false h)
-not-run (power n a) h scope = absurd (true≢false h)
-not-run (application n f a) h scope = absurd (true≢false h)
-not-run (selection n a i) h scope = refl
-not-run (theta n s k) h scope = refl
-not-run (schemaSet n i) h scope = refl
-not-run (arithmetic n o a b) h scope = absurd (true≢false h)
-not-run (comprehension n t a) h scope = absurd (true≢false h)
+not_run_lem : (e : Expr) → is_run e ≡ false → (scope : Environment) → eval_expr e scope ≡ stop 54 (expr_node e)
+unfolding is_run eval_expr expr_node
+not_run_lem (reference n i xs) h scope = absurd (true≢false h)
+not_run_lem (number n k) h scope = absurd (true≢false h)
+not_run_lem (integers n) h scope = refl
+not_run_lem (Tree.set n xs) h scope = absurd (true≢false h)
+not_run_lem (Tree.tuple n xs) h scope = absurd (true≢false h)
+not_run_lem (product n xs) h scope = absurd (true≢false h)
+not_run_lem (power n a) h scope = absurd (true≢false h)
+not_run_lem (application n f a) h scope = absurd (true≢false h)
+not_run_lem (selection n a i) h scope = refl
+not_run_lem (theta n s k) h scope = refl
+not_run_lem (schema_set n i) h scope = refl
+not_run_lem (arithmetic n o a b) h scope = absurd (true≢false h)
+not_run_lem (comprehension n t a) h scope = absurd (true≢false h)
 
 -- none of the kinds that are worked out: 30, 31, 33 to 37, 41 to 45, 46
 pub record Unrun (q : ℕ) : Type 0 where
@@ -69,14 +69,14 @@ pub record Unrun (q : ℕ) : Type 0 where
   pub h : q ≡ 46 → ⊥
   pub i : 41 ≤ q → q ≤ 45 → ⊥
 
-unrun-kind : (doc : List ℕ) (k : ℕ) → At doc expressions k → Unrun (kind_at doc k) → isRun (exprAt doc k) ≡ false
-unfolding isRun exprAt makers
-unrun-kind doc k h u =
-    let r = expr-range doc k h in
-    as-made doc k (λ n. isRun n.expr ≡ false) (all-at Here 30 17 ones (kind_at doc k) r.0 (omega arith) u)
+unrun_kind : (doc : List ℕ) (k : ℕ) → At doc expressions k → Unrun (kind_at doc k) → is_run (expr_at doc k) ≡ false
+unfolding is_run expr_at makers
+unrun_kind doc k h u =
+    let r = expr_range doc k h in
+    as_made doc k (λ n. is_run n.expr ≡ false) (all_at Here 30 17 ones (kind_at doc k) r.0 (omega arith) u)
   where
     Here : ℕ → Type 0
-    Here q = Unrun q → isRun (get_or makers q unlisted (sub doc k) k (part doc k)).expr ≡ false
+    Here q = Unrun q → is_run (get_or makers q unlisted (sub doc k) k (part doc k)).expr ≡ false
 
     ones : AllFrom Here 30 17
     ones =
@@ -85,18 +85,18 @@ unrun-kind doc k h u =
         ▹ (λ n. absurd (n.i (omega arith) (omega arith))) ▹ (λ n. absurd (n.i (omega arith) (omega arith))) ▹ (λ n. absurd (n.i (omega arith) (omega arith)))
         ▹ (λ n. absurd (n.i (omega arith) (omega arith))) ▹ (λ n. absurd (n.i (omega arith) (omega arith))) ▹ (λ n. absurd (n.h refl)) ▹ tt
 
-pub unrun-told : (doc : List ℕ) (k : ℕ) → At doc expressions k → Unrun (kind_at doc k) → (scope : Environment) {hr : Held} {r : Judgement} → Stops r 54 k → Told (Valued hr) r (evalExpr (exprAt doc k) scope)
-unrun-told doc k h u scope {hr} {r} s =
-    subst (Told (Valued hr) r) (sym (not-run (exprAt doc k) (unrun-kind doc k h u) scope ∙ ap (stop 54) (expr-node doc k h))) (stop-told s (λ z. omega arith))
+pub unrun_told : (doc : List ℕ) (k : ℕ) → At doc expressions k → Unrun (kind_at doc k) → (scope : Environment) {hr : Held} {r : Judgement} → Stops r 54 k → Told (Valued hr) r (eval_expr (expr_at doc k) scope)
+unrun_told doc k h u scope {hr} {r} s =
+    subst (Told (Valued hr) r) (sym (not_run_lem (expr_at doc k) (unrun_kind doc k h u) scope ∙ ap (stop 54) (expr_node_lem doc k h))) (stop_told s (λ z. omega arith))
 
-pub number-told : (doc : List ℕ) (k : ℕ) → At doc expressions k → kind_at doc k ≡ 31 → (z : ℕ) → z ≡ operand_at doc k 1 → (scope : Environment) {R : Judgement → Value → Type 0} {r : Judgement} → R r (int (pos z)) → r.number ≡ 0 →
-    Told R r (evalExpr (exprAt doc k) scope)
-unfolding evalExpr encode
-number-told doc k h q z x scope v n = rw (expr-number doc k h q, ← x) (keep-told k _ _ n (omega arith) v)
+pub number_told : (doc : List ℕ) (k : ℕ) → At doc expressions k → kind_at doc k ≡ 31 → (z : ℕ) → z ≡ operand_at doc k 1 → (scope : Environment) {R : Judgement → Value → Type 0} {r : Judgement} → R r (int (pos z)) → r.number ≡ 0 →
+    Told R r (eval_expr (expr_at doc k) scope)
+unfolding eval_expr encode
+number_told doc k h q z x scope v n = rw (expr_number doc k h q, ← x) (keep_told k _ _ n (omega arith) v)
 
-pub truth-told : (doc : List ℕ) (k : ℕ) → At doc predicates k → kind_at doc k ≡ 20 → (scope : Environment) {r : Judgement} → r.number ≡ 0 → r.flag ≡ true → Told Judged r (evalPred (predAt doc k) scope)
-unfolding evalPred
-truth-told doc k h q scope n f = rw (pred-truth doc k h q) (fine n (record { flag = f }))
+pub truth_told : (doc : List ℕ) (k : ℕ) → At doc predicates k → kind_at doc k ≡ 20 → (scope : Environment) {r : Judgement} → r.number ≡ 0 → r.flag ≡ true → Told Judged r (eval_pred (pred_at doc k) scope)
+unfolding eval_pred
+truth_told doc k h q scope n f = rw (pred_truth doc k h q) (fine n (record { flag = f }))
 
-pub from-25 : (q : ℕ) → 21 ≤ q → (q ≡ 21 → ⊥) → (q ≡ 22 → ⊥) → (q ≡ 23 → ⊥) → (q ≡ 24 → ⊥) → 25 ≤ q
-from-25 q l a b c d = omega arith
+pub from_25 : (q : ℕ) → 21 ≤ q → (q ≡ 21 → ⊥) → (q ≡ 22 → ⊥) → (q ≡ 23 → ⊥) → (q ≡ 24 → ⊥) → 25 ≤ q
+from_25 q l a b c d = omega arith

@@ -9,24 +9,24 @@ use Rattle.reader_rules.specs.Limits.{depth}
 use Rattle.reader_rules.specs.Nodes.{kind_at, operand_at}
 use Rattle.reader_rules.specs.Promise.{At, Lower}
 use Rattle.reader_rules.specs.Tree.{Lines}
-use Rattle.reader_rules.specs.Decode.{exprAt, predAt}
-use Rattle.evaluator_rules.specs.Run.{runWorkWords}
+use Rattle.reader_rules.specs.Decode.{expr_at, pred_at}
+use Rattle.evaluator_rules.specs.Run.{run_work_words}
 use Rattle.evaluator_rules.specs.Outcomes.{Outcome, ◌>>=◌}
 use Rattle.evaluator_rules.specs.Environment.{Environment}
 use Rattle.evaluator_rules.specs.Assignments.{Domains, no_more, domain, Flow, Body, assign, each}
-use Rattle.evaluator_rules.specs.Rules.{evalExpr, evalPred, evalLines}
-use Rattle.evaluator_nodes.specs.Turns.{turnAt}
+use Rattle.evaluator_rules.specs.Rules.{eval_expr, eval_pred, eval_lines}
+use Rattle.evaluator_nodes.specs.Turns.{turn_at}
 use Rattle.evaluator_operations.specs.declared.worked.Judgement.{Judgement}
 use Rattle.evaluator_operations.specs.declared.worked.Worked.{Worked}
-use Rattle.evaluator_operations.specs.Worked.{allNarrow, Told, Valued, Judged, Flowed, SetIn}
-use Rattle.evaluator_scope.specs.Blocks.{Lies, Scoped, Pending, Leaves, blockWords, blockCount}
+use Rattle.evaluator_operations.specs.Worked.{all_narrow, Told, Valued, Judged, Flowed, SetIn}
+use Rattle.evaluator_scope.specs.Blocks.{Lies, Scoped, Pending, Leaves, block_words, block_count}
 use Rattle.values.specs.Value as Value
 
 -- Node k of sort s with n blocks in the work area. There is room for 6 identifiers at each node from here down.
 pub record Ready (doc work : List ℕ) (s n k : ℕ) : Type 0 where
   pub at : At doc s k
-  pub room : n + 6 * (13 - depth doc k) ≤ blockCount
-  pub wide : runWorkWords ≤ length work
+  pub room : n + 6 * (13 - depth doc k) ≤ block_count
+  pub wide : run_work_words ≤ length work
 
 -- w are the words of node k
 pub record Handed (doc work w : List ℕ) (s n k : ℕ) : Type 0 where
@@ -45,8 +45,8 @@ pub record Scoping (doc work : List ℕ) (n m k : ℕ) : Type 0 where
   pub most : k ≤ Layout.count doc
   pub text : Lower doc k texts (operand_at doc k 1)
   pub few : m ≤ 6
-  pub room : n + m + 6 * (12 - depth doc k) ≤ blockCount
-  pub wide : runWorkWords ≤ length work
+  pub room : n + m + 6 * (12 - depth doc k) ≤ block_count
+  pub wide : run_work_words ≤ length work
 
 -- what a result tells, for the scope that the blocks are
 abbrev pub Tells : {A : Type 0} → List ℕ → List ℕ → ℕ → (Judgement → A → Type 0) → Judgement → (Environment → Outcome A) → Type 0
@@ -54,38 +54,38 @@ Tells state work n R r f = (scope : Environment) → Scoped state work n scope �
 
 -- node k worked out as an expression, or as a predicate
 abbrev pub Evaluates : List ℕ → ℕ → ℕ → List ℕ → List ℕ → List ℕ → Worked → Type 0
-Evaluates doc k n state before after r = Leaves n before after (Tells state before n (Valued r.held) r.judgement (evalExpr (exprAt doc k)))
+Evaluates doc k n state before after r = Leaves n before after (Tells state before n (Valued r.held) r.judgement (eval_expr (expr_at doc k)))
 
 abbrev pub Decides : List ℕ → ℕ → ℕ → List ℕ → List ℕ → List ℕ → Judgement → Type 0
-Decides doc k n state before after r = Leaves n before after (Tells state before n Judged r (evalPred (predAt doc k)))
+Decides doc k n state before after r = Leaves n before after (Tells state before n Judged r (eval_pred (pred_at doc k)))
 
 -- the values whose words lie in a value by value, from a place on
 pub record Rest (h : Held) (at n : ℕ) (vs : Values) : Type 0 where
   pub lies : Lies h.words at (encodes vs)
   pub short : at + length (encodes vs) ≤ 64
   pub counted : count vs ≡ n
-  pub narrow : allNarrow vs ≡ true
+  pub narrow : all_narrow vs ≡ true
 
 -- the members whose words lie in block b, from a place on
 pub record RestIn (work : List ℕ) (b at n : ℕ) (vs : Values) : Type 0 where
-  pub lies : Lies work (blockWords * b + (4 + at)) (encodes vs)
+  pub lies : Lies work (block_words * b + (4 + at)) (encodes vs)
   pub short : at + length (encodes vs) ≤ 64
   pub counted : count vs ≡ n
-  pub narrow : allNarrow vs ≡ true
+  pub narrow : all_narrow vs ≡ true
 
 -- the assignments of m identifiers leave them as they are
 pub record Assigns (n m : ℕ) (before after : List ℕ) (Claim : Type 0) : Type 0 where
-  pub kept : take (blockWords * n) after ≡ take (blockWords * n) before
+  pub kept : take (block_words * n) after ≡ take (block_words * n) before
   pub pends : (ds : Domains) → Pending before n m ds → Pending after n m ds
   pub told : Claim
 
-unfoldable pub joinDomains : Domains → Domains → Domains
-joinDomains no_more es = es
-joinDomains (domain i vs ds) es = domain i vs (joinDomains ds es)
+unfoldable pub join_domains : Domains → Domains → Domains
+join_domains no_more es = es
+join_domains (domain i vs ds) es = domain i vs (join_domains ds es)
 
 -- the lines from here on, then the assignments of all identifiers, those of ds first
-unfoldable pub linesThen : List ℕ → ℕ → Lines → Domains → Environment → Outcome Flow
-linesThen doc k ls ds scope = evalLines ls scope >>= λ es. assign (joinDomains ds es) (turnAt doc k) scope Value.nil
+unfoldable pub lines_then : List ℕ → ℕ → Lines → Domains → Environment → Outcome Flow
+lines_then doc k ls ds scope = eval_lines ls scope >>= λ es. assign (join_domains ds es) (turn_at doc k) scope Value.nil
 
 -- the members that a Comprehension has so far, in lent words; a quantifier gathers nothing
 pub record SoFar (doc : List ℕ) (k : ℕ) (u : List ℕ) (vs : Values) : Type 0 where
@@ -95,17 +95,17 @@ pub record SoFar (doc : List ℕ) (k : ℕ) (u : List ℕ) (vs : Values) : Type 
 abbrev pub LinesTold : List ℕ → ℕ → Lines → List ℕ → List ℕ → ℕ → ℕ → List ℕ → List ℕ → Judgement → Type 0
 LinesTold doc k ls state work n m u v r =
     (scope : Environment) → Scoped state work n scope → Scoped state work (n + m) scope → (ds : Domains) → Pending work n m ds → SoFar doc k u Value.nil →
-    Told (Flowed (SoFar doc k v)) r (linesThen doc k ls ds scope)
+    Told (Flowed (SoFar doc k v)) r (lines_then doc k ls ds scope)
 
 abbrev pub AssignTold : List ℕ → ℕ → List ℕ → List ℕ → ℕ → ℕ → List ℕ → List ℕ → Judgement → Type 0
 AssignTold doc k state work n m u v r =
     (scope : Environment) → Scoped state work n scope → (ds : Domains) → Pending work n m ds → (vs : Values) → SoFar doc k u vs →
-    Told (Flowed (SoFar doc k v)) r (assign ds (turnAt doc k) scope vs)
+    Told (Flowed (SoFar doc k v)) r (assign ds (turn_at doc k) scope vs)
 
 abbrev pub EachTold : List ℕ → ℕ → List ℕ → List ℕ → ℕ → ℕ → ℕ → ℕ → List ℕ → List ℕ → Judgement → Type 0
 EachTold doc k state work n m at c u v r =
     (scope : Environment) → Scoped state work n scope → (i : ℕ) (us : Values) (ds : Domains) → Pending work n (suc m) (domain i us ds) → (vs : Values) → RestIn work n at c vs →
-    (ss : Values) → SoFar doc k u ss → Told (Flowed (SoFar doc k v)) r (each i vs (λ scope' s'. assign ds (turnAt doc k) scope' s') scope ss)
+    (ss : Values) → SoFar doc k u ss → Told (Flowed (SoFar doc k v)) r (each i vs (λ scope' s'. assign ds (turn_at doc k) scope' s') scope ss)
 
 abbrev pub BodyTold : List ℕ → ℕ → Body → List ℕ → List ℕ → ℕ → List ℕ → List ℕ → Judgement → Type 0
 BodyTold doc k body state work n u v r =

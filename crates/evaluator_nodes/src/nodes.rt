@@ -7,15 +7,15 @@ ghost use Rattle.values.specs.Value.{Value, Values};
 ghost use Rattle.values.specs.Value as Value;
 ghost use Rattle.values.specs.Held.{keep as words};
 ghost use Rattle.reader_rules.specs.Kinds.{expressions, predicates, texts, lines};
-ghost use Rattle.reader_rules.specs.Limited.{declaredCount};
+ghost use Rattle.reader_rules.specs.Limited.{declared_count};
 ghost use Rattle.reader_rules.specs.Nodes.{kind_at, operand_at};
 ghost use Rattle.reader_rules.specs.Promise.{At, Lower};
-ghost use Rattle.reader_rules.specs.Decode.{exprAt, predAt, exprsFrom, lines_from};
+ghost use Rattle.reader_rules.specs.Decode.{expr_at, pred_at, exprs_from, lines_from};
 ghost use Rattle.evaluator_rules.specs.Environment.{Environment};
 ghost use Rattle.evaluator_rules.specs.Assignments.{Domains};
-ghost use Rattle.evaluator_rules.specs.Operations.{allPass};
-ghost use Rattle.evaluator_rules.specs.Rules.{evalExpr, evalExprs, evalMembers, evalPred, test, testExprs};
-ghost use Rattle.evaluator_nodes.specs.Turns.{body_at, turnAt};
+ghost use Rattle.evaluator_rules.specs.Operations.{all_pass};
+ghost use Rattle.evaluator_rules.specs.Rules.{eval_expr, eval_exprs, eval_members, eval_pred, test, test_exprs};
+ghost use Rattle.evaluator_nodes.specs.Turns.{body_at, turn_at};
 ghost use Rattle.evaluator_operations.specs.Worked.{Holds, Told, Valued, Integral, Counted, Judged, SetIn, Grown, Joined, Tuples, Crossed};
 ghost use Rattle.evaluator_scope.specs.Blocks.{Scoped, Leaves};
 ghost use Rattle.evaluator_nodes.specs.Ready.{Ready, Handed, Operands, Scoping, Assigns, Tells, Rest, Evaluates, Decides, LinesTold, AssignTold, EachTold, BodyTold};
@@ -52,7 +52,7 @@ fn parts(
     s: Held,
 ) -> Worked
     requires { Handed doc.now work.old w.now expressions n k × Operands doc.now w.now k expressions i × (i ≤ 256) }
-    ensures { Leaves n work.old work.new ((ws : List ℕ) → s ≡ words ws → Tells state.now work.old n (Joined ws (length w.now - i) result.held) result.judgement (evalExprs (exprsFrom doc.now k i (length w.now - i)))) }
+    ensures { Leaves n work.old work.new ((ws : List ℕ) → s ≡ words ws → Tells state.now work.old n (Joined ws (length w.now - i) result.held) result.judgement (eval_exprs (exprs_from doc.now k i (length w.now - i)))) }
 {
     if w.len() <= i {
         return go(s, false);
@@ -78,7 +78,7 @@ fn adds(
     s: &mut [u32],
 ) -> Judgement
     requires { Handed doc.now work.old w.now expressions n k × Operands doc.now w.now k expressions i × (i ≤ 256) }
-    ensures { Leaves n work.old work.new ((vs : Values) → SetIn s.old vs → Tells state.now work.old n (Grown s.new) result (λ scope. evalMembers (exprsFrom doc.now k i (length w.now - i)) k scope vs)) }
+    ensures { Leaves n work.old work.new ((vs : Values) → SetIn s.old vs → Tells state.now work.old n (Grown s.new) result (λ scope. eval_members (exprs_from doc.now k i (length w.now - i)) k scope vs)) }
 {
     if w.len() <= i {
         return judge(false);
@@ -182,7 +182,7 @@ fn factors(
     misfit: bool,
 ) -> Worked
     requires { Handed doc.now work.old w.now expressions n k × Operands doc.now w.now k expressions i × (i ≤ 256) }
-    ensures { Leaves n work.old work.new ((rs : List Values) → Tuples s misfit rs → Tells state.now work.old n (Crossed misfit rs result.held) result.judgement (evalExprs (exprsFrom doc.now k i (length w.now - i)))) }
+    ensures { Leaves n work.old work.new ((rs : List Values) → Tuples s misfit rs → Tells state.now work.old n (Crossed misfit rs result.held) result.judgement (eval_exprs (exprs_from doc.now k i (length w.now - i)))) }
 {
     if w.len() <= i {
         return go(s, misfit);
@@ -219,7 +219,7 @@ fn apply(doc: &[u32], state: &[u32], work: &mut [u32], n: usize, k: usize, w: &[
 #[cycle(adds_all_apply_arith_assign_below_body_compr_connect_display_each_each_part_expr_factors_lines_member_negate_parts_power_pred_product_quant_reckon_refers_same_subsets_tests_tuple_tuples_turn_value)]
 fn arith(doc: &[u32], state: &[u32], work: &mut [u32], n: usize, k: usize, w: &[u32]) -> Operand
     requires { Handed doc.now work.old w.now expressions n k × (41 ≤ kind_at doc.now k) × (kind_at doc.now k ≤ 45) }
-    ensures { Leaves n work.old work.new (Tells state.now work.old n (Counted result.integer) result.judgement (evalExpr (exprAt doc.now k))) }
+    ensures { Leaves n work.old work.new (Tells state.now work.old n (Counted result.integer) result.judgement (eval_expr (expr_at doc.now k))) }
 {
     let x = reckon(doc, state, work, n, word(w, 1));
     if x.judgement.number != 0 {
@@ -279,7 +279,7 @@ pub fn expr(doc: &[u32], state: &[u32], work: &mut [u32], n: usize, k: usize) ->
 #[cycle(adds_all_apply_arith_assign_below_body_compr_connect_display_each_each_part_expr_factors_lines_member_negate_parts_power_pred_product_quant_reckon_refers_same_subsets_tests_tuple_tuples_turn_value)]
 fn reckon(doc: &[u32], state: &[u32], work: &mut [u32], n: usize, k: usize) -> Operand
     requires { Ready doc.now work.old expressions n k }
-    ensures { Leaves n work.old work.new (Tells state.now work.old n (Integral result.integer) result.judgement (evalExpr (exprAt doc.now k))) }
+    ensures { Leaves n work.old work.new (Tells state.now work.old n (Integral result.integer) result.judgement (eval_expr (expr_at doc.now k))) }
 {
     let w = part(doc, k);
     let q = word(w, 0);
@@ -423,7 +423,7 @@ pub fn pred(doc: &[u32], state: &[u32], work: &mut [u32], n: usize, k: usize) ->
 #[cycle(adds_all_apply_arith_assign_below_body_compr_connect_display_each_each_part_expr_factors_lines_member_negate_parts_power_pred_product_quant_reckon_refers_same_subsets_tests_tuple_tuples_turn_value)]
 pub fn tests(doc: &[u32], state: &[u32], work: &mut [u32], n: usize, k: usize, v: Held) -> Judgement
     requires { Ready doc.now work.old expressions n k }
-    ensures { Leaves n work.old work.new ((x : Value) → Holds v x → Tells state.now work.old n Judged result (λ scope. test (exprAt doc.now k) scope x)) }
+    ensures { Leaves n work.old work.new ((x : Value) → Holds v x → Tells state.now work.old n Judged result (λ scope. test (expr_at doc.now k) scope x)) }
 {
     let w = part(doc, k);
     let q = word(w, 0);
@@ -439,7 +439,7 @@ pub fn tests(doc: &[u32], state: &[u32], work: &mut [u32], n: usize, k: usize, v
 #[cycle(adds_all_apply_arith_assign_below_body_compr_connect_display_each_each_part_expr_factors_lines_member_negate_parts_power_pred_product_quant_reckon_refers_same_subsets_tests_tuple_tuples_turn_value)]
 fn value(doc: &[u32], state: &[u32], work: &mut [u32], n: usize, k: usize, v: Held) -> Judgement
     requires { Ready doc.now work.old expressions n k × (kind_at doc.now k ≡ 32 → ⊥) × (kind_at doc.now k ≡ 35 → ⊥) × (kind_at doc.now k ≡ 36 → ⊥) }
-    ensures { Leaves n work.old work.new ((x : Value) → Holds v x → Tells state.now work.old n Judged result (λ scope. test (exprAt doc.now k) scope x)) }
+    ensures { Leaves n work.old work.new ((x : Value) → Holds v x → Tells state.now work.old n Judged result (λ scope. test (expr_at doc.now k) scope x)) }
 {
     let x = expr(doc, state, work, n, k);
     let j = x.judgement;
@@ -462,7 +462,7 @@ fn power(
     v: Held,
 ) -> Judgement
     requires { Handed doc.now work.old w.now expressions n k × (kind_at doc.now k ≡ 36) }
-    ensures { Leaves n work.old work.new ((x : Value) → Holds v x → Tells state.now work.old n Judged result (λ scope. test (exprAt doc.now k) scope x)) }
+    ensures { Leaves n work.old work.new ((x : Value) → Holds v x → Tells state.now work.old n Judged result (λ scope. test (expr_at doc.now k) scope x)) }
 {
     if tag_of(v) != value_tags::SET {
         return refuse(findings::MISFIT, k);
@@ -483,7 +483,7 @@ fn all(
     c: usize,
 ) -> Judgement
     requires { Ready doc.now work.old expressions n k × (at + 96 * c < 2 ^ 60) × (c < 2 ^ 32) }
-    ensures { Leaves n work.old work.new ((vs : Values) → Rest v at c vs → Tells state.now work.old n Judged result (λ scope. allPass vs (test (exprAt doc.now k) scope))) }
+    ensures { Leaves n work.old work.new ((vs : Values) → Rest v at c vs → Tells state.now work.old n Judged result (λ scope. all_pass vs (test (expr_at doc.now k) scope))) }
 {
     if c == 0 {
         return judge(true);
@@ -511,7 +511,7 @@ fn product(
     v: Held,
 ) -> Judgement
     requires { Handed doc.now work.old w.now expressions n k × (kind_at doc.now k ≡ 35) }
-    ensures { Leaves n work.old work.new ((x : Value) → Holds v x → Tells state.now work.old n Judged result (λ scope. test (exprAt doc.now k) scope x)) }
+    ensures { Leaves n work.old work.new ((x : Value) → Holds v x → Tells state.now work.old n Judged result (λ scope. test (expr_at doc.now k) scope x)) }
 {
     if tag_of(v) != value_tags::TUPLE {
         return refuse(findings::MISFIT, k);
@@ -536,7 +536,7 @@ fn each_part(
     at: usize,
 ) -> Judgement
     requires { Handed doc.now work.old w.now expressions n k × Operands doc.now w.now k expressions i × (i ≤ 256) × (at + 96 * (256 - i) < 2 ^ 60) }
-    ensures { Leaves n work.old work.new ((vs : Values) → Rest v at (length w.now - i) vs → Tells state.now work.old n Judged result (λ scope. testExprs (exprsFrom doc.now k i (length w.now - i)) vs scope)) }
+    ensures { Leaves n work.old work.new ((vs : Values) → Rest v at (length w.now - i) vs → Tells state.now work.old n Judged result (λ scope. test_exprs (exprs_from doc.now k i (length w.now - i)) vs scope)) }
 {
     if w.len() <= i {
         return judge(true);
@@ -566,7 +566,7 @@ fn lines(
     i: usize,
     s: &mut [u32],
 ) -> Judgement
-    requires { Scoping doc.now work.old n 6 k × (t ≡ operand_at doc.now k 1) × (u.now ≡ part doc.now t) × (2 ≤ i) × (length u.now ≤ 256) × (m + declaredCount (lines_from doc.now t i (length u.now - i)) ≤ 6) }
+    requires { Scoping doc.now work.old n 6 k × (t ≡ operand_at doc.now k 1) × (u.now ≡ part doc.now t) × (2 ≤ i) × (length u.now ≤ 256) × (m + declared_count (lines_from doc.now t i (length u.now - i)) ≤ 6) }
     ensures { Leaves n work.old work.new (LinesTold doc.now k (lines_from doc.now t i (length u.now - i)) state.now work.old n m s.old s.new result) }
 {
     if u.len() <= i {
@@ -659,7 +659,7 @@ fn turn(
     s: &mut [u32],
 ) -> Judgement
     requires { Scoping doc.now work.old n 0 k }
-    ensures { Leaves n work.old work.new (BodyTold doc.now k (turnAt doc.now k) state.now work.old n s.old s.new result) }
+    ensures { Leaves n work.old work.new (BodyTold doc.now k (turn_at doc.now k) state.now work.old n s.old s.new result) }
 {
     let t = word(part(doc, k), 1);
     let x = pred(doc, state, work, n, word(part(doc, t), 1));

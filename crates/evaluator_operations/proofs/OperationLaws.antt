@@ -19,309 +19,309 @@ use Rattle.values.specs.declared.order.Order.TheVariants.{Less, Same, Greater}
 use Rattle.values.specs.declared.sets.Applied.{Applied}
 use Rattle.values.specs.declared.sets.Applied.TheVariants.{Found, Undefined}
 use Rattle.values.specs.declared.sets.Applied.TheVariants as Sets
-use Rattle.values.proofs.Applying.{Shows, apply-value}
+use Rattle.values.proofs.Applying.{Shows, apply_value_lem}
 use Rattle.reader_rules.specs.Tree.{plus, minus, times, quotient, remainder, and, or, implies, forall, exists}
-use Rattle.reader_rules.specs.Decode.{operatorOf, connectiveOf, quantifierOf}
+use Rattle.reader_rules.specs.Decode.{operator_of, connective_of, quantifier_of}
 use Rattle.evaluator_operations.specs.declared.logic.Decision.TheVariants.{Known, Right}
-use Rattle.evaluator_operations.specs.Steps.{decisionOf, verdictOf, arithmeticOf, atMostOf, integerTest, image_of}
-use Rattle.evaluator_rules.specs.Rules.{amongMembers}
-use Rattle.evaluator_operations.proofs.ToldLaws.{at-stop, at-pure}
-use Rattle.values.specs.SetValues.{isIn, insertValue, insertBy, Image, found, misfit, undefined, applyValue}
+use Rattle.evaluator_operations.specs.Steps.{decision_of, verdict_of, arithmetic_of, at_most_of, integer_test, image_of}
+use Rattle.evaluator_rules.specs.Rules.{among_members}
+use Rattle.evaluator_operations.proofs.ToldLaws.{at_stop, at_pure}
+use Rattle.values.specs.SetValues.{is_in, insert_value, insert_by, Image, found, misfit, undefined, apply_value}
 use Rattle.values.specs.declared.held.Held.{Held}
 use Rattle.values.specs.declared.numbers.Number.{Number}
 use Rattle.values.specs.declared.numbers.Number.TheVariants.{Integer, Misfit}
-use Rattle.values.proofs.Holding.{held-part, held-words}
-use Rattle.values.proofs.IntegerValues.{number-value}
+use Rattle.values.proofs.Holding.{held_part, held_words}
+use Rattle.values.proofs.IntegerValues.{number_value}
 use Rattle.words.proofs.Loops.{and_left, and_right}
-use Rattle.evaluator_rules.specs.WordCount.{wordCount}
-use Rattle.evaluator_rules.specs.Outcomes.{Outcome, ◌>>=◌, pure, stop, keepIf, keep}
-use Rattle.evaluator_rules.specs.Operations.{asInteger, asSet, asTuple, addIf, add, image, findPair, keepInteger, calculate}
+use Rattle.evaluator_rules.specs.WordCount.{word_count}
+use Rattle.evaluator_rules.specs.Outcomes.{Outcome, ◌>>=◌, pure, stop, keep_if, keep}
+use Rattle.evaluator_rules.specs.Operations.{as_integer, as_set, as_tuple, add_if, add, image, find_pair, keep_integer, calculate}
 use Rattle.evaluator_rules.specs.Applications.{pair, Among, here, later}
-use Rattle.evaluator_rules.proofs.Images.{Finds, findsOne, finds, found_among, applied-words}
+use Rattle.evaluator_rules.proofs.Images.{Finds, finds_one, finds, found_among, applied_words}
 use Rattle.evaluator_operations.specs.declared.worked.Judgement.{Judgement}
-use Rattle.evaluator_operations.specs.Worked.{narrow, allNarrow, Holds, Told, fine, ceased, Valued, Integral, Counted, Judged, Stops}
+use Rattle.evaluator_operations.specs.Worked.{narrow, all_narrow, Holds, Told, fine, ceased, Valued, Integral, Counted, Judged, Stops}
 
 -- the words that are held
 pub held_whole : (h : Held) (v : Value) → Holds h v → take h.len h.words ≡ encode v
-held_whole h v g = held-part h (encode v) g.words g.short
+held_whole h v g = held_part h (encode v) g.words g.short
 
 -- a value that is complete
-pub keep-told : (k : ℕ) (v : Value) {R : Judgement → Value → Type 0} (r : Judgement) → r.number ≡ 0 → length (encode v) ≤ 64 → R r v → Told R r (keep k v)
-unfolding keep keepIf wordCount
-keep-told k v r z l g = rw (le-leb (length (encode v)) 64 l) (fine z g)
+pub keep_told : (k : ℕ) (v : Value) {R : Judgement → Value → Type 0} (r : Judgement) → r.number ≡ 0 → length (encode v) ≤ 64 → R r v → Told R r (keep k v)
+unfolding keep keep_if word_count
+keep_told k v r z l g = rw (le-leb (length (encode v)) 64 l) (fine z g)
 
-pub keep-fine : (k : ℕ) (v : Value) {h : Held} (r : Judgement) → r.number ≡ 0 → Holds h v → Told (Valued h) r (keep k v)
-keep-fine k v r z g = keep-told k v r z g.short (record { held = g })
+pub keep_fine : (k : ℕ) (v : Value) {h : Held} (r : Judgement) → r.number ≡ 0 → Holds h v → Told (Valued h) r (keep k v)
+keep_fine k v r z g = keep_told k v r z g.short (record { held = g })
 
-pub keep-over : (k : ℕ) (v : Value) {h : Held} (r : Judgement) → Stops r 55 k → 64 < length (encode v) → Told (Valued h) r (keep k v)
-unfolding keep keepIf wordCount
-keep-over k v r s h = rw (lt-leb (length (encode v)) 64 h) (ceased s.number s.place (λ e. omega arith))
+pub keep_over : (k : ℕ) (v : Value) {h : Held} (r : Judgement) → Stops r 55 k → 64 < length (encode v) → Told (Valued h) r (keep k v)
+unfolding keep keep_if word_count
+keep_over k v r s h = rw (lt-leb (length (encode v)) 64 h) (ceased s.number s.place (λ e. omega arith))
 
 -- what a value is as an integer
-pub integer-yes : (k : ℕ) (x : Value) → narrow x ≡ true → (z : ℤ) → Integer z ≡ number_of (encode x) → asInteger k x ≡ pure z
-unfolding asInteger narrow number_of encode
-integer-yes k (int y) h z e = let q : y ≡ z = cc (number-value y h) in rw q
-integer-yes k (element g j) h z e = let q : ◌≡◌ {A = ℕ} 0 1 = cc in absurd (omega arith)
-integer-yes k (set vs) h z e = let q : ◌≡◌ {A = ℕ} 0 1 = cc in absurd (omega arith)
-integer-yes k (tuple vs) h z e = let q : ◌≡◌ {A = ℕ} 0 1 = cc in absurd (omega arith)
+pub integer_yes : (k : ℕ) (x : Value) → narrow x ≡ true → (z : ℤ) → Integer z ≡ number_of (encode x) → as_integer k x ≡ pure z
+unfolding as_integer narrow number_of encode
+integer_yes k (int y) h z e = let q : y ≡ z = cc (number_value y h) in rw q
+integer_yes k (element g j) h z e = let q : ◌≡◌ {A = ℕ} 0 1 = cc in absurd (omega arith)
+integer_yes k (set vs) h z e = let q : ◌≡◌ {A = ℕ} 0 1 = cc in absurd (omega arith)
+integer_yes k (tuple vs) h z e = let q : ◌≡◌ {A = ℕ} 0 1 = cc in absurd (omega arith)
 
-pub integer-no : (k : ℕ) (x : Value) → Misfit ≡ number_of (encode x) → asInteger k x ≡ stop 51 k
-unfolding asInteger number_of encode
-integer-no k (int y) e = let q : ◌≡◌ {A = ℕ} 0 1 = cc in absurd (omega arith)
-integer-no k (element g j) e = refl
-integer-no k (set vs) e = refl
-integer-no k (tuple vs) e = refl
+pub integer_no : (k : ℕ) (x : Value) → Misfit ≡ number_of (encode x) → as_integer k x ≡ stop 51 k
+unfolding as_integer number_of encode
+integer_no k (int y) e = let q : ◌≡◌ {A = ℕ} 0 1 = cc in absurd (omega arith)
+integer_no k (element g j) e = refl
+integer_no k (set vs) e = refl
+integer_no k (tuple vs) e = refl
 
 -- an integer is what it counts, and held it is a value
-pub counted-integral : {z : Number} {r : Judgement} {o : Outcome Value} → Told (Counted z) r o → Told (Integral z) r o
+pub counted_integral : {z : Number} {r : Judgement} {o : Outcome Value} → Told (Counted z) r o → Told (Integral z) r o
 unfolding narrow number_of encode
-counted-integral (fine {a = v} z c) =
-    fine z (record { held = record { integer = c.integer ∙ sym (number-value c.count c.narrow) ∙ ap (λ (u : Value). number_of (encode u)) (sym c.value); narrow = ap narrow c.value ∙ c.narrow } })
-counted-integral (ceased a b c) = ceased a b c
+counted_integral (fine {a = v} z c) =
+    fine z (record { held = record { integer = c.integer ∙ sym (number_value c.count c.narrow) ∙ ap (λ (u : Value). number_of (encode u)) (sym c.value); narrow = ap narrow c.value ∙ c.narrow } })
+counted_integral (ceased a b c) = ceased a b c
 
-pub valued-integral : {h : Held} {z : Number} {r : Judgement} {o : Outcome Value} → ((x : Value) → Holds h x → z ≡ number_of (encode x)) → Told (Valued h) r o → Told (Integral z) r o
-valued-integral e (fine {a = v} z g) = fine z (record { held = record { integer = e v g.held; narrow = g.held.narrow } })
-valued-integral e (ceased a b c) = ceased a b c
+pub valued_integral : {h : Held} {z : Number} {r : Judgement} {o : Outcome Value} → ((x : Value) → Holds h x → z ≡ number_of (encode x)) → Told (Valued h) r o → Told (Integral z) r o
+valued_integral e (fine {a = v} z g) = fine z (record { held = record { integer = e v g.held; narrow = g.held.narrow } })
+valued_integral e (ceased a b c) = ceased a b c
 
-pub counted-kept : (k : ℕ) (i : ℤ) (z : Number) (r : Judgement) → z ≡ Integer i → in32 i ≡ true → r.number ≡ 0 → Told (Counted z) r (keep k (int i))
-unfolding keep keepIf wordCount encode
-counted-kept k i z r e h n = fine n (record { count = i; integer = e; value = refl; narrow = h })
+pub counted_kept : (k : ℕ) (i : ℤ) (z : Number) (r : Judgement) → z ≡ Integer i → in32 i ≡ true → r.number ≡ 0 → Told (Counted z) r (keep k (int i))
+unfolding keep keep_if word_count encode
+counted_kept k i z r e h n = fine n (record { count = i; integer = e; value = refl; narrow = h })
 
-pub counted-valued : {z : Number} {h : Held} {r s : Judgement} {o : Outcome Value} (i : ℤ) → Told (Counted z) r o → r.number ≡ 0 → z ≡ Integer i → Valued h s (int i) → s.number ≡ 0 → Told (Valued h) s o
-counted-valued {h = h} {s = s} i (fine {a = v} n c) y e g m =
+pub counted_valued : {z : Number} {h : Held} {r s : Judgement} {o : Outcome Value} (i : ℤ) → Told (Counted z) r o → r.number ≡ 0 → z ≡ Integer i → Valued h s (int i) → s.number ≡ 0 → Told (Valued h) s o
+counted_valued {h = h} {s = s} i (fine {a = v} n c) y e g m =
     let q : c.count ≡ i = cc c.integer in
     fine m (subst (Valued h s) (sym (c.value ∙ ap int q)) g)
-counted-valued i (ceased a b c) y e g m = absurd (c (sym a ∙ y))
+counted_valued i (ceased a b c) y e g m = absurd (c (sym a ∙ y))
 
-pub counted-some : {z : Number} {r : Judgement} {o : Outcome Value} → Told (Counted z) r o → r.number ≡ 0 → z ≡ Misfit → ⊥
-counted-some (fine n c) y e = let w = c.integer in let q : ◌≡◌ {A = ℕ} 0 1 = cc in absurd (omega arith)
-counted-some (ceased a b c) y e = c (sym a ∙ y)
+pub counted_some : {z : Number} {r : Judgement} {o : Outcome Value} → Told (Counted z) r o → r.number ≡ 0 → z ≡ Misfit → ⊥
+counted_some (fine n c) y e = let w = c.integer in let q : ◌≡◌ {A = ℕ} 0 1 = cc in absurd (omega arith)
+counted_some (ceased a b c) y e = c (sym a ∙ y)
 
 -- the tag of a value's words says its sort
-pub tag-set : (k : ℕ) (x : Value) → get_or (encode x) 0 0 ≡ 3 → (vs : Values) × (x ≡ set vs)
+pub tag_set : (k : ℕ) (x : Value) → get_or (encode x) 0 0 ≡ 3 → (vs : Values) × (x ≡ set vs)
 unfolding encode
-tag-set k (int y) e = absurd (omega arith)
-tag-set k (element g j) e = absurd (omega arith)
-tag-set k (set vs) e = (vs, refl)
-tag-set k (tuple vs) e = absurd (omega arith)
+tag_set k (int y) e = absurd (omega arith)
+tag_set k (element g j) e = absurd (omega arith)
+tag_set k (set vs) e = (vs, refl)
+tag_set k (tuple vs) e = absurd (omega arith)
 
-pub tag-none : (k : ℕ) (x : Value) → (get_or (encode x) 0 0 ≡ 3 → ⊥) → asSet k x ≡ stop 51 k
-unfolding encode asSet
-tag-none k (int y) e = refl
-tag-none k (element g j) e = refl
-tag-none k (set vs) e = absurd (e refl)
-tag-none k (tuple vs) e = refl
+pub tag_none : (k : ℕ) (x : Value) → (get_or (encode x) 0 0 ≡ 3 → ⊥) → as_set k x ≡ stop 51 k
+unfolding encode as_set
+tag_none k (int y) e = refl
+tag_none k (element g j) e = refl
+tag_none k (set vs) e = absurd (e refl)
+tag_none k (tuple vs) e = refl
 
-pub tag-tuple : (k : ℕ) (x : Value) → get_or (encode x) 0 0 ≡ 4 → (vs : Values) × (x ≡ tuple vs)
+pub tag_tuple : (k : ℕ) (x : Value) → get_or (encode x) 0 0 ≡ 4 → (vs : Values) × (x ≡ tuple vs)
 unfolding encode
-tag-tuple k (int y) e = absurd (omega arith)
-tag-tuple k (element g j) e = absurd (omega arith)
-tag-tuple k (set vs) e = absurd (omega arith)
-tag-tuple k (tuple vs) e = (vs, refl)
+tag_tuple k (int y) e = absurd (omega arith)
+tag_tuple k (element g j) e = absurd (omega arith)
+tag_tuple k (set vs) e = absurd (omega arith)
+tag_tuple k (tuple vs) e = (vs, refl)
 
-pub tag-single : (k : ℕ) (x : Value) → (get_or (encode x) 0 0 ≡ 4 → ⊥) → asTuple k x ≡ stop 51 k
-unfolding encode asTuple
-tag-single k (int y) e = refl
-tag-single k (element g j) e = refl
-tag-single k (set vs) e = refl
-tag-single k (tuple vs) e = absurd (e refl)
+pub tag_single : (k : ℕ) (x : Value) → (get_or (encode x) 0 0 ≡ 4 → ⊥) → as_tuple k x ≡ stop 51 k
+unfolding encode as_tuple
+tag_single k (int y) e = refl
+tag_single k (element g j) e = refl
+tag_single k (set vs) e = refl
+tag_single k (tuple vs) e = absurd (e refl)
 
 -- the first two words that are held
-pub held-tag : (h : Held) (v : Value) → Holds h v → get_or h.words 0 0 ≡ get_or (encode v) 0 0
+pub held_tag : (h : Held) (v : Value) → Holds h v → get_or h.words 0 0 ≡ get_or (encode v) 0 0
 unfolding encode
-held-tag h (int y) g = rw (held-words h (encode (int y)) g.words g.short)
-held-tag h (element f j) g = rw (held-words h (encode (element f j)) g.words g.short)
-held-tag h (set vs) g = rw (held-words h (encode (set vs)) g.words g.short)
-held-tag h (tuple vs) g = rw (held-words h (encode (tuple vs)) g.words g.short)
+held_tag h (int y) g = rw (held_words h (encode (int y)) g.words g.short)
+held_tag h (element f j) g = rw (held_words h (encode (element f j)) g.words g.short)
+held_tag h (set vs) g = rw (held_words h (encode (set vs)) g.words g.short)
+held_tag h (tuple vs) g = rw (held_words h (encode (tuple vs)) g.words g.short)
 
-both-narrow : (a b : Bool) → a ≡ true → b ≡ true → (a && b) ≡ true
-both-narrow a b p q = rw (p, q)
+both_narrow : (a b : Bool) → a ≡ true → b ≡ true → (a && b) ≡ true
+both_narrow a b p q = rw (p, q)
 
-pub narrow-head : (v : Value) (vs : Values) → allNarrow (cons v vs) ≡ true → narrow v ≡ true
+pub narrow_head : (v : Value) (vs : Values) → all_narrow (cons v vs) ≡ true → narrow v ≡ true
 unfolding narrow
-narrow-head v vs h = and_left (narrow v) (allNarrow vs) h
+narrow_head v vs h = and_left (narrow v) (all_narrow vs) h
 
-pub narrow-tail : (v : Value) (vs : Values) → allNarrow (cons v vs) ≡ true → allNarrow vs ≡ true
+pub narrow_tail : (v : Value) (vs : Values) → all_narrow (cons v vs) ≡ true → all_narrow vs ≡ true
 unfolding narrow
-narrow-tail v vs h = and_right (narrow v) (allNarrow vs) h
+narrow_tail v vs h = and_right (narrow v) (all_narrow vs) h
 
-pub narrow-cons : (v : Value) (vs : Values) → narrow v ≡ true → allNarrow vs ≡ true → allNarrow (cons v vs) ≡ true
+pub narrow_cons : (v : Value) (vs : Values) → narrow v ≡ true → all_narrow vs ≡ true → all_narrow (cons v vs) ≡ true
 unfolding narrow
-narrow-cons v vs p q = both-narrow (narrow v) (allNarrow vs) p q
+narrow_cons v vs p q = both_narrow (narrow v) (all_narrow vs) p q
 
 -- arithmetic, ≤ and ℤ's test, by the integers that the values are
 module _ (k q : ℕ) (x y : Value) (r : Judgement) where
-  pub arithmetic-left : {R : Judgement → Value → Type 0} → Misfit ≡ number_of (encode x) → Stops r 51 k → Told R r (arithmeticOf k q x y)
-  unfolding arithmeticOf
-  arithmetic-left e s = rw (integer-no k x e) (at-stop _ s (λ z. omega arith))
+  pub arithmetic_left : {R : Judgement → Value → Type 0} → Misfit ≡ number_of (encode x) → Stops r 51 k → Told R r (arithmetic_of k q x y)
+  unfolding arithmetic_of
+  arithmetic_left e s = rw (integer_no k x e) (at_stop _ s (λ z. omega arith))
 
-  pub arithmetic-right : {R : Judgement → Value → Type 0} → narrow x ≡ true → (i : ℤ) → Integer i ≡ number_of (encode x) → Misfit ≡ number_of (encode y) → Stops r 51 k → Told R r (arithmeticOf k q x y)
-  unfolding arithmeticOf
-  arithmetic-right h i e f s = rw (integer-yes k x h i e) (at-pure _ _ (rw (integer-no k y f) (at-stop _ s (λ z. omega arith))))
+  pub arithmetic_right : {R : Judgement → Value → Type 0} → narrow x ≡ true → (i : ℤ) → Integer i ≡ number_of (encode x) → Misfit ≡ number_of (encode y) → Stops r 51 k → Told R r (arithmetic_of k q x y)
+  unfolding arithmetic_of
+  arithmetic_right h i e f s = rw (integer_yes k x h i e) (at_pure _ _ (rw (integer_no k y f) (at_stop _ s (λ z. omega arith))))
 
-  pub arithmetic-both : {R : Judgement → Value → Type 0} → narrow x ≡ true → narrow y ≡ true → (i j : ℤ) → Integer i ≡ number_of (encode x) → Integer j ≡ number_of (encode y)
-      → Told R r (keepInteger k (calculate (operatorOf q) i j)) → Told R r (arithmeticOf k q x y)
-  unfolding arithmeticOf
-  arithmetic-both h g i j e f t = rw (integer-yes k x h i e) (at-pure _ _ (rw (integer-yes k y g j f) (at-pure _ _ t)))
+  pub arithmetic_both : {R : Judgement → Value → Type 0} → narrow x ≡ true → narrow y ≡ true → (i j : ℤ) → Integer i ≡ number_of (encode x) → Integer j ≡ number_of (encode y)
+      → Told R r (keep_integer k (calculate (operator_of q) i j)) → Told R r (arithmetic_of k q x y)
+  unfolding arithmetic_of
+  arithmetic_both h g i j e f t = rw (integer_yes k x h i e) (at_pure _ _ (rw (integer_yes k y g j f) (at_pure _ _ t)))
 
-  pub at-most-left : Misfit ≡ number_of (encode x) → Stops r 51 k → Told Judged r (atMostOf k x y)
-  unfolding atMostOf
-  at-most-left e s = rw (integer-no k x e) (at-stop _ s (λ z. omega arith))
+  pub at_most_left : Misfit ≡ number_of (encode x) → Stops r 51 k → Told Judged r (at_most_of k x y)
+  unfolding at_most_of
+  at_most_left e s = rw (integer_no k x e) (at_stop _ s (λ z. omega arith))
 
-  pub at-most-right : narrow x ≡ true → (i : ℤ) → Integer i ≡ number_of (encode x) → Misfit ≡ number_of (encode y) → Stops r 51 k → Told Judged r (atMostOf k x y)
-  unfolding atMostOf
-  at-most-right h i e f s = rw (integer-yes k x h i e) (at-pure _ _ (rw (integer-no k y f) (at-stop _ s (λ z. omega arith))))
+  pub at_most_right : narrow x ≡ true → (i : ℤ) → Integer i ≡ number_of (encode x) → Misfit ≡ number_of (encode y) → Stops r 51 k → Told Judged r (at_most_of k x y)
+  unfolding at_most_of
+  at_most_right h i e f s = rw (integer_yes k x h i e) (at_pure _ _ (rw (integer_no k y f) (at_stop _ s (λ z. omega arith))))
 
-  pub at-most-both : narrow x ≡ true → narrow y ≡ true → (i j : ℤ) → Integer i ≡ number_of (encode x) → Integer j ≡ number_of (encode y)
-      → r.number ≡ 0 → r.flag ≡ le_z i j → Told Judged r (atMostOf k x y)
-  unfolding atMostOf
-  at-most-both h g i j e f z b = rw (integer-yes k x h i e) (at-pure _ _ (rw (integer-yes k y g j f) (at-pure _ _ (fine z (record { flag = b })))))
+  pub at_most_both : narrow x ≡ true → narrow y ≡ true → (i j : ℤ) → Integer i ≡ number_of (encode x) → Integer j ≡ number_of (encode y)
+      → r.number ≡ 0 → r.flag ≡ le_z i j → Told Judged r (at_most_of k x y)
+  unfolding at_most_of
+  at_most_both h g i j e f z b = rw (integer_yes k x h i e) (at_pure _ _ (rw (integer_yes k y g j f) (at_pure _ _ (fine z (record { flag = b })))))
 
-  pub test-integer : narrow x ≡ true → (i : ℤ) → Integer i ≡ number_of (encode x) → r.number ≡ 0 → r.flag ≡ true → Told Judged r (integerTest k x)
-  unfolding integerTest
-  test-integer h i e z b = rw (integer-yes k x h i e) (at-pure _ _ (fine z (record { flag = b })))
+  pub test_integer : narrow x ≡ true → (i : ℤ) → Integer i ≡ number_of (encode x) → r.number ≡ 0 → r.flag ≡ true → Told Judged r (integer_test k x)
+  unfolding integer_test
+  test_integer h i e z b = rw (integer_yes k x h i e) (at_pure _ _ (fine z (record { flag = b })))
 
-  pub test-other : Misfit ≡ number_of (encode x) → Stops r 51 k → Told Judged r (integerTest k x)
-  unfolding integerTest
-  test-other e s = rw (integer-no k x e) (at-stop _ s (λ z. omega arith))
+  pub test_other : Misfit ≡ number_of (encode x) → Stops r 51 k → Told Judged r (integer_test k x)
+  unfolding integer_test
+  test_other e s = rw (integer_no k x e) (at_stop _ s (λ z. omega arith))
 
   -- Member against a value
-  pub among-set : (vs : Values) → y ≡ set vs → r.number ≡ 0 → r.flag ≡ isIn x vs → Told Judged r (amongMembers k x y)
-  unfolding amongMembers asSet
-  among-set vs e z b = rw e (at-pure _ _ (fine z (record { flag = b })))
+  pub among_set : (vs : Values) → y ≡ set vs → r.number ≡ 0 → r.flag ≡ is_in x vs → Told Judged r (among_members k x y)
+  unfolding among_members as_set
+  among_set vs e z b = rw e (at_pure _ _ (fine z (record { flag = b })))
 
-  pub among-other : (get_or (encode y) 0 0 ≡ 3 → ⊥) → Stops r 51 k → Told Judged r (amongMembers k x y)
-  unfolding amongMembers
-  among-other e s = rw (tag-none k y e) (at-stop _ s (λ z. omega arith))
+  pub among_other : (get_or (encode y) 0 0 ≡ 3 → ⊥) → Stops r 51 k → Told Judged r (among_members k x y)
+  unfolding among_members
+  among_other e s = rw (tag_none k y e) (at_stop _ s (λ z. omega arith))
 
 -- Set members added one at a time
 module _ (k : ℕ) (vs : Values) (x : Value) {R : Judgement → Values → Type 0} (r : Judgement) where
-  pub add-over : 64 < length (encode (set (insertValue x vs))) → Stops r 55 k → Told R r (add k x vs)
-  unfolding add addIf wordCount
-  add-over h s = rw (lt-leb (length (encode (set (insertValue x vs)))) 64 h) (ceased s.number s.place (λ z. omega arith))
+  pub add_over : 64 < length (encode (set (insert_value x vs))) → Stops r 55 k → Told R r (add k x vs)
+  unfolding add add_if word_count
+  add_over h s = rw (lt-leb (length (encode (set (insert_value x vs)))) 64 h) (ceased s.number s.place (λ z. omega arith))
 
-  pub add-fits : length (encode (set (insertValue x vs))) ≤ 64 → r.number ≡ 0 → R r (insertValue x vs) → Told R r (add k x vs)
-  unfolding add addIf wordCount
-  add-fits h z g = rw (le-leb (length (encode (set (insertValue x vs)))) 64 h) (fine z g)
+  pub add_fits : length (encode (set (insert_value x vs))) ≤ 64 → r.number ≡ 0 → R r (insert_value x vs) → Told R r (add k x vs)
+  unfolding add add_if word_count
+  add_fits h z g = rw (le-leb (length (encode (set (insert_value x vs)))) 64 h) (fine z g)
 
-insert-narrow : (vs : Values) (x : Value) → narrow x ≡ true → allNarrow vs ≡ true → allNarrow (insertValue x vs) ≡ true
-unfolding narrow insertValue insertBy
-insert-narrow nil x p q = both-narrow (narrow x) true p refl
-insert-narrow (cons w ws) x p q = go (compare (encode x) (encode w)) (insert-narrow ws x p (and_right (narrow w) (allNarrow ws) q))
+insert_narrow : (vs : Values) (x : Value) → narrow x ≡ true → all_narrow vs ≡ true → all_narrow (insert_value x vs) ≡ true
+unfolding narrow insert_value insert_by
+insert_narrow nil x p q = both_narrow (narrow x) true p refl
+insert_narrow (cons w ws) x p q = go (compare (encode x) (encode w)) (insert_narrow ws x p (and_right (narrow w) (all_narrow ws) q))
   where
-    go : (o : Order) → allNarrow (insertValue x ws) ≡ true → allNarrow (insertBy o x w ws (insertValue x ws)) ≡ true
-    go Less h = both-narrow (narrow x) _ p q
+    go : (o : Order) → all_narrow (insert_value x ws) ≡ true → all_narrow (insert_by o x w ws (insert_value x ws)) ≡ true
+    go Less h = both_narrow (narrow x) _ p q
     go Same h = q
-    go Greater h = both-narrow (narrow w) _ (and_left (narrow w) (allNarrow ws) q) h
+    go Greater h = both_narrow (narrow w) _ (and_left (narrow w) (all_narrow ws) q) h
 
-pub set-narrow : (vs : Values) (x : Value) → narrow x ≡ true → narrow (set vs) ≡ true → narrow (set (insertValue x vs)) ≡ true
+pub set_narrow : (vs : Values) (x : Value) → narrow x ≡ true → narrow (set vs) ≡ true → narrow (set (insert_value x vs)) ≡ true
 unfolding narrow
-set-narrow vs x p q = insert-narrow vs x p q
+set_narrow vs x p q = insert_narrow vs x p q
 
 -- Apply
-member-narrow : {w : Value} {vs : Values} → allNarrow vs ≡ true → Among w vs → narrow w ≡ true
+member_narrow : {w : Value} {vs : Values} → all_narrow vs ≡ true → Among w vs → narrow w ≡ true
 unfolding narrow
-member-narrow {w = w} h (here {vs = vs}) = and_left (narrow w) (allNarrow vs) h
-member-narrow h (later {v = v} {vs = vs} m) = member-narrow (and_right (narrow v) (allNarrow vs) h) m
+member_narrow {w = w} h (here {vs = vs}) = and_left (narrow w) (all_narrow vs) h
+member_narrow h (later {v = v} {vs = vs} m) = member_narrow (and_right (narrow v) (all_narrow vs) h) m
 
-second-narrow : (x z : Value) → narrow (pair x z) ≡ true → narrow z ≡ true
+second_narrow : (x z : Value) → narrow (pair x z) ≡ true → narrow z ≡ true
 unfolding narrow
-second-narrow x z h = and_left (narrow z) true (and_right (narrow x) _ h)
+second_narrow x z h = and_left (narrow z) true (and_right (narrow x) _ h)
 
 -- the answer on a value's words says what Apply gives
 module _ (k : ℕ) (x y : Value) (r : Judgement) (hs : length (encode x) ≤ 64) (hn : narrow x ≡ true) where
-  image-found : {h : Held} (vs : Values) (i : Image) → Finds y vs i → allNarrow vs ≡ true → length (encode (set vs)) ≤ 64 → (at len : ℕ) → Shows (encode (set vs)) (Found at len) i
+  image_found : {h : Held} (vs : Values) (i : Image) → Finds y vs i → all_narrow vs ≡ true → length (encode (set vs)) ≤ 64 → (at len : ℕ) → Shows (encode (set vs)) (Found at len) i
       → r.number ≡ 0 → h ≡ words (take len (drop at (encode (set vs)))) → Told (Valued h) r (image k i >>= λ v. keep k v)
-  unfolding image wordCount
-  image-found vs (found v) (findsOne i) h g at len s z w =
+  unfolding image word_count
+  image_found vs (found v) (finds_one i) h g at len s z w =
       let m = found_among i in
-      at-pure _ _ (keep-fine k v r z (record { words = w ∙ ap words s; short = omega (arith, applied-words i); narrow = second-narrow m.0 v (member-narrow h m.1.1) }))
-  image-found vs misfit f h g at len s z w = absurd s
-  image-found vs undefined f h g at len s z w = absurd s
+      at_pure _ _ (keep_fine k v r z (record { words = w ∙ ap words s; short = omega (arith, applied_words i); narrow = second_narrow m.0 v (member_narrow h m.1.1) }))
+  image_found vs misfit f h g at len s z w = absurd s
+  image_found vs undefined f h g at len s z w = absurd s
 
-  image-misfit : {h : Held} (vs : Values) (i : Image) → Shows (encode (set vs)) Sets.Misfit i → Stops r 51 k → Told (Valued h) r (image k i >>= λ v. keep k v)
+  image_misfit : {h : Held} (vs : Values) (i : Image) → Shows (encode (set vs)) Sets.Misfit i → Stops r 51 k → Told (Valued h) r (image k i >>= λ v. keep k v)
   unfolding image
-  image-misfit vs (found v) s t = absurd s
-  image-misfit vs misfit s t = at-stop _ t (λ z. omega arith)
-  image-misfit vs undefined s t = absurd s
+  image_misfit vs (found v) s t = absurd s
+  image_misfit vs misfit s t = at_stop _ t (λ z. omega arith)
+  image_misfit vs undefined s t = absurd s
 
-  image-none : {h : Held} (vs : Values) (i : Image) → Shows (encode (set vs)) Undefined i → Stops r 52 k → Told (Valued h) r (image k i >>= λ v. keep k v)
+  image_none : {h : Held} (vs : Values) (i : Image) → Shows (encode (set vs)) Undefined i → Stops r 52 k → Told (Valued h) r (image k i >>= λ v. keep k v)
   unfolding image
-  image-none vs (found v) s t = absurd s
-  image-none vs misfit s t = absurd s
-  image-none vs undefined s t = at-stop _ t (λ z. omega arith)
+  image_none vs (found v) s t = absurd s
+  image_none vs misfit s t = absurd s
+  image_none vs undefined s t = at_stop _ t (λ z. omega arith)
 
-  pub apply-found : {h : Held} (at len : ℕ) → Found at len ≡ apply (encode x) (encode y) → r.number ≡ 0 → h ≡ words (take len (drop at (encode x))) → Told (Valued h) r (image_of k x y)
-  unfolding image_of asSet findPair apply encode narrow
-  apply-found {h} at len e z w = go x refl
+  pub apply_found : {h : Held} (at len : ℕ) → Found at len ≡ apply (encode x) (encode y) → r.number ≡ 0 → h ≡ words (take len (drop at (encode x))) → Told (Valued h) r (image_of k x y)
+  unfolding image_of as_set find_pair apply encode narrow
+  apply_found {h} at len e z w = go x refl
     where
-      go : (u : Value) → x ≡ u → Told (Valued h) r (asSet k u >>= λ vs. findPair k y vs >>= λ v. keep k v)
+      go : (u : Value) → x ≡ u → Told (Valued h) r (as_set k u >>= λ vs. find_pair k y vs >>= λ v. keep k v)
       go (int i) q = let f : ◌≡◌ {A = ℕ} 0 1 = cc (ap (λ (t : Value). apply (encode t) (encode y)) q) in absurd (omega arith)
       go (element g j) q = let f : ◌≡◌ {A = ℕ} 0 1 = cc (ap (λ (t : Value). apply (encode t) (encode y)) q) in absurd (omega arith)
       go (set vs) q =
-          let s : Shows (encode (set vs)) (Found at len) (applyValue y vs) =
-          subst (λ (a : Applied). Shows (encode (set vs)) a (applyValue y vs)) (sym (e ∙ ap (λ (t : Value). apply (encode t) (encode y)) q)) (apply-value vs y (rw q at hs)) in
-          at-pure _ _ (image-found vs (applyValue y vs) (finds y vs) (rw q at hn) (rw q at hs) at len s z (rw q at w))
+          let s : Shows (encode (set vs)) (Found at len) (apply_value y vs) =
+          subst (λ (a : Applied). Shows (encode (set vs)) a (apply_value y vs)) (sym (e ∙ ap (λ (t : Value). apply (encode t) (encode y)) q)) (apply_value_lem vs y (rw q at hs)) in
+          at_pure _ _ (image_found vs (apply_value y vs) (finds y vs) (rw q at hn) (rw q at hs) at len s z (rw q at w))
       go (tuple vs) q = let f : ◌≡◌ {A = ℕ} 0 1 = cc (ap (λ (t : Value). apply (encode t) (encode y)) q) in absurd (omega arith)
 
-  pub apply-misfit : {h : Held} → Sets.Misfit ≡ apply (encode x) (encode y) → Stops r 51 k → Told (Valued h) r (image_of k x y)
-  unfolding image_of asSet findPair apply encode
-  apply-misfit {h} e t = go x refl
+  pub apply_misfit : {h : Held} → Sets.Misfit ≡ apply (encode x) (encode y) → Stops r 51 k → Told (Valued h) r (image_of k x y)
+  unfolding image_of as_set find_pair apply encode
+  apply_misfit {h} e t = go x refl
     where
-      go : (u : Value) → x ≡ u → Told (Valued h) r (asSet k u >>= λ vs. findPair k y vs >>= λ v. keep k v)
-      go (int i) q = at-stop _ t (λ z. omega arith)
-      go (element g j) q = at-stop _ t (λ z. omega arith)
+      go : (u : Value) → x ≡ u → Told (Valued h) r (as_set k u >>= λ vs. find_pair k y vs >>= λ v. keep k v)
+      go (int i) q = at_stop _ t (λ z. omega arith)
+      go (element g j) q = at_stop _ t (λ z. omega arith)
       go (set vs) q =
-          let s : Shows (encode (set vs)) Sets.Misfit (applyValue y vs) =
-          subst (λ (a : Applied). Shows (encode (set vs)) a (applyValue y vs)) (sym (e ∙ ap (λ (t : Value). apply (encode t) (encode y)) q)) (apply-value vs y (rw q at hs)) in
-          at-pure _ _ (image-misfit vs (applyValue y vs) s t)
-      go (tuple vs) q = at-stop _ t (λ z. omega arith)
+          let s : Shows (encode (set vs)) Sets.Misfit (apply_value y vs) =
+          subst (λ (a : Applied). Shows (encode (set vs)) a (apply_value y vs)) (sym (e ∙ ap (λ (t : Value). apply (encode t) (encode y)) q)) (apply_value_lem vs y (rw q at hs)) in
+          at_pure _ _ (image_misfit vs (apply_value y vs) s t)
+      go (tuple vs) q = at_stop _ t (λ z. omega arith)
 
-  pub apply-none : {h : Held} → Undefined ≡ apply (encode x) (encode y) → Stops r 52 k → Told (Valued h) r (image_of k x y)
-  unfolding image_of asSet findPair apply encode
-  apply-none {h} e t = go x refl
+  pub apply_none : {h : Held} → Undefined ≡ apply (encode x) (encode y) → Stops r 52 k → Told (Valued h) r (image_of k x y)
+  unfolding image_of as_set find_pair apply encode
+  apply_none {h} e t = go x refl
     where
-      go : (u : Value) → x ≡ u → Told (Valued h) r (asSet k u >>= λ vs. findPair k y vs >>= λ v. keep k v)
+      go : (u : Value) → x ≡ u → Told (Valued h) r (as_set k u >>= λ vs. find_pair k y vs >>= λ v. keep k v)
       go (int i) q = let f : ◌≡◌ {A = ℕ} 0 1 = cc (ap (λ (t : Value). apply (encode t) (encode y)) q) in absurd (omega arith)
       go (element g j) q = let f : ◌≡◌ {A = ℕ} 0 1 = cc (ap (λ (t : Value). apply (encode t) (encode y)) q) in absurd (omega arith)
       go (set vs) q =
-          let s : Shows (encode (set vs)) Undefined (applyValue y vs) =
-          subst (λ (a : Applied). Shows (encode (set vs)) a (applyValue y vs)) (sym (e ∙ ap (λ (t : Value). apply (encode t) (encode y)) q)) (apply-value vs y (rw q at hs)) in
-          at-pure _ _ (image-none vs (applyValue y vs) s t)
+          let s : Shows (encode (set vs)) Undefined (apply_value y vs) =
+          subst (λ (a : Applied). Shows (encode (set vs)) a (apply_value y vs)) (sym (e ∙ ap (λ (t : Value). apply (encode t) (encode y)) q)) (apply_value_lem vs y (rw q at hs)) in
+          at_pure _ _ (image_none vs (apply_value y vs) s t)
       go (tuple vs) q = let f : ◌≡◌ {A = ℕ} 0 1 = cc (ap (λ (t : Value). apply (encode t) (encode y)) q) in absurd (omega arith)
 
 -- kinds 25 to 29 and 41 to 45 by their number
-pub right_side : (q : ℕ) → (q ≡ 26 → ⊥) → Right ≡ decisionOf (connectiveOf q) true
-unfolding decisionOf
-right_side q h = go (q - 25) refl
+pub right_side_lem : (q : ℕ) → (q ≡ 26 → ⊥) → Right ≡ decision_of (connective_of q) true
+unfolding decision_of
+right_side_lem q h = go (q - 25) refl
   where
-    go : (d : ℕ) → q - 25 ≡ d → Right ≡ decisionOf (get_or (and ∷ or ∷ implies ∷ []) d and) true
+    go : (d : ℕ) → q - 25 ≡ d → Right ≡ decision_of (get_or (and ∷ or ∷ implies ∷ []) d and) true
     go zero e = refl
     go (suc zero) e = absurd (h (omega arith))
     go (suc (suc zero)) e = refl
     go (suc (suc (suc d))) e = refl
 
-pub decided-false : (q : ℕ) → (q ≡ 26 → ⊥) → (q ≡ 27 → ⊥) → Known false ≡ decisionOf (connectiveOf q) false
-unfolding decisionOf
-decided-false q h g = go (q - 25) refl
+pub decided_false : (q : ℕ) → (q ≡ 26 → ⊥) → (q ≡ 27 → ⊥) → Known false ≡ decision_of (connective_of q) false
+unfolding decision_of
+decided_false q h g = go (q - 25) refl
   where
-    go : (d : ℕ) → q - 25 ≡ d → Known false ≡ decisionOf (get_or (and ∷ or ∷ implies ∷ []) d and) false
+    go : (d : ℕ) → q - 25 ≡ d → Known false ≡ decision_of (get_or (and ∷ or ∷ implies ∷ []) d and) false
     go zero e = refl
     go (suc zero) e = absurd (h (omega arith))
     go (suc (suc zero)) e = absurd (g (omega arith))
     go (suc (suc (suc d))) e = refl
 
-pub forall-verdict : (q : ℕ) → (q ≡ 29 → ⊥) → (b : Bool) → not b ≡ verdictOf (quantifierOf q) b
-unfolding verdictOf
-forall-verdict q h b = go (q - 28) refl
+pub forall_verdict : (q : ℕ) → (q ≡ 29 → ⊥) → (b : Bool) → not b ≡ verdict_of (quantifier_of q) b
+unfolding verdict_of
+forall_verdict q h b = go (q - 28) refl
   where
-    go : (d : ℕ) → q - 28 ≡ d → not b ≡ verdictOf (get_or (forall ∷ exists ∷ []) d forall) b
+    go : (d : ℕ) → q - 28 ≡ d → not b ≡ verdict_of (get_or (forall ∷ exists ∷ []) d forall) b
     go zero e = refl
     go (suc zero) e = absurd (h (omega arith))
     go (suc (suc d)) e = refl
 
-pub other-plus : (q : ℕ) → (q ≡ 42 → ⊥) → (q ≡ 43 → ⊥) → (q ≡ 44 → ⊥) → (q ≡ 45 → ⊥) → operatorOf q ≡ plus
-other-plus q h2 h3 h4 h5 = go (q - 41) refl
+pub other_plus : (q : ℕ) → (q ≡ 42 → ⊥) → (q ≡ 43 → ⊥) → (q ≡ 44 → ⊥) → (q ≡ 45 → ⊥) → operator_of q ≡ plus
+other_plus q h2 h3 h4 h5 = go (q - 41) refl
   where
     go : (d : ℕ) → q - 41 ≡ d → get_or (plus ∷ minus ∷ times ∷ quotient ∷ remainder ∷ []) d plus ≡ plus
     go zero e = refl

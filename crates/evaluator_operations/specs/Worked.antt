@@ -20,12 +20,12 @@ unfoldable mutual
   pub narrow : Value → Bool
   narrow (int z) = in32 z
   narrow (element g k) = true
-  narrow (set vs) = allNarrow vs
-  narrow (tuple vs) = allNarrow vs
+  narrow (set vs) = all_narrow vs
+  narrow (tuple vs) = all_narrow vs
 
-  pub allNarrow : Values → Bool
-  allNarrow nil = true
-  allNarrow (cons v vs) = narrow v && allNarrow vs
+  pub all_narrow : Values → Bool
+  all_narrow nil = true
+  all_narrow (cons v vs) = narrow v && all_narrow vs
 
 -- a value by value
 pub record Holds (h : Held) (v : Value) : Type 0 where
@@ -81,26 +81,26 @@ pub record Grown (u : List ℕ) (r : Judgement) (vs : Values) : Type 0 where
 pub record Joined (ws : List ℕ) (n : ℕ) (h : Held) (r : Judgement) (vs : Values) : Type 0 where
   pub counted : count vs ≡ n
   pub words : h ≡ keep (ws ++ encodes vs)
-  pub narrow : allNarrow vs ≡ true
+  pub narrow : all_narrow vs ≡ true
 
 -- the tuples of the rows rs, perhaps over 64 words, unless an operand was no set
 pub record Tuples (h : Held) (misfit : Bool) (rs : List Values) : Type 0 where
   pub words : misfit ≡ false → h ≡ keep (encode (set (each tuple rs)))
 
 -- the rows of no operand: one, of no parts
-abbrev pub noParts : List Values
-noParts = nil ∷ []
+abbrev pub no_parts : List Values
+no_parts = nil ∷ []
 
 -- the rows rs with the value x as the next operand
 pub data Crosses (rs : List Values) (misfit : Bool) (h : Held) (r : Judgement) : Value → Type 0 where
-  aSet : {vs : Values} → r.flag ≡ misfit → Tuples h misfit (grow rs vs) → Crosses rs misfit h r (set vs)
-  noSet : {x : Value} → NoSet x → r.flag ≡ true → Crosses rs misfit h r x
+  a_set : {vs : Values} → r.flag ≡ misfit → Tuples h misfit (grow rs vs) → Crosses rs misfit h r (set vs)
+  no_set : {x : Value} → NoSet x → r.flag ≡ true → Crosses rs misfit h r x
 
 -- the rows rs with the values vs as the next operands, one after the other
 pub record Crossed (misfit : Bool) (rs : List Values) (h : Held) (r : Judgement) (vs : Values) : Type 0 where
   pub sets : r.flag ≡ false → (vss : List Values) × AllSets vs vss × (misfit ≡ false) × (h ≡ keep (encode (set (each tuple (grown rs vss)))))
   pub some : r.flag ≡ true → (misfit ≡ true) ⊎ SomeNoSet vs
-  pub narrow : allNarrow vs ≡ true
+  pub narrow : all_narrow vs ≡ true
 
 -- a stop, and what goes on
 pub record Stops (r : Judgement) (n k : ℕ) : Type 0 where

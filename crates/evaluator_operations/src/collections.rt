@@ -4,10 +4,10 @@ ghost use Rattle.values.specs.Held.{keep as words};
 ghost use Rattle.values.specs.Span.{span};
 ghost use Rattle.values.specs.Value.{Value, Values, nil, encode};
 ghost use Rattle.values.specs.Value as Value;
-ghost use Rattle.values.specs.SetValues.{sameValue};
+ghost use Rattle.values.specs.SetValues.{same_value};
 ghost use Rattle.evaluator_rules.specs.Outcomes.{pure, keep};
 ghost use Rattle.evaluator_operations.specs.Steps.{image_of};
-ghost use Rattle.evaluator_rules.specs.Rules.{amongMembers};
+ghost use Rattle.evaluator_rules.specs.Rules.{among_members};
 ghost use Rattle.evaluator_operations.specs.Worked.{narrow, Holds, Told, Valued, Judged};
 
 use crate::worked::{Judgement, Worked, go, judge, refuse, stop};
@@ -37,7 +37,7 @@ pub fn kept(k: usize, v: Held) -> Worked
 
 // = compares words.
 pub fn equal(a: Held, b: Held) -> Judgement
-    ensures { (x y : Value) → Holds a x → Holds b y → Told Judged result (pure (sameValue x y)) }
+    ensures { (x y : Value) → Holds a x → Holds b y → Told Judged result (pure (same_value x y)) }
 {
     let u = a.words;
     let m = a.len;
@@ -49,7 +49,7 @@ pub fn equal(a: Held, b: Held) -> Judgement
 // Member against a value, which must be a set.
 pub fn among(k: usize, v: Held, s: Held) -> Judgement
     requires { k ≤ 1024 }
-    ensures { (x y : Value) → Holds v x → Holds s y → Told Judged result (amongMembers k x y) }
+    ensures { (x y : Value) → Holds v x → Holds s y → Told Judged result (among_members k x y) }
 {
     let u = v.words;
     let m = v.len;

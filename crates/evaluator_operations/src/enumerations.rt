@@ -1,8 +1,8 @@
 // Power and Product as values, each with its findings at node k.
 ghost use Rattle.std.specs.Prelude.{List, ◌≤◌, false};
 ghost use Rattle.values.specs.Value.{Value, Values};
-ghost use Rattle.evaluator_operations.specs.Steps.{powerOf, productOf};
-ghost use Rattle.evaluator_operations.specs.Worked.{Holds, Told, Valued, noParts, Tuples, Crosses, Crossed};
+ghost use Rattle.evaluator_operations.specs.Steps.{power_of, product_of};
+ghost use Rattle.evaluator_operations.specs.Worked.{Holds, Told, Valued, no_parts, Tuples, Crosses, Crossed};
 
 use crate::collections::kept;
 use crate::worked::{Worked, go, stop};
@@ -15,7 +15,7 @@ use words::word;
 // The power of the value v, which must be a set.
 pub fn powered(k: usize, v: Held) -> Worked
     requires { k ≤ 1024 }
-    ensures { (x : Value) → Holds v x → Told (Valued result.held) result.judgement (powerOf k x) }
+    ensures { (x : Value) → Holds v x → Told (Valued result.held) result.judgement (power_of k x) }
 {
     let w = v.words;
     let n = v.len;
@@ -40,7 +40,7 @@ pub fn crossed(s: Held, misfit: bool, v: Held) -> Worked
 // The Product, once its last operand is crossed.
 pub fn multiplied(k: usize, x: Worked) -> Worked
     requires { k ≤ 1024 }
-    ensures { (vs : Values) → Crossed false noParts x.held x.judgement vs → Told (Valued result.held) result.judgement (productOf k vs) }
+    ensures { (vs : Values) → Crossed false no_parts x.held x.judgement vs → Told (Valued result.held) result.judgement (product_of k vs) }
 {
     let j = x.judgement;
     if j.flag {

@@ -1,7 +1,7 @@
 // The connectives and the quantifiers: what truth values decide.
 ghost use Rattle.std.specs.Prelude.{◌≡◌};
-ghost use Rattle.reader_rules.specs.Decode.{connectiveOf, quantifierOf};
-ghost use Rattle.evaluator_operations.specs.Steps.{decisionOf, verdictOf};
+ghost use Rattle.reader_rules.specs.Decode.{connective_of, quantifier_of};
+ghost use Rattle.evaluator_operations.specs.Steps.{decision_of, verdict_of};
 
 use codes::kinds;
 
@@ -13,7 +13,7 @@ pub enum Decision {
 }
 
 pub fn decides(q: usize, left: bool) -> Decision
-    ensures { result ≡ decisionOf (connectiveOf q) left }
+    ensures { result ≡ decision_of (connective_of q) left }
 {
     if q == kinds::OR {
         if left {
@@ -32,7 +32,7 @@ pub fn decides(q: usize, left: bool) -> Decision
 
 // forall is false where it was stopped, and stops at a false; exists is true where it was stopped, and stops at a true. Kinds 28 and 29.
 pub fn verdict(q: usize, b: bool) -> bool
-    ensures { result ≡ verdictOf (quantifierOf q) b }
+    ensures { result ≡ verdict_of (quantifier_of q) b }
 {
     if q == kinds::EXISTS {
         return b;

@@ -2,10 +2,10 @@
 ghost use Rattle.std.specs.Prelude.{◌≡◌, ◌≤◌, pos};
 ghost use Rattle.values.specs.Numbers.{number_of};
 ghost use Rattle.values.specs.Value.{Value, int, encode};
-ghost use Rattle.reader_rules.specs.Decode.{operatorOf};
+ghost use Rattle.reader_rules.specs.Decode.{operator_of};
 ghost use Rattle.evaluator_rules.specs.Outcomes.{Outcome};
-ghost use Rattle.evaluator_rules.specs.Operations.{keepInteger, calculate};
-ghost use Rattle.evaluator_operations.specs.Steps.{arithmeticOf, atMostOf, integerTest};
+ghost use Rattle.evaluator_rules.specs.Operations.{keep_integer, calculate};
+ghost use Rattle.evaluator_operations.specs.Steps.{arithmetic_of, at_most_of, integer_test};
 ghost use Rattle.evaluator_operations.specs.Worked.{Holds, Is, Told, Valued, Integral, Counted, Judged};
 
 use crate::worked::{Judgement, Operand, Worked, found, go, halted, judge, no_operand, refuse};
@@ -25,7 +25,7 @@ fn whole(z: i32) -> Worked
 // An integer that arithmetic gave.
 fn kept_integer(k: usize, z: Integer) -> Operand
     requires { k ≤ 1024 }
-    ensures { Told (Counted result.integer) result.judgement (keepInteger k z) }
+    ensures { Told (Counted result.integer) result.judgement (keep_integer k z) }
 {
     match z {
         Integer::Whole(i) => found(Number::Integer(i)),
@@ -36,7 +36,7 @@ fn kept_integer(k: usize, z: Integer) -> Operand
 
 // Arithmetic of kind q, 41 to 45.
 fn calculate(q: usize, a: i32, b: i32) -> Integer
-    ensures { result ≡ calculate (operatorOf q) a b }
+    ensures { result ≡ calculate (operator_of q) a b }
 {
     match q {
         kinds::MINUS => integer::subtract(a, b),
@@ -58,7 +58,7 @@ fn number(v: Held) -> Number
 
 pub fn arithmetic(k: usize, q: usize, a: Number, b: Number) -> Operand
     requires { k ≤ 1024 }
-    ensures { (x y : Value) → Is a x → Is b y → Told (Counted result.integer) result.judgement (arithmeticOf k q x y) }
+    ensures { (x y : Value) → Is a x → Is b y → Told (Counted result.integer) result.judgement (arithmetic_of k q x y) }
 {
     match a {
         Number::Misfit => no_operand(findings::MISFIT, k),
@@ -71,7 +71,7 @@ pub fn arithmetic(k: usize, q: usize, a: Number, b: Number) -> Operand
 
 pub fn at_most(k: usize, a: Number, b: Number) -> Judgement
     requires { k ≤ 1024 }
-    ensures { (x y : Value) → Is a x → Is b y → Told Judged result (atMostOf k x y) }
+    ensures { (x y : Value) → Is a x → Is b y → Told Judged result (at_most_of k x y) }
 {
     match a {
         Number::Misfit => refuse(findings::MISFIT, k),
@@ -85,7 +85,7 @@ pub fn at_most(k: usize, a: Number, b: Number) -> Judgement
 // An integer passes the test against ℤ.
 pub fn is_integer(k: usize, v: Held) -> Judgement
     requires { k ≤ 1024 }
-    ensures { (x : Value) → Holds v x → Told Judged result (integerTest k x) }
+    ensures { (x : Value) → Holds v x → Told Judged result (integer_test k x) }
 {
     let x = number(v);
     match x {

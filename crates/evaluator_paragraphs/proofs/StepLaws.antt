@@ -8,7 +8,7 @@ use native.Mathlib.Omega.{arith}
 use native.Mathlib.Nat.{eq-or-lt_of_le}
 use native.Mathlib.Numerals.{add-one}
 use lib.ListN.{length, get_or, take, drop, length-append, length-drop}
-use Rattle.words.proofs.Lists.{drop-next, drop-done}
+use Rattle.words.proofs.Lists.{drop_next, drop_done}
 use Rattle.layout.specs.Layout.{count, part}
 use Rattle.values.specs.Value.{Value}
 use Rattle.values.specs.declared.held.Held.{Held}
@@ -18,111 +18,111 @@ use Rattle.reader_rules.specs.Promise.{At, Lower}
 use Rattle.reader_rules.specs.Reading.{read_of}
 use Rattle.reader_rules.specs.declared.Reading.TheVariants.{Readable}
 use Rattle.reader_rules.specs.Tree.{Pred, Lines, end, declaration, inclusion, Paragraph, given, axiomatic, text, abbreviation, constraint, schema}
-use Rattle.reader_rules.specs.Decode.{exprAt, predAt, includeAt, lines_from, paragraphAt, paragraphsFrom, tree_of}
-use Rattle.reader_rules.specs.Limited.{declaredCount, textDeclares, globals_of, globalCount}
-use Rattle.reader_rules.proofs.TreeText.{include-law, line-range, line-declaration, line-inclusion, text-kind, text-law}
-use Rattle.reader_rules.proofs.TreeParagraph.{paragraph-range, paragraph-given, paragraph-axiomatic, paragraph-schema, paragraph-abbreviation, paragraph-constraint, document-law}
-use Rattle.reader_rules.proofs.TreeLists.{lines-go, lines_end, paragraphs-go, paragraphs-end}
-use Rattle.states_rules.specs.Names.{Name, namesAs, lineNames, paragraphNames, names_of, documentNames}
+use Rattle.reader_rules.specs.Decode.{expr_at, pred_at, include_at, lines_from, paragraph_at, paragraphs_from, tree_of}
+use Rattle.reader_rules.specs.Limited.{declared_count, text_declares, globals_of, global_count}
+use Rattle.reader_rules.proofs.TreeText.{include_law, line_range, line_declaration, line_inclusion, text_kind, text_law}
+use Rattle.reader_rules.proofs.TreeParagraph.{paragraph_range, paragraph_given, paragraph_axiomatic, paragraph_schema, paragraph_abbreviation, paragraph_constraint, document_law}
+use Rattle.reader_rules.proofs.TreeLists.{lines_go, lines_end_lem, paragraphs_go, paragraphs_end}
+use Rattle.states_rules.specs.Names.{Name, names_as, line_names, paragraph_names, names_of, document_names}
 use Rattle.states_rules.specs.States.{State}
-use Rattle.states.proofs.NameLaws.{as-length, text-line, decl-words}
+use Rattle.states.proofs.NameLaws.{as_length, text_line, decl_words}
 use Rattle.evaluator_rules.specs.Outcomes.{Outcome, ◌>>=◌, pure, stop}
 use Rattle.evaluator_rules.specs.Environment.{Environment, bind, valued, generic}
-use Rattle.evaluator_rules.specs.Rules.{evalExpr, evalPred, test, stopInclude}
-use Rattle.evaluator_rules.specs.Paragraphs.{Step, onward, failed, then, unless, bindGivens, testNames, testLines, runParagraph, runParagraphs}
+use Rattle.evaluator_rules.specs.Rules.{eval_expr, eval_pred, test, stop_include}
+use Rattle.evaluator_rules.specs.Paragraphs.{Step, onward, failed, then, unless, bind_givens, test_names, test_lines, run_paragraph, run_paragraphs}
 use Rattle.evaluator_operations.specs.declared.worked.Judgement.{Judgement}
 use Rattle.evaluator_operations.specs.Worked.{Holds, Told, fine, ceased, Valued, Judged, Stops}
 use Rattle.evaluator_scope.specs.Blocks.{Scoped}
 use Rattle.evaluator_scope.specs.Named.{Among, Declares, Extends}
-use Rattle.evaluator_paragraphs.specs.Paragraphs.{bindLines, demanded, Stepped, Failed, TestsTold, Steps}
-use Rattle.evaluator_operations.proofs.ToldLaws.{after-told, stop-told, go-told, halt-told, choose-told}
-use Rattle.evaluator_scope.proofs.NamedLaws.{among-left, among-right, among-as}
+use Rattle.evaluator_paragraphs.specs.Paragraphs.{bind_lines, demanded, Stepped, Failed, TestsTold, Steps}
+use Rattle.evaluator_operations.proofs.ToldLaws.{after_told, stop_told, go_told, halt_told, choose_told}
+use Rattle.evaluator_scope.proofs.NamedLaws.{among_left, among_right, among_as}
 
 -- ---- steps
 module _ (P : Environment → Type 0) {r : Judgement} where
-  pub step-on : (scope : Environment) → r.number ≡ 0 → r.flag ≡ true → P scope → Told (Stepped P) r (pure (onward scope))
-  step-on scope z f p = fine {a = onward scope} z (f, p)
+  pub step_on : (scope : Environment) → r.number ≡ 0 → r.flag ≡ true → P scope → Told (Stepped P) r (pure (onward scope))
+  step_on scope z f p = fine {a = onward scope} z (f, p)
 
-  pub step-failed : (k : ℕ) → Failed r k → Told (Stepped P) r (pure (failed k))
-  step-failed k h = fine {a = failed k} h.number (h.flag, h.place)
+  pub step_failed : (k : ℕ) → Failed r k → Told (Stepped P) r (pure (failed k))
+  step_failed k h = fine {a = failed k} h.number (h.flag, h.place)
 
 module _ {P Q : Environment → Type 0} {o : Outcome Step} (k : Environment → Outcome Step) where
-  pub then-go : {y r : Judgement} → Told (Stepped P) y o → y.number ≡ 0 → y.flag ≡ true → ((scope : Environment) → P scope → Told (Stepped Q) r (k scope)) → Told (Stepped Q) r (o >>= then k)
+  pub then_go : {y r : Judgement} → Told (Stepped P) y o → y.number ≡ 0 → y.flag ≡ true → ((scope : Environment) → P scope → Told (Stepped Q) r (k scope)) → Told (Stepped Q) r (o >>= then k)
   unfolding then
-  then-go {y} {r} t z f m = go-told t z go
+  then_go {y} {r} t z f m = go_told t z go
     where
       go : (a : Step) → Stepped P y a → Told (Stepped Q) r (then k a)
       go (onward scope) g = m scope g.1
       go (failed n) g = absurd (true≢false (sym f ∙ g.0))
 
-  pub then-failed : {y : Judgement} → Told (Stepped P) y o → y.number ≡ 0 → y.flag ≡ false → Told (Stepped Q) y (o >>= then k)
+  pub then_failed : {y : Judgement} → Told (Stepped P) y o → y.number ≡ 0 → y.flag ≡ false → Told (Stepped Q) y (o >>= then k)
   unfolding then
-  then-failed {y} t z f = go-told t z go
+  then_failed {y} t z f = go_told t z go
     where
       go : (a : Step) → Stepped P y a → Told (Stepped Q) y (then k a)
       go (onward scope) g = absurd (true≢false (sym g.0 ∙ f))
-      go (failed n) g = step-failed Q n (record { number = z; flag = f; place = g.1 })
+      go (failed n) g = step_failed Q n (record { number = z; flag = f; place = g.1 })
 
 -- ---- a predicate that must be true
-module _ {P : Environment → Type 0} (k : ℕ) (p : Pred) (scope : Environment) {y : Judgement} (t : Told Judged y (evalPred p scope)) where
-  pub demand-stops : (y.number ≡ 0 → ⊥) → Told (Stepped P) y (demanded k p scope)
+module _ {P : Environment → Type 0} (k : ℕ) (p : Pred) (scope : Environment) {y : Judgement} (t : Told Judged y (eval_pred p scope)) where
+  pub demand_stops : (y.number ≡ 0 → ⊥) → Told (Stepped P) y (demanded k p scope)
   unfolding demanded
-  demand-stops z = halt-told _ t z
+  demand_stops z = halt_told _ t z
 
-  pub demand-holds : {r : Judgement} → y.number ≡ 0 → y.flag ≡ true → r.number ≡ 0 → r.flag ≡ true → P scope → Told (Stepped P) r (demanded k p scope)
+  pub demand_holds : {r : Judgement} → y.number ≡ 0 → y.flag ≡ true → r.number ≡ 0 → r.flag ≡ true → P scope → Told (Stepped P) r (demanded k p scope)
   unfolding demanded unless
-  demand-holds {r} z f a b h = go-told t z go
+  demand_holds {r} z f a b h = go_told t z go
     where
       go : (c : Bool) → Judged y c → Told (Stepped P) r (pure (unless k c scope))
-      go true g = step-on P scope a b h
+      go true g = step_on P scope a b h
       go false g = absurd (true≢false (sym f ∙ g.flag))
 
-  pub demand-fails : {r : Judgement} → y.number ≡ 0 → y.flag ≡ false → Failed r k → Told (Stepped P) r (demanded k p scope)
+  pub demand_fails : {r : Judgement} → y.number ≡ 0 → y.flag ≡ false → Failed r k → Told (Stepped P) r (demanded k p scope)
   unfolding demanded unless
-  demand-fails {r} z f h = go-told t z go
+  demand_fails {r} z f h = go_told t z go
     where
       go : (c : Bool) → Judged y c → Told (Stepped P) r (pure (unless k c scope))
       go true g = absurd (true≢false (sym g.flag ∙ f))
-      go false g = step-failed P k h
+      go false g = step_failed P k h
 
 -- ---- the identifiers of a Decl
 module _ (v : ℕ) (f : Value → Outcome Bool) (x : List ℕ) (j : ℕ) (s : State) where
-  pub names-end : {r : Judgement} → length x ≤ j → r.number ≡ 0 → r.flag ≡ true → TestsTold (bindGivens (drop j x) s) r (testNames v f (drop j x) s)
-  unfolding testNames bindGivens
-  names-end h z e own = rw (drop-done x j h) (step-on (λ o. o ≡ own) own z e refl)
+  pub names_end : {r : Judgement} → length x ≤ j → r.number ≡ 0 → r.flag ≡ true → TestsTold (bind_givens (drop j x) s) r (test_names v f (drop j x) s)
+  unfolding test_names bind_givens
+  names_end h z e own = rw (drop_done x j h) (step_on (λ o. o ≡ own) own z e refl)
 
   module _ (h : j < length x) {y : Judgement} (t : Told Judged y (f (s (get_or x j 0)))) where
-    pub names-stop : (y.number ≡ 0 → ⊥) → TestsTold (bindGivens (drop j x) s) y (testNames v f (drop j x) s)
-    unfolding testNames bindGivens
-    names-stop z own = rw (drop-next x j h) (halt-told _ t z)
+    pub names_stop : (y.number ≡ 0 → ⊥) → TestsTold (bind_givens (drop j x) s) y (test_names v f (drop j x) s)
+    unfolding test_names bind_givens
+    names_stop z own = rw (drop_next x j h) (halt_told _ t z)
 
-    pub names-failed : {r : Judgement} → y.number ≡ 0 → y.flag ≡ false → Failed r v → TestsTold (bindGivens (drop j x) s) r (testNames v f (drop j x) s)
-    unfolding testNames bindGivens
-    names-failed z e g own = rw (drop-next x j h) (go-told t z (λ b q. choose-told b (λ n. absurd (true≢false (sym n ∙ sym q.flag ∙ e))) (λ n. step-failed _ v g)))
+    pub names_failed : {r : Judgement} → y.number ≡ 0 → y.flag ≡ false → Failed r v → TestsTold (bind_givens (drop j x) s) r (test_names v f (drop j x) s)
+    unfolding test_names bind_givens
+    names_failed z e g own = rw (drop_next x j h) (go_told t z (λ b q. choose_told b (λ n. absurd (true≢false (sym n ∙ sym q.flag ∙ e))) (λ n. step_failed _ v g)))
 
-    pub names-go : {r : Judgement} → y.number ≡ 0 → y.flag ≡ true → TestsTold (bindGivens (drop (j + 1) x) s) r (testNames v f (drop (j + 1) x) s) →
-        TestsTold (bindGivens (drop j x) s) r (testNames v f (drop j x) s)
-    unfolding testNames bindGivens
-    names-go z e m own =
-        rw (drop-next x j h)
-        (go-told t z (λ b q. choose-told b (λ n. m (bind (get_or x j 0) (valued (s (get_or x j 0))) own)) (λ n. absurd (true≢false (sym e ∙ q.flag ∙ n)))))
+    pub names_go : {r : Judgement} → y.number ≡ 0 → y.flag ≡ true → TestsTold (bind_givens (drop (j + 1) x) s) r (test_names v f (drop (j + 1) x) s) →
+        TestsTold (bind_givens (drop j x) s) r (test_names v f (drop j x) s)
+    unfolding test_names bind_givens
+    names_go z e m own =
+        rw (drop_next x j h)
+        (go_told t z (λ b q. choose_told b (λ n. m (bind (get_or x j 0) (valued (s (get_or x j 0))) own)) (λ n. absurd (true≢false (sym e ∙ q.flag ∙ n)))))
 
 -- ---- the lines of a Text, one turn at a time
-pub names-counted : (ls : Lines) → length (lineNames ls) ≡ declaredCount ls
-unfolding lineNames declaredCount
-names-counted end = refl
-names-counted (declaration n a xs ls) = length-append (namesAs false xs) (lineNames ls) ∙ omega (arith, as-length false xs, names-counted ls)
-names-counted (inclusion i ls) = names-counted ls
+pub names_counted : (ls : Lines) → length (line_names ls) ≡ declared_count ls
+unfolding line_names declared_count
+names_counted end = refl
+names_counted (declaration n a xs ls) = length-append (names_as false xs) (line_names ls) ∙ omega (arith, as_length false xs, names_counted ls)
+names_counted (inclusion i ls) = names_counted ls
 
 module _ (doc : List ℕ) (t : ℕ) (s : State) where
-  pub lines-over : {r : Judgement} (scope : Environment) (i e : ℕ) → e ≤ i → r.number ≡ 0 → r.flag ≡ true →
-      TestsTold (bindLines (lines_from doc t i (e - i)) s) r (testLines (lines_from doc t i (e - i)) s scope)
-  unfolding testLines bindLines
-  lines-over scope i e h z f own = rw (lines_end doc t e i h) (step-on (λ o. o ≡ own) own z f refl)
+  pub lines_over : {r : Judgement} (scope : Environment) (i e : ℕ) → e ≤ i → r.number ≡ 0 → r.flag ≡ true →
+      TestsTold (bind_lines (lines_from doc t i (e - i)) s) r (test_lines (lines_from doc t i (e - i)) s scope)
+  unfolding test_lines bind_lines
+  lines_over scope i e h z f own = rw (lines_end_lem doc t e i h) (step_on (λ o. o ≡ own) own z f refl)
 
-  pub put-over : (state w : List ℕ) (b i e : ℕ) → e ≤ i → Extends state w w b (b + declaredCount (lines_from doc t i (e - i))) (bindLines (lines_from doc t i (e - i)) s)
-  unfolding declaredCount bindLines
-  put-over state w b i e h scope g = let z : b + 0 ≡ b = omega arith in rw (lines_end doc t e i h, z) g
+  pub put_over : (state w : List ℕ) (b i e : ℕ) → e ≤ i → Extends state w w b (b + declared_count (lines_from doc t i (e - i))) (bind_lines (lines_from doc t i (e - i)) s)
+  unfolding declared_count bind_lines
+  put_over state w b i e h scope g = let z : b + 0 ≡ b = omega arith in rw (lines_end_lem doc t e i h, z) g
 
   module _ (h : At doc texts t) (i : ℕ) (p : 2 ≤ i) (q : i < length (part doc t)) (v : ℕ) (x : v ≡ operand_at doc t i) where
     abbrev these : Lines
@@ -131,246 +131,246 @@ module _ (doc : List ℕ) (t : ℕ) (s : State) where
     abbrev rest : Lines
     rest = lines_from doc t (i + 1) (length (part doc t) - (i + 1))
 
-    pub this-line : At doc lines v
-    this-line = text-line doc t h i p q v x
+    pub this_line : At doc lines v
+    this_line = text_line doc t h i p q v x
 
-    pub line-kind : (kind_at doc v ≡ 12 → ⊥) → kind_at doc v ≡ 11
-    line-kind n =
-        let r = line-range doc v this-line in
+    pub line_kind : (kind_at doc v ≡ 12 → ⊥) → kind_at doc v ≡ 11
+    line_kind n =
+        let r = line_range doc v this_line in
         let a = r.0 in
         let b = r.1 in
         omega arith
 
-    pub line-lower : kind_at doc v ≡ 11 → Lower doc v expressions (operand_at doc v 1)
-    line-lower k = (line-declaration doc v this-line k _ refl).first
+    pub line_lower : kind_at doc v ≡ 11 → Lower doc v expressions (operand_at doc v 1)
+    line_lower k = (line_declaration doc v this_line k _ refl).first
 
-    these-decl : kind_at doc v ≡ 11 → these ≡ declaration v (exprAt doc (operand_at doc v 1)) (drop 2 (part doc v)) rest
-    these-decl k = lines-go doc t (length (part doc t)) i q ∙ (rw (← x) ((line-declaration doc v this-line k _ refl).tree rest))
+    these_decl : kind_at doc v ≡ 11 → these ≡ declaration v (expr_at doc (operand_at doc v 1)) (drop 2 (part doc v)) rest
+    these_decl k = lines_go doc t (length (part doc t)) i q ∙ (rw (← x) ((line_declaration doc v this_line k _ refl).tree rest))
 
-    these-include : kind_at doc v ≡ 12 → these ≡ inclusion (includeAt doc v) rest
-    these-include k = lines-go doc t (length (part doc t)) i q ∙ (rw (← x) (line-inclusion doc v k rest))
+    these_include : kind_at doc v ≡ 12 → these ≡ inclusion (include_at doc v) rest
+    these_include k = lines_go doc t (length (part doc t)) i q ∙ (rw (← x) (line_inclusion doc v k rest))
 
-    pub include-stop : {r : Judgement} (scope : Environment) → kind_at doc v ≡ 12 → Stops r 54 v → TestsTold (bindLines these s) r (testLines these s scope)
-    unfolding testLines stopInclude
-    include-stop scope k a own = rw (these-include k, (include-law doc lines v this-line k (operand_at doc v 3) refl).tree) (stop-told a (λ z. omega arith))
+    pub include_stop : {r : Judgement} (scope : Environment) → kind_at doc v ≡ 12 → Stops r 54 v → TestsTold (bind_lines these s) r (test_lines these s scope)
+    unfolding test_lines stop_include
+    include_stop scope k a own = rw (these_include k, (include_law doc lines v this_line k (operand_at doc v 3) refl).tree) (stop_told a (λ z. omega arith))
 
-    module _ (k : kind_at doc v ≡ 11) (scope : Environment) {y : Judgement} (d : TestsTold (bindGivens (drop 2 (part doc v)) s) y (testNames v (test (exprAt doc (operand_at doc v 1)) scope) (drop 2 (part doc v)) s)) where
-      pub decl-stop : (y.number ≡ 0 → ⊥) → TestsTold (bindLines these s) y (testLines these s scope)
-      unfolding testLines
-      decl-stop z own = rw (these-decl k) (halt-told _ (d own) z)
+    module _ (k : kind_at doc v ≡ 11) (scope : Environment) {y : Judgement} (d : TestsTold (bind_givens (drop 2 (part doc v)) s) y (test_names v (test (expr_at doc (operand_at doc v 1)) scope) (drop 2 (part doc v)) s)) where
+      pub decl_stop : (y.number ≡ 0 → ⊥) → TestsTold (bind_lines these s) y (test_lines these s scope)
+      unfolding test_lines
+      decl_stop z own = rw (these_decl k) (halt_told _ (d own) z)
 
-      pub decl-failed : y.number ≡ 0 → y.flag ≡ false → TestsTold (bindLines these s) y (testLines these s scope)
-      unfolding testLines
-      decl-failed z f own = rw (these-decl k) (then-failed (λ o. testLines rest s scope o) (d own) z f)
+      pub decl_failed : y.number ≡ 0 → y.flag ≡ false → TestsTold (bind_lines these s) y (test_lines these s scope)
+      unfolding test_lines
+      decl_failed z f own = rw (these_decl k) (then_failed (λ o. test_lines rest s scope o) (d own) z f)
 
-      pub decl-go : {r : Judgement} → y.number ≡ 0 → y.flag ≡ true → TestsTold (bindLines rest s) r (testLines rest s scope) → TestsTold (bindLines these s) r (testLines these s scope)
-      unfolding testLines bindLines
-      decl-go {r} z f m own = rw (these-decl k) (then-go (λ o. testLines rest s scope o) (d own) z f (λ o e. subst (λ (z : Environment). Told (Stepped (λ a. a ≡ bindLines rest s z)) r (testLines rest s scope o)) e (m o)))
+      pub decl_go : {r : Judgement} → y.number ≡ 0 → y.flag ≡ true → TestsTold (bind_lines rest s) r (test_lines rest s scope) → TestsTold (bind_lines these s) r (test_lines these s scope)
+      unfolding test_lines bind_lines
+      decl_go {r} z f m own = rw (these_decl k) (then_go (λ o. test_lines rest s scope o) (d own) z f (λ o e. subst (λ (z : Environment). Told (Stepped (λ a. a ≡ bind_lines rest s z)) r (test_lines rest s scope o)) e (m o)))
 
-    pub include-count : kind_at doc v ≡ 12 → declaredCount these ≡ declaredCount rest
-    unfolding declaredCount
-    include-count k = rw (these-include k)
+    pub include_count : kind_at doc v ≡ 12 → declared_count these ≡ declared_count rest
+    unfolding declared_count
+    include_count k = rw (these_include k)
 
-    pub decl-count : kind_at doc v ≡ 11 → declaredCount these ≡ length (part doc v) - 2 + declaredCount rest
-    unfolding declaredCount
-    decl-count k = rw (these-decl k) (ap (λ (n : ℕ). n + declaredCount rest) (length-drop 2 (part doc v)))
+    pub decl_count : kind_at doc v ≡ 11 → declared_count these ≡ length (part doc v) - 2 + declared_count rest
+    unfolding declared_count
+    decl_count k = rw (these_decl k) (ap (λ (n : ℕ). n + declared_count rest) (length-drop 2 (part doc v)))
 
-    pub put-include : (state w0 w1 : List ℕ) (b : ℕ) → kind_at doc v ≡ 12 → Extends state w0 w1 b (b + declaredCount rest) (bindLines rest s) → Extends state w0 w1 b (b + declaredCount these) (bindLines these s)
-    unfolding declaredCount bindLines
-    put-include state w0 w1 b k m scope g = rw (these-include k) (m scope g)
+    pub put_include : (state w0 w1 : List ℕ) (b : ℕ) → kind_at doc v ≡ 12 → Extends state w0 w1 b (b + declared_count rest) (bind_lines rest s) → Extends state w0 w1 b (b + declared_count these) (bind_lines these s)
+    unfolding declared_count bind_lines
+    put_include state w0 w1 b k m scope g = rw (these_include k) (m scope g)
 
-    pub put-decl : (state w0 w1 w2 : List ℕ) (b : ℕ) → kind_at doc v ≡ 11 → Extends state w0 w1 b (b + (length (part doc v) - 2)) (bindGivens (drop 2 (part doc v)) s) →
-        Extends state w1 w2 (b + (length (part doc v) - 2)) (b + (length (part doc v) - 2) + declaredCount rest) (bindLines rest s) → Extends state w0 w2 b (b + declaredCount these) (bindLines these s)
-    unfolding bindLines
-    put-decl state w0 w1 w2 b k m n scope g =
-        let z : b + declaredCount these ≡ b + (length (part doc v) - 2) + declaredCount rest = omega (arith, decl-count k) in
-        rw z (rw (these-decl k) (n _ (m scope g)))
+    pub put_decl : (state w0 w1 w2 : List ℕ) (b : ℕ) → kind_at doc v ≡ 11 → Extends state w0 w1 b (b + (length (part doc v) - 2)) (bind_givens (drop 2 (part doc v)) s) →
+        Extends state w1 w2 (b + (length (part doc v) - 2)) (b + (length (part doc v) - 2) + declared_count rest) (bind_lines rest s) → Extends state w0 w2 b (b + declared_count these) (bind_lines these s)
+    unfolding bind_lines
+    put_decl state w0 w1 w2 b k m n scope g =
+        let z : b + declared_count these ≡ b + (length (part doc v) - 2) + declared_count rest = omega (arith, decl_count k) in
+        rw z (rw (these_decl k) (n _ (m scope g)))
 
-    pub declares-own : kind_at doc v ≡ 11 → Declares doc (lineNames these) → Declares doc (namesAs true (drop 2 (part doc v)))
-    unfolding lineNames
-    declares-own k d = record { each = λ j a. (rw (these-decl k) at d).each j (among-left _ _ (among-as true false (drop 2 (part doc v)) a)) }
+    pub declares_own : kind_at doc v ≡ 11 → Declares doc (line_names these) → Declares doc (names_as true (drop 2 (part doc v)))
+    unfolding line_names
+    declares_own k d = record { each = λ j a. (rw (these_decl k) at d).each j (among_left _ _ (among_as true false (drop 2 (part doc v)) a)) }
 
-    pub declares-rest : kind_at doc v ≡ 11 → Declares doc (lineNames these) → Declares doc (lineNames rest)
-    unfolding lineNames
-    declares-rest k d = record { each = λ j a. (rw (these-decl k) at d).each j (among-right (namesAs false (drop 2 (part doc v))) _ a) }
+    pub declares_rest : kind_at doc v ≡ 11 → Declares doc (line_names these) → Declares doc (line_names rest)
+    unfolding line_names
+    declares_rest k d = record { each = λ j a. (rw (these_decl k) at d).each j (among_right (names_as false (drop 2 (part doc v))) _ a) }
 
-    pub declares-skip : kind_at doc v ≡ 12 → Declares doc (lineNames these) → Declares doc (lineNames rest)
-    unfolding lineNames
-    declares-skip k d = record { each = λ j a. (rw (these-include k) at d).each j a }
+    pub declares_skip : kind_at doc v ≡ 12 → Declares doc (line_names these) → Declares doc (line_names rest)
+    unfolding line_names
+    declares_skip k d = record { each = λ j a. (rw (these_include k) at d).each j a }
 
 -- a Decl has at most 8 words
-pub few-line : (doc : List ℕ) (v : ℕ) → At doc lines v → kind_at doc v ≡ 11 → length (part doc v) ≤ 256
-few-line doc v h k = omega (arith, (decl-words doc v h k).1)
+pub few_line : (doc : List ℕ) (v : ℕ) → At doc lines v → kind_at doc v ≡ 11 → length (part doc v) ≤ 256
+few_line doc v h k = omega (arith, (decl_words doc v h k).1)
 
 -- ---- a paragraph
 module _ (doc : List ℕ) (k : ℕ) (h : At doc paragraphs k) (s : State) (state w0 w1 : List ℕ) (n : ℕ) where
-  pub given-globals : kind_at doc k ≡ 2 → globals_of (paragraphAt doc k) ≡ length (part doc k) - 1
+  pub given_globals : kind_at doc k ≡ 2 → globals_of (paragraph_at doc k) ≡ length (part doc k) - 1
   unfolding globals_of
-  given-globals q = rw (paragraph-given doc k h q) (length-drop 1 (part doc k))
+  given_globals q = rw (paragraph_given doc k h q) (length-drop 1 (part doc k))
 
-  pub given-steps : {r : Judgement} → kind_at doc k ≡ 2 → r.number ≡ 0 → r.flag ≡ true → Extends state w0 w1 n (n + (length (part doc k) - 1)) (bindGivens (drop 1 (part doc k)) s) →
-      Steps state w0 w1 n (n + globals_of (paragraphAt doc k)) r (runParagraph (paragraphAt doc k) s)
-  unfolding runParagraph
-  given-steps q z f m scope g = rw (given-globals q) (rw (paragraph-given doc k h q) (step-on (Scoped state w1 (n + (length (part doc k) - 1))) (bindGivens (drop 1 (part doc k)) s scope) z f (m scope g)))
+  pub given_steps : {r : Judgement} → kind_at doc k ≡ 2 → r.number ≡ 0 → r.flag ≡ true → Extends state w0 w1 n (n + (length (part doc k) - 1)) (bind_givens (drop 1 (part doc k)) s) →
+      Steps state w0 w1 n (n + globals_of (paragraph_at doc k)) r (run_paragraph (paragraph_at doc k) s)
+  unfolding run_paragraph
+  given_steps q z f m scope g = rw (given_globals q) (rw (paragraph_given doc k h q) (step_on (Scoped state w1 (n + (length (part doc k) - 1))) (bind_givens (drop 1 (part doc k)) s scope) z f (m scope g)))
 
-  pub schema-steps : {r : Judgement} → kind_at doc k ≡ 4 → r.number ≡ 0 → r.flag ≡ true → Steps state w0 w0 n (n + globals_of (paragraphAt doc k)) r (runParagraph (paragraphAt doc k) s)
-  unfolding runParagraph globals_of
-  schema-steps q z f scope g =
-      let e = (paragraph-schema doc k h q (operand_at doc k 2) (operand_at doc k (operand_at doc k 2 + 3)) refl refl).tree in
+  pub schema_steps : {r : Judgement} → kind_at doc k ≡ 4 → r.number ≡ 0 → r.flag ≡ true → Steps state w0 w0 n (n + globals_of (paragraph_at doc k)) r (run_paragraph (paragraph_at doc k) s)
+  unfolding run_paragraph globals_of
+  schema_steps q z f scope g =
+      let e = (paragraph_schema doc k h q (operand_at doc k 2) (operand_at doc k (operand_at doc k 2 + 3)) refl refl).tree in
       let y : n + 0 ≡ n = omega arith in
-      rw (e, y) (step-on (Scoped state w0 n) scope z f g)
+      rw (e, y) (step_on (Scoped state w0 n) scope z f g)
 
-  pub constraint-steps : {r : Judgement} (a : ℕ) → a ≡ operand_at doc k 1 → kind_at doc k ≡ 6 → Steps state w0 w1 n n r (demanded k (predAt doc a)) →
-      Steps state w0 w1 n (n + globals_of (paragraphAt doc k)) r (runParagraph (paragraphAt doc k) s)
-  unfolding runParagraph globals_of demanded
-  constraint-steps a x q m scope g = let y : n + 0 ≡ n = omega arith in rw ((paragraph-constraint doc k h q a x).tree, y) (m scope g)
+  pub constraint_steps : {r : Judgement} (a : ℕ) → a ≡ operand_at doc k 1 → kind_at doc k ≡ 6 → Steps state w0 w1 n n r (demanded k (pred_at doc a)) →
+      Steps state w0 w1 n (n + globals_of (paragraph_at doc k)) r (run_paragraph (paragraph_at doc k) s)
+  unfolding run_paragraph globals_of demanded
+  constraint_steps a x q m scope g = let y : n + 0 ≡ n = omega arith in rw ((paragraph_constraint doc k h q a x).tree, y) (m scope g)
 
   module _ (q : kind_at doc k ≡ 5) where
     abbrev body : ℕ
     body = operand_at doc k (operand_at doc k 2 + 3)
 
-    tree : paragraphAt doc k ≡ abbreviation k (operand_at doc k 1) (take (operand_at doc k 2) (drop 3 (part doc k))) (exprAt doc body)
-    tree = (paragraph-abbreviation doc k h q (operand_at doc k 2) body refl refl).tree
+    tree : paragraph_at doc k ≡ abbreviation k (operand_at doc k 1) (take (operand_at doc k 2) (drop 3 (part doc k))) (expr_at doc body)
+    tree = (paragraph_abbreviation doc k h q (operand_at doc k 2) body refl refl).tree
 
-    pub abbreviation-globals : globals_of (paragraphAt doc k) ≡ 1
+    pub abbreviation_globals : globals_of (paragraph_at doc k) ≡ 1
     unfolding globals_of
-    abbreviation-globals = rw tree
+    abbreviation_globals = rw tree
 
-    pub generic-steps : {r : Judgement} → (operand_at doc k 2 ≡ 0 → ⊥) → r.number ≡ 0 → r.flag ≡ true → Extends state w0 w1 n (n + 1) (bind (operand_at doc k 1) generic) →
-        Steps state w0 w1 n (n + 1) r (runParagraph (paragraphAt doc k) s)
-    unfolding runParagraph
-    generic-steps {r} p z f m scope g = rw tree (go (operand_at doc k 2) p (drop 3 (part doc k)) (omega (arith, length-drop 3 (part doc k), (paragraph-abbreviation doc k h q (operand_at doc k 2) body refl refl).words)))
+    pub generic_steps : {r : Judgement} → (operand_at doc k 2 ≡ 0 → ⊥) → r.number ≡ 0 → r.flag ≡ true → Extends state w0 w1 n (n + 1) (bind (operand_at doc k 1) generic) →
+        Steps state w0 w1 n (n + 1) r (run_paragraph (paragraph_at doc k) s)
+    unfolding run_paragraph
+    generic_steps {r} p z f m scope g = rw tree (go (operand_at doc k 2) p (drop 3 (part doc k)) (omega (arith, length-drop 3 (part doc k), (paragraph_abbreviation doc k h q (operand_at doc k 2) body refl refl).words)))
       where
-        go : (c : ℕ) → (c ≡ 0 → ⊥) → (xs : List ℕ) → 1 ≤ length xs → Told (Stepped (Scoped state w1 (n + 1))) r (runParagraph (abbreviation k (operand_at doc k 1) (take c xs) (exprAt doc body)) s scope)
+        go : (c : ℕ) → (c ≡ 0 → ⊥) → (xs : List ℕ) → 1 ≤ length xs → Told (Stepped (Scoped state w1 (n + 1))) r (run_paragraph (abbreviation k (operand_at doc k 1) (take c xs) (expr_at doc body)) s scope)
         go zero y xs l = absurd (y refl)
         go (suc c) y [] l = absurd (omega arith)
-        go (suc c) y (a ∷ xs) l = step-on (Scoped state w1 (n + 1)) (bind (operand_at doc k 1) generic scope) z f (m scope g)
+        go (suc c) y (a ∷ xs) l = step_on (Scoped state w1 (n + 1)) (bind (operand_at doc k 1) generic scope) z f (m scope g)
 
     module _ (p : operand_at doc k 2 ≡ 0) where
-      pub plain-lower : Lower doc k expressions (operand_at doc k 3)
-      plain-lower =
+      pub plain_lower : Lower doc k expressions (operand_at doc k 3)
+      plain_lower =
           let y : operand_at doc k (operand_at doc k 2 + 3) ≡ operand_at doc k 3 = rw p in
-          subst (λ (a : ℕ). Lower doc k expressions a) y (paragraph-abbreviation doc k h q (operand_at doc k 2) body refl refl).body
+          subst (λ (a : ℕ). Lower doc k expressions a) y (paragraph_abbreviation doc k h q (operand_at doc k 2) body refl refl).body
 
-      plain-tree : paragraphAt doc k ≡ abbreviation k (operand_at doc k 1) [] (exprAt doc (operand_at doc k 3))
-      plain-tree = tree ∙ rw p
+      plain_tree : paragraph_at doc k ≡ abbreviation k (operand_at doc k 1) [] (expr_at doc (operand_at doc k 3))
+      plain_tree = tree ∙ rw p
 
-      pub plain-stops : {h : Held} {y : Judgement} (scope : Environment) → Told (Valued h) y (evalExpr (exprAt doc (operand_at doc k 3)) scope) → (y.number ≡ 0 → ⊥) → Told (Stepped (Scoped state w1 (n + 1))) y (runParagraph (paragraphAt doc k) s scope)
-      unfolding runParagraph
-      plain-stops scope t z = rw plain-tree (halt-told _ t z)
+      pub plain_stops : {h : Held} {y : Judgement} (scope : Environment) → Told (Valued h) y (eval_expr (expr_at doc (operand_at doc k 3)) scope) → (y.number ≡ 0 → ⊥) → Told (Stepped (Scoped state w1 (n + 1))) y (run_paragraph (paragraph_at doc k) s scope)
+      unfolding run_paragraph
+      plain_stops scope t z = rw plain_tree (halt_told _ t z)
 
-      pub plain-goes : {h : Held} {y r : Judgement} (scope : Environment) → Told (Valued h) y (evalExpr (exprAt doc (operand_at doc k 3)) scope) → y.number ≡ 0 → r.number ≡ 0 → r.flag ≡ true →
-          ((x : Value) → Holds h x → Scoped state w1 (n + 1) (bind (operand_at doc k 1) (valued x) scope)) → Told (Stepped (Scoped state w1 (n + 1))) r (runParagraph (paragraphAt doc k) s scope)
-      unfolding runParagraph
-      plain-goes scope t z a b m = rw plain-tree (go-told t z (λ x g. step-on (Scoped state w1 (n + 1)) (bind (operand_at doc k 1) (valued x) scope) a b (m x g.held)))
+      pub plain_goes : {h : Held} {y r : Judgement} (scope : Environment) → Told (Valued h) y (eval_expr (expr_at doc (operand_at doc k 3)) scope) → y.number ≡ 0 → r.number ≡ 0 → r.flag ≡ true →
+          ((x : Value) → Holds h x → Scoped state w1 (n + 1) (bind (operand_at doc k 1) (valued x) scope)) → Told (Stepped (Scoped state w1 (n + 1))) r (run_paragraph (paragraph_at doc k) s scope)
+      unfolding run_paragraph
+      plain_goes scope t z a b m = rw plain_tree (go_told t z (λ x g. step_on (Scoped state w1 (n + 1)) (bind (operand_at doc k 1) (valued x) scope) a b (m x g.held)))
 
 -- an Axiom, by its Text
 module _ (doc : List ℕ) (k : ℕ) (h : At doc paragraphs k) (q : kind_at doc k ≡ 3) (a : ℕ) (x : a ≡ operand_at doc k 1) (s : State) where
-  pub axiom-text : At doc texts a
-  axiom-text = (paragraph-axiomatic doc k h q a x).first.at
+  pub axiom_text : At doc texts a
+  axiom_text = (paragraph_axiomatic doc k h q a x).first.at
 
   abbrev all : Lines
   all = lines_from doc a 2 (length (part doc a) - 2)
 
-  pub axiom-pred : Lower doc a predicates (operand_at doc a 1)
-  axiom-pred = (text-law doc texts a axiom-text (text-kind doc a axiom-text) (operand_at doc a 1) refl).first
+  pub axiom_pred : Lower doc a predicates (operand_at doc a 1)
+  axiom_pred = (text_law doc texts a axiom_text (text_kind doc a axiom_text) (operand_at doc a 1) refl).first
 
-  axiom-tree : paragraphAt doc k ≡ axiomatic k (text a (predAt doc (operand_at doc a 1)) all)
-  axiom-tree = (paragraph-axiomatic doc k h q a x).tree ∙ ap (axiomatic k) (text-law doc texts a axiom-text (text-kind doc a axiom-text) (operand_at doc a 1) refl).tree
+  axiom_tree : paragraph_at doc k ≡ axiomatic k (text a (pred_at doc (operand_at doc a 1)) all)
+  axiom_tree = (paragraph_axiomatic doc k h q a x).tree ∙ ap (axiomatic k) (text_law doc texts a axiom_text (text_kind doc a axiom_text) (operand_at doc a 1) refl).tree
 
-  pub axiom-globals : globals_of (paragraphAt doc k) ≡ declaredCount all
-  unfolding globals_of textDeclares
-  axiom-globals = rw axiom-tree
+  pub axiom_globals : globals_of (paragraph_at doc k) ≡ declared_count all
+  unfolding globals_of text_declares
+  axiom_globals = rw axiom_tree
 
-  pub axiom-names : paragraphNames (paragraphAt doc k) ≡ lineNames all
-  unfolding paragraphNames
-  axiom-names = rw axiom-tree
+  pub axiom_names : paragraph_names (paragraph_at doc k) ≡ line_names all
+  unfolding paragraph_names
+  axiom_names = rw axiom_tree
 
-  module _ {P : Environment → Type 0} (scope : Environment) {y : Judgement} (t : TestsTold (bindLines all s) y (testLines all s scope)) where
-    pub axiom-stops : (y.number ≡ 0 → ⊥) → Told (Stepped P) y (runParagraph (paragraphAt doc k) s scope)
-    unfolding runParagraph
-    axiom-stops z = rw axiom-tree (halt-told _ (t scope) z)
+  module _ {P : Environment → Type 0} (scope : Environment) {y : Judgement} (t : TestsTold (bind_lines all s) y (test_lines all s scope)) where
+    pub axiom_stops_lem : (y.number ≡ 0 → ⊥) → Told (Stepped P) y (run_paragraph (paragraph_at doc k) s scope)
+    unfolding run_paragraph
+    axiom_stops_lem z = rw axiom_tree (halt_told _ (t scope) z)
 
-    pub axiom-fails : y.number ≡ 0 → y.flag ≡ false → Told (Stepped P) y (runParagraph (paragraphAt doc k) s scope)
-    unfolding runParagraph demanded
-    axiom-fails z f = rw axiom-tree (then-failed (demanded k (predAt doc (operand_at doc a 1))) (t scope) z f)
+    pub axiom_fails_lem : y.number ≡ 0 → y.flag ≡ false → Told (Stepped P) y (run_paragraph (paragraph_at doc k) s scope)
+    unfolding run_paragraph demanded
+    axiom_fails_lem z f = rw axiom_tree (then_failed (demanded k (pred_at doc (operand_at doc a 1))) (t scope) z f)
 
-    pub axiom-goes : {r : Judgement} → y.number ≡ 0 → y.flag ≡ true → Told (Stepped P) r (demanded k (predAt doc (operand_at doc a 1)) (bindLines all s scope)) →
-        Told (Stepped P) r (runParagraph (paragraphAt doc k) s scope)
-    unfolding runParagraph demanded
-    axiom-goes z f m = rw axiom-tree (then-go (demanded k (predAt doc (operand_at doc a 1))) (t scope) z f (λ own e. rw e m))
+    pub axiom_goes : {r : Judgement} → y.number ≡ 0 → y.flag ≡ true → Told (Stepped P) r (demanded k (pred_at doc (operand_at doc a 1)) (bind_lines all s scope)) →
+        Told (Stepped P) r (run_paragraph (paragraph_at doc k) s scope)
+    unfolding run_paragraph demanded
+    axiom_goes z f m = rw axiom_tree (then_go (demanded k (pred_at doc (operand_at doc a 1))) (t scope) z f (λ own e. rw e m))
 
-pub schema-kind : (doc : List ℕ) (k : ℕ) → At doc paragraphs k → (kind_at doc k ≡ 2 → ⊥) → (kind_at doc k ≡ 3 → ⊥) → (kind_at doc k ≡ 5 → ⊥) → (kind_at doc k ≡ 6 → ⊥) → kind_at doc k ≡ 4
-schema-kind doc k h a b c e =
-    let r = paragraph-range doc k h in
+pub schema_kind : (doc : List ℕ) (k : ℕ) → At doc paragraphs k → (kind_at doc k ≡ 2 → ⊥) → (kind_at doc k ≡ 3 → ⊥) → (kind_at doc k ≡ 5 → ⊥) → (kind_at doc k ≡ 6 → ⊥) → kind_at doc k ≡ 4
+schema_kind doc k h a b c e =
+    let r = paragraph_range doc k h in
     let low = r.0 in
     let most = r.1 in
     omega arith
 
-pub other-globals : (doc : List ℕ) (k : ℕ) → At doc paragraphs k → (kind_at doc k ≡ 2 → ⊥) → (kind_at doc k ≡ 3 → ⊥) → (kind_at doc k ≡ 5 → ⊥) → globals_of (paragraphAt doc k) ≡ 0
+pub other_globals : (doc : List ℕ) (k : ℕ) → At doc paragraphs k → (kind_at doc k ≡ 2 → ⊥) → (kind_at doc k ≡ 3 → ⊥) → (kind_at doc k ≡ 5 → ⊥) → globals_of (paragraph_at doc k) ≡ 0
 unfolding globals_of
-other-globals doc k h a b c =
-    let r = paragraph-range doc k h in
+other_globals doc k h a b c =
+    let r = paragraph_range doc k h in
     let low = r.0 in
     let most = r.1 in
     let l : 4 ≤ kind_at doc k = omega arith in
     ⊎_elim
-    (λ e. rw (paragraph-schema doc k h (sym e) (operand_at doc k 2) (operand_at doc k (operand_at doc k 2 + 3)) refl refl).tree)
-    (λ m. rw (paragraph-constraint doc k h (omega arith) (operand_at doc k 1) refl).tree)
+    (λ e. rw (paragraph_schema doc k h (sym e) (operand_at doc k 2) (operand_at doc k (operand_at doc k 2 + 3)) refl refl).tree)
+    (λ m. rw (paragraph_constraint doc k h (omega arith) (operand_at doc k 1) refl).tree)
     (eq-or-lt_of_le l)
 
 -- ---- the paragraphs of a document, one turn at a time
 abbrev pub from : List ℕ → ℕ → List Paragraph
-from doc i = paragraphsFrom doc (count doc) i (length (part doc (count doc)) - i)
+from doc i = paragraphs_from doc (count doc) i (length (part doc (count doc)) - i)
 
 -- whatever the paragraphs from j on tell, b blocks in scope, tells of all from i on, where n blocks were
 pub record RunLeft (doc : List ℕ) (s : State) (state work₀ : List ℕ) (n i : ℕ) (work : List ℕ) (b j : ℕ) : Type 0 where
-  pub run : (r : Judgement) → ((scope : Environment) → Scoped state work b scope → Told (Stepped (λ z. Unit {0})) r (runParagraphs (from doc j) s scope)) →
-      (scope : Environment) → Scoped state work₀ n scope → Told (Stepped (λ z. Unit {0})) r (runParagraphs (from doc i) s scope)
+  pub run : (r : Judgement) → ((scope : Environment) → Scoped state work b scope → Told (Stepped (λ z. Unit {0})) r (run_paragraphs (from doc j) s scope)) →
+      (scope : Environment) → Scoped state work₀ n scope → Told (Stepped (λ z. Unit {0})) r (run_paragraphs (from doc i) s scope)
 
-pub left-all : (doc : List ℕ) (s : State) (state work : List ℕ) (n i : ℕ) → RunLeft doc s state work n i work n i
-left-all doc s state work n i = record { run = λ r h. h }
+pub left_all : (doc : List ℕ) (s : State) (state work : List ℕ) (n i : ℕ) → RunLeft doc s state work n i work n i
+left_all doc s state work n i = record { run = λ r h. h }
 
 module _ (doc : List ℕ) (s : State) (i : ℕ) where
   abbrev size : ℕ
   size = length (part doc (count doc))
 
-  pub run-over : {r : Judgement} (scope : Environment) → size ≤ i → r.number ≡ 0 → r.flag ≡ true → Told (Stepped (λ z. Unit {0})) r (runParagraphs (paragraphsFrom doc (count doc) i (size - i)) s scope)
-  unfolding runParagraphs
-  run-over scope h z f = rw (paragraphs-end doc (count doc) size i h) (step-on (λ o. Unit {0}) scope z f tt)
+  pub run_over : {r : Judgement} (scope : Environment) → size ≤ i → r.number ≡ 0 → r.flag ≡ true → Told (Stepped (λ z. Unit {0})) r (run_paragraphs (paragraphs_from doc (count doc) i (size - i)) s scope)
+  unfolding run_paragraphs
+  run_over scope h z f = rw (paragraphs_end doc (count doc) size i h) (step_on (λ o. Unit {0}) scope z f tt)
 
   module _ (d : read_of doc ≡ Readable) (p : 1 ≤ i) (l : i < size) (v : ℕ) (x : v ≡ operand_at doc (count doc) i) where
     abbrev later : List Paragraph
-    later = paragraphsFrom doc (count doc) (i + 1) (size - (i + 1))
+    later = paragraphs_from doc (count doc) (i + 1) (size - (i + 1))
 
-    these-paragraphs : paragraphsFrom doc (count doc) i (size - i) ≡ paragraphAt doc v ∷ later
-    these-paragraphs = paragraphs-go doc (count doc) size i l ∙ (rw (← x))
+    these_paragraphs : paragraphs_from doc (count doc) i (size - i) ≡ paragraph_at doc v ∷ later
+    these_paragraphs = paragraphs_go doc (count doc) size i l ∙ (rw (← x))
 
-    pub this-paragraph : At doc paragraphs v
-    this-paragraph = ((document-law doc d).each i p l v x).at
+    pub this_paragraph_lem : At doc paragraphs v
+    this_paragraph_lem = ((document_law doc d).each i p l v x).at
 
-    pub global-sum : globalCount (paragraphsFrom doc (count doc) i (size - i)) ≡ globals_of (paragraphAt doc v) + globalCount later
-    unfolding globalCount
-    global-sum = rw these-paragraphs
+    pub global_sum : global_count (paragraphs_from doc (count doc) i (size - i)) ≡ globals_of (paragraph_at doc v) + global_count later
+    unfolding global_count
+    global_sum = rw these_paragraphs
 
-    pub declares-this : Declares doc (names_of (paragraphsFrom doc (count doc) i (size - i))) → Declares doc (paragraphNames (paragraphAt doc v))
+    pub declares_this : Declares doc (names_of (paragraphs_from doc (count doc) i (size - i))) → Declares doc (paragraph_names (paragraph_at doc v))
     unfolding names_of
-    declares-this e = record { each = λ j a. (rw these-paragraphs at e).each j (among-left _ _ a) }
+    declares_this e = record { each = λ j a. (rw these_paragraphs at e).each j (among_left _ _ a) }
 
-    pub declares-others : Declares doc (names_of (paragraphsFrom doc (count doc) i (size - i))) → Declares doc (names_of later)
+    pub declares_others : Declares doc (names_of (paragraphs_from doc (count doc) i (size - i))) → Declares doc (names_of later)
     unfolding names_of
-    declares-others e = record { each = λ j a. (rw these-paragraphs at e).each j (among-right (paragraphNames (paragraphAt doc v)) _ a) }
+    declares_others e = record { each = λ j a. (rw these_paragraphs at e).each j (among_right (paragraph_names (paragraph_at doc v)) _ a) }
 
-    module _ {P : Environment → Type 0} (scope : Environment) {y : Judgement} (t : Told (Stepped P) y (runParagraph (paragraphAt doc v) s scope)) where
-      pub run-stops : {Q : Environment → Type 0} → (y.number ≡ 0 → ⊥) → Told (Stepped Q) y (runParagraphs (paragraphsFrom doc (count doc) i (size - i)) s scope)
-      unfolding runParagraphs
-      run-stops z = rw these-paragraphs (halt-told _ t z)
+    module _ {P : Environment → Type 0} (scope : Environment) {y : Judgement} (t : Told (Stepped P) y (run_paragraph (paragraph_at doc v) s scope)) where
+      pub run_stops : {Q : Environment → Type 0} → (y.number ≡ 0 → ⊥) → Told (Stepped Q) y (run_paragraphs (paragraphs_from doc (count doc) i (size - i)) s scope)
+      unfolding run_paragraphs
+      run_stops z = rw these_paragraphs (halt_told _ t z)
 
-      pub run-fails : {Q : Environment → Type 0} → y.number ≡ 0 → y.flag ≡ false → Told (Stepped Q) y (runParagraphs (paragraphsFrom doc (count doc) i (size - i)) s scope)
-      unfolding runParagraphs
-      run-fails z f = rw these-paragraphs (then-failed (λ o. runParagraphs later s o) t z f)
+      pub run_fails : {Q : Environment → Type 0} → y.number ≡ 0 → y.flag ≡ false → Told (Stepped Q) y (run_paragraphs (paragraphs_from doc (count doc) i (size - i)) s scope)
+      unfolding run_paragraphs
+      run_fails z f = rw these_paragraphs (then_failed (λ o. run_paragraphs later s o) t z f)
 
-      pub run-goes : {Q : Environment → Type 0} {r : Judgement} → y.number ≡ 0 → y.flag ≡ true → ((own : Environment) → P own → Told (Stepped Q) r (runParagraphs later s own)) →
-          Told (Stepped Q) r (runParagraphs (paragraphsFrom doc (count doc) i (size - i)) s scope)
-      unfolding runParagraphs
-      run-goes z f m = rw these-paragraphs (then-go (λ o. runParagraphs later s o) t z f m)
+      pub run_goes : {Q : Environment → Type 0} {r : Judgement} → y.number ≡ 0 → y.flag ≡ true → ((own : Environment) → P own → Told (Stepped Q) r (run_paragraphs later s own)) →
+          Told (Stepped Q) r (run_paragraphs (paragraphs_from doc (count doc) i (size - i)) s scope)
+      unfolding run_paragraphs
+      run_goes z f m = rw these_paragraphs (then_go (λ o. run_paragraphs later s o) t z f m)

@@ -2,11 +2,11 @@
 use Rattle.std.specs.Prelude.{◌≡◌, true, false, List, ℕ, ◌+◌, ◌≤◌, length}
 use Rattle.reader_rules.specs.Tree.{Pred, Lines, end, declaration, inclusion}
 use Rattle.states_rules.specs.States.{State}
-use Rattle.evaluator_rules.specs.Run.{runWorkWords}
+use Rattle.evaluator_rules.specs.Run.{run_work_words}
 use Rattle.evaluator_rules.specs.Outcomes.{Outcome, ◌>>=◌, pure}
-use Rattle.evaluator_rules.specs.Rules.{evalPred}
+use Rattle.evaluator_rules.specs.Rules.{eval_pred}
 use Rattle.evaluator_rules.specs.Environment.{Environment}
-use Rattle.evaluator_rules.specs.Paragraphs.{Step, onward, failed, unless, bindGivens}
+use Rattle.evaluator_rules.specs.Paragraphs.{Step, onward, failed, unless, bind_givens}
 use Rattle.evaluator_operations.specs.declared.worked.Judgement.{Judgement}
 use Rattle.evaluator_operations.specs.Worked.{Told}
 use Rattle.evaluator_scope.specs.Blocks.{Scoped}
@@ -14,17 +14,17 @@ use Rattle.evaluator_scope.specs.Blocks.{Scoped}
 -- room for all global names, at most 64, and for the identifiers of Texts above them
 pub record Roomy (work : List ℕ) (n m : ℕ) : Type 0 where
   pub few : n + m ≤ 64
-  pub wide : runWorkWords ≤ length work
+  pub wide : run_work_words ≤ length work
 
 -- the identifiers of an Axiom's Decls, with the values that the state gives them; `bindGivens` binds any identifiers
-unfoldable pub bindLines : Lines → State → Environment → Environment
-bindLines end state scope = scope
-bindLines (declaration n a xs ls) state scope = bindLines ls state (bindGivens xs state scope)
-bindLines (inclusion i ls) state scope = bindLines ls state scope
+unfoldable pub bind_lines : Lines → State → Environment → Environment
+bind_lines end state scope = scope
+bind_lines (declaration n a xs ls) state scope = bind_lines ls state (bind_givens xs state scope)
+bind_lines (inclusion i ls) state scope = bind_lines ls state scope
 
 -- a predicate that must be true; it fails at node n
 unfoldable pub demanded : ℕ → Pred → Environment → Outcome Step
-demanded n p scope = evalPred p scope >>= λ b. pure (unless n b scope)
+demanded n p scope = eval_pred p scope >>= λ b. pure (unless n b scope)
 
 -- a result that goes on is true, with what P says of the names so far; one that fails is false, at a node
 abbrev pub Stepped : (Environment → Type 0) → Judgement → Step → Type 0

@@ -4,18 +4,18 @@ ghost use Rattle.layout.specs.Layout.{count, part};
 ghost use Rattle.reader_rules.specs.Kinds.{expressions, predicates, texts, paragraphs};
 ghost use Rattle.reader_rules.specs.Nodes.{kind_at};
 ghost use Rattle.reader_rules.specs.Promise.{At};
-ghost use Rattle.reader_rules.specs.Decode.{exprAt, predAt, lines_from, paragraphAt, paragraphsFrom};
-ghost use Rattle.reader_rules.specs.Limited.{declaredCount, globals_of, globalCount};
-ghost use Rattle.states_rules.specs.Names.{namesAs, lineNames, paragraphNames, names_of};
+ghost use Rattle.reader_rules.specs.Decode.{expr_at, pred_at, lines_from, paragraph_at, paragraphs_from};
+ghost use Rattle.reader_rules.specs.Limited.{declared_count, globals_of, global_count};
+ghost use Rattle.states_rules.specs.Names.{names_as, line_names, paragraph_names, names_of};
 ghost use Rattle.states_rules.specs.States.{State};
 ghost use Rattle.evaluator_rules.specs.Environment.{Environment};
 ghost use Rattle.evaluator_rules.specs.Rules.{test};
-ghost use Rattle.evaluator_rules.specs.Paragraphs.{bindGivens, testNames, testLines, runParagraph, runParagraphs};
+ghost use Rattle.evaluator_rules.specs.Paragraphs.{bind_givens, test_names, test_lines, run_paragraph, run_paragraphs};
 ghost use Rattle.evaluator_operations.specs.Worked.{Told};
 ghost use Rattle.evaluator_scope.specs.Blocks.{Scoped, Leaves};
 ghost use Rattle.evaluator_scope.specs.Named.{Declares, Stated, Extends, said};
 ghost use Rattle.evaluator_nodes.specs.Ready.{Ready};
-ghost use Rattle.evaluator_paragraphs.specs.Paragraphs.{demanded, Roomy, bindLines, Stepped, Failed, TestsTold, Steps};
+ghost use Rattle.evaluator_paragraphs.specs.Paragraphs.{demanded, Roomy, bind_lines, Stepped, Failed, TestsTold, Steps};
 
 use codes::{findings, kinds};
 use evaluator_nodes::nodes::{expr, pred, tests};
@@ -49,8 +49,8 @@ fn test_names(
     x: &[u32],
     j: usize,
 ) -> Judgement
-    requires { Stated doc.now state.now table.now × Ready doc.now work.old expressions n (get_or x.now 1 0) × Declares doc.now (namesAs true (drop j x.now)) × (v ≤ 1024) × (length x.now ≤ 256) }
-    ensures { Leaves n work.old work.new ((scope : Environment) → Scoped state.now work.old n scope → TestsTold (bindGivens (drop j x.now) (said doc.now state.now)) result (testNames v (test (exprAt doc.now (get_or x.now 1 0)) scope) (drop j x.now) (said doc.now state.now))) }
+    requires { Stated doc.now state.now table.now × Ready doc.now work.old expressions n (get_or x.now 1 0) × Declares doc.now (names_as true (drop j x.now)) × (v ≤ 1024) × (length x.now ≤ 256) }
+    ensures { Leaves n work.old work.new ((scope : Environment) → Scoped state.now work.old n scope → TestsTold (bind_givens (drop j x.now) (said doc.now state.now)) result (test_names v (test (expr_at doc.now (get_or x.now 1 0)) scope) (drop j x.now) (said doc.now state.now))) }
 {
     if x.len() <= j {
         return judge(true);
@@ -83,8 +83,8 @@ fn test_lines(
     u: &[u32],
     i: usize,
 ) -> Judgement
-    requires { Stated doc.now state.now table.now × At doc.now texts t × (u.now ≡ part doc.now t) × (2 ≤ i) × (i ≤ 256) × Roomy work.old n 0 × Declares doc.now (lineNames (lines_from doc.now t i (length u.now - i))) }
-    ensures { Leaves n work.old work.new ((scope : Environment) → Scoped state.now work.old n scope → TestsTold (bindLines (lines_from doc.now t i (length u.now - i)) (said doc.now state.now)) result (testLines (lines_from doc.now t i (length u.now - i)) (said doc.now state.now) scope)) }
+    requires { Stated doc.now state.now table.now × At doc.now texts t × (u.now ≡ part doc.now t) × (2 ≤ i) × (i ≤ 256) × Roomy work.old n 0 × Declares doc.now (line_names (lines_from doc.now t i (length u.now - i))) }
+    ensures { Leaves n work.old work.new ((scope : Environment) → Scoped state.now work.old n scope → TestsTold (bind_lines (lines_from doc.now t i (length u.now - i)) (said doc.now state.now)) result (test_lines (lines_from doc.now t i (length u.now - i)) (said doc.now state.now) scope)) }
 {
     if u.len() <= i {
         return judge(true);
@@ -115,8 +115,8 @@ fn put_lines(
     u: &[u32],
     i: usize,
 )
-    requires { Stated doc.now state.now table.now × At doc.now texts t × (u.now ≡ part doc.now t) × (2 ≤ i) × (i ≤ 256) × Roomy work.old b (declaredCount (lines_from doc.now t i (length u.now - i))) × Declares doc.now (lineNames (lines_from doc.now t i (length u.now - i))) }
-    ensures { Extends state.now work.old work.new b (b + declaredCount (lines_from doc.now t i (length u.now - i))) (bindLines (lines_from doc.now t i (length u.now - i)) (said doc.now state.now)) }
+    requires { Stated doc.now state.now table.now × At doc.now texts t × (u.now ≡ part doc.now t) × (2 ≤ i) × (i ≤ 256) × Roomy work.old b (declared_count (lines_from doc.now t i (length u.now - i))) × Declares doc.now (line_names (lines_from doc.now t i (length u.now - i))) }
+    ensures { Extends state.now work.old work.new b (b + declared_count (lines_from doc.now t i (length u.now - i))) (bind_lines (lines_from doc.now t i (length u.now - i)) (said doc.now state.now)) }
 {
     if u.len() <= i {
         return;
@@ -140,8 +140,8 @@ fn given(
     k: usize,
     w: &[u32],
 ) -> Judgement
-    requires { Stated doc.now state.now table.now × At doc.now paragraphs k × (kind_at doc.now k ≡ 2) × Roomy work.old n (globals_of (paragraphAt doc.now k)) × Declares doc.now (paragraphNames (paragraphAt doc.now k)) × (w.now ≡ part doc.now k) }
-    ensures { Steps state.now work.old work.new n (n + globals_of (paragraphAt doc.now k)) result (runParagraph (paragraphAt doc.now k) (said doc.now state.now)) }
+    requires { Stated doc.now state.now table.now × At doc.now paragraphs k × (kind_at doc.now k ≡ 2) × Roomy work.old n (globals_of (paragraph_at doc.now k)) × Declares doc.now (paragraph_names (paragraph_at doc.now k)) × (w.now ≡ part doc.now k) }
+    ensures { Steps state.now work.old work.new n (n + globals_of (paragraph_at doc.now k)) result (run_paragraph (paragraph_at doc.now k) (said doc.now state.now)) }
 {
     put_names(doc, state, table, work, n, w, 1);
     judge(true)
@@ -150,7 +150,7 @@ fn given(
 // A predicate that must be true, at node p; it fails at node k.
 fn demand(doc: &[u32], state: &[u32], work: &mut [u32], n: usize, k: usize, p: usize) -> Judgement
     requires { Ready doc.now work.old predicates n p × (k ≤ 1024) }
-    ensures { Steps state.now work.old work.new n n result (demanded k (predAt doc.now p)) }
+    ensures { Steps state.now work.old work.new n n result (demanded k (pred_at doc.now p)) }
 {
     let y = pred(doc, state, work, n, p);
     if y.number != 0 {
@@ -172,8 +172,8 @@ fn axiom(
     k: usize,
     w: &[u32],
 ) -> Judgement
-    requires { Stated doc.now state.now table.now × At doc.now paragraphs k × (kind_at doc.now k ≡ 3) × Roomy work.old n (globals_of (paragraphAt doc.now k)) × Declares doc.now (paragraphNames (paragraphAt doc.now k)) × (w.now ≡ part doc.now k) }
-    ensures { Steps state.now work.old work.new n (n + globals_of (paragraphAt doc.now k)) result (runParagraph (paragraphAt doc.now k) (said doc.now state.now)) }
+    requires { Stated doc.now state.now table.now × At doc.now paragraphs k × (kind_at doc.now k ≡ 3) × Roomy work.old n (globals_of (paragraph_at doc.now k)) × Declares doc.now (paragraph_names (paragraph_at doc.now k)) × (w.now ≡ part doc.now k) }
+    ensures { Steps state.now work.old work.new n (n + globals_of (paragraph_at doc.now k)) result (run_paragraph (paragraph_at doc.now k) (said doc.now state.now)) }
 {
     let t = word(w, 1);
     let u = part(doc, t);
@@ -198,7 +198,7 @@ fn abbreviation(
     w: &[u32],
 ) -> Judgement
     requires { At doc.now paragraphs k × (kind_at doc.now k ≡ 5) × Roomy work.old n 1 × (w.now ≡ part doc.now k) }
-    ensures { (s : State) → Steps state.now work.old work.new n (n + 1) result (runParagraph (paragraphAt doc.now k) s) }
+    ensures { (s : State) → Steps state.now work.old work.new n (n + 1) result (run_paragraph (paragraph_at doc.now k) s) }
 {
     if word(w, 2) == 0 {
         let y = expr(doc, state, work, n, word(w, 3));
@@ -223,8 +223,8 @@ fn paragraph(
     n: usize,
     k: usize,
 ) -> Judgement
-    requires { Stated doc.now state.now table.now × At doc.now paragraphs k × Roomy work.old n (globals_of (paragraphAt doc.now k)) × Declares doc.now (paragraphNames (paragraphAt doc.now k)) }
-    ensures { Steps state.now work.old work.new n (n + globals_of (paragraphAt doc.now k)) result (runParagraph (paragraphAt doc.now k) (said doc.now state.now)) }
+    requires { Stated doc.now state.now table.now × At doc.now paragraphs k × Roomy work.old n (globals_of (paragraph_at doc.now k)) × Declares doc.now (paragraph_names (paragraph_at doc.now k)) }
+    ensures { Steps state.now work.old work.new n (n + globals_of (paragraph_at doc.now k)) result (run_paragraph (paragraph_at doc.now k) (said doc.now state.now)) }
 {
     let w = part(doc, k);
     let q = word(w, 0);
@@ -240,7 +240,7 @@ fn paragraph(
 // The number of global names of paragraph k.
 fn global_count(doc: &[u32], k: usize) -> usize
     requires { At doc.now paragraphs k }
-    ensures { result ≡ globals_of (paragraphAt doc.now k) }
+    ensures { result ≡ globals_of (paragraph_at doc.now k) }
 {
     let w = part(doc, k);
     let q = word(w, 0);
@@ -262,8 +262,8 @@ pub fn run_from(
     w: &[u32],
     i: usize,
 ) -> Judgement
-    requires { Stated doc.now state.now table.now × (w.now ≡ part doc.now (count doc.now)) × (1 ≤ i) × (i ≤ 256) × Roomy work.old n (globalCount (paragraphsFrom doc.now (count doc.now) i (length w.now - i))) × Declares doc.now (names_of (paragraphsFrom doc.now (count doc.now) i (length w.now - i))) }
-    ensures { (scope : Environment) → Scoped state.now work.old n scope → Told (Stepped (λ s. Unit {0})) result (runParagraphs (paragraphsFrom doc.now (count doc.now) i (length w.now - i)) (said doc.now state.now) scope) }
+    requires { Stated doc.now state.now table.now × (w.now ≡ part doc.now (count doc.now)) × (1 ≤ i) × (i ≤ 256) × Roomy work.old n (global_count (paragraphs_from doc.now (count doc.now) i (length w.now - i))) × Declares doc.now (names_of (paragraphs_from doc.now (count doc.now) i (length w.now - i))) }
+    ensures { (scope : Environment) → Scoped state.now work.old n scope → Told (Stepped (λ s. Unit {0})) result (run_paragraphs (paragraphs_from doc.now (count doc.now) i (length w.now - i)) (said doc.now state.now) scope) }
 {
     let mut b = n;
     let mut j = i;

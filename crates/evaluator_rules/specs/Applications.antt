@@ -1,7 +1,7 @@
 -- When an application has a value: "In Z an application has a value only where the relation pairs the argument with exactly one result" (document 02, ask 5).
 use Rattle.std.specs.Prelude.{◌≡◌, true, false}
 use Rattle.values.specs.Value.{Value, tuple, Values, nil, cons}
-use Rattle.values.specs.SetValues.{sameValue}
+use Rattle.values.specs.SetValues.{same_value}
 
 abbrev pub pair : Value → Value → Value
 pair x z = tuple (cons x (cons z nil))
@@ -12,13 +12,13 @@ NoPair v = (x z : Value) → v ≡ pair x z → ⊥
 
 -- one of the values is no pair; or all are, and zs are the second parts of those whose first part is a
 pub data SomeNoPair : Values → Type 0 where
-  thisNoPair : {v : Value} {vs : Values} → NoPair v → SomeNoPair (cons v vs)
-  laterNoPair : {v : Value} {vs : Values} → SomeNoPair vs → SomeNoPair (cons v vs)
+  this_no_pair : {v : Value} {vs : Values} → NoPair v → SomeNoPair (cons v vs)
+  later_no_pair : {v : Value} {vs : Values} → SomeNoPair vs → SomeNoPair (cons v vs)
 
 pub data Images (a : Value) : Values → Values → Type 0 where
-  noImages : Images a nil nil
-  oneImage : {x z : Value} {vs zs : Values} → sameValue x a ≡ true → Images a vs zs → Images a (cons (pair x z) vs) (cons z zs)
-  otherPair : {x z : Value} {vs zs : Values} → sameValue x a ≡ false → Images a vs zs → Images a (cons (pair x z) vs) zs
+  no_images : Images a nil nil
+  one_image : {x z : Value} {vs zs : Values} → same_value x a ≡ true → Images a vs zs → Images a (cons (pair x z) vs) (cons z zs)
+  other_pair : {x z : Value} {vs zs : Values} → same_value x a ≡ false → Images a vs zs → Images a (cons (pair x z) vs) zs
 
 -- w is one of vs
 pub data Among (w : Value) : Values → Type 0 where
@@ -32,6 +32,6 @@ AllPairs vs = (w : Value) → Among w vs → (x : Value) × ((z : Value) × (w �
 pub record OnlyPair (a : Value) (vs : Values) (v : Value) : Type 0 where
   pub pairs : AllPairs vs
   pub first : Value
-  pub argument : sameValue first a ≡ true
+  pub argument : same_value first a ≡ true
   pub member : Among (pair first v) vs
-  pub only : (x z : Value) → Among (pair x z) vs → sameValue x a ≡ true → pair x z ≡ pair first v
+  pub only : (x z : Value) → Among (pair x z) vs → same_value x a ≡ true → pair x z ≡ pair first v

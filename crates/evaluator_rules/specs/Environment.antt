@@ -32,6 +32,6 @@ refer n none unknown = stop 51 n
 refer n (more a xs) unknown = stop 51 n
 
 -- a Ref with actuals
-unfoldable pub hasActuals : Exprs → Bool
-hasActuals none = false
-hasActuals (more a xs) = true
+unfoldable pub has_actuals : Exprs → Bool
+has_actuals none = false
+has_actuals (more a xs) = true

@@ -2,7 +2,7 @@
 -- (document 01, "Beside the finding the evaluation rules give a list"; R28).
 use Rattle.std.specs.Prelude.{List, [], ◌∷◌, ◌++◌, Bool, true, false, ℕ, leb}
 use Rattle.values.specs.Value.{Value}
-use Rattle.evaluator_rules.specs.WordCount.{wordCount}
+use Rattle.evaluator_rules.specs.WordCount.{word_count}
 
 -- an expression's node was worked out to a value
 pub data Event : Type 0 where
@@ -29,9 +29,9 @@ abbrev pub stop : {A : Type 0} → ℕ → ℕ → Outcome A
 stop number node = stopped [] number node
 
 -- 55: a value over 64 words. Otherwise node n is worked out, and its value is listed once it is complete (R28).
-unfoldable pub keepIf : Bool → ℕ → Value → Outcome Value
-keepIf true n v = done (worked n v ∷ []) v
-keepIf false n v = stop 55 n
+unfoldable pub keep_if : Bool → ℕ → Value → Outcome Value
+keep_if true n v = done (worked n v ∷ []) v
+keep_if false n v = stop 55 n
 
 unfoldable pub keep : ℕ → Value → Outcome Value
-keep n v = keepIf (leb (wordCount v) 64) n v
+keep n v = keep_if (leb (word_count v) 64) n v

@@ -6,9 +6,9 @@ use Rattle.reader_rules.specs.Decode.{tree_of}
 use Rattle.reader_rules.specs.declared.Reading.{Reading}
 use Rattle.reader_rules.specs.declared.Reading.TheVariants.{Readable, Refused as Unreadable}
 use Rattle.evaluator_rules.specs.Outcomes.{Event, Outcome, done, stopped}
-use Rattle.states_rules.specs.Names.{documentNames}
-use Rattle.states_rules.specs.States.{state_of, valueIn}
-use Rattle.evaluator_rules.specs.Paragraphs.{Step, onward, failed, runDocument}
+use Rattle.states_rules.specs.Names.{document_names}
+use Rattle.states_rules.specs.States.{state_of, value_in}
+use Rattle.evaluator_rules.specs.Paragraphs.{Step, onward, failed, run_document}
 use Rattle.evaluator_rules.specs.declared.Finding.{Finding}
 use Rattle.evaluator_rules.specs.declared.Finding.TheVariants.{Holds, Fails, Refused}
 
@@ -26,22 +26,22 @@ ending (done t (onward scope)) = ran Holds t
 ending (done t (failed n)) = ran (Fails n) t
 ending (stopped t number node) = ran (Refused number node) t
 
-unfoldable pub runState : Reading → Document → List ℕ → Ran
-runState Readable tree state = ending (runDocument tree (valueIn (documentNames tree) state))
-runState (Unreadable number place) tree state = ran (Refused number place) []
+unfoldable pub run_state : Reading → Document → List ℕ → Ran
+run_state Readable tree state = ending (run_document tree (value_in (document_names tree) state))
+run_state (Unreadable number place) tree state = ran (Refused number place) []
 
 -- the words of a run's work area, at least
-abbrev pub runWorkWords : ℕ
-runWorkWords = 16384
+abbrev pub run_work_words : ℕ
+run_work_words = 16384
 
 -- 21: a work area under 16,384 words
-unfoldable pub runWork : Bool → Document → List ℕ → Ran
-runWork true tree state = runState (state_of (documentNames tree) state) tree state
-runWork false tree state = ran (Refused 21 0) []
+unfoldable pub run_work : Bool → Document → List ℕ → Ran
+run_work true tree state = run_state (state_of (document_names tree) state) tree state
+run_work false tree state = ran (Refused 21 0) []
 
-unfoldable pub runRead : Reading → List ℕ → List ℕ → ℕ → Ran
-runRead Readable doc state work = runWork (leb runWorkWords work) (tree_of doc) state
-runRead (Unreadable number place) doc state work = ran (Refused number place) []
+unfoldable pub run_read : Reading → List ℕ → List ℕ → ℕ → Ran
+run_read Readable doc state work = run_work (leb run_work_words work) (tree_of doc) state
+run_read (Unreadable number place) doc state work = ran (Refused number place) []
 
 unfoldable pub run_of : List ℕ → List ℕ → ℕ → Ran
-run_of doc state work = runRead (read_of doc) doc state work
+run_of doc state work = run_read (read_of doc) doc state work

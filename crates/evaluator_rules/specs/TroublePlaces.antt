@@ -1,7 +1,7 @@
 -- The column "Place" of the table of findings: which of the numbers 51 to 55 a node of each kind can get. w at m in a tree: m is one of its nodes, of a
 -- kind that can get w, and not below one that is never worked out. (A Ref's 55 is for scopes in general; in a run none comes, proofs/ShortNames.)
 use Rattle.std.specs.Prelude.{◌≡◌, List, [], ◌∷◌, ◌⊎◌, ℕ, ◌≤◌}
-use Rattle.reader_rules.specs.Tree.{Operator, plus, minus, times, Expr, reference, number, integers, set, tuple, product, power, application, selection, theta, schemaSet}
+use Rattle.reader_rules.specs.Tree.{Operator, plus, minus, times, Expr, reference, number, integers, set, tuple, product, power, application, selection, theta, schema_set}
 use Rattle.reader_rules.specs.Tree.{arithmetic, comprehension, Exprs, none, more, Pred, truth, equal, member, at_most, not, connected, quantified, Text, text}
 use Rattle.reader_rules.specs.Tree.{Lines, end, declaration, inclusion, Include, include, Paragraph, given, axiomatic, schema, abbreviation, constraint, Document, document}
 use Rattle.reader_rules.specs.Tree as Tree
@@ -9,22 +9,22 @@ use Rattle.reader_rules.specs.Places.{At}
 use Rattle.reader_rules.specs.Reading.{read_of}
 use Rattle.reader_rules.specs.Decode.{tree_of}
 use Rattle.reader_rules.specs.declared.Reading.TheVariants.{Readable}
-use Rattle.states_rules.specs.Names.{documentNames}
+use Rattle.states_rules.specs.Names.{document_names}
 use Rattle.states_rules.specs.States.{State}
 use Rattle.evaluator_rules.specs.Environment.{Environment}
-use Rattle.evaluator_rules.specs.Paragraphs.{runParagraph}
-use Rattle.evaluator_rules.specs.Run.{run_of, runWorkWords}
+use Rattle.evaluator_rules.specs.Paragraphs.{run_paragraph}
+use Rattle.evaluator_rules.specs.Run.{run_of, run_work_words}
 use Rattle.evaluator_rules.specs.Claims.{Trouble, WellFormedState}
 use Rattle.evaluator_rules.specs.Evaluations.{Stops, Evaluation, working, telling, testing, declaring, including, StopsAt}
 use Rattle.evaluator_rules.specs.declared.Finding.TheVariants.{Refused}
 
 -- 52 at div and mod alone, 53 at the others
-unfoldable pub numbersOf : Operator → List ℕ
-numbersOf plus = 51 ∷ 53 ∷ []
-numbersOf minus = 51 ∷ 53 ∷ []
-numbersOf times = 51 ∷ 53 ∷ []
-numbersOf Tree.quotient = 51 ∷ 52 ∷ []
-numbersOf Tree.remainder = 51 ∷ 52 ∷ []
+unfoldable pub numbers_of : Operator → List ℕ
+numbers_of plus = 51 ∷ 53 ∷ []
+numbers_of minus = 51 ∷ 53 ∷ []
+numbers_of times = 51 ∷ 53 ∷ []
+numbers_of Tree.quotient = 51 ∷ 52 ∷ []
+numbers_of Tree.remainder = 51 ∷ 52 ∷ []
 
 unfoldable pub PlacedInclude : ℕ → ℕ → Include → Type 0
 PlacedInclude w m (include n s k xs rs) = At w m n (54 ∷ [])
@@ -42,8 +42,8 @@ unfoldable mutual
   PlacedExpr w m (application n f a) = At w m n (51 ∷ 52 ∷ []) ⊎ (PlacedExpr w m f ⊎ PlacedExpr w m a)
   PlacedExpr w m (selection n a i) = At w m n (54 ∷ [])
   PlacedExpr w m (theta n s k) = At w m n (54 ∷ [])
-  PlacedExpr w m (schemaSet n i) = At w m n (54 ∷ [])
-  PlacedExpr w m (arithmetic n o a b) = At w m n (numbersOf o) ⊎ (PlacedExpr w m a ⊎ PlacedExpr w m b)
+  PlacedExpr w m (schema_set n i) = At w m n (54 ∷ [])
+  PlacedExpr w m (arithmetic n o a b) = At w m n (numbers_of o) ⊎ (PlacedExpr w m a ⊎ PlacedExpr w m b)
   PlacedExpr w m (comprehension n t a) = At w m n (55 ∷ []) ⊎ (PlacedText w m t ⊎ PlacedExpr w m a)
 
   pub PlacedExprs : ℕ → ℕ → Exprs → Type 0
@@ -62,8 +62,8 @@ unfoldable mutual
   PlacedTest w m (application n f a) = At w m n (51 ∷ 52 ∷ []) ⊎ (PlacedExpr w m f ⊎ PlacedExpr w m a)
   PlacedTest w m (selection n a i) = At w m n (54 ∷ [])
   PlacedTest w m (theta n s k) = At w m n (54 ∷ [])
-  PlacedTest w m (schemaSet n i) = At w m n (54 ∷ [])
-  PlacedTest w m (arithmetic n o a b) = At w m n (numbersOf o) ⊎ (PlacedExpr w m a ⊎ PlacedExpr w m b)
+  PlacedTest w m (schema_set n i) = At w m n (54 ∷ [])
+  PlacedTest w m (arithmetic n o a b) = At w m n (numbers_of o) ⊎ (PlacedExpr w m a ⊎ PlacedExpr w m b)
   PlacedTest w m (comprehension n t a) = At w m n (55 ∷ []) ⊎ (PlacedText w m t ⊎ PlacedExpr w m a)
 
   pub PlacedTests : ℕ → ℕ → Exprs → Type 0
@@ -121,6 +121,6 @@ PlacedEvaluation w m (including i) = PlacedInclude w m i
 -- Every stop is 51 to 55, at a node of a kind that can get the number.
 pub record TroublePlaces : Type 0 where
   pub each : (t : Evaluation) (w m : ℕ) → StopsAt t w m → Trouble w m × PlacedEvaluation w m t
-  pub paragraph : (p : Paragraph) (state : State) (scope : Environment) (w m : ℕ) → Stops (runParagraph p state scope) w m → Trouble w m × PlacedParagraph w m p
-  pub run : (doc state : List ℕ) (work w m : ℕ) → read_of doc ≡ Readable → runWorkWords ≤ work → WellFormedState (documentNames (tree_of doc)) state
+  pub paragraph : (p : Paragraph) (state : State) (scope : Environment) (w m : ℕ) → Stops (run_paragraph p state scope) w m → Trouble w m × PlacedParagraph w m p
+  pub run : (doc state : List ℕ) (work w m : ℕ) → read_of doc ≡ Readable → run_work_words ≤ work → WellFormedState (document_names (tree_of doc)) state
       → (run_of doc state work).finding ≡ Refused w m → Trouble w m × PlacedDocument w m (tree_of doc)

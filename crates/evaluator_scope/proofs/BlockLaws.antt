@@ -9,16 +9,16 @@ use lib.ListN.{length, get_or, set, take, drop, length-set, drop_of_length-le}
 use native.Mathlib.Nat.{eq-or-lt_of_le}
 use native.Mathlib.Numerals.{add-one}
 use mathlib.Core.Logic.{⊎_elim}
-use Rattle.words.proofs.Lists.{drop-next}
+use Rattle.words.proofs.Lists.{drop_next}
 use Rattle.values.specs.declared.held.Held.{Held}
-use Rattle.values.proofs.Holding.{held-len}
+use Rattle.values.proofs.Holding.{held_len}
 use lib.Seq.{sets, length-sets, get_or-take, get_or-drop, get_or-set_same, get_or-set_other, take-set-le, drop-set-lt, take-take, drop-drop}
 use borrow.Author.Tests.{eq-eqb, ne_eqb, eqb-true, eqb-false}
 use Rattle.values.specs.Value.{Value, Values, encode}
 use Rattle.values.specs.Value as Value
-use Rattle.evaluator_rules.specs.Environment.{Meaning, valued, generic, unknown, Environment, empty, bind, lookup, pick, refer, hasActuals}
+use Rattle.evaluator_rules.specs.Environment.{Meaning, valued, generic, unknown, Environment, empty, bind, lookup, pick, refer, has_actuals}
 use Rattle.evaluator_rules.specs.Assignments.{Domains, no_more, domain, domains}
-use Rattle.evaluator_scope.specs.Blocks.{field, Lies, Stored, Means, inState, inWork, isGeneric, Scoped, hidden, named, Pending, more, lastBlock, headed, value_of, Pushed, Leaves, headWords, blockWords}
+use Rattle.evaluator_scope.specs.Blocks.{field, Lies, Stored, Means, in_state, in_work, is_generic, Scoped, hidden, named, Pending, more, last_block, headed, value_of, Pushed, Leaves, head_words, block_words}
 use Rattle.evaluator_scope.specs.Blocks as Blocks
 use Rattle.values.specs.Lookup.{value_at}
 use Rattle.values.specs.Held.{keep as words}
@@ -26,69 +26,69 @@ use Rattle.reader_rules.specs.Tree.{Exprs}
 use Rattle.reader_rules.specs.Tree as Tree
 use Rattle.evaluator_operations.specs.declared.worked.Judgement.{Judgement}
 use Rattle.evaluator_operations.specs.Worked.{Holds, Told, Stops}
-use Rattle.evaluator_operations.proofs.ToldLaws.{stop-told}
+use Rattle.evaluator_operations.proofs.ToldLaws.{stop_told}
 use Rattle.evaluator_operations.proofs.GatherLaws.{copied}
-use Rattle.evaluator_operations.proofs.OperationLaws.{keep-told}
+use Rattle.evaluator_operations.proofs.OperationLaws.{keep_told}
 
-take-drop-take : (at len N : ℕ) (l : List ℕ) → at + len ≤ N → take len (drop at (take N l)) ≡ take len (drop at l)
-take-drop-take zero len N l h = take-take len N l (omega arith)
-take-drop-take (suc at) len zero l h = absurd (omega arith)
-take-drop-take (suc at) len (suc N) [] h = refl
-take-drop-take (suc at) len (suc N) (x ∷ l) h = take-drop-take at len N l (omega arith)
+take_drop_take : (at len N : ℕ) (l : List ℕ) → at + len ≤ N → take len (drop at (take N l)) ≡ take len (drop at l)
+take_drop_take zero len N l h = take-take len N l (omega arith)
+take_drop_take (suc at) len zero l h = absurd (omega arith)
+take_drop_take (suc at) len (suc N) [] h = refl
+take_drop_take (suc at) len (suc N) (x ∷ l) h = take_drop_take at len N l (omega arith)
 
 -- ---- words below a place that are the same before and after
 module _ (N : ℕ) (before after : List ℕ) (e : take N after ≡ take N before) where
   pub same_word : (i : ℕ) → i < N → get_or after i 0 ≡ get_or before i 0
   same_word i h = sym (get_or-take N after i 0 h) ∙ ap (λ (l : List ℕ). get_or l i 0) e ∙ get_or-take N before i 0 h
 
-  pub same-part : (at len : ℕ) → at + len ≤ N → take len (drop at after) ≡ take len (drop at before)
-  same-part at len h = sym (take-drop-take at len N after h) ∙ ap (λ (l : List ℕ). take len (drop at l)) e ∙ take-drop-take at len N before h
+  pub same_part : (at len : ℕ) → at + len ≤ N → take len (drop at after) ≡ take len (drop at before)
+  same_part at len h = sym (take_drop_take at len N after h) ∙ ap (λ (l : List ℕ). take len (drop at l)) e ∙ take_drop_take at len N before h
 
-  pub same-less : (m : ℕ) → m ≤ N → take m after ≡ take m before
-  same-less m h = sym (take-take m N after h) ∙ ap (λ (l : List ℕ). take m l) e ∙ take-take m N before h
+  pub same_less : (m : ℕ) → m ≤ N → take m after ≡ take m before
+  same_less m h = sym (take-take m N after h) ∙ ap (λ (l : List ℕ). take m l) e ∙ take-take m N before h
 
 stored_same : {v : Value} (u w : List ℕ) → u ≡ w → Stored w v → Stored u v
 stored_same u w e s = record { words = e ∙ s.words; short = s.short; narrow = s.narrow }
 
 module _ (state before after : List ℕ) where
-  means-same : (b : ℕ) {m : Meaning} → take (blockWords * (b + 1)) after ≡ take (blockWords * (b + 1)) before → Means state before b m → Means state after b m
-  means-same b e (inState c s) =
-      let f = same_word (blockWords * (b + 1)) before after e in
-      let f1 = f (blockWords * b + 1) (omega arith) in
-      let f2 = f (blockWords * b + 2) (omega arith) in
-      let f3 = f (blockWords * b + 3) (omega arith) in
-      inState (f1 ∙ c) (stored_same _ _ (rw (f2, f3)) s)
-  means-same b e (inWork c l s) =
-      let f = same_word (blockWords * (b + 1)) before after e in
-      let f1 = f (blockWords * b + 1) (omega arith) in
-      let f2 = f (blockWords * b + 2) (omega arith) in
-      let f3 = f (blockWords * b + 3) (omega arith) in
-      inWork (f1 ∙ c) (rw (f2, f3) l) (stored_same _ _ (rw (f2, f3) (same-part (blockWords * (b + 1)) before after e _ _ l)) s)
-  means-same b e (isGeneric c) = isGeneric (same_word (blockWords * (b + 1)) before after e (blockWords * b + 1) (omega arith) ∙ c)
+  means_same : (b : ℕ) {m : Meaning} → take (block_words * (b + 1)) after ≡ take (block_words * (b + 1)) before → Means state before b m → Means state after b m
+  means_same b e (in_state c s) =
+      let f = same_word (block_words * (b + 1)) before after e in
+      let f1 = f (block_words * b + 1) (omega arith) in
+      let f2 = f (block_words * b + 2) (omega arith) in
+      let f3 = f (block_words * b + 3) (omega arith) in
+      in_state (f1 ∙ c) (stored_same _ _ (rw (f2, f3)) s)
+  means_same b e (in_work c l s) =
+      let f = same_word (block_words * (b + 1)) before after e in
+      let f1 = f (block_words * b + 1) (omega arith) in
+      let f2 = f (block_words * b + 2) (omega arith) in
+      let f3 = f (block_words * b + 3) (omega arith) in
+      in_work (f1 ∙ c) (rw (f2, f3) l) (stored_same _ _ (rw (f2, f3) (same_part (block_words * (b + 1)) before after e _ _ l)) s)
+  means_same b e (is_generic c) = is_generic (same_word (block_words * (b + 1)) before after e (block_words * b + 1) (omega arith) ∙ c)
 
-  pub scoped-same : (n : ℕ) {scope : Environment} → take (blockWords * n) after ≡ take (blockWords * n) before → Scoped state before n scope → Scoped state after n scope
-  scoped-same zero e Blocks.none = Blocks.none
-  scoped-same (suc n) e (hidden s h) =
-      hidden (scoped-same n (same-less (blockWords * suc n) before after e (blockWords * n) (omega arith)) s) (same_word (blockWords * suc n) before after e (blockWords * n + 1) (omega arith) ∙ h)
-  scoped-same (suc n) e (named s i m) =
-      let q : blockWords * suc n ≡ blockWords * (n + 1) = omega arith in
-      named (scoped-same n (same-less (blockWords * suc n) before after e (blockWords * n) (omega arith)) s) (same_word (blockWords * suc n) before after e (blockWords * n + 0) (omega arith) ∙ i)
-      (means-same n (rw q at e) m)
+  pub scoped_same : (n : ℕ) {scope : Environment} → take (block_words * n) after ≡ take (block_words * n) before → Scoped state before n scope → Scoped state after n scope
+  scoped_same zero e Blocks.none = Blocks.none
+  scoped_same (suc n) e (hidden s h) =
+      hidden (scoped_same n (same_less (block_words * suc n) before after e (block_words * n) (omega arith)) s) (same_word (block_words * suc n) before after e (block_words * n + 1) (omega arith) ∙ h)
+  scoped_same (suc n) e (named s i m) =
+      let q : block_words * suc n ≡ block_words * (n + 1) = omega arith in
+      named (scoped_same n (same_less (block_words * suc n) before after e (block_words * n) (omega arith)) s) (same_word (block_words * suc n) before after e (block_words * n + 0) (omega arith) ∙ i)
+      (means_same n (rw q at e) m)
 
 -- a pending block, and those above it
-pub pending-same : (before after : List ℕ) (b m : ℕ) {ds : Domains} → take (blockWords * (b + m)) after ≡ take (blockWords * (b + m)) before → Pending before b m ds → Pending after b m ds
-pending-same before after b zero e Blocks.none = Blocks.none
-pending-same before after b (suc m) e (more {vs} i l s n p) =
-    let q : blockWords * (b + suc m) ≡ blockWords * (suc b + m) = omega arith in
-    more (same_word (blockWords * (b + suc m)) before after e (blockWords * b + 0) (omega arith) ∙ i)
-    (same-part (blockWords * (b + suc m)) before after e (blockWords * b + headWords) (length (encode (Value.set vs))) (omega arith) ∙ l) s n
-    (pending-same before after (suc b) m (rw q at e) p)
+pub pending_same : (before after : List ℕ) (b m : ℕ) {ds : Domains} → take (block_words * (b + m)) after ≡ take (block_words * (b + m)) before → Pending before b m ds → Pending after b m ds
+pending_same before after b zero e Blocks.none = Blocks.none
+pending_same before after b (suc m) e (more {vs} i l s n p) =
+    let q : block_words * (b + suc m) ≡ block_words * (suc b + m) = omega arith in
+    more (same_word (block_words * (b + suc m)) before after e (block_words * b + 0) (omega arith) ∙ i)
+    (same_part (block_words * (b + suc m)) before after e (block_words * b + head_words) (length (encode (Value.set vs))) (omega arith) ∙ l) s n
+    (pending_same before after (suc b) m (rw q at e) p)
 
 -- the words from block b on that are the same
-pub pending-above : (before after : List ℕ) (N : ℕ) → drop N after ≡ drop N before → (b m : ℕ) {ds : Domains} → N ≤ blockWords * b → Pending before b m ds → Pending after b m ds
-pending-above before after N e b zero h Blocks.none = Blocks.none
-pending-above before after N e b (suc m) h (more {vs} i l s n p) =
-    more (word (blockWords * b + 0) (omega arith) ∙ i) (ap (λ (x : List ℕ). take (length (encode (Value.set vs))) x) (rest (blockWords * b + headWords) (omega arith)) ∙ l) s n (pending-above before after N e (suc b) m (omega arith) p)
+pub pending_above : (before after : List ℕ) (N : ℕ) → drop N after ≡ drop N before → (b m : ℕ) {ds : Domains} → N ≤ block_words * b → Pending before b m ds → Pending after b m ds
+pending_above before after N e b zero h Blocks.none = Blocks.none
+pending_above before after N e b (suc m) h (more {vs} i l s n p) =
+    more (word (block_words * b + 0) (omega arith) ∙ i) (ap (λ (x : List ℕ). take (length (encode (Value.set vs))) x) (rest (block_words * b + head_words) (omega arith)) ∙ l) s n (pending_above before after N e (suc b) m (omega arith) p)
   where
     rest : (at : ℕ) → N ≤ at → drop at after ≡ drop at before
     rest at g =
@@ -102,50 +102,50 @@ pending-above before after N e b (suc m) h (more {vs} i l s n p) =
 
 -- ---- a block's head
 module _ (work : List ℕ) (b name class at len : ℕ) where
-  pub head-take : take (blockWords * b) (headed work b name class at len) ≡ take (blockWords * b) work
+  pub head_take : take (block_words * b) (headed work b name class at len) ≡ take (block_words * b) work
   unfolding headed
-  head-take =
-      take-set-le (blockWords * b) _ (blockWords * b + 3) len (omega arith) ∙ take-set-le (blockWords * b) _ (blockWords * b + 2) at (omega arith)
-      ∙ take-set-le (blockWords * b) _ (blockWords * b + 1) class (omega arith) ∙ take-set-le (blockWords * b) work (blockWords * b) name (omega arith)
+  head_take =
+      take-set-le (block_words * b) _ (block_words * b + 3) len (omega arith) ∙ take-set-le (block_words * b) _ (block_words * b + 2) at (omega arith)
+      ∙ take-set-le (block_words * b) _ (block_words * b + 1) class (omega arith) ∙ take-set-le (block_words * b) work (block_words * b) name (omega arith)
 
-  pub head-drop : drop (blockWords * b + headWords) (headed work b name class at len) ≡ drop (blockWords * b + headWords) work
+  pub head_drop : drop (block_words * b + head_words) (headed work b name class at len) ≡ drop (block_words * b + head_words) work
   unfolding headed
-  head-drop =
-      drop-set-lt (blockWords * b + headWords) _ (blockWords * b + 3) len (omega arith) ∙ drop-set-lt (blockWords * b + headWords) _ (blockWords * b + 2) at (omega arith)
-      ∙ drop-set-lt (blockWords * b + headWords) _ (blockWords * b + 1) class (omega arith) ∙ drop-set-lt (blockWords * b + headWords) work (blockWords * b) name (omega arith)
+  head_drop =
+      drop-set-lt (block_words * b + head_words) _ (block_words * b + 3) len (omega arith) ∙ drop-set-lt (block_words * b + head_words) _ (block_words * b + 2) at (omega arith)
+      ∙ drop-set-lt (block_words * b + head_words) _ (block_words * b + 1) class (omega arith) ∙ drop-set-lt (block_words * b + head_words) work (block_words * b) name (omega arith)
 
-  module _ (h : blockWords * b + headWords ≤ length work) where
+  module _ (h : block_words * b + head_words ≤ length work) where
     w1 : List ℕ
-    w1 = set work (blockWords * b) name
+    w1 = set work (block_words * b) name
 
     w2 : List ℕ
-    w2 = set w1 (blockWords * b + 1) class
+    w2 = set w1 (block_words * b + 1) class
 
     w3 : List ℕ
-    w3 = set w2 (blockWords * b + 2) at
+    w3 = set w2 (block_words * b + 2) at
 
-    pub head-name : field (headed work b name class at len) b 0 ≡ name
+    pub head_name : field (headed work b name class at len) b 0 ≡ name
     unfolding headed w1 w2 w3
-    head-name =
-        let q : blockWords * b + 0 ≡ blockWords * b = omega arith in
-        rw q (get_or-set_other w3 (blockWords * b + 3) (blockWords * b) len 0 (λ e. omega arith) ∙ get_or-set_other w2 (blockWords * b + 2) (blockWords * b) at 0 (λ e. omega arith)
-        ∙ get_or-set_other w1 (blockWords * b + 1) (blockWords * b) class 0 (λ e. omega arith) ∙ get_or-set_same work (blockWords * b) name 0 (omega arith))
+    head_name =
+        let q : block_words * b + 0 ≡ block_words * b = omega arith in
+        rw q (get_or-set_other w3 (block_words * b + 3) (block_words * b) len 0 (λ e. omega arith) ∙ get_or-set_other w2 (block_words * b + 2) (block_words * b) at 0 (λ e. omega arith)
+        ∙ get_or-set_other w1 (block_words * b + 1) (block_words * b) class 0 (λ e. omega arith) ∙ get_or-set_same work (block_words * b) name 0 (omega arith))
 
-    pub head-class : field (headed work b name class at len) b 1 ≡ class
+    pub head_class : field (headed work b name class at len) b 1 ≡ class
     unfolding headed w1 w2 w3
-    head-class =
-        get_or-set_other w3 (blockWords * b + 3) (blockWords * b + 1) len 0 (λ e. omega arith) ∙ get_or-set_other w2 (blockWords * b + 2) (blockWords * b + 1) at 0 (λ e. omega arith)
-        ∙ get_or-set_same w1 (blockWords * b + 1) class 0 (omega (arith, length-set work (blockWords * b) name))
+    head_class =
+        get_or-set_other w3 (block_words * b + 3) (block_words * b + 1) len 0 (λ e. omega arith) ∙ get_or-set_other w2 (block_words * b + 2) (block_words * b + 1) at 0 (λ e. omega arith)
+        ∙ get_or-set_same w1 (block_words * b + 1) class 0 (omega (arith, length-set work (block_words * b) name))
 
-    pub head-place : field (headed work b name class at len) b 2 ≡ at
+    pub head_place : field (headed work b name class at len) b 2 ≡ at
     unfolding headed w1 w2 w3
-    head-place =
-        get_or-set_other w3 (blockWords * b + 3) (blockWords * b + 2) len 0 (λ e. omega arith)
-        ∙ get_or-set_same w2 (blockWords * b + 2) at 0 (omega (arith, length-set work (blockWords * b) name, length-set w1 (blockWords * b + 1) class))
+    head_place =
+        get_or-set_other w3 (block_words * b + 3) (block_words * b + 2) len 0 (λ e. omega arith)
+        ∙ get_or-set_same w2 (block_words * b + 2) at 0 (omega (arith, length-set work (block_words * b) name, length-set w1 (block_words * b + 1) class))
 
-    pub head-length : field (headed work b name class at len) b 3 ≡ len
+    pub head_length : field (headed work b name class at len) b 3 ≡ len
     unfolding headed w1 w2 w3
-    head-length = get_or-set_same w3 (blockWords * b + 3) len 0 (omega (arith, length-set work (blockWords * b) name, length-set w1 (blockWords * b + 1) class, length-set w2 (blockWords * b + 2) at))
+    head_length = get_or-set_same w3 (block_words * b + 3) len 0 (omega (arith, length-set work (block_words * b) name, length-set w1 (block_words * b + 1) class, length-set w2 (block_words * b + 2) at))
 
 -- ---- the block of a name
 abbrev pub FoundBlock : List ℕ → List ℕ → ℕ → Meaning → Type 0
@@ -153,120 +153,120 @@ FoundBlock state work zero m = m ≡ unknown
 FoundBlock state work (suc b) m = Means state work b m
 
 module _ (state work : List ℕ) (i : ℕ) where
-  class-some : (b : ℕ) {m : Meaning} → Means state work b m → field work b 1 ≡ 0 → ⊥
-  class-some b (inState c s) e = omega arith
-  class-some b (inWork c l s) e = omega arith
-  class-some b (isGeneric c) e = omega arith
+  class_some : (b : ℕ) {m : Meaning} → Means state work b m → field work b 1 ≡ 0 → ⊥
+  class_some b (in_state c s) e = omega arith
+  class_some b (in_work c l s) e = omega arith
+  class_some b (is_generic c) e = omega arith
 
-  pub lookup-found : (n : ℕ) (scope : Environment) → Scoped state work n scope → FoundBlock state work (lastBlock work i n) (lookup i scope)
-  unfolding lastBlock lookup pick
-  lookup-found zero empty Blocks.none = refl
-  lookup-found (suc n) scope (hidden s h) = rw (eq-eqb (field work n 1) 0 h) (go (eqb (field work n 0) i) (lookup-found n scope s))
+  pub lookup_found : (n : ℕ) (scope : Environment) → Scoped state work n scope → FoundBlock state work (last_block work i n) (lookup i scope)
+  unfolding last_block lookup pick
+  lookup_found zero empty Blocks.none = refl
+  lookup_found (suc n) scope (hidden s h) = rw (eq-eqb (field work n 1) 0 h) (go (eqb (field work n 0) i) (lookup_found n scope s))
     where
-      go : (t : Bool) → FoundBlock state work (lastBlock work i n) (lookup i scope) → FoundBlock state work (cond t (lastBlock work i n) (lastBlock work i n)) (lookup i scope)
+      go : (t : Bool) → FoundBlock state work (last_block work i n) (lookup i scope) → FoundBlock state work (cond t (last_block work i n) (last_block work i n)) (lookup i scope)
       go true f = f
       go false f = f
-  lookup-found (suc n) (bind j m scope) (named s e q) =
-      rw (ne_eqb (field work n 1) 0 (class-some n q)) (go (eqb i j) (eqb-true i j) (eqb-false i j) (lookup-found n scope s))
+  lookup_found (suc n) (bind j m scope) (named s e q) =
+      rw (ne_eqb (field work n 1) 0 (class_some n q)) (go (eqb i j) (eqb-true i j) (eqb-false i j) (lookup_found n scope s))
     where
-      go : (t : Bool) → (t ≡ true → i ≡ j) → (t ≡ false → i ≡ j → ⊥) → FoundBlock state work (lastBlock work i n) (lookup i scope)
-          → FoundBlock state work (cond (eqb (field work n 0) i) (suc n) (lastBlock work i n)) (pick t m (lookup i scope))
+      go : (t : Bool) → (t ≡ true → i ≡ j) → (t ≡ false → i ≡ j → ⊥) → FoundBlock state work (last_block work i n) (lookup i scope)
+          → FoundBlock state work (cond (eqb (field work n 0) i) (suc n) (last_block work i n)) (pick t m (lookup i scope))
       go true y z f = rw (eq-eqb (field work n 0) i (e ∙ sym (y refl))) q
       go false y z f = rw (ne_eqb (field work n 0) i (λ g. z refl (sym g ∙ e))) f
 
 -- one turn of the search
 module _ (work : List ℕ) (i : ℕ) where
-  pub block-hit : (n : ℕ) → 0 < n → get_or work (blockWords * (n - 1)) 0 ≡ i → (get_or work (blockWords * (n - 1) + 1) 0 ≡ 0 → ⊥) → n ≡ lastBlock work i n
-  unfolding lastBlock
-  block-hit zero h e f = absurd (omega arith)
-  block-hit (suc n) h e f =
+  pub block_hit : (n : ℕ) → 0 < n → get_or work (block_words * (n - 1)) 0 ≡ i → (get_or work (block_words * (n - 1) + 1) 0 ≡ 0 → ⊥) → n ≡ last_block work i n
+  unfolding last_block
+  block_hit zero h e f = absurd (omega arith)
+  block_hit (suc n) h e f =
       let q : suc n - 1 ≡ n = omega arith in
-      let p : blockWords * n ≡ blockWords * n + 0 = omega arith in
-      sym (rw (eq-eqb (get_or work (blockWords * n + 0) 0) i (rw (q, p) at e), ne_eqb (get_or work (blockWords * n + 1) 0) 0 (rw q at f)))
+      let p : block_words * n ≡ block_words * n + 0 = omega arith in
+      sym (rw (eq-eqb (get_or work (block_words * n + 0) 0) i (rw (q, p) at e), ne_eqb (get_or work (block_words * n + 1) 0) 0 (rw q at f)))
 
-  pub block-hidden : (n : ℕ) → 0 < n → get_or work (blockWords * (n - 1) + 1) 0 ≡ 0 → lastBlock work i n ≡ lastBlock work i (n - 1)
-  unfolding lastBlock
-  block-hidden zero h e = absurd (omega arith)
-  block-hidden (suc n) h e =
+  pub block_hidden : (n : ℕ) → 0 < n → get_or work (block_words * (n - 1) + 1) 0 ≡ 0 → last_block work i n ≡ last_block work i (n - 1)
+  unfolding last_block
+  block_hidden zero h e = absurd (omega arith)
+  block_hidden (suc n) h e =
       let q : suc n - 1 ≡ n = omega arith in
-      rw (q, eq-eqb (get_or work (blockWords * n + 1) 0) 0 (rw q at e)) (go (eqb (field work n 0) i))
+      rw (q, eq-eqb (get_or work (block_words * n + 1) 0) 0 (rw q at e)) (go (eqb (field work n 0) i))
     where
-      go : (t : Bool) → cond t (lastBlock work i n) (lastBlock work i n) ≡ lastBlock work i n
+      go : (t : Bool) → cond t (last_block work i n) (last_block work i n) ≡ last_block work i n
       go true = refl
       go false = refl
 
-  pub block-other : (n : ℕ) → 0 < n → (get_or work (blockWords * (n - 1)) 0 ≡ i → ⊥) → lastBlock work i n ≡ lastBlock work i (n - 1)
-  unfolding lastBlock
-  block-other zero h e = absurd (omega arith)
-  block-other (suc n) h e =
+  pub block_other : (n : ℕ) → 0 < n → (get_or work (block_words * (n - 1)) 0 ≡ i → ⊥) → last_block work i n ≡ last_block work i (n - 1)
+  unfolding last_block
+  block_other zero h e = absurd (omega arith)
+  block_other (suc n) h e =
       let q : suc n - 1 ≡ n = omega arith in
-      let p : blockWords * n ≡ blockWords * n + 0 = omega arith in
-      rw (q, ne_eqb (get_or work (blockWords * n + 0) 0) i (rw (q, p) at e))
+      let p : block_words * n ≡ block_words * n + 0 = omega arith in
+      rw (q, ne_eqb (get_or work (block_words * n + 0) 0) i (rw (q, p) at e))
 
-  pub block_none : 0 ≡ lastBlock work i 0
-  unfolding lastBlock
+  pub block_none : 0 ≡ last_block work i 0
+  unfolding last_block
   block_none = refl
 
 -- ---- a Ref to the name of a block
 module _ (state work : List ℕ) (b k : ℕ) (m : Meaning) (f : FoundBlock state work b m) (xs : Exprs) (r : Judgement) where
-  pub refer-unknown : {R : Judgement → Value → Type 0} → b ≡ 0 → Stops r 51 k → Told R r (refer k xs m)
+  pub refer_unknown : {R : Judgement → Value → Type 0} → b ≡ 0 → Stops r 51 k → Told R r (refer k xs m)
   unfolding refer
-  refer-unknown {R} e s = rw (unknown-of b e f) (go xs)
+  refer_unknown {R} e s = rw (unknown_of b e f) (go xs)
     where
-      unknown-of : (c : ℕ) → c ≡ 0 → FoundBlock state work c m → m ≡ unknown
-      unknown-of zero q g = g
-      unknown-of (suc c) q g = absurd (omega arith)
+      unknown_of : (c : ℕ) → c ≡ 0 → FoundBlock state work c m → m ≡ unknown
+      unknown_of zero q g = g
+      unknown_of (suc c) q g = absurd (omega arith)
 
       go : (ys : Exprs) → Told R r (refer k ys unknown)
-      go Tree.none = stop-told s (λ z. omega arith)
-      go (Tree.more a ys) = stop-told s (λ z. omega arith)
+      go Tree.none = stop_told s (λ z. omega arith)
+      go (Tree.more a ys) = stop_told s (λ z. omega arith)
 
-  means-of : (b ≡ 0 → ⊥) → Means state work (b - 1) m
-  means-of h = go b h f
+  means_of : (b ≡ 0 → ⊥) → Means state work (b - 1) m
+  means_of h = go b h f
     where
       go : (c : ℕ) → (c ≡ 0 → ⊥) → FoundBlock state work c m → Means state work (c - 1) m
       go zero q g = absurd (q refl)
       go (suc c) q g = let e : c ≡ suc c - 1 = omega arith in subst (λ (j : ℕ). Means state work j m) e g
 
-  pub refer-generic : {R : Judgement → Value → Type 0} → (b ≡ 0 → ⊥) → field work (b - 1) 1 ≡ 3 → Stops r 54 k → Told R r (refer k xs m)
+  pub refer_generic : {R : Judgement → Value → Type 0} → (b ≡ 0 → ⊥) → field work (b - 1) 1 ≡ 3 → Stops r 54 k → Told R r (refer k xs m)
   unfolding refer
-  refer-generic {R} g c s = go m (means-of g) xs
+  refer_generic {R} g c s = go m (means_of g) xs
     where
       go : (n : Meaning) → Means state work (b - 1) n → (ys : Exprs) → Told R r (refer k ys n)
-      go (valued v) (inState d t) ys = absurd (omega arith)
-      go (valued v) (inWork d l t) ys = absurd (omega arith)
-      go generic (isGeneric d) Tree.none = stop-told s (λ z. omega arith)
-      go generic (isGeneric d) (Tree.more a ys) = stop-told s (λ z. omega arith)
+      go (valued v) (in_state d t) ys = absurd (omega arith)
+      go (valued v) (in_work d l t) ys = absurd (omega arith)
+      go generic (is_generic d) Tree.none = stop_told s (λ z. omega arith)
+      go generic (is_generic d) (Tree.more a ys) = stop_told s (λ z. omega arith)
 
-  pub refer-actuals : {R : Judgement → Value → Type 0} → (b ≡ 0 → ⊥) → (field work (b - 1) 1 ≡ 3 → ⊥) → true ≡ hasActuals xs → Stops r 51 k → Told R r (refer k xs m)
-  unfolding refer hasActuals
-  refer-actuals {R} g c a s = go m (means-of g) xs a
+  pub refer_actuals : {R : Judgement → Value → Type 0} → (b ≡ 0 → ⊥) → (field work (b - 1) 1 ≡ 3 → ⊥) → true ≡ has_actuals xs → Stops r 51 k → Told R r (refer k xs m)
+  unfolding refer has_actuals
+  refer_actuals {R} g c a s = go m (means_of g) xs a
     where
-      go : (n : Meaning) → Means state work (b - 1) n → (ys : Exprs) → true ≡ hasActuals ys → Told R r (refer k ys n)
+      go : (n : Meaning) → Means state work (b - 1) n → (ys : Exprs) → true ≡ has_actuals ys → Told R r (refer k ys n)
       go n q Tree.none e = absurd (true≢false e)
-      go (valued v) (inState d t) (Tree.more y ys) e = stop-told s (λ z. omega arith)
-      go (valued v) (inWork d l t) (Tree.more y ys) e = stop-told s (λ z. omega arith)
-      go generic (isGeneric d) (Tree.more y ys) e = absurd (c d)
+      go (valued v) (in_state d t) (Tree.more y ys) e = stop_told s (λ z. omega arith)
+      go (valued v) (in_work d l t) (Tree.more y ys) e = stop_told s (λ z. omega arith)
+      go generic (is_generic d) (Tree.more y ys) e = absurd (c d)
 
-  pub refer-value : {R : Judgement → Value → Type 0} → (b ≡ 0 → ⊥) → (field work (b - 1) 1 ≡ 3 → ⊥) → false ≡ hasActuals xs → r.number ≡ 0 →
+  pub refer_value : {R : Judgement → Value → Type 0} → (b ≡ 0 → ⊥) → (field work (b - 1) 1 ≡ 3 → ⊥) → false ≡ has_actuals xs → r.number ≡ 0 →
       ((v : Value) → Stored (value_of state work (b - 1)) v → R r v) → Told R r (refer k xs m)
-  unfolding refer hasActuals value_of value_at
-  refer-value {R} g c a z w = go m (means-of g) xs a
+  unfolding refer has_actuals value_of value_at
+  refer_value {R} g c a z w = go m (means_of g) xs a
     where
-      go : (n : Meaning) → Means state work (b - 1) n → (ys : Exprs) → false ≡ hasActuals ys → Told R r (refer k ys n)
+      go : (n : Meaning) → Means state work (b - 1) n → (ys : Exprs) → false ≡ has_actuals ys → Told R r (refer k ys n)
       go n q (Tree.more y ys) e = absurd (true≢false (sym e))
-      go (valued v) (inState d t) Tree.none e = keep-told k v r z t.short (w v (rw (eq-eqb (field work (b - 1) 1) 1 d) t))
-      go (valued v) (inWork d l t) Tree.none e = keep-told k v r z t.short (w v (rw (ne_eqb (field work (b - 1) 1) 1 (λ y. omega arith)) t))
-      go generic (isGeneric d) Tree.none e = absurd (c d)
+      go (valued v) (in_state d t) Tree.none e = keep_told k v r z t.short (w v (rw (eq-eqb (field work (b - 1) 1) 1 d) t))
+      go (valued v) (in_work d l t) Tree.none e = keep_told k v r z t.short (w v (rw (ne_eqb (field work (b - 1) 1) 1 (λ y. omega arith)) t))
+      go generic (is_generic d) Tree.none e = absurd (c d)
 
 -- ---- identifiers with the set that they run through
-take-sets : (ws l : List ℕ) (N i : ℕ) → N ≤ i → take N (sets l i ws) ≡ take N l
-take-sets [] l N i h = refl
-take-sets (a ∷ ws) l N i h = take-sets ws (set l i a) N (suc i) (omega arith) ∙ take-set-le N l i a h
+take_sets : (ws l : List ℕ) (N i : ℕ) → N ≤ i → take N (sets l i ws) ≡ take N l
+take_sets [] l N i h = refl
+take_sets (a ∷ ws) l N i h = take_sets ws (set l i a) N (suc i) (omega arith) ∙ take-set-le N l i a h
 
-length-headed : (work : List ℕ) (b name class at len : ℕ) → length (headed work b name class at len) ≡ length work
+length_headed : (work : List ℕ) (b name class at len : ℕ) → length (headed work b name class at len) ≡ length work
 unfolding headed
-length-headed work b name class at len = simp length-set
+length_headed work b name class at len = simp length-set
 
 pub pushed_none : (work x : List ℕ) (b j : ℕ) (v : Held) → length x ≤ j →
     Pushed work work b (length x - j) ((vs : Values) → Holds v (Value.set vs) → Pending work b (length x - j) (domains (drop j x) vs no_more))
@@ -275,9 +275,9 @@ pushed_none work x b j v h =
     let z : length x - j ≡ 0 = omega arith in
     record { kept = refl; hidden = λ i p q. absurd (omega arith); told = λ vs g. rw (z, drop_of_length-le x h) Blocks.none }
 
-module _ (w0 w1 w2 w3 x : List ℕ) (b j : ℕ) (v : Held) (e1 : w1 ≡ headed w0 b (get_or x j 0) 0 0 0) (e2 : w2 ≡ sets w1 (blockWords * b + headWords) v.words) (long : blockWords * (b + 1) ≤ length w0) (h : j < length x) where
-  below4 : take (blockWords * b + headWords) w2 ≡ take (blockWords * b + headWords) w1
-  below4 = rw e2 (take-sets v.words w1 (blockWords * b + headWords) (blockWords * b + headWords) (omega arith))
+module _ (w0 w1 w2 w3 x : List ℕ) (b j : ℕ) (v : Held) (e1 : w1 ≡ headed w0 b (get_or x j 0) 0 0 0) (e2 : w2 ≡ sets w1 (block_words * b + head_words) v.words) (long : block_words * (b + 1) ≤ length w0) (h : j < length x) where
+  below4 : take (block_words * b + head_words) w2 ≡ take (block_words * b + head_words) w1
+  below4 = rw e2 (take_sets v.words w1 (block_words * b + head_words) (block_words * b + head_words) (omega arith))
 
   pub pushed_more : Pushed w2 w3 (b + 1) (length x - (j + 1)) ((vs : Values) → Holds v (Value.set vs) → Pending w3 (b + 1) (length x - (j + 1)) (domains (drop (j + 1) x) vs no_more)) →
       Pushed w0 w3 b (length x - j) ((vs : Values) → Holds v (Value.set vs) → Pending w3 b (length x - j) (domains (drop j x) vs no_more))
@@ -285,69 +285,69 @@ module _ (w0 w1 w2 w3 x : List ℕ) (b j : ℕ) (v : Held) (e1 : w1 ≡ headed w
   pushed_more p =
       let k = p.kept in
       let m : length x - j ≡ suc (length x - (j + 1)) = omega arith in
-      let c2 : (i : ℕ) → i < blockWords * b + headWords → get_or w2 i 0 ≡ get_or w1 i 0 = same_word (blockWords * b + headWords) w1 w2 below4 in
-      let c3 : (i : ℕ) → i < blockWords * (b + 1) → get_or w3 i 0 ≡ get_or w2 i 0 = same_word (blockWords * (b + 1)) w2 w3 k in
-      let l4 : blockWords * b + headWords ≤ length w0 = omega arith in
-      let class : field w3 b 1 ≡ 0 = c3 (blockWords * b + 1) (omega arith) ∙ c2 (blockWords * b + 1) (omega arith) ∙ (rw e1 (head-class w0 b (get_or x j 0) 0 0 0 l4)) in
-      let name : field w3 b 0 ≡ get_or x j 0 = c3 (blockWords * b + 0) (omega arith) ∙ c2 (blockWords * b + 0) (omega arith) ∙ (rw e1 (head-name w0 b (get_or x j 0) 0 0 0 l4)) in
-      let l1 : blockWords * b + headWords + 64 ≤ length w1 = omega (arith, ap length e1, length-headed w0 b (get_or x j 0) 0 0 0) in
+      let c2 : (i : ℕ) → i < block_words * b + head_words → get_or w2 i 0 ≡ get_or w1 i 0 = same_word (block_words * b + head_words) w1 w2 below4 in
+      let c3 : (i : ℕ) → i < block_words * (b + 1) → get_or w3 i 0 ≡ get_or w2 i 0 = same_word (block_words * (b + 1)) w2 w3 k in
+      let l4 : block_words * b + head_words ≤ length w0 = omega arith in
+      let class : field w3 b 1 ≡ 0 = c3 (block_words * b + 1) (omega arith) ∙ c2 (block_words * b + 1) (omega arith) ∙ (rw e1 (head_class w0 b (get_or x j 0) 0 0 0 l4)) in
+      let name : field w3 b 0 ≡ get_or x j 0 = c3 (block_words * b + 0) (omega arith) ∙ c2 (block_words * b + 0) (omega arith) ∙ (rw e1 (head_name w0 b (get_or x j 0) 0 0 0 l4)) in
+      let l1 : block_words * b + head_words + 64 ≤ length w1 = omega (arith, ap length e1, length_headed w0 b (get_or x j 0) 0 0 0) in
       record {
         kept =
-            same-less (blockWords * (b + 1)) w2 w3 k (blockWords * b) (omega arith) ∙ same-less (blockWords * b + headWords) w1 w2 below4 (blockWords * b) (omega arith)
-            ∙ (rw e1 (head-take w0 b (get_or x j 0) 0 0 0));
+            same_less (block_words * (b + 1)) w2 w3 k (block_words * b) (omega arith) ∙ same_less (block_words * b + head_words) w1 w2 below4 (block_words * b) (omega arith)
+            ∙ (rw e1 (head_take w0 b (get_or x j 0) 0 0 0));
         hidden = λ i q r. ⊎_elim (λ t. subst (λ (y : ℕ). field w3 y 1 ≡ 0) t class) (λ t. p.hidden i (omega arith) (omega arith)) (eq-or-lt_of_le q);
         told = λ vs g.
-            let lies : Lies w2 (blockWords * b + headWords) (encode (Value.set vs)) = rw e2 (copied w1 (blockWords * b + headWords) v (Value.set vs) g l1) in
+            let lies : Lies w2 (block_words * b + head_words) (encode (Value.set vs)) = rw e2 (copied w1 (block_words * b + head_words) v (Value.set vs) g l1) in
             let s = g.short in
             let next : Pending w3 (suc b) (length x - (j + 1)) (domains (drop (j + 1) x) vs no_more) = (rw (add-one b) at (p.told vs g)) in
-            rw (m, drop-next x j h)
-            (more name (same-part (blockWords * (b + 1)) w2 w3 k (blockWords * b + headWords) (length (encode (Value.set vs))) (omega arith) ∙ lies) s g.narrow next);
+            rw (m, drop_next x j h)
+            (more name (same_part (block_words * (b + 1)) w2 w3 k (block_words * b + head_words) (length (encode (Value.set vs))) (omega arith) ∙ lies) s g.narrow next);
       }
 
 -- ---- a new name
-module _ (w0 w1 w2 : List ℕ) (n name : ℕ) (v : Held) (e1 : w1 ≡ sets w0 (blockWords * n + headWords) v.words) (e2 : w2 ≡ headed w1 n name 2 (blockWords * n + headWords) v.len) (long : blockWords * (n + 1) ≤ length w0) where
-  value-kept : take (blockWords * n) w2 ≡ take (blockWords * n) w0
-  value-kept =
-      let a : take (blockWords * n) w2 ≡ take (blockWords * n) w1 = (rw e2 (head-take w1 n name 2 (blockWords * n + headWords) v.len)) in
-      let b : take (blockWords * n) w1 ≡ take (blockWords * n) w0 = (rw e1 (take-sets v.words w0 (blockWords * n) (blockWords * n + headWords) (omega arith))) in
+module _ (w0 w1 w2 : List ℕ) (n name : ℕ) (v : Held) (e1 : w1 ≡ sets w0 (block_words * n + head_words) v.words) (e2 : w2 ≡ headed w1 n name 2 (block_words * n + head_words) v.len) (long : block_words * (n + 1) ≤ length w0) where
+  value_kept : take (block_words * n) w2 ≡ take (block_words * n) w0
+  value_kept =
+      let a : take (block_words * n) w2 ≡ take (block_words * n) w1 = (rw e2 (head_take w1 n name 2 (block_words * n + head_words) v.len)) in
+      let b : take (block_words * n) w1 ≡ take (block_words * n) w0 = (rw e1 (take_sets v.words w0 (block_words * n) (block_words * n + head_words) (omega arith))) in
       a ∙ b
 
-  pub bind-value : Leaves n w0 w2 ((state : List ℕ) (scope : Environment) (x : Value) → Scoped state w0 n scope → Holds v x → Scoped state w2 (n + 1) (bind name (valued x) scope))
-  bind-value =
-      let l1 : blockWords * n + headWords ≤ length w1 = omega (arith, ap length e1, length-sets w0 (blockWords * n + headWords) v.words) in
-      let tag : field w2 n 0 ≡ name = (rw e2 (head-name w1 n name 2 (blockWords * n + headWords) v.len l1)) in
-      let class : field w2 n 1 ≡ 2 = (rw e2 (head-class w1 n name 2 (blockWords * n + headWords) v.len l1)) in
-      let place : field w2 n 2 ≡ blockWords * n + headWords = (rw e2 (head-place w1 n name 2 (blockWords * n + headWords) v.len l1)) in
-      let size : field w2 n 3 ≡ v.len = (rw e2 (head-length w1 n name 2 (blockWords * n + headWords) v.len l1)) in
-      let above : drop (blockWords * n + headWords) w2 ≡ drop (blockWords * n + headWords) w1 = (rw e2 (head-drop w1 n name 2 (blockWords * n + headWords) v.len)) in
+  pub bind_value : Leaves n w0 w2 ((state : List ℕ) (scope : Environment) (x : Value) → Scoped state w0 n scope → Holds v x → Scoped state w2 (n + 1) (bind name (valued x) scope))
+  bind_value =
+      let l1 : block_words * n + head_words ≤ length w1 = omega (arith, ap length e1, length-sets w0 (block_words * n + head_words) v.words) in
+      let tag : field w2 n 0 ≡ name = (rw e2 (head_name w1 n name 2 (block_words * n + head_words) v.len l1)) in
+      let class : field w2 n 1 ≡ 2 = (rw e2 (head_class w1 n name 2 (block_words * n + head_words) v.len l1)) in
+      let place : field w2 n 2 ≡ block_words * n + head_words = (rw e2 (head_place w1 n name 2 (block_words * n + head_words) v.len l1)) in
+      let size : field w2 n 3 ≡ v.len = (rw e2 (head_length w1 n name 2 (block_words * n + head_words) v.len l1)) in
+      let above : drop (block_words * n + head_words) w2 ≡ drop (block_words * n + head_words) w1 = (rw e2 (head_drop w1 n name 2 (block_words * n + head_words) v.len)) in
       record {
-        kept = value-kept;
+        kept = value_kept;
         told = λ state scope x sc h.
             let s = h.short in
-            let len : v.len ≡ length (encode x) = held-len v (encode x) h.words h.short in
-            let lies : Lies w1 (blockWords * n + headWords) (encode x) = (rw e1 (copied w0 (blockWords * n + headWords) v x h (omega arith))) in
+            let len : v.len ≡ length (encode x) = held_len v (encode x) h.words h.short in
+            let lies : Lies w1 (block_words * n + head_words) (encode x) = (rw e1 (copied w0 (block_words * n + head_words) v x h (omega arith))) in
             rw (add-one n)
-            (named (scoped-same state w0 w2 n value-kept sc) tag
-            (inWork {v = x} class (rw (place, size) (omega arith))
-            (rw (place, size) (record { words = ap (λ (y : List ℕ). take v.len y) above ∙ ap (λ (j : ℕ). take j (drop (blockWords * n + headWords) w1)) len ∙ lies; short = h.short; narrow = h.narrow }))));
+            (named (scoped_same state w0 w2 n value_kept sc) tag
+            (in_work {v = x} class (rw (place, size) (omega arith))
+            (rw (place, size) (record { words = ap (λ (y : List ℕ). take v.len y) above ∙ ap (λ (j : ℕ). take j (drop (block_words * n + head_words) w1)) len ∙ lies; short = h.short; narrow = h.narrow }))));
       }
 
-module _ (w0 w1 : List ℕ) (n name class at len : ℕ) (e1 : w1 ≡ headed w0 n name class at len) (long : blockWords * (n + 1) ≤ length w0) where
-  head-kept : take (blockWords * n) w1 ≡ take (blockWords * n) w0
-  head-kept = rw e1 (head-take w0 n name class at len)
+module _ (w0 w1 : List ℕ) (n name class at len : ℕ) (e1 : w1 ≡ headed w0 n name class at len) (long : block_words * (n + 1) ≤ length w0) where
+  head_kept : take (block_words * n) w1 ≡ take (block_words * n) w0
+  head_kept = rw e1 (head_take w0 n name class at len)
 
-  pub bind-generic : class ≡ 3 → Leaves n w0 w1 ((state : List ℕ) (scope : Environment) → Scoped state w0 n scope → Scoped state w1 (n + 1) (bind name generic scope))
-  bind-generic c =
-      let l : blockWords * n + headWords ≤ length w0 = omega arith in
-      let tag : field w1 n 0 ≡ name = (rw e1 (head-name w0 n name class at len l)) in
-      let kind : field w1 n 1 ≡ class = (rw e1 (head-class w0 n name class at len l)) in
-      record { kept = head-kept; told = λ state scope sc. rw (add-one n) (named (scoped-same state w0 w1 n head-kept sc) tag (isGeneric (kind ∙ c))) }
+  pub bind_generic : class ≡ 3 → Leaves n w0 w1 ((state : List ℕ) (scope : Environment) → Scoped state w0 n scope → Scoped state w1 (n + 1) (bind name generic scope))
+  bind_generic c =
+      let l : block_words * n + head_words ≤ length w0 = omega arith in
+      let tag : field w1 n 0 ≡ name = (rw e1 (head_name w0 n name class at len l)) in
+      let kind : field w1 n 1 ≡ class = (rw e1 (head_class w0 n name class at len l)) in
+      record { kept = head_kept; told = λ state scope sc. rw (add-one n) (named (scoped_same state w0 w1 n head_kept sc) tag (is_generic (kind ∙ c))) }
 
-  pub bind-entry : class ≡ 1 → Leaves n w0 w1 ((state : List ℕ) (scope : Environment) (x : Value) → Scoped state w0 n scope → Stored (take len (drop at state)) x → Scoped state w1 (n + 1) (bind name (valued x) scope))
-  bind-entry c =
-      let l : blockWords * n + headWords ≤ length w0 = omega arith in
-      let tag : field w1 n 0 ≡ name = (rw e1 (head-name w0 n name class at len l)) in
-      let kind : field w1 n 1 ≡ class = (rw e1 (head-class w0 n name class at len l)) in
-      let place : field w1 n 2 ≡ at = (rw e1 (head-place w0 n name class at len l)) in
-      let size : field w1 n 3 ≡ len = (rw e1 (head-length w0 n name class at len l)) in
-      record { kept = head-kept; told = λ state scope x sc s. rw (add-one n) (named (scoped-same state w0 w1 n head-kept sc) tag (inState {v = x} (kind ∙ c) (rw (place, size) s))) }
+  pub bind_entry : class ≡ 1 → Leaves n w0 w1 ((state : List ℕ) (scope : Environment) (x : Value) → Scoped state w0 n scope → Stored (take len (drop at state)) x → Scoped state w1 (n + 1) (bind name (valued x) scope))
+  bind_entry c =
+      let l : block_words * n + head_words ≤ length w0 = omega arith in
+      let tag : field w1 n 0 ≡ name = (rw e1 (head_name w0 n name class at len l)) in
+      let kind : field w1 n 1 ≡ class = (rw e1 (head_class w0 n name class at len l)) in
+      let place : field w1 n 2 ≡ at = (rw e1 (head_place w0 n name class at len l)) in
+      let size : field w1 n 3 ≡ len = (rw e1 (head_length w0 n name class at len l)) in
+      record { kept = head_kept; told = λ state scope x sc s. rw (add-one n) (named (scoped_same state w0 w1 n head_kept sc) tag (in_state {v = x} (kind ∙ c) (rw (place, size) s))) }

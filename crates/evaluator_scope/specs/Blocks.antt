@@ -9,18 +9,18 @@ use Rattle.evaluator_rules.specs.Assignments.{Domains, no_more, domain}
 use Rattle.evaluator_operations.specs.Worked.{narrow}
 
 -- the words of a block's head, and of a block; the blocks that the work area has room for
-abbrev pub headWords : ℕ
-headWords = 4
+abbrev pub head_words : ℕ
+head_words = 4
 
-abbrev pub blockWords : ℕ
-blockWords = headWords + 64
+abbrev pub block_words : ℕ
+block_words = head_words + 64
 
-abbrev pub blockCount : ℕ
-blockCount = 240
+abbrev pub block_count : ℕ
+block_count = 240
 
 -- word j of block b
 abbrev pub field : List ℕ → ℕ → ℕ → ℕ
-field work b j = get_or work (blockWords * b + j) 0
+field work b j = get_or work (block_words * b + j) 0
 
 -- the words ws lie at a place
 abbrev pub Lies : List ℕ → ℕ → List ℕ → Type 0
@@ -34,10 +34,10 @@ pub record Stored (ws : List ℕ) (v : Value) : Type 0 where
 
 -- what block b says
 pub data Means (state work : List ℕ) (b : ℕ) : Meaning → Type 0 where
-  inState : {v : Value} → field work b 1 ≡ 1 → Stored (take (field work b 3) (drop (field work b 2) state)) v → Means state work b (valued v)
-  inWork : {v : Value} → field work b 1 ≡ 2 → field work b 2 + field work b 3 ≤ blockWords * (b + 1) → Stored (take (field work b 3) (drop (field work b 2) work)) v →
+  in_state : {v : Value} → field work b 1 ≡ 1 → Stored (take (field work b 3) (drop (field work b 2) state)) v → Means state work b (valued v)
+  in_work : {v : Value} → field work b 1 ≡ 2 → field work b 2 + field work b 3 ≤ block_words * (b + 1) → Stored (take (field work b 3) (drop (field work b 2) work)) v →
       Means state work b (valued v)
-  isGeneric : field work b 1 ≡ 3 → Means state work b generic
+  is_generic : field work b 1 ≡ 3 → Means state work b generic
 
 -- the first n blocks are the names of a scope
 pub data Scoped (state work : List ℕ) : ℕ → Environment → Type 0 where
@@ -49,7 +49,7 @@ pub data Scoped (state work : List ℕ) : ℕ → Environment → Type 0 where
 -- the m blocks from b on are identifiers with the sets that they run through
 pub data Pending (work : List ℕ) : ℕ → ℕ → Domains → Type 0 where
   none : {b : ℕ} → Pending work b 0 no_more
-  more : {b m i : ℕ} {vs : Values} {ds : Domains} → field work b 0 ≡ i → Lies work (blockWords * b + headWords) (encode (Value.set vs)) → length (encode (Value.set vs)) ≤ 64 → narrow (Value.set vs) ≡ true →
+  more : {b m i : ℕ} {vs : Values} {ds : Domains} → field work b 0 ≡ i → Lies work (block_words * b + head_words) (encode (Value.set vs)) → length (encode (Value.set vs)) ≤ 64 → narrow (Value.set vs) ≡ true →
       Pending work (suc b) m ds → Pending work b (suc m) (domain i vs ds)
 
 -- the words of block b's value
@@ -57,21 +57,21 @@ unfoldable pub value_of : List ℕ → List ℕ → ℕ → List ℕ
 value_of state work b = value_at state work (eqb (field work b 1) 1) (field work b 2) (field work b 3)
 
 -- the last block among the first n that is in scope under a name, counted from 1; 0 where there is none
-unfoldable pub lastBlock : List ℕ → ℕ → ℕ → ℕ
-lastBlock work name zero = 0
-lastBlock work name (suc n) = cond (eqb (field work n 0) name) (cond (eqb (field work n 1) 0) (lastBlock work name n) (suc n)) (lastBlock work name n)
+unfoldable pub last_block : List ℕ → ℕ → ℕ → ℕ
+last_block work name zero = 0
+last_block work name (suc n) = cond (eqb (field work n 0) name) (cond (eqb (field work n 1) 0) (last_block work name n) (suc n)) (last_block work name n)
 
 -- a work area after the head of block b was written: nothing else changed
 unfoldable pub headed : List ℕ → ℕ → ℕ → ℕ → ℕ → ℕ → List ℕ
-headed work b name class at len = set (set (set (set work (blockWords * b) name) (blockWords * b + 1) class) (blockWords * b + 2) at) (blockWords * b + 3) len
+headed work b name class at len = set (set (set (set work (block_words * b) name) (block_words * b + 1) class) (block_words * b + 2) at) (block_words * b + 3) len
 
 -- the first n blocks stay as they are
 pub record Leaves (n : ℕ) (before after : List ℕ) (Claim : Type 0) : Type 0 where
-  pub kept : take (blockWords * n) after ≡ take (blockWords * n) before
+  pub kept : take (block_words * n) after ≡ take (block_words * n) before
   pub told : Claim
 
 -- m blocks from b on that are not in scope, of which the claim says more; those before stay as they are
 pub record Pushed (before after : List ℕ) (b m : ℕ) (Claim : Type 0) : Type 0 where
-  pub kept : take (blockWords * b) after ≡ take (blockWords * b) before
+  pub kept : take (block_words * b) after ≡ take (block_words * b) before
   pub hidden : (j : ℕ) → b ≤ j → j < b + m → field after j 1 ≡ 0
   pub told : Claim

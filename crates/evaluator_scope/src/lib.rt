@@ -7,11 +7,11 @@ ghost use Rattle.values.specs.Value.{Value, Values};
 ghost use Rattle.values.specs.Value as Value;
 ghost use Rattle.std.proofs.lemmas.List.Edits.{sets};
 ghost use Rattle.reader_rules.specs.Tree.{Exprs};
-ghost use Rattle.evaluator_rules.specs.Run.{runWorkWords};
-ghost use Rattle.evaluator_rules.specs.Environment.{Environment, valued, generic, bind, lookup, refer, hasActuals};
+ghost use Rattle.evaluator_rules.specs.Run.{run_work_words};
+ghost use Rattle.evaluator_rules.specs.Environment.{Environment, valued, generic, bind, lookup, refer, has_actuals};
 ghost use Rattle.evaluator_rules.specs.Assignments.{no_more, domains};
 ghost use Rattle.evaluator_operations.specs.Worked.{Holds, Told, Valued, Integral};
-ghost use Rattle.evaluator_scope.specs.Blocks.{Leaves, Stored, Scoped, Pending, Pushed, lastBlock, headed, value_of, headWords, blockWords, blockCount};
+ghost use Rattle.evaluator_scope.specs.Blocks.{Leaves, Stored, Scoped, Pending, Pushed, last_block, headed, value_of, head_words, block_words, block_count};
 
 use codes::{findings, limits};
 use evaluator_operations::worked::{Operand, Worked, found, go, no_operand, stop};
@@ -46,8 +46,8 @@ const GENERIC: u32 = classes::GENERIC as u32;
 
 // The last of the first n blocks that is in scope under a name, counted from 1; 0 where there is none.
 fn find(work: &[u32], n: usize, name: usize) -> usize
-    requires { n ≤ blockCount }
-    ensures { (result ≡ lastBlock work.now name n) × (result ≤ n) }
+    requires { n ≤ block_count }
+    ensures { (result ≡ last_block work.now name n) × (result ≤ n) }
 {
     let mut b = n;
     while 0 < b {
@@ -66,7 +66,7 @@ fn find(work: &[u32], n: usize, name: usize) -> usize
 
 // The words of the value of block b, as a part of the state or of the work area.
 fn value_of<'a>(state: &'a [u32], work: &'a [u32], b: usize) -> &'a [u32]
-    requires { b ≤ blockCount }
+    requires { b ≤ block_count }
     ensures { result.now ≡ value_of state.now work.now b }
 {
     let at = BLOCK * b;
@@ -88,8 +88,8 @@ pub fn refer<'a>(
     name: usize,
     actuals: bool,
 ) -> Worked
-    requires { (n ≤ blockCount) × (k ≤ 1024) }
-    ensures { (scope : Environment) → Scoped state.now work.now n scope → (xs : Exprs) → actuals ≡ hasActuals xs → Told (Valued result.held) result.judgement (refer k xs (lookup name scope)) }
+    requires { (n ≤ block_count) × (k ≤ 1024) }
+    ensures { (scope : Environment) → Scoped state.now work.now n scope → (xs : Exprs) → actuals ≡ has_actuals xs → Told (Valued result.held) result.judgement (refer k xs (lookup name scope)) }
 {
     let b = find(work, n, name);
     if b == 0 {
@@ -112,8 +112,8 @@ pub fn refer_integer<'a>(
     k: usize,
     name: usize,
 ) -> Operand
-    requires { (n ≤ blockCount) × (k ≤ 1024) }
-    ensures { (scope : Environment) → Scoped state.now work.now n scope → (xs : Exprs) → false ≡ hasActuals xs → Told (Integral result.integer) result.judgement (refer k xs (lookup name scope)) }
+    requires { (n ≤ block_count) × (k ≤ 1024) }
+    ensures { (scope : Environment) → Scoped state.now work.now n scope → (xs : Exprs) → false ≡ has_actuals xs → Told (Integral result.integer) result.judgement (refer k xs (lookup name scope)) }
 {
     let b = find(work, n, name);
     if b == 0 {
@@ -127,7 +127,7 @@ pub fn refer_integer<'a>(
 
 // Writes the head of block b.
 pub fn put_head(work: &mut [u32], b: usize, name: usize, class: u32, at: usize, len: usize)
-    requires { (b ≤ blockCount) × (name < 2 ^ 32) × (at < 2 ^ 32) × (len < 2 ^ 32) }
+    requires { (b ≤ block_count) × (name < 2 ^ 32) × (at < 2 ^ 32) × (len < 2 ^ 32) }
     ensures { work.new ≡ headed work.old b name class at len }
 {
     let base = BLOCK * b;
@@ -139,8 +139,8 @@ pub fn put_head(work: &mut [u32], b: usize, name: usize, class: u32, at: usize, 
 
 // Copies a value into block b.
 pub fn put_value(work: &mut [u32], b: usize, v: Held)
-    requires { blockWords * (b + 1) ≤ length work.old }
-    ensures { work.new ≡ sets work.old (blockWords * b + headWords) v.words }
+    requires { block_words * (b + 1) ≤ length work.old }
+    ensures { work.new ≡ sets work.old (block_words * b + head_words) v.words }
 {
     let w = v.words;
     copy(&w, work, BLOCK * b + HEAD);
@@ -148,7 +148,7 @@ pub fn put_value(work: &mut [u32], b: usize, v: Held)
 
 // The identifiers of a Decl with the words x, from j on, in blocks from b on, with the set v that they run through; not in scope yet.
 pub fn put_domains(work: &mut [u32], b: usize, x: &[u32], j: usize, v: Held)
-    requires { (b + (length x.now - j) ≤ blockCount) × (runWorkWords ≤ length work.old) × (length x.now ≤ 256) }
+    requires { (b + (length x.now - j) ≤ block_count) × (run_work_words ≤ length work.old) × (length x.now ≤ 256) }
     ensures { Pushed work.old work.new b (length x.now - j) ((vs : Values) → Holds v (Value.set vs) → Pending work.new b (length x.now - j) (domains (drop j x.now) vs no_more)) }
 {
     if x.len() <= j {
@@ -161,7 +161,7 @@ pub fn put_domains(work: &mut [u32], b: usize, x: &[u32], j: usize, v: Held)
 
 // A new name in block n, with a value by value.
 pub fn put_name(work: &mut [u32], n: usize, name: usize, v: Held)
-    requires { (blockWords * (n + 1) ≤ length work.old) × (n < blockCount) × (name < 2 ^ 32) × (v.len < 2 ^ 32) }
+    requires { (block_words * (n + 1) ≤ length work.old) × (n < block_count) × (name < 2 ^ 32) × (v.len < 2 ^ 32) }
     ensures { Leaves n work.old work.new ((state : List ℕ) (scope : Environment) (x : Value) → Scoped state work.old n scope → Holds v x → Scoped state work.new (n + 1) (bind name (valued x) scope)) }
 {
     let len = v.len;
@@ -171,7 +171,7 @@ pub fn put_name(work: &mut [u32], n: usize, name: usize, v: Held)
 
 // A new name in block n, whose value lies in the state.
 pub fn put_entry(work: &mut [u32], n: usize, name: usize, at: usize, len: usize)
-    requires { (blockWords * (n + 1) ≤ length work.old) × (n < blockCount) × (name < 2 ^ 32) × (at < 2 ^ 32) × (len < 2 ^ 32) }
+    requires { (block_words * (n + 1) ≤ length work.old) × (n < block_count) × (name < 2 ^ 32) × (at < 2 ^ 32) × (len < 2 ^ 32) }
     ensures { Leaves n work.old work.new ((state : List ℕ) (scope : Environment) (x : Value) → Scoped state work.old n scope → Stored (take len (drop at state)) x → Scoped state work.new (n + 1) (bind name (valued x) scope)) }
 {
     put_head(work, n, name, IN_STATE, at, len);
@@ -179,7 +179,7 @@ pub fn put_entry(work: &mut [u32], n: usize, name: usize, at: usize, len: usize)
 
 // A new name in block n: an abbreviation with parameters.
 pub fn put_generic(work: &mut [u32], n: usize, name: usize)
-    requires { (blockWords * (n + 1) ≤ length work.old) × (n < blockCount) × (name < 2 ^ 32) }
+    requires { (block_words * (n + 1) ≤ length work.old) × (n < block_count) × (name < 2 ^ 32) }
     ensures { Leaves n work.old work.new ((state : List ℕ) (scope : Environment) → Scoped state work.old n scope → Scoped state work.new (n + 1) (bind name generic scope)) }
 {
     put_head(work, n, name, GENERIC, 0, 0);

@@ -2,10 +2,10 @@
 ghost use Rattle.std.specs.Prelude.{◌≡◌, true, ◌+◌, ◌-◌, ◌≤◌, ◌<◌, ◌^◌, length, drop};
 ghost use Rattle.values.specs.Value.{Value};
 ghost use Rattle.reader_rules.specs.Decode.{tree_of};
-ghost use Rattle.states_rules.specs.Names.{documentNames, namesAs};
-ghost use Rattle.evaluator_rules.specs.Run.{runWorkWords};
+ghost use Rattle.states_rules.specs.Names.{document_names, names_as};
+ghost use Rattle.evaluator_rules.specs.Run.{run_work_words};
 ghost use Rattle.evaluator_rules.specs.Environment.{valued, bind};
-ghost use Rattle.evaluator_rules.specs.Paragraphs.{bindGivens};
+ghost use Rattle.evaluator_rules.specs.Paragraphs.{bind_givens};
 ghost use Rattle.evaluator_operations.specs.Worked.{Holds};
 ghost use Rattle.evaluator_scope.specs.Named.{Among, Declares, Stated, Extends, said};
 
@@ -19,7 +19,7 @@ use words::word;
 
 // The value of a name: the words of its entry, or the set of a given's elements.
 pub fn held_name(doc: &[u32], state: &[u32], table: &[u32], name: usize) -> Held
-    requires { Stated doc.now state.now table.now × Among name (documentNames (tree_of doc.now)) }
+    requires { Stated doc.now state.now table.now × Among name (document_names (tree_of doc.now)) }
     ensures { Holds result (said doc.now state.now name) }
 {
     let k = place_of(doc, name);
@@ -44,7 +44,7 @@ pub fn bounded(v: Held) -> Held
 
 // A name in block b: its entry in the state, or the set of a given's elements.
 fn put_stated(doc: &[u32], state: &[u32], table: &[u32], work: &mut [u32], b: usize, name: usize)
-    requires { Stated doc.now state.now table.now × Among name (documentNames (tree_of doc.now)) × (b < 64) × (runWorkWords ≤ length work.old) × (name < 2 ^ 32) }
+    requires { Stated doc.now state.now table.now × Among name (document_names (tree_of doc.now)) × (b < 64) × (run_work_words ≤ length work.old) × (name < 2 ^ 32) }
     ensures { Extends state.now work.old work.new b (b + 1) (bind name (valued (said doc.now state.now name))) }
 {
     let k = place_of(doc, name);
@@ -65,8 +65,8 @@ pub fn put_names(
     w: &[u32],
     j: usize,
 )
-    requires { Stated doc.now state.now table.now × Declares doc.now (namesAs true (drop j w.now)) × (b + (length w.now - j) ≤ 64) × (runWorkWords ≤ length work.old) × (length w.now ≤ 256) }
-    ensures { Extends state.now work.old work.new b (b + (length w.now - j)) (bindGivens (drop j w.now) (said doc.now state.now)) }
+    requires { Stated doc.now state.now table.now × Declares doc.now (names_as true (drop j w.now)) × (b + (length w.now - j) ≤ 64) × (run_work_words ≤ length work.old) × (length w.now ≤ 256) }
+    ensures { Extends state.now work.old work.new b (b + (length w.now - j)) (bind_givens (drop j w.now) (said doc.now state.now)) }
 {
     if w.len() <= j {
         return;

@@ -9,112 +9,112 @@ use Rattle.reader_rules.specs.Reading.{read_of}
 use Rattle.reader_rules.specs.Decode.{tree_of}
 use Rattle.reader_rules.specs.declared.Reading.{Reading}
 use Rattle.reader_rules.specs.declared.Reading.TheVariants.{Readable, Refused}
-use Rattle.checker_rules.specs.Dictionary.{Dictionary, dictionaryWords, dictionaryLength}
-use Rattle.checker_rules.specs.Check.{Answer, accepted, refused, checkOf}
-use Rattle.checker_rules.specs.Areas.{answerFinding, dictionaryAfter, CheckCall}
+use Rattle.checker_rules.specs.Dictionary.{Dictionary, dictionary_words, dictionary_length}
+use Rattle.checker_rules.specs.Check.{Answer, accepted, refused, check_of}
+use Rattle.checker_rules.specs.Areas.{answer_finding, dictionary_after, CheckCall}
 use Rattle.checker_rules.specs.declared.Finding.{Finding}
 use Rattle.checker_rules.specs.declared.Finding.TheVariants.{Accepted, Refused as Rejected}
-use Rattle.checker_rules.proofs.Recorded.{accepted-fits}
-use Rattle.checker_rules.proofs.CheckRight.{accepted-says}
-use Rattle.states_rules.specs.Names.{Name, documentNames}
+use Rattle.checker_rules.proofs.Recorded.{accepted_fits}
+use Rattle.checker_rules.proofs.CheckRight.{accepted_says}
+use Rattle.states_rules.specs.Names.{Name, document_names}
 use Rattle.states_rules.specs.States.{state_of}
-use Rattle.fitter_rules.specs.Fit.{typeNumber, fitTypes, fitState, fitChecked, fitOf}
+use Rattle.fitter_rules.specs.Fit.{type_number, fit_types, fit_state, fit_checked, fit_of}
 use Rattle.fitter_rules.specs.Areas.{FitCall}
 use Rattle.fitter_types.specs.Held.{Held}
-use Rattle.fitter.specs.Findings.{saidBy}
+use Rattle.fitter.specs.Findings.{said_by}
 
-not-rejected : {A : Type 0} (n p : ℕ) → Accepted ≡ Rejected n p → A
-not-rejected n p e = let z : ◌≡◌ {A = ℕ} 0 1 = cc in absurd (omega arith)
+not_rejected : {A : Type 0} (n p : ℕ) → Accepted ≡ Rejected n p → A
+not_rejected n p e = let z : ◌≡◌ {A = ℕ} 0 1 = cc in absurd (omega arith)
 
 -- ---- 41, then 42
-said-types : (r : Reading) (E : Dictionary) → saidBy r ≡ answerFinding (fitTypes r E)
-unfolding saidBy answerFinding fitTypes
-said-types Readable E = refl
-said-types (Refused n p) E = refl
+said_types : (r : Reading) (E : Dictionary) → said_by r ≡ answer_finding (fit_types r E)
+unfolding said_by answer_finding fit_types
+said_types Readable E = refl
+said_types (Refused n p) E = refl
 
 module _ (ns : List Name) (state : List ℕ) (E : Dictionary) where
-  pub readable-finding : state_of ns state ≡ Readable → (r : Reading) → r ≡ scan (typeNumber E ns state) 1 (length ns) → (f : Finding) → f ≡ saidBy r
-      → f ≡ answerFinding (fitState (state_of ns state) E ns state)
-  unfolding fitState
-  readable-finding s r e f q = rw s (q ∙ said-types r E ∙ ap (λ (x : Reading). answerFinding (fitTypes x E)) e)
+  pub readable_finding : state_of ns state ≡ Readable → (r : Reading) → r ≡ scan (type_number E ns state) 1 (length ns) → (f : Finding) → f ≡ said_by r
+      → f ≡ answer_finding (fit_state (state_of ns state) E ns state)
+  unfolding fit_state
+  readable_finding s r e f q = rw s (q ∙ said_types r E ∙ ap (λ (x : Reading). answer_finding (fit_types x E)) e)
 
-  pub refused-finding : (n p : ℕ) → state_of ns state ≡ Refused n p → Rejected n p ≡ answerFinding (fitState (state_of ns state) E ns state)
-  unfolding fitState answerFinding
-  refused-finding n p s = rw s refl
+  pub refused_finding : (n p : ℕ) → state_of ns state ≡ Refused n p → Rejected n p ≡ answer_finding (fit_state (state_of ns state) E ns state)
+  unfolding fit_state answer_finding
+  refused_finding n p s = rw s refl
 
   -- an accepting answer has the dictionary of the check
-  types-keep : (r : Reading) → Accepted ≡ answerFinding (fitTypes r E) → fitTypes r E ≡ accepted E
-  unfolding fitTypes answerFinding
-  types-keep Readable e = refl
-  types-keep (Refused n p) e = not-rejected n p e
+  types_keep : (r : Reading) → Accepted ≡ answer_finding (fit_types r E) → fit_types r E ≡ accepted E
+  unfolding fit_types answer_finding
+  types_keep Readable e = refl
+  types_keep (Refused n p) e = not_rejected n p e
 
-  state-keeps : (r : Reading) → Accepted ≡ answerFinding (fitState r E ns state) → fitState r E ns state ≡ accepted E
-  unfolding fitState answerFinding
-  state-keeps Readable e = types-keep (scan (typeNumber E ns state) 1 (length ns)) e
-  state-keeps (Refused n p) e = not-rejected n p e
+  state_keeps : (r : Reading) → Accepted ≡ answer_finding (fit_state r E ns state) → fit_state r E ns state ≡ accepted E
+  unfolding fit_state answer_finding
+  state_keeps Readable e = types_keep (scan (type_number E ns state) 1 (length ns)) e
+  state_keeps (Refused n p) e = not_rejected n p e
 
   -- a refusing one leaves zeros
-  refused-after : (a : Answer) (n p d : ℕ) → Rejected n p ≡ answerFinding a → dictionaryAfter a d ≡ replicate d 0
-  unfolding answerFinding dictionaryAfter
-  refused-after (accepted D) n p d e = not-rejected n p (sym e)
-  refused-after (refused f m) n p d e = refl
+  refused_after : (a : Answer) (n p d : ℕ) → Rejected n p ≡ answer_finding a → dictionary_after a d ≡ replicate d 0
+  unfolding answer_finding dictionary_after
+  refused_after (accepted D) n p d e = not_rejected n p (sym e)
+  refused_after (refused f m) n p d e = refl
 
 -- ---- what the check leaves
 record Accepting (doc dict : List ℕ) (d w : ℕ) : Type 0 where
   dictionary : Dictionary
-  checked : checkOf doc d w ≡ accepted dictionary
+  checked : check_of doc d w ≡ accepted dictionary
   held : Held doc dict dictionary
 
 accepting : {doc dict work : List ℕ} {d w : ℕ} → CheckCall doc d w Accepted dict work → length dict ≡ d → Accepting doc dict d w
-unfolding answerFinding dictionaryAfter
-accepting {doc} {dict} {d = d} {w} c e = go (checkOf doc d w) refl
+unfolding answer_finding dictionary_after
+accepting {doc} {dict} {d = d} {w} c e = go (check_of doc d w) refl
   where
-    go : (a : Answer) → checkOf doc d w ≡ a → Accepting doc dict d w
+    go : (a : Answer) → check_of doc d w ≡ a → Accepting doc dict d w
     go (accepted E) q =
-        let l = accepted-fits doc d w E q in
-        let laid : dict ≡ dictionaryWords E ++ replicate (d - dictionaryLength E) 0 = c.recorded ∙ ap (λ (a : Answer). dictionaryAfter a d) q in
-        record { dictionary = E; checked = q; held = record { room = d; work = w; checked = q; holds = record { fits = omega arith; laid = laid ∙ ap (λ (n : ℕ). dictionaryWords E ++ replicate (n - dictionaryLength E) 0) (sym e) } } }
-    go (refused n p) q = not-rejected n p (c.finding ∙ ap answerFinding q)
+        let l = accepted_fits doc d w E q in
+        let laid : dict ≡ dictionary_words E ++ replicate (d - dictionary_length E) 0 = c.recorded ∙ ap (λ (a : Answer). dictionary_after a d) q in
+        record { dictionary = E; checked = q; held = record { room = d; work = w; checked = q; holds = record { fits = omega arith; laid = laid ∙ ap (λ (n : ℕ). dictionary_words E ++ replicate (n - dictionary_length E) 0) (sym e) } } }
+    go (refused n p) q = not_rejected n p (c.finding ∙ ap answer_finding q)
 
-pub accepted-readable : {doc dict work : List ℕ} {d w : ℕ} → CheckCall doc d w Accepted dict work → length dict ≡ d → read_of doc ≡ Readable
-accepted-readable {doc} {d = d} {w} c e = let a = accepting c e in (accepted-says doc d w a.dictionary a.checked).read
+pub accepted_readable : {doc dict work : List ℕ} {d w : ℕ} → CheckCall doc d w Accepted dict work → length dict ≡ d → read_of doc ≡ Readable
+accepted_readable {doc} {d = d} {w} c e = let a = accepting c e in (accepted_says doc d w a.dictionary a.checked).read
 
 -- ---- the fit call
-after_check : (doc state : List ℕ) (d w : ℕ) (E : Dictionary) → checkOf doc d w ≡ accepted E
-    → fitOf doc state d w ≡ fitState (state_of (documentNames (tree_of doc)) state) E (documentNames (tree_of doc)) state
-unfolding fitOf fitChecked
+after_check : (doc state : List ℕ) (d w : ℕ) (E : Dictionary) → check_of doc d w ≡ accepted E
+    → fit_of doc state d w ≡ fit_state (state_of (document_names (tree_of doc)) state) E (document_names (tree_of doc)) state
+unfolding fit_of fit_checked
 after_check doc state d w E q = rw q refl
 
-unchecked : (doc state : List ℕ) (d w n p : ℕ) → Rejected n p ≡ answerFinding (checkOf doc d w) → fitOf doc state d w ≡ checkOf doc d w
-unfolding fitOf fitChecked answerFinding
-unchecked doc state d w n p e = go (checkOf doc d w) e
+unchecked : (doc state : List ℕ) (d w n p : ℕ) → Rejected n p ≡ answer_finding (check_of doc d w) → fit_of doc state d w ≡ check_of doc d w
+unfolding fit_of fit_checked answer_finding
+unchecked doc state d w n p e = go (check_of doc d w) e
   where
-    go : (a : Answer) → Rejected n p ≡ answerFinding a → fitChecked a (documentNames (tree_of doc)) state ≡ a
-    go (accepted E) e = not-rejected n p (sym e)
+    go : (a : Answer) → Rejected n p ≡ answer_finding a → fit_checked a (document_names (tree_of doc)) state ≡ a
+    go (accepted E) e = not_rejected n p (sym e)
     go (refused f m) e = refl
 
-as-checked : {doc state dict work : List ℕ} {d w : ℕ} {f : Finding} → fitOf doc state d w ≡ checkOf doc d w → CheckCall doc d w f dict work → FitCall doc state d w f dict work
-as-checked q c = record { finding = rw q c.finding; recorded = rw q c.recorded; cleared = c.cleared }
+as_checked : {doc state dict work : List ℕ} {d w : ℕ} {f : Finding} → fit_of doc state d w ≡ check_of doc d w → CheckCall doc d w f dict work → FitCall doc state d w f dict work
+as_checked q c = record { finding = rw q c.finding; recorded = rw q c.recorded; cleared = c.cleared }
 
 abbrev pub Says : List ℕ → List ℕ → List ℕ → Finding → Type 0
-Says doc state dict f = (E : Dictionary) → Held doc dict E → f ≡ answerFinding (fitState (state_of (documentNames (tree_of doc)) state) E (documentNames (tree_of doc)) state)
+Says doc state dict f = (E : Dictionary) → Held doc dict E → f ≡ answer_finding (fit_state (state_of (document_names (tree_of doc)) state) E (document_names (tree_of doc)) state)
 
-pub fit-accepted : {doc state dict work : List ℕ} {d w : ℕ} → CheckCall doc d w Accepted dict work → length dict ≡ d → Says doc state dict Accepted → FitCall doc state d w Accepted dict work
-fit-accepted {doc} {state} {d = d} {w} c e s =
+pub fit_accepted : {doc state dict work : List ℕ} {d w : ℕ} → CheckCall doc d w Accepted dict work → length dict ≡ d → Says doc state dict Accepted → FitCall doc state d w Accepted dict work
+fit_accepted {doc} {state} {d = d} {w} c e s =
     let a = accepting c e in
     let E = a.dictionary in
-    let ns = documentNames (tree_of doc) in
-    as-checked (after_check doc state d w E a.checked ∙ state-keeps ns state E (state_of ns state) (s E a.held) ∙ sym a.checked) c
+    let ns = document_names (tree_of doc) in
+    as_checked (after_check doc state d w E a.checked ∙ state_keeps ns state E (state_of ns state) (s E a.held) ∙ sym a.checked) c
 
 pub fit_refused : {doc state dict work after : List ℕ} {d w n p : ℕ} → CheckCall doc d w Accepted dict work → length dict ≡ d → Says doc state dict (Rejected n p) → after ≡ replicate d 0
     → FitCall doc state d w (Rejected n p) after work
 fit_refused {doc} {state} {d = d} {w} {n} {p} c e s z =
     let a = accepting c e in
     let E = a.dictionary in
-    let ns = documentNames (tree_of doc) in
+    let ns = document_names (tree_of doc) in
     let q = after_check doc state d w E a.checked in
     let f = s E a.held in
-    record { finding = rw q f; recorded = rw q (z ∙ sym (refused-after ns state E (fitState (state_of ns state) E ns state) n p d f)); cleared = c.cleared }
+    record { finding = rw q f; recorded = rw q (z ∙ sym (refused_after ns state E (fit_state (state_of ns state) E ns state) n p d f)); cleared = c.cleared }
 
-pub fit-unchecked : {doc state dict work : List ℕ} {d w n p : ℕ} → CheckCall doc d w (Rejected n p) dict work → FitCall doc state d w (Rejected n p) dict work
-fit-unchecked {doc} {state} {d = d} {w} {n} {p} c = as-checked (unchecked doc state d w n p c.finding) c
+pub fit_unchecked : {doc state dict work : List ℕ} {d w n p : ℕ} → CheckCall doc d w (Rejected n p) dict work → FitCall doc state d w (Rejected n p) dict work
+fit_unchecked {doc} {state} {d = d} {w} {n} {p} c = as_checked (unchecked doc state d w n p c.finding) c

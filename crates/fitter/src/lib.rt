@@ -4,13 +4,13 @@ ghost use Rattle.reader_rules.specs.Reading.{read_of};
 ghost use Rattle.reader_rules.specs.Decode.{tree_of};
 ghost use Rattle.reader_rules.specs.declared.Reading.TheVariants.{Readable};
 ghost use Rattle.checker_rules.specs.Dictionary.{Dictionary};
-ghost use Rattle.checker_rules.specs.Areas.{answerFinding};
-ghost use Rattle.states_rules.specs.Names.{documentNames};
+ghost use Rattle.checker_rules.specs.Areas.{answer_finding};
+ghost use Rattle.states_rules.specs.Names.{document_names};
 ghost use Rattle.states_rules.specs.States.{state_of};
-ghost use Rattle.fitter_rules.specs.Fit.{fitState};
+ghost use Rattle.fitter_rules.specs.Fit.{fit_state};
 ghost use Rattle.fitter_rules.specs.Areas.{FitCall};
 ghost use Rattle.fitter_types.specs.Held.{Held};
-ghost use Rattle.fitter.specs.Findings.{saidBy};
+ghost use Rattle.fitter.specs.Findings.{said_by};
 
 use checker_rules::Finding;
 use fitter_types::first_mistyped;
@@ -19,7 +19,7 @@ use words::clear;
 
 // The finding of an accepted document where this was found of its state.
 fn finding_of(r: Reading) -> Finding
-    ensures { result ≡ saidBy r }
+    ensures { result ≡ said_by r }
 {
     match r {
         Reading::Readable => Finding::Accepted,
@@ -33,7 +33,7 @@ fn finding_of(r: Reading) -> Finding
 // The finding of a state for a document that the check accepted: 41, then 42.
 fn fit_state(doc: &[u32], state: &[u32], dict: &[u32]) -> Finding
     requires { read_of doc.now ≡ Readable }
-    ensures { (E : Dictionary) → Held doc.now dict.now E → result ≡ answerFinding (fitState (state_of (documentNames (tree_of doc.now)) state.now) E (documentNames (tree_of doc.now)) state.now) }
+    ensures { (E : Dictionary) → Held doc.now dict.now E → result ≡ answer_finding (fit_state (state_of (document_names (tree_of doc.now)) state.now) E (document_names (tree_of doc.now)) state.now) }
 {
     let formed = states::first_ill_formed(doc, state);
     match formed {

@@ -1,10 +1,10 @@
 -- What the fit call leaves: its finding, and what each area holds; after a refusal both areas are zero.
 use Rattle.std.specs.Prelude.{◌≡◌, List, ℕ}
-use Rattle.checker_rules.specs.Areas.{answerFinding, dictionaryAfter, workAfter}
+use Rattle.checker_rules.specs.Areas.{answer_finding, dictionary_after, work_after}
 use Rattle.checker_rules.specs.declared.Finding.{Finding}
-use Rattle.fitter_rules.specs.Fit.{fitOf}
+use Rattle.fitter_rules.specs.Fit.{fit_of}
 
 pub record FitCall (doc state : List ℕ) (d w : ℕ) (result : Finding) (dictionary work : List ℕ) : Type 0 where
-  pub finding : result ≡ answerFinding (fitOf doc state d w)
-  pub recorded : dictionary ≡ dictionaryAfter (fitOf doc state d w) d
-  pub cleared : work ≡ workAfter w
+  pub finding : result ≡ answer_finding (fit_of doc state d w)
+  pub recorded : dictionary ≡ dictionary_after (fit_of doc state d w) d
+  pub cleared : work ≡ work_after w

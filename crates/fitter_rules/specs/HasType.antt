@@ -7,15 +7,15 @@ use Rattle.types_rules.specs.Types.{Ty, node, Tys, tnil, tcons}
 
 mutual
   pub data Has : Value → Ty → Type 0 where
-    isInteger : (z : ℤ) → Has (int z) (node Former.int tnil)
-    isElement : (g k : ℕ) → Has (element g k) (node (Former.given g) tnil)
+    is_integer : (z : ℤ) → Has (int z) (node Former.int tnil)
+    is_element : (g k : ℕ) → Has (element g k) (node (Former.given g) tnil)
     is_set : {vs : Values} {t : Ty} → MembersHave vs t → Has (set vs) (node Former.power (tcons t tnil))
-    isTuple : {vs : Values} {ts : Tys} → PartsHave vs ts → Has (tuple vs) (node Former.product ts)
+    is_tuple : {vs : Values} {ts : Tys} → PartsHave vs ts → Has (tuple vs) (node Former.product ts)
 
   pub data MembersHave : Values → Ty → Type 0 where
-    noMember : {t : Ty} → MembersHave nil t
-    aMember : {v : Value} {vs : Values} {t : Ty} → Has v t → MembersHave vs t → MembersHave (cons v vs) t
+    no_member : {t : Ty} → MembersHave nil t
+    a_member : {v : Value} {vs : Values} {t : Ty} → Has v t → MembersHave vs t → MembersHave (cons v vs) t
 
   pub data PartsHave : Values → Tys → Type 0 where
     no_part : PartsHave nil tnil
-    aPart : {v : Value} {vs : Values} {t : Ty} {ts : Tys} → Has v t → PartsHave vs ts → PartsHave (cons v vs) (tcons t ts)
+    a_part : {v : Value} {vs : Values} {t : Ty} {ts : Tys} → Has v t → PartsHave vs ts → PartsHave (cons v vs) (tcons t ts)

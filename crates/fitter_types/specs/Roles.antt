@@ -4,8 +4,8 @@ use Rattle.states_rules.specs.Names.{Name, nobody}
 use Rattle.fitter_types.specs.declared.names.Role.{Role}
 use Rattle.fitter_types.specs.declared.names.Role.TheVariants.{Given, Declared}
 
-abbrev pub identifierAt : List Name → ℕ → ℕ
-identifierAt ns j = (get_or ns j nobody).identifier
+abbrev pub identifier_at : List Name → ℕ → ℕ
+identifier_at ns j = (get_or ns j nobody).identifier
 
-unfoldable pub roleOf : Name → Role
-roleOf n = cond n.isGiven Given (Declared n.identifier)
+unfoldable pub role_of : Name → Role
+role_of n = cond n.is_given Given (Declared n.identifier)

@@ -15,9 +15,9 @@ ghost use Rattle.reader_rules.specs.Reading.{read_of};
 ghost use Rattle.reader_rules.specs.Decode.{tree_of};
 ghost use Rattle.reader_rules.specs.declared.Reading.TheVariants.{Readable};
 ghost use Rattle.checker_rules.specs.Dictionary.{Dictionary};
-ghost use Rattle.states_rules.specs.Names.{documentNames};
+ghost use Rattle.states_rules.specs.Names.{document_names};
 ghost use Rattle.states_rules.specs.States.{state_of};
-ghost use Rattle.fitter_rules.specs.Fit.{typeNumber};
+ghost use Rattle.fitter_rules.specs.Fit.{type_number};
 ghost use Rattle.fitter_types.specs.Held.{Held, TestedValue};
 
 // Whether the value with the words w is of the type that the dictionary records for a name.
@@ -33,8 +33,8 @@ fn is_typed(dict: &[u32], id: usize, w: &[u32]) -> bool
 
 // 42 at entry k, 0 for none.
 fn type_number(doc: &[u32], state: &[u32], dict: &[u32], k: usize) -> u32
-    requires { (read_of doc.now ≡ Readable) × (state_of (documentNames (tree_of doc.now)) state.now ≡ Readable) × (1 ≤ k) × (k ≤ length (documentNames (tree_of doc.now))) }
-    ensures { (E : Dictionary) → Held doc.now dict.now E → result ≡ typeNumber E (documentNames (tree_of doc.now)) state.now k }
+    requires { (read_of doc.now ≡ Readable) × (state_of (document_names (tree_of doc.now)) state.now ≡ Readable) × (1 ≤ k) × (k ≤ length (document_names (tree_of doc.now))) }
+    ensures { (E : Dictionary) → Held doc.now dict.now E → result ≡ type_number E (document_names (tree_of doc.now)) state.now k }
 {
     let name = name_of(doc, k);
     match name {
@@ -50,8 +50,8 @@ fn type_number(doc: &[u32], state: &[u32], dict: &[u32], k: usize) -> u32
 
 // The first entry whose value is not of its recorded type.
 pub fn first_mistyped(doc: &[u32], state: &[u32], dict: &[u32]) -> Reading
-    requires { (read_of doc.now ≡ Readable) × (state_of (documentNames (tree_of doc.now)) state.now ≡ Readable) }
-    ensures { (E : Dictionary) → Held doc.now dict.now E → result ≡ scan (typeNumber E (documentNames (tree_of doc.now)) state.now) 1 (length (documentNames (tree_of doc.now))) }
+    requires { (read_of doc.now ≡ Readable) × (state_of (document_names (tree_of doc.now)) state.now ≡ Readable) }
+    ensures { (E : Dictionary) → Held doc.now dict.now E → result ≡ scan (type_number E (document_names (tree_of doc.now)) state.now) 1 (length (document_names (tree_of doc.now))) }
 {
     let n = word(state, 0);
     let mut k = 1;

@@ -4,11 +4,11 @@ ghost use Rattle.layout.specs.Layout.{part};
 ghost use Rattle.reader_rules.specs.Kinds.{texts, paragraphs};
 ghost use Rattle.reader_rules.specs.Promise.{At};
 ghost use Rattle.reader_rules.specs.Reading.{read_of};
-ghost use Rattle.reader_rules.specs.Decode.{lines_from, paragraphAt, tree_of};
+ghost use Rattle.reader_rules.specs.Decode.{lines_from, paragraph_at, tree_of};
 ghost use Rattle.reader_rules.specs.declared.Reading.TheVariants.{Readable};
-ghost use Rattle.states_rules.specs.Names.{nobody, lineNames, paragraphNames, documentNames};
+ghost use Rattle.states_rules.specs.Names.{nobody, line_names, paragraph_names, document_names};
 ghost use Rattle.states_rules.specs.States.{name_at};
-ghost use Rattle.fitter_types.specs.Roles.{identifierAt, roleOf};
+ghost use Rattle.fitter_types.specs.Roles.{identifier_at, role_of};
 
 use codes::kinds;
 use layout::part;
@@ -26,7 +26,7 @@ pub enum Role {
 // The identifier of name j, from 0, among those of the lines of Text t; 0 where there are fewer.
 fn name_in_text(doc: &[u32], t: usize, j: usize) -> usize
     requires { At doc.now texts t }
-    ensures { result ≡ identifierAt (lineNames (lines_from doc.now t 2 (length (part doc.now t) - 2))) j }
+    ensures { result ≡ identifier_at (line_names (lines_from doc.now t 2 (length (part doc.now t) - 2))) j }
 {
     let e = part(doc, t).len();
     let mut at = j;
@@ -45,8 +45,8 @@ fn name_in_text(doc: &[u32], t: usize, j: usize) -> usize
 
 // Name j of paragraph p.
 fn name_in_paragraph(doc: &[u32], p: usize, j: usize) -> Role
-    requires { At doc.now paragraphs p × (j < length (paragraphNames (paragraphAt doc.now p))) }
-    ensures { result ≡ roleOf (get_or (paragraphNames (paragraphAt doc.now p)) j nobody) }
+    requires { At doc.now paragraphs p × (j < length (paragraph_names (paragraph_at doc.now p))) }
+    ensures { result ≡ role_of (get_or (paragraph_names (paragraph_at doc.now p)) j nobody) }
 {
     let q = kind_at(doc, p);
     if q == kinds::AXIOM {
@@ -59,7 +59,7 @@ fn name_in_paragraph(doc: &[u32], p: usize, j: usize) -> Role
 // The name of entry k.
 pub fn name_of(doc: &[u32], k: usize) -> Role
     requires { (read_of doc.now ≡ Readable) × (1 ≤ k) }
-    ensures { result ≡ roleOf (name_at (documentNames (tree_of doc.now)) k) }
+    ensures { result ≡ role_of (name_at (document_names (tree_of doc.now)) k) }
 {
     let d = word(doc, 0);
     let e = part(doc, d).len();

@@ -1,6 +1,6 @@
 // The words of a program's input: four bytes a word, low byte first.
 ghost use Rattle.std.specs.Prelude.{◌≡◌, ◌++◌, ◌+◌, ◌*◌, ◌≤◌, ◌<◌, ◌^◌, length, get_or, drop};
-ghost use Rattle.input.specs.Input.{word_at, firstWords, areWords, wordsAfter};
+ghost use Rattle.input.specs.Input.{word_at, first_words, are_words, words_after};
 
 use codes::WORD_BYTES;
 use words::store;
@@ -31,7 +31,7 @@ fn word_at(bytes: &[u8], i: usize) -> u32
 // The first n words, at the beginning of an area.
 fn copy_words(bytes: &[u8], n: usize, words: &mut [u32])
     requires { (4 * n ≤ length bytes.now) × (n ≤ length words.old) }
-    ensures { words.new ≡ firstWords bytes.now n ++ drop n words.old }
+    ensures { words.new ≡ first_words bytes.now n ++ drop n words.old }
 {
     let mut i = 0;
     while i < n {
@@ -43,8 +43,8 @@ fn copy_words(bytes: &[u8], n: usize, words: &mut [u32])
 // Writes the words of the input to the beginning of an area and answers true; false where the bytes are no words, or more than the area has,
 // and then nothing is written.
 pub fn take_words(bytes: &[u8], words: &mut [u32]) -> bool
-    ensures value { result ≡ areWords bytes.now (length words.old) }
-    ensures words_after { words.new ≡ wordsAfter bytes.now words.old }
+    ensures value { result ≡ are_words bytes.now (length words.old) }
+    ensures words_after { words.new ≡ words_after bytes.now words.old }
 {
     if bytes.len() % WORD_BYTES != 0 {
         return false;

@@ -5,13 +5,13 @@ abbrev pub Rows : Type 0
 Rows = List (List ℕ)
 
 -- the words of the first row begin at o
-unfoldable pub rowPairs : Rows → ℕ → List ℕ
-rowPairs [] o = []
-rowPairs (w ∷ ws) o = o ∷ length w ∷ rowPairs ws (o + length w)
+unfoldable pub row_pairs : Rows → ℕ → List ℕ
+row_pairs [] o = []
+row_pairs (w ∷ ws) o = o ∷ length w ∷ row_pairs ws (o + length w)
 
-unfoldable pub rowWords : Rows → List ℕ
-rowWords [] = []
-rowWords (w ∷ ws) = w ++ rowWords ws
+unfoldable pub row_words : Rows → List ℕ
+row_words [] = []
+row_words (w ∷ ws) = w ++ row_words ws
 
-unfoldable pub layOut : Rows → List ℕ
-layOut ws = length ws ∷ (rowPairs ws (1 + 2 * length ws) ++ rowWords ws)
+unfoldable pub lay_out : Rows → List ℕ
+lay_out ws = length ws ∷ (row_pairs ws (1 + 2 * length ws) ++ row_words ws)

@@ -1,12 +1,12 @@
 -- Document 01's marked cases, as one table and one claim about the definitions. Each row is named by document 01's words.
 use Rattle.std.specs.Prelude.{◌≡◌, List, [], ◌∷◌, ℕ}
-use Rattle.checker_rules.specs.Check.{checkOf, checkWorkWords}
-use Rattle.printer_rules.specs.Print.{printedOf, dictionaryAreaWords}
-use Rattle.evaluator_rules.specs.Run.{run_of, runWorkWords}
+use Rattle.checker_rules.specs.Check.{check_of, check_work_words}
+use Rattle.printer_rules.specs.Print.{printed_of, dictionary_area_words}
+use Rattle.evaluator_rules.specs.Run.{run_of, run_work_words}
 use Rattle.evaluator_rules.specs.declared.Finding.{Finding}
 use Rattle.evaluator_rules.specs.declared.Finding.TheVariants.{Holds, Refused}
-use Rattle.marked.specs.Coded.{coded, keeping, numbersTo, integersFrom}
-use Rattle.marked.specs.Seen.{Checked, accepts, refuses, ofCheck, Shown, ofRun}
+use Rattle.marked.specs.Coded.{coded, keeping, numbers_to, integers_from}
+use Rattle.marked.specs.Seen.{Checked, accepts, refuses, of_check, Shown, of_run}
 
 -- a document, with the answer of its check, with the bytes printed for it, or with what its run shows on a state of no entries
 pub data Row : Type 0 where
@@ -58,15 +58,15 @@ marked =
     -- 2,147,483,647 + 1 is 53
     ∷ ran (keeping ((31 ∷ 2147483647 ∷ []) ∷ (31 ∷ 1 ∷ []) ∷ (41 ∷ 1 ∷ 2 ∷ []) ∷ [])) (shows (Refused 53 3) 2 (1 ∷ 1 ∷ []))
     -- 31 numbers kept, 32 are 55
-    ∷ ran (keeping (numbersTo 30)) (shows Holds 22 (3 ∷ 31 ∷ integersFrom 0 31))
-    ∷ ran (keeping (numbersTo 31)) (shows (Refused 55 22) 21 (1 ∷ 31 ∷ []))
+    ∷ ran (keeping (numbers_to 30)) (shows Holds 22 (3 ∷ 31 ∷ integers_from 0 31))
+    ∷ ran (keeping (numbers_to 31)) (shows (Refused 55 22) 21 (1 ∷ 31 ∷ []))
     ∷ []
 
 -- a row holds: the definition gives what must come, with areas of 16,384 words
 unfoldable pub RowHolds : Row → Type 0
-RowHolds (checked d a) = ofCheck (checkOf d dictionaryAreaWords checkWorkWords) ≡ a
-RowHolds (printed d p) = printedOf d ≡ p
-RowHolds (ran d s) = ofRun (run_of d (0 ∷ []) runWorkWords) ≡ s
+RowHolds (checked d a) = of_check (check_of d dictionary_area_words check_work_words) ≡ a
+RowHolds (printed d p) = printed_of d ≡ p
+RowHolds (ran d s) = of_run (run_of d (0 ∷ []) run_work_words) ≡ s
 
 unfoldable pub AllHold : List Row → Type 0
 AllHold [] = Unit {0}

@@ -4,7 +4,7 @@ mod lines;
 mod numbers;
 
 ghost use Rattle.std.specs.Prelude.{length};
-ghost use Rattle.printer_rules.specs.Print.{printOf};
+ghost use Rattle.printer_rules.specs.Print.{print_of};
 ghost use Rattle.printer_rules.specs.Buffer.{Printed};
 ghost use Rattle.printer.specs.Buffer.{Put};
 
@@ -14,7 +14,7 @@ use lines::{put_accepted, put_refused};
 
 // The lines of a finding, put into the buffer from `at` on.
 fn put_finding(out: &mut [u8], at: usize, finding: Finding, dict: &[u32]) -> usize
-    ensures { Put (printOf finding dict.now) out.old at out.new result }
+    ensures { Put (print_of finding dict.now) out.old at out.new result }
 {
     match finding {
         Finding::Accepted => put_accepted(out, at, dict),
@@ -25,7 +25,7 @@ fn put_finding(out: &mut [u8], at: usize, finding: Finding, dict: &[u32]) -> usi
 // The printed finding at the beginning of the buffer, zeros after it, so that it is a string of C: its length without them. Where the buffer
 // has no room for the lines and one zero, 0, and the buffer is all zero.
 pub fn print_finding(finding: Finding, dict: &[u32], out: &mut [u8]) -> usize
-    ensures { Printed (printOf finding dict.now) (length out.old) result out.new }
+    ensures { Printed (print_of finding dict.now) (length out.old) result out.new }
 {
     clear(out);
     let end = put_finding(out, 0, finding, dict);

@@ -1,6 +1,6 @@
 // The lines of a finding put into a buffer.
 ghost use Rattle.std.specs.Prelude.{◌≡◌, ◌<◌, ◌^◌};
-ghost use Rattle.printer_rules.specs.Lines.{entryLine, dictionarySize, entryLines, acceptedLines, refusedLine};
+ghost use Rattle.printer_rules.specs.Lines.{entry_line, dictionary_size, entry_lines, accepted_lines, refused_line};
 ghost use Rattle.printer.specs.Buffer.{Put};
 
 use crate::buffer::{put_byte, put_text, within};
@@ -13,7 +13,7 @@ const HEAD: usize = 3;
 
 // An entry's line: class, identifier, parameter count, a colon, type words.
 fn put_entry(out: &mut [u8], at: usize, entry: &[u32]) -> usize
-    ensures { Put (entryLine entry.now) out.old at out.new result }
+    ensures { Put (entry_line entry.now) out.old at out.new result }
 {
     let front = put_numbers(out, at, span(entry, 0, HEAD));
     let colon = put_text(out, front, b" :");
@@ -23,7 +23,7 @@ fn put_entry(out: &mut [u8], at: usize, entry: &[u32]) -> usize
 
 // A line per entry, as long as the buffer has room.
 fn put_entries(out: &mut [u8], at: usize, dict: &[u32]) -> usize
-    ensures { Put (entryLines dict.now) out.old at out.new result }
+    ensures { Put (entry_lines dict.now) out.old at out.new result }
 {
     let n = word(dict, 0);
     let mut end = within(out, at);
@@ -40,7 +40,7 @@ fn put_entries(out: &mut [u8], at: usize, dict: &[u32]) -> usize
 
 // Where the last entry ends.
 fn dictionary_size(dict: &[u32]) -> usize
-    ensures { result ≡ dictionarySize dict.now }
+    ensures { result ≡ dictionary_size dict.now }
 {
     let n = word(dict, 0);
     if n == 0 {
@@ -51,7 +51,7 @@ fn dictionary_size(dict: &[u32]) -> usize
 
 // accepted, dictionary words, entries; then the entries. Document 01, forms: "the first line is the word accepted".
 pub fn put_accepted(out: &mut [u8], at: usize, dict: &[u32]) -> usize
-    ensures { Put (acceptedLines dict.now) out.old at out.new result }
+    ensures { Put (accepted_lines dict.now) out.old at out.new result }
 {
     let accepted = put_text(out, at, b"accepted");
     let size = put_spaced(out, accepted, dictionary_size(dict));
@@ -62,7 +62,7 @@ pub fn put_accepted(out: &mut [u8], at: usize, dict: &[u32]) -> usize
 
 // refused, the number, at, the place.
 pub fn put_refused(out: &mut [u8], at: usize, number: u32, place: u32) -> usize
-    ensures { Put (refusedLine number place) out.old at out.new result }
+    ensures { Put (refused_line number place) out.old at out.new result }
 {
     let refused = put_text(out, at, b"refused");
     let numbered = put_spaced(out, refused, number as usize);

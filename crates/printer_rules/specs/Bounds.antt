@@ -10,7 +10,7 @@ pub data Words : List ℕ → Type 0 where
 
 -- a finding whose number and place are words
 pub data OfWords : Finding → Type 0 where
-  noPlace : OfWords Accepted
+  no_place : OfWords Accepted
   placed : {number place : ℕ} → number < 2 ^ 32 → place < 2 ^ 32 → OfWords (Refused number place)
 
 -- bytes of a buffer that always suffice for a dictionary area of n words, with the zero that ends the text

@@ -1,23 +1,23 @@
 -- The printed finding of a check: bytes, from the finding and the dictionary's words.
 use Rattle.std.specs.Prelude.{List, ℕ}
-use Rattle.checker_rules.specs.Check.{Answer, checkOf, checkWorkWords}
-use Rattle.checker_rules.specs.Areas.{answerFinding, dictionaryAfter}
+use Rattle.checker_rules.specs.Check.{Answer, check_of, check_work_words}
+use Rattle.checker_rules.specs.Areas.{answer_finding, dictionary_after}
 use Rattle.checker_rules.specs.declared.Finding.{Finding}
 use Rattle.checker_rules.specs.declared.Finding.TheVariants.{Accepted, Refused}
-use Rattle.printer_rules.specs.Lines.{acceptedLines, refusedLine}
+use Rattle.printer_rules.specs.Lines.{accepted_lines, refused_line}
 
-unfoldable pub printOf : Finding → List ℕ → List ℕ
-printOf Accepted d = acceptedLines d
-printOf (Refused number place) d = refusedLine number place
+unfoldable pub print_of : Finding → List ℕ → List ℕ
+print_of Accepted d = accepted_lines d
+print_of (Refused number place) d = refused_line number place
 
 -- what is printed for an answer of a check with a dictionary area of n words
-unfoldable pub printedAnswer : Answer → ℕ → List ℕ
-printedAnswer a n = printOf (answerFinding a) (dictionaryAfter a n)
+unfoldable pub printed_answer : Answer → ℕ → List ℕ
+printed_answer a n = print_of (answer_finding a) (dictionary_after a n)
 
 -- the words of the program's dictionary area
-abbrev pub dictionaryAreaWords : ℕ
-dictionaryAreaWords = 16384
+abbrev pub dictionary_area_words : ℕ
+dictionary_area_words = 16384
 
 -- what the program prints for a document's words, with areas of 16,384 words
-unfoldable pub printedOf : List ℕ → List ℕ
-printedOf doc = printedAnswer (checkOf doc dictionaryAreaWords checkWorkWords) dictionaryAreaWords
+unfoldable pub printed_of : List ℕ → List ℕ
+printed_of doc = printed_answer (check_of doc dictionary_area_words check_work_words) dictionary_area_words

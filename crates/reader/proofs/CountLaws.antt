@@ -10,78 +10,78 @@ use native.Mathlib.Decide.{ℕ_discrete}
 use lib.Seq.{get_or-set_same, get_or-set_other}
 use borrow.Author.Tests.{eq-eqb, ne_eqb, eqb-true, eqb-false, leb-true, ltb-true, le-leb, lt-leb, le-ltb, lt-ltb}
 use Rattle.words.specs.Loops.{total, has}
-use Rattle.words.proofs.Lists.{same_test, total-upto}
+use Rattle.words.proofs.Lists.{same_test, total_upto}
 use Rattle.layout.specs.Layout.{count, part}
 use Rattle.layout.proofs.Laws.{part_length}
-use Rattle.reader_rules.specs.Nodes.{kind_at, parent, above, ancestors, documentWords}
-use Rattle.reader_rules.specs.Repeats.{declared, declaredIn, firstOperand, isAxiomDecl, globals}
-use Rattle.reader_rules.specs.Limits.{tooDeep, isClosing, belowUpTo, anyCrowded, tooCrowded, declaredUpTo, tooNested, tooWide, tooMany, globalsUpTo, limitNumber}
+use Rattle.reader_rules.specs.Nodes.{kind_at, parent, above, ancestors, document_words}
+use Rattle.reader_rules.specs.Repeats.{declared, declared_in, first_operand, is_axiom_decl, globals}
+use Rattle.reader_rules.specs.Limits.{too_deep, is_closing, below_up_to, any_crowded, too_crowded, declared_up_to, too_nested, too_wide, too_many, globals_up_to, limit_number}
 use Rattle.reader_rules.proofs.Accepted.{Nodes}
-use Rattle.reader_rules.proofs.Parents.{parent-most, parent-rises}
+use Rattle.reader_rules.proofs.Parents.{parent_most, parent_rises}
 use Rattle.reader_repeats.specs.Parents.{places, Parents, Linked}
-use Rattle.reader_repeats.proofs.ParentLaws.{nodes-of}
-use Rattle.reader.specs.Counts.{reaches, counted, over, CrowdedOne, Below, Declared, Counted, pastTree}
+use Rattle.reader_repeats.proofs.ParentLaws.{nodes_of}
+use Rattle.reader.specs.Counts.{reaches, counted, over, CrowdedOne, Below, Declared, Counted, past_tree}
 
 -- the table's word at k is the parent, and is in the table too
 module _ (doc up : List ℕ) (p : Parents doc up) (k a : ℕ) (h : k < places) (e : a ≡ get_or up k 0) where
-  pub table-parent : a ≡ parent doc k
-  table-parent = e ∙ p.at k h
+  pub table_parent : a ≡ parent doc k
+  table_parent = e ∙ p.at k h
 
-  pub table-place : a < places
-  table-place = omega (arith, table-parent, parent-most doc k, p.few)
+  pub table_place : a < places
+  table_place = omega (arith, table_parent, parent_most doc k, p.few)
 
 -- one step up, from k to its parent a
 less : (n : ℕ) → suc n - 1 ≡ n
 less n = omega arith
 
-pub reaches-top : (doc : List ℕ) (n k a : ℕ) → (n ≡ 0 → ⊥) → a ≡ parent doc k → a ≡ 0 → false ≡ reaches doc n k
+pub reaches_top : (doc : List ℕ) (n k a : ℕ) → (n ≡ 0 → ⊥) → a ≡ parent doc k → a ≡ 0 → false ≡ reaches doc n k
 unfolding reaches
-reaches-top doc zero k a h e z = absurd (h refl)
-reaches-top doc (suc n) k a h e z = rw (← e, eq-eqb a 0 z)
+reaches_top doc zero k a h e z = absurd (h refl)
+reaches_top doc (suc n) k a h e z = rw (← e, eq-eqb a 0 z)
 
-pub reaches-up : (doc : List ℕ) (n k a : ℕ) → (n ≡ 0 → ⊥) → a ≡ parent doc k → (a ≡ 0 → ⊥) → reaches doc (n - 1) a ≡ reaches doc n k
+pub reaches_up : (doc : List ℕ) (n k a : ℕ) → (n ≡ 0 → ⊥) → a ≡ parent doc k → (a ≡ 0 → ⊥) → reaches doc (n - 1) a ≡ reaches doc n k
 unfolding reaches
-reaches-up doc zero k a h e z = absurd (h refl)
-reaches-up doc (suc n) k a h e z = rw (less n, ← e, ne_eqb a 0 z)
+reaches_up doc zero k a h e z = absurd (h refl)
+reaches_up doc (suc n) k a h e z = rw (less n, ← e, ne_eqb a 0 z)
 
-pub above-top : (doc : List ℕ) (n k a : ℕ) → (n ≡ 0 → ⊥) → a ≡ parent doc k → a ≡ 0 → above doc n k ≡ []
+pub above_top : (doc : List ℕ) (n k a : ℕ) → (n ≡ 0 → ⊥) → a ≡ parent doc k → a ≡ 0 → above doc n k ≡ []
 unfolding above
-above-top doc zero k a h e z = absurd (h refl)
-above-top doc (suc n) k a h e z = rw (← e, eq-eqb a 0 z)
+above_top doc zero k a h e z = absurd (h refl)
+above_top doc (suc n) k a h e z = rw (← e, eq-eqb a 0 z)
 
-pub above-up : (doc : List ℕ) (n k a : ℕ) → (n ≡ 0 → ⊥) → a ≡ parent doc k → (a ≡ 0 → ⊥) → above doc n k ≡ a ∷ above doc (n - 1) a
+pub above_up : (doc : List ℕ) (n k a : ℕ) → (n ≡ 0 → ⊥) → a ≡ parent doc k → (a ≡ 0 → ⊥) → above doc n k ≡ a ∷ above doc (n - 1) a
 unfolding above
-above-up doc zero k a h e z = absurd (h refl)
-above-up doc (suc n) k a h e z = rw (less n, ← e, ne_eqb a 0 z)
+above_up doc zero k a h e z = absurd (h refl)
+above_up doc (suc n) k a h e z = rw (less n, ← e, ne_eqb a 0 z)
 
-pub reaches-none : (doc : List ℕ) (n k : ℕ) → n ≡ 0 → true ≡ reaches doc n k
+pub reaches_none : (doc : List ℕ) (n k : ℕ) → n ≡ 0 → true ≡ reaches doc n k
 unfolding reaches
-reaches-none doc zero k e = refl
-reaches-none doc (suc n) k e = absurd (omega arith)
+reaches_none doc zero k e = refl
+reaches_none doc (suc n) k e = absurd (omega arith)
 
-pub above-none : (doc : List ℕ) (n k : ℕ) → n ≡ 0 → above doc n k ≡ []
+pub above_none : (doc : List ℕ) (n k : ℕ) → n ≡ 0 → above doc n k ≡ []
 unfolding above
-above-none doc zero k e = refl
-above-none doc (suc n) k e = absurd (omega arith)
+above_none doc zero k e = refl
+above_none doc (suc n) k e = absurd (omega arith)
 
 -- ---- one node more
 -- below a, where v is what the table says of it
 module _ (doc : List ℕ) (a : ℕ) (u : List ℕ) where
-  pub crowd-other : isClosing (kind_at doc a) ≡ false → CrowdedOne doc a u u false
+  pub crowd_other : is_closing (kind_at doc a) ≡ false → CrowdedOne doc a u u false
   unfolding over counted
-  crowd-other e = record { stops = λ q. absurd (false≢true q); goes = λ q rest. (rw e, rw e) }
+  crowd_other e = record { stops = λ q. absurd (false≢true q); goes = λ q rest. (rw e, rw e) }
 
-  module _ (e : isClosing (kind_at doc a) ≡ true) (v : ℕ) (ev : v ≡ get_or u a 0) where
-    pub crowd-past : 24 < v + 1 → CrowdedOne doc a u u true
+  module _ (e : is_closing (kind_at doc a) ≡ true) (v : ℕ) (ev : v ≡ get_or u a 0) where
+    pub crowd_past : 24 < v + 1 → CrowdedOne doc a u u true
     unfolding over
-    crowd-past l = record { stops = λ q rest. rw (e, ← ev, lt-ltb 24 (v + 1) l); goes = λ q. absurd (false≢true (sym q)) }
+    crowd_past l = record { stops = λ q rest. rw (e, ← ev, lt-ltb 24 (v + 1) l); goes = λ q. absurd (false≢true (sym q)) }
 
-    crowd-set : v + 1 ≤ 24 → CrowdedOne doc a u (set u a (v + 1)) false
+    crowd_set : v + 1 ≤ 24 → CrowdedOne doc a u (set u a (v + 1)) false
     unfolding over counted
-    crowd-set l = record { stops = λ q. absurd (false≢true q); goes = λ q rest. (rw (e, ← ev, le-ltb 24 (v + 1) l), rw (e, ← ev)) }
+    crowd_set l = record { stops = λ q. absurd (false≢true q); goes = λ q rest. (rw (e, ← ev, le-ltb 24 (v + 1) l), rw (e, ← ev)) }
 
-    pub crowd-more : v + 1 ≤ 24 → (u' : List ℕ) → u' ≡ set u a (v + 1) → CrowdedOne doc a u u' false
-    crowd-more l u' x = subst (λ z. CrowdedOne doc a u z false) (sym x) (crowd-set l)
+    pub crowd_more : v + 1 ≤ 24 → (u' : List ℕ) → u' ≡ set u a (v + 1) → CrowdedOne doc a u u' false
+    crowd_more l u' x = subst (λ z. CrowdedOne doc a u z false) (sym x) (crowd_set l)
 
 -- the walk from k up to a, `left` steps from its end: what is left to do tells of the whole
 pub record Crowding (doc : List ℕ) (n k : ℕ) (u : List ℕ) (left a : ℕ) (u' : List ℕ) : Type 0 where
@@ -90,23 +90,23 @@ pub record Crowding (doc : List ℕ) (n k : ℕ) (u : List ℕ) (left a : ℕ) (
   pub answer : over doc (above doc left a) u' ≡ over doc (above doc n k) u
   pub table : counted doc (above doc left a) u' ≡ counted doc (above doc n k) u
 
-pub crowding-start : (doc : List ℕ) (n k : ℕ) (u : List ℕ) → k < places → Crowding doc n k u n k u
-crowding-start doc n k u l = record { place = l; size = refl; answer = refl; table = refl }
+pub crowding_start : (doc : List ℕ) (n k : ℕ) (u : List ℕ) → k < places → Crowding doc n k u n k u
+crowding_start doc n k u l = record { place = l; size = refl; answer = refl; table = refl }
 
 module _ (doc : List ℕ) (n k : ℕ) (u : List ℕ) (left a : ℕ) (u' : List ℕ) (X : Crowding doc n k u left a u') where
-  pub crowding-end : above doc left a ≡ [] → (false ≡ over doc (above doc n k) u) × (false ≡ false → u' ≡ counted doc (above doc n k) u)
+  pub crowding_end : above doc left a ≡ [] → (false ≡ over doc (above doc n k) u) × (false ≡ false → u' ≡ counted doc (above doc n k) u)
   unfolding over counted
-  crowding-end e = (sym (ap (λ l. over doc l u') e) ∙ X.answer, λ q. sym (ap (λ l. counted doc l u') e) ∙ X.table)
+  crowding_end e = (sym (ap (λ l. over doc l u') e) ∙ X.answer, λ q. sym (ap (λ l. counted doc l u') e) ∙ X.table)
 
   module _ (p : ℕ) (h : left ≡ 0 → ⊥) (e : p ≡ parent doc a) (z : p ≡ 0 → ⊥) (u'' : List ℕ) where
     up : above doc left a ≡ p ∷ above doc (left - 1) p
-    up = above-up doc left a p h e z
+    up = above_up doc left a p h e z
 
-    pub crowding-past : CrowdedOne doc p u' u'' true → (true ≡ over doc (above doc n k) u) × (true ≡ false → u'' ≡ counted doc (above doc n k) u)
-    crowding-past Y = (sym (ap (λ l. over doc l u') up ∙ Y.stops refl (above doc (left - 1) p)) ∙ X.answer, λ q. absurd (false≢true (sym q)))
+    pub crowding_past : CrowdedOne doc p u' u'' true → (true ≡ over doc (above doc n k) u) × (true ≡ false → u'' ≡ counted doc (above doc n k) u)
+    crowding_past Y = (sym (ap (λ l. over doc l u') up ∙ Y.stops refl (above doc (left - 1) p)) ∙ X.answer, λ q. absurd (false≢true (sym q)))
 
-    pub crowding-next : p < places → length u'' ≡ length u' → CrowdedOne doc p u' u'' false → Crowding doc n k u (left - 1) p u''
-    crowding-next l b Y =
+    pub crowding_next : p < places → length u'' ≡ length u' → CrowdedOne doc p u' u'' false → Crowding doc n k u (left - 1) p u''
+    crowding_next l b Y =
         let g = Y.goes refl (above doc (left - 1) p) in
         record {
           place = l;
@@ -115,16 +115,16 @@ module _ (doc : List ℕ) (n k : ℕ) (u : List ℕ) (left a : ℕ) (u' : List �
           table = sym (ap (λ l. counted doc l u') up ∙ g.1) ∙ X.table;
         }
 
-pub crowded-as : {doc : List ℕ} {a : ℕ} {u u' : List ℕ} {r b : Bool} → CrowdedOne doc a u u' r → r ≡ b → CrowdedOne doc a u u' b
-crowded-as {doc = doc} {a = a} {u = u} {u' = u'} Y e = subst (CrowdedOne doc a u u') e Y
+pub crowded_as : {doc : List ℕ} {a : ℕ} {u u' : List ℕ} {r b : Bool} → CrowdedOne doc a u u' r → r ≡ b → CrowdedOne doc a u u' b
+crowded_as {doc = doc} {a = a} {u = u} {u' = u'} Y e = subst (CrowdedOne doc a u u') e Y
 
 -- ---- depth
 -- n steps up can be made exactly where at least n nodes lie above
-reaches-length : (doc : List ℕ) (n m k : ℕ) → n ≤ m → reaches doc n k ≡ leb n (length (above doc m k))
+reaches_length : (doc : List ℕ) (n m k : ℕ) → n ≤ m → reaches doc n k ≡ leb n (length (above doc m k))
 unfolding reaches above
-reaches-length doc zero m k h = sym (le-leb 0 (length (above doc m k)) (omega arith))
-reaches-length doc (suc n) zero k h = absurd (omega arith)
-reaches-length doc (suc n) (suc m) k h = go (eqb (parent doc k) 0) (reaches-length doc n m (parent doc k) (omega arith))
+reaches_length doc zero m k h = sym (le-leb 0 (length (above doc m k)) (omega arith))
+reaches_length doc (suc n) zero k h = absurd (omega arith)
+reaches_length doc (suc n) (suc m) k h = go (eqb (parent doc k) 0) (reaches_length doc n m (parent doc k) (omega arith))
   where
     up : (x : ℕ) → leb n x ≡ leb (suc n) (suc x)
     up x = same_test (leb n x) (leb (suc n) (suc x)) (λ e. le-leb (suc n) (suc x) (omega (arith, leb-true n x e))) (λ e. le-leb n x (omega (arith, leb-true (suc n) (suc x) e)))
@@ -135,11 +135,11 @@ reaches-length doc (suc n) (suc m) k h = go (eqb (parent doc k) 0) (reaches-leng
     go false e = e ∙ up (length (above doc m (parent doc k)))
 
 -- where n steps cannot be made, the walk of n steps meets all that lie above
-above-all : (doc : List ℕ) (n m k : ℕ) → n ≤ m → reaches doc n k ≡ false → above doc n k ≡ above doc m k
+above_all : (doc : List ℕ) (n m k : ℕ) → n ≤ m → reaches doc n k ≡ false → above doc n k ≡ above doc m k
 unfolding reaches above
-above-all doc zero m k h e = absurd (false≢true (sym e))
-above-all doc (suc n) zero k h e = absurd (omega arith)
-above-all doc (suc n) (suc m) k h e = go (eqb (parent doc k) 0) (λ f. above-all doc n m (parent doc k) (omega arith) f) e
+above_all doc zero m k h e = absurd (false≢true (sym e))
+above_all doc (suc n) zero k h e = absurd (omega arith)
+above_all doc (suc n) (suc m) k h e = go (eqb (parent doc k) 0) (λ f. above_all doc n m (parent doc k) (omega arith) f) e
   where
     go : (b : Bool) → (reaches doc n (parent doc k) ≡ false → above doc n (parent doc k) ≡ above doc m (parent doc k))
         → cond b false (reaches doc n (parent doc k)) ≡ false
@@ -147,33 +147,33 @@ above-all doc (suc n) (suc m) k h e = go (eqb (parent doc k) 0) (λ f. above-all
     go true f x = refl
     go false f x = ap (λ (l : List ℕ). parent doc k ∷ l) (f x)
 
-pub deep-eq : (doc : List ℕ) (k : ℕ) → tooDeep doc k ≡ reaches doc 12 k
-deep-eq doc k =
+pub deep_eq : (doc : List ℕ) (k : ℕ) → too_deep doc k ≡ reaches doc 12 k
+deep_eq doc k =
     let x = length (ancestors doc k) in
     same_test (ltb 12 (1 + x)) (leb 12 x) (λ e. le-leb 12 x (omega (arith, ltb-true 12 (1 + x) e))) (λ e. lt-ltb 12 (1 + x) (omega (arith, leb-true 12 x e)))
-    ∙ sym (reaches-length doc 12 1024 k (omega arith))
+    ∙ sym (reaches_length doc 12 1024 k (omega arith))
 
-pub ancestors-short : (doc : List ℕ) (k : ℕ) → reaches doc 12 k ≡ false → above doc 12 k ≡ ancestors doc k
-ancestors-short doc k e = above-all doc 12 1024 k (omega arith) e
+pub ancestors_short : (doc : List ℕ) (k : ℕ) → reaches doc 12 k ≡ false → above doc 12 k ≡ ancestors doc k
+ancestors_short doc k e = above_all doc 12 1024 k (omega arith) e
 
 -- ---- the nodes above rise
 Rising : ℕ → List ℕ → Type 0
 Rising k [] = Unit {0}
 Rising k (a ∷ rest) = (k < a) × Rising a rest
 
-rising-above : (doc : List ℕ) → Nodes doc → (n k : ℕ) → Rising k (above doc n k)
+rising_above : (doc : List ℕ) → Nodes doc → (n k : ℕ) → Rising k (above doc n k)
 unfolding above Rising
-rising-above doc s zero k = tt
-rising-above doc s (suc n) k = go (eqb (parent doc k) 0) refl (rising-above doc s n (parent doc k))
+rising_above doc s zero k = tt
+rising_above doc s (suc n) k = go (eqb (parent doc k) 0) refl (rising_above doc s n (parent doc k))
   where
     go : (b : Bool) → eqb (parent doc k) 0 ≡ b → Rising (parent doc k) (above doc n (parent doc k)) → Rising k (cond b [] (parent doc k ∷ above doc n (parent doc k)))
     go true e r = tt
-    go false e r = (parent-rises doc s k (eqb-false (parent doc k) 0 e), r)
+    go false e r = (parent_rises doc s k (eqb-false (parent doc k) 0 e), r)
 
-rising-has : (k b : ℕ) (l : List ℕ) → Rising k l → has b l ≡ true → k < b
+rising_has : (k b : ℕ) (l : List ℕ) → Rising k l → has b l ≡ true → k < b
 unfolding Rising has
-rising-has k b [] r e = absurd (false≢true e)
-rising-has k b (a ∷ l) r e = go (λ q. rising-has a b l r.1 q) (eqb a b) refl e
+rising_has k b [] r e = absurd (false≢true e)
+rising_has k b (a ∷ l) r e = go (λ q. rising_has a b l r.1 q) (eqb a b) refl e
   where
     go : (has b l ≡ true → a < b) → (x : Bool) → eqb a b ≡ x → (x || has b l) ≡ true → k < b
     go later true p q = omega (arith, eqb-true a b p, r.0)
@@ -181,18 +181,18 @@ rising-has k b (a ∷ l) r e = go (λ q. rising-has a b l r.1 q) (eqb a b) refl 
 
 -- ---- counts of nodes below
 -- while the walk is at `rest`: the word of each closing node of `rest` is one less than its count up to k
-over-crowded : (doc : List ℕ) (k j : ℕ) (rest u : List ℕ) → Rising j rest
-    → ((a : ℕ) → has a rest ≡ true → isClosing (kind_at doc a) ≡ true → get_or u a 0 + 1 ≡ belowUpTo doc a k)
-    → over doc rest u ≡ anyCrowded doc k rest
-unfolding Rising over anyCrowded has
-over-crowded doc k j [] u r f = refl
-over-crowded doc k j (a ∷ rest) u r f =
-    go (isClosing (kind_at doc a)) refl
-    (over-crowded doc k a rest (set u a (get_or u a 0 + 1)) r.1 (λ b h c. rw (get_or-set_other u a b (get_or u a 0 + 1) 0 (λ e. later b h e)) (f b (also a b h) c)))
-    (over-crowded doc k a rest u r.1 (λ b h c. f b (also a b h) c))
+over_crowded : (doc : List ℕ) (k j : ℕ) (rest u : List ℕ) → Rising j rest
+    → ((a : ℕ) → has a rest ≡ true → is_closing (kind_at doc a) ≡ true → get_or u a 0 + 1 ≡ below_up_to doc a k)
+    → over doc rest u ≡ any_crowded doc k rest
+unfolding Rising over any_crowded has
+over_crowded doc k j [] u r f = refl
+over_crowded doc k j (a ∷ rest) u r f =
+    go (is_closing (kind_at doc a)) refl
+    (over_crowded doc k a rest (set u a (get_or u a 0 + 1)) r.1 (λ b h c. rw (get_or-set_other u a b (get_or u a 0 + 1) 0 (λ e. later b h e)) (f b (also a b h) c)))
+    (over_crowded doc k a rest u r.1 (λ b h c. f b (also a b h) c))
   where
     later : (b : ℕ) → has b rest ≡ true → b ≡ a → ⊥
-    later b h e = omega (arith, rising-has a b rest r.1 h, e)
+    later b h e = omega (arith, rising_has a b rest r.1 h, e)
 
     also : (a b : ℕ) → has b rest ≡ true → (eqb a b || has b rest) ≡ true
     also a b h = rw h (by (eqb a b))
@@ -201,17 +201,17 @@ over-crowded doc k j (a ∷ rest) u r f =
         by true = refl
         by false = refl
 
-    go : (x : Bool) → isClosing (kind_at doc a) ≡ x
-        → over doc rest (set u a (get_or u a 0 + 1)) ≡ anyCrowded doc k rest → over doc rest u ≡ anyCrowded doc k rest
-        → cond x (ltb 24 (get_or u a 0 + 1) || over doc rest (set u a (get_or u a 0 + 1))) (over doc rest u) ≡ ((x && ltb 24 (belowUpTo doc a k)) || anyCrowded doc k rest)
+    go : (x : Bool) → is_closing (kind_at doc a) ≡ x
+        → over doc rest (set u a (get_or u a 0 + 1)) ≡ any_crowded doc k rest → over doc rest u ≡ any_crowded doc k rest
+        → cond x (ltb 24 (get_or u a 0 + 1) || over doc rest (set u a (get_or u a 0 + 1))) (over doc rest u) ≡ ((x && ltb 24 (below_up_to doc a k)) || any_crowded doc k rest)
     go true e p q = rw (p, f a (rw (eq-eqb a a refl)) e)
     go false e p q = q
 
-counted-length : (doc rest u : List ℕ) → length (counted doc rest u) ≡ length u
+counted_length : (doc rest u : List ℕ) → length (counted doc rest u) ≡ length u
 unfolding counted
-counted-length doc [] u = refl
-counted-length doc (a ∷ rest) u =
-    go (isClosing (kind_at doc a)) (counted-length doc rest (set u a (get_or u a 0 + 1)) ∙ length-set u a _) (counted-length doc rest u)
+counted_length doc [] u = refl
+counted_length doc (a ∷ rest) u =
+    go (is_closing (kind_at doc a)) (counted_length doc rest (set u a (get_or u a 0 + 1)) ∙ length-set u a _) (counted_length doc rest u)
   where
     go : (x : Bool) → length (counted doc rest (set u a (get_or u a 0 + 1))) ≡ length u → length (counted doc rest u) ≡ length u
         → length (cond x (counted doc rest (set u a (get_or u a 0 + 1))) (counted doc rest u)) ≡ length u
@@ -219,22 +219,22 @@ counted-length doc (a ∷ rest) u =
     go false p q = q
 
 -- the word of a closing node grows by one where it stands among the nodes
-counted-at : (doc : List ℕ) (j b : ℕ) (rest u : List ℕ) → Rising j rest → b < length u → isClosing (kind_at doc b) ≡ true
+counted_at : (doc : List ℕ) (j b : ℕ) (rest u : List ℕ) → Rising j rest → b < length u → is_closing (kind_at doc b) ≡ true
     → get_or (counted doc rest u) b 0 ≡ get_or u b 0 + cond (has b rest) 1 0
 unfolding Rising counted has
-counted-at doc j b [] u r h c = omega arith
-counted-at doc j b (a ∷ rest) u r h c =
+counted_at doc j b [] u r h c = omega arith
+counted_at doc j b (a ∷ rest) u r h c =
     let l : b < length (set u a (get_or u a 0 + 1)) = rw (length-set u a (get_or u a 0 + 1)) h in
-    go (isClosing (kind_at doc a)) refl (ℕ_discrete a b) (counted-at doc a b rest (set u a (get_or u a 0 + 1)) r.1 l c) (counted-at doc a b rest u r.1 h c)
+    go (is_closing (kind_at doc a)) refl (ℕ_discrete a b) (counted_at doc a b rest (set u a (get_or u a 0 + 1)) r.1 l c) (counted_at doc a b rest u r.1 h c)
   where
     absent : a ≡ b → has b rest ≡ false
     absent e = none (has b rest) refl
       where
         none : (x : Bool) → has b rest ≡ x → has b rest ≡ false
-        none true p = absurd (omega (arith, rising-has a b rest r.1 p, e))
+        none true p = absurd (omega (arith, rising_has a b rest r.1 p, e))
         none false p = p
 
-    go : (x : Bool) → isClosing (kind_at doc a) ≡ x → Dec (a ≡ b)
+    go : (x : Bool) → is_closing (kind_at doc a) ≡ x → Dec (a ≡ b)
         → get_or (counted doc rest (set u a (get_or u a 0 + 1))) b 0 ≡ get_or (set u a (get_or u a 0 + 1)) b 0 + cond (has b rest) 1 0
         → get_or (counted doc rest u) b 0 ≡ get_or u b 0 + cond (has b rest) 1 0
         → get_or (cond x (counted doc rest (set u a (get_or u a 0 + 1))) (counted doc rest u)) b 0 ≡ get_or u b 0 + cond (eqb a b || has b rest) 1 0
@@ -242,105 +242,105 @@ counted-at doc j b (a ∷ rest) u r h c =
         let g : get_or (set u a (get_or u a 0 + 1)) b 0 ≡ get_or u b 0 + 1 = rw s (get_or-set_same u b (get_or u b 0 + 1) 0 h) in
         rw (eq-eqb a b s) (p ∙ rw (g, absent s) (omega arith))
     go true e (no s) p q = rw (ne_eqb a b s) (p ∙ rw (get_or-set_other u a b (get_or u a 0 + 1) 0 (λ z. s (sym z))))
-    go false e (yes s) p q = absurd (false≢true (sym e ∙ ap (λ (y : ℕ). isClosing (kind_at doc y)) s ∙ c))
+    go false e (yes s) p q = absurd (false≢true (sym e ∙ ap (λ (y : ℕ). is_closing (kind_at doc y)) s ∙ c))
     go false e (no s) p q = rw (ne_eqb a b s) q
 
 -- ---- one node more
 module _ (doc up : List ℕ) (l : Linked doc up) (k : ℕ) (p : 1 ≤ k) where
-  below_next : (a : ℕ) → belowUpTo doc a k ≡ belowUpTo doc a (k - 1) + cond (has a (ancestors doc k)) 1 0
-  below_next a = total-upto (λ j. cond (has a (ancestors doc j)) 1 0) k p
+  below_next : (a : ℕ) → below_up_to doc a k ≡ below_up_to doc a (k - 1) + cond (has a (ancestors doc k)) 1 0
+  below_next a = total_upto (λ j. cond (has a (ancestors doc j)) 1 0) k p
 
-  most-above : (n j a : ℕ) → has a (above doc n j) ≡ true → a < places
+  most_above : (n j a : ℕ) → has a (above doc n j) ≡ true → a < places
   unfolding above has
-  most-above zero j a e = absurd (false≢true e)
-  most-above (suc n) j a e = go (eqb (parent doc j) 0) e (λ q. most-above n (parent doc j) a q)
+  most_above zero j a e = absurd (false≢true e)
+  most_above (suc n) j a e = go (eqb (parent doc j) 0) e (λ q. most_above n (parent doc j) a q)
     where
       go : (b : Bool) → has a (cond b [] (parent doc j ∷ above doc n (parent doc j))) ≡ true → (has a (above doc n (parent doc j)) ≡ true → a < places) → a < places
       go true x f = absurd (false≢true x)
       go false x f = or (eqb (parent doc j) a) refl x
         where
           or : (y : Bool) → eqb (parent doc j) a ≡ y → (y || has a (above doc n (parent doc j))) ≡ true → a < places
-          or true q z = omega (arith, eqb-true (parent doc j) a q, parent-most doc j, l.parents.few)
+          or true q z = omega (arith, eqb-true (parent doc j) a q, parent_most doc j, l.parents.few)
           or false q z = f z
 
-  pub crowded-eq : (u : List ℕ) → Below doc (k - 1) u → over doc (ancestors doc k) u ≡ tooCrowded doc k
-  crowded-eq u b =
-      over-crowded doc k k (ancestors doc k) u (rising-above doc (nodes-of doc up l) 1024 k)
-      (λ a h c. rw (b.at a (most-above 1024 k a h) c) (sym (below_next a ∙ rw h)))
+  pub crowded_eq : (u : List ℕ) → Below doc (k - 1) u → over doc (ancestors doc k) u ≡ too_crowded doc k
+  crowded_eq u b =
+      over_crowded doc k k (ancestors doc k) u (rising_above doc (nodes_of doc up l) 1024 k)
+      (λ a h c. rw (b.at a (most_above 1024 k a h) c) (sym (below_next a ∙ rw h)))
 
   pub below_on : (u : List ℕ) → Below doc (k - 1) u → Below doc k (counted doc (ancestors doc k) u)
   below_on u b =
       record {
-        size = counted-length doc (ancestors doc k) u ∙ b.size;
+        size = counted_length doc (ancestors doc k) u ∙ b.size;
         at = λ a h c.
-            counted-at doc k a (ancestors doc k) u (rising-above doc (nodes-of doc up l) 1024 k) (rw b.size h) c ∙ rw (b.at a h c) (sym (below_next a));
+            counted_at doc k a (ancestors doc k) u (rising_above doc (nodes_of doc up l) 1024 k) (rw b.size h) c ∙ rw (b.at a h c) (sym (below_next a));
       }
 
 -- the identifiers of Texts
 module _ (doc : List ℕ) (k : ℕ) (p : 1 ≤ k) (u : List ℕ) (d : Declared doc (k - 1) u) where
-  declared-next : (t : ℕ) → declaredUpTo doc t k ≡ declaredUpTo doc t (k - 1) + length (declaredIn doc t k)
-  declared-next t = total-upto (λ j. length (declaredIn doc t j)) k p
+  declared_next : (t : ℕ) → declared_up_to doc t k ≡ declared_up_to doc t (k - 1) + length (declared_in doc t k)
+  declared_next t = total_upto (λ j. length (declared_in doc t j)) k p
 
   -- at a Decl
   module _ (q : kind_at doc k ≡ 11) (t : ℕ) (e : t ≡ parent doc k) (m : t < places) where
-    own : declaredIn doc t k ≡ declared doc k
-    unfolding declaredIn
+    own : declared_in doc t k ≡ declared doc k
+    unfolding declared_in
     own = rw (eq-eqb (kind_at doc k) 11 q, eq-eqb (parent doc k) t (sym e))
 
-    other : (s : ℕ) → (s ≡ t → ⊥) → declaredIn doc s k ≡ []
-    unfolding declaredIn
+    other : (s : ℕ) → (s ≡ t → ⊥) → declared_in doc s k ≡ []
+    unfolding declared_in
     other s h = rw (eq-eqb (kind_at doc k) 11 q, ne_eqb (parent doc k) s (λ z. h (sym z ∙ sym e)))
 
-    pub wide-count : get_or u t 0 + length (declared doc k) ≡ declaredUpTo doc (parent doc k) k
-    wide-count = rw (d.at t m, ← e) (sym (declared-next t ∙ rw own))
+    pub wide_count : get_or u t 0 + length (declared doc k) ≡ declared_up_to doc (parent doc k) k
+    wide_count = rw (d.at t m, ← e) (sym (declared_next t ∙ rw own))
 
-    pub declared-on : (n : ℕ) → n ≡ get_or u t 0 + length (declared doc k) → Declared doc k (set u t n)
-    declared-on n x =
+    pub declared_on : (n : ℕ) → n ≡ get_or u t 0 + length (declared doc k) → Declared doc k (set u t n)
+    declared_on n x =
         record {
           size = length-set u t n ∙ d.size;
           at = λ s h. go s h (ℕ_discrete s t);
         }
       where
-        go : (s : ℕ) → s < places → Dec (s ≡ t) → get_or (set u t n) s 0 ≡ declaredUpTo doc s k
+        go : (s : ℕ) → s < places → Dec (s ≡ t) → get_or (set u t n) s 0 ≡ declared_up_to doc s k
         go s h (yes z) =
             let y : t < length u = rw d.size m in
-            rw (z, get_or-set_same u t n 0 y, x) (wide-count ∙ rw e)
-        go s h (no z) = rw (get_or-set_other u t s n 0 z) (d.at s h ∙ sym (declared-next s ∙ rw (other s z) (omega arith)))
+            rw (z, get_or-set_same u t n 0 y, x) (wide_count ∙ rw e)
+        go s h (no z) = rw (get_or-set_other u t s n 0 z) (d.at s h ∙ sym (declared_next s ∙ rw (other s z) (omega arith)))
 
   -- at another node
   pub declared_same : (kind_at doc k ≡ 11 → ⊥) → Declared doc k u
-  unfolding declaredIn
+  unfolding declared_in
   declared_same q =
-      record { size = d.size; at = λ s h. d.at s h ∙ sym (declared-next s ∙ rw (ne_eqb (kind_at doc k) 11 q) (omega arith)) }
+      record { size = d.size; at = λ s h. d.at s h ∙ sym (declared_next s ∙ rw (ne_eqb (kind_at doc k) 11 q) (omega arith)) }
 
 -- ---- few identifiers at one node
 module _ (doc up : List ℕ) (l : Linked doc up) (k : ℕ) (p : 1 ≤ k) (q : k ≤ count doc) where
-  few_words : length (part doc k) ≤ documentWords
+  few_words : length (part doc k) ≤ document_words
   few_words =
-      let d = (nodes-of doc up l).laid in
+      let d = (nodes_of doc up l).laid in
       let e = d.pair k p q in
       omega (arith, part_length 1 doc k p e, e.ends, d.short)
 
-  pub declared-few : length (declared doc k) ≤ documentWords
-  declared-few = omega (arith, few_words, length-drop 2 (part doc k))
+  pub declared_few : length (declared doc k) ≤ document_words
+  declared_few = omega (arith, few_words, length-drop 2 (part doc k))
 
-  pub globals-few : length (globals doc k) ≤ documentWords
+  pub globals_few : length (globals doc k) ≤ document_words
   unfolding globals
-  globals-few =
+  globals_few =
       let w = part doc k in
-      by (eqb (kind_at doc k) 2) (eqb (kind_at doc k) 5) (isAxiomDecl doc k) (omega (arith, few_words, length-drop 1 w)) (omega (arith, length-take 1 (drop 1 w))) declared-few
+      by (eqb (kind_at doc k) 2) (eqb (kind_at doc k) 5) (is_axiom_decl doc k) (omega (arith, few_words, length-drop 1 w)) (omega (arith, length-take 1 (drop 1 w))) declared_few
     where
-      by : (a b c : Bool) → length (drop 1 (part doc k)) ≤ documentWords → length (firstOperand doc k) ≤ documentWords → length (declared doc k) ≤ documentWords
-          → length (cond a (drop 1 (part doc k)) (cond b (firstOperand doc k) (cond c (declared doc k) []))) ≤ documentWords
+      by : (a b c : Bool) → length (drop 1 (part doc k)) ≤ document_words → length (first_operand doc k) ≤ document_words → length (declared doc k) ≤ document_words
+          → length (cond a (drop 1 (part doc k)) (cond b (first_operand doc k) (cond c (declared doc k) []))) ≤ document_words
       by true b c x y z = x
       by false true c x y z = y
       by false false true x y z = z
       by false false false x y z = omega arith
 
 -- the limits that go by the tree, and then the number of identifiers
-pub limit-eq : (doc : List ℕ) (k : ℕ) → limitNumber doc k ≡ cond (pastTree doc k || tooMany doc k) 17 0
-unfolding limitNumber
-limit-eq doc k = ap (λ (b : Bool). cond b 17 0) (by (tooDeep doc k) (tooNested doc k) (tooWide doc k) (tooCrowded doc k) (tooMany doc k))
+pub limit_eq : (doc : List ℕ) (k : ℕ) → limit_number doc k ≡ cond (past_tree doc k || too_many doc k) 17 0
+unfolding limit_number
+limit_eq doc k = ap (λ (b : Bool). cond b 17 0) (by (too_deep doc k) (too_nested doc k) (too_wide doc k) (too_crowded doc k) (too_many doc k))
   where
     by : (a b c d e : Bool) → (a || (b || (c || (d || e)))) ≡ ((a || (b || (c || d))) || e)
     by true b c d e = refl
@@ -349,8 +349,8 @@ limit-eq doc k = ap (λ (b : Bool). cond b 17 0) (by (tooDeep doc k) (tooNested 
     by false false false true e = refl
     by false false false false e = refl
 
-pub globals-next : (doc : List ℕ) (k : ℕ) → 1 ≤ k → globalsUpTo doc k ≡ globalsUpTo doc (k - 1) + length (globals doc k)
-globals-next doc k p = total-upto (λ j. length (globals doc j)) k p
+pub globals_next : (doc : List ℕ) (k : ℕ) → 1 ≤ k → globals_up_to doc k ≡ globals_up_to doc (k - 1) + length (globals doc k)
+globals_next doc k p = total_upto (λ j. length (globals doc j)) k p
 
 -- before the first node
 pub counted_none : (doc : List ℕ) → Counted doc 0 (replicate places 0) (replicate places 0)

@@ -10,11 +10,11 @@ mod limits;
 mod links;
 
 ghost use Rattle.std.specs.Prelude.{◌≡◌, true};
-ghost use Rattle.layout.specs.Layout.{laidOut};
-ghost use Rattle.reader_rules.specs.Nodes.{documentForm};
-ghost use Rattle.reader_rules.specs.Findings.{nodeNumber, useNumber};
-ghost use Rattle.reader_rules.specs.Repeats.{repeatNumber};
-ghost use Rattle.reader_rules.specs.Limits.{limitNumber};
+ghost use Rattle.layout.specs.Layout.{laid_out};
+ghost use Rattle.reader_rules.specs.Nodes.{document_form};
+ghost use Rattle.reader_rules.specs.Findings.{node_number, use_number};
+ghost use Rattle.reader_rules.specs.Repeats.{repeat_number};
+ghost use Rattle.reader_rules.specs.Limits.{limit_number};
 ghost use Rattle.reader_rules.specs.Findings.{and_then};
 ghost use Rattle.reader_rules.specs.Reading.{lowest, read_of};
 ghost use Rattle.reader_rules.specs.declared.Reading.TheVariants.{Readable};
@@ -26,7 +26,7 @@ const PLACES: usize = NODES + 1;
 // Findings 16 and 17, by the table of parents.
 fn check_tree(doc: &[u32], up: &[u32]) -> Reading
     requires { Linked doc.now up.now }
-    ensures { result ≡ and_then (lowest doc.now (repeatNumber doc.now)) (lowest doc.now (limitNumber doc.now)) }
+    ensures { result ≡ and_then (lowest doc.now (repeat_number doc.now)) (lowest doc.now (limit_number doc.now)) }
 {
     let first = first_repeat(doc, up);
     match first {
@@ -40,8 +40,8 @@ fn check_tree(doc: &[u32], up: &[u32]) -> Reading
 
 // Findings 15 to 17, of a document whose nodes are in order.
 fn check_uses_and_tree(doc: &[u32]) -> Reading
-    requires { (laidOut documentForm doc.now ≡ true) × (lowest doc.now (nodeNumber doc.now) ≡ Readable) }
-    ensures { result ≡ and_then (lowest doc.now (useNumber doc.now)) (and_then (lowest doc.now (repeatNumber doc.now)) (lowest doc.now (limitNumber doc.now))) }
+    requires { (laid_out document_form doc.now ≡ true) × (lowest doc.now (node_number doc.now) ≡ Readable) }
+    ensures { result ≡ and_then (lowest doc.now (use_number doc.now)) (and_then (lowest doc.now (repeat_number doc.now)) (lowest doc.now (limit_number doc.now))) }
 {
     let mut used = [0u32; PLACES];
     let mut up = [0u32; PLACES];

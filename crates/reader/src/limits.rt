@@ -2,10 +2,10 @@
 ghost use Rattle.std.specs.Prelude.{◌≡◌, true, false, ◌+◌, ◌-◌, ◌≤◌, ◌<◌};
 ghost use Rattle.layout.specs.Layout.{count};
 ghost use Rattle.reader_rules.specs.Nodes.{above};
-ghost use Rattle.reader_rules.specs.Limits.{textsAmong, isClosing, tooNested, tooWide, limitNumber};
+ghost use Rattle.reader_rules.specs.Limits.{texts_among, is_closing, too_nested, too_wide, limit_number};
 ghost use Rattle.reader_rules.specs.Reading.{lowest};
 ghost use Rattle.reader_repeats.specs.Parents.{places, Parents, Linked};
-ghost use Rattle.reader.specs.Counts.{reaches, counted, over, CrowdedOne, Declared, Counted, pastTree};
+ghost use Rattle.reader.specs.Counts.{reaches, counted, over, CrowdedOne, Declared, Counted, past_tree};
 
 use crate::PLACES;
 use codes::{findings, kinds, limits};
@@ -17,7 +17,7 @@ use words::{store, word};
 
 // A Decl, Include, Abbreviation, or node of kind 21 to 23.
 fn is_closing(q: usize) -> bool
-    ensures { result ≡ isClosing q }
+    ensures { result ≡ is_closing q }
 {
     if q == kinds::ABBREVIATION {
         return true;
@@ -48,7 +48,7 @@ fn has_above(doc: &[u32], up: &[u32], k: usize, n: usize) -> bool
 // The number of Texts among the first n nodes above k.
 fn texts_above(doc: &[u32], up: &[u32], k: usize, n: usize) -> usize
     requires { Parents doc.now up.now × (k < places) }
-    ensures { (result ≡ textsAmong doc.now (above doc.now n k)) × (result ≤ n) }
+    ensures { (result ≡ texts_among doc.now (above doc.now n k)) × (result ≤ n) }
 {
     if n == 0 {
         return 0;
@@ -104,7 +104,7 @@ fn crowd(doc: &[u32], up: &[u32], k: usize, n: usize, below: &mut [u32]) -> bool
 // Node k is a Text inside 4 others. It is at most 12 deep.
 fn is_nested(doc: &[u32], up: &[u32], k: usize) -> bool
     requires { Parents doc.now up.now × (k < places) × (reaches doc.now 12 k ≡ false) }
-    ensures { result ≡ tooNested doc.now k }
+    ensures { result ≡ too_nested doc.now k }
 {
     let q = kind_at(doc, k);
     if q == kinds::TEXT {
@@ -116,7 +116,7 @@ fn is_nested(doc: &[u32], up: &[u32], k: usize) -> bool
 // Adds the identifiers of a Decl to those of its Text; whether they are then more than 6.
 fn widen(doc: &[u32], up: &[u32], k: usize, declared: &mut [u32]) -> bool
     requires { Linked doc.now up.now × (1 ≤ k) × (k ≤ count doc.now) × Declared doc.now (k - 1) declared.old }
-    ensures { (result ≡ tooWide doc.now k) × (result ≡ false → Declared doc.now k declared.new) }
+    ensures { (result ≡ too_wide doc.now k) × (result ≡ false → Declared doc.now k declared.new) }
 {
     let q = kind_at(doc, k);
     if q == kinds::DECL {
@@ -135,7 +135,7 @@ fn widen(doc: &[u32], up: &[u32], k: usize, declared: &mut [u32]) -> bool
 // Node k is past one of the limits that go by the tree; where it is not, the tables have node k.
 fn limit_at(doc: &[u32], up: &[u32], k: usize, below: &mut [u32], declared: &mut [u32]) -> bool
     requires { Linked doc.now up.now × (1 ≤ k) × (k ≤ count doc.now) × Counted doc.now (k - 1) below.old declared.old }
-    ensures { (result ≡ pastTree doc.now k) × (result ≡ false → Counted doc.now k below.new declared.new) }
+    ensures { (result ≡ past_tree doc.now k) × (result ≡ false → Counted doc.now k below.new declared.new) }
 {
     if has_above(doc, up, k, limits::DEPTH) {
         return true;
@@ -152,7 +152,7 @@ fn limit_at(doc: &[u32], up: &[u32], k: usize, below: &mut [u32], declared: &mut
 // The first node past a limit.
 pub fn first_past_limit(doc: &[u32], up: &[u32]) -> Reading
     requires { Linked doc.now up.now }
-    ensures { result ≡ lowest doc.now (limitNumber doc.now) }
+    ensures { result ≡ lowest doc.now (limit_number doc.now) }
 {
     let mut below = [0u32; PLACES];
     let mut declared = [0u32; PLACES];

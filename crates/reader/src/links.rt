@@ -1,10 +1,10 @@
 // Uses and parents of nodes, and finding 15.
 ghost use Rattle.std.specs.Prelude.{◌≡◌, ◌≤◌, ◌<◌, ◌^◌};
 ghost use Rattle.layout.specs.Layout.{count};
-ghost use Rattle.reader_rules.specs.Findings.{useNumber};
+ghost use Rattle.reader_rules.specs.Findings.{use_number};
 ghost use Rattle.reader_rules.specs.Reading.{lowest};
 ghost use Rattle.reader_repeats.specs.Parents.{places};
-ghost use Rattle.reader.specs.Links.{bump, tallyAt, tallyNode, tally, linkAt, linkNode, link, Used};
+ghost use Rattle.reader.specs.Links.{bump, tally_at, tally_node, tally, link_at, link_node, link, Used};
 
 use codes::{findings, kinds};
 use layout::part;
@@ -31,7 +31,7 @@ fn mark(used: &mut [u32], v: usize)
 // Operand i of node k, with the words w, is used by k.
 fn link_at(w: &[u32], k: usize, i: usize, used: &mut [u32], up: &mut [u32])
     requires { k < 2 ^ 32 }
-    ensures { (used.new ≡ tallyAt w.now i used.old) × (up.new ≡ linkAt w.now k i up.old) }
+    ensures { (used.new ≡ tally_at w.now i used.old) × (up.new ≡ link_at w.now k i up.old) }
 {
     if sort_at(w, i) <= sorts::LAST_PLAIN {
         return;
@@ -43,7 +43,7 @@ fn link_at(w: &[u32], k: usize, i: usize, used: &mut [u32], up: &mut [u32])
 
 fn link_node(w: &[u32], k: usize, used: &mut [u32], up: &mut [u32])
     requires { k < 2 ^ 32 }
-    ensures { (used.new ≡ tallyNode w.now used.old) × (up.new ≡ linkNode w.now k up.old) }
+    ensures { (used.new ≡ tally_node w.now used.old) × (up.new ≡ link_node w.now k up.old) }
 {
     let n = operand_count(w);
     let mut i = 1;
@@ -69,7 +69,7 @@ pub fn link_nodes(doc: &[u32], used: &mut [u32], up: &mut [u32])
 // 15 at node k, 0 for none.
 fn use_number(doc: &[u32], used: &[u32], k: usize) -> u32
     requires { Used doc.now used.now × (k < places) }
-    ensures { result ≡ useNumber doc.now k }
+    ensures { result ≡ use_number doc.now k }
 {
     let n = word(doc, 0);
     let m = word(used, k);
@@ -92,7 +92,7 @@ fn use_number(doc: &[u32], used: &[u32], k: usize) -> u32
 // The first node that is used twice or never, or is a Document that is not last, or is last and no Document.
 pub fn first_misused(doc: &[u32], used: &[u32]) -> Reading
     requires { Used doc.now used.now × (count doc.now ≤ 1024) }
-    ensures { result ≡ lowest doc.now (useNumber doc.now) }
+    ensures { result ≡ lowest doc.now (use_number doc.now) }
 {
     let n = word(doc, 0);
     let mut k = 1;

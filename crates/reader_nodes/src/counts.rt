@@ -1,8 +1,8 @@
 // How many operands the nodes of a kind have. Document 01, forms: "The kinds fall in ranges, so decide the sort of a kind": a choice over ranges of
 // kinds, with no table. The list of kinds is in reader_rules/specs/Kinds.antt, the choice in specs/Choices.antt.
 ghost use Rattle.std.specs.Prelude.{◌≡◌, ◌-◌, ◌≤◌, ◌<◌, ◌^◌, length};
-ghost use Rattle.reader_rules.specs.Kinds.{listed, countRow, countBy, countOk};
-ghost use Rattle.reader_nodes.specs.Choices.{countsNumber, fromBelow, paragraphCounts, predicateCounts, expressionCounts, otherCounts, chosenCounts};
+ghost use Rattle.reader_rules.specs.Kinds.{listed, count_row, count_by, count_ok};
+ghost use Rattle.reader_nodes.specs.Choices.{counts_number, from_below, paragraph_counts, predicate_counts, expression_counts, other_counts, chosen_counts};
 
 use codes::{kinds, limits};
 use words::word;
@@ -23,13 +23,13 @@ const RENAME_IDENTIFIERS: usize = 2 * limits::RENAMES;
 
 fn from_below(fewest: usize, limit: usize) -> usize
     requires { (fewest < 16) × (limit ≤ 256) }
-    ensures { result ≡ countsNumber (fromBelow fewest limit) }
+    ensures { result ≡ counts_number (from_below fewest limit) }
 {
     limit * DIGIT + fewest
 }
 
 fn paragraph(q: usize) -> usize
-    ensures { result ≡ countsNumber (paragraphCounts q) }
+    ensures { result ≡ counts_number (paragraph_counts q) }
 {
     match q {
         kinds::GIVEN => from_below(1, 17),
@@ -39,7 +39,7 @@ fn paragraph(q: usize) -> usize
 }
 
 fn predicate(q: usize) -> usize
-    ensures { result ≡ countsNumber (predicateCounts q) }
+    ensures { result ≡ counts_number (predicate_counts q) }
 {
     match q {
         kinds::TRUE => from_below(0, 1),
@@ -51,7 +51,7 @@ fn predicate(q: usize) -> usize
 // Ref, Number and ℤ.
 fn name_or_number(q: usize) -> usize
     requires { (30 ≤ q) × (q ≤ 32) }
-    ensures { result ≡ countsNumber (expressionCounts q) }
+    ensures { result ≡ counts_number (expression_counts q) }
 {
     match q {
         kinds::REF => from_below(1, 6),
@@ -63,7 +63,7 @@ fn name_or_number(q: usize) -> usize
 // Set, Tuple and Product.
 fn collection(q: usize) -> usize
     requires { (33 ≤ q) × (q ≤ 35) }
-    ensures { result ≡ countsNumber (expressionCounts q) }
+    ensures { result ≡ counts_number (expression_counts q) }
 {
     if q == kinds::SET {
         return from_below(0, 7);
@@ -73,7 +73,7 @@ fn collection(q: usize) -> usize
 
 fn expression(q: usize) -> usize
     requires { (30 ≤ q) × (q ≤ 46) }
-    ensures { result ≡ countsNumber (expressionCounts q) }
+    ensures { result ≡ counts_number (expression_counts q) }
 {
     match q {
         kinds::REF..=kinds::INTEGERS => name_or_number(q),
@@ -87,7 +87,7 @@ fn expression(q: usize) -> usize
 // Text, Decl and Include.
 fn text(q: usize) -> usize
     requires { (10 ≤ q) × (q ≤ 12) }
-    ensures { result ≡ countsNumber (otherCounts q) }
+    ensures { result ≡ counts_number (other_counts q) }
 {
     match q {
         kinds::TEXT => from_below(1, 8),
@@ -98,7 +98,7 @@ fn text(q: usize) -> usize
 
 // The kinds outside paragraphs, predicates and expressions, listed or not.
 fn other(q: usize) -> usize
-    ensures { result ≡ countsNumber (otherCounts q) }
+    ensures { result ≡ counts_number (other_counts q) }
 {
     match q {
         kinds::DOCUMENT => from_below(0, 256),
@@ -109,7 +109,7 @@ fn other(q: usize) -> usize
 }
 
 fn counts_of(q: usize) -> usize
-    ensures { result ≡ countsNumber (chosenCounts q) }
+    ensures { result ≡ counts_number (chosen_counts q) }
 {
     match q {
         kinds::GIVEN..=kinds::CONSTRAINT => paragraph(q),
@@ -133,7 +133,7 @@ pub fn operand_count(w: &[u32]) -> usize
 }
 
 fn count_row(q: usize, n: usize) -> bool
-    ensures { result ≡ countRow q n }
+    ensures { result ≡ count_row q n }
 {
     let counts = counts_of(q);
     if counts % DIGIT <= n {
@@ -145,7 +145,7 @@ fn count_row(q: usize, n: usize) -> bool
 // The number n of operands is what the counts p (kinds 4 and 5) or a (kind 12) ask for.
 fn count_by(q: usize, n: usize, p: usize, a: usize) -> bool
     requires { (p < 2 ^ 32) × (a < 2 ^ 32) }
-    ensures { result ≡ countBy q n p a }
+    ensures { result ≡ count_by q n p a }
 {
     if q == kinds::INCLUDE {
         let from = a + BEFORE_ACTUALS;
@@ -169,7 +169,7 @@ fn count_by(q: usize, n: usize, p: usize, a: usize) -> bool
 
 // The operand count of a node with these words.
 pub fn count_ok(w: &[u32]) -> bool
-    ensures { result ≡ countOk w.now }
+    ensures { result ≡ count_ok w.now }
 {
     let q = word(w, 0);
     let n = operand_count(w);

@@ -1,7 +1,7 @@
 // The sort of a kind: by a choice over ranges of kinds, as in counts.rt.
 ghost use Rattle.std.specs.Prelude.{◌≡◌, ◌≤◌};
-ghost use Rattle.reader_rules.specs.Kinds.{between, ofSort};
-ghost use Rattle.reader_nodes.specs.Choices.{within, otherSort, chosenSort};
+ghost use Rattle.reader_rules.specs.Kinds.{between, of_sort};
+ghost use Rattle.reader_nodes.specs.Choices.{within, other_sort, chosen_sort};
 
 use crate::sorts;
 use codes::kinds;
@@ -18,7 +18,7 @@ pub fn is_between(a: usize, q: usize, b: usize) -> bool
 // Text, Decl and Include.
 fn text(q: usize) -> usize
     requires { (10 ≤ q) × (q ≤ 12) }
-    ensures { result ≡ otherSort q }
+    ensures { result ≡ other_sort q }
 {
     match q {
         kinds::TEXT => sorts::TEXTS,
@@ -29,7 +29,7 @@ fn text(q: usize) -> usize
 
 // The kinds outside paragraphs, predicates and expressions, listed or not.
 fn other(q: usize) -> usize
-    ensures { result ≡ otherSort q }
+    ensures { result ≡ other_sort q }
 {
     match q {
         kinds::TEXT..=kinds::INCLUDE => text(q),
@@ -40,7 +40,7 @@ fn other(q: usize) -> usize
 
 // The narrowest sort of kind q, 0 where it has none.
 fn sort_of(q: usize) -> usize
-    ensures { result ≡ chosenSort q }
+    ensures { result ≡ chosen_sort q }
 {
     match q {
         kinds::GIVEN..=kinds::CONSTRAINT => sorts::PARAGRAPHS,
@@ -74,7 +74,7 @@ fn is_within(t: usize, s: usize) -> bool
 
 // Kind q is of node sort s.
 pub fn of_sort(s: usize, q: usize) -> bool
-    ensures { result ≡ ofSort s q }
+    ensures { result ≡ of_sort s q }
 {
     is_within(sort_of(q), s)
 }

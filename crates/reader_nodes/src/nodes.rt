@@ -1,7 +1,7 @@
 // Findings 12 to 14, node by node.
 ghost use Rattle.std.specs.Prelude.{◌≡◌, ◌<◌, ◌^◌};
 ghost use Rattle.reader_rules.specs.Nodes.{kind_at, operand_at};
-ghost use Rattle.reader_rules.specs.Findings.{plainAt, plainWords, lowerAt, lowerNodes, number_of, nodeNumber};
+ghost use Rattle.reader_rules.specs.Findings.{plain_at, plain_words, lower_at, lower_nodes, number_of, node_number};
 ghost use Rattle.reader_rules.specs.Reading.{lowest};
 
 use crate::counts::{count_ok, is_listed, operand_count};
@@ -30,13 +30,13 @@ pub fn operand(doc: &[u32], k: usize, i: usize) -> usize
 
 // Operand i of the node with these words is a node, or a plain word in range.
 fn plain_at(w: &[u32], i: usize) -> bool
-    ensures { result ≡ plainAt w.now i }
+    ensures { result ≡ plain_at w.now i }
 {
     plain_ok(sort_at(w, i), word(w, i))
 }
 
 fn plain_words(w: &[u32]) -> bool
-    ensures { result ≡ plainWords w.now }
+    ensures { result ≡ plain_words w.now }
 {
     let n = operand_count(w);
     let mut i = 1;
@@ -52,7 +52,7 @@ fn plain_words(w: &[u32]) -> bool
 
 // Operand i of node k, with the words w, is a plain word, or a lower node of its sort.
 fn lower_at(doc: &[u32], k: usize, w: &[u32], i: usize) -> bool
-    ensures { result ≡ lowerAt doc.now k w.now i }
+    ensures { result ≡ lower_at doc.now k w.now i }
 {
     let s = sort_at(w, i);
     let v = word(w, i);
@@ -69,7 +69,7 @@ fn lower_at(doc: &[u32], k: usize, w: &[u32], i: usize) -> bool
 }
 
 fn lower_nodes(doc: &[u32], k: usize, w: &[u32]) -> bool
-    ensures { result ≡ lowerNodes doc.now k w.now }
+    ensures { result ≡ lower_nodes doc.now k w.now }
 {
     let n = operand_count(w);
     let mut i = 1;
@@ -104,7 +104,7 @@ fn number_of(doc: &[u32], k: usize, w: &[u32]) -> u32
 
 // The first finding among the nodes.
 pub fn check_nodes(doc: &[u32]) -> Reading
-    ensures { result ≡ lowest doc.now (nodeNumber doc.now) }
+    ensures { result ≡ lowest doc.now (node_number doc.now) }
 {
     let n = word(doc, 0);
     let mut k = 1;

@@ -1,7 +1,7 @@
 // Of which sorts the operands of a node are: by a choice over ranges of kinds, as in counts.rt, with no table.
 ghost use Rattle.std.specs.Prelude.{◌≡◌, ◌≤◌, ◌<◌, ◌^◌};
-ghost use Rattle.reader_rules.specs.Kinds.{cell, sortRow, sortInclude, sortIn, sortAt};
-ghost use Rattle.reader_nodes.specs.Choices.{sortsNumber, byPlace, each, two, one, paragraphSorts, predicateSorts, expressionSorts, otherSorts, chosenSorts};
+ghost use Rattle.reader_rules.specs.Kinds.{cell, sort_row, sort_include, sort_in, sort_at};
+ghost use Rattle.reader_nodes.specs.Choices.{sorts_number, by_place, each, two, one, paragraph_sorts, predicate_sorts, expression_sorts, other_sorts, chosen_sorts};
 
 use crate::counts::{BEFORE_ACTUALS, operand_count};
 use crate::sorts;
@@ -21,28 +21,28 @@ const NOTHING: usize = 0;
 
 fn by_place(first: usize, second: usize, others: usize, last: usize) -> usize
     requires { (first < 16) × (second < 16) × (others < 16) × (last < 16) }
-    ensures { result ≡ sortsNumber (byPlace first second others last) }
+    ensures { result ≡ sorts_number (by_place first second others last) }
 {
     first * FIRST + second * SECOND + others * OTHERS + last
 }
 
 fn each(s: usize) -> usize
     requires { s < 16 }
-    ensures { result ≡ sortsNumber (each s) }
+    ensures { result ≡ sorts_number (each s) }
 {
     by_place(s, s, s, sorts::NONE)
 }
 
 fn two(first: usize, second: usize) -> usize
     requires { (first < 16) × (second < 16) }
-    ensures { result ≡ sortsNumber (two first second) }
+    ensures { result ≡ sorts_number (two first second) }
 {
     by_place(first, second, sorts::NONE, sorts::NONE)
 }
 
 fn one(s: usize) -> usize
     requires { s < 16 }
-    ensures { result ≡ sortsNumber (one s) }
+    ensures { result ≡ sorts_number (one s) }
 {
     two(s, sorts::NONE)
 }
@@ -50,7 +50,7 @@ fn one(s: usize) -> usize
 // Given and Axiom.
 fn declaration(q: usize) -> usize
     requires { (2 ≤ q) × (q ≤ 3) }
-    ensures { result ≡ sortsNumber (paragraphSorts q) }
+    ensures { result ≡ sorts_number (paragraph_sorts q) }
 {
     if q == kinds::GIVEN {
         return each(sorts::IDENTIFIERS);
@@ -61,7 +61,7 @@ fn declaration(q: usize) -> usize
 // Schema and Abbreviation.
 fn definition(q: usize) -> usize
     requires { (4 ≤ q) × (q ≤ 5) }
-    ensures { result ≡ sortsNumber (paragraphSorts q) }
+    ensures { result ≡ sorts_number (paragraph_sorts q) }
 {
     if q == kinds::SCHEMA {
         return by_place(
@@ -81,7 +81,7 @@ fn definition(q: usize) -> usize
 
 fn paragraph(q: usize) -> usize
     requires { (2 ≤ q) × (q ≤ 6) }
-    ensures { result ≡ sortsNumber (paragraphSorts q) }
+    ensures { result ≡ sorts_number (paragraph_sorts q) }
 {
     match q {
         kinds::GIVEN..=kinds::AXIOM => declaration(q),
@@ -92,7 +92,7 @@ fn paragraph(q: usize) -> usize
 
 fn predicate(q: usize) -> usize
     requires { (20 ≤ q) × (q ≤ 29) }
-    ensures { result ≡ sortsNumber (predicateSorts q) }
+    ensures { result ≡ sorts_number (predicate_sorts q) }
 {
     match q {
         kinds::TRUE => NOTHING,
@@ -106,7 +106,7 @@ fn predicate(q: usize) -> usize
 // Ref, Number and ℤ.
 fn name_or_number(q: usize) -> usize
     requires { (30 ≤ q) × (q ≤ 32) }
-    ensures { result ≡ sortsNumber (expressionSorts q) }
+    ensures { result ≡ sorts_number (expression_sorts q) }
 {
     match q {
         kinds::REF => by_place(
@@ -123,7 +123,7 @@ fn name_or_number(q: usize) -> usize
 // Select, Theta and SchemaSet.
 fn binding(q: usize) -> usize
     requires { (38 ≤ q) × (q ≤ 40) }
-    ensures { result ≡ sortsNumber (expressionSorts q) }
+    ensures { result ≡ sorts_number (expression_sorts q) }
 {
     match q {
         kinds::SELECT => two(sorts::EXPRESSIONS, sorts::IDENTIFIERS),
@@ -134,7 +134,7 @@ fn binding(q: usize) -> usize
 
 fn expression(q: usize) -> usize
     requires { (30 ≤ q) × (q ≤ 46) }
-    ensures { result ≡ sortsNumber (expressionSorts q) }
+    ensures { result ≡ sorts_number (expression_sorts q) }
 {
     match q {
         kinds::REF..=kinds::INTEGERS => name_or_number(q),
@@ -149,7 +149,7 @@ fn expression(q: usize) -> usize
 // Text, Decl and Include.
 fn text(q: usize) -> usize
     requires { (10 ≤ q) × (q ≤ 12) }
-    ensures { result ≡ sortsNumber (otherSorts q) }
+    ensures { result ≡ sorts_number (other_sorts q) }
 {
     match q {
         kinds::TEXT => by_place(sorts::PREDICATES, sorts::LINES, sorts::LINES, sorts::NONE),
@@ -170,7 +170,7 @@ fn text(q: usize) -> usize
 
 // The kinds outside paragraphs, predicates and expressions, listed or not.
 fn other(q: usize) -> usize
-    ensures { result ≡ sortsNumber (otherSorts q) }
+    ensures { result ≡ sorts_number (other_sorts q) }
 {
     match q {
         kinds::DOCUMENT => each(sorts::PARAGRAPHS),
@@ -181,7 +181,7 @@ fn other(q: usize) -> usize
 }
 
 fn sorts_of(q: usize) -> usize
-    ensures { result ≡ sortsNumber (chosenSorts q) }
+    ensures { result ≡ sorts_number (chosen_sorts q) }
 {
     match q {
         kinds::GIVEN..=kinds::CONSTRAINT => paragraph(q),
@@ -192,7 +192,7 @@ fn sorts_of(q: usize) -> usize
 }
 
 fn sort_row(q: usize, i: usize) -> usize
-    ensures { result ≡ sortRow q i }
+    ensures { result ≡ sort_row q i }
 {
     let chosen = sorts_of(q);
     if i == 1 {
@@ -214,7 +214,7 @@ fn sort_last(q: usize) -> usize
 // The sort of operand i of an Include with a actuals.
 fn sort_include(a: usize, i: usize) -> usize
     requires { a < 2 ^ 32 }
-    ensures { result ≡ sortInclude a i }
+    ensures { result ≡ sort_include a i }
 {
     if i <= BEFORE_ACTUALS {
         return sort_row(kinds::INCLUDE, i);
@@ -228,7 +228,7 @@ fn sort_include(a: usize, i: usize) -> usize
 // The sort of operand i of n, of a node of kind q, with a actuals if that is an Include.
 fn sort_in(q: usize, n: usize, a: usize, i: usize) -> usize
     requires { a < 2 ^ 32 }
-    ensures { result ≡ sortIn q n a i }
+    ensures { result ≡ sort_in q n a i }
 {
     if q == kinds::INCLUDE {
         return sort_include(a, i);
@@ -245,7 +245,7 @@ fn sort_in(q: usize, n: usize, a: usize, i: usize) -> usize
 
 // The sort of operand i of the node with these words.
 pub fn sort_at(w: &[u32], i: usize) -> usize
-    ensures { result ≡ sortAt w.now i }
+    ensures { result ≡ sort_at w.now i }
 {
     sort_in(word(w, 0), operand_count(w), word(w, 3), i)
 }

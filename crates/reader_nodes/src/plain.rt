@@ -1,13 +1,13 @@
 // Plain words in the range of their sort.
 ghost use Rattle.std.specs.Prelude.{◌≡◌, ◌≤◌};
-ghost use Rattle.reader_rules.specs.Identifiers.{isName, isIdentifier};
-ghost use Rattle.reader_rules.specs.Kinds.{plainOk};
+ghost use Rattle.reader_rules.specs.Identifiers.{is_name, is_identifier};
+ghost use Rattle.reader_rules.specs.Kinds.{plain_ok};
 
 use crate::sorts;
 use codes::{identifiers, limits};
 
 fn is_name(v: usize) -> bool
-    ensures { result ≡ isName v }
+    ensures { result ≡ is_name v }
 {
     if 1 <= v {
         return v <= identifiers::LARGEST_NAME;
@@ -16,14 +16,14 @@ fn is_name(v: usize) -> bool
 }
 
 fn is_identifier(v: usize) -> bool
-    ensures { result ≡ isIdentifier v }
+    ensures { result ≡ is_identifier v }
 {
     is_name(v / identifiers::STROKES)
 }
 
 fn named_ok(s: usize, v: usize) -> bool
     requires { (1 ≤ s) × (s ≤ 2) }
-    ensures { result ≡ plainOk s v }
+    ensures { result ≡ plain_ok s v }
 {
     if s == sorts::IDENTIFIERS {
         return is_identifier(v);
@@ -33,7 +33,7 @@ fn named_ok(s: usize, v: usize) -> bool
 
 fn number_ok(s: usize, v: usize) -> bool
     requires { (3 ≤ s) × (s ≤ 5) }
-    ensures { result ≡ plainOk s v }
+    ensures { result ≡ plain_ok s v }
 {
     match s {
         sorts::STROKES => v <= identifiers::LARGEST_STROKE,
@@ -44,7 +44,7 @@ fn number_ok(s: usize, v: usize) -> bool
 
 // A plain word v of sort s is in range.
 pub fn plain_ok(s: usize, v: usize) -> bool
-    ensures { result ≡ plainOk s v }
+    ensures { result ≡ plain_ok s v }
 {
     match s {
         sorts::IDENTIFIERS..=sorts::SCHEMA_NAMES => named_ok(s, v),

@@ -6,63 +6,63 @@ use Prim.Native.Nat.{ℕ, ◌+◌, ◌≤◌, ◌<◌}
 use lib.ListN.{length, get_or, drop}
 use borrow.Author.Tests.{eq-eqb, ne_eqb}
 use Rattle.words.specs.Loops.{has}
-use Rattle.words.proofs.Lists.{drop-next, drop-done}
-use Rattle.reader_repeats.specs.Marks.{isFree, withMark, unmarked, marked, distinct, shares}
+use Rattle.words.proofs.Lists.{drop_next, drop_done}
+use Rattle.reader_repeats.specs.Marks.{is_free, with_mark, unmarked, marked, distinct, shares}
 
 module _ (xs : List ℕ) (i : ℕ) where
   pub has_here : (x : ℕ) → i < length xs → get_or xs i 0 ≡ x → true ≡ has x (drop i xs)
   unfolding has
-  has_here x h e = rw (drop-next xs i h, has, eq-eqb (get_or xs i 0) x e)
+  has_here x h e = rw (drop_next xs i h, has, eq-eqb (get_or xs i 0) x e)
 
-  pub has-go : (x : ℕ) → i < length xs → (get_or xs i 0 ≡ x → ⊥) → has x (drop i xs) ≡ has x (drop (i + 1) xs)
+  pub has_go : (x : ℕ) → i < length xs → (get_or xs i 0 ≡ x → ⊥) → has x (drop i xs) ≡ has x (drop (i + 1) xs)
   unfolding has
-  has-go x h e = rw (drop-next xs i h, has, ne_eqb (get_or xs i 0) x e)
+  has_go x h e = rw (drop_next xs i h, has, ne_eqb (get_or xs i 0) x e)
 
   pub has_end : (x : ℕ) → length xs ≤ i → false ≡ has x (drop i xs)
   unfolding has
-  has_end x h = rw (drop-done xs i h)
+  has_end x h = rw (drop_done xs i h)
 
-  pub unmarked-off : (seen : List ℕ) → i < length xs → isFree seen (get_or xs i 0) ≡ false → false ≡ unmarked (drop i xs) seen
+  pub unmarked_off : (seen : List ℕ) → i < length xs → is_free seen (get_or xs i 0) ≡ false → false ≡ unmarked (drop i xs) seen
   unfolding unmarked
-  unmarked-off seen h e = rw (drop-next xs i h, unmarked, e)
+  unmarked_off seen h e = rw (drop_next xs i h, unmarked, e)
 
-  pub unmarked-go : (seen : List ℕ) → i < length xs → isFree seen (get_or xs i 0) ≡ true
-      → unmarked (drop i xs) seen ≡ unmarked (drop (i + 1) xs) (withMark seen (get_or xs i 0))
+  pub unmarked_go : (seen : List ℕ) → i < length xs → is_free seen (get_or xs i 0) ≡ true
+      → unmarked (drop i xs) seen ≡ unmarked (drop (i + 1) xs) (with_mark seen (get_or xs i 0))
   unfolding unmarked
-  unmarked-go seen h e = rw (drop-next xs i h, unmarked, e)
+  unmarked_go seen h e = rw (drop_next xs i h, unmarked, e)
 
-  pub unmarked-end : (seen : List ℕ) → length xs ≤ i → true ≡ unmarked (drop i xs) seen
+  pub unmarked_end : (seen : List ℕ) → length xs ≤ i → true ≡ unmarked (drop i xs) seen
   unfolding unmarked
-  unmarked-end seen h = rw (drop-done xs i h)
+  unmarked_end seen h = rw (drop_done xs i h)
 
-  pub marked-go : (seen : List ℕ) → i < length xs → marked (drop i xs) seen ≡ marked (drop (i + 1) xs) (withMark seen (get_or xs i 0))
+  pub marked_go : (seen : List ℕ) → i < length xs → marked (drop i xs) seen ≡ marked (drop (i + 1) xs) (with_mark seen (get_or xs i 0))
   unfolding marked
-  marked-go seen h = rw (drop-next xs i h, marked)
+  marked_go seen h = rw (drop_next xs i h, marked)
 
-  pub marked-end : (seen : List ℕ) → length xs ≤ i → seen ≡ marked (drop i xs) seen
+  pub marked_end : (seen : List ℕ) → length xs ≤ i → seen ≡ marked (drop i xs) seen
   unfolding marked
-  marked-end seen h = rw (drop-done xs i h)
+  marked_end seen h = rw (drop_done xs i h)
 
-  pub distinct-off : i < length xs → has (get_or xs i 0) (drop (i + 1) xs) ≡ true → false ≡ distinct (drop i xs)
+  pub distinct_off : i < length xs → has (get_or xs i 0) (drop (i + 1) xs) ≡ true → false ≡ distinct (drop i xs)
   unfolding distinct
-  distinct-off h e = rw (drop-next xs i h, distinct, e)
+  distinct_off h e = rw (drop_next xs i h, distinct, e)
 
-  pub distinct-go : i < length xs → has (get_or xs i 0) (drop (i + 1) xs) ≡ false → distinct (drop i xs) ≡ distinct (drop (i + 1) xs)
+  pub distinct_go : i < length xs → has (get_or xs i 0) (drop (i + 1) xs) ≡ false → distinct (drop i xs) ≡ distinct (drop (i + 1) xs)
   unfolding distinct
-  distinct-go h e = rw (drop-next xs i h, distinct, e)
+  distinct_go h e = rw (drop_next xs i h, distinct, e)
 
-  pub distinct-end : length xs ≤ i → true ≡ distinct (drop i xs)
+  pub distinct_end : length xs ≤ i → true ≡ distinct (drop i xs)
   unfolding distinct
-  distinct-end h = rw (drop-done xs i h)
+  distinct_end h = rw (drop_done xs i h)
 
-  pub shares-on : (ys : List ℕ) → i < length xs → has (get_or xs i 0) ys ≡ true → true ≡ shares ys (drop i xs)
+  pub shares_on : (ys : List ℕ) → i < length xs → has (get_or xs i 0) ys ≡ true → true ≡ shares ys (drop i xs)
   unfolding shares
-  shares-on ys h e = rw (drop-next xs i h, shares, e)
+  shares_on ys h e = rw (drop_next xs i h, shares, e)
 
-  pub shares-go : (ys : List ℕ) → i < length xs → has (get_or xs i 0) ys ≡ false → shares ys (drop i xs) ≡ shares ys (drop (i + 1) xs)
+  pub shares_go : (ys : List ℕ) → i < length xs → has (get_or xs i 0) ys ≡ false → shares ys (drop i xs) ≡ shares ys (drop (i + 1) xs)
   unfolding shares
-  shares-go ys h e = rw (drop-next xs i h, shares, e)
+  shares_go ys h e = rw (drop_next xs i h, shares, e)
 
-  pub shares-end : (ys : List ℕ) → length xs ≤ i → false ≡ shares ys (drop i xs)
+  pub shares_end : (ys : List ℕ) → length xs ≤ i → false ≡ shares ys (drop i xs)
   unfolding shares
-  shares-end ys h = rw (drop-done xs i h)
+  shares_end ys h = rw (drop_done xs i h)

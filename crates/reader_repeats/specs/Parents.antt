@@ -1,8 +1,8 @@
 -- The table of parents.
 use Rattle.std.specs.Prelude.{◌≡◌, List, true, ℕ, ◌<◌, get_or}
-use Rattle.layout.specs.Layout.{count, laidOut}
-use Rattle.reader_rules.specs.Nodes.{documentForm, parent}
-use Rattle.reader_rules.specs.Findings.{nodeNumber, useNumber}
+use Rattle.layout.specs.Layout.{count, laid_out}
+use Rattle.reader_rules.specs.Nodes.{document_form, parent}
+use Rattle.reader_rules.specs.Findings.{node_number, use_number}
 use Rattle.reader_rules.specs.Reading.{lowest}
 use Rattle.reader_rules.specs.declared.Reading.TheVariants.{Readable}
 
@@ -16,7 +16,7 @@ pub record Parents (doc u : List ℕ) : Type 0 where
 
 -- the document has none of the findings 11 to 15, and `up` is its table of parents
 pub record Linked (doc up : List ℕ) : Type 0 where
-  pub laid : laidOut documentForm doc ≡ true
-  pub nodes : lowest doc (nodeNumber doc) ≡ Readable
-  pub uses : lowest doc (useNumber doc) ≡ Readable
+  pub laid : laid_out document_form doc ≡ true
+  pub nodes : lowest doc (node_number doc) ≡ Readable
+  pub uses : lowest doc (use_number doc) ≡ Readable
   pub parents : Parents doc up

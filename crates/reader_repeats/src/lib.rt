@@ -17,10 +17,10 @@ ghost use Rattle.std.specs.Prelude.{◌≡◌, ◌+◌, ◌-◌, ◌≤◌, leng
 ghost use Rattle.words.specs.Loops.{some};
 ghost use Rattle.layout.specs.Layout.{count};
 ghost use Rattle.reader_rules.specs.Nodes.{parent};
-ghost use Rattle.reader_rules.specs.Repeats.{declaredIn, repeatsIn, repeatNumber};
+ghost use Rattle.reader_rules.specs.Repeats.{declared_in, repeats_in, repeat_number};
 ghost use Rattle.reader_rules.specs.Reading.{lowest};
 ghost use Rattle.reader_repeats.specs.Parents.{Linked};
-ghost use Rattle.reader_repeats.specs.Marks.{Written, sharedAt};
+ghost use Rattle.reader_repeats.specs.Marks.{Written, shared_at};
 
 // The places of the tables of marks, which have a bit for each name, and one for each identifier.
 const NAMES: usize = (identifiers::LARGEST_NAME + 1) / BITS;
@@ -29,7 +29,7 @@ const IDENTIFIERS: usize = identifiers::STROKES * NAMES;
 
 // Operand i of the node with the words w is a Decl before node k that declares one of the identifiers.
 fn shared_at(doc: &[u32], k: usize, ids: &[u32], w: &[u32], i: usize) -> bool
-    ensures { result ≡ sharedAt doc.now k ids.now w.now i }
+    ensures { result ≡ shared_at doc.now k ids.now w.now i }
 {
     let s = sort_at(w, i);
     let d = word(w, i);
@@ -47,7 +47,7 @@ fn shared_at(doc: &[u32], k: usize, ids: &[u32], w: &[u32], i: usize) -> bool
 }
 
 fn shared_before(doc: &[u32], k: usize, ids: &[u32], w: &[u32]) -> bool
-    ensures { result ≡ some (sharedAt doc.now k ids.now w.now) 1 (length w.now - 1) }
+    ensures { result ≡ some (shared_at doc.now k ids.now w.now) 1 (length w.now - 1) }
 {
     let n = operand_count(w);
     let mut i = 1;
@@ -63,7 +63,7 @@ fn shared_before(doc: &[u32], k: usize, ids: &[u32], w: &[u32]) -> bool
 // Node k is a Decl that repeats an identifier of its Text.
 fn repeats_in_text(doc: &[u32], up: &[u32], k: usize) -> bool
     requires { Linked doc.now up.now × (1 ≤ k) × (k ≤ count doc.now) }
-    ensures { result ≡ repeatsIn (declaredIn doc.now (parent doc.now k)) k }
+    ensures { result ≡ repeats_in (declared_in doc.now (parent doc.now k)) k }
 {
     let q = kind_at(doc, k);
     if q == kinds::DECL {
@@ -81,7 +81,7 @@ fn repeats_in_text(doc: &[u32], up: &[u32], k: usize) -> bool
 fn written_number(doc: &[u32], up: &[u32], k: usize, seen: &mut [u8], names: &mut [u8]) -> u32
     requires linked { Linked doc.now up.now × (1 ≤ k) × (k ≤ count doc.now) }
     requires written { Written doc.now k seen.old names.old }
-    ensures { (result ≡ repeatNumber doc.now k) × (result ≡ 0 → Written doc.now (k + 1) seen.new names.new) }
+    ensures { (result ≡ repeat_number doc.now k) × (result ≡ 0 → Written doc.now (k + 1) seen.new names.new) }
 {
     if mark_new(globals_at(doc, up, k), seen) {
         if repeats_in_text(doc, up, k) {
@@ -102,7 +102,7 @@ fn written_number(doc: &[u32], up: &[u32], k: usize, seen: &mut [u8], names: &mu
 fn repeat_number(doc: &[u32], up: &[u32], k: usize, seen: &mut [u8], names: &mut [u8]) -> u32
     requires linked { Linked doc.now up.now × (1 ≤ k) × (k ≤ count doc.now) }
     requires written { Written doc.now k seen.old names.old }
-    ensures { (result ≡ repeatNumber doc.now k) × (result ≡ 0 → Written doc.now (k + 1) seen.new names.new) }
+    ensures { (result ≡ repeat_number doc.now k) × (result ≡ 0 → Written doc.now (k + 1) seen.new names.new) }
 {
     let q = kind_at(doc, k);
     if kinds::INCLUDE < q {
@@ -114,7 +114,7 @@ fn repeat_number(doc: &[u32], up: &[u32], k: usize, seen: &mut [u8], names: &mut
 // The first node that repeats what was written before it.
 pub fn first_repeat(doc: &[u32], up: &[u32]) -> Reading
     requires { Linked doc.now up.now }
-    ensures { result ≡ lowest doc.now (repeatNumber doc.now) }
+    ensures { result ≡ lowest doc.now (repeat_number doc.now) }
 {
     let mut seen = [0u8; IDENTIFIERS];
     let mut names = [0u8; NAMES];

@@ -1,7 +1,7 @@
 // Words that stand twice: by tables of marks, and by comparison.
 ghost use Rattle.std.specs.Prelude.{◌≡◌, true};
 ghost use Rattle.words.specs.Loops.{has};
-ghost use Rattle.reader_repeats.specs.Marks.{isFree, withMark, unmarked, marked, distinct, shares};
+ghost use Rattle.reader_repeats.specs.Marks.{is_free, with_mark, unmarked, marked, distinct, shares};
 
 use words::{span, word};
 
@@ -10,7 +10,7 @@ pub const BITS: usize = 8;
 
 // Marks i; whether it had no mark before.
 fn mark_one(seen: &mut [u8], i: usize) -> bool
-    ensures { (result ≡ isFree seen.old i) × (seen.new ≡ withMark seen.old i) }
+    ensures { (result ≡ is_free seen.old i) × (seen.new ≡ with_mark seen.old i) }
 {
     let at = i / BITS;
     let k = (i % BITS) as u8;

@@ -1,6 +1,6 @@
 // What a node writes: identifiers and schema names.
 ghost use Rattle.std.specs.Prelude.{◌≡◌, ◌<◌};
-ghost use Rattle.reader_rules.specs.Repeats.{isAxiomDecl, globals, parameters, schemas, declared};
+ghost use Rattle.reader_rules.specs.Repeats.{is_axiom_decl, globals, parameters, schemas, declared};
 ghost use Rattle.reader_repeats.specs.Parents.{places, Parents};
 
 use codes::kinds;
@@ -12,7 +12,7 @@ use words::{span, word};
 // Node k is a Decl line of an Axiom's own Text.
 fn is_axiom_decl(doc: &[u32], up: &[u32], k: usize) -> bool
     requires { Parents doc.now up.now × (k < places) }
-    ensures { result ≡ isAxiomDecl doc.now k }
+    ensures { result ≡ is_axiom_decl doc.now k }
 {
     let q = kind_at(doc, k);
     if q == kinds::DECL {

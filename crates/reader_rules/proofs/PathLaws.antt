@@ -7,38 +7,38 @@ use native.Mathlib.Omega.{arith}
 use lib.Dec.{eqb}
 use Rattle.layout.specs.Layout.{count}
 use Rattle.reader_rules.specs.Nodes.{kind_at}
-use Rattle.reader_rules.specs.Limits.{textsAmong, nodesLeft, textsLeft}
+use Rattle.reader_rules.specs.Limits.{texts_among, nodes_left, texts_left}
 use Rattle.reader_rules.specs.Reading.{read_of}
 use Rattle.reader_rules.specs.declared.Reading.TheVariants.{Readable}
 use Rattle.reader_rules.specs.Promise.{At, Lower}
 use Rattle.reader_rules.proofs.Accepted.{readable}
-use Rattle.reader_rules.proofs.DepthLaws.{operand-ancestors, ancestors-last}
-use Rattle.reader_rules.proofs.WithinLimits.{within-limits}
+use Rattle.reader_rules.proofs.DepthLaws.{operand_ancestors, ancestors_last}
+use Rattle.reader_rules.proofs.WithinLimits.{within_limits}
 
 -- node k itself is within the limits
 module _ (doc : List ℕ) (s k : ℕ) (h : At doc s k) where
-  pub node-left : 1 ≤ nodesLeft doc k
-  unfolding nodesLeft
-  node-left = let d = (within-limits doc (readable doc h.read) k h.some h.most).deep in omega arith
+  pub node_left : 1 ≤ nodes_left doc k
+  unfolding nodes_left
+  node_left = let d = (within_limits doc (readable doc h.read) k h.some h.most).deep in omega arith
 
-  pub text-left : kind_at doc k ≡ 10 → 1 ≤ textsLeft doc k
-  unfolding textsLeft
-  text-left e = let d = (within-limits doc (readable doc h.read) k h.some h.most).nested e in omega arith
+  pub text_left : kind_at doc k ≡ 10 → 1 ≤ texts_left doc k
+  unfolding texts_left
+  text_left e = let d = (within_limits doc (readable doc h.read) k h.some h.most).nested e in omega arith
 
 module _ (doc : List ℕ) (k : ℕ) (m : k ≤ count doc) where
-  pub nodes-next : (s v : ℕ) → Lower doc k s v → nodesLeft doc v ≡ nodesLeft doc k - 1
-  unfolding nodesLeft
-  nodes-next s v l = rw (operand-ancestors doc k s v m l) (omega arith)
+  pub nodes_next : (s v : ℕ) → Lower doc k s v → nodes_left doc v ≡ nodes_left doc k - 1
+  unfolding nodes_left
+  nodes_next s v l = rw (operand_ancestors doc k s v m l) (omega arith)
 
-  pub texts-same : eqb (kind_at doc k) 10 ≡ false → (s v : ℕ) → Lower doc k s v → textsLeft doc v ≡ textsLeft doc k
-  unfolding textsLeft textsAmong
-  texts-same e s v l = rw (operand-ancestors doc k s v m l, e) (omega arith)
+  pub texts_same : eqb (kind_at doc k) 10 ≡ false → (s v : ℕ) → Lower doc k s v → texts_left doc v ≡ texts_left doc k
+  unfolding texts_left texts_among
+  texts_same e s v l = rw (operand_ancestors doc k s v m l, e) (omega arith)
 
-  pub texts-next : kind_at doc k ≡ 10 → (s v : ℕ) → Lower doc k s v → textsLeft doc v ≡ textsLeft doc k - 1
-  unfolding textsLeft textsAmong
-  texts-next e s v l = rw (operand-ancestors doc k s v m l, e) (omega arith)
+  pub texts_next : kind_at doc k ≡ 10 → (s v : ℕ) → Lower doc k s v → texts_left doc v ≡ texts_left doc k - 1
+  unfolding texts_left texts_among
+  texts_next e s v l = rw (operand_ancestors doc k s v m l, e) (omega arith)
 
 -- the whole of both at the Document
-pub all_left : (doc : List ℕ) → read_of doc ≡ Readable → (nodesLeft doc (count doc) ≡ 12) × (textsLeft doc (count doc) ≡ 4)
-unfolding nodesLeft textsLeft textsAmong
-all_left doc r = rw (ancestors-last doc r) (refl, refl)
+pub all_left : (doc : List ℕ) → read_of doc ≡ Readable → (nodes_left doc (count doc) ≡ 12) × (texts_left doc (count doc) ≡ 4)
+unfolding nodes_left texts_left texts_among
+all_left doc r = rw (ancestors_last doc r) (refl, refl)

@@ -2,15 +2,15 @@
 -- 2,147,483,647, as reading promises (13).
 use mathlib.Core.List.{List, [], ◌∷◌}
 use Prim.Native.Nat.{◌≤◌}
-use Rattle.reader_rules.specs.Tree.{Expr, reference, number, integers, set, tuple, product, power, application, selection, theta, schemaSet, arithmetic}
+use Rattle.reader_rules.specs.Tree.{Expr, reference, number, integers, set, tuple, product, power, application, selection, theta, schema_set, arithmetic}
 use Rattle.reader_rules.specs.Tree.{comprehension, Exprs, none, more, Pred, truth, equal, member, at_most, not, connected, quantified, Text, text, Lines}
 use Rattle.reader_rules.specs.Tree.{end, declaration, inclusion, Include, include, Schema, plain, from, both, Paragraph, given, axiomatic, schema}
-use Rattle.reader_rules.specs.Tree.{abbreviation, constraint, Document, document, exprsLength}
+use Rattle.reader_rules.specs.Tree.{abbreviation, constraint, Document, document, exprs_length}
 use Rattle.reader_rules.specs.Limited.{FewParameters}
 
 -- 2 to 6 parts
 abbrev pub TwoToSix : Exprs → Type 0
-TwoToSix xs = (2 ≤ exprsLength xs) × (exprsLength xs ≤ 6)
+TwoToSix xs = (2 ≤ exprs_length xs) × (exprs_length xs ≤ 6)
 
 unfoldable mutual
   pub SizedExpr : Expr → Type 0
@@ -24,7 +24,7 @@ unfoldable mutual
   SizedExpr (application n a b) = SizedExpr a × SizedExpr b
   SizedExpr (selection n a i) = SizedExpr a
   SizedExpr (theta n s k) = Unit {0}
-  SizedExpr (schemaSet n i) = SizedInclude i
+  SizedExpr (schema_set n i) = SizedInclude i
   SizedExpr (arithmetic n o a b) = SizedExpr a × SizedExpr b
   SizedExpr (comprehension n t a) = SizedText t × SizedExpr a
 
@@ -50,7 +50,7 @@ unfoldable mutual
   SizedLines (inclusion i ls) = SizedInclude i × SizedLines ls
 
   pub SizedInclude : Include → Type 0
-  SizedInclude (include n s k xs rs) = (exprsLength xs ≤ 4) × SizedExprs xs
+  SizedInclude (include n s k xs rs) = (exprs_length xs ≤ 4) × SizedExprs xs
 
 unfoldable pub SizedSchema : Schema → Type 0
 SizedSchema (plain t) = SizedText t

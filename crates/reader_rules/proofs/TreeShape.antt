@@ -9,24 +9,24 @@ use native.Mathlib.Numerals.{add-one}
 use native.Mathlib.Nat.{eq-or-lt_of_le}
 use lib.ListN.{get_or}
 use borrow.Author.Tests.{ltb-true, lt-ltb}
-use Rattle.words.proofs.Loops.{and_left, and_right, turn, none_left}
+use Rattle.words.proofs.Loops.{and_left, and_right, turn, none_left_lem}
 use Rattle.layout.specs.Layout.{part}
-use Rattle.reader_rules.specs.Kinds.{isNodeSort, counts}
+use Rattle.reader_rules.specs.Kinds.{is_node_sort, counts}
 use Rattle.reader_rules.specs.Nodes.{kind_at, operand_at}
 use Rattle.reader_rules.specs.Promise.{At, Lower}
 use Rattle.reader_rules.specs.LowerNodes.{lower}
-use Rattle.reader_rules.specs.Decode.{Node, no_node, gather, makeAt, nodeAt}
-use Rattle.reader_rules.proofs.LowerNodes.{meaning-eq}
-use Rattle.reader_rules.proofs.Operands.{pairKind, oneKind, first_of, pair_of}
+use Rattle.reader_rules.specs.Decode.{Node, no_node, gather, make_at, node_at}
+use Rattle.reader_rules.proofs.LowerNodes.{meaning_eq}
+use Rattle.reader_rules.proofs.Operands.{pair_kind, one_kind, first_of, pair_of}
 
 -- a fact at each of the m numbers from i on
 abbrev pub AllFrom : (ℕ → Type 0) → ℕ → ℕ → Type 0
 AllFrom P i zero = Unit {0}
 AllFrom P i (suc m) = P i × AllFrom P (suc i) m
 
-pub all-at : (P : ℕ → Type 0) (i m : ℕ) → AllFrom P i m → (j : ℕ) → i ≤ j → j < i + m → P j
-all-at P i zero h j p q = absurd (omega arith)
-all-at P i (suc m) h j p q = ⊎_elim (λ e. subst P e h.0) (λ l. all-at P (suc i) m h.1 j l (omega arith)) (eq-or-lt_of_le p)
+pub all_at : (P : ℕ → Type 0) (i m : ℕ) → AllFrom P i m → (j : ℕ) → i ≤ j → j < i + m → P j
+all_at P i zero h j p q = absurd (omega arith)
+all_at P i (suc m) h j p q = ⊎_elim (λ e. subst P e h.0) (λ l. all_at P (suc i) m h.1 j l (omega arith)) (eq-or-lt_of_le p)
 
 -- such facts in a row: first ▹ second ▹ .. ▹ tt
 infixr 15 ◌▹◌
@@ -49,81 +49,81 @@ pub record Each (doc : List ℕ) (k s i e : ℕ) (Tree : Type 0) : Type 0 where
 
 -- one turn of a loop over operands, that is at i and ends before e
 module _ {A : Type 0} (f : ℕ → A → A) (w : List ℕ) (e i : ℕ) (z : A) where
-  pub gather-go : i < e → gather f w i (e - i) z ≡ f (get_or w i 0) (gather f w (i + 1) (e - (i + 1)) z)
+  pub gather_go : i < e → gather f w i (e - i) z ≡ f (get_or w i 0) (gather f w (i + 1) (e - (i + 1)) z)
   unfolding gather
-  gather-go h = rw (turn e i h, gather, add-one i)
+  gather_go h = rw (turn e i h, gather, add-one i)
 
-  pub gather-end : e ≤ i → gather f w i (e - i) z ≡ z
+  pub gather_end : e ≤ i → gather f w i (e - i) z ≡ z
   unfolding gather
-  gather-end h = rw (none_left e i h)
+  gather_end h = rw (none_left_lem e i h)
 
-pub gather-same : {A : Type 0} (f g : ℕ → A → A) (w : List ℕ) (i m : ℕ) (z : A)
+pub gather_same : {A : Type 0} (f g : ℕ → A → A) (w : List ℕ) (i m : ℕ) (z : A)
     → ((j : ℕ) → i ≤ j → j < i + m → f (get_or w j 0) ≡ g (get_or w j 0)) → gather f w i m z ≡ gather g w i m z
 unfolding gather
-gather-same f g w i zero z h = refl
-gather-same f g w i (suc m) z h =
-    rw (h i (omega arith) (omega arith)) (ap (g (get_or w i 0)) (gather-same f g w (suc i) m z (λ j p q. h j (omega arith) (omega arith))))
+gather_same f g w i zero z h = refl
+gather_same f g w i (suc m) z h =
+    rw (h i (omega arith) (omega arith)) (ap (g (get_or w i 0)) (gather_same f g w (suc i) m z (λ j p q. h j (omega arith) (omega arith))))
 
 -- what holds of the end, and with each operand, holds of the operands gathered
-pub gather-keeps : {A : Type 0} (P : A → Type 0) (f : ℕ → A → A) (w : List ℕ) (z : A) → P z → (i m : ℕ)
+pub gather_keeps : {A : Type 0} (P : A → Type 0) (f : ℕ → A → A) (w : List ℕ) (z : A) → P z → (i m : ℕ)
     → ((j : ℕ) → i ≤ j → j < i + m → (y : A) → P y → P (f (get_or w j 0) y)) → P (gather f w i m z)
 unfolding gather
-gather-keeps P f w z p i zero h = p
-gather-keeps P f w z p i (suc m) h =
-    h i (omega arith) (omega arith) (gather f w (suc i) m z) (gather-keeps P f w z p (suc i) m (λ j a b. h j (omega arith) (omega arith)))
+gather_keeps P f w z p i zero h = p
+gather_keeps P f w z p i (suc m) h =
+    h i (omega arith) (omega arith) (gather f w (suc i) m z) (gather_keeps P f w z p (suc i) m (λ j a b. h j (omega arith) (omega arith)))
 
 -- tests on a kind's row, with sorts that are nodes'
-abbrev pub oneNode : ℕ → ℕ → Bool
-oneNode s q = isNodeSort s && oneKind s q
+abbrev pub one_node : ℕ → ℕ → Bool
+one_node s q = is_node_sort s && one_kind s q
 
-abbrev pub twoNodes : ℕ → ℕ → ℕ → Bool
-twoNodes s₁ s₂ q = isNodeSort s₁ && (isNodeSort s₂ && pairKind s₁ s₂ q)
+abbrev pub two_nodes : ℕ → ℕ → ℕ → Bool
+two_nodes s₁ s₂ q = is_node_sort s₁ && (is_node_sort s₂ && pair_kind s₁ s₂ q)
 
 module _ (doc : List ℕ) (k : ℕ) where
   -- the nodes below k
   abbrev pub sub : ℕ → Node
-  sub = lower no_node k (nodeAt doc)
+  sub = lower no_node k (node_at doc)
 
-  pub sub-lower : (s v : ℕ) → Lower doc k s v → sub v ≡ nodeAt doc v
-  sub-lower s v h = rw (lt-ltb v k h.below)
+  pub sub_lower : (s v : ℕ) → Lower doc k s v → sub v ≡ node_at doc v
+  sub_lower s v h = rw (lt-ltb v k h.below)
 
   -- what is seen of a node is seen of its making
-  pub seen : {X : Type 0} (p : Node → X) → p (nodeAt doc k) ≡ p (makeAt doc k sub)
-  unfolding nodeAt
-  seen p = ap p (meaning-eq no_node (makeAt doc) k)
+  pub seen : {X : Type 0} (p : Node → X) → p (node_at doc k) ≡ p (make_at doc k sub)
+  unfolding node_at
+  seen p = ap p (meaning_eq no_node (make_at doc) k)
 
   -- what holds of a node's making holds of the node
-  pub as-made : (P : Node → Type 0) → P (makeAt doc k sub) → P (nodeAt doc k)
-  as-made P = subst P (sym (seen (λ n. n)))
+  pub as_made : (P : Node → Type 0) → P (make_at doc k sub) → P (node_at doc k)
+  as_made P = subst P (sym (seen (λ n. n)))
 
 module _ (doc : List ℕ) (s k : ℕ) (h : At doc s k) {X : Type 0} (p : Node → X) where
-  pub one-law : (g : Node → X) → ((below : ℕ → Node) → p (makeAt doc k below) ≡ g (below (operand_at doc k 1)))
-      → (t : ℕ) → oneNode t (kind_at doc k) ≡ true
-      → (a : ℕ) → a ≡ operand_at doc k 1 → One doc k t a (p (nodeAt doc k) ≡ g (nodeAt doc a))
-  one-law g e t r a x =
-      let o = first_of doc s k h t (and_right (isNodeSort t) _ r) (ltb-true counts t (and_left (isNodeSort t) _ r)) in
-      rw x (record { first = o; tree = seen doc k p ∙ e (sub doc k) ∙ ap g (sub-lower doc k t (operand_at doc k 1) o) })
+  pub one_law : (g : Node → X) → ((below : ℕ → Node) → p (make_at doc k below) ≡ g (below (operand_at doc k 1)))
+      → (t : ℕ) → one_node t (kind_at doc k) ≡ true
+      → (a : ℕ) → a ≡ operand_at doc k 1 → One doc k t a (p (node_at doc k) ≡ g (node_at doc a))
+  one_law g e t r a x =
+      let o = first_of doc s k h t (and_right (is_node_sort t) _ r) (ltb-true counts t (and_left (is_node_sort t) _ r)) in
+      rw x (record { first = o; tree = seen doc k p ∙ e (sub doc k) ∙ ap g (sub_lower doc k t (operand_at doc k 1) o) })
 
-  pub two-law : (g : Node → Node → X) → ((below : ℕ → Node) → p (makeAt doc k below) ≡ g (below (operand_at doc k 1)) (below (operand_at doc k 2)))
-      → (t₁ t₂ : ℕ) → twoNodes t₁ t₂ (kind_at doc k) ≡ true
-      → (a b : ℕ) → a ≡ operand_at doc k 1 → b ≡ operand_at doc k 2 → Two doc k t₁ t₂ a b (p (nodeAt doc k) ≡ g (nodeAt doc a) (nodeAt doc b))
-  two-law g e t₁ t₂ r a b x y =
-      let r' = and_right (isNodeSort t₁) _ r in
+  pub two_law : (g : Node → Node → X) → ((below : ℕ → Node) → p (make_at doc k below) ≡ g (below (operand_at doc k 1)) (below (operand_at doc k 2)))
+      → (t₁ t₂ : ℕ) → two_nodes t₁ t₂ (kind_at doc k) ≡ true
+      → (a b : ℕ) → a ≡ operand_at doc k 1 → b ≡ operand_at doc k 2 → Two doc k t₁ t₂ a b (p (node_at doc k) ≡ g (node_at doc a) (node_at doc b))
+  two_law g e t₁ t₂ r a b x y =
+      let r' = and_right (is_node_sort t₁) _ r in
       let o =
-      pair_of doc s k h t₁ t₂ (and_right (isNodeSort t₂) _ r') (ltb-true counts t₁ (and_left (isNodeSort t₁) _ r)) (ltb-true counts t₂ (and_left (isNodeSort t₂) _ r'))
+      pair_of doc s k h t₁ t₂ (and_right (is_node_sort t₂) _ r') (ltb-true counts t₁ (and_left (is_node_sort t₁) _ r)) (ltb-true counts t₂ (and_left (is_node_sort t₂) _ r'))
       in
       rw (x, y) (record {
         left = o.0;
         right = o.1;
         tree =
             seen doc k p ∙ e (sub doc k)
-            ∙ ap (λ (n : Node). g n (sub doc k (operand_at doc k 2))) (sub-lower doc k t₁ (operand_at doc k 1) o.0)
-            ∙ ap (g (nodeAt doc (operand_at doc k 1))) (sub-lower doc k t₂ (operand_at doc k 2) o.1);
+            ∙ ap (λ (n : Node). g n (sub doc k (operand_at doc k 2))) (sub_lower doc k t₁ (operand_at doc k 1) o.0)
+            ∙ ap (g (node_at doc (operand_at doc k 1))) (sub_lower doc k t₂ (operand_at doc k 2) o.1);
       })
 
 -- a list of operands that are lower nodes
-pub lower-gather : {A : Type 0} (doc : List ℕ) (k s i m : ℕ) (p : Node → A → A) (z : A)
+pub lower_gather : {A : Type 0} (doc : List ℕ) (k s i m : ℕ) (p : Node → A → A) (z : A)
     → ((j : ℕ) → i ≤ j → j < i + m → Lower doc k s (operand_at doc k j))
-    → gather (λ j. p (sub doc k j)) (part doc k) i m z ≡ gather (λ j. p (nodeAt doc j)) (part doc k) i m z
-lower-gather doc k s i m p z h =
-    gather-same (λ j. p (sub doc k j)) (λ j. p (nodeAt doc j)) (part doc k) i m z (λ j a b. ap p (sub-lower doc k s (operand_at doc k j) (h j a b)))
+    → gather (λ j. p (sub doc k j)) (part doc k) i m z ≡ gather (λ j. p (node_at doc j)) (part doc k) i m z
+lower_gather doc k s i m p z h =
+    gather_same (λ j. p (sub doc k j)) (λ j. p (node_at doc j)) (part doc k) i m z (λ j a b. ap p (sub_lower doc k s (operand_at doc k j) (h j a b)))

@@ -8,5 +8,5 @@ unfoldable pub flat : (ℕ → List ℕ) → List ℕ → List ℕ
 flat f [] = []
 flat f (v ∷ vs) = f v ++ flat f vs
 
-unfoldable pub numbersAt : List ℕ → ℕ → List ℕ
-numbersAt doc = meaning [] (λ k sub. flat sub (children doc k) ++ (k ∷ []))
+unfoldable pub numbers_at : List ℕ → ℕ → List ℕ
+numbers_at doc = meaning [] (λ k sub. flat sub (children doc k) ++ (k ∷ []))

@@ -4,7 +4,7 @@ use Rattle.layout.specs.Layout.{count, part}
 use Rattle.reader_rules.specs.Nodes.{kind_at}
 use Rattle.reader_rules.specs.LowerNodes.{meaning}
 use Rattle.reader_rules.specs.Tree.{Operator, plus, minus, times, quotient, remainder, Connective, and, or, implies, Quantifier, forall, exists, Expr}
-use Rattle.reader_rules.specs.Tree.{reference, number, integers, set, tuple, product, power, application, selection, theta, schemaSet, arithmetic}
+use Rattle.reader_rules.specs.Tree.{reference, number, integers, set, tuple, product, power, application, selection, theta, schema_set, arithmetic}
 use Rattle.reader_rules.specs.Tree.{comprehension, Exprs, none, more, Pred, truth, equal, member, at_most, not, connected, quantified, Text, text}
 use Rattle.reader_rules.specs.Tree.{Lines, end, declaration, inclusion, Include, include, Schema, plain, from, both, Paragraph, given, axiomatic}
 use Rattle.reader_rules.specs.Tree.{schema, abbreviation, constraint, Document, document}
@@ -20,57 +20,57 @@ pub record Node : Type 0 where
   pub paragraph : Paragraph
   pub document : Document
 
-abbrev noPred : Pred
-noPred = truth 0
+abbrev no_pred : Pred
+no_pred = truth 0
 
-abbrev noText : Text
-noText = text 0 noPred end
+abbrev no_text : Text
+no_text = text 0 no_pred end
 
-abbrev noInclude : Include
-noInclude = include 0 0 0 none []
+abbrev no_include : Include
+no_include = include 0 0 0 none []
 
 abbrev skip : Lines → Lines
 skip ls = ls
 
-abbrev noSchema : Schema
-noSchema = plain noText
+abbrev no_schema : Schema
+no_schema = plain no_text
 
-abbrev noParagraph : Paragraph
-noParagraph = constraint 0 noPred
+abbrev no_paragraph : Paragraph
+no_paragraph = constraint 0 no_pred
 
-abbrev noDocument : Document
-noDocument = document 0 []
+abbrev no_document : Document
+no_document = document 0 []
 
 abbrev node : Expr → Pred → Text → Include → (Lines → Lines) → Schema → Paragraph → Document → Node
 node e p t i l s g d = record { expr = e; pred = p; text = t; include = i; line = l; schema = s; paragraph = g; document = d }
 
-abbrev anExpr : Expr → Node
-anExpr e = node e noPred noText noInclude skip noSchema noParagraph noDocument
+abbrev an_expr : Expr → Node
+an_expr e = node e no_pred no_text no_include skip no_schema no_paragraph no_document
 
-abbrev aPred : Pred → Node
-aPred p = node (integers 0) p noText noInclude skip noSchema noParagraph noDocument
+abbrev a_pred : Pred → Node
+a_pred p = node (integers 0) p no_text no_include skip no_schema no_paragraph no_document
 
 -- a Text is a schema expression too, and an Include is one and a line
-abbrev aText : Text → Node
-aText t = node (integers 0) noPred t noInclude skip (plain t) noParagraph noDocument
+abbrev a_text : Text → Node
+a_text t = node (integers 0) no_pred t no_include skip (plain t) no_paragraph no_document
 
-abbrev anInclude : Include → Node
-anInclude i = node (integers 0) noPred noText i (inclusion i) (from i) noParagraph noDocument
+abbrev an_include : Include → Node
+an_include i = node (integers 0) no_pred no_text i (inclusion i) (from i) no_paragraph no_document
 
-abbrev aLine : (Lines → Lines) → Node
-aLine l = node (integers 0) noPred noText noInclude l noSchema noParagraph noDocument
+abbrev a_line : (Lines → Lines) → Node
+a_line l = node (integers 0) no_pred no_text no_include l no_schema no_paragraph no_document
 
-abbrev aSchema : Schema → Node
-aSchema s = node (integers 0) noPred noText noInclude skip s noParagraph noDocument
+abbrev a_schema : Schema → Node
+a_schema s = node (integers 0) no_pred no_text no_include skip s no_paragraph no_document
 
-abbrev aParagraph : Paragraph → Node
-aParagraph g = node (integers 0) noPred noText noInclude skip noSchema g noDocument
+abbrev a_paragraph : Paragraph → Node
+a_paragraph g = node (integers 0) no_pred no_text no_include skip no_schema g no_document
 
-abbrev aDocument : Document → Node
-aDocument d = node (integers 0) noPred noText noInclude skip noSchema noParagraph d
+abbrev a_document : Document → Node
+a_document d = node (integers 0) no_pred no_text no_include skip no_schema no_paragraph d
 
 abbrev pub no_node : Node
-no_node = aDocument noDocument
+no_node = a_document no_document
 
 -- f at each of the m operands from i on, the last first, from z
 unfoldable pub gather : {A : Type 0} → (ℕ → A → A) → List ℕ → ℕ → ℕ → A → A
@@ -78,9 +78,9 @@ gather f w i zero z = z
 gather f w i (suc m) z = f (get_or w i 0) (gather f w (suc i) m z)
 
 -- the m pairs of words from i on
-unfoldable pub pairsFrom : List ℕ → ℕ → ℕ → List (ℕ × ℕ)
-pairsFrom w i zero = []
-pairsFrom w i (suc m) = (get_or w i 0, get_or w (suc i) 0) ∷ pairsFrom w (suc (suc i)) m
+unfoldable pub pairs_from : List ℕ → ℕ → ℕ → List (ℕ × ℕ)
+pairs_from w i zero = []
+pairs_from w i (suc m) = (get_or w i 0, get_or w (suc i) 0) ∷ pairs_from w (suc (suc i)) m
 
 -- how a kind's node k is made of the nodes below and its words w
 abbrev pub Maker : Type 0
@@ -110,110 +110,110 @@ unlisted = leaf (λ k w. no_node)
 unfoldable pub makers : List Maker
 makers =
     unlisted
-    ∷ (λ sub k w. aDocument (document k (gather (λ j. ◌∷◌ (sub j).paragraph) w 1 (length w - 1) [])))  -- 1 Document
-    ∷ leaf (λ k w. aParagraph (given k (drop 1 w)))  -- 2 Given
-    ∷ one (λ k w a. aParagraph (axiomatic k a.text))  -- 3 Axiom
-    ∷ defined (λ k x ps a. aParagraph (schema k x ps a.schema))  -- 4 Schema
-    ∷ defined (λ k x ps a. aParagraph (abbreviation k x ps a.expr))  -- 5 Abbreviation
-    ∷ one (λ k w a. aParagraph (constraint k a.pred))  -- 6 Constraint
+    ∷ (λ sub k w. a_document (document k (gather (λ j. ◌∷◌ (sub j).paragraph) w 1 (length w - 1) [])))  -- 1 Document
+    ∷ leaf (λ k w. a_paragraph (given k (drop 1 w)))  -- 2 Given
+    ∷ one (λ k w a. a_paragraph (axiomatic k a.text))  -- 3 Axiom
+    ∷ defined (λ k x ps a. a_paragraph (schema k x ps a.schema))  -- 4 Schema
+    ∷ defined (λ k x ps a. a_paragraph (abbreviation k x ps a.expr))  -- 5 Abbreviation
+    ∷ one (λ k w a. a_paragraph (constraint k a.pred))  -- 6 Constraint
     ∷ unlisted
     ∷ unlisted
     ∷ unlisted
-    ∷ (λ sub k w. aText (text k (sub (get_or w 1 0)).pred (gather (λ j. (sub j).line) w 2 (length w - 2) end)))  -- 10 Text
-    ∷ one (λ k w a. aLine (declaration k a.expr (drop 2 w)))  -- 11 Decl
-    ∷ (λ sub k w. anInclude (include k (get_or w 1 0) (get_or w 2 0) (gather (λ j. more (sub j).expr) w 4 (get_or w 3 0) none)
-    (pairsFrom w (get_or w 3 0 + 4) ((length w - (get_or w 3 0 + 4)) / 2))))  -- 12 Include
+    ∷ (λ sub k w. a_text (text k (sub (get_or w 1 0)).pred (gather (λ j. (sub j).line) w 2 (length w - 2) end)))  -- 10 Text
+    ∷ one (λ k w a. a_line (declaration k a.expr (drop 2 w)))  -- 11 Decl
+    ∷ (λ sub k w. an_include (include k (get_or w 1 0) (get_or w 2 0) (gather (λ j. more (sub j).expr) w 4 (get_or w 3 0) none)
+    (pairs_from w (get_or w 3 0 + 4) ((length w - (get_or w 3 0 + 4)) / 2))))  -- 12 Include
     ∷ unlisted
     ∷ unlisted
-    ∷ two (λ k a b. aSchema (both k a.schema b.schema))  -- 15 Conjunction
+    ∷ two (λ k a b. a_schema (both k a.schema b.schema))  -- 15 Conjunction
     ∷ unlisted
     ∷ unlisted
     ∷ unlisted
     ∷ unlisted
-    ∷ leaf (λ k w. aPred (truth k))  -- 20 true
-    ∷ two (λ k a b. aPred (equal k a.expr b.expr))  -- 21 =
-    ∷ two (λ k a b. aPred (member k a.expr b.expr))  -- 22 member
-    ∷ two (λ k a b. aPred (at_most k a.expr b.expr))  -- 23 ≤
-    ∷ one (λ k w a. aPred (not k a.pred))  -- 24 not
-    ∷ two (λ k a b. aPred (connected k and a.pred b.pred))  -- 25 and
-    ∷ two (λ k a b. aPred (connected k or a.pred b.pred))  -- 26 or
-    ∷ two (λ k a b. aPred (connected k implies a.pred b.pred))  -- 27 implies
-    ∷ two (λ k a b. aPred (quantified k forall a.text b.pred))  -- 28 forall
-    ∷ two (λ k a b. aPred (quantified k exists a.text b.pred))  -- 29 exists
-    ∷ many 2 (λ k w xs. anExpr (reference k (get_or w 1 0) xs))  -- 30 Ref
-    ∷ leaf (λ k w. anExpr (number k (get_or w 1 0)))  -- 31 Number
-    ∷ leaf (λ k w. anExpr (integers k))  -- 32 ℤ
-    ∷ many 1 (λ k w xs. anExpr (set k xs))  -- 33 Set
-    ∷ many 1 (λ k w xs. anExpr (tuple k xs))  -- 34 Tuple
-    ∷ many 1 (λ k w xs. anExpr (product k xs))  -- 35 Product
-    ∷ one (λ k w a. anExpr (power k a.expr))  -- 36 Power
-    ∷ two (λ k a b. anExpr (application k a.expr b.expr))  -- 37 Apply
-    ∷ one (λ k w a. anExpr (selection k a.expr (get_or w 2 0)))  -- 38 Select
-    ∷ leaf (λ k w. anExpr (theta k (get_or w 1 0) (get_or w 2 0)))  -- 39 Theta
-    ∷ one (λ k w a. anExpr (schemaSet k a.include))  -- 40 SchemaSet
-    ∷ two (λ k a b. anExpr (arithmetic k plus a.expr b.expr))  -- 41 +
-    ∷ two (λ k a b. anExpr (arithmetic k minus a.expr b.expr))  -- 42 −
-    ∷ two (λ k a b. anExpr (arithmetic k times a.expr b.expr))  -- 43 ×
-    ∷ two (λ k a b. anExpr (arithmetic k quotient a.expr b.expr))  -- 44 div
-    ∷ two (λ k a b. anExpr (arithmetic k remainder a.expr b.expr))  -- 45 mod
-    ∷ two (λ k a b. anExpr (comprehension k a.text b.expr))  -- 46 Comprehension
+    ∷ leaf (λ k w. a_pred (truth k))  -- 20 true
+    ∷ two (λ k a b. a_pred (equal k a.expr b.expr))  -- 21 =
+    ∷ two (λ k a b. a_pred (member k a.expr b.expr))  -- 22 member
+    ∷ two (λ k a b. a_pred (at_most k a.expr b.expr))  -- 23 ≤
+    ∷ one (λ k w a. a_pred (not k a.pred))  -- 24 not
+    ∷ two (λ k a b. a_pred (connected k and a.pred b.pred))  -- 25 and
+    ∷ two (λ k a b. a_pred (connected k or a.pred b.pred))  -- 26 or
+    ∷ two (λ k a b. a_pred (connected k implies a.pred b.pred))  -- 27 implies
+    ∷ two (λ k a b. a_pred (quantified k forall a.text b.pred))  -- 28 forall
+    ∷ two (λ k a b. a_pred (quantified k exists a.text b.pred))  -- 29 exists
+    ∷ many 2 (λ k w xs. an_expr (reference k (get_or w 1 0) xs))  -- 30 Ref
+    ∷ leaf (λ k w. an_expr (number k (get_or w 1 0)))  -- 31 Number
+    ∷ leaf (λ k w. an_expr (integers k))  -- 32 ℤ
+    ∷ many 1 (λ k w xs. an_expr (set k xs))  -- 33 Set
+    ∷ many 1 (λ k w xs. an_expr (tuple k xs))  -- 34 Tuple
+    ∷ many 1 (λ k w xs. an_expr (product k xs))  -- 35 Product
+    ∷ one (λ k w a. an_expr (power k a.expr))  -- 36 Power
+    ∷ two (λ k a b. an_expr (application k a.expr b.expr))  -- 37 Apply
+    ∷ one (λ k w a. an_expr (selection k a.expr (get_or w 2 0)))  -- 38 Select
+    ∷ leaf (λ k w. an_expr (theta k (get_or w 1 0) (get_or w 2 0)))  -- 39 Theta
+    ∷ one (λ k w a. an_expr (schema_set k a.include))  -- 40 SchemaSet
+    ∷ two (λ k a b. an_expr (arithmetic k plus a.expr b.expr))  -- 41 +
+    ∷ two (λ k a b. an_expr (arithmetic k minus a.expr b.expr))  -- 42 −
+    ∷ two (λ k a b. an_expr (arithmetic k times a.expr b.expr))  -- 43 ×
+    ∷ two (λ k a b. an_expr (arithmetic k quotient a.expr b.expr))  -- 44 div
+    ∷ two (λ k a b. an_expr (arithmetic k remainder a.expr b.expr))  -- 45 mod
+    ∷ two (λ k a b. an_expr (comprehension k a.text b.expr))  -- 46 Comprehension
     ∷ []
 
 -- the constructors of kinds that behave alike: 21 to 23, 25 to 27, 28 and 29, 33 to 35, 41 to 45
-abbrev pub relationOf : ℕ → ℕ → Expr → Expr → Pred
-relationOf q = get_or (equal ∷ member ∷ at_most ∷ []) (q - 21) equal
+abbrev pub relation_of : ℕ → ℕ → Expr → Expr → Pred
+relation_of q = get_or (equal ∷ member ∷ at_most ∷ []) (q - 21) equal
 
-abbrev pub connectiveOf : ℕ → Connective
-connectiveOf q = get_or (and ∷ or ∷ implies ∷ []) (q - 25) and
+abbrev pub connective_of : ℕ → Connective
+connective_of q = get_or (and ∷ or ∷ implies ∷ []) (q - 25) and
 
-abbrev pub quantifierOf : ℕ → Quantifier
-quantifierOf q = get_or (forall ∷ exists ∷ []) (q - 28) forall
+abbrev pub quantifier_of : ℕ → Quantifier
+quantifier_of q = get_or (forall ∷ exists ∷ []) (q - 28) forall
 
 abbrev pub members_of : ℕ → ℕ → Exprs → Expr
 members_of q = get_or (set ∷ tuple ∷ product ∷ []) (q - 33) set
 
-abbrev pub operatorOf : ℕ → Operator
-operatorOf q = get_or (plus ∷ minus ∷ times ∷ quotient ∷ remainder ∷ []) (q - 41) plus
+abbrev pub operator_of : ℕ → Operator
+operator_of q = get_or (plus ∷ minus ∷ times ∷ quotient ∷ remainder ∷ []) (q - 41) plus
 
-abbrev pub makeAt : List ℕ → ℕ → (ℕ → Node) → Node
-makeAt doc k sub = get_or makers (kind_at doc k) unlisted sub k (part doc k)
+abbrev pub make_at : List ℕ → ℕ → (ℕ → Node) → Node
+make_at doc k sub = get_or makers (kind_at doc k) unlisted sub k (part doc k)
 
-unfoldable pub nodeAt : List ℕ → ℕ → Node
-nodeAt doc = meaning no_node (makeAt doc)
+unfoldable pub node_at : List ℕ → ℕ → Node
+node_at doc = meaning no_node (make_at doc)
 
 -- node k as an expression, a predicate, ..
-unfoldable pub exprAt : List ℕ → ℕ → Expr
-exprAt doc k = (nodeAt doc k).expr
+unfoldable pub expr_at : List ℕ → ℕ → Expr
+expr_at doc k = (node_at doc k).expr
 
-unfoldable pub predAt : List ℕ → ℕ → Pred
-predAt doc k = (nodeAt doc k).pred
+unfoldable pub pred_at : List ℕ → ℕ → Pred
+pred_at doc k = (node_at doc k).pred
 
-unfoldable pub textAt : List ℕ → ℕ → Text
-textAt doc k = (nodeAt doc k).text
+unfoldable pub text_at : List ℕ → ℕ → Text
+text_at doc k = (node_at doc k).text
 
-unfoldable pub includeAt : List ℕ → ℕ → Include
-includeAt doc k = (nodeAt doc k).include
+unfoldable pub include_at : List ℕ → ℕ → Include
+include_at doc k = (node_at doc k).include
 
 -- node k as a line before others
 unfoldable pub line_at : List ℕ → ℕ → Lines → Lines
-line_at doc k = (nodeAt doc k).line
+line_at doc k = (node_at doc k).line
 
-unfoldable pub schemaAt : List ℕ → ℕ → Schema
-schemaAt doc k = (nodeAt doc k).schema
+unfoldable pub schema_at : List ℕ → ℕ → Schema
+schema_at doc k = (node_at doc k).schema
 
-unfoldable pub paragraphAt : List ℕ → ℕ → Paragraph
-paragraphAt doc k = (nodeAt doc k).paragraph
+unfoldable pub paragraph_at : List ℕ → ℕ → Paragraph
+paragraph_at doc k = (node_at doc k).paragraph
 
 -- the tree of a document is that of its last node
 unfoldable pub tree_of : List ℕ → Document
-tree_of doc = (nodeAt doc (count doc)).document
+tree_of doc = (node_at doc (count doc)).document
 
 -- the expressions, lines or paragraphs that are the m operands of node k from i on
-unfoldable pub exprsFrom : List ℕ → ℕ → ℕ → ℕ → Exprs
-exprsFrom doc k i m = gather (λ j. more (exprAt doc j)) (part doc k) i m none
+unfoldable pub exprs_from : List ℕ → ℕ → ℕ → ℕ → Exprs
+exprs_from doc k i m = gather (λ j. more (expr_at doc j)) (part doc k) i m none
 
 unfoldable pub lines_from : List ℕ → ℕ → ℕ → ℕ → Lines
 lines_from doc k i m = gather (line_at doc) (part doc k) i m end
 
-unfoldable pub paragraphsFrom : List ℕ → ℕ → ℕ → ℕ → List Paragraph
-paragraphsFrom doc k i m = gather (λ j. ◌∷◌ (paragraphAt doc j)) (part doc k) i m []
+unfoldable pub paragraphs_from : List ℕ → ℕ → ℕ → ℕ → List Paragraph
+paragraphs_from doc k i m = gather (λ j. ◌∷◌ (paragraph_at doc j)) (part doc k) i m []

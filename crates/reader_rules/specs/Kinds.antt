@@ -1,6 +1,6 @@
 -- The kinds of node: how many operands, of which sorts (document 01, the list of kinds 1 to 46).
 use Rattle.std.specs.Prelude.{ℕ, ◌+◌, ◌*◌, ◌-◌, ◌%◌, List, [], ◌∷◌, ◌++◌, Bool, true, false, ◌&&◌, ◌||◌, cond, length, get_or, leb, ltb, eqb}
-use Rattle.reader_rules.specs.Identifiers.{isName, isIdentifier, isStroke, is_number, isCount}
+use Rattle.reader_rules.specs.Identifiers.{is_name, is_identifier, is_stroke, is_number, is_count}
 
 -- Sorts of an operand: first those of a plain word, then those of a node.
 abbrev pub none : ℕ
@@ -9,8 +9,8 @@ none = 0
 abbrev pub identifiers : ℕ
 identifiers = 1
 
-abbrev pub schemaNames : ℕ
-schemaNames = 2
+abbrev pub schema_names : ℕ
+schema_names = 2
 
 abbrev pub strokes : ℕ
 strokes = 3
@@ -24,8 +24,8 @@ counts = 5
 abbrev pub expressions : ℕ
 expressions = 6
 
-abbrev pub schemaExpressions : ℕ
-schemaExpressions = 7
+abbrev pub schema_expressions : ℕ
+schema_expressions = 7
 
 abbrev pub predicates : ℕ
 predicates = 8
@@ -42,28 +42,28 @@ paragraphs = 11
 abbrev pub includes : ℕ
 includes = 12
 
-abbrev pub isNodeSort : ℕ → Bool
-isNodeSort s = ltb counts s
+abbrev pub is_node_sort : ℕ → Bool
+is_node_sort s = ltb counts s
 
 -- kind q is of node sort s
 abbrev pub between : ℕ → ℕ → ℕ → Bool
 between a q b = leb a q && leb q b
 
-unfoldable pub ofSort : ℕ → ℕ → Bool
-ofSort s q =
+unfoldable pub of_sort : ℕ → ℕ → Bool
+of_sort s q =
     cond (eqb s expressions) (between 30 q 46)
-    (cond (eqb s schemaExpressions) (eqb q 10 || (eqb q 12 || eqb q 15))
+    (cond (eqb s schema_expressions) (eqb q 10 || (eqb q 12 || eqb q 15))
     (cond (eqb s predicates) (between 20 q 29)
     (cond (eqb s texts) (eqb q 10)
     (cond (eqb s lines) (between 11 q 12)
     (cond (eqb s paragraphs) (between 2 q 6) (cond (eqb s includes) (eqb q 12) false))))))
 
 -- a plain word v of sort s is in range; node sorts have no range
-unfoldable pub plainOk : ℕ → ℕ → Bool
-plainOk s v =
-    cond (eqb s identifiers) (isIdentifier v)
-    (cond (eqb s schemaNames) (isName v)
-    (cond (eqb s strokes) (isStroke v) (cond (eqb s numbers) (is_number v) (cond (eqb s counts) (isCount v) true))))
+unfoldable pub plain_ok : ℕ → ℕ → Bool
+plain_ok s v =
+    cond (eqb s identifiers) (is_identifier v)
+    (cond (eqb s schema_names) (is_name v)
+    (cond (eqb s strokes) (is_stroke v) (cond (eqb s numbers) (is_number v) (cond (eqb s counts) (is_count v) true))))
 
 -- A kind's row: the fewest operands; the first number of operands that is too large, 0 where the kind is not listed; the sorts of the first
 -- operand, of the second and of every other, and that of the last where it differs.
@@ -95,15 +95,15 @@ table =
     ++ only 0 256 paragraphs  -- 1 Document
     ++ only 1 17 identifiers  -- 2 Given
     ++ single texts  -- 3 Axiom
-    ++ row 3 8 schemaNames counts identifiers schemaExpressions  -- 4 Schema
+    ++ row 3 8 schema_names counts identifiers schema_expressions  -- 4 Schema
     ++ row 3 8 identifiers counts identifiers expressions  -- 5 Abbreviation
     ++ single predicates  -- 6 Constraint
     ++ unlisted ++ unlisted ++ unlisted
     ++ row 1 8 predicates lines lines none  -- 10 Text
     ++ row 2 8 expressions identifiers identifiers none  -- 11 Decl
-    ++ row 3 20 schemaNames strokes counts none  -- 12 Include
+    ++ row 3 20 schema_names strokes counts none  -- 12 Include
     ++ unlisted ++ unlisted
-    ++ pair schemaExpressions schemaExpressions  -- 15 Conjunction
+    ++ pair schema_expressions schema_expressions  -- 15 Conjunction
     ++ unlisted ++ unlisted ++ unlisted ++ unlisted
     ++ bare  -- 20 true
     ++ pair expressions expressions  -- 21 =
@@ -124,7 +124,7 @@ table =
     ++ single expressions  -- 36 Power
     ++ pair expressions expressions  -- 37 Apply
     ++ pair expressions identifiers  -- 38 Select
-    ++ pair schemaNames strokes  -- 39 Theta
+    ++ pair schema_names strokes  -- 39 Theta
     ++ single includes  -- 40 SchemaSet
     ++ pair expressions expressions  -- 41 +
     ++ pair expressions expressions  -- 42 −
@@ -140,32 +140,32 @@ abbrev pub listed : ℕ → Bool
 listed q = ltb 0 (cell q 1)
 
 -- the sort of operand i: by the kind's row; a last operand by its own column; an Include's after its three first, a of them actuals
-abbrev pub sortRow : ℕ → ℕ → ℕ
-sortRow q i = cond (eqb i 1) (cell q 2) (cond (eqb i 2) (cell q 3) (cell q 4))
+abbrev pub sort_row : ℕ → ℕ → ℕ
+sort_row q i = cond (eqb i 1) (cell q 2) (cond (eqb i 2) (cell q 3) (cell q 4))
 
-abbrev pub sortInclude : ℕ → ℕ → ℕ
-sortInclude a i = cond (leb i 3) (sortRow 12 i) (cond (leb i (a + 3)) expressions identifiers)
+abbrev pub sort_include : ℕ → ℕ → ℕ
+sort_include a i = cond (leb i 3) (sort_row 12 i) (cond (leb i (a + 3)) expressions identifiers)
 
-unfoldable pub sortIn : ℕ → ℕ → ℕ → ℕ → ℕ
-sortIn q n a i =
-    cond (eqb q 12) (sortInclude a i)
-    (cond (eqb i n) (cond (ltb 0 (cell q 5)) (cell q 5) (sortRow q i)) (sortRow q i))
+unfoldable pub sort_in : ℕ → ℕ → ℕ → ℕ → ℕ
+sort_in q n a i =
+    cond (eqb q 12) (sort_include a i)
+    (cond (eqb i n) (cond (ltb 0 (cell q 5)) (cell q 5) (sort_row q i)) (sort_row q i))
 
 -- the sort of operand i of the node whose words are w; the third operand of an Include is its count of actuals
-abbrev pub sortAt : List ℕ → ℕ → ℕ
-sortAt w i = sortIn (get_or w 0 0) (length w - 1) (get_or w 3 0) i
+abbrev pub sort_at : List ℕ → ℕ → ℕ
+sort_at w i = sort_in (get_or w 0 0) (length w - 1) (get_or w 3 0) i
 
 -- the number n of operands: within the row; in kinds 4 and 5 as their count p says; in kind 12 as its count a says, and 0 to 6 pairs more
-abbrev pub countRow : ℕ → ℕ → Bool
-countRow q n = leb (cell q 0) n && ltb n (cell q 1)
+abbrev pub count_row : ℕ → ℕ → Bool
+count_row q n = leb (cell q 0) n && ltb n (cell q 1)
 
-unfoldable pub countBy : ℕ → ℕ → ℕ → ℕ → Bool
-countBy q n p a =
+unfoldable pub count_by : ℕ → ℕ → ℕ → ℕ → Bool
+count_by q n p a =
     cond (eqb q 12) (leb (a + 3) n && (eqb ((n - (a + 3)) % 2) 0 && leb (n - (a + 3)) 12))
     (cond (between 4 q 5) (eqb n (p + 3)) true)
 
-abbrev pub countIn : ℕ → ℕ → ℕ → ℕ → Bool
-countIn q n p a = countRow q n && countBy q n p a
+abbrev pub count_in : ℕ → ℕ → ℕ → ℕ → Bool
+count_in q n p a = count_row q n && count_by q n p a
 
-abbrev pub countOk : List ℕ → Bool
-countOk w = countIn (get_or w 0 0) (length w - 1) (get_or w 2 0) (get_or w 3 0)
+abbrev pub count_ok : List ℕ → Bool
+count_ok w = count_in (get_or w 0 0) (length w - 1) (get_or w 2 0) (get_or w 3 0)

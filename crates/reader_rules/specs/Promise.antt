@@ -2,7 +2,7 @@
 use Rattle.std.specs.Prelude.{◌≡◌, true, List, ℕ, ◌≤◌, ◌<◌}
 use Rattle.words.specs.Loops.{has}
 use Rattle.layout.specs.Layout.{count}
-use Rattle.reader_rules.specs.Kinds.{ofSort}
+use Rattle.reader_rules.specs.Kinds.{of_sort}
 use Rattle.reader_rules.specs.Nodes.{kind_at, children}
 use Rattle.reader_rules.specs.Reading.{read_of}
 use Rattle.reader_rules.specs.declared.Reading.TheVariants.{Readable}
@@ -13,7 +13,7 @@ pub record At (doc : List ℕ) (s k : ℕ) : Type 0 where
   pub some : 1 ≤ k
   pub most : k ≤ count doc
   pub small : k ≤ 1024
-  pub sort : ofSort s (kind_at doc k) ≡ true
+  pub sort : of_sort s (kind_at doc k) ≡ true
 
 -- v is an operand of node k: a lower node, of sort s
 pub record Lower (doc : List ℕ) (k s v : ℕ) : Type 0 where

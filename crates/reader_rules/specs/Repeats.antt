@@ -11,33 +11,33 @@ unfoldable pub fresh : List ℕ → List ℕ → Bool
 fresh written [] = true
 fresh written (x ∷ xs) = not (has x written) && fresh (x ∷ written) xs
 
-abbrev pub writtenBefore : (ℕ → List ℕ) → ℕ → List ℕ
-writtenBefore group k = joined group 1 (k - 1)
+abbrev pub written_before : (ℕ → List ℕ) → ℕ → List ℕ
+written_before group k = joined group 1 (k - 1)
 
-abbrev pub repeatsIn : (ℕ → List ℕ) → ℕ → Bool
-repeatsIn group k = not (fresh (writtenBefore group k) (group k))
+abbrev pub repeats_in : (ℕ → List ℕ) → ℕ → Bool
+repeats_in group k = not (fresh (written_before group k) (group k))
 
 -- a node's first operand
-abbrev pub firstOperand : List ℕ → ℕ → List ℕ
-firstOperand doc k = take 1 (drop 1 (part doc k))
+abbrev pub first_operand : List ℕ → ℕ → List ℕ
+first_operand doc k = take 1 (drop 1 (part doc k))
 
 -- the identifiers of a Decl
 abbrev pub declared : List ℕ → ℕ → List ℕ
 declared doc k = drop 2 (part doc k)
 
 -- a Decl line of an Axiom's own Text
-unfoldable pub isAxiomDecl : List ℕ → ℕ → Bool
-isAxiomDecl doc k = eqb (kind_at doc k) 11 && eqb (kind_at doc (parent doc (parent doc k))) 3
+unfoldable pub is_axiom_decl : List ℕ → ℕ → Bool
+is_axiom_decl doc k = eqb (kind_at doc k) 11 && eqb (kind_at doc (parent doc (parent doc k))) 3
 
 -- the identifiers of Given, Axiom Decl and Abbreviation
 unfoldable pub globals : List ℕ → ℕ → List ℕ
 globals doc k =
     cond (eqb (kind_at doc k) 2) (drop 1 (part doc k))
-    (cond (eqb (kind_at doc k) 5) (firstOperand doc k) (cond (isAxiomDecl doc k) (declared doc k) []))
+    (cond (eqb (kind_at doc k) 5) (first_operand doc k) (cond (is_axiom_decl doc k) (declared doc k) []))
 
 -- the identifiers of the Decls of Text t
-unfoldable pub declaredIn : List ℕ → ℕ → ℕ → List ℕ
-declaredIn doc t k = cond (eqb (kind_at doc k) 11 && eqb (parent doc k) t) (declared doc k) []
+unfoldable pub declared_in : List ℕ → ℕ → ℕ → List ℕ
+declared_in doc t k = cond (eqb (kind_at doc k) 11 && eqb (parent doc k) t) (declared doc k) []
 
 -- the parameters of a Schema or Abbreviation
 unfoldable pub parameters : List ℕ → ℕ → List ℕ
@@ -45,12 +45,12 @@ parameters doc k = cond (between 4 (kind_at doc k) 5) (take (operand_at doc k 2)
 
 -- the names of Schemas
 unfoldable pub schemas : List ℕ → ℕ → List ℕ
-schemas doc k = cond (eqb (kind_at doc k) 4) (firstOperand doc k) []
+schemas doc k = cond (eqb (kind_at doc k) 4) (first_operand doc k) []
 
 abbrev pub repeats : List ℕ → ℕ → Bool
 repeats doc k =
-    repeatsIn (globals doc) k
-    || (repeatsIn (declaredIn doc (parent doc k)) k || (not (fresh [] (parameters doc k)) || repeatsIn (schemas doc) k))
+    repeats_in (globals doc) k
+    || (repeats_in (declared_in doc (parent doc k)) k || (not (fresh [] (parameters doc k)) || repeats_in (schemas doc) k))
 
-unfoldable pub repeatNumber : List ℕ → ℕ → ℕ
-repeatNumber doc k = cond (repeats doc k) 16 0
+unfoldable pub repeat_number : List ℕ → ℕ → ℕ
+repeat_number doc k = cond (repeats doc k) 16 0

@@ -1,65 +1,65 @@
 -- The numbers of a tree's nodes: operands before their node, in operand order.
 use Rattle.std.specs.Prelude.{List, [], ◌∷◌, ◌++◌, ℕ}
-use Rattle.reader_rules.specs.Tree.{Expr, reference, number, integers, set, tuple, product, power, application, selection, theta, schemaSet}
+use Rattle.reader_rules.specs.Tree.{Expr, reference, number, integers, set, tuple, product, power, application, selection, theta, schema_set}
 use Rattle.reader_rules.specs.Tree.{arithmetic, comprehension, Exprs, none, more, Pred, truth, equal, member, at_most, not, connected, quantified}
 use Rattle.reader_rules.specs.Tree.{Text, text, Lines, end, declaration, inclusion, Include, include, Schema, plain, from, both, Paragraph, given}
 use Rattle.reader_rules.specs.Tree.{axiomatic, schema, abbreviation, constraint, Document, document}
 
 unfoldable mutual
-  pub exprNumbers : Expr → List ℕ
-  exprNumbers (reference n i xs) = exprsNumbers xs ++ (n ∷ [])
-  exprNumbers (number n v) = n ∷ []
-  exprNumbers (integers n) = n ∷ []
-  exprNumbers (set n xs) = exprsNumbers xs ++ (n ∷ [])
-  exprNumbers (tuple n xs) = exprsNumbers xs ++ (n ∷ [])
-  exprNumbers (product n xs) = exprsNumbers xs ++ (n ∷ [])
-  exprNumbers (power n a) = exprNumbers a ++ (n ∷ [])
-  exprNumbers (application n a b) = (exprNumbers a ++ exprNumbers b) ++ (n ∷ [])
-  exprNumbers (selection n a i) = exprNumbers a ++ (n ∷ [])
-  exprNumbers (theta n s k) = n ∷ []
-  exprNumbers (schemaSet n i) = includeNumbers i ++ (n ∷ [])
-  exprNumbers (arithmetic n o a b) = (exprNumbers a ++ exprNumbers b) ++ (n ∷ [])
-  exprNumbers (comprehension n t a) = (textNumbers t ++ exprNumbers a) ++ (n ∷ [])
+  pub expr_numbers : Expr → List ℕ
+  expr_numbers (reference n i xs) = exprs_numbers xs ++ (n ∷ [])
+  expr_numbers (number n v) = n ∷ []
+  expr_numbers (integers n) = n ∷ []
+  expr_numbers (set n xs) = exprs_numbers xs ++ (n ∷ [])
+  expr_numbers (tuple n xs) = exprs_numbers xs ++ (n ∷ [])
+  expr_numbers (product n xs) = exprs_numbers xs ++ (n ∷ [])
+  expr_numbers (power n a) = expr_numbers a ++ (n ∷ [])
+  expr_numbers (application n a b) = (expr_numbers a ++ expr_numbers b) ++ (n ∷ [])
+  expr_numbers (selection n a i) = expr_numbers a ++ (n ∷ [])
+  expr_numbers (theta n s k) = n ∷ []
+  expr_numbers (schema_set n i) = include_numbers i ++ (n ∷ [])
+  expr_numbers (arithmetic n o a b) = (expr_numbers a ++ expr_numbers b) ++ (n ∷ [])
+  expr_numbers (comprehension n t a) = (text_numbers t ++ expr_numbers a) ++ (n ∷ [])
 
-  pub exprsNumbers : Exprs → List ℕ
-  exprsNumbers none = []
-  exprsNumbers (more a xs) = exprNumbers a ++ exprsNumbers xs
+  pub exprs_numbers : Exprs → List ℕ
+  exprs_numbers none = []
+  exprs_numbers (more a xs) = expr_numbers a ++ exprs_numbers xs
 
-  pub predNumbers : Pred → List ℕ
-  predNumbers (truth n) = n ∷ []
-  predNumbers (equal n a b) = (exprNumbers a ++ exprNumbers b) ++ (n ∷ [])
-  predNumbers (member n a b) = (exprNumbers a ++ exprNumbers b) ++ (n ∷ [])
-  predNumbers (at_most n a b) = (exprNumbers a ++ exprNumbers b) ++ (n ∷ [])
-  predNumbers (not n p) = predNumbers p ++ (n ∷ [])
-  predNumbers (connected n o p q) = (predNumbers p ++ predNumbers q) ++ (n ∷ [])
-  predNumbers (quantified n o t p) = (textNumbers t ++ predNumbers p) ++ (n ∷ [])
+  pub pred_numbers : Pred → List ℕ
+  pred_numbers (truth n) = n ∷ []
+  pred_numbers (equal n a b) = (expr_numbers a ++ expr_numbers b) ++ (n ∷ [])
+  pred_numbers (member n a b) = (expr_numbers a ++ expr_numbers b) ++ (n ∷ [])
+  pred_numbers (at_most n a b) = (expr_numbers a ++ expr_numbers b) ++ (n ∷ [])
+  pred_numbers (not n p) = pred_numbers p ++ (n ∷ [])
+  pred_numbers (connected n o p q) = (pred_numbers p ++ pred_numbers q) ++ (n ∷ [])
+  pred_numbers (quantified n o t p) = (text_numbers t ++ pred_numbers p) ++ (n ∷ [])
 
-  pub textNumbers : Text → List ℕ
-  textNumbers (text n p ls) = (predNumbers p ++ linesNumbers ls) ++ (n ∷ [])
+  pub text_numbers : Text → List ℕ
+  text_numbers (text n p ls) = (pred_numbers p ++ lines_numbers ls) ++ (n ∷ [])
 
-  pub linesNumbers : Lines → List ℕ
-  linesNumbers end = []
-  linesNumbers (declaration n a is ls) = (exprNumbers a ++ (n ∷ [])) ++ linesNumbers ls
-  linesNumbers (inclusion i ls) = includeNumbers i ++ linesNumbers ls
+  pub lines_numbers : Lines → List ℕ
+  lines_numbers end = []
+  lines_numbers (declaration n a is ls) = (expr_numbers a ++ (n ∷ [])) ++ lines_numbers ls
+  lines_numbers (inclusion i ls) = include_numbers i ++ lines_numbers ls
 
-  pub includeNumbers : Include → List ℕ
-  includeNumbers (include n s k xs rs) = exprsNumbers xs ++ (n ∷ [])
+  pub include_numbers : Include → List ℕ
+  include_numbers (include n s k xs rs) = exprs_numbers xs ++ (n ∷ [])
 
-unfoldable pub schemaNumbers : Schema → List ℕ
-schemaNumbers (plain t) = textNumbers t
-schemaNumbers (from i) = includeNumbers i
-schemaNumbers (both n a b) = (schemaNumbers a ++ schemaNumbers b) ++ (n ∷ [])
+unfoldable pub schema_numbers : Schema → List ℕ
+schema_numbers (plain t) = text_numbers t
+schema_numbers (from i) = include_numbers i
+schema_numbers (both n a b) = (schema_numbers a ++ schema_numbers b) ++ (n ∷ [])
 
-unfoldable pub paragraphNumbers : Paragraph → List ℕ
-paragraphNumbers (given n is) = n ∷ []
-paragraphNumbers (axiomatic n t) = textNumbers t ++ (n ∷ [])
-paragraphNumbers (schema n s ps x) = schemaNumbers x ++ (n ∷ [])
-paragraphNumbers (abbreviation n i ps a) = exprNumbers a ++ (n ∷ [])
-paragraphNumbers (constraint n p) = predNumbers p ++ (n ∷ [])
+unfoldable pub paragraph_numbers : Paragraph → List ℕ
+paragraph_numbers (given n is) = n ∷ []
+paragraph_numbers (axiomatic n t) = text_numbers t ++ (n ∷ [])
+paragraph_numbers (schema n s ps x) = schema_numbers x ++ (n ∷ [])
+paragraph_numbers (abbreviation n i ps a) = expr_numbers a ++ (n ∷ [])
+paragraph_numbers (constraint n p) = pred_numbers p ++ (n ∷ [])
 
-unfoldable pub paragraphsNumbers : List Paragraph → List ℕ
-paragraphsNumbers [] = []
-paragraphsNumbers (p ∷ ps) = paragraphNumbers p ++ paragraphsNumbers ps
+unfoldable pub paragraphs_numbers : List Paragraph → List ℕ
+paragraphs_numbers [] = []
+paragraphs_numbers (p ∷ ps) = paragraph_numbers p ++ paragraphs_numbers ps
 
-unfoldable pub nodeNumbers : Document → List ℕ
-nodeNumbers (document n ps) = paragraphsNumbers ps ++ (n ∷ [])
+unfoldable pub node_numbers : Document → List ℕ
+node_numbers (document n ps) = paragraphs_numbers ps ++ (n ∷ [])

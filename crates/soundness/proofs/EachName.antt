@@ -13,11 +13,11 @@ pub every_append : {P : Name → Type 0} {xs ys : List Name} → Every P xs → 
 every_append none k = k
 every_append (also p h) k = also p (every_append h k)
 
-pub every-split : {P : Name → Type 0} (xs : List Name) {ys : List Name} → Every P (xs ++ ys) → Every P xs × Every P ys
-every-split [] h = (none, h)
-every-split (x ∷ xs) (also p h) = let r = every-split xs h in (also p r.0, r.1)
+pub every_split : {P : Name → Type 0} (xs : List Name) {ys : List Name} → Every P (xs ++ ys) → Every P xs × Every P ys
+every_split [] h = (none, h)
+every_split (x ∷ xs) (also p h) = let r = every_split xs h in (also p r.0, r.1)
 
-pub every-at : {P : Name → Type 0} (ns : List Name) → Every P ns → (j : ℕ) → j < length ns → P (get_or ns j nobody)
-every-at [] none j l = absurd (omega arith)
-every-at (n ∷ ns) (also p h) zero l = p
-every-at (n ∷ ns) (also p h) (suc j) l = every-at ns h j (omega arith)
+pub every_at : {P : Name → Type 0} (ns : List Name) → Every P ns → (j : ℕ) → j < length ns → P (get_or ns j nobody)
+every_at [] none j l = absurd (omega arith)
+every_at (n ∷ ns) (also p h) zero l = p
+every_at (n ∷ ns) (also p h) (suc j) l = every_at ns h j (omega arith)

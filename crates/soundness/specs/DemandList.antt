@@ -2,12 +2,12 @@
 use Rattle.std.specs.Prelude.{◌≡◌, List, ℕ}
 use Rattle.reader_rules.specs.Decode.{tree_of}
 use Rattle.checker_rules.specs.Dictionary.{Dictionary}
-use Rattle.checker_rules.specs.Check.{accepted, checkOf}
-use Rattle.states_rules.specs.Names.{documentNames}
+use Rattle.checker_rules.specs.Check.{accepted, check_of}
+use Rattle.states_rules.specs.Names.{document_names}
 use Rattle.evaluator_rules.specs.Run.{Ran}
 use Rattle.evaluator_rules.specs.ListingRun.{Lists}
 use Rattle.fitter_rules.specs.Recorded.{StateFits}
-use Rattle.fitter_rules.specs.Fit.{fitOf}
+use Rattle.fitter_rules.specs.Fit.{fit_of}
 use Rattle.soundness.specs.Demand.{Sound}
 
 -- The rules give a finding and a list, and no other; the finding is not 51 at any node, and every entry of the list has its node's type.
@@ -19,5 +19,5 @@ pub record SoundRun (doc state : List ℕ) (work : ℕ) : Type 0 where
 
 -- after the check, for a state whose values are of their recorded types; and after the fit
 pub record SoundRuns : Type 0 where
-  pub checked : (doc state : List ℕ) (d w work : ℕ) (E : Dictionary) → checkOf doc d w ≡ accepted E → StateFits E (documentNames (tree_of doc)) state → SoundRun doc state work
-  pub fitted : (doc state : List ℕ) (d w work : ℕ) (E : Dictionary) → fitOf doc state d w ≡ accepted E → SoundRun doc state work
+  pub checked : (doc state : List ℕ) (d w work : ℕ) (E : Dictionary) → check_of doc d w ≡ accepted E → StateFits E (document_names (tree_of doc)) state → SoundRun doc state work
+  pub fitted : (doc state : List ℕ) (d w work : ℕ) (E : Dictionary) → fit_of doc state d w ≡ accepted E → SoundRun doc state work

@@ -2,22 +2,22 @@
 use Rattle.std.specs.Prelude.{◌≡◌, ◌↔◌, List, false, ℕ, ◌≤◌, ◌<◌, length}
 use Rattle.reader_rules.specs.Decode.{tree_of}
 use Rattle.types_rules.specs.Types.{Ty}
-use Rattle.checker_rules.specs.Dictionary.{Dictionary, ofGlobal, nameIn}
-use Rattle.checker_rules.specs.Check.{accepted, refused, checkOf}
-use Rattle.states_rules.specs.Names.{Name, documentNames}
+use Rattle.checker_rules.specs.Dictionary.{Dictionary, of_global, name_in}
+use Rattle.checker_rules.specs.Check.{accepted, refused, check_of}
+use Rattle.states_rules.specs.Names.{Name, document_names}
 use Rattle.states_rules.specs.States.{name_at}
 use Rattle.evaluator_rules.specs.Claims.{WellFormedState}
 use Rattle.fitter_rules.specs.HasType.{Has}
 use Rattle.fitter_rules.specs.Recorded.{entry_at, EntryFits, StateFits}
-use Rattle.fitter_rules.specs.Fit.{fitOf}
+use Rattle.fitter_rules.specs.Fit.{fit_of}
 
 -- Entry k is the first whose value is not of its recorded type.
 pub record FirstUnfit (E : Dictionary) (ns : List Name) (state : List ℕ) (k : ℕ) : Type 0 where
   pub from : 1 ≤ k
   pub to : k ≤ length ns
-  pub value : (name_at ns k).isGiven ≡ false
+  pub value : (name_at ns k).is_given ≡ false
   pub type : Ty
-  pub recorded : nameIn (name_at ns k).identifier E ≡ ofGlobal 0 type
+  pub recorded : name_in (name_at ns k).identifier E ≡ of_global 0 type
   pub unfit : Has (entry_at ns state k) type → ⊥
   pub before : (j : ℕ) → 1 ≤ j → j < k → EntryFits E ns state j
 
@@ -25,6 +25,6 @@ pub record FirstUnfit (E : Dictionary) (ns : List Name) (state : List ℕ) (k : 
 -- accepts, the state is well formed and k is the first entry whose value is not of its recorded type.
 pub record FitByTypes : Type 0 where
   pub accepts : (doc state : List ℕ) (d w : ℕ) (E : Dictionary)
-      → (fitOf doc state d w ≡ accepted E) ↔ ((checkOf doc d w ≡ accepted E) × WellFormedState (documentNames (tree_of doc)) state × StateFits E (documentNames (tree_of doc)) state)
+      → (fit_of doc state d w ≡ accepted E) ↔ ((check_of doc d w ≡ accepted E) × WellFormedState (document_names (tree_of doc)) state × StateFits E (document_names (tree_of doc)) state)
   pub mistyped : (doc state : List ℕ) (d w k : ℕ)
-      → (fitOf doc state d w ≡ refused 42 k) ↔ ((E : Dictionary) × (checkOf doc d w ≡ accepted E) × WellFormedState (documentNames (tree_of doc)) state × FirstUnfit E (documentNames (tree_of doc)) state k)
+      → (fit_of doc state d w ≡ refused 42 k) ↔ ((E : Dictionary) × (check_of doc d w ≡ accepted E) × WellFormedState (document_names (tree_of doc)) state × FirstUnfit E (document_names (tree_of doc)) state k)

@@ -5,17 +5,17 @@ use Prim.Native.Nat.{ℕ}
 use native.Mathlib.Omega.{arith}
 use lib.ListN.{length}
 use Rattle.checker_rules.specs.Dictionary.{Dictionary}
-use Rattle.checker_rules.specs.Check.{Answer, accepted, refused, checkOf}
-use Rattle.checker_rules.specs.Areas.{answerFinding}
+use Rattle.checker_rules.specs.Check.{Answer, accepted, refused, check_of}
+use Rattle.checker_rules.specs.Areas.{answer_finding}
 use Rattle.checker_rules.specs.declared.Finding.TheVariants.{Accepted}
-use Rattle.fitter_rules.specs.Fit.{fitOf}
+use Rattle.fitter_rules.specs.Fit.{fit_of}
 use Rattle.evaluator_rules.specs.Run.{ran, run_of}
 use Rattle.evaluator_rules.specs.ListingRun.{Lists}
-use Rattle.evaluator_rules.proofs.WholeList.{run-lists}
+use Rattle.evaluator_rules.proofs.WholeList.{run_lists}
 use Rattle.evaluator_rules.specs.declared.Finding.{Finding}
 use Rattle.evaluator.specs.RunCall.{RunCall}
 use Rattle.soundness.specs.Demand.{Sound}
-use Rattle.soundness.proofs.Demand.{demand-three, fit-sound}
+use Rattle.soundness.proofs.Demand.{demand_three, fit_sound}
 use Rattle.soundness_calls.specs.Calls.{SoundCall, FittedRuns, CheckedRuns}
 
 -- the finding Accepted is that of an accepting answer
@@ -23,29 +23,29 @@ record Accepting (a : Answer) : Type 0 where
   dictionary : Dictionary
   answer : a ≡ accepted dictionary
 
-accepting : (a : Answer) → Accepted ≡ answerFinding a → Accepting a
-unfolding answerFinding
+accepting : (a : Answer) → Accepted ≡ answer_finding a → Accepting a
+unfolding answer_finding
 accepting (accepted E) e = record { dictionary = E; answer = refl }
 accepting (refused n p) e = let z : ◌≡◌ {A = ℕ} 0 1 = cc in absurd (omega arith)
 
-call-sound : {doc state before after : List ℕ} {r : Finding} → RunCall doc state before after r → Sound doc (run_of doc state (length before)) → SoundCall doc state before r
-call-sound {doc} {state} {before} c s = record {
-  noMisfit = λ node e. s.noMisfit node (sym c.finding ∙ e);
+call_sound : {doc state before after : List ℕ} {r : Finding} → RunCall doc state before after r → Sound doc (run_of doc state (length before)) → SoundCall doc state before r
+call_sound {doc} {state} {before} c s = record {
+  no_misfit = λ node e. s.no_misfit node (sym c.finding ∙ e);
   list = (run_of doc state (length before)).list;
-  given = subst (λ (f : Finding). Lists doc state (length before) (ran f (run_of doc state (length before)).list)) (sym c.finding) (run-lists doc state (length before));
+  given = subst (λ (f : Finding). Lists doc state (length before) (ran f (run_of doc state (length before)).list)) (sym c.finding) (run_lists doc state (length before));
   listed = s.listed;
 }
 
-pub fitted-runs : FittedRuns
-fitted-runs = record {
+pub fitted_runs : FittedRuns
+fitted_runs = record {
   sound = λ doc state dict work before after d w r f c.
-      let a = accepting (fitOf doc state d w) f.finding in
-      call-sound c (fit-sound doc state d w (length before) a.dictionary a.answer);
+      let a = accepting (fit_of doc state d w) f.finding in
+      call_sound c (fit_sound doc state d w (length before) a.dictionary a.answer);
 }
 
-pub checked-runs : CheckedRuns
-checked-runs = record {
+pub checked_runs : CheckedRuns
+checked_runs = record {
   sound = λ doc state dict work before after d w r f t c.
-      let a = accepting (checkOf doc d w) f.finding in
-      call-sound c (demand-three doc state d w (length before) a.dictionary a.answer (t.fits a.dictionary a.answer));
+      let a = accepting (check_of doc d w) f.finding in
+      call_sound c (demand_three doc state d w (length before) a.dictionary a.answer (t.fits a.dictionary a.answer));
 }

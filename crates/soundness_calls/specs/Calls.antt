@@ -2,10 +2,10 @@
 use Rattle.std.specs.Prelude.{◌≡◌, List, ℕ, length}
 use Rattle.reader_rules.specs.Decode.{tree_of}
 use Rattle.checker_rules.specs.Dictionary.{Dictionary}
-use Rattle.checker_rules.specs.Check.{accepted, paragraphsOf, checkOf}
+use Rattle.checker_rules.specs.Check.{accepted, paragraphs_of, check_of}
 use Rattle.checker_rules.specs.Areas.{CheckCall}
 use Rattle.checker_rules.specs.declared.Finding.TheVariants.{Accepted}
-use Rattle.states_rules.specs.Names.{documentNames}
+use Rattle.states_rules.specs.Names.{document_names}
 use Rattle.fitter_rules.specs.Recorded.{StateFits}
 use Rattle.fitter_rules.specs.Areas.{FitCall}
 use Rattle.evaluator_rules.specs.Claims.{Listed}
@@ -20,14 +20,14 @@ use Rattle.soundness.specs.Demand.{OfItsType}
 -- A run call with the finding r, in a work area that held `before`: r is not 51 at any node; the evaluation rules give r with a list (`Lists`, which gives
 -- one finding and one list only), and every entry of this list has its node's accepted type.
 pub record SoundCall (doc state before : List ℕ) (r : Finding) : Type 0 where
-  pub noMisfit : (node : ℕ) → r ≡ Refused 51 node → ⊥
+  pub no_misfit : (node : ℕ) → r ≡ Refused 51 node → ⊥
   pub list : List Event
   pub given : Lists doc state (length before) (ran r list)
-  pub listed : Listed (OfItsType (paragraphsOf (tree_of doc))) list
+  pub listed : Listed (OfItsType (paragraphs_of (tree_of doc))) list
 
 -- each value of the state is of the type that the accepted dictionary records for its name
 pub record OfRecordedTypes (doc state : List ℕ) (d w : ℕ) : Type 0 where
-  pub fits : (E : Dictionary) → checkOf doc d w ≡ accepted E → StateFits E (documentNames (tree_of doc)) state
+  pub fits : (E : Dictionary) → check_of doc d w ≡ accepted E → StateFits E (document_names (tree_of doc)) state
 
 -- what the fit call accepts, every run call of that document and state is sound on
 pub record FittedRuns : Type 0 where

@@ -1,8 +1,8 @@
 // The entries of a state, by the table of the names: all Given entries, then the others.
 ghost use Rattle.std.specs.Prelude.{◌≡◌, ◌≤◌, ◌<◌, ◌^◌};
 ghost use Rattle.reader_rules.specs.Findings.{scan, and_then};
-ghost use Rattle.states_rules.specs.States.{isSize};
-ghost use Rattle.states.specs.Table.{givenBy, valueBy, numberBy};
+ghost use Rattle.states_rules.specs.States.{is_size};
+ghost use Rattle.states.specs.Table.{given_by, value_by, number_by};
 
 use codes::{findings, limits};
 use layout::part;
@@ -12,7 +12,7 @@ use words::word;
 
 // A given's entry: one word, its size 0 to 20.
 fn is_size(w: &[u32]) -> bool
-    ensures { result ≡ isSize w.now }
+    ensures { result ≡ is_size w.now }
 {
     if w.len() == 1 {
         return word(w, 0) <= limits::ELEMENTS;
@@ -23,7 +23,7 @@ fn is_size(w: &[u32]) -> bool
 // 41 at entry k if it is a given's, 0 for none.
 fn given_by(table: &[u32], state: &[u32], k: usize) -> u32
     requires { k < 2 ^ 32 }
-    ensures { result ≡ givenBy table.now state.now k }
+    ensures { result ≡ given_by table.now state.now k }
 {
     let g = word(table, 2 * k);
     if g == 0 {
@@ -38,7 +38,7 @@ fn given_by(table: &[u32], state: &[u32], k: usize) -> u32
 // 41 at entry k if it is not a given's, 0 for none.
 fn value_by(table: &[u32], state: &[u32], k: usize) -> u32
     requires { k < 2 ^ 32 }
-    ensures { result ≡ valueBy table.now state.now k }
+    ensures { result ≡ value_by table.now state.now k }
 {
     let g = word(table, 2 * k);
     if g == 0 {
@@ -53,7 +53,7 @@ fn value_by(table: &[u32], state: &[u32], k: usize) -> u32
 // The same of a given's entry, or of any other.
 fn number_by(table: &[u32], state: &[u32], k: usize, given: bool) -> u32
     requires { k < 2 ^ 32 }
-    ensures { result ≡ numberBy given table.now state.now k }
+    ensures { result ≡ number_by given table.now state.now k }
 {
     if given {
         return given_by(table, state, k);
@@ -64,7 +64,7 @@ fn number_by(table: &[u32], state: &[u32], k: usize, given: bool) -> u32
 // The first ill-formed entry among the givens', or among the others.
 fn first_ill(table: &[u32], state: &[u32], n: usize, given: bool) -> Reading
     requires { n ≤ 1024 }
-    ensures { result ≡ scan (numberBy given table.now state.now) 1 n }
+    ensures { result ≡ scan (number_by given table.now state.now) 1 n }
 {
     let mut k = 1;
     while k < n + 1 {
@@ -83,7 +83,7 @@ fn first_ill(table: &[u32], state: &[u32], n: usize, given: bool) -> Reading
 // The first entry that is ill formed, Given entries first.
 pub fn first_ill_entry(table: &[u32], state: &[u32], n: usize) -> Reading
     requires { n ≤ 1024 }
-    ensures { result ≡ and_then (scan (givenBy table.now state.now) 1 n) (scan (valueBy table.now state.now) 1 n) }
+    ensures { result ≡ and_then (scan (given_by table.now state.now) 1 n) (scan (value_by table.now state.now) 1 n) }
 {
     let first = first_ill(table, state, n, true);
     match first {

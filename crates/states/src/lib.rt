@@ -12,13 +12,13 @@ ghost use Rattle.std.specs.Prelude.{◌≡◌};
 ghost use Rattle.reader_rules.specs.Reading.{read_of};
 ghost use Rattle.reader_rules.specs.Decode.{tree_of};
 ghost use Rattle.reader_rules.specs.declared.Reading.TheVariants.{Readable};
-ghost use Rattle.states_rules.specs.Names.{documentNames};
-ghost use Rattle.states_rules.specs.States.{state_of, stateCheckOf};
+ghost use Rattle.states_rules.specs.Names.{document_names};
+ghost use Rattle.states_rules.specs.States.{state_of, state_check_of};
 
 // Finding 41 of a state for a readable document. A state has at most 1,024 entries, so where there are more names their pairs are not needed.
 pub fn first_ill_formed(doc: &[u32], state: &[u32]) -> Reading
     requires { read_of doc.now ≡ Readable }
-    ensures { result ≡ state_of (documentNames (tree_of doc.now)) state.now }
+    ensures { result ≡ state_of (document_names (tree_of doc.now)) state.now }
 {
     let mut table = [0u32; names::TABLE_WORDS];
     let n = names::put_names(doc, state, &mut table);
@@ -45,7 +45,7 @@ pub fn first_ill_formed(doc: &[u32], state: &[u32]) -> Reading
 
 // The finding of a document with a state: reading's, else 41 with its place.
 pub fn check_state(doc: &[u32], state: &[u32]) -> Reading
-    ensures { result ≡ stateCheckOf doc.now state.now }
+    ensures { result ≡ state_check_of doc.now state.now }
 {
     let first = reader::read(doc);
     match first {

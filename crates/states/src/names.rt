@@ -4,10 +4,10 @@ ghost use Rattle.layout.specs.Layout.{part};
 ghost use Rattle.reader_rules.specs.Kinds.{texts, lines, paragraphs};
 ghost use Rattle.reader_rules.specs.Promise.{At};
 ghost use Rattle.reader_rules.specs.Reading.{read_of};
-ghost use Rattle.reader_rules.specs.Decode.{lines_from, paragraphAt, tree_of};
+ghost use Rattle.reader_rules.specs.Decode.{lines_from, paragraph_at, tree_of};
 ghost use Rattle.reader_rules.specs.declared.Reading.TheVariants.{Readable};
-ghost use Rattle.states_rules.specs.Names.{namesAs, lineNames, paragraphNames, documentNames};
-ghost use Rattle.states.specs.Table.{put_pair, putNames, lineCount};
+ghost use Rattle.states_rules.specs.Names.{names_as, line_names, paragraph_names, document_names};
+ghost use Rattle.states.specs.Table.{put_pair, put_names, line_count};
 
 use codes::{kinds, limits};
 use layout::part;
@@ -20,7 +20,7 @@ pub const TABLE_WORDS: usize = 2 * (limits::NODES + 1);
 // The number of names that line k writes.
 pub fn line_count(doc: &[u32], k: usize) -> usize
     requires { At doc.now lines k }
-    ensures { (result ≡ lineCount doc.now k) × (result ≤ 8) }
+    ensures { (result ≡ line_count doc.now k) × (result ≤ 8) }
 {
     let q = kind_at(doc, k);
     if q == kinds::DECL {
@@ -32,7 +32,7 @@ pub fn line_count(doc: &[u32], k: usize) -> usize
 // The number of names that the lines of Text t write.
 pub fn text_count(doc: &[u32], t: usize) -> usize
     requires { At doc.now texts t }
-    ensures { (result ≡ length (lineNames (lines_from doc.now t 2 (length (part doc.now t) - 2)))) × (result ≤ 64) }
+    ensures { (result ≡ length (line_names (lines_from doc.now t 2 (length (part doc.now t) - 2)))) × (result ≤ 64) }
 {
     let e = part(doc, t).len();
     let mut n = 0;
@@ -47,7 +47,7 @@ pub fn text_count(doc: &[u32], t: usize) -> usize
 // The number of names of paragraph p.
 pub fn paragraph_count(doc: &[u32], p: usize) -> usize
     requires { At doc.now paragraphs p }
-    ensures { (result ≡ length (paragraphNames (paragraphAt doc.now p))) × (result ≤ 64) }
+    ensures { (result ≡ length (paragraph_names (paragraph_at doc.now p))) × (result ≤ 64) }
 {
     let q = kind_at(doc, p);
     if q == kinds::GIVEN {
@@ -71,7 +71,7 @@ fn put_pair(w: &[u32], i: usize, state: &[u32], k: usize, table: &mut [u32])
 // The pairs of a Given with the words w, after n names.
 fn put_given(w: &[u32], state: &[u32], n: usize, table: &mut [u32])
     requires { (n < 2 ^ 16) × (length w.now ≤ 256) }
-    ensures { table.new ≡ putNames (namesAs true (drop 1 w.now)) state.now (n + 1) table.old }
+    ensures { table.new ≡ put_names (names_as true (drop 1 w.now)) state.now (n + 1) table.old }
 {
     let e = w.len();
     let mut i = 1;
@@ -84,7 +84,7 @@ fn put_given(w: &[u32], state: &[u32], n: usize, table: &mut [u32])
 // The names of paragraph k, after n names: the number of names then, and the pairs.
 fn put_paragraph(doc: &[u32], k: usize, state: &[u32], n: usize, table: &mut [u32]) -> usize
     requires { At doc.now paragraphs k × (n < 2 ^ 16) }
-    ensures { (result ≡ n + length (paragraphNames (paragraphAt doc.now k))) × (table.new ≡ putNames (paragraphNames (paragraphAt doc.now k)) state.now (n + 1) table.old) × (result ≤ n + 64) }
+    ensures { (result ≡ n + length (paragraph_names (paragraph_at doc.now k))) × (table.new ≡ put_names (paragraph_names (paragraph_at doc.now k)) state.now (n + 1) table.old) × (result ≤ n + 64) }
 {
     let q = kind_at(doc, k);
     if q == kinds::GIVEN {
@@ -101,7 +101,7 @@ fn put_paragraph(doc: &[u32], k: usize, state: &[u32], n: usize, table: &mut [u3
 // The names of the document: their number, and the pairs.
 pub fn put_names(doc: &[u32], state: &[u32], table: &mut [u32]) -> usize
     requires { read_of doc.now ≡ Readable }
-    ensures { (result ≡ length (documentNames (tree_of doc.now))) × (table.new ≡ putNames (documentNames (tree_of doc.now)) state.now 1 table.old) }
+    ensures { (result ≡ length (document_names (tree_of doc.now))) × (table.new ≡ put_names (document_names (tree_of doc.now)) state.now 1 table.old) }
 {
     let d = word(doc, 0);
     let e = part(doc, d).len();

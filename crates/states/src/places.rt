@@ -4,11 +4,11 @@ ghost use Rattle.layout.specs.Layout.{part};
 ghost use Rattle.reader_rules.specs.Kinds.{texts, lines, paragraphs};
 ghost use Rattle.reader_rules.specs.Promise.{At};
 ghost use Rattle.reader_rules.specs.Reading.{read_of};
-ghost use Rattle.reader_rules.specs.Decode.{lines_from, paragraphAt, tree_of};
+ghost use Rattle.reader_rules.specs.Decode.{lines_from, paragraph_at, tree_of};
 ghost use Rattle.reader_rules.specs.declared.Reading.TheVariants.{Readable};
-ghost use Rattle.states_rules.specs.Names.{namesAs, lineNames, paragraphNames, documentNames};
-ghost use Rattle.states_rules.specs.States.{entryFrom};
-ghost use Rattle.states.specs.Table.{linePlace};
+ghost use Rattle.states_rules.specs.Names.{names_as, line_names, paragraph_names, document_names};
+ghost use Rattle.states_rules.specs.States.{entry_from};
+ghost use Rattle.states.specs.Table.{line_place};
 
 use crate::names::{line_count, paragraph_count};
 use codes::kinds;
@@ -20,7 +20,7 @@ use words::word;
 // the same.
 fn place_in(w: &[u32], from: usize, k: usize, name: usize) -> usize
     requires { (k < 2 ^ 16) × (length w.now ≤ 256) }
-    ensures { result ≡ entryFrom (namesAs true (drop from w.now)) name k }
+    ensures { result ≡ entry_from (names_as true (drop from w.now)) name k }
 {
     let e = w.len();
     let mut i = from;
@@ -38,7 +38,7 @@ fn place_in(w: &[u32], from: usize, k: usize, name: usize) -> usize
 // The same among the names of line v, the first of which has entry k.
 fn place_in_line(doc: &[u32], v: usize, k: usize, name: usize) -> usize
     requires { At doc.now lines v × (k < 2 ^ 16) }
-    ensures { result ≡ linePlace doc.now v name k }
+    ensures { result ≡ line_place doc.now v name k }
 {
     let q = kind_at(doc, v);
     if q == kinds::DECL {
@@ -50,7 +50,7 @@ fn place_in_line(doc: &[u32], v: usize, k: usize, name: usize) -> usize
 // The same among the names of the lines of Text t.
 fn place_in_text(doc: &[u32], t: usize, k: usize, name: usize) -> usize
     requires { At doc.now texts t × (1 ≤ k) × (k < 2 ^ 15) }
-    ensures { result ≡ entryFrom (lineNames (lines_from doc.now t 2 (length (part doc.now t) - 2))) name k }
+    ensures { result ≡ entry_from (line_names (lines_from doc.now t 2 (length (part doc.now t) - 2))) name k }
 {
     let e = part(doc, t).len();
     let mut at = k;
@@ -70,7 +70,7 @@ fn place_in_text(doc: &[u32], t: usize, k: usize, name: usize) -> usize
 // The same among the names of paragraph p.
 fn place_in_paragraph(doc: &[u32], p: usize, k: usize, name: usize) -> usize
     requires { At doc.now paragraphs p × (1 ≤ k) × (k < 2 ^ 15) }
-    ensures { result ≡ entryFrom (paragraphNames (paragraphAt doc.now p)) name k }
+    ensures { result ≡ entry_from (paragraph_names (paragraph_at doc.now p)) name k }
 {
     let q = kind_at(doc, p);
     if q == kinds::GIVEN {
@@ -85,7 +85,7 @@ fn place_in_paragraph(doc: &[u32], p: usize, k: usize, name: usize) -> usize
 // The number of the entry of a name, from 1; 0 for none.
 pub fn place_of(doc: &[u32], name: usize) -> usize
     requires { read_of doc.now ≡ Readable }
-    ensures { result ≡ entryFrom (documentNames (tree_of doc.now)) name 1 }
+    ensures { result ≡ entry_from (document_names (tree_of doc.now)) name 1 }
 {
     let d = word(doc, 0);
     let e = part(doc, d).len();

@@ -3,32 +3,32 @@ use Rattle.std.specs.Prelude.{List, [], ◌∷◌, ◌++◌, Bool, true, false, 
 use Rattle.reader_rules.specs.Tree.{Text, text, Lines, end, declaration, inclusion, Paragraph, given, axiomatic, schema, abbreviation, constraint, Document, document}
 
 pub record Name : Type 0 where
-  pub isGiven : Bool
+  pub is_given : Bool
   pub identifier : ℕ
 
 -- what stands for the name of an entry that is not there
 abbrev pub nobody : Name
-nobody = record { isGiven = false; identifier = 0 }
+nobody = record { is_given = false; identifier = 0 }
 
-unfoldable pub namesAs : Bool → List ℕ → List Name
-namesAs b [] = []
-namesAs b (i ∷ xs) = record { isGiven = b; identifier = i } ∷ namesAs b xs
+unfoldable pub names_as : Bool → List ℕ → List Name
+names_as b [] = []
+names_as b (i ∷ xs) = record { is_given = b; identifier = i } ∷ names_as b xs
 
-unfoldable pub lineNames : Lines → List Name
-lineNames end = []
-lineNames (declaration n a xs ls) = namesAs false xs ++ lineNames ls
-lineNames (inclusion i ls) = lineNames ls
+unfoldable pub line_names : Lines → List Name
+line_names end = []
+line_names (declaration n a xs ls) = names_as false xs ++ line_names ls
+line_names (inclusion i ls) = line_names ls
 
-unfoldable pub paragraphNames : Paragraph → List Name
-paragraphNames (given n xs) = namesAs true xs
-paragraphNames (axiomatic n (text m p ls)) = lineNames ls
-paragraphNames (schema n s ps x) = []
-paragraphNames (abbreviation n i ps a) = []
-paragraphNames (constraint n p) = []
+unfoldable pub paragraph_names : Paragraph → List Name
+paragraph_names (given n xs) = names_as true xs
+paragraph_names (axiomatic n (text m p ls)) = line_names ls
+paragraph_names (schema n s ps x) = []
+paragraph_names (abbreviation n i ps a) = []
+paragraph_names (constraint n p) = []
 
 unfoldable pub names_of : List Paragraph → List Name
 names_of [] = []
-names_of (p ∷ ps) = paragraphNames p ++ names_of ps
+names_of (p ∷ ps) = paragraph_names p ++ names_of ps
 
-unfoldable pub documentNames : Document → List Name
-documentNames (document n ps) = names_of ps
+unfoldable pub document_names : Document → List Name
+document_names (document n ps) = names_of ps

@@ -12,90 +12,90 @@ use Rattle.types_rules.specs.Equations.{Pairs, Solves}
 use Rattle.types_rules.specs.Follows.{unk}
 use Rattle.types_rules.specs.Trees.{finite}
 use Rattle.types_rules.specs.Types.{Ty}
-use Rattle.types_cells.specs.Layout.{maxCells, poolSize, linksAt, recordsAt, argumentsAt, firstsAt, countsAt, settledFrom, firstRun, areaSize}
-use Rattle.types_cells.specs.Store.{frozen, linkAt, tag_at, load, view, view_of, Held, Solved}
+use Rattle.types_cells.specs.Layout.{max_cells, pool_size, links_at, records_at, arguments_at, firsts_at, counts_at, settled_from, first_run, area_size}
+use Rattle.types_cells.specs.Store.{frozen, link_at, tag_at, load, view, view_of, Held, Solved}
 use Rattle.types_cells.specs.Calls.{put, Above, Making, Made}
 use Rattle.types_cells.specs.Settled.{lower, heap, Reads, Readable, word_at, Pinned, Obeys, Fits, Kept, Pinning, Pin, Settling, Entering, Entered}
-use Rattle.types_cells.proofs.Growing.{put_other, put-length, put-0, there, t-at, made, made-above, made-load}
-use Rattle.types_cells.proofs.Words.{link-new}
-use Rattle.types_cells.proofs.SettlingLaws.{heap-kept, settled, settled_before, settled-type, settled-after, kept-held, solved-kept}
+use Rattle.types_cells.proofs.Growing.{put_other, put_length, put_0, there, t_at, made, made_above, made_load}
+use Rattle.types_cells.proofs.Words.{link_new}
+use Rattle.types_cells.proofs.SettlingLaws.{heap_kept, settled, settled_before, settled_type, settled_after, kept_held, solved_kept}
 
 -- Where cell n is made, whatever its words.
-module _ (s d : List ℕ) (n t a f c : ℕ) (size : length s ≡ areaSize) (l : n < maxCells) where
+module _ (s d : List ℕ) (n t a f c : ℕ) (size : length s ≡ area_size) (l : n < max_cells) where
   abbrev s₁ : List ℕ
   s₁ = put s n t a f c
 
   abbrev a₁ : List ℕ
-  a₁ = set s (linksAt + n) 0
+  a₁ = set s (links_at + n) 0
 
   abbrev a₂ : List ℕ
-  a₂ = set a₁ (recordsAt + 4 * n) t
+  a₂ = set a₁ (records_at + 4 * n) t
 
   abbrev a₃ : List ℕ
-  a₃ = set a₂ (argumentsAt + 4 * n) a
+  a₃ = set a₂ (arguments_at + 4 * n) a
 
   abbrev a₄ : List ℕ
-  a₄ = set a₃ (firstsAt + 4 * n) f
+  a₄ = set a₃ (firsts_at + 4 * n) f
 
-  pub made-low : lower s₁ ≡ lower s
+  pub made_low : lower s₁ ≡ lower s
   unfolding lower put
-  made-low =
-      take-set-le poolSize a₄ (countsAt + 4 * n) c (omega arith) ∙ take-set-le poolSize a₃ (firstsAt + 4 * n) f (omega arith) ∙ take-set-le poolSize a₂ (argumentsAt + 4 * n) a (omega arith)
-      ∙ take-set-le poolSize a₁ (recordsAt + 4 * n) t (omega arith) ∙ take-set-le poolSize s (linksAt + n) 0 (omega arith)
+  made_low =
+      take-set-le pool_size a₄ (counts_at + 4 * n) c (omega arith) ∙ take-set-le pool_size a₃ (firsts_at + 4 * n) f (omega arith) ∙ take-set-le pool_size a₂ (arguments_at + 4 * n) a (omega arith)
+      ∙ take-set-le pool_size a₁ (records_at + 4 * n) t (omega arith) ∙ take-set-le pool_size s (links_at + n) 0 (omega arith)
 
-  word-old : (i : ℕ) → i < n → word_at s₁ i ≡ word_at s i
+  word_old : (i : ℕ) → i < n → word_at s₁ i ≡ word_at s i
   unfolding word_at
-  word-old i m = put_other s n t a f c size l (linksAt + i) (λ e. omega arith) (λ e. omega arith) (λ e. omega arith) (λ e. omega arith) (λ e. omega arith)
+  word_old i m = put_other s n t a f c size l (links_at + i) (λ e. omega arith) (λ e. omega arith) (λ e. omega arith) (λ e. omega arith) (λ e. omega arith)
 
-  word-new : word_at s₁ n ≡ 0
+  word_new : word_at s₁ n ≡ 0
   unfolding word_at
-  word-new = put-0 s n t a f c size l
+  word_new = put_0 s n t a f c size l
 
   eh : heap s₁ d ≡ heap s d
-  eh = heap-kept s s₁ d made-low
+  eh = heap_kept s s₁ d made_low
 
-  old-i : (i : ℕ) → i < suc n → settledFrom ≤ word_at s₁ i → i < n
-  old-i i m v = ⊎_elim (λ e. absurd (let z = ap (word_at s₁) e in let y = word-new in omega arith)) (λ q. q) (eq-or-lt_of_le (let z : i ≤ n = omega arith in z))
+  old_i : (i : ℕ) → i < suc n → settled_from ≤ word_at s₁ i → i < n
+  old_i i m v = ⊎_elim (λ e. absurd (let z = ap (word_at s₁) e in let y = word_new in omega arith)) (λ q. q) (eq-or-lt_of_le (let z : i ≤ n = omega arith in z))
 
-  pub made-pinned : Pinned s d n → Pinned s₁ d (suc n)
-  made-pinned P = record {
-    reads = λ i m v. let o = old-i i m v in let e = word-old i o in
-        subst (λ z. Readable z (word_at s₁ i - settledFrom)) (sym eh) (subst (λ z. Readable (heap s d) (z - settledFrom)) (sym e) (P.reads i o (omega arith)));
-    bare = λ i m v. let o = old-i i m v in let e = word-old i o in there s n t a f c size l i 0 o (omega arith) ∙ P.bare i o (omega arith);
+  pub made_pinned : Pinned s d n → Pinned s₁ d (suc n)
+  made_pinned P = record {
+    reads = λ i m v. let o = old_i i m v in let e = word_old i o in
+        subst (λ z. Readable z (word_at s₁ i - settled_from)) (sym eh) (subst (λ z. Readable (heap s d) (z - settled_from)) (sym e) (P.reads i o (omega arith)));
+    bare = λ i m v. let o = old_i i m v in let e = word_old i o in there s n t a f c size l i 0 o (omega arith) ∙ P.bare i o (omega arith);
   }
 
-  pub made-before : (σ : ℕ → Ty) → Obeys s₁ d (suc n) σ → Obeys s d n σ
-  made-before σ O i m v g R =
-      let e = word-old i m in O i (omega arith) (omega arith) g (subst (λ z. Reads z (word_at s₁ i - settledFrom) g) (sym eh) (subst (λ z. Reads (heap s d) (z - settledFrom) g) (sym e) R))
+  pub made_before : (σ : ℕ → Ty) → Obeys s₁ d (suc n) σ → Obeys s d n σ
+  made_before σ O i m v g R =
+      let e = word_old i m in O i (omega arith) (omega arith) g (subst (λ z. Reads z (word_at s₁ i - settled_from) g) (sym eh) (subst (λ z. Reads (heap s d) (z - settled_from) g) (sym e) R))
 
   pub made_after : (σ : ℕ → Ty) → Obeys s d n σ → Obeys s₁ d (suc n) σ
   made_after σ O i m v g R =
-      let o = old-i i m v in
-      let e = word-old i o in
-      O i o (omega arith) g (subst (λ z. Reads (heap s d) (z - settledFrom) g) e (subst (λ z. Reads z (word_at s₁ i - settledFrom) g) eh R))
+      let o = old_i i m v in
+      let e = word_old i o in
+      O i o (omega arith) g (subst (λ z. Reads (heap s d) (z - settled_from) g) e (subst (λ z. Reads z (word_at s₁ i - settled_from) g) eh R))
 
   pub made_word : word_at s₁ n ≡ 0
-  made_word = word-new
+  made_word = word_new
 
-module _ (s d : List ℕ) (n p : ℕ) (E : Entering s d n p) (M : Made s (put s n 0 0 firstRun 0) n 0 0 firstRun 0) where
+module _ (s d : List ℕ) (n p : ℕ) (E : Entering s d n p) (M : Made s (put s n 0 0 first_run 0) n 0 0 first_run 0) where
   abbrev t : List ℕ
-  t = put s n 0 0 firstRun 0
+  t = put s n 0 0 first_run 0
 
-  sz : length s ≡ areaSize
+  sz : length s ≡ area_size
   sz = E.making.solved.held.size
 
-  few : n < maxCells
+  few : n < max_cells
   few = E.making.few
 
   H₁ : Held t (suc n) E.making.L
   H₁ = (M.grown E.making.P₀ E.making.L E.making.solved).held
 
   eh₁ : heap t d ≡ heap s d
-  eh₁ = heap-kept s t d (made-low s d n 0 0 firstRun 0 sz few)
+  eh₁ = heap_kept s t d (made_low s d n 0 0 first_run 0 sz few)
 
-  new-unk : view (frozen t) (suc n) n ≡ unk
+  new_unk : view (frozen t) (suc n) n ≡ unk
   unfolding view_of
-  new-unk = M.new
+  new_unk = M.new
 
   S : Settling t d n p
   S = record {
@@ -103,42 +103,42 @@ module _ (s d : List ℕ) (n p : ℕ) (E : Entering s d n p) (M : Made s (put s 
       n = suc n;
       L = E.making.L;
       held = H₁;
-      pinned = made-pinned s d n 0 0 firstRun 0 sz few E.pinned;
+      pinned = made_pinned s d n 0 0 first_run 0 sz few E.pinned;
       made = omega arith;
       few = E.few;
       readable = subst (λ z. Readable z p) (sym eh₁) E.readable;
     };
-    open-cell = tag-new;
-    root = link-new t n 0 (omega arith) (put-0 s n 0 0 firstRun 0 sz few);
+    open_cell = tag_new;
+    root = link_new t n 0 (omega arith) (put_0 s n 0 0 first_run 0 sz few);
   }
     where
-      tag-new : tag_at (frozen t) n ≡ 0
-      tag-new = t-at s n 0 0 firstRun 0 sz few
+      tag_new : tag_at (frozen t) n ≡ 0
+      tag_new = t_at s n 0 0 first_run 0 sz few
 
-  X : Pin t (set t (linksAt + n) (settledFrom + p)) d n p true
-  X = settled t d n p S (let z = made_word s d n 0 0 firstRun 0 sz few in omega arith)
+  X : Pin t (set t (links_at + n) (settled_from + p)) d n p true
+  X = settled t d n p S (let z = made_word s d n 0 0 first_run 0 sz few in omega arith)
 
   rd : (g : Ty) → Reads (heap s d) p g → Reads (heap t d) p g
   rd g R = subst (λ z. Reads z p g) (sym eh₁) R
 
-  pub entered : Entered s (set t (linksAt + n) (settledFrom + p)) d n p
+  pub entered : Entered s (set t (links_at + n) (settled_from + p)) d n p
   entered = record {
-    low = X.kept.low ∙ made-low s d n 0 0 firstRun 0 sz few;
-    grown = λ P₀ L Q. solved-kept t (set t (linksAt + n) (settledFrom + p)) X.kept (suc n) P₀ L (M.grown P₀ L Q);
+    low = X.kept.low ∙ made_low s d n 0 0 first_run 0 sz few;
+    grown = λ P₀ L Q. solved_kept t (set t (links_at + n) (settled_from + p)) X.kept (suc n) P₀ L (M.grown P₀ L Q);
     old = λ i l. ap (λ w. view w (suc n) i) X.kept.still ∙ M.old i l;
-    new = ap (λ w. view w (suc n) n) X.kept.still ∙ new-unk;
-    pinned = λ P. X.pinned refl (suc n) E.making.L H₁ (made-pinned s d n 0 0 firstRun 0 sz few P) (omega arith);
-    before = λ σ O. made-before s d n 0 0 firstRun 0 sz few σ (settled_before t d n p S few-word finite (suc n) σ O);
-    type = λ g R σ O. settled-type t d n p S few-word finite (suc n) (omega arith) g (rd g R) σ O;
-    after = λ g R σ O e. settled-after t d n p S few-word finite (suc n) g (rd g R) σ (made_after s d n 0 0 firstRun 0 sz few σ O) e;
-    fit = ap (λ w. load w (suc n)) X.kept.still ∙ made-load s t n 0 0 firstRun 0 E.making M ∙ (let z : load (frozen s) n + 1 + 0 ≡ load (frozen s) n + 1 = omega arith in z);
-    above = λ top B. subst (λ w. Above w (suc n) top) (sym X.kept.still) (made-above s t n 0 0 firstRun 0 E.making M top B (let z = B.low in omega arith) (λ e. absurd (omega arith)));
+    new = ap (λ w. view w (suc n) n) X.kept.still ∙ new_unk;
+    pinned = λ P. X.pinned refl (suc n) E.making.L H₁ (made_pinned s d n 0 0 first_run 0 sz few P) (omega arith);
+    before = λ σ O. made_before s d n 0 0 first_run 0 sz few σ (settled_before t d n p S few_word finite (suc n) σ O);
+    type = λ g R σ O. settled_type t d n p S few_word finite (suc n) (omega arith) g (rd g R) σ O;
+    after = λ g R σ O e. settled_after t d n p S few_word finite (suc n) g (rd g R) σ (made_after s d n 0 0 first_run 0 sz few σ O) e;
+    fit = ap (λ w. load w (suc n)) X.kept.still ∙ made_load s t n 0 0 first_run 0 E.making M ∙ (let z : load (frozen s) n + 1 + 0 ≡ load (frozen s) n + 1 = omega arith in z);
+    above = λ top B. subst (λ w. Above w (suc n) top) (sym X.kept.still) (made_above s t n 0 0 first_run 0 E.making M top B (let z = B.low in omega arith) (λ e. absurd (omega arith)));
   }
     where
-      few-word : word_at t n < settledFrom
-      few-word = let z = made_word s d n 0 0 firstRun 0 sz few in omega arith
+      few_word : word_at t n < settled_from
+      few_word = let z = made_word s d n 0 0 first_run 0 sz few in omega arith
 
-pub entered-as : (s m u d : List ℕ) (n p : ℕ) → Entering s d n p → Made s m n 0 0 firstRun 0 → u ≡ set m (linksAt + n) (settledFrom + p) → Entered s u d n p
-entered-as s m u d n p E M e =
+pub entered_as : (s m u d : List ℕ) (n p : ℕ) → Entering s d n p → Made s m n 0 0 first_run 0 → u ≡ set m (links_at + n) (settled_from + p) → Entered s u d n p
+entered_as s m u d n p E M e =
     let w = M.words in
-    subst (λ z. Entered s z d n p) (sym (e ∙ ap (λ z. set z (linksAt + n) (settledFrom + p)) w)) (entered s d n p E (subst (λ z. Made s z n 0 0 firstRun 0) w M))
+    subst (λ z. Entered s z d n p) (sym (e ∙ ap (λ z. set z (links_at + n) (settled_from + p)) w)) (entered s d n p E (subst (λ z. Made s z n 0 0 first_run 0) w M))

@@ -10,36 +10,36 @@ use native.Mathlib.Nat.{eq-or-lt_of_le}
 use lib.Dec.{eqb}
 use lib.ListN.{length}
 use borrow.Author.Tests.{eqb-true, eqb-false}
-use Rattle.types_rules.proofs.Find.{bit, hops, next-none, next-some}
-use Rattle.types_rules.proofs.Follows.{roots, roots-len, roots_less}
-use Rattle.types_rules.proofs.Rational.{swap-cases}
+use Rattle.types_rules.proofs.Find.{bit, hops, next_none, next_some}
+use Rattle.types_rules.proofs.Follows.{roots, roots_len, roots_less}
+use Rattle.types_rules.proofs.Rational.{swap_cases}
 use Rattle.types_rules.specs.Classes.{Wf, next, rep}
 use Rattle.types_rules.specs.Equations.{AllP, In, Pairs, end, pair}
 use Rattle.types_rules.specs.Follows.{unk}
-use Rattle.types_cells.specs.Layout.{maxCells, maxPending}
+use Rattle.types_cells.specs.Layout.{max_cells, max_pending}
 use Rattle.types_cells.specs.Calls.{Known, Root}
-use Rattle.types_cells.specs.Store.{frozen, linkAt, Cell, load, link_of, Both, Held}
+use Rattle.types_cells.specs.Store.{frozen, link_at, Cell, load, link_of, Both, Held}
 
 abbrev pub WfN : Pairs ℕ → Type 0
 WfN L = Wf eqb L
 
 -- A representative is a cell.
-pub rep-below : (n : ℕ) (L : Pairs ℕ) → AllP (Both n) L → (i : ℕ) → i < n → rep eqb L i < n
+pub rep_below : (n : ℕ) (L : Pairs ℕ) → AllP (Both n) L → (i : ℕ) → i < n → rep eqb L i < n
 unfolding rep
-rep-below n end h i l = l
-rep-below n (pair a b L) h i l =
-    swap-cases ℕ eqb eqb-true eqb-false a b (rep eqb L i) _
-    (λ e r. subst (λ z. z < n) (sym r) h.0.1) (λ e r. subst (λ z. z < n) (sym r) (rep-below n L h.1 i l))
+rep_below n end h i l = l
+rep_below n (pair a b L) h i l =
+    swap_cases ℕ eqb eqb-true eqb-false a b (rep eqb L i) _
+    (λ e r. subst (λ z. z < n) (sym r) h.0.1) (λ e r. subst (λ z. z < n) (sym r) (rep_below n L h.1 i l))
 
-next-c : (n : ℕ) (a b : ℕ) (L : Pairs ℕ) → b < n → (i j : ℕ) → (next eqb L i ≡ some j → j < n) → (c : Bool) →
+next_c : (n : ℕ) (a b : ℕ) (L : Pairs ℕ) → b < n → (i j : ℕ) → (next eqb L i ≡ some j → j < n) → (c : Bool) →
     (elim c as (λ x. Option ℕ) [ true ↦ some b | false ↦ next eqb L i ]) ≡ some j → j < n
-next-c n a b L l i j ih true e = let q : b ≡ j = cc in omega arith
-next-c n a b L l i j ih false e = ih e
+next_c n a b L l i j ih true e = let q : b ≡ j = cc in omega arith
+next_c n a b L l i j ih false e = ih e
 
-pub next-below : (n : ℕ) (L : Pairs ℕ) → AllP (Both n) L → (i j : ℕ) → next eqb L i ≡ some j → j < n
+pub next_below : (n : ℕ) (L : Pairs ℕ) → AllP (Both n) L → (i j : ℕ) → next eqb L i ≡ some j → j < n
 unfolding next
-next-below n end h i j e = let z : ◌≡◌ {A = ℕ} 0 1 = cc in absurd (omega arith)
-next-below n (pair a b L) h i j e = next-c n a b L h.0.1 i j (next-below n L h.1 i j) (eqb i a) e
+next_below n end h i j e = let z : ◌≡◌ {A = ℕ} 0 1 = cc in absurd (omega arith)
+next_below n (pair a b L) h i j e = next_c n a b L h.0.1 i j (next_below n L h.1 i j) (eqb i a) e
 
 -- There are fewer links than cells.
 abbrev count : Pairs ℕ → ℕ
@@ -50,24 +50,24 @@ abbrev pub upto : ℕ → List ℕ
 upto zero = []
 upto (suc n) = n ∷ upto n
 
-pub upto-in : (n i : ℕ) → i < n → In i (upto n)
-upto-in zero i l = absurd (omega arith)
-upto-in (suc n) i l = ⊎_elim (λ e. inl e) (λ m. inr (upto-in n i m)) (eq-or-lt_of_le (omega arith))
+pub upto_in : (n i : ℕ) → i < n → In i (upto n)
+upto_in zero i l = absurd (omega arith)
+upto_in (suc n) i l = ⊎_elim (λ e. inl e) (λ m. inr (upto_in n i m)) (eq-or-lt_of_le (omega arith))
 
-pub upto-len : (n : ℕ) → length (upto n) ≡ n
-upto-len zero = refl
-upto-len (suc n) = ap suc (upto-len n)
+pub upto_len : (n : ℕ) → length (upto n) ≡ n
+upto_len zero = refl
+upto_len (suc n) = ap suc (upto_len n)
 
-abbrev rootsN : Pairs ℕ → List ℕ → ℕ
-rootsN = roots ℕ eqb eqb-true eqb-false (λ i. unk) end
+abbrev roots_n : Pairs ℕ → List ℕ → ℕ
+roots_n = roots ℕ eqb eqb-true eqb-false (λ i. unk) end
 
-few-links : (n : ℕ) (L : Pairs ℕ) → WfN L → AllP (Both n) L → count L + rootsN L (upto n) ≤ n
-few-links n end w h = omega (arith, roots-len ℕ eqb eqb-true eqb-false (λ i. unk) end (upto n), upto-len n)
-few-links n (pair a b L) w h =
+few_links : (n : ℕ) (L : Pairs ℕ) → WfN L → AllP (Both n) L → count L + roots_n L (upto n) ≤ n
+few_links n end w h = omega (arith, roots_len ℕ eqb eqb-true eqb-false (λ i. unk) end (upto n), upto_len n)
+few_links n (pair a b L) w h =
     omega (
       arith,
-      few-links n L w.3 h.1,
-      roots_less ℕ eqb eqb-true eqb-false (λ i. unk) end L a b w.0 w.1 w.2 (upto n) (upto-in n a h.0.0),
+      few_links n L w.3 h.1,
+      roots_less ℕ eqb eqb-true eqb-false (λ i. unk) end L a b w.0 w.1 w.2 (upto n) (upto_in n a h.0.0),
     )
 
 bit_le : (c : Bool) → bit c ≤ 1
@@ -75,87 +75,87 @@ unfolding bit
 bit_le true = omega arith
 bit_le false = omega arith
 
-few-hops : (L : Pairs ℕ) (i : ℕ) → hops eqb L i ≤ count L
+few_hops : (L : Pairs ℕ) (i : ℕ) → hops eqb L i ≤ count L
 unfolding hops
-few-hops end i = omega arith
-few-hops (pair a b L) i = omega (arith, few-hops L i, bit_le (eqb (rep eqb L i) a))
+few_hops end i = omega arith
+few_hops (pair a b L) i = omega (arith, few_hops L i, bit_le (eqb (rep eqb L i) a))
 
 -- The way to the representative, in words.
-abbrev farOf : ℕ → (ℕ → ℕ) → ℕ
-farOf zero g = 0
-farOf (suc j) g = suc (g j)
+abbrev far_of : ℕ → (ℕ → ℕ) → ℕ
+far_of zero g = 0
+far_of (suc j) g = suc (g j)
 
 unfoldable pub far : List ℕ → ℕ → ℕ → ℕ
 far s zero k = 0
-far s (suc f) k = farOf (linkAt s k) (λ j. far s f j)
+far s (suc f) k = far_of (link_at s k) (λ j. far s f j)
 
-far-le-c : (f : ℕ) (g : ℕ → ℕ) → ((j : ℕ) → g j ≤ f) → (v : ℕ) → farOf v g ≤ suc f
-far-le-c f g h zero = omega arith
-far-le-c f g h (suc j) = let z = h j in omega arith
+far_le_c : (f : ℕ) (g : ℕ → ℕ) → ((j : ℕ) → g j ≤ f) → (v : ℕ) → far_of v g ≤ suc f
+far_le_c f g h zero = omega arith
+far_le_c f g h (suc j) = let z = h j in omega arith
 
-pub far-le : (s : List ℕ) (f k : ℕ) → far s f k ≤ f
+pub far_le : (s : List ℕ) (f k : ℕ) → far s f k ≤ f
 unfolding far
-far-le s zero k = omega arith
-far-le s (suc f) k = far-le-c f (λ j. far s f j) (λ j. far-le s f j) (linkAt s k)
+far_le s zero k = omega arith
+far_le s (suc f) k = far_le_c f (λ j. far s f j) (λ j. far_le s f j) (link_at s k)
 
 module _ (s : List ℕ) (n : ℕ) (L : Pairs ℕ) (H : Held s n L) where
-  linked : (k j : ℕ) → k < n → linkAt s k ≡ suc j → next eqb L k ≡ some j
+  linked : (k j : ℕ) → k < n → link_at s k ≡ suc j → next eqb L k ≡ some j
   unfolding link_of
   linked k j l e = H.links k l ∙ ap link_of e
 
-  pub hop-below : (k j : ℕ) → k < n → linkAt s k ≡ suc j → j < n
-  hop-below k j l e = next-below n L H.inside k j (linked k j l e)
+  pub hop_below : (k j : ℕ) → k < n → link_at s k ≡ suc j → j < n
+  hop_below k j l e = next_below n L H.inside k j (linked k j l e)
 
-  pub hop-rep : (k j : ℕ) → k < n → linkAt s k ≡ suc j → rep eqb L j ≡ rep eqb L k
-  hop-rep k j l e = (next-some ℕ eqb eqb-true eqb-false L H.wf k j (linked k j l e)).0
+  pub hop_rep : (k j : ℕ) → k < n → link_at s k ≡ suc j → rep eqb L j ≡ rep eqb L k
+  hop_rep k j l e = (next_some ℕ eqb eqb-true eqb-false L H.wf k j (linked k j l e)).0
 
-  hop-less : (k j : ℕ) → k < n → linkAt s k ≡ suc j → hops eqb L j < hops eqb L k
-  hop-less k j l e = (next-some ℕ eqb eqb-true eqb-false L H.wf k j (linked k j l e)).1
+  hop_less : (k j : ℕ) → k < n → link_at s k ≡ suc j → hops eqb L j < hops eqb L k
+  hop_less k j l e = (next_some ℕ eqb eqb-true eqb-false L H.wf k j (linked k j l e)).1
 
-  pub stop-rep : (k : ℕ) → k < n → linkAt s k ≡ 0 → rep eqb L k ≡ k
+  pub stop_rep : (k : ℕ) → k < n → link_at s k ≡ 0 → rep eqb L k ≡ k
   unfolding link_of
-  stop-rep k l e = next-none ℕ eqb eqb-true eqb-false L k (H.links k l ∙ ap link_of e)
+  stop_rep k l e = next_none ℕ eqb eqb-true eqb-false L k (H.links k l ∙ ap link_of e)
 
-  far-c : (f k : ℕ) → k < n → hops eqb L k ≤ suc f → ((j : ℕ) → j < n → hops eqb L j ≤ f → far s (suc f) j ≡ far s f j) → (v : ℕ) → linkAt s k ≡ v →
-      farOf v (λ j. far s (suc f) j) ≡ farOf v (λ j. far s f j)
-  far-c f k l h ih zero e = refl
-  far-c f k l h ih (suc j) e = ap suc (ih j (hop-below k j l e) (let q = hop-less k j l e in omega arith))
+  far_c : (f k : ℕ) → k < n → hops eqb L k ≤ suc f → ((j : ℕ) → j < n → hops eqb L j ≤ f → far s (suc f) j ≡ far s f j) → (v : ℕ) → link_at s k ≡ v →
+      far_of v (λ j. far s (suc f) j) ≡ far_of v (λ j. far s f j)
+  far_c f k l h ih zero e = refl
+  far_c f k l h ih (suc j) e = ap suc (ih j (hop_below k j l e) (let q = hop_less k j l e in omega arith))
 
-  far-0 : (k : ℕ) → k < n → hops eqb L k ≤ 0 → (v : ℕ) → linkAt s k ≡ v → farOf v (λ j. far s zero j) ≡ 0
-  far-0 k l h zero e = refl
-  far-0 k l h (suc j) e = absurd (omega (arith, hop-less k j l e))
+  far_0 : (k : ℕ) → k < n → hops eqb L k ≤ 0 → (v : ℕ) → link_at s k ≡ v → far_of v (λ j. far s zero j) ≡ 0
+  far_0 k l h zero e = refl
+  far_0 k l h (suc j) e = absurd (omega (arith, hop_less k j l e))
 
-  far-more : (f k : ℕ) → k < n → hops eqb L k ≤ f → far s (suc f) k ≡ far s f k
+  far_more : (f k : ℕ) → k < n → hops eqb L k ≤ f → far s (suc f) k ≡ far s f k
   unfolding far
-  far-more zero k l h = far-0 k l h (linkAt s k) refl
-  far-more (suc f) k l h = far-c f k l h (λ j m q. far-more f j m q) (linkAt s k) refl
+  far_more zero k l h = far_0 k l h (link_at s k) refl
+  far_more (suc f) k l h = far_c f k l h (λ j m q. far_more f j m q) (link_at s k) refl
 
-  short : (k : ℕ) → k < n → hops eqb L k ≤ maxCells
-  short k l = omega (arith, few-hops L k, few-links n L H.wf H.inside, H.few)
+  short : (k : ℕ) → k < n → hops eqb L k ≤ max_cells
+  short k l = omega (arith, few_hops L k, few_links n L H.wf H.inside, H.few)
 
-  pub far-less : (k j : ℕ) → k < n → linkAt s k ≡ suc j → far s (1 + maxCells) j < far s (1 + maxCells) k
+  pub far_less : (k j : ℕ) → k < n → link_at s k ≡ suc j → far s (1 + max_cells) j < far s (1 + max_cells) k
   unfolding far
-  far-less k j l e =
-      let m = hop-below k j l e in
-      omega (arith, far-more maxCells j m (short j m), ap (λ v. farOf v (λ i. far s maxCells i)) e)
+  far_less k j l e =
+      let m = hop_below k j l e in
+      omega (arith, far_more max_cells j m (short j m), ap (λ v. far_of v (λ i. far s max_cells i)) e)
 
-pub known-root : (s : List ℕ) (i r : ℕ) → Known s i → Root s i r → Known s r
-known-root s i r k q = record { n = k.n; L = k.L; held = k.held; made = subst (λ z. z < k.n) (q.is k.n k.L k.held k.made) (rep-below k.n k.L k.held.inside i k.made) }
+pub known_root : (s : List ℕ) (i r : ℕ) → Known s i → Root s i r → Known s r
+known_root s i r k q = record { n = k.n; L = k.L; held = k.held; made = subst (λ z. z < k.n) (q.is k.n k.L k.held k.made) (rep_below k.n k.L k.held.inside i k.made) }
 
-pub few-cell : (s : List ℕ) (i : ℕ) → Known s i → i < maxCells
-few-cell s i k = let f = k.held.few in let l = k.made in omega arith
+pub few_cell : (s : List ℕ) (i : ℕ) → Known s i → i < max_cells
+few_cell s i k = let f = k.held.few in let l = k.made in omega arith
 
 -- What is kept where links and the frozen part are.
-pub held_same : (s s' : List ℕ) → frozen s' ≡ frozen s → (n : ℕ) (L : Pairs ℕ) → length s' ≡ length s → ((i : ℕ) → i < maxCells → linkAt s' i ≡ linkAt s i) → Held s n L → Held s' n L
+pub held_same : (s s' : List ℕ) → frozen s' ≡ frozen s → (n : ℕ) (L : Pairs ℕ) → length s' ≡ length s → ((i : ℕ) → i < max_cells → link_at s' i ≡ link_at s i) → Held s n L → Held s' n L
 held_same s s' e n L l h H = record {
   size = l ∙ H.size;
   few = H.few;
-  room = subst (λ w. load w n < maxPending) (sym e) H.room;
+  room = subst (λ w. load w n < max_pending) (sym e) H.room;
   cells = λ i m. subst (λ w. Cell w i) (sym e) (H.cells i m);
   links = λ i m. H.links i m ∙ ap link_of (sym (h i (let f = H.few in omega arith)));
   wf = H.wf;
   inside = H.inside;
 }
 
-pub add-suc : (y : ℕ) → y + 1 ≡ suc y
-add-suc y = omega arith
+pub add_suc : (y : ℕ) → y + 1 ≡ suc y
+add_suc y = omega arith

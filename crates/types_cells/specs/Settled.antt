@@ -1,21 +1,21 @@
--- Settled cells: an unknown cell whose link word refers to type words. The words stand in the caller's part of the area (places below dictionaryAt) or in the
--- dictionary d (place dictionaryAt + k is word k of d).
+-- Settled cells: an unknown cell whose link word refers to type words. The words stand in the caller's part of the area (places below dictionary_at) or in the
+-- dictionary d (place dictionary_at + k is word k of d).
 use Rattle.std.specs.Prelude.{◌≡◌, Bool, true, false, List, [], ◌∷◌, ◌++◌, map, ℕ, zero, suc, ◌+◌, ◌-◌, ◌≤◌, ◌<◌, ◌^◌, eqb, length, get_or, take, drop}
 use Rattle.types_rules.specs.Former.{Former}
 use Rattle.types_rules.specs.Trees.{Extent, finite, Tree, build, whole}
 use Rattle.types_rules.specs.Types.{Ty}
 use Rattle.types_rules.specs.Formed.{WellFormed}
 use Rattle.std.proofs.Math.Option.{Option, some, none}
-use Rattle.types_rules.specs.Component.{componentType}
+use Rattle.types_rules.specs.Component.{component_type}
 use Rattle.types_rules.specs.Words.{words}
 use Rattle.types_rules.specs.Equations.{Pairs, Solves}
 use Rattle.types_rules.specs.Follows.{View, shape, unk}
-use Rattle.types_cells.specs.Layout.{poolSize, linksAt, marksAt, settledFrom, firstRun, areaSize}
-use Rattle.types_cells.specs.Store.{frozen, linkAt, tag_at, view, load, Held, Solved}
+use Rattle.types_cells.specs.Layout.{pool_size, links_at, marks_at, settled_from, first_run, area_size}
+use Rattle.types_cells.specs.Store.{frozen, link_at, tag_at, view, load, Held, Solved}
 use Rattle.types_cells.specs.Calls.{Above, Tells, Making}
 
 unfoldable pub lower : List ℕ → List ℕ
-lower s = take poolSize s
+lower s = take pool_size s
 
 unfoldable pub heap : List ℕ → List ℕ → List ℕ
 heap s d = lower s ++ d
@@ -24,7 +24,7 @@ heap s d = lower s ++ d
 pub record Reads (H : List ℕ) (p : ℕ) (g : Ty) : Type 0 where
   pub formed : WellFormed g
   pub after : List ℕ
-  pub words-at : drop p H ≡ words g ++ after
+  pub words_at : drop p H ≡ words g ++ after
 
 pub record Readable (H : List ℕ) (p : ℕ) : Type 0 where
   pub type : Ty
@@ -32,7 +32,7 @@ pub record Readable (H : List ℕ) (p : ℕ) : Type 0 where
 
 -- What a function that reads type words asks of the two areas.
 pub record Areas (s d : List ℕ) : Type 0 where
-  pub size : length s ≡ areaSize
+  pub size : length s ≡ area_size
   pub few : length d < 2 ^ 32
 
 pub record Reading (s d : List ℕ) (p : ℕ) : Type 0 where
@@ -40,15 +40,15 @@ pub record Reading (s d : List ℕ) (p : ℕ) : Type 0 where
   pub readable : Readable (heap s d) p
 
 -- By the tag: the words before the parts, the words of a part's name.
-unfoldable pub leadWords : ℕ → ℕ
-leadWords zero = 2
-leadWords (suc zero) = 1
-leadWords (suc (suc zero)) = 2
-leadWords (suc (suc (suc zero))) = 1
-leadWords (suc (suc (suc (suc t)))) = 2
+unfoldable pub lead_words : ℕ → ℕ
+lead_words zero = 2
+lead_words (suc zero) = 1
+lead_words (suc (suc zero)) = 2
+lead_words (suc (suc (suc zero))) = 1
+lead_words (suc (suc (suc (suc t)))) = 2
 
-unfoldable pub nameWords : ℕ → ℕ
-nameWords t = elim (eqb t 5) [ true ↦ 1 | false ↦ 0 ]
+unfoldable pub name_words : ℕ → ℕ
+name_words t = elim (eqb t 5) [ true ↦ 1 | false ↦ 0 ]
 
 -- The number of parts, by the tag and the word after it.
 unfoldable pub parts_of : ℕ → ℕ → ℕ
@@ -66,16 +66,16 @@ pub record Ends (s d : List ℕ) (p e : ℕ) : Type 0 where
 
 -- The link word of cell i.
 unfoldable pub word_at : List ℕ → ℕ → ℕ
-word_at s i = get_or s (linksAt + i) 0
+word_at s i = get_or s (links_at + i) 0
 
 -- Settled cells are unknowns, and refer to type words.
 pub record Pinned (s d : List ℕ) (n : ℕ) : Type 0 where
-  pub reads : (i : ℕ) → i < n → settledFrom ≤ word_at s i → Readable (heap s d) (word_at s i - settledFrom)
-  pub bare : (i : ℕ) → i < n → settledFrom ≤ word_at s i → tag_at (frozen s) i ≡ 0
+  pub reads : (i : ℕ) → i < n → settled_from ≤ word_at s i → Readable (heap s d) (word_at s i - settled_from)
+  pub bare : (i : ℕ) → i < n → settled_from ≤ word_at s i → tag_at (frozen s) i ≡ 0
 
 -- σ gives each settled cell the type that it refers to. Here and below ε says whether σ gives types, or possibly infinite types (types_rules, specs/Trees).
 abbrev pub ObeysIn : (ε : Extent) → List ℕ → List ℕ → ℕ → (ℕ → Tree ε) → Type 0
-ObeysIn ε s d n σ = (i : ℕ) → i < n → settledFrom ≤ word_at s i → (g : Ty) → Reads (heap s d) (word_at s i - settledFrom) g → σ i ≡ whole ε g
+ObeysIn ε s d n σ = (i : ℕ) → i < n → settled_from ≤ word_at s i → (g : Ty) → Reads (heap s d) (word_at s i - settled_from) g → σ i ≡ whole ε g
 
 abbrev pub Obeys : List ℕ → List ℕ → ℕ → (ℕ → Ty) → Type 0
 Obeys s d n σ = ObeysIn finite s d n σ
@@ -101,8 +101,8 @@ pub record Kept (s s' : List ℕ) : Type 0 where
   pub size : length s' ≡ length s
   pub low : lower s' ≡ lower s
   pub still : frozen s' ≡ frozen s
-  pub links : (i : ℕ) → linkAt s' i ≡ linkAt s i
-  pub rest : (i : ℕ) → marksAt ≤ i → get_or s' i 0 ≡ get_or s i 0
+  pub links : (i : ℕ) → link_at s' i ≡ link_at s i
+  pub rest : (i : ℕ) → marks_at ≤ i → get_or s' i 0 ≡ get_or s i 0
 
 -- What `pin` asks: a store with settled cells, and the place of a type.
 pub record Pinning (s d : List ℕ) (c p : ℕ) : Type 0 where
@@ -132,12 +132,12 @@ pub record Pin (s s' d : List ℕ) (c p : ℕ) (fine : Bool) : Type 0 where
 -- The same for an unknown that is its own representative.
 pub record Settling (s d : List ℕ) (r p : ℕ) : Type 0 where
   pub pinning : Pinning s d r p
-  pub open-cell : tag_at (frozen s) r ≡ 0
-  pub root : linkAt s r ≡ 0
+  pub open_cell : tag_at (frozen s) r ≡ 0
+  pub root : link_at s r ≡ 0
 
 -- A settled type may enter as cell n.
 pub record Entering (s d : List ℕ) (n p : ℕ) : Type 0 where
-  pub making : Making s n 0 0 firstRun 0
+  pub making : Making s n 0 0 first_run 0
   pub pinned : Pinned s d n
   pub few : length d < 2 ^ 31
   pub readable : Readable (heap s d) p
@@ -163,5 +163,5 @@ pub record FoundType (H : List ℕ) (r : ℕ) (o : Option Ty) : Type 0 where
 
 -- The component id of the type at p: r is the place of its type, and 0 where there is none (the place 0 is never the type of a component).
 pub record Component (s d : List ℕ) (p id r : ℕ) : Type 0 where
-  pub none : r ≡ 0 → (g : Ty) → Reads (heap s d) p g → componentType id g ≡ none
-  pub some : (r ≡ 0 → ⊥) → (g : Ty) → Reads (heap s d) p g → FoundType (heap s d) r (componentType id g)
+  pub none : r ≡ 0 → (g : Ty) → Reads (heap s d) p g → component_type id g ≡ none
+  pub some : (r ≡ 0 → ⊥) → (g : Ty) → Reads (heap s d) p g → FoundType (heap s d) r (component_type id g)

@@ -1,6 +1,6 @@
 // New cells, and new words in their runs.
 ghost use Rattle.std.specs.Prelude.{◌≡◌, ◌<◌};
-ghost use Rattle.types_cells.specs.Layout.{maxCells, firstRun};
+ghost use Rattle.types_cells.specs.Layout.{max_cells, first_run};
 ghost use Rattle.types_cells.specs.Settled.{Entering, Entered};
 ghost use Rattle.types_cells.specs.Calls.{put, Making, Made, Adding, Added};
 
@@ -13,7 +13,7 @@ const FIRST_RUN: u32 = crate::area::FIRST_RUN as u32;
 
 // Writes cell n.
 fn put_cell(a: &mut [u32], n: usize, tag: u32, arg: u32, first: u32, count: u32)
-    requires { n < maxCells }
+    requires { n < max_cells }
     ensures { a.new ≡ put a.old n tag arg first count }
 {
     store(a, LINKS + n, 0);
@@ -34,8 +34,8 @@ pub fn new_cell(a: &mut [u32], n: usize, tag: u32, arg: u32, first: u32, count: 
 
 // A new unknown, cell number n.
 pub fn new_unknown(a: &mut [u32], n: usize)
-    requires { Making a.old n 0 0 firstRun 0 }
-    ensures { Made a.old a.new n 0 0 firstRun 0 }
+    requires { Making a.old n 0 0 first_run 0 }
+    ensures { Made a.old a.new n 0 0 first_run 0 }
 {
     new_cell(a, n, UNKNOWN, 0, FIRST_RUN, 0);
 }

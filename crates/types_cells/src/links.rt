@@ -1,7 +1,7 @@
 // Links between cells, and representatives.
 ghost use Rattle.std.specs.Prelude.{◌≡◌, suc, ◌+◌, ◌<◌, ◌^◌, set};
-ghost use Rattle.types_cells.specs.Layout.{maxCells, linksAt, settledFrom};
-ghost use Rattle.types_cells.specs.Store.{linkAt};
+ghost use Rattle.types_cells.specs.Layout.{max_cells, links_at, settled_from};
+ghost use Rattle.types_cells.specs.Store.{link_at};
 ghost use Rattle.types_cells.specs.Flat.{Sound, Straight, Flattened};
 ghost use Rattle.types_cells.specs.Calls.{Known, Root};
 
@@ -11,7 +11,7 @@ use words::{store, word};
 // The link of cell k: 0 where it is a representative.
 pub fn link(a: &[u32], k: usize) -> usize
     requires { k < 2 ^ 32 }
-    ensures { (result ≡ linkAt a.now k) × (result < settledFrom) }
+    ensures { (result ≡ link_at a.now k) × (result < settled_from) }
 {
     let v = word(a, LINKS + k);
     if v < SETTLED {
@@ -22,8 +22,8 @@ pub fn link(a: &[u32], k: usize) -> usize
 
 // Links cell x to y.
 pub fn set_link(a: &mut [u32], x: usize, y: usize)
-    requires { (x < maxCells) × (y < maxCells) }
-    ensures { a.new ≡ set a.old (linksAt + x) (suc y) }
+    requires { (x < max_cells) × (y < max_cells) }
+    ensures { a.new ≡ set a.old (links_at + x) (suc y) }
 {
     store(a, LINKS + x, (y + 1) as u32);
 }

@@ -1,7 +1,7 @@
 // Type words that cells refer to.
 ghost use Rattle.std.specs.Prelude.{◌≡◌, ◌+◌, ◌<◌, ◌≤◌, ◌^◌, length, get_or};
-ghost use Rattle.types_cells.specs.Layout.{areaSize};
-ghost use Rattle.types_cells.specs.Settled.{heap, leadWords, nameWords, parts_of, Reading, Ends, Readings, SameType};
+ghost use Rattle.types_cells.specs.Layout.{area_size};
+ghost use Rattle.types_cells.specs.Settled.{heap, lead_words, name_words, parts_of, Reading, Ends, Readings, SameType};
 
 use crate::area::{DICTIONARY, POOL};
 use codes::type_tags;
@@ -9,7 +9,7 @@ use words::word;
 
 // The type word at the place p: in the caller's part of the area, or in the dictionary.
 pub fn type_word(a: &[u32], d: &[u32], p: usize) -> usize
-    requires { length a.now ≡ areaSize }
+    requires { length a.now ≡ area_size }
     ensures { (result ≡ get_or (heap a.now d.now) p 0) × (result < 2 ^ 32) }
 {
     if p < POOL {
@@ -20,7 +20,7 @@ pub fn type_word(a: &[u32], d: &[u32], p: usize) -> usize
 
 // The words of a type before its parts, by its tag.
 pub fn lead_words(t: usize) -> usize
-    ensures { (result ≡ leadWords t) × (result ≤ 2) × (0 < result) }
+    ensures { (result ≡ lead_words t) × (result ≤ 2) × (0 < result) }
 {
     if t == type_tags::INTEGERS {
         return 1;
@@ -33,7 +33,7 @@ pub fn lead_words(t: usize) -> usize
 
 // The words of a part's name, by the tag.
 pub fn name_words(t: usize) -> usize
-    ensures { (result ≡ nameWords t) × (result ≤ 1) }
+    ensures { (result ≡ name_words t) × (result ≤ 1) }
 {
     if t == type_tags::BINDING {
         return 1;
@@ -43,7 +43,7 @@ pub fn name_words(t: usize) -> usize
 
 // The number of parts of the type at p, whose tag is t.
 pub fn parts_of(a: &[u32], d: &[u32], t: usize, p: usize) -> usize
-    requires { (length a.now ≡ areaSize) × (p < 2 ^ 40) }
+    requires { (length a.now ≡ area_size) × (p < 2 ^ 40) }
     ensures { (result ≡ parts_of t (get_or (heap a.now d.now) (p + 1) 0)) × (result < 2 ^ 32) }
 {
     if t == type_tags::POWER {

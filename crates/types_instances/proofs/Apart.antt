@@ -8,8 +8,8 @@ use native.Mathlib.Omega.{arith}
 use lib.ListN.{length, get_or}
 use Rattle.types_rules.specs.Former.{Former, int, given, parameter, power, product, binding, tag, identifiers}
 use Rattle.types_rules.specs.Types.{Ty, Tys, node, tnil, tcons}
-use Rattle.types_rules.specs.Formed.{partCountType, FormedType, FormedTypes, Ascending, Arity, WellFormed}
-use Rattle.types_rules.specs.Words.{second, words, partWords}
+use Rattle.types_rules.specs.Formed.{part_count_type, FormedType, FormedTypes, Ascending, Arity, WellFormed}
+use Rattle.types_rules.specs.Words.{second, words, part_words}
 
 -- No two zeros in a row.
 abbrev pub Apart : List ℕ → Type 0
@@ -26,93 +26,93 @@ apart_cons : (x : ℕ) (l : List ℕ) → Begins l → Apart l → Apart (x ∷ 
 apart_cons x [] b a = tt
 apart_cons x (y ∷ l) b a = (inr b, a)
 
-apart-lead : (x : ℕ) (l : List ℕ) → 0 < x → Apart l → Apart (x ∷ l)
-apart-lead x [] b a = tt
-apart-lead x (y ∷ l) b a = (inl b, a)
+apart_lead : (x : ℕ) (l : List ℕ) → 0 < x → Apart l → Apart (x ∷ l)
+apart_lead x [] b a = tt
+apart_lead x (y ∷ l) b a = (inl b, a)
 
-apart-append : (l m : List ℕ) → Apart l → Begins m → Apart m → Apart (l ++ m)
-apart-append [] m a b c = c
-apart-append (x ∷ []) m a b c = apart_cons x m b c
-apart-append (x ∷ (y ∷ l)) m a b c = (a.0, apart-append (y ∷ l) m a.1 b c)
+apart_append : (l m : List ℕ) → Apart l → Begins m → Apart m → Apart (l ++ m)
+apart_append [] m a b c = c
+apart_append (x ∷ []) m a b c = apart_cons x m b c
+apart_append (x ∷ (y ∷ l)) m a b c = (a.0, apart_append (y ∷ l) m a.1 b c)
 
-tag-some : (h : Former) → 0 < tag h
+tag_some : (h : Former) → 0 < tag h
 unfolding tag
-tag-some int = omega arith
-tag-some (given g) = omega arith
-tag-some (parameter i) = omega arith
-tag-some power = omega arith
-tag-some product = omega arith
-tag-some (binding l) = omega arith
+tag_some int = omega arith
+tag_some (given g) = omega arith
+tag_some (parameter i) = omega arith
+tag_some power = omega arith
+tag_some product = omega arith
+tag_some (binding l) = omega arith
 
-words-begin : (g : Ty) (m : List ℕ) → Begins (words g ++ m)
+words_begin : (g : Ty) (m : List ℕ) → Begins (words g ++ m)
 unfolding words
-words-begin (node h gs) m = tag-some h
+words_begin (node h gs) m = tag_some h
 
 -- Parts begin with a tag, or with an identifier that is greater than another.
-parts-begin : (gs : Tys) → Begins (partWords [] gs)
+parts_begin : (gs : Tys) → Begins (part_words [] gs)
 unfolding words
-parts-begin tnil = tt
-parts-begin (tcons g gs) = words-begin g (partWords [] gs)
+parts_begin tnil = tt
+parts_begin (tcons g gs) = words_begin g (part_words [] gs)
 
-rest-begins : (i : ℕ) (l : List ℕ) (gs : Tys) → Ascending (i ∷ l) → Begins (partWords l gs)
+rest_begins : (i : ℕ) (l : List ℕ) (gs : Tys) → Ascending (i ∷ l) → Begins (part_words l gs)
 unfolding words
-rest-begins i [] gs u = parts-begin gs
-rest-begins i (j ∷ l) tnil u = tt
-rest-begins i (j ∷ l) (tcons g gs) u = let z = u.0 in omega arith
+rest_begins i [] gs u = parts_begin gs
+rest_begins i (j ∷ l) tnil u = tt
+rest_begins i (j ∷ l) (tcons g gs) u = let z = u.0 in omega arith
 
-ascending-rest : (i : ℕ) (l : List ℕ) → Ascending (i ∷ l) → Ascending l
-ascending-rest i [] u = tt
-ascending-rest i (j ∷ l) u = u.1
+ascending_rest : (i : ℕ) (l : List ℕ) → Ascending (i ∷ l) → Ascending l
+ascending_rest i [] u = tt
+ascending_rest i (j ∷ l) u = u.1
 
-named-apart : (l : List ℕ) (gs : Tys) → Apart (partWords l gs) → Apart (partCountType gs ∷ partWords l gs)
+named_apart : (l : List ℕ) (gs : Tys) → Apart (part_words l gs) → Apart (part_count_type gs ∷ part_words l gs)
 unfolding words
-named-apart l tnil a = tt
-named-apart l (tcons g gs) a = apart-lead (partCountType (tcons g gs)) (partWords l (tcons g gs)) (omega arith) a
+named_apart l tnil a = tt
+named_apart l (tcons g gs) a = apart_lead (part_count_type (tcons g gs)) (part_words l (tcons g gs)) (omega arith) a
 
-lead-apart : (h : Former) (gs : Tys) → Apart (partWords (identifiers h) gs) → Apart (second h (partCountType gs) ++ partWords (identifiers h) gs)
+lead_apart : (h : Former) (gs : Tys) → Apart (part_words (identifiers h) gs) → Apart (second h (part_count_type gs) ++ part_words (identifiers h) gs)
 unfolding second identifiers
-lead-apart int gs a = a
-lead-apart (given g) gs a = apart_cons g (partWords [] gs) (parts-begin gs) a
-lead-apart (parameter i) gs a = apart_cons i (partWords [] gs) (parts-begin gs) a
-lead-apart power gs a = a
-lead-apart product gs a = apart_cons (partCountType gs) (partWords [] gs) (parts-begin gs) a
-lead-apart (binding l) gs a = named-apart l gs a
+lead_apart int gs a = a
+lead_apart (given g) gs a = apart_cons g (part_words [] gs) (parts_begin gs) a
+lead_apart (parameter i) gs a = apart_cons i (part_words [] gs) (parts_begin gs) a
+lead_apart power gs a = a
+lead_apart product gs a = apart_cons (part_count_type gs) (part_words [] gs) (parts_begin gs) a
+lead_apart (binding l) gs a = named_apart l gs a
 
-former-ascending : (h : Former) (n : ℕ) → Arity h n → Ascending (identifiers h)
+former_ascending : (h : Former) (n : ℕ) → Arity h n → Ascending (identifiers h)
 unfolding Arity identifiers
-former-ascending int n a = tt
-former-ascending (given g) n a = tt
-former-ascending (parameter i) n a = tt
-former-ascending power n a = tt
-former-ascending product n a = tt
-former-ascending (binding l) n a = a.1
+former_ascending int n a = tt
+former_ascending (given g) n a = tt
+former_ascending (parameter i) n a = tt
+former_ascending power n a = tt
+former_ascending product n a = tt
+former_ascending (binding l) n a = a.1
 
 mutual
   unfolding words FormedType
 
-  pub words-apart : (g : Ty) → WellFormed g → Apart (words g)
-  words-apart (node h gs) w =
-      apart-lead (tag h) (second h (partCountType gs) ++ partWords (identifiers h) gs) (tag-some h)
-      (lead-apart h gs (parts-apart gs (identifiers h) w.1 (former-ascending h (partCountType gs) w.0)))
+  pub words_apart : (g : Ty) → WellFormed g → Apart (words g)
+  words_apart (node h gs) w =
+      apart_lead (tag h) (second h (part_count_type gs) ++ part_words (identifiers h) gs) (tag_some h)
+      (lead_apart h gs (parts_apart gs (identifiers h) w.1 (former_ascending h (part_count_type gs) w.0)))
 
-  parts-apart : (gs : Tys) (l : List ℕ) → FormedTypes Arity gs → Ascending l → Apart (partWords l gs)
-  parts-apart tnil l w u = tt
-  parts-apart (tcons g gs) [] w u = apart-append (words g) (partWords [] gs) (words-apart g w.0) (parts-begin gs) (parts-apart gs [] w.1 tt)
-  parts-apart (tcons g gs) (i ∷ l) w u =
-      apart_cons i (words g ++ partWords l gs) (words-begin g (partWords l gs))
-      (apart-append (words g) (partWords l gs) (words-apart g w.0) (rest-begins i l gs u) (parts-apart gs l w.1 (ascending-rest i l u)))
+  parts_apart : (gs : Tys) (l : List ℕ) → FormedTypes Arity gs → Ascending l → Apart (part_words l gs)
+  parts_apart tnil l w u = tt
+  parts_apart (tcons g gs) [] w u = apart_append (words g) (part_words [] gs) (words_apart g w.0) (parts_begin gs) (parts_apart gs [] w.1 tt)
+  parts_apart (tcons g gs) (i ∷ l) w u =
+      apart_cons i (words g ++ part_words l gs) (words_begin g (part_words l gs))
+      (apart_append (words g) (part_words l gs) (words_apart g w.0) (rest_begins i l gs u) (parts_apart gs l w.1 (ascending_rest i l u)))
 
 -- THE FIRST WORD OF A TYPE IS NOT 0.
 pub first_word : (g : Ty) → 0 < get_or (words g) 0 0
 unfolding words
-first_word (node h gs) = tag-some h
+first_word (node h gs) = tag_some h
 
-apart-at : (l : List ℕ) → Apart l → (j : ℕ) → suc j < length l → get_or l j 0 ≡ 0 → get_or l (suc j) 0 ≡ 0 → ⊥
-apart-at [] a j r e f = omega arith
-apart-at (x ∷ []) a j r e f = omega arith
-apart-at (x ∷ (y ∷ l)) a zero r e f = ⊎_elim (λ z. omega arith) (λ z. omega arith) a.0
-apart-at (x ∷ (y ∷ l)) a (suc j) r e f = apart-at (y ∷ l) a.1 j (omega arith) e f
+apart_at : (l : List ℕ) → Apart l → (j : ℕ) → suc j < length l → get_or l j 0 ≡ 0 → get_or l (suc j) 0 ≡ 0 → ⊥
+apart_at [] a j r e f = omega arith
+apart_at (x ∷ []) a j r e f = omega arith
+apart_at (x ∷ (y ∷ l)) a zero r e f = ⊎_elim (λ z. omega arith) (λ z. omega arith) a.0
+apart_at (x ∷ (y ∷ l)) a (suc j) r e f = apart_at (y ∷ l) a.1 j (omega arith) e f
 
 -- A WELL-FORMED TYPE'S WORDS HAVE NO TWO ZEROS IN A ROW.
-pub no-zeros : (g : Ty) → WellFormed g → (j : ℕ) → suc j < length (words g) → get_or (words g) j 0 ≡ 0 → get_or (words g) (suc j) 0 ≡ 0 → ⊥
-no-zeros g w = apart-at (words g) (words-apart g w)
+pub no_zeros : (g : Ty) → WellFormed g → (j : ℕ) → suc j < length (words g) → get_or (words g) j 0 ≡ 0 → get_or (words g) (suc j) 0 ≡ 0 → ⊥
+no_zeros g w = apart_at (words g) (words_apart g w)

@@ -5,27 +5,27 @@ use Rattle.std.proofs.Math.Option.{Option, some, none}
 use Rattle.types_rules.specs.Former.{Former, int, given, parameter, power, product, binding}
 use Rattle.types_rules.specs.Types.{Ty, Tys, node, tnil, tcons}
 
-unfoldable pub nthType : Tys → ℕ → Option Ty
-nthType tnil i = none
-nthType (tcons h hs) zero = none
-nthType (tcons h hs) (suc zero) = some h
-nthType (tcons h hs) (suc (suc i)) = nthType hs (suc i)
+unfoldable pub nth_type : Tys → ℕ → Option Ty
+nth_type tnil i = none
+nth_type (tcons h hs) zero = none
+nth_type (tcons h hs) (suc zero) = some h
+nth_type (tcons h hs) (suc (suc i)) = nth_type hs (suc i)
 
-unfoldable pub actualType : Option Ty → ℕ → Tys → Ty
-actualType (some h) i gs = h
-actualType none i gs = node (parameter i) gs
+unfoldable pub actual_type : Option Ty → ℕ → Tys → Ty
+actual_type (some h) i gs = h
+actual_type none i gs = node (parameter i) gs
 
-unfoldable pub fillFormer : Former → Tys → Tys → Ty
-fillFormer int hs gs = node int gs
-fillFormer (given g) hs gs = node (given g) gs
-fillFormer (parameter i) hs gs = actualType (nthType hs i) i gs
-fillFormer power hs gs = node power gs
-fillFormer product hs gs = node product gs
-fillFormer (binding l) hs gs = node (binding l) gs
+unfoldable pub fill_former : Former → Tys → Tys → Ty
+fill_former int hs gs = node int gs
+fill_former (given g) hs gs = node (given g) gs
+fill_former (parameter i) hs gs = actual_type (nth_type hs i) i gs
+fill_former power hs gs = node power gs
+fill_former product hs gs = node product gs
+fill_former (binding l) hs gs = node (binding l) gs
 
 unfoldable mutual
   pub fill : Tys → Ty → Ty
-  fill hs (node h gs) = fillFormer h hs (fills hs gs)
+  fill hs (node h gs) = fill_former h hs (fills hs gs)
 
   pub fills : Tys → Tys → Tys
   fills hs tnil = tnil

@@ -5,7 +5,7 @@ use Rattle.types_rules.specs.Words.{words}
 use Rattle.types_cells.specs.Settled.{heap, Reads, Areas}
 use Rattle.types_solver.specs.Sizes.{cap}
 use Rattle.types_solver.specs.Written.{Wrote}
-use Rattle.types_instances.specs.Fill.{nthType, actualType, fill}
+use Rattle.types_instances.specs.Fill.{nth_type, actual_type, fill}
 
 -- The words of the actuals' types hs stand at the places of the row, in order.
 abbrev pub Row : List ℕ → List ℕ → Tys → Type 0
@@ -29,7 +29,7 @@ pub record Actuals (s d row : List ℕ) : Type 0 where
 
 -- The size of what the parameter i becomes.
 pub record ActualSize (s d row : List ℕ) (i v : ℕ) : Type 0 where
-  pub is : (hs : Tys) → Row (heap s d) row hs → v ≡ cap (size (actualType (nthType hs i) i tnil))
+  pub is : (hs : Tys) → Row (heap s d) row hs → v ≡ cap (size (actual_type (nth_type hs i) i tnil))
   pub few : v ≤ 33
 
 -- A type stands at p, and a row of actuals.

@@ -1,7 +1,7 @@
 // Settled types and stores moved between areas: types with actuals for their parameters written out, words copied, a store saved and restored.
 ghost use Rattle.std.specs.Prelude.{◌≡◌, ℕ, ◌+◌, ◌*◌, ◌-◌, ◌<◌, ◌≤◌, ◌^◌, length, get_or, replicate};
 ghost use Rattle.std.proofs.lemmas.List.Edits.{sets};
-ghost use Rattle.types_cells.specs.Layout.{maxCells, firstRun, frozenSize, areaSize};
+ghost use Rattle.types_cells.specs.Layout.{max_cells, first_run, frozen_size, area_size};
 ghost use Rattle.types_cells.specs.Store.{run};
 ghost use Rattle.types_cells.specs.Settled.{heap, Ends};
 ghost use Rattle.types_solver.specs.Written.{Wrote};
@@ -82,7 +82,7 @@ pub fn filled_size(a: &[u32], d: &[u32], p: usize, row: &[u32]) -> Sized
 
 // The k type words at p, from `at` on: where they end.
 fn put_words(a: &[u32], d: &[u32], p: usize, k: usize, out: &mut [u32], at: usize) -> usize
-    requires { (length a.now ≡ areaSize) × (p + k ≤ length (heap a.now d.now)) × (p + k < 2 ^ 40) × (at + k < 2 ^ 41) }
+    requires { (length a.now ≡ area_size) × (p + k ≤ length (heap a.now d.now)) × (p + k < 2 ^ 40) × (at + k < 2 ^ 41) }
     ensures { Wrote out.old out.new at result (run (heap a.now d.now) p k) }
 {
     let mut j = 0;

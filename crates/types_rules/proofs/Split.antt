@@ -1,7 +1,7 @@
 -- Equations without a solution have different formers side by side or not, and `classify` says which.
 use mathlib.Core.Logic.{◌↔◌, inl, inr}
 use mathlib.Core.Path.{◌≡◌, refl, subst}
-use Rattle.types_rules.proofs.Classify.{classify-right}
+use Rattle.types_rules.proofs.Classify.{classify_right}
 use Rattle.types_rules.specs.Classify.{Right, Solvable, Verdict, clashing, classify, endless, solvable}
 use Rattle.types_rules.specs.Equations.{Pairs}
 use Rattle.types_rules.specs.Split.{Inside, Means, OneOf, SideBySide}
@@ -24,12 +24,12 @@ only P endless clashing r h = absurd (r.0 h)
 only P endless endless r h = refl
 
 -- `classify` answers exactly so: solvable, 33 and 39, each where the equations say it.
-pub classify-means : (P : Pairs Term) (v : Verdict) → (classify P ≡ v) ↔ Means v P
-classify-means P v = (λ e. says P v (subst (Right P) e (classify-right P)), λ h. only P (classify P) v (classify-right P) h)
+pub classify_means : (P : Pairs Term) (v : Verdict) → (classify P ≡ v) ↔ Means v P
+classify_means P v = (λ e. says P v (subst (Right P) e (classify_right P)), λ h. only P (classify P) v (classify_right P) h)
 
 -- Where there is no solution, exactly one of the two holds.
 pub split : (P : Pairs Term) → (Solvable P → ⊥) → OneOf (SideBySide P) (Inside P)
-split P none = go (classify P) (classify-right P)
+split P none = go (classify P) (classify_right P)
   where
     go : (v : Verdict) → Right P v → OneOf (SideBySide P) (Inside P)
     go solvable r = absurd (none r.0)

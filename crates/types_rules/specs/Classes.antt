@@ -5,11 +5,11 @@ use Rattle.types_rules.specs.Equations.{Pairs, Solves, end, pair}
 use Rattle.types_rules.specs.Follows.{View, shape, unk}
 use Rattle.types_rules.specs.Former.{Former}
 
-unfoldable pub zipN : {N : Type 0} → List N → List N → Pairs N → Option (Pairs N)
-zipN [] [] P = some P
-zipN [] (d ∷ ds) P = none
-zipN (c ∷ cs) [] P = none
-zipN (c ∷ cs) (d ∷ ds) P = zipN cs ds (pair c d P)
+unfoldable pub zip_n : {N : Type 0} → List N → List N → Pairs N → Option (Pairs N)
+zip_n [] [] P = some P
+zip_n [] (d ∷ ds) P = none
+zip_n (c ∷ cs) [] P = none
+zip_n (c ∷ cs) (d ∷ ds) P = zip_n cs ds (pair c d P)
 
 unfoldable pub swap : {N : Type 0} → (N → N → Bool) → N → N → N → N
 swap same a b m = elim (same m a) [ true ↦ b | false ↦ m ]

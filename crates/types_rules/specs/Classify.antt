@@ -1,11 +1,11 @@
 -- Solving over possibly infinite types, by classes of terms: tells a clash from a type inside itself (document 02, ask 10).
 use Rattle.std.specs.Prelude.{suc, zero, ℕ, eqb, length, Bool, false, true, List, [], ◌∷◌}
 use Rattle.std.proofs.Math.Option.{Option, none, some}
-use Rattle.types_rules.specs.Classes.{rep, zipN}
+use Rattle.types_rules.specs.Classes.{rep, zip_n}
 use Rattle.types_rules.specs.Equations.{Pairs, Solves, end, pair}
 use Rattle.types_rules.specs.Finite.{allb, bounded}
 use Rattle.types_rules.specs.Follows.{Clash, View, shape, unk}
-use Rattle.types_rules.specs.Former.{and, sameFormer}
+use Rattle.types_rules.specs.Former.{and, same_former}
 use Rattle.types_rules.specs.Types.{Term, Terms, Ty, con, cons, nil, under, unknown}
 
 pub data Out (N : Type 0) : Type 0 where
@@ -21,43 +21,43 @@ both false o f = apart
 unfoldable pub meet : {N : Type 0} → (Pairs N → Pairs N → Out N) → Pairs N → N → N → Pairs N → View N → View N → Out N
 meet nx L a b P unk w = nx (pair a b L) P
 meet nx L a b P (shape h cs) unk = nx (pair b a L) P
-meet nx L a b P (shape h cs) (shape k ds) = both (sameFormer h k) (zipN cs ds P) (λ P'. nx (pair a b L) P')
+meet nx L a b P (shape h cs) (shape k ds) = both (same_former h k) (zip_n cs ds P) (λ P'. nx (pair a b L) P')
 
 unfoldable pub turn : {N : Type 0} → Bool → (Unit {0} → Out N) → (Unit {0} → Out N) → Out N
 turn true f g = f tt
 turn false f g = g tt
 
-unfoldable pub mergeLevel : {N : Type 0} → (N → N → Bool) → (N → View N) → (Pairs N → Pairs N → Out N) → Pairs N → Pairs N → Out N
-mergeLevel same view nx L end = merged L
-mergeLevel same view nx L (pair a b P) =
-    turn (same (rep same L a) (rep same L b)) (λ u. mergeLevel same view nx L P)
+unfoldable pub merge_level : {N : Type 0} → (N → N → Bool) → (N → View N) → (Pairs N → Pairs N → Out N) → Pairs N → Pairs N → Out N
+merge_level same view nx L end = merged L
+merge_level same view nx L (pair a b P) =
+    turn (same (rep same L a) (rep same L b)) (λ u. merge_level same view nx L P)
     (λ u. meet nx L (rep same L a) (rep same L b) P (view (rep same L a)) (view (rep same L b)))
 
 -- k bounds the merges.
-unfoldable pub mergeLevels : {N : Type 0} → (N → N → Bool) → (N → View N) → ℕ → Pairs N → Pairs N → Out N
-mergeLevels same view zero L P = mergeLevel same view (λ L' P'. spent) L P
-mergeLevels same view (suc k) L P = mergeLevel same view (λ L' P'. mergeLevels same view k L' P') L P
+unfoldable pub merge_levels : {N : Type 0} → (N → N → Bool) → (N → View N) → ℕ → Pairs N → Pairs N → Out N
+merge_levels same view zero L P = merge_level same view (λ L' P'. spent) L P
+merge_levels same view (suc k) L P = merge_level same view (λ L' P'. merge_levels same view k L' P') L P
 
 unfoldable pub to_list : Terms → List Term
 to_list nil = []
 to_list (cons t ts) = t ∷ to_list ts
 
-unfoldable pub viewTerm : Term → View Term
-viewTerm (unknown x) = unk
-viewTerm (con h ts) = shape h (to_list ts)
+unfoldable pub view_term : Term → View Term
+view_term (unknown x) = unk
+view_term (con h ts) = shape h (to_list ts)
 
 unfoldable mutual
-  pub sameTerm : Term → Term → Bool
-  sameTerm (unknown x) (unknown y) = eqb x y
-  sameTerm (unknown x) (con k us) = false
-  sameTerm (con h ts) (unknown y) = false
-  sameTerm (con h ts) (con k us) = and (sameFormer h k) (sameTerms ts us)
+  pub same_term : Term → Term → Bool
+  same_term (unknown x) (unknown y) = eqb x y
+  same_term (unknown x) (con k us) = false
+  same_term (con h ts) (unknown y) = false
+  same_term (con h ts) (con k us) = and (same_former h k) (same_terms ts us)
 
-  pub sameTerms : Terms → Terms → Bool
-  sameTerms nil nil = true
-  sameTerms nil (cons u us) = false
-  sameTerms (cons t ts) nil = false
-  sameTerms (cons t ts) (cons u us) = and (sameTerm t u) (sameTerms ts us)
+  pub same_terms : Terms → Terms → Bool
+  same_terms nil nil = true
+  same_terms nil (cons u us) = false
+  same_terms (cons t ts) nil = false
+  same_terms (cons t ts) (cons u us) = and (same_term t u) (same_terms ts us)
 
 unfoldable pub join : List Term → List Term → List Term
 join [] ys = ys
@@ -84,18 +84,18 @@ pub data Verdict : Type 0 where
   endless : Verdict
 
 unfoldable pub judge : List Term → Out Term → Verdict
-judge us (merged L) = elim (allb (bounded (rep sameTerm L) viewTerm (length us)) us) [ true ↦ solvable | false ↦ endless ]
+judge us (merged L) = elim (allb (bounded (rep same_term L) view_term (length us)) us) [ true ↦ solvable | false ↦ endless ]
 judge us apart = clashing
 judge us spent = clashing
 
 unfoldable pub classify : Pairs Term → Verdict
-classify P = judge (univ P) (mergeLevels sameTerm viewTerm (length (univ P)) end P)
+classify P = judge (univ P) (merge_levels same_term view_term (length (univ P)) end P)
 
 -- Where some σ solves the equations, and where no two formers clash.
 abbrev pub Solvable : Pairs Term → Type 0
 Solvable P = (σ : ℕ → Ty) × Solves (under σ) P
 
 abbrev pub Right : Pairs Term → Verdict → Type 0
-Right P solvable = Solvable P × (Clash viewTerm P → ⊥)
-Right P clashing = Clash viewTerm P × (Solvable P → ⊥)
-Right P endless = (Clash viewTerm P → ⊥) × (Solvable P → ⊥)
+Right P solvable = Solvable P × (Clash view_term P → ⊥)
+Right P clashing = Clash view_term P × (Solvable P → ⊥)
+Right P endless = (Clash view_term P → ⊥) × (Solvable P → ⊥)

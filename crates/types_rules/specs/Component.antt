@@ -10,8 +10,8 @@ unfoldable pub has : ℕ → Term → Bool
 has c (unknown x) = false
 has c (con h ts) = member c (identifiers h)
 
-unfoldable pub hasType : ℕ → Ty → Bool
-hasType c (node h ts) = member c (identifiers h)
+unfoldable pub has_type : ℕ → Ty → Bool
+has_type c (node h ts) = member c (identifiers h)
 
 -- The type of the component c.
 unfoldable pub pick : ℕ → List ℕ → Terms → Option Term
@@ -19,14 +19,14 @@ pick c [] ts = none
 pick c (i ∷ is) nil = none
 pick c (i ∷ is) (cons t ts) = elim (eqb i c) [ true ↦ some t | false ↦ pick c is ts ]
 
-unfoldable pub pickType : ℕ → List ℕ → Tys → Option Ty
-pickType c [] ts = none
-pickType c (i ∷ is) tnil = none
-pickType c (i ∷ is) (tcons t ts) = elim (eqb i c) [ true ↦ some t | false ↦ pickType c is ts ]
+unfoldable pub pick_type : ℕ → List ℕ → Tys → Option Ty
+pick_type c [] ts = none
+pick_type c (i ∷ is) tnil = none
+pick_type c (i ∷ is) (tcons t ts) = elim (eqb i c) [ true ↦ some t | false ↦ pick_type c is ts ]
 
 unfoldable pub component : ℕ → Term → Option Term
 component c (unknown x) = none
 component c (con h ts) = pick c (identifiers h) ts
 
-unfoldable pub componentType : ℕ → Ty → Option Ty
-componentType c (node h ts) = pickType c (identifiers h) ts
+unfoldable pub component_type : ℕ → Ty → Option Ty
+component_type c (node h ts) = pick_type c (identifiers h) ts

@@ -7,9 +7,9 @@ abbrev pub part_count : Terms → ℕ
 part_count nil = 0
 part_count (cons t ts) = suc (part_count ts)
 
-abbrev pub partCountType : Tys → ℕ
-partCountType tnil = 0
-partCountType (tcons t ts) = suc (partCountType ts)
+abbrev pub part_count_type : Tys → ℕ
+part_count_type tnil = 0
+part_count_type (tcons t ts) = suc (part_count_type ts)
 
 -- R h n: the former h may have n parts.
 unfoldable mutual
@@ -23,7 +23,7 @@ unfoldable mutual
 
 unfoldable mutual
   pub FormedType : (Former → ℕ → Type 0) → Ty → Type 0
-  FormedType R (node h ts) = R h (partCountType ts) × FormedTypes R ts
+  FormedType R (node h ts) = R h (part_count_type ts) × FormedTypes R ts
 
   pub FormedTypes : (Former → ℕ → Type 0) → Tys → Type 0
   FormedTypes R tnil = Unit {0}

@@ -23,37 +23,37 @@ pub data Info : Type 0 where
 abbrev pub Inf : Type 0
 Inf = List ℕ → Info
 
-unfoldable pub atPath : {D : Type 0} → (D → Info) → List D → ℕ → Info
-atPath f [] i = nothing
-atPath f (d ∷ ds) zero = f d
-atPath f (d ∷ ds) (suc i) = atPath f ds i
+unfoldable pub at_path : {D : Type 0} → (D → Info) → List D → ℕ → Info
+at_path f [] i = nothing
+at_path f (d ∷ ds) zero = f d
+at_path f (d ∷ ds) (suc i) = at_path f ds i
 
-unfoldable pub mkI : Former → List Inf → Inf
-mkI h ds [] = info h (length ds)
-mkI h ds (i ∷ p) = atPath (λ d. d p) ds i
+unfoldable pub mk_i : Former → List Inf → Inf
+mk_i h ds [] = info h (length ds)
+mk_i h ds (i ∷ p) = at_path (λ d. d p) ds i
 
 -- A type as a possibly infinite one.
 unfoldable mutual
   pub whole : Ty → Inf
-  whole (node h gs) = mkI h (wholes gs)
+  whole (node h gs) = mk_i h (wholes gs)
 
   pub wholes : Tys → List Inf
   wholes tnil = []
   wholes (tcons g gs) = whole g ∷ wholes gs
 
 -- What the possibly infinite types ρ make of a term.
-abbrev pub underInf : (ℕ → Inf) → Term → Inf
-underInf ρ t = eval mkI ρ t
+abbrev pub under_inf : (ℕ → Inf) → Term → Inf
+under_inf ρ t = eval mk_i ρ t
 
 -- The type of the component c, where the former at the top has its identifier.
-unfoldable pub placeInf : ℕ → List ℕ → ℕ → (ℕ → Inf) → Option Inf
-placeInf c [] n e = none
-placeInf c (i ∷ is) zero e = none
-placeInf c (i ∷ is) (suc n) e = elim (eqb i c) [ true ↦ some (e zero) | false ↦ placeInf c is n (λ k. e (suc k)) ]
+unfoldable pub place_inf : ℕ → List ℕ → ℕ → (ℕ → Inf) → Option Inf
+place_inf c [] n e = none
+place_inf c (i ∷ is) zero e = none
+place_inf c (i ∷ is) (suc n) e = elim (eqb i c) [ true ↦ some (e zero) | false ↦ place_inf c is n (λ k. e (suc k)) ]
 
-unfoldable pub topInf : ℕ → Info → (ℕ → Inf) → Option Inf
-topInf c nothing e = none
-topInf c (info h n) e = placeInf c (identifiers h) n e
+unfoldable pub top_inf : ℕ → Info → (ℕ → Inf) → Option Inf
+top_inf c nothing e = none
+top_inf c (info h n) e = place_inf c (identifiers h) n e
 
-unfoldable pub componentInf : ℕ → Inf → Option Inf
-componentInf c d = topInf c (d []) (λ k p. d (k ∷ p))
+unfoldable pub component_inf : ℕ → Inf → Option Inf
+component_inf c d = top_inf c (d []) (λ k p. d (k ∷ p))

@@ -14,18 +14,18 @@ unfoldable pub actual : Option Term → ℕ → Terms → Term
 actual (some t) i ts = t
 actual none i ts = con (parameter i) ts
 
-unfoldable pub instanceFormer : Former → Terms → Terms → Term
-instanceFormer int row ts = con int ts
-instanceFormer (given g) row ts = con (given g) ts
-instanceFormer (parameter i) row ts = actual (nth row i) i ts
-instanceFormer power row ts = con power ts
-instanceFormer product row ts = con product ts
-instanceFormer (binding l) row ts = con (binding l) ts
+unfoldable pub instance_former : Former → Terms → Terms → Term
+instance_former int row ts = con int ts
+instance_former (given g) row ts = con (given g) ts
+instance_former (parameter i) row ts = actual (nth row i) i ts
+instance_former power row ts = con power ts
+instance_former product row ts = con product ts
+instance_former (binding l) row ts = con (binding l) ts
 
 -- With no row the type stays as it is.
 unfoldable mutual
   pub instance : Terms → Ty → Term
-  instance row (node h gs) = instanceFormer h row (instances row gs)
+  instance row (node h gs) = instance_former h row (instances row gs)
 
   pub instances : Terms → Tys → Terms
   instances row tnil = nil

@@ -11,11 +11,11 @@ or false b = b
 unfoldable mutual
   pub occurs : ℕ → Term → Bool
   occurs x (unknown y) = eqb y x
-  occurs x (con h ts) = occursAny x ts
+  occurs x (con h ts) = occurs_any x ts
 
-  pub occursAny : ℕ → Terms → Bool
-  occursAny x nil = false
-  occursAny x (cons t ts) = or (occurs x t) (occursAny x ts)
+  pub occurs_any : ℕ → Terms → Bool
+  occurs_any x nil = false
+  occurs_any x (cons t ts) = or (occurs x t) (occurs_any x ts)
 
 -- t with u for x.
 unfoldable mutual

@@ -40,13 +40,13 @@ unfoldable mutual
   sizes (tcons t ts) = size t + sizes ts
 
 unfoldable mutual
-  pub termSize : Term → ℕ
-  termSize (unknown x) = 1
-  termSize (con h ts) = suc (termSizes ts)
+  pub term_size : Term → ℕ
+  term_size (unknown x) = 1
+  term_size (con h ts) = suc (term_sizes ts)
 
-  pub termSizes : Terms → ℕ
-  termSizes nil = 0
-  termSizes (cons t ts) = termSize t + termSizes ts
+  pub term_sizes : Terms → ℕ
+  term_sizes nil = 0
+  term_sizes (cons t ts) = term_size t + term_sizes ts
 
 -- Every unknown of t has P.
 unfoldable mutual
@@ -58,8 +58,8 @@ unfoldable mutual
   Eachs P nil = Unit {0}
   Eachs P (cons t ts) = Each P t × Eachs P ts
 
-abbrev pub integerType : Ty
-integerType = node int tnil
+abbrev pub integer_type : Ty
+integer_type = node int tnil
 
 abbrev pub ℙℤ : Ty
-ℙℤ = node power (tcons integerType tnil)
+ℙℤ = node power (tcons integer_type tnil)

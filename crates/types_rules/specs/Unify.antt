@@ -2,9 +2,9 @@
 use Rattle.std.specs.Prelude.{◌+◌, suc, zero, ℕ, eqb, length, Bool, false, true, List}
 use Rattle.std.proofs.Math.Option.{Option, none, some}
 use Rattle.types_rules.specs.Equations.{Pairs, end, pair}
-use Rattle.types_rules.specs.Former.{sameFormer}
+use Rattle.types_rules.specs.Former.{same_former}
 use Rattle.types_rules.specs.Substitution.{Respects, State, Substitution, bind, occurs, replace, resolve, without}
-use Rattle.types_rules.specs.Types.{Each, Term, Terms, Ty, con, cons, nil, termSize, unknown}
+use Rattle.types_rules.specs.Types.{Each, Term, Terms, Ty, con, cons, nil, term_size, unknown}
 
 pub data Outcome : Type 0 where
   ok : List ℕ → Substitution → Outcome
@@ -12,23 +12,23 @@ pub data Outcome : Type 0 where
   cycle : Outcome
   stuck : Outcome
 
-unfoldable pub zipTerms : Terms → Terms → Pairs Term → Option (Pairs Term)
-zipTerms nil nil es = some es
-zipTerms nil (cons b bs) es = none
-zipTerms (cons a as') nil es = none
-zipTerms (cons a as') (cons b bs) es = zipTerms as' bs (pair a b es)
+unfoldable pub zip_terms : Terms → Terms → Pairs Term → Option (Pairs Term)
+zip_terms nil nil es = some es
+zip_terms nil (cons b bs) es = none
+zip_terms (cons a as') nil es = none
+zip_terms (cons a as') (cons b bs) es = zip_terms as' bs (pair a b es)
 
-unfoldable pub replaceAll : ℕ → Term → Pairs Term → Pairs Term
-replaceAll x u end = end
-replaceAll x u (pair a b es) = pair (replace x u a) (replace x u b) (replaceAll x u es)
+unfoldable pub replace_all : ℕ → Term → Pairs Term → Pairs Term
+replace_all x u end = end
+replace_all x u (pair a b es) = pair (replace x u a) (replace x u b) (replace_all x u es)
 
 unfoldable pub weight : Pairs Term → ℕ
 weight end = 1
-weight (pair a b es) = termSize a + weight es
+weight (pair a b es) = term_size a + weight es
 
-unfoldable pub isUnknown : ℕ → Term → Bool
-isUnknown x (unknown y) = eqb y x
-isUnknown x (con h ts) = false
+unfoldable pub is_unknown : ℕ → Term → Bool
+is_unknown x (unknown y) = eqb y x
+is_unknown x (con h ts) = false
 
 abbrev pub Next : Type 0
 Next = List ℕ → Substitution → Pairs Term → Outcome
@@ -37,31 +37,31 @@ Next = List ℕ → Substitution → Pairs Term → Outcome
 unfoldable pub flex : Bool → Bool → Next → (Pairs Term → Outcome) → List ℕ → Substitution → ℕ → Term → Pairs Term → Outcome
 flex true o nx go vs s x b es = go es
 flex false true nx go vs s x b es = cycle
-flex false false nx go vs s x b es = nx (without x vs) (bind x b s) (replaceAll x b es)
+flex false false nx go vs s x b es = nx (without x vs) (bind x b s) (replace_all x b es)
 
 unfoldable pub rigid : Bool → Option (Pairs Term) → (Pairs Term → Outcome) → Outcome
 rigid true (some es) go = go es
 rigid true none go = clash
 rigid false o go = clash
 
-unfoldable pub unifyStep : Next → (Pairs Term → Outcome) → List ℕ → Substitution → Term → Term → Pairs Term → Outcome
-unifyStep nx go vs s (unknown x) b es = flex (isUnknown x b) (occurs x b) nx go vs s x b es
-unifyStep nx go vs s (con h ts) (unknown y) es = flex false (occurs y (con h ts)) nx go vs s y (con h ts) es
-unifyStep nx go vs s (con h ts) (con k us) es = rigid (sameFormer h k) (zipTerms ts us es) go
+unfoldable pub unify_step : Next → (Pairs Term → Outcome) → List ℕ → Substitution → Term → Term → Pairs Term → Outcome
+unify_step nx go vs s (unknown x) b es = flex (is_unknown x b) (occurs x b) nx go vs s x b es
+unify_step nx go vs s (con h ts) (unknown y) es = flex false (occurs y (con h ts)) nx go vs s y (con h ts) es
+unify_step nx go vs s (con h ts) (con k us) es = rigid (same_former h k) (zip_terms ts us es) go
 
 -- One level: no unknown has been bound since it began. n bounds the steps.
-unfoldable pub unifyLevel : Next → ℕ → List ℕ → Substitution → Pairs Term → Outcome
-unifyLevel nx zero vs s es = stuck
-unifyLevel nx (suc n) vs s end = ok vs s
-unifyLevel nx (suc n) vs s (pair a b es) = unifyStep nx (λ es'. unifyLevel nx n vs s es') vs s a b es
+unfoldable pub unify_level : Next → ℕ → List ℕ → Substitution → Pairs Term → Outcome
+unify_level nx zero vs s es = stuck
+unify_level nx (suc n) vs s end = ok vs s
+unify_level nx (suc n) vs s (pair a b es) = unify_step nx (λ es'. unify_level nx n vs s es') vs s a b es
 
 -- k levels.
-unfoldable pub unifyLevels : ℕ → Next
-unifyLevels zero vs s es = unifyLevel (λ vs' s' es'. stuck) (weight es) vs s es
-unifyLevels (suc k) vs s es = unifyLevel (λ vs' s' es'. unifyLevels k vs' s' es') (weight es) vs s es
+unfoldable pub unify_levels : ℕ → Next
+unify_levels zero vs s es = unify_level (λ vs' s' es'. stuck) (weight es) vs s es
+unify_levels (suc k) vs s es = unify_level (λ vs' s' es'. unify_levels k vs' s' es') (weight es) vs s es
 
 unfoldable pub unify : List ℕ → Substitution → Term → Term → Outcome
-unify vs s a b = unifyLevels (length vs) vs s (pair (resolve s a) (resolve s b) end)
+unify vs s a b = unify_levels (length vs) vs s (pair (resolve s a) (resolve s b) end)
 
 -- Several equations, one after another.
 unfoldable pub and_then : Outcome → (List ℕ → Substitution → Outcome) → Outcome
@@ -70,9 +70,9 @@ and_then clash k = clash
 and_then cycle k = cycle
 and_then stuck k = stuck
 
-unfoldable pub unifyAll : List ℕ → Substitution → Pairs Term → Outcome
-unifyAll vs s end = ok vs s
-unifyAll vs s (pair a b P) = and_then (unify vs s a b) (λ vs' s'. unifyAll vs' s' P)
+unfoldable pub unify_all : List ℕ → Substitution → Pairs Term → Outcome
+unify_all vs s end = ok vs s
+unify_all vs s (pair a b P) = and_then (unify vs s a b) (λ vs' s'. unify_all vs' s' P)
 
 -- What an answer says of σ, when A says that σ solves what was given.
 abbrev pub Spec : (ℕ → Ty) → Outcome → Type 0 → Type 0

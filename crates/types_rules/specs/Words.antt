@@ -2,7 +2,7 @@
 use Rattle.std.specs.Prelude.{ℕ, zero, suc, List, [], ◌∷◌, ◌++◌}
 use Rattle.types_rules.specs.Former.{Former, int, given, parameter, power, product, binding, tag, identifiers}
 use Rattle.types_rules.specs.Types.{Ty, Tys, node, tnil, tcons}
-use Rattle.types_rules.specs.Formed.{partCountType}
+use Rattle.types_rules.specs.Formed.{part_count_type}
 
 -- The word after the tag, where there is one: the given or parameter, or the number n of parts.
 unfoldable pub second : Former → ℕ → List ℕ
@@ -15,13 +15,13 @@ second (binding l) n = n ∷ []
 
 unfoldable mutual
   pub words : Ty → List ℕ
-  words (node h gs) = tag h ∷ (second h (partCountType gs) ++ partWords (identifiers h) gs)
+  words (node h gs) = tag h ∷ (second h (part_count_type gs) ++ part_words (identifiers h) gs)
 
   -- The parts, each after its identifier where the former has identifiers.
-  pub partWords : List ℕ → Tys → List ℕ
-  partWords l tnil = []
-  partWords [] (tcons g gs) = words g ++ partWords [] gs
-  partWords (i ∷ l) (tcons g gs) = i ∷ (words g ++ partWords l gs)
+  pub part_words : List ℕ → Tys → List ℕ
+  part_words l tnil = []
+  part_words [] (tcons g gs) = words g ++ part_words [] gs
+  part_words (i ∷ l) (tcons g gs) = i ∷ (words g ++ part_words l gs)
 
 -- Reading: what is read, and the words after it.
 pub data Read (A : Type 0) : Type 0 where
@@ -32,9 +32,9 @@ unfoldable pub and_then : {A B : Type 0} → Read A → (A → List ℕ → Read
 and_then nothing k = nothing
 and_then (got a r) k = k a r
 
-unfoldable pub withWord : {B : Type 0} → List ℕ → (ℕ → List ℕ → Read B) → Read B
-withWord [] k = nothing
-withWord (x ∷ ws) k = k x ws
+unfoldable pub with_word : {B : Type 0} → List ℕ → (ℕ → List ℕ → Read B) → Read B
+with_word [] k = nothing
+with_word (x ∷ ws) k = k x ws
 
 unfoldable pub read_parts : (List ℕ → Read Ty) → ℕ → List ℕ → Read Tys
 read_parts rd zero ws = got tnil ws
@@ -46,24 +46,24 @@ pub data Components : Type 0 where
 unfoldable pub add : ℕ → Ty → Components → Components
 add i g (components l gs) = components (i ∷ l) (tcons g gs)
 
-unfoldable pub readComponents : (List ℕ → Read Ty) → ℕ → List ℕ → Read Components
-readComponents rd zero ws = got (components [] tnil) ws
-readComponents rd (suc n) ws = withWord ws (λ i r. and_then (rd r) (λ g r₁. and_then (readComponents rd n r₁) (λ c r₂. got (add i g c) r₂)))
+unfoldable pub read_components : (List ℕ → Read Ty) → ℕ → List ℕ → Read Components
+read_components rd zero ws = got (components [] tnil) ws
+read_components rd (suc n) ws = with_word ws (λ i r. and_then (rd r) (λ g r₁. and_then (read_components rd n r₁) (λ c r₂. got (add i g c) r₂)))
 
-unfoldable pub bindingOf : Components → Ty
-bindingOf (components l gs) = node (binding l) gs
+unfoldable pub binding_of : Components → Ty
+binding_of (components l gs) = node (binding l) gs
 
-unfoldable pub readFormer : ℕ → (List ℕ → Read Ty) → List ℕ → Read Ty
-readFormer zero rd ws = nothing
-readFormer (suc zero) rd ws = got (node int tnil) ws
-readFormer (suc (suc zero)) rd ws = withWord ws (λ g r. got (node (given g) tnil) r)
-readFormer (suc (suc (suc zero))) rd ws = and_then (rd ws) (λ g r. got (node power (tcons g tnil)) r)
-readFormer (suc (suc (suc (suc zero)))) rd ws = withWord ws (λ n r. and_then (read_parts rd n r) (λ gs r'. got (node product gs) r'))
-readFormer (suc (suc (suc (suc (suc zero))))) rd ws = withWord ws (λ n r. and_then (readComponents rd n r) (λ c r'. got (bindingOf c) r'))
-readFormer (suc (suc (suc (suc (suc (suc zero)))))) rd ws = withWord ws (λ i r. got (node (parameter i) tnil) r)
-readFormer (suc (suc (suc (suc (suc (suc (suc n))))))) rd ws = nothing
+unfoldable pub read_former : ℕ → (List ℕ → Read Ty) → List ℕ → Read Ty
+read_former zero rd ws = nothing
+read_former (suc zero) rd ws = got (node int tnil) ws
+read_former (suc (suc zero)) rd ws = with_word ws (λ g r. got (node (given g) tnil) r)
+read_former (suc (suc (suc zero))) rd ws = and_then (rd ws) (λ g r. got (node power (tcons g tnil)) r)
+read_former (suc (suc (suc (suc zero)))) rd ws = with_word ws (λ n r. and_then (read_parts rd n r) (λ gs r'. got (node product gs) r'))
+read_former (suc (suc (suc (suc (suc zero))))) rd ws = with_word ws (λ n r. and_then (read_components rd n r) (λ c r'. got (binding_of c) r'))
+read_former (suc (suc (suc (suc (suc (suc zero)))))) rd ws = with_word ws (λ i r. got (node (parameter i) tnil) r)
+read_former (suc (suc (suc (suc (suc (suc (suc n))))))) rd ws = nothing
 
 -- The type whose words begin ws, if it has at most f levels.
-unfoldable pub readType : ℕ → List ℕ → Read Ty
-readType zero ws = nothing
-readType (suc f) ws = withWord ws (λ t r. readFormer t (λ w. readType f w) r)
+unfoldable pub read_type : ℕ → List ℕ → Read Ty
+read_type zero ws = nothing
+read_type (suc f) ws = with_word ws (λ t r. read_former t (λ w. read_type f w) r)

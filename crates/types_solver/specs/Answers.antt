@@ -2,12 +2,12 @@
 use Rattle.std.specs.Prelude.{◌≡◌, Bool, true, false, List, ℕ, suc, ◌-◌, ◌≤◌, ◌<◌, ◌^◌, eqb, length, get_or}
 use Rattle.std.proofs.Math.Option.{some, none}
 use Rattle.types_rules.specs.Classes.{rep}
-use Rattle.types_rules.specs.Component.{componentType}
+use Rattle.types_rules.specs.Component.{component_type}
 use Rattle.types_rules.specs.Equations.{In, Pairs, Solves}
 use Rattle.types_rules.specs.Finite.{bounded}
 use Rattle.types_rules.specs.Trees.{Extent, finite, Tree}
-use Rattle.types_cells.specs.Layout.{settledFrom}
-use Rattle.types_cells.specs.Store.{frozen, linkAt, tag_at, view, Held, Solved}
+use Rattle.types_cells.specs.Layout.{settled_from}
+use Rattle.types_cells.specs.Store.{frozen, link_at, tag_at, view, Held, Solved}
 use Rattle.types_solver.specs.Written.{Resolved}
 use Rattle.types_cells.specs.Settled.{heap, Readable, Pinned, ObeysIn, FitsIn, FoundType}
 
@@ -50,7 +50,7 @@ pub record Left (s : List ℕ) (n : ℕ) (free : Bool) : Type 0 where
 -- A solution where cell i is no binding with this identifier.
 pub record Without (s d : List ℕ) (n : ℕ) (P₀ : Pairs ℕ) (i id : ℕ) : Type 0 where
   pub solution : SolutionOf s d n P₀
-  pub lacks : componentType id (solution.σ i) ≡ none
+  pub lacks : component_type id (solution.σ i) ≡ none
 
 -- What a function that looks at cell i asks.
 pub record Looking (s d : List ℕ) (i : ℕ) : Type 0 where
@@ -64,13 +64,13 @@ pub record Looking (s d : List ℕ) (i : ℕ) : Type 0 where
 -- The same of a representative.
 pub record LookingRoot (s d : List ℕ) (i : ℕ) : Type 0 where
   pub looking : Looking s d i
-  pub root : linkAt s i ≡ 0
+  pub root : link_at s i ≡ 0
 
--- 35. c + 1, below settledFrom: in every solution cell i is a binding where id has the type of cell c. settledFrom + p: in every solution it is one where id
+-- 35. c + 1, below settledFrom: in every solution cell i is a binding where id has the type of cell c. settled_from + p: in every solution it is one where id
 -- has the type whose words stand at p. 0: in some solution it is not.
 pub record Looked (s d : List ℕ) (i id v : ℕ) : Type 0 where
-  pub found : (c : ℕ) → v ≡ suc c → v < settledFrom → (n : ℕ) (P₀ L : Pairs ℕ) → Solved s n P₀ L → i < n → (X : SolutionOf s d n P₀) → componentType id (X.σ i) ≡ some (X.σ c)
-  pub below : (c : ℕ) → v ≡ suc c → v < settledFrom → (n : ℕ) (L : Pairs ℕ) → Held s n L → i < n → c < n
-  pub settled : settledFrom ≤ v → (n : ℕ) (P₀ L : Pairs ℕ) → Solved s n P₀ L → Pinned s d n → i < n → (X : SolutionOf s d n P₀) → FoundType (heap s d) (v - settledFrom) (componentType id (X.σ i))
-  pub place : settledFrom ≤ v → (n : ℕ) (L : Pairs ℕ) → Held s n L → Pinned s d n → i < n → Readable (heap s d) (v - settledFrom)
+  pub found : (c : ℕ) → v ≡ suc c → v < settled_from → (n : ℕ) (P₀ L : Pairs ℕ) → Solved s n P₀ L → i < n → (X : SolutionOf s d n P₀) → component_type id (X.σ i) ≡ some (X.σ c)
+  pub below : (c : ℕ) → v ≡ suc c → v < settled_from → (n : ℕ) (L : Pairs ℕ) → Held s n L → i < n → c < n
+  pub settled : settled_from ≤ v → (n : ℕ) (P₀ L : Pairs ℕ) → Solved s n P₀ L → Pinned s d n → i < n → (X : SolutionOf s d n P₀) → FoundType (heap s d) (v - settled_from) (component_type id (X.σ i))
+  pub place : settled_from ≤ v → (n : ℕ) (L : Pairs ℕ) → Held s n L → Pinned s d n → i < n → Readable (heap s d) (v - settled_from)
   pub absent : v ≡ 0 → (n : ℕ) (P₀ L : Pairs ℕ) → Solved s n P₀ L → Pinned s d n → i < n → Finite (frozen s) n L → Without s d n P₀ i id

@@ -1,12 +1,12 @@
 -- Stores that grow: new cells, and new words in the runs. What the solutions of the old store are to those of the new.
 use Rattle.std.specs.Prelude.{◌≡◌, List, map, ℕ, zero, suc, ◌+◌, ◌*◌, ◌≤◌, ◌<◌, ◌^◌, length, get_or}
 use Rattle.types_rules.specs.Equations.{In, Pairs}
-use Rattle.types_rules.specs.Finite.{fromList}
+use Rattle.types_rules.specs.Finite.{from_list}
 use Rattle.types_rules.specs.Follows.{unk}
-use Rattle.types_rules.specs.Formed.{partCountType}
+use Rattle.types_rules.specs.Formed.{part_count_type}
 use Rattle.types_rules.specs.Instance.{instance, instances}
 use Rattle.types_rules.specs.Types.{Ty, Tys, Terms, cons, nil, size, sizes, under, unders, unknown}
-use Rattle.types_cells.specs.Layout.{maxCells, maxPending, frozenSize}
+use Rattle.types_cells.specs.Layout.{max_cells, max_pending, frozen_size}
 use Rattle.types_cells.specs.Store.{frozen, load, run, view, Solved}
 use Rattle.types_cells.specs.Calls.{Above, Making, Made}
 use Rattle.types_cells.specs.Parts.{Rest}
@@ -46,24 +46,24 @@ pub record InRow (t v first k r : ℕ) : Type 0 where
   pub none : r ≡ 0 → t ≡ 6 → 1 ≤ v → v ≤ k → ⊥
 
 -- The argument of a cell, by its tag: the word after the tag, or the place of the identifiers.
-unfoldable pub argOf : ℕ → ℕ → ℕ → ℕ
-argOf zero v ids = v
-argOf (suc zero) v ids = 0
-argOf (suc (suc zero)) v ids = v
-argOf (suc (suc (suc zero))) v ids = 0
-argOf (suc (suc (suc (suc zero)))) v ids = v
-argOf (suc (suc (suc (suc (suc zero))))) v ids = ids
-argOf (suc (suc (suc (suc (suc (suc t)))))) v ids = v
+unfoldable pub arg_of : ℕ → ℕ → ℕ → ℕ
+arg_of zero v ids = v
+arg_of (suc zero) v ids = 0
+arg_of (suc (suc zero)) v ids = v
+arg_of (suc (suc (suc zero))) v ids = 0
+arg_of (suc (suc (suc (suc zero)))) v ids = v
+arg_of (suc (suc (suc (suc (suc zero))))) v ids = ids
+arg_of (suc (suc (suc (suc (suc (suc t)))))) v ids = v
 
 -- A former over the m cells that stand at `top`, its identifiers after them.
 pub record Forming (s : List ℕ) (n top t v m : ℕ) : Type 0 where
-  pub making : Making s n t (argOf t v (top + m)) top m
+  pub making : Making s n t (arg_of t v (top + m)) top m
   pub above : Above (frozen s) n top
   pub word : v < 2 ^ 32
-  pub room : top + m + m ≤ frozenSize
+  pub room : top + m + m ≤ frozen_size
 
 pub record Formed (s s' : List ℕ) (n top t v m cell n' top' : ℕ) : Type 0 where
-  pub made : Made s s' n t (argOf t v (top + m)) top m
+  pub made : Made s s' n t (arg_of t v (top + m)) top m
   pub is : cell ≡ n
   pub next : n' ≡ suc n
   pub above : Above (frozen s') (suc n) top'
@@ -77,7 +77,7 @@ pub record Putting (s : List ℕ) (n top m j c : ℕ) : Type 0 where
   pub above : Above (frozen s) n top
   pub made : c < n
   pub within : j < m
-  pub room : top + m + m ≤ frozenSize
+  pub room : top + m + m ≤ frozen_size
 
 pub record PutPart (s s' d : List ℕ) (n top m j w at c : ℕ) : Type 0 where
   pub builds : Builds s s' d n n
@@ -95,9 +95,9 @@ pub record EnteringRoom (s d : List ℕ) (n top x row k : ℕ) : Type 0 where
   pub above : Above (frozen s) n top
   pub few : length d < 2 ^ 31
   pub row_made : row + k ≤ n
-  pub cells : n + x ≤ maxCells
-  pub words : top + 2 * x ≤ frozenSize
-  pub fit : load (frozen s) n + 2 * x ≤ maxPending
+  pub cells : n + x ≤ max_cells
+  pub words : top + 2 * x ≤ frozen_size
+  pub fit : load (frozen s) n + 2 * x ≤ max_pending
 
 -- The type at p may enter.
 pub record Instancing (s d : List ℕ) (n top p row k : ℕ) : Type 0 where
@@ -125,20 +125,20 @@ pub record InstancingParts (s d : List ℕ) (n top at w m j row k : ℕ) : Type 
   pub gs : Tys
   pub e : ℕ
   pub rest : Rest (heap s d) w at l gs e
-  pub count : partCountType gs + j ≡ m
+  pub count : part_count_type gs + j ≡ m
   pub room : EnteringRoom s d n top (sizes gs) row k
-  pub ahead : top + 2 * sizes gs + 2 * j ≤ frozenSize
+  pub ahead : top + 2 * sizes gs + 2 * j ≤ frozen_size
 
 -- Their cells stand at top' + j, and their identifiers at top' + m + j.
 pub record Instances (s s' : List ℕ) (n top w m j row k n' top' : ℕ) (l : List ℕ) (gs : Tys) : Type 0 where
-  pub types : (σ : ℕ → Ty) → Fits (frozen s') n' σ → fromList (map σ (run (frozen s') (top' + j) (partCountType gs))) ≡ unders σ (instances (unknowns row k) gs)
-  pub older : (c : ℕ) → In c (run (frozen s') (top' + j) (partCountType gs)) → c < n'
-  pub names : w ≡ 1 → run (frozen s') (top' + m + j) (partCountType gs) ≡ l
+  pub types : (σ : ℕ → Ty) → Fits (frozen s') n' σ → from_list (map σ (run (frozen s') (top' + j) (part_count_type gs))) ≡ unders σ (instances (unknowns row k) gs)
+  pub older : (c : ℕ) → In c (run (frozen s') (top' + j) (part_count_type gs)) → c < n'
+  pub names : w ≡ 1 → run (frozen s') (top' + m + j) (part_count_type gs) ≡ l
   pub cells : n' ≤ n + sizes gs
-  pub words : top' + 2 * partCountType gs ≤ top + 2 * sizes gs
-  pub fit : load (frozen s') n' + partCountType gs ≤ load (frozen s) n + 2 * sizes gs
+  pub words : top' + 2 * part_count_type gs ≤ top + 2 * sizes gs
+  pub fit : load (frozen s') n' + part_count_type gs ≤ load (frozen s) n + 2 * sizes gs
 
 pub record InstancedParts (s s' d : List ℕ) (n top at w m j row k n' top' : ℕ) : Type 0 where
   pub builds : Builds s s' d n n'
   pub above : Above (frozen s') n' top'
-  pub are : (l : List ℕ) (gs : Tys) (e : ℕ) → Rest (heap s d) w at l gs e → partCountType gs + j ≡ m → Instances s s' n top w m j row k n' top' l gs
+  pub are : (l : List ℕ) (gs : Tys) (e : ℕ) → Rest (heap s d) w at l gs e → part_count_type gs + j ≡ m → Instances s s' n top w m j row k n' top' l gs

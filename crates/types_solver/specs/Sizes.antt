@@ -2,12 +2,12 @@
 use Rattle.std.specs.Prelude.{◌≡◌, Bool, true, false, List, map, ℕ, zero, suc, ◌+◌, ◌-◌, ◌≤◌, ◌<◌, ◌^◌, eqb, ltb, length, get_or}
 use Rattle.types_rules.specs.Classes.{rep}
 use Rattle.types_rules.specs.Equations.{In, Pairs, Solves}
-use Rattle.types_rules.specs.Finite.{bounded, fromList, type_of}
+use Rattle.types_rules.specs.Finite.{bounded, from_list, type_of}
 use Rattle.types_rules.specs.Follows.{shape}
 use Rattle.types_rules.specs.Former.{Former, int}
 use Rattle.types_rules.specs.Types.{Ty, node, size, tnil}
-use Rattle.types_cells.specs.Layout.{maxCells, marksAt, settledFrom}
-use Rattle.types_cells.specs.Store.{frozen, linkAt, tag_at, countAt, parts_at, view, free, Held, Solved}
+use Rattle.types_cells.specs.Layout.{max_cells, marks_at, settled_from}
+use Rattle.types_cells.specs.Store.{frozen, link_at, tag_at, count_at, parts_at, view, free, Held, Solved}
 use Rattle.types_cells.specs.Settled.{lower, heap, word_at, Reads, Pinned, Obeys, Fits}
 
 -- Sizes stop at 33.
@@ -19,21 +19,21 @@ pub record TypeSize (s d : List ℕ) (p v : ℕ) : Type 0 where
   pub is : (g : Ty) → Reads (heap s d) p g → v ≡ cap (size g)
   pub few : v ≤ 33
 
-unfoldable pub markAt : List ℕ → ℕ → ℕ
-markAt s i = get_or s (marksAt + i) 0
+unfoldable pub mark_at : List ℕ → ℕ → ℕ
+mark_at s i = get_or s (marks_at + i) 0
 
 -- The cells with no mark.
 unfoldable pub bare : List ℕ → ℕ → ℕ
 bare s zero = 0
-bare s (suc i) = free (markAt s i) 1 + bare s i
+bare s (suc i) = free (mark_at s i) 1 + bare s i
 
 -- The number of parts, by the tag: an unknown has none.
-unfoldable pub arityOf : ℕ → ℕ → ℕ
-arityOf zero k = 0
-arityOf (suc t) k = k
+unfoldable pub arity_of : ℕ → ℕ → ℕ
+arity_of zero k = 0
+arity_of (suc t) k = k
 
-abbrev pub arityAt : List ℕ → ℕ → ℕ
-arityAt w r = arityOf (tag_at w r) (countAt w r)
+abbrev pub arity_at : List ℕ → ℕ → ℕ
+arity_at w r = arity_of (tag_at w r) (count_at w r)
 
 -- The type of cell i, with ℤ for what is unknown, under the links L.
 unfoldable pub type_at : List ℕ → ℕ → Pairs ℕ → ℕ → Ty
@@ -46,15 +46,15 @@ pub record Sized (w : List ℕ) (n : ℕ) (L : Pairs ℕ) (i v : ℕ) : Type 0 w
 
 -- Marks of cells that have been visited are right; 34 marks those that are being visited.
 pub record Marks (s : List ℕ) (n : ℕ) (L : Pairs ℕ) : Type 0 where
-  pub right : (i : ℕ) → i < n → (markAt s i ≡ 0 → ⊥) → (markAt s i ≡ 34 → ⊥) → Sized (frozen s) n L i (markAt s i)
+  pub right : (i : ℕ) → i < n → (mark_at s i ≡ 0 → ⊥) → (mark_at s i ≡ 34 → ⊥) → Sized (frozen s) n L i (mark_at s i)
 
 -- Cells and links are kept.
 pub record Same (s s' : List ℕ) : Type 0 where
   pub size : length s' ≡ length s
   pub still : frozen s' ≡ frozen s
-  pub links : (i : ℕ) → i < maxCells → linkAt s' i ≡ linkAt s i
+  pub links : (i : ℕ) → i < max_cells → link_at s' i ≡ link_at s i
   pub low : lower s' ≡ lower s
-  pub refs : (i : ℕ) → i < maxCells → word_at s' i ≡ word_at s i
+  pub refs : (i : ℕ) → i < max_cells → word_at s' i ≡ word_at s i
 
 pub record Read (s : List ℕ) (n : ℕ) : Type 0 where
   pub L : Pairs ℕ
@@ -68,41 +68,41 @@ pub record Falls (w : List ℕ) (n : ℕ) (L : Pairs ℕ) (m : ℕ → ℕ) : Ty
 -- From s to s' cells were marked, and the visits that began since have ended.
 pub record Onward (s s' : List ℕ) : Type 0 where
   pub same : Same s s'
-  pub fewer : bare s' maxCells ≤ bare s maxCells
-  pub kept : (i : ℕ) → (markAt s i ≡ 0 → ⊥) → markAt s' i ≡ markAt s i
-  pub ended : (i : ℕ) → markAt s' i ≡ 34 → markAt s i ≡ 34
+  pub fewer : bare s' max_cells ≤ bare s max_cells
+  pub kept : (i : ℕ) → (mark_at s i ≡ 0 → ⊥) → mark_at s' i ≡ mark_at s i
+  pub ended : (i : ℕ) → mark_at s' i ≡ 34 → mark_at s i ≡ 34
 
 -- The cell r has been visited.
 pub record Reached (s s' : List ℕ) (r : ℕ) : Type 0 where
   pub onward : Onward s s'
-  pub marked : markAt s' r ≡ 0 → ⊥
-  pub done : markAt s' r ≡ 34 → ⊥
+  pub marked : mark_at s' r ≡ 0 → ⊥
+  pub done : mark_at s' r ≡ 34 → ⊥
   pub marks : (n : ℕ) (L : Pairs ℕ) → Held s n L → r < n → Marks s n L → Marks s' n L
 
 -- THE VISIT of cell r. False: a cell was met below itself, so that no m falls in this way.
 pub record Visited (s s' : List ℕ) (r : ℕ) (fine : Bool) : Type 0 where
   pub same : Same s s'
   pub goes : fine ≡ true → Reached s s' r
-  pub stops : fine ≡ false → (n : ℕ) (L : Pairs ℕ) → Held s n L → r < n → (m : ℕ → ℕ) → Falls (frozen s) n L m → ((i : ℕ) → i < n → markAt s i ≡ 34 → m r < m i) → ⊥
+  pub stops : fine ≡ false → (n : ℕ) (L : Pairs ℕ) → Held s n L → r < n → (m : ℕ → ℕ) → Falls (frozen s) n L m → ((i : ℕ) → i < n → mark_at s i ≡ 34 → m r < m i) → ⊥
 
 -- No cell is being visited.
 abbrev pub Calm : List ℕ → ℕ → Type 0
-Calm s n = (i : ℕ) → i < n → markAt s i ≡ 34 → ⊥
+Calm s n = (i : ℕ) → i < n → mark_at s i ≡ 34 → ⊥
 
 -- The visits of the n cells.
 pub record Visits (s s' : List ℕ) (n : ℕ) (fine : Bool) : Type 0 where
   pub same : Same s s'
-  pub goes : fine ≡ true → (L : Pairs ℕ) → Held s n L → Marks s n L → (i : ℕ) → i < n → Sized (frozen s) n L i (markAt s' i)
+  pub goes : fine ≡ true → (L : Pairs ℕ) → Held s n L → Marks s n L → (i : ℕ) → i < n → Sized (frozen s) n L i (mark_at s' i)
   pub stops : fine ≡ false → (L : Pairs ℕ) → Held s n L → Calm s n → (m : ℕ → ℕ) → Falls (frozen s) n L m → ⊥
 
 pub record Cleared (s s' : List ℕ) (n : ℕ) : Type 0 where
   pub same : Same s s'
-  pub none : (i : ℕ) → i < n → markAt s' i ≡ 0
+  pub none : (i : ℕ) → i < n → mark_at s' i ≡ 0
 
 -- A solution in finite types of the cells, and of the equations P₀.
 pub record Solution (w : List ℕ) (n : ℕ) (P₀ : Pairs ℕ) : Type 0 where
   pub σ : ℕ → Ty
-  pub fits : (i : ℕ) (h : Former) (cs : List ℕ) → view w n i ≡ shape h cs → σ i ≡ node h (fromList (map σ cs))
+  pub fits : (i : ℕ) (h : Former) (cs : List ℕ) → view w n i ≡ shape h cs → σ i ≡ node h (from_list (map σ cs))
   pub sat : Solves σ P₀
 
 -- THE TEST FOR FINITE TYPES. True: each cell has its size, where a cell without a former counts 1. False: the equations have no solution.
@@ -110,14 +110,14 @@ pub record TestedFinite (s s' : List ℕ) (n : ℕ) (fine : Bool) : Type 0 where
   pub same : Same s s'
   pub still : frozen s' ≡ frozen s
   pub grown : (P₀ L : Pairs ℕ) → Solved s n P₀ L → Solved s' n P₀ L
-  pub sizes : fine ≡ true → (P₀ L : Pairs ℕ) → Solved s n P₀ L → (i : ℕ) → i < n → Sized (frozen s) n L i (markAt s' i)
+  pub sizes : fine ≡ true → (P₀ L : Pairs ℕ) → Solved s n P₀ L → (i : ℕ) → i < n → Sized (frozen s) n L i (mark_at s' i)
   pub solves : fine ≡ true → (P₀ L : Pairs ℕ) → Solved s n P₀ L → Solution (frozen s) n P₀
   pub endless : fine ≡ false → (P₀ L : Pairs ℕ) → Solved s n P₀ L → Solution (frozen s) n P₀ → ⊥
 
 -- `finite` has answered true.
 pub record Marked (s : List ℕ) (n : ℕ) (L : Pairs ℕ) : Type 0 where
   pub held : Held s n L
-  pub sizes : (i : ℕ) → i < n → Sized (frozen s) n L i (markAt s i)
+  pub sizes : (i : ℕ) → i < n → Sized (frozen s) n L i (mark_at s i)
 
 -- σ is a solution.
 pub record Model (s d : List ℕ) (n : ℕ) (L : Pairs ℕ) (σ : ℕ → Ty) : Type 0 where
@@ -129,12 +129,12 @@ pub record Model (s d : List ℕ) (n : ℕ) (L : Pairs ℕ) (σ : ℕ → Ty) : 
 
 -- σ gives types of size 1 to the cells that are left open.
 abbrev pub Least : List ℕ → ℕ → (ℕ → Ty) → Type 0
-Least s n σ = (i : ℕ) → i < n → tag_at (frozen s) i ≡ 0 → linkAt s i ≡ 0 → word_at s i < settledFrom → size (σ i) ≡ 1
+Least s n σ = (i : ℕ) → i < n → tag_at (frozen s) i ≡ 0 → link_at s i ≡ 0 → word_at s i < settled_from → size (σ i) ≡ 1
 
 -- The size of the unknown r, which is no link.
 pub record UnknownSize (s d : List ℕ) (r v : ℕ) : Type 0 where
-  pub free : word_at s r < settledFrom → v ≡ 1
-  pub settled : settledFrom ≤ word_at s r → TypeSize s d (word_at s r - settledFrom) v
+  pub free : word_at s r < settled_from → v ≡ 1
+  pub settled : settled_from ≤ word_at s r → TypeSize s d (word_at s r - settled_from) v
   pub few : v ≤ 33
 
 pub record Measuring (s d : List ℕ) (i : ℕ) : Type 0 where

@@ -1,8 +1,8 @@
 // The test for finite types, which marks sizes.
 ghost use Rattle.std.specs.Prelude.{◌≡◌, ◌<◌, ◌^◌};
-ghost use Rattle.types_cells.specs.Layout.{maxCells};
+ghost use Rattle.types_cells.specs.Layout.{max_cells};
 ghost use Rattle.types_cells.specs.Store.{frozen};
-ghost use Rattle.types_solver.specs.Sizes.{arityAt, Read, Visited, Visits, Cleared, TestedFinite};
+ghost use Rattle.types_solver.specs.Sizes.{arity_at, Read, Visited, Visits, Cleared, TestedFinite};
 ghost use Rattle.types_cells.specs.Calls.{Known};
 
 use crate::sizes::{OVER, capped};
@@ -15,8 +15,8 @@ const VISITING: usize = OVER + 1;
 
 // The number of parts of cell r: an unknown has none.
 fn arity(a: &[u32], r: usize) -> usize
-    requires { r < maxCells }
-    ensures { (result ≡ arityAt (frozen a.now) r) × (result < 2 ^ 32) }
+    requires { r < max_cells }
+    ensures { (result ≡ arity_at (frozen a.now) r) × (result < 2 ^ 32) }
 {
     if field(a, r, TAG) == UNKNOWN {
         return 0;

@@ -1,6 +1,6 @@
 // Types that enter as new cells, with cells for their parameters.
 ghost use Rattle.std.specs.Prelude.{◌≡◌, ◌+◌, ◌<◌, ◌^◌};
-ghost use Rattle.types_solver.specs.Growth.{argOf, InRow, Forming, Formed, Putting, PutPart, Instancing, Instanced, InstancingParts, InstancedParts};
+ghost use Rattle.types_solver.specs.Growth.{arg_of, InRow, Forming, Formed, Putting, PutPart, Instancing, Instanced, InstancingParts, InstancedParts};
 
 use codes::type_tags;
 use types_cells::growth::{add_word, new_cell};
@@ -33,7 +33,7 @@ fn row_cell(t: usize, v: usize, first: usize, k: usize) -> usize
 
 // The argument of a cell with the tag t: the word v after the tag, or the place of the identifiers.
 fn argument(t: usize, v: usize, ids: usize) -> usize
-    ensures { result ≡ argOf t v ids }
+    ensures { result ≡ arg_of t v ids }
 {
     if t == type_tags::BINDING {
         return ids;

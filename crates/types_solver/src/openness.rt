@@ -1,6 +1,6 @@
 // Finding 34: cells whose types are left open.
 ghost use Rattle.std.specs.Prelude.{◌≡◌, ◌<◌};
-ghost use Rattle.types_cells.specs.Layout.{maxCells, settledFrom};
+ghost use Rattle.types_cells.specs.Layout.{max_cells, settled_from};
 ghost use Rattle.types_cells.specs.Store.{frozen, tag_at};
 ghost use Rattle.types_cells.specs.Settled.{word_at};
 ghost use Rattle.types_solver.specs.Answers.{Left};
@@ -13,8 +13,8 @@ use words::word;
 
 // Cell r is an unknown, and refers to no type.
 fn is_open(a: &[u32], r: usize) -> bool
-    requires { r < maxCells }
-    ensures { Tells result ((tag_at (frozen a.now) r ≡ 0) × (word_at a.now r < settledFrom)) }
+    requires { r < max_cells }
+    ensures { Tells result ((tag_at (frozen a.now) r ≡ 0) × (word_at a.now r < settled_from)) }
 {
     if field(a, r, TAG) != UNKNOWN {
         return false;

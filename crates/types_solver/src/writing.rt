@@ -1,9 +1,9 @@
 // Types written as words.
 ghost use Rattle.std.specs.Prelude.{◌<◌, ◌^◌};
-ghost use Rattle.types_cells.specs.Layout.{maxCells};
+ghost use Rattle.types_cells.specs.Layout.{max_cells};
 ghost use Rattle.types_cells.specs.Store.{frozen};
 ghost use Rattle.types_cells.specs.Settled.{Reading};
-ghost use Rattle.types_solver.specs.Written.{leadAt, name_at, Copied, Wrote, Writing, Typed, Leading};
+ghost use Rattle.types_solver.specs.Written.{lead_at, name_at, Copied, Wrote, Writing, Typed, Leading};
 
 use codes::type_tags;
 use types_cells::area::{ARGUMENT, COUNT, LINKS, SETTLED, TAG, UNKNOWN, field, held, part};
@@ -14,7 +14,7 @@ use words::{store, word};
 // The first words of the type with the former at r.
 fn put_lead(a: &[u32], out: &mut [u32], at: usize, r: usize) -> usize
     requires { Leading a.now r at }
-    ensures { Wrote out.old out.new at result (leadAt (frozen a.now) r) }
+    ensures { Wrote out.old out.new at result (lead_at (frozen a.now) r) }
 {
     let t = field(a, r, TAG);
     store(out, at, t as u32);
@@ -34,7 +34,7 @@ fn put_lead(a: &[u32], out: &mut [u32], at: usize, r: usize) -> usize
 
 // The identifier of part j of the former at r, if it has identifiers.
 fn put_name(a: &[u32], out: &mut [u32], at: usize, r: usize, j: usize) -> usize
-    requires { (r < maxCells) × (j < 2 ^ 32) × (at < 2 ^ 40) }
+    requires { (r < max_cells) × (j < 2 ^ 32) × (at < 2 ^ 40) }
     ensures { Wrote out.old out.new at result (name_at (frozen a.now) r j) }
 {
     if field(a, r, TAG) == type_tags::BINDING {

@@ -2,16 +2,16 @@
 use Rattle.std.specs.Prelude.{◌≡◌, Bool, List, ℕ, ◌+◌, ◌<◌, get_or}
 use Rattle.types_rules.specs.Former.{Former, binding}
 use Rattle.types_rules.specs.Types.{Tys, node}
-use Rattle.types_rules.specs.Formed.{partCountType}
-use Rattle.types_cells.specs.Layout.{maxCells}
-use Rattle.types_cells.specs.Store.{frozen, tag_at, arg_at, countAt, run, formerAt, Cell}
+use Rattle.types_rules.specs.Formed.{part_count_type}
+use Rattle.types_cells.specs.Layout.{max_cells}
+use Rattle.types_cells.specs.Store.{frozen, tag_at, arg_at, count_at, run, former_at, Cell}
 use Rattle.types_cells.specs.Calls.{Tells}
 use Rattle.types_cells.specs.Settled.{heap, Reads, Readable, Areas}
 
 -- Cell r has a former, and p is the place of a type.
 pub record Meeting (s d : List ℕ) (r p : ℕ) : Type 0 where
   pub areas : Areas s d
-  pub few : r < maxCells
+  pub few : r < max_cells
   pub cell : Cell (frozen s) r
   pub shaped : 0 < tag_at (frozen s) r
   pub readable : Readable (heap s d) p
@@ -20,8 +20,8 @@ pub record Meeting (s d : List ℕ) (r p : ℕ) : Type 0 where
 pub record Naming (s d : List ℕ) (r p n : ℕ) : Type 0 where
   pub meeting : Meeting s d r p
   pub binds : tag_at (frozen s) r ≡ 5
-  pub count : n ≡ countAt (frozen s) r
-  pub tag-at : get_or (heap s d) p 0 ≡ 5
+  pub count : n ≡ count_at (frozen s) r
+  pub tag_there : get_or (heap s d) p 0 ≡ 5
   pub parts_at : get_or (heap s d) (p + 1) 0 ≡ n
 
 -- The answer tells whether the identifiers are the same.
@@ -30,4 +30,4 @@ pub record SameNames (s d : List ℕ) (r p n : ℕ) (b : Bool) : Type 0 where
 
 -- The answer tells whether cell r has the former of the type at p, and as many parts.
 pub record SameFormer (s d : List ℕ) (r p : ℕ) (b : Bool) : Type 0 where
-  pub tells : (h : Former) (gs : Tys) → Reads (heap s d) p (node h gs) → Tells b ((formerAt (frozen s) r ≡ h) × (countAt (frozen s) r ≡ partCountType gs))
+  pub tells : (h : Former) (gs : Tys) → Reads (heap s d) p (node h gs) → Tells b ((former_at (frozen s) r ≡ h) × (count_at (frozen s) r ≡ part_count_type gs))

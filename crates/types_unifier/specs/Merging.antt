@@ -3,7 +3,7 @@
 use Rattle.std.specs.Prelude.{◌≡◌, Bool, true, false, List, ℕ, suc, ◌+◌, ◌*◌, ◌≤◌, ◌<◌, ◌^◌, length, get_or, set}
 use Rattle.types_rules.specs.Equations.{Pairs, Solves, pair}
 use Rattle.types_rules.specs.Trees.{Extent, Tree}
-use Rattle.types_cells.specs.Layout.{maxCells, linksAt, pairsAt, secondsAt, areaSize}
+use Rattle.types_cells.specs.Layout.{max_cells, links_at, pairs_at, seconds_at, area_size}
 use Rattle.types_cells.specs.Store.{frozen, weight, Held, Solved, Busy}
 use Rattle.types_cells.specs.Calls.{Root}
 use Rattle.types_cells.specs.Settled.{lower, Pinned, ObeysIn, FitsIn, Kept}
@@ -35,7 +35,7 @@ NoSolution s d n P₀ = (ε : Extent) (σ : ℕ → Tree ε) → FitsIn ε (froz
 pub record Turned (s s' d : List ℕ) (k : ℕ) (fine : Bool) (r : ℕ) : Type 0 where
   pub still : frozen s' ≡ frozen s
   pub low : lower s' ≡ lower s
-  pub falls : fine ≡ true → weight s' maxCells + r < weight s maxCells + k
+  pub falls : fine ≡ true → weight s' max_cells + r < weight s max_cells + k
   pub goes : fine ≡ true → (n : ℕ) (P₀ L : Pairs ℕ) → Busy s n P₀ L k → Pinned s d n → Next s' n P₀ r
   pub same : fine ≡ true → (n : ℕ) (P₀ L : Pairs ℕ) → Busy s n P₀ L k → Pinned s d n → Same s s' d n P₀
   pub stops : fine ≡ false → (n : ℕ) (P₀ L : Pairs ℕ) → Busy s n P₀ L k → Pinned s d n → NoSolution s d n P₀
@@ -43,16 +43,16 @@ pub record Turned (s s' d : List ℕ) (k : ℕ) (fine : Bool) (r : ℕ) : Type 0
 -- Two representatives, of the pair that was popped.
 pub record Popped (s d : List ℕ) (k x y : ℕ) : Type 0 where
   pub reading : Open s d (suc k)
-  pub left : Root s (get_or s (pairsAt + 2 * k) 0) x
-  pub right : Root s (get_or s (secondsAt + 2 * k) 0) y
+  pub left : Root s (get_or s (pairs_at + 2 * k) 0) x
+  pub right : Root s (get_or s (seconds_at + 2 * k) 0) y
   pub apart : x ≡ y → ⊥
 
 -- The unknown x, a representative, may be linked to y: with the link there is a reading.
 pub record Tying (s d : List ℕ) (x y : ℕ) : Type 0 where
   pub n : ℕ
   pub L : Pairs ℕ
-  pub size : length s ≡ areaSize
-  pub held : Held (set s (linksAt + x) (suc y)) n L
+  pub size : length s ≡ area_size
+  pub held : Held (set s (links_at + x) (suc y)) n L
   pub pinned : Pinned s d n
   pub few : length d < 2 ^ 31
   pub left : x < n
@@ -60,10 +60,10 @@ pub record Tying (s d : List ℕ) (x y : ℕ) : Type 0 where
 
 -- x is linked to y, and y is given the type that x refers to, if it does.
 pub record Tied (s s' d : List ℕ) (x y : ℕ) (fine : Bool) : Type 0 where
-  pub kept : Kept (set s (linksAt + x) (suc y)) s'
-  pub same : fine ≡ true → (n : ℕ) (L : Pairs ℕ) → Held (set s (linksAt + x) (suc y)) n L → Pinned s d n → x < n → y < n → (P₀ : Pairs ℕ) →
+  pub kept : Kept (set s (links_at + x) (suc y)) s'
+  pub same : fine ≡ true → (n : ℕ) (L : Pairs ℕ) → Held (set s (links_at + x) (suc y)) n L → Pinned s d n → x < n → y < n → (P₀ : Pairs ℕ) →
       ((ε : Extent) (σ : ℕ → Tree ε) → FitsIn ε (frozen s) n σ → Solves σ P₀ → Solves σ L × (σ x ≡ σ y)) → Same s s' d n P₀
-  pub stops : fine ≡ false → (n : ℕ) (L : Pairs ℕ) → Held (set s (linksAt + x) (suc y)) n L → Pinned s d n → x < n → y < n → (P₀ : Pairs ℕ) →
+  pub stops : fine ≡ false → (n : ℕ) (L : Pairs ℕ) → Held (set s (links_at + x) (suc y)) n L → Pinned s d n → x < n → y < n → (P₀ : Pairs ℕ) →
       ((ε : Extent) (σ : ℕ → Tree ε) → FitsIn ε (frozen s) n σ → Solves σ P₀ → Solves σ L × (σ x ≡ σ y)) → NoSolution s d n P₀
 
 pub record Done (s : List ℕ) (n : ℕ) (P₀ : Pairs ℕ) : Type 0 where

@@ -1,6 +1,6 @@
 // The equation of two cells.
 ghost use Rattle.std.specs.Prelude.{◌≡◌, suc, ◌+◌, ◌*◌, ◌<◌, ◌^◌, set};
-ghost use Rattle.types_cells.specs.Layout.{maxPending, pairsAt, secondsAt};
+ghost use Rattle.types_cells.specs.Layout.{max_pending, pairs_at, seconds_at};
 ghost use Rattle.types_cells.specs.Store.{frozen, run};
 ghost use Rattle.types_cells.specs.Calls.{Tells, Runs};
 ghost use Rattle.types_unifier.specs.Comparing.{Two, Alike, Pushing, Pushed};
@@ -58,8 +58,8 @@ fn same_head(a: &[u32], x: usize, y: usize) -> bool
 
 // Pair number k of those that are pending.
 fn push(a: &mut [u32], k: usize, p: usize, q: usize)
-    requires { (k < maxPending) × (p < 2 ^ 32) × (q < 2 ^ 32) }
-    ensures { a.new ≡ set (set a.old (pairsAt + 2 * k) p) (secondsAt + 2 * k) q }
+    requires { (k < max_pending) × (p < 2 ^ 32) × (q < 2 ^ 32) }
+    ensures { a.new ≡ set (set a.old (pairs_at + 2 * k) p) (seconds_at + 2 * k) q }
 {
     store(a, PAIRS + 2 * k, p as u32);
     store(a, SECONDS + 2 * k, q as u32);

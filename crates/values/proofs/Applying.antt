@@ -4,9 +4,9 @@ use mathlib.Core.Bool.{false≢true}
 use Rattle.values.specs.declared.sets.Applied.{Applied}
 use Rattle.values.specs.declared.sets.Applied.TheVariants.{Found, Misfit, Undefined}
 use Rattle.values.specs.Value.{Value, int, element, set, tuple, Values, nil, cons, count, encode, encodes}
-use Rattle.values.specs.Sets.{first, isPair, arePairs, places, second, onlyPlace, apply}
-use Rattle.values.specs.SetValues.{sameValue, Image, found, misfit, undefined, isPairValue, allPairs, images, onlyOne, applyValue}
-use Rattle.values.proofs.Encoding.{span_value, first-value, rest-value}
+use Rattle.values.specs.Sets.{first, is_pair, are_pairs, places, second, only_place, apply}
+use Rattle.values.specs.SetValues.{same_value, Image, found, misfit, undefined, is_pair_value, all_pairs, images, only_one, apply_value}
+use Rattle.values.proofs.Encoding.{span_value, first_value, rest_value}
 
 -- the answer on the words f says the same as the answer on values
 abbrev pub Shows : List ℕ → Applied → Image → Type 0
@@ -27,59 +27,59 @@ EachShows f [] (cons y ys) = ⊥
 EachShows f (at ∷ ps) nil = ⊥
 EachShows f (at ∷ ps) (cons y ys) = Shows f (second f at) (found y) × EachShows f ps ys
 
-each-if : (f : List ℕ) (b : Bool) (at : ℕ) (y : Value) (ps : List ℕ) (ys : Values) → Shows f (second f at) (found y) → EachShows f ps ys → EachShows f (cond b (at ∷ ps) ps) (cond b (cons y ys) ys)
+each_if : (f : List ℕ) (b : Bool) (at : ℕ) (y : Value) (ps : List ℕ) (ys : Values) → Shows f (second f at) (found y) → EachShows f ps ys → EachShows f (cond b (at ∷ ps) ps) (cond b (cons y ys) ys)
 unfolding EachShows
-each-if f true at y ps ys h g = (h, g)
-each-if f false at y ps ys h g = g
+each_if f true at y ps ys h g = (h, g)
+each_if f false at y ps ys h g = g
 
-only-shows : (f ps : List ℕ) (ys : Values) → EachShows f ps ys → Shows f (onlyPlace f ps) (onlyOne ys)
-unfolding EachShows onlyPlace onlyOne
-only-shows f [] nil h = tt
-only-shows f [] (cons y ys) h = absurd h
-only-shows f (at ∷ ps) nil h = absurd h
-only-shows f (at ∷ []) (cons y nil) h = h.0
-only-shows f (at ∷ []) (cons y (cons z ys)) h = absurd h.1
-only-shows f (at ∷ next ∷ ps) (cons y nil) h = absurd h.1
-only-shows f (at ∷ next ∷ ps) (cons y (cons z ys)) h = tt
+only_shows : (f ps : List ℕ) (ys : Values) → EachShows f ps ys → Shows f (only_place f ps) (only_one ys)
+unfolding EachShows only_place only_one
+only_shows f [] nil h = tt
+only_shows f [] (cons y ys) h = absurd h
+only_shows f (at ∷ ps) nil h = absurd h
+only_shows f (at ∷ []) (cons y nil) h = h.0
+only_shows f (at ∷ []) (cons y (cons z ys)) h = absurd h.1
+only_shows f (at ∷ next ∷ ps) (cons y nil) h = absurd h.1
+only_shows f (at ∷ next ∷ ps) (cons y (cons z ys)) h = tt
 
 -- ---- pairs
-pair-value : (v : Value) (r : List ℕ) → isPair (encode v ++ r) ≡ isPairValue v
-unfolding isPair isPairValue encode
-pair-value (int z) r = refl
-pair-value (element g k) r = refl
-pair-value (set vs) r = refl
-pair-value (tuple vs) r = refl
+pair_value : (v : Value) (r : List ℕ) → is_pair (encode v ++ r) ≡ is_pair_value v
+unfolding is_pair is_pair_value encode
+pair_value (int z) r = refl
+pair_value (element g k) r = refl
+pair_value (set vs) r = refl
+pair_value (tuple vs) r = refl
 
-pairs-values : (vs : Values) (r : List ℕ) → length (encodes vs) ≤ 64 → arePairs (count vs) (encodes vs ++ r) ≡ allPairs vs
-unfolding arePairs allPairs count encode
-pairs-values nil r h = refl
-pairs-values (cons v vs) r h =
+pairs_values : (vs : Values) (r : List ℕ) → length (encodes vs) ≤ 64 → are_pairs (count vs) (encodes vs ++ r) ≡ all_pairs vs
+unfolding are_pairs all_pairs count encode
+pairs_values nil r h = refl
+pairs_values (cons v vs) r h =
     let k = length-append (encode v) (encodes vs) in
-    rw (append_assoc (encode v) (encodes vs) r, pair-value v (encodes vs ++ r), rest-value v (encodes vs ++ r) (omega arith), pairs-values vs r (omega arith)) refl
+    rw (append_assoc (encode v) (encodes vs) r, pair_value v (encodes vs ++ r), rest_value v (encodes vs ++ r) (omega arith), pairs_values vs r (omega arith)) refl
 
 -- ---- their places, in the words f
 module _ (f : List ℕ) where
   -- the pair at the place `at` of f, the words s after it
   module _ (x y : Value) (s : List ℕ) (at : ℕ) (hx : length (encode x) ≤ 64) (hy : length (encode y) ≤ 64) (d : drop (at + 2) f ≡ encode x ++ (encode y ++ s)) where
-    second-place : drop (at + 2 + length (encode x)) f ≡ encode y ++ s
-    second-place = sym (drop-drop (length (encode x)) (at + 2) f) ∙ ap (drop (length (encode x))) d ∙ drop_at (encode x) (encode y ++ s) (length (encode x)) refl
+    second_place : drop (at + 2 + length (encode x)) f ≡ encode y ++ s
+    second_place = sym (drop-drop (length (encode x)) (at + 2) f) ∙ ap (drop (length (encode x))) d ∙ drop_at (encode x) (encode y ++ s) (length (encode x)) refl
 
-    second-shows : Shows f (second f at) (found y)
+    second_shows : Shows f (second f at) (found y)
     unfolding second
-    second-shows =
-        rw (d, span_value x (encode y ++ s) hx, rest-value x (encode y ++ s) hx, span_value y s hy, second-place) (take_at (encode y) s (length (encode y)) refl)
+    second_shows =
+        rw (d, span_value x (encode y ++ s) hx, rest_value x (encode y ++ s) hx, span_value y s hy, second_place) (take_at (encode y) s (length (encode y)) refl)
 
   -- of the pairs vs, from the place `at` of f on, those whose first part is a
-  places-show : (vs : Values) (a : Value) (r : List ℕ) (at : ℕ) → allPairs vs ≡ true → length (encodes vs) ≤ 64 → drop at f ≡ encodes vs ++ r
+  places_show : (vs : Values) (a : Value) (r : List ℕ) (at : ℕ) → all_pairs vs ≡ true → length (encodes vs) ≤ 64 → drop at f ≡ encodes vs ++ r
       → EachShows f (places (count vs) at (encodes vs ++ r) (encode a)) (images a vs)
-  unfolding places images allPairs isPairValue count encode sameValue EachShows
-  places-show nil a r at p h d = tt
-  places-show (cons (int z) ws) a r at p h d = absurd (false≢true p)
-  places-show (cons (element g k) ws) a r at p h d = absurd (false≢true p)
-  places-show (cons (set vs) ws) a r at p h d = absurd (false≢true p)
-  places-show (cons (tuple nil) ws) a r at p h d = absurd (false≢true p)
-  places-show (cons (tuple (cons x nil)) ws) a r at p h d = absurd (false≢true p)
-  places-show (cons (tuple (cons x (cons y nil))) ws) a r at p h d =
+  unfolding places images all_pairs is_pair_value count encode same_value EachShows
+  places_show nil a r at p h d = tt
+  places_show (cons (int z) ws) a r at p h d = absurd (false≢true p)
+  places_show (cons (element g k) ws) a r at p h d = absurd (false≢true p)
+  places_show (cons (set vs) ws) a r at p h d = absurd (false≢true p)
+  places_show (cons (tuple nil) ws) a r at p h d = absurd (false≢true p)
+  places_show (cons (tuple (cons x nil)) ws) a r at p h d = absurd (false≢true p)
+  places_show (cons (tuple (cons x (cons y nil))) ws) a r at p h d =
       let v = tuple (cons x (cons y nil)) in
       let s = encodes ws ++ r in
       let l = ((encode x ++ (encode y ++ [])) ++ encodes ws) ++ r in
@@ -91,28 +91,28 @@ module _ (f : List ℕ) where
       let kv : length (encode v) ≤ 64 = omega arith in
       let dv : drop (at + length (encode v)) f ≡ s = sym (drop-drop (length (encode v)) at f) ∙ ap (drop (length (encode v))) (d ∙ g) ∙ drop_at (encode v) s (length (encode v)) refl in
       let dl : drop (at + 2) f ≡ encode x ++ (encode y ++ s) = sym (drop-drop 2 at f) ∙ ap (drop 2) d ∙ e in
-      let first-x : first l ≡ encode x = ap first e ∙ first-value x (encode y ++ s) (omega arith) in
-      rw (first-x, g, span_value v s kv, rest-value v s kv)
-      (each-if f (sameValue x a) at y _ _ (second-shows x y s at (omega arith) (omega arith) dl) (places-show ws a r (at + length (encode v)) p (omega arith) dv))
-  places-show (cons (tuple (cons x (cons y (cons z u)))) ws) a r at p h d = absurd (false≢true (rw (ne_eqb (suc (suc (suc (count u)))) 2 (λ e. omega arith)) at p))
+      let first-x : first l ≡ encode x = ap first e ∙ first_value x (encode y ++ s) (omega arith) in
+      rw (first-x, g, span_value v s kv, rest_value v s kv)
+      (each_if f (same_value x a) at y _ _ (second_shows x y s at (omega arith) (omega arith) dl) (places_show ws a r (at + length (encode v)) p (omega arith) dv))
+  places_show (cons (tuple (cons x (cons y (cons z u)))) ws) a r at p h d = absurd (false≢true (rw (ne_eqb (suc (suc (suc (count u)))) 2 (λ e. omega arith)) at p))
 
 -- ---- the two answers together
-pub apply-other : (vs : Values) (a : Value) → allPairs vs ≡ false → applyValue a vs ≡ misfit
-unfolding applyValue
-apply-other vs a p = rw p refl
+pub apply_other : (vs : Values) (a : Value) → all_pairs vs ≡ false → apply_value a vs ≡ misfit
+unfolding apply_value
+apply_other vs a p = rw p refl
 
-pub apply-pairs : (vs : Values) (a : Value) → allPairs vs ≡ true → applyValue a vs ≡ onlyOne (images a vs)
-unfolding applyValue
-apply-pairs vs a p = rw p refl
+pub apply_pairs : (vs : Values) (a : Value) → all_pairs vs ≡ true → apply_value a vs ≡ only_one (images a vs)
+unfolding apply_value
+apply_pairs vs a p = rw p refl
 
-pub apply-value : (vs : Values) (a : Value) → length (encode (set vs)) ≤ 64 → Shows (encode (set vs)) (apply (encode (set vs)) (encode a)) (applyValue a vs)
+pub apply_value_lem : (vs : Values) (a : Value) → length (encode (set vs)) ≤ 64 → Shows (encode (set vs)) (apply (encode (set vs)) (encode a)) (apply_value a vs)
 unfolding apply encode
-apply-value vs a h = rw (rw (append-nil (encodes vs)) at (pairs-values vs [] (omega arith))) (go (allPairs vs) refl)
+apply_value_lem vs a h = rw (rw (append-nil (encodes vs)) at (pairs_values vs [] (omega arith))) (go (all_pairs vs) refl)
   where
     f : List ℕ
     f = encode (set vs)
 
-    go : (b : Bool) → allPairs vs ≡ b → Shows f (cond b (onlyPlace f (places (count vs) 2 (encodes vs) (encode a))) Misfit) (applyValue a vs)
+    go : (b : Bool) → all_pairs vs ≡ b → Shows f (cond b (only_place f (places (count vs) 2 (encodes vs) (encode a))) Misfit) (apply_value a vs)
     go true p =
-        rw (apply-pairs vs a p) (only-shows f _ _ (rw (append-nil (encodes vs)) at (places-show f vs a [] 2 p (omega arith) (sym (append-nil (encodes vs))))))
-    go false p = rw (apply-other vs a p) tt
+        rw (apply_pairs vs a p) (only_shows f _ _ (rw (append-nil (encodes vs)) at (places_show f vs a [] 2 p (omega arith) (sym (append-nil (encodes vs))))))
+    go false p = rw (apply_other vs a p) tt

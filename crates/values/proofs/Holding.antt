@@ -3,44 +3,44 @@ use Rattle.std.proofs.Common.{◌≡◌, ℕ, ◌+◌, ◌-◌, ◌<◌, ◌≤�
 use lib.ListN.{length-replicate}
 use lib.Seq.{sets, sets-eq, drop-append-add}
 use borrow.Author.Tests.{lt-leb}
-use Rattle.words.proofs.Lists.{zeros-dropped}
+use Rattle.words.proofs.Lists.{zeros_dropped}
 use Rattle.values.specs.declared.held.Held.{Held}
 use Rattle.values.specs.Held.{over, keep, Building}
 
-pub keep-over : (ws : List ℕ) → 64 < length ws → keep ws ≡ over
+pub keep_over : (ws : List ℕ) → 64 < length ws → keep ws ≡ over
 unfolding keep
-keep-over ws h = rw (lt-leb (length ws) 64 h)
+keep_over ws h = rw (lt-leb (length ws) 64 h)
 
-pub keep-fits : (ws : List ℕ) → length ws ≤ 64 → keep ws ≡ record { words = ws ++ replicate (64 - length ws) 0; len = length ws }
+pub keep_fits : (ws : List ℕ) → length ws ≤ 64 → keep ws ≡ record { words = ws ++ replicate (64 - length ws) 0; len = length ws }
 unfolding keep
-keep-fits ws h = rw (le-leb (length ws) 64 h)
+keep_fits ws h = rw (le-leb (length ws) 64 h)
 
 abbrev zeros : ℕ → List ℕ
 zeros n = replicate n 0
 
 -- what a kept value says of its list
 module _ (v : Held) (ws : List ℕ) (e : v ≡ keep ws) where
-  pub held-short : v.len ≤ 64 → length ws ≤ 64
+  pub held_short : v.len ≤ 64 → length ws ≤ 64
   unfolding keep over
-  held-short h = go (leb (length ws) 64) refl
+  held_short h = go (leb (length ws) 64) refl
     where
       go : (b : Bool) → leb (length ws) 64 ≡ b → length ws ≤ 64
       go true t = leb-true (length ws) 64 t
-      go false t = absurd (omega (arith, ap (λ (x : Held). x.len) (e ∙ keep-over ws (leb-false (length ws) 64 t))))
+      go false t = absurd (omega (arith, ap (λ (x : Held). x.len) (e ∙ keep_over ws (leb-false (length ws) 64 t))))
 
-  pub held-long : 64 < v.len → 64 < length ws
+  pub held_long : 64 < v.len → 64 < length ws
   unfolding keep over
-  held-long h = go (leb (length ws) 64) refl
+  held_long h = go (leb (length ws) 64) refl
     where
       go : (b : Bool) → leb (length ws) 64 ≡ b → 64 < length ws
-      go true t = absurd (omega (arith, ap (λ (x : Held). x.len) (e ∙ keep-fits ws (leb-true (length ws) 64 t)), leb-true (length ws) 64 t))
+      go true t = absurd (omega (arith, ap (λ (x : Held). x.len) (e ∙ keep_fits ws (leb-true (length ws) 64 t)), leb-true (length ws) 64 t))
       go false t = leb-false (length ws) 64 t
 
-  pub held-len : length ws ≤ 64 → v.len ≡ length ws
-  held-len h = ap (λ (x : Held). x.len) (e ∙ keep-fits ws h)
+  pub held_len : length ws ≤ 64 → v.len ≡ length ws
+  held_len h = ap (λ (x : Held). x.len) (e ∙ keep_fits ws h)
 
-  pub held-words : length ws ≤ 64 → v.words ≡ ws ++ replicate (64 - length ws) 0
-  held-words h = ap (λ (x : Held). x.words) (e ∙ keep-fits ws h)
+  pub held_words : length ws ≤ 64 → v.words ≡ ws ++ replicate (64 - length ws) 0
+  held_words h = ap (λ (x : Held). x.words) (e ∙ keep_fits ws h)
 
 -- the words after a copy to the end of those that are held
 pub appended : (ws w : List ℕ) → length ws + length w ≤ 64 → sets (ws ++ replicate (64 - length ws) 0) (length ws) w ≡ (ws ++ w) ++ replicate (64 - length (ws ++ w)) 0
@@ -49,15 +49,15 @@ appended ws w h =
     let l : length (ws ++ z) ≡ 64 = length-append ws z ∙ omega (arith, length-replicate {A = ℕ} (64 - length ws) 0) in
     let k : 64 - length ws - length w ≡ 64 - length (ws ++ w) = omega (arith, length-append ws w) in
     sets-eq w (ws ++ z) (length ws) (omega arith)
-    ∙ rw (take_at ws z (length ws) refl, drop-append-add ws z (length w), zeros-dropped (length w) (64 - length ws), k)
+    ∙ rw (take_at ws z (length ws) refl, drop-append-add ws z (length w), zeros_dropped (length w) (64 - length ws), k)
 
 -- the words that are held, back as a list
-pub held-part : (v : Held) (ws : List ℕ) → v ≡ keep ws → length ws ≤ 64 → take v.len v.words ≡ ws
-held-part v ws e h = rw (held-len v ws e h, held-words v ws e h) (take_at ws (zeros (64 - length ws)) (length ws) refl)
+pub held_part : (v : Held) (ws : List ℕ) → v ≡ keep ws → length ws ≤ 64 → take v.len v.words ≡ ws
+held_part v ws e h = rw (held_len v ws e h, held_words v ws e h) (take_at ws (zeros (64 - length ws)) (length ws) refl)
 
 -- ---- a value while it is built
-pub building-none : Building (replicate 64 0) 0 []
-building-none = record { words = λ l. refl; end = λ l. refl; past = λ l. absurd (omega arith) }
+pub building_none : Building (replicate 64 0) 0 []
+building_none = record { words = λ l. refl; end = λ l. refl; past = λ l. absurd (omega arith) }
 
 module _ (u w ws : List ℕ) (at : ℕ) (b : Building u at ws) where
   room : length ws ≤ 64 → length u ≡ 64
@@ -74,34 +74,34 @@ module _ (u w ws : List ℕ) (at : ℕ) (b : Building u at ws) where
   shorter : length (ws ++ w) ≤ 64 → length ws ≤ 64
   shorter l = omega (arith, length-append ws w)
 
-  pub put-past : length u < at → Building u at (ws ++ w)
-  put-past h =
+  pub put_past : length u < at → Building u at (ws ++ w)
+  put_past h =
       let no : length ws ≤ 64 → ⊥ = λ l. omega (arith, h, room l, b.end l) in
       record { words = λ l. absurd (no (shorter l)); end = λ l. absurd (no (shorter l)); past = λ l. fits_or (λ k. absurd (no k)) (λ p. p) }
 
-  pub put-over : at ≤ length u → length u - at < length w → Building u 65 (ws ++ w)
-  put-over p h =
+  pub put_over : at ≤ length u → length u - at < length w → Building u 65 (ws ++ w)
+  put_over p h =
       let no : length (ws ++ w) ≤ 64 → ⊥ = λ l. omega (arith, h, p, room (shorter l), b.end (shorter l), length-append ws w) in
       record { words = λ l. absurd (no l); end = λ l. absurd (no l); past = λ l. omega arith }
 
-  pub put-fits : at + length w ≤ length u → Building (sets u at w) (at + length w) (ws ++ w)
-  put-fits h =
+  pub put_fits : at + length w ≤ length u → Building (sets u at w) (at + length w) (ws ++ w)
+  put_fits h =
       record {
         words = λ l. rw (b.words (shorter l), b.end (shorter l)) (appended ws w (omega (arith, length-append ws w)));
         end = λ l. omega (arith, b.end (shorter l), length-append ws w);
         past = λ l. fits_or (λ k. omega (arith, l, b.end k, length-append ws w)) (λ p. omega arith);
       }
 
-pub built-keep : (u ws : List ℕ) (at : ℕ) → Building u at ws → at ≤ 64 → record { words = u; len = at } ≡ keep ws
-built-keep u ws at b l = go (leb (length ws) 64) refl
+pub built_keep : (u ws : List ℕ) (at : ℕ) → Building u at ws → at ≤ 64 → record { words = u; len = at } ≡ keep ws
+built_keep u ws at b l = go (leb (length ws) 64) refl
   where
     go : (c : Bool) → leb (length ws) 64 ≡ c → record { words = u; len = at } ≡ keep ws
-    go true e = let k = leb-true (length ws) 64 e in rw (b.words k, b.end k) (sym (keep-fits ws k))
+    go true e = let k = leb-true (length ws) 64 e in rw (b.words k, b.end k) (sym (keep_fits ws k))
     go false e = absurd (omega (arith, b.past (leb-false (length ws) 64 e)))
 
-pub built-over : (u ws : List ℕ) (at : ℕ) → Building u at ws → 64 < at → over ≡ keep ws
-built-over u ws at b l = go (leb (length ws) 64) refl
+pub built_over : (u ws : List ℕ) (at : ℕ) → Building u at ws → 64 < at → over ≡ keep ws
+built_over u ws at b l = go (leb (length ws) 64) refl
   where
     go : (c : Bool) → leb (length ws) 64 ≡ c → over ≡ keep ws
     go true e = absurd (omega (arith, b.end (leb-true (length ws) 64 e), leb-true (length ws) 64 e))
-    go false e = sym (keep-over ws (leb-false (length ws) 64 e))
+    go false e = sym (keep_over ws (leb-false (length ws) 64 e))

@@ -7,6 +7,6 @@ use Rattle.values.specs.Numbers.{number_of}
 use Rattle.values.specs.Value.{int, encode}
 use Rattle.values.proofs.Unique.{fits32}
 
-pub number-value : (z : ℤ) → in32 z ≡ true → number_of (encode (int z)) ≡ Integer z
+pub number_value : (z : ℤ) → in32 z ≡ true → number_of (encode (int z)) ≡ Integer z
 unfolding number_of encode signed word_of
-number-value z h = ap Integer (to_z-of_z w32 z (fits32 z h))
+number_value z h = ap Integer (to_z-of_z w32 z (fits32 z h))

@@ -1,62 +1,62 @@
 -- No value's words begin another's, said of the order: what follows two values decides where they are the same, and only there.
 use Rattle.std.proofs.Common.{◌≡◌, ℕ, ◌^◌, ◌<◌, List, [], ◌∷◌, ◌++◌, length, sym, refl, append_assoc, arith, length-append}
 use Rattle.values_integers.specs.Integer.{signed}
-use Rattle.values.specs.Order.{compareWord, or_else, compare}
+use Rattle.values.specs.Order.{compare_word, or_else, compare}
 use Rattle.values.specs.Value.{Value, int, element, set, tuple, Values, nil, cons, count, encode, encodes}
 use Rattle.values.specs.declared.order.Order.{Order}
 use Rattle.values.specs.declared.order.Order.TheVariants.{Less, Same, Greater}
-use Rattle.values.proofs.Encoding.{count-few}
-use Rattle.values.proofs.WordOrder.{word-alike}
+use Rattle.values.proofs.Encoding.{count_few}
+use Rattle.values.proofs.WordOrder.{word_alike}
 
-else-assoc : (o p q : Order) → or_else (or_else o p) q ≡ or_else o (or_else p q)
+else_assoc : (o p q : Order) → or_else (or_else o p) q ≡ or_else o (or_else p q)
 unfolding or_else
-else-assoc Less p q = refl
-else-assoc Same p q = refl
-else-assoc Greater p q = refl
+else_assoc Less p q = refl
+else_assoc Same p q = refl
+else_assoc Greater p q = refl
 
 -- lists of one length
-level-join : (a b r s : List ℕ) → length a ≡ length b → compare (a ++ r) (b ++ s) ≡ or_else (compare a b) (compare r s)
+level_join : (a b r s : List ℕ) → length a ≡ length b → compare (a ++ r) (b ++ s) ≡ or_else (compare a b) (compare r s)
 unfolding compare or_else
-level-join [] [] r s e = refl
-level-join [] (y ∷ b) r s e = absurd (omega arith)
-level-join (x ∷ a) [] r s e = absurd (omega arith)
-level-join (x ∷ a) (y ∷ b) r s e =
-    rw (level-join a b r s (omega arith)) (sym (else-assoc (compareWord x y) (compare a b) (compare r s)))
+level_join [] [] r s e = refl
+level_join [] (y ∷ b) r s e = absurd (omega arith)
+level_join (x ∷ a) [] r s e = absurd (omega arith)
+level_join (x ∷ a) (y ∷ b) r s e =
+    rw (level_join a b r s (omega arith)) (sym (else_assoc (compare_word x y) (compare a b) (compare r s)))
 
 -- a count, then what is compared after equal counts alone
-counted : (n m : ℕ) (p q o : Order) → n < 2 ^ 32 → m < 2 ^ 32 → (n ≡ m → p ≡ or_else q o) → or_else (compareWord n m) p ≡ or_else (or_else (compareWord n m) q) o
+counted : (n m : ℕ) (p q o : Order) → n < 2 ^ 32 → m < 2 ^ 32 → (n ≡ m → p ≡ or_else q o) → or_else (compare_word n m) p ≡ or_else (or_else (compare_word n m) q) o
 unfolding or_else
-counted n m p q o hn hm e = go (compareWord n m) refl
+counted n m p q o hn hm e = go (compare_word n m) refl
   where
-    go : (c : Order) → compareWord n m ≡ c → or_else c p ≡ or_else (or_else c q) o
+    go : (c : Order) → compare_word n m ≡ c → or_else c p ≡ or_else (or_else c q) o
     go Less f = refl
-    go Same f = e (word-alike n m hn hm f)
+    go Same f = e (word_alike n m hn hm f)
     go Greater f = refl
 
 mutual
-  unfolding encode count compare compareWord or_else signed
+  unfolding encode count compare compare_word or_else signed
 
-  pub value-join : (v w : Value) (r s : List ℕ) → length (encode v) < 2 ^ 32 → length (encode w) < 2 ^ 32 →
+  pub value_join : (v w : Value) (r s : List ℕ) → length (encode v) < 2 ^ 32 → length (encode w) < 2 ^ 32 →
       compare (encode v ++ r) (encode w ++ s) ≡ or_else (compare (encode v) (encode w)) (compare r s)
-  value-join (int y) (int z) r s p q = level-join (encode (int y)) (encode (int z)) r s refl
-  value-join (int y) (element g k) r s p q = refl
-  value-join (int y) (set us) r s p q = refl
-  value-join (int y) (tuple us) r s p q = refl
-  value-join (element f j) (int z) r s p q = refl
-  value-join (element f j) (element g k) r s p q = level-join (encode (element f j)) (encode (element g k)) r s refl
-  value-join (element f j) (set us) r s p q = refl
-  value-join (element f j) (tuple us) r s p q = refl
-  value-join (set vs) (int z) r s p q = refl
-  value-join (set vs) (element g k) r s p q = refl
-  value-join (set vs) (set us) r s p q =
-      counted (count vs) (count us) (compare (encodes vs ++ r) (encodes us ++ s)) (compare (encodes vs) (encodes us)) (compare r s) (omega (arith, count-few vs)) (omega (arith, count-few us))
+  value_join (int y) (int z) r s p q = level_join (encode (int y)) (encode (int z)) r s refl
+  value_join (int y) (element g k) r s p q = refl
+  value_join (int y) (set us) r s p q = refl
+  value_join (int y) (tuple us) r s p q = refl
+  value_join (element f j) (int z) r s p q = refl
+  value_join (element f j) (element g k) r s p q = level_join (encode (element f j)) (encode (element g k)) r s refl
+  value_join (element f j) (set us) r s p q = refl
+  value_join (element f j) (tuple us) r s p q = refl
+  value_join (set vs) (int z) r s p q = refl
+  value_join (set vs) (element g k) r s p q = refl
+  value_join (set vs) (set us) r s p q =
+      counted (count vs) (count us) (compare (encodes vs ++ r) (encodes us ++ s)) (compare (encodes vs) (encodes us)) (compare r s) (omega (arith, count_few vs)) (omega (arith, count_few us))
       (λ e. values_join vs us r s e (omega arith) (omega arith))
-  value-join (set vs) (tuple us) r s p q = refl
-  value-join (tuple vs) (int z) r s p q = refl
-  value-join (tuple vs) (element g k) r s p q = refl
-  value-join (tuple vs) (set us) r s p q = refl
-  value-join (tuple vs) (tuple us) r s p q =
-      counted (count vs) (count us) (compare (encodes vs ++ r) (encodes us ++ s)) (compare (encodes vs) (encodes us)) (compare r s) (omega (arith, count-few vs)) (omega (arith, count-few us))
+  value_join (set vs) (tuple us) r s p q = refl
+  value_join (tuple vs) (int z) r s p q = refl
+  value_join (tuple vs) (element g k) r s p q = refl
+  value_join (tuple vs) (set us) r s p q = refl
+  value_join (tuple vs) (tuple us) r s p q =
+      counted (count vs) (count us) (compare (encodes vs ++ r) (encodes us ++ s)) (compare (encodes vs) (encodes us)) (compare r s) (omega (arith, count_few vs)) (omega (arith, count_few us))
       (λ e. values_join vs us r s e (omega arith) (omega arith))
 
   values_join : (vs us : Values) (r s : List ℕ) → count vs ≡ count us → length (encodes vs) < 2 ^ 32 → length (encodes us) < 2 ^ 32 →
@@ -70,8 +70,8 @@ mutual
       rw (
         append_assoc (encode v) (encodes vs) r,
         append_assoc (encode u) (encodes us) s,
-        value-join v u (encodes vs ++ r) (encodes us ++ s) (omega arith) (omega arith),
-        value-join v u (encodes vs) (encodes us) (omega arith) (omega arith),
+        value_join v u (encodes vs ++ r) (encodes us ++ s) (omega arith) (omega arith),
+        value_join v u (encodes vs) (encodes us) (omega arith) (omega arith),
         values_join vs us r s (omega arith) (omega arith) (omega arith),
       )
-      (sym (else-assoc (compare (encode v) (encode u)) (compare (encodes vs) (encodes us)) (compare r s)))
+      (sym (else_assoc (compare (encode v) (encode u)) (compare (encodes vs) (encodes us)) (compare r s)))

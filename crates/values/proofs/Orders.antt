@@ -3,41 +3,41 @@ use Rattle.std.proofs.Common.{◌≡◌, ℕ, ◌+◌, ◌<◌, ◌≤◌, true,
 use mathlib.Core.Bool.{false≢true}
 use Rattle.values.specs.declared.order.Order.{Order}
 use Rattle.values.specs.declared.order.Order.TheVariants.{Less, Same, Greater}
-use Rattle.values.specs.Order.{compareWord, or_else, compare, isSame}
+use Rattle.values.specs.Order.{compare_word, or_else, compare, is_same}
 
-decided : (o p : Order) → isSame o ≡ false → or_else o p ≡ o
-unfolding or_else isSame
+decided : (o p : Order) → is_same o ≡ false → or_else o p ≡ o
+unfolding or_else is_same
 decided Less p h = refl
 decided Same p h = absurd (true≢false h)
 decided Greater p h = refl
 
-undecided : (o p : Order) → isSame o ≡ true → or_else o p ≡ p
-unfolding or_else isSame
+undecided : (o p : Order) → is_same o ≡ true → or_else o p ≡ p
+unfolding or_else is_same
 undecided Less p h = absurd (false≢true h)
 undecided Same p h = refl
 undecided Greater p h = absurd (false≢true h)
 
 -- one turn of the comparison, and its ends
 module _ (a b : List ℕ) (i : ℕ) where
-  pub compare-longer : i < length a → length b ≤ i → Greater ≡ compare (drop i a) (drop i b)
+  pub compare_longer : i < length a → length b ≤ i → Greater ≡ compare (drop i a) (drop i b)
   unfolding compare
-  compare-longer p q = rw (drop-cons a i 0 p, drop_of_length-le b q)
+  compare_longer p q = rw (drop-cons a i 0 p, drop_of_length-le b q)
 
-  pub compare-shorter : length a ≤ i → i < length b → Less ≡ compare (drop i a) (drop i b)
+  pub compare_shorter : length a ≤ i → i < length b → Less ≡ compare (drop i a) (drop i b)
   unfolding compare
-  compare-shorter p q = rw (drop_of_length-le a p, drop-cons b i 0 q)
+  compare_shorter p q = rw (drop_of_length-le a p, drop-cons b i 0 q)
 
-  pub compare-equal : length a ≤ i → length b ≤ i → Same ≡ compare (drop i a) (drop i b)
+  pub compare_equal : length a ≤ i → length b ≤ i → Same ≡ compare (drop i a) (drop i b)
   unfolding compare
-  compare-equal p q = rw (drop_of_length-le a p, drop_of_length-le b q)
+  compare_equal p q = rw (drop_of_length-le a p, drop_of_length-le b q)
 
   module _ (p : i < length a) (q : i < length b) where
-    pub compare-turn : compare (drop i a) (drop i b) ≡ or_else (compareWord (get_or a i 0) (get_or b i 0)) (compare (drop (i + 1) a) (drop (i + 1) b))
+    pub compare_turn : compare (drop i a) (drop i b) ≡ or_else (compare_word (get_or a i 0) (get_or b i 0)) (compare (drop (i + 1) a) (drop (i + 1) b))
     unfolding compare
-    compare-turn = rw (add-one i, drop-cons a i 0 p, drop-cons b i 0 q)
+    compare_turn = rw (add-one i, drop-cons a i 0 p, drop-cons b i 0 q)
 
-    pub compare-stop : (o : Order) → o ≡ compareWord (get_or a i 0) (get_or b i 0) → isSame o ≡ false → o ≡ compare (drop i a) (drop i b)
-    compare-stop o e h = sym (compare-turn ∙ rw (← e) (decided o (compare (drop (i + 1) a) (drop (i + 1) b)) h))
+    pub compare_stop : (o : Order) → o ≡ compare_word (get_or a i 0) (get_or b i 0) → is_same o ≡ false → o ≡ compare (drop i a) (drop i b)
+    compare_stop o e h = sym (compare_turn ∙ rw (← e) (decided o (compare (drop (i + 1) a) (drop (i + 1) b)) h))
 
-    pub compare-go : (o : Order) → o ≡ compareWord (get_or a i 0) (get_or b i 0) → isSame o ≡ true → compare (drop i a) (drop i b) ≡ compare (drop (i + 1) a) (drop (i + 1) b)
-    compare-go o e h = compare-turn ∙ rw (← e) (undecided o (compare (drop (i + 1) a) (drop (i + 1) b)) h)
+    pub compare_go : (o : Order) → o ≡ compare_word (get_or a i 0) (get_or b i 0) → is_same o ≡ true → compare (drop i a) (drop i b) ≡ compare (drop (i + 1) a) (drop (i + 1) b)
+    compare_go o e h = compare_turn ∙ rw (← e) (undecided o (compare (drop (i + 1) a) (drop (i + 1) b)) h)

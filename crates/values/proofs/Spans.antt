@@ -13,10 +13,10 @@ pub parts_at : (w : List ℕ) (at : ℕ) → parts (drop at w) ≡ cond (leb (ge
 unfolding parts
 parts_at w at = ap (λ (x : ℕ). cond (leb x 2) 0 (get_or (drop at w) 1 0)) (first_word w at) ∙ ap (λ (x : ℕ). cond (leb (get_or w at 0) 2) 0 x) (get_or-drop at w 1 0)
 
-pub spans-none : (n : ℕ) (ws : List ℕ) → spans n 0 ws ≡ 0
+pub spans_none : (n : ℕ) (ws : List ℕ) → spans n 0 ws ≡ 0
 unfolding spans
-spans-none zero ws = refl
-spans-none (suc n) ws = refl
+spans_none zero ws = refl
+spans_none (suc n) ws = refl
 
 turn : (n left : ℕ) (ws : List ℕ) → 0 < left → spans (suc n) left ws ≡ head ws + spans n (parts ws + left - 1) (drop (head ws) ws)
 unfolding spans
@@ -24,17 +24,17 @@ turn n zero ws h = absurd (omega arith)
 turn n (suc left) ws h = ap (λ (k : ℕ). head ws + spans n k (drop (head ws) ws)) (omega arith)
 
 module _ (w : List ℕ) (at left i : ℕ) where
-  pub spans-go : i < 32 → 0 < left → (h p : ℕ) → h ≡ head (drop at w) → p ≡ parts (drop at w) →
+  pub spans_go : i < 32 → 0 < left → (h p : ℕ) → h ≡ head (drop at w) → p ≡ parts (drop at w) →
       at + spans (32 - i) left (drop at w) ≡ at + h + spans (32 - (i + 1)) (p + left - 1) (drop (at + h) w)
-  spans-go l g h p e q =
+  spans_go l g h p e q =
       let f : 32 - i ≡ suc (32 - (i + 1)) = omega arith in
       rw (f, turn (32 - (i + 1)) left (drop at w) g, ← e, ← q, drop-drop h at w) (sym (add_assoc at h _))
 
-  pub spans-end : 32 ≤ i → at + spans (32 - i) left (drop at w) ≡ at
+  pub spans_end : 32 ≤ i → at + spans (32 - i) left (drop at w) ≡ at
   unfolding spans
-  spans-end l =
+  spans_end l =
       let f : 32 - i ≡ 0 = omega arith in
       rw f (add-zero at)
 
-  pub spans-stop : left ≡ 0 → at + spans (32 - i) left (drop at w) ≡ at
-  spans-stop e = rw (e, spans-none (32 - i) (drop at w)) (add-zero at)
+  pub spans_stop : left ≡ 0 → at + spans (32 - i) left (drop at w) ≡ at
+  spans_stop e = rw (e, spans_none (32 - i) (drop at w)) (add-zero at)

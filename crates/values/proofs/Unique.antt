@@ -5,7 +5,7 @@ use mir.ValLaws.{to_z-of_z}
 use Rattle.values_integers.specs.Integer.{word_of, in32}
 use Rattle.words.proofs.Loops.{and_left, and_right}
 use Rattle.values.specs.Value.{Value, int, element, set, tuple, Values, nil, cons, count, encode, encodes}
-use Rattle.values.specs.WellFormed.{wellFormed, allWellFormed}
+use Rattle.values.specs.WellFormed.{well_formed, all_well_formed}
 
 -- a test of which both parts pass
 pub both : (a b : Bool) → a ≡ true → b ≡ true → (a && b) ≡ true
@@ -14,18 +14,18 @@ both a b e f = rw (e, f)
 pub fits32 : (z : ℤ) → in32 z ≡ true → SFits w32 z
 fits32 z h = record { sfits = omega (arith, ltb-true (mag z) (2 ^ 31) h) }
 
-word-unique : (y z : ℤ) → in32 y ≡ true → in32 z ≡ true → word_of y ≡ word_of z → y ≡ z
+word_unique : (y z : ℤ) → in32 y ≡ true → in32 z ≡ true → word_of y ≡ word_of z → y ≡ z
 unfolding word_of
-word-unique y z p q e = sym (to_z-of_z w32 y (fits32 y p)) ∙ ap (to_z w32) e ∙ to_z-of_z w32 z (fits32 z q)
+word_unique y z p q e = sym (to_z-of_z w32 y (fits32 y p)) ∙ ap (to_z w32) e ∙ to_z-of_z w32 z (fits32 z q)
 
 module _ (size : ℕ → ℕ) where
   mutual
-    unfolding encode count wellFormed
+    unfolding encode count well_formed
 
-    pub unique : (v u : Value) (r s : List ℕ) → wellFormed size v ≡ true → wellFormed size u ≡ true → encode v ++ r ≡ encode u ++ s → (v ≡ u) × (r ≡ s)
+    pub unique : (v u : Value) (r s : List ℕ) → well_formed size v ≡ true → well_formed size u ≡ true → encode v ++ r ≡ encode u ++ s → (v ≡ u) × (r ≡ s)
     unique (int y) (int z) r s p q e =
         let w : word_of y ≡ word_of z = cc in
-        (ap int (word-unique y z p q w), cc)
+        (ap int (word_unique y z p q w), cc)
     unique (int y) (element g k) r s p q e = let z : ◌≡◌ {A = ℕ} 1 2 = cc in absurd (omega arith)
     unique (int y) (set us) r s p q e = let z : ◌≡◌ {A = ℕ} 1 3 = cc in absurd (omega arith)
     unique (int y) (tuple us) r s p q e = let z : ◌≡◌ {A = ℕ} 1 4 = cc in absurd (omega arith)
@@ -38,7 +38,7 @@ module _ (size : ℕ → ℕ) where
     unique (set vs) (set us) r s p q e =
         let n : count vs ≡ count us = cc in
         let l : encodes vs ++ r ≡ encodes us ++ s = cc in
-        let i = uniques vs us r s (and_left (allWellFormed size vs) _ p) (and_left (allWellFormed size us) _ q) n l in
+        let i = uniques vs us r s (and_left (all_well_formed size vs) _ p) (and_left (all_well_formed size us) _ q) n l in
         (ap set i.0, i.1)
     unique (set vs) (tuple us) r s p q e = let z : ◌≡◌ {A = ℕ} 3 4 = cc in absurd (omega arith)
     unique (tuple vs) (int z) r s p q e = let z : ◌≡◌ {A = ℕ} 4 1 = cc in absurd (omega arith)
@@ -47,19 +47,19 @@ module _ (size : ℕ → ℕ) where
     unique (tuple vs) (tuple us) r s p q e =
         let n : count vs ≡ count us = cc in
         let l : encodes vs ++ r ≡ encodes us ++ s = cc in
-        let i = uniques vs us r s (and_left (allWellFormed size vs) _ p) (and_left (allWellFormed size us) _ q) n l in
+        let i = uniques vs us r s (and_left (all_well_formed size vs) _ p) (and_left (all_well_formed size us) _ q) n l in
         (ap tuple i.0, i.1)
 
-    uniques : (vs us : Values) (r s : List ℕ) → allWellFormed size vs ≡ true → allWellFormed size us ≡ true → count vs ≡ count us → encodes vs ++ r ≡ encodes us ++ s → (vs ≡ us) × (r ≡ s)
+    uniques : (vs us : Values) (r s : List ℕ) → all_well_formed size vs ≡ true → all_well_formed size us ≡ true → count vs ≡ count us → encodes vs ++ r ≡ encodes us ++ s → (vs ≡ us) × (r ≡ s)
     uniques nil nil r s p q n e = (refl, e)
     uniques nil (cons u us) r s p q n e = absurd (omega arith)
     uniques (cons v vs) nil r s p q n e = absurd (omega arith)
     uniques (cons v vs) (cons u us) r s p q n e =
         let l = sym (append_assoc (encode v) (encodes vs) r) ∙ e ∙ append_assoc (encode u) (encodes us) s in
-        let i = unique v u (encodes vs ++ r) (encodes us ++ s) (and_left (wellFormed size v) _ p) (and_left (wellFormed size u) _ q) l in
-        let j = uniques vs us r s (and_right (wellFormed size v) _ p) (and_right (wellFormed size u) _ q) (omega arith) i.1 in
+        let i = unique v u (encodes vs ++ r) (encodes us ++ s) (and_left (well_formed size v) _ p) (and_left (well_formed size u) _ q) l in
+        let j = uniques vs us r s (and_right (well_formed size v) _ p) (and_right (well_formed size u) _ q) (omega arith) i.1 in
         (cc (i.0, j.0), j.1)
 
   -- equal words, equal values
-  pub encode_injective : (v u : Value) → wellFormed size v ≡ true → wellFormed size u ≡ true → encode v ≡ encode u → v ≡ u
+  pub encode_injective : (v u : Value) → well_formed size v ≡ true → well_formed size u ≡ true → encode v ≡ encode u → v ≡ u
   encode_injective v u p q e = (unique v u [] [] p q (ap (λ (l : List ℕ). l ++ []) e)).0

@@ -4,22 +4,22 @@ use mathlib.Core.Bool.{false≢true}
 use mir.ValLaws.{of_z-to_z, to_z_pos}
 use lib.Signed.{lt_z}
 use Rattle.values_integers.specs.Integer.{signed}
-use Rattle.values.specs.Order.{compareWord, or_else, compare, isLess}
+use Rattle.values.specs.Order.{compare_word, or_else, compare, is_less}
 use Rattle.values.specs.declared.order.Order.{Order}
 use Rattle.values.specs.declared.order.Order.TheVariants.{Less, Same, Greater}
 
-below-trans : (x y z : ℤ) → lt_z x y ≡ true → lt_z y z ≡ true → lt_z x z ≡ true
-below-trans (pos a) (pos b) (pos c) p q = lt-ltb a c (omega (arith, ltb-true a b p, ltb-true b c q))
-below-trans (pos a) (pos b) (negsuc c) p q = absurd (false≢true q)
-below-trans (pos a) (negsuc b) z p q = absurd (false≢true p)
-below-trans (negsuc a) (pos b) (pos c) p q = refl
-below-trans (negsuc a) (pos b) (negsuc c) p q = absurd (false≢true q)
-below-trans (negsuc a) (negsuc b) (pos c) p q = refl
-below-trans (negsuc a) (negsuc b) (negsuc c) p q = lt-ltb c a (omega (arith, ltb-true b a p, ltb-true c b q))
+below_trans : (x y z : ℤ) → lt_z x y ≡ true → lt_z y z ≡ true → lt_z x z ≡ true
+below_trans (pos a) (pos b) (pos c) p q = lt-ltb a c (omega (arith, ltb-true a b p, ltb-true b c q))
+below_trans (pos a) (pos b) (negsuc c) p q = absurd (false≢true q)
+below_trans (pos a) (negsuc b) z p q = absurd (false≢true p)
+below_trans (negsuc a) (pos b) (pos c) p q = refl
+below_trans (negsuc a) (pos b) (negsuc c) p q = absurd (false≢true q)
+below_trans (negsuc a) (negsuc b) (pos c) p q = refl
+below_trans (negsuc a) (negsuc b) (negsuc c) p q = lt-ltb c a (omega (arith, ltb-true b a p, ltb-true c b q))
 
-not-below : (z : ℤ) → lt_z z z ≡ false
-not-below (pos a) = le-ltb a a (omega arith)
-not-below (negsuc a) = le-ltb a a (omega arith)
+not_below : (z : ℤ) → lt_z z z ≡ false
+not_below (pos a) = le-ltb a a (omega arith)
+not_below (negsuc a) = le-ltb a a (omega arith)
 
 level : (x y : ℤ) → lt_z x y ≡ false → lt_z y x ≡ false → x ≡ y
 level (pos a) (pos b) p q = ap pos (omega (arith, ltb-false a b p, ltb-false b a q))
@@ -33,8 +33,8 @@ data Ordered (x y : ℕ) : Order → Type 0 where
   alike : signed x ≡ signed y → Ordered x y Same
   higher : Ordered x y Greater
 
-ordered : (x y : ℕ) → Ordered x y (compareWord x y)
-unfolding compareWord
+ordered : (x y : ℕ) → Ordered x y (compare_word x y)
+unfolding compare_word
 ordered x y = go (lt_z (signed x) (signed y)) refl (lt_z (signed y) (signed x)) refl
   where
     go : (a : Bool) → lt_z (signed x) (signed y) ≡ a → (b : Bool) → lt_z (signed y) (signed x) ≡ b → Ordered x y (cond a Less (cond b Greater Same))
@@ -42,40 +42,40 @@ ordered x y = go (lt_z (signed x) (signed y)) refl (lt_z (signed y) (signed x)) 
     go false p true q = higher
     go false p false q = alike (level (signed x) (signed y) p q)
 
-pub word-less : (x z : ℕ) → lt_z (signed x) (signed z) ≡ true → compareWord x z ≡ Less
-unfolding compareWord
-word-less x z l = rw l
+pub word_less : (x z : ℕ) → lt_z (signed x) (signed z) ≡ true → compare_word x z ≡ Less
+unfolding compare_word
+word_less x z l = rw l
 
-pub word_same : (x z : ℕ) → signed x ≡ signed z → compareWord x z ≡ Same
-unfolding compareWord
-word_same x z e = rw (e, not-below (signed z))
+pub word_same : (x z : ℕ) → signed x ≡ signed z → compare_word x z ≡ Same
+unfolding compare_word
+word_same x z e = rw (e, not_below (signed z))
 
-pub less-trans : (a b c : List ℕ) → isLess (compare a b) ≡ true → isLess (compare b c) ≡ true → isLess (compare a c) ≡ true
-unfolding compare isLess or_else
-less-trans [] [] c h k = absurd (false≢true h)
-less-trans [] (y ∷ b) [] h k = absurd (false≢true k)
-less-trans [] (y ∷ b) (z ∷ c) h k = refl
-less-trans (x ∷ a) [] c h k = absurd (false≢true h)
-less-trans (x ∷ a) (y ∷ b) [] h k = absurd (false≢true k)
-less-trans (x ∷ a) (y ∷ b) (z ∷ c) h k = go (less-trans a b c) (compareWord x y) (ordered x y) (compareWord y z) (ordered y z) h k
+pub less_trans : (a b c : List ℕ) → is_less (compare a b) ≡ true → is_less (compare b c) ≡ true → is_less (compare a c) ≡ true
+unfolding compare is_less or_else
+less_trans [] [] c h k = absurd (false≢true h)
+less_trans [] (y ∷ b) [] h k = absurd (false≢true k)
+less_trans [] (y ∷ b) (z ∷ c) h k = refl
+less_trans (x ∷ a) [] c h k = absurd (false≢true h)
+less_trans (x ∷ a) (y ∷ b) [] h k = absurd (false≢true k)
+less_trans (x ∷ a) (y ∷ b) (z ∷ c) h k = go (less_trans a b c) (compare_word x y) (ordered x y) (compare_word y z) (ordered y z) h k
   where
-    go : (isLess (compare a b) ≡ true → isLess (compare b c) ≡ true → isLess (compare a c) ≡ true) → (o : Order) → Ordered x y o → (p : Order) → Ordered y z p →
-        isLess (or_else o (compare a b)) ≡ true → isLess (or_else p (compare b c)) ≡ true → isLess (or_else (compareWord x z) (compare a c)) ≡ true
-    go ih o (lower l) p (lower m) h k = rw (word-less x z (below-trans (signed x) (signed y) (signed z) l m))
-    go ih o (lower l) p (alike e) h k = rw (word-less x z (subst (λ (i : ℤ). lt_z (signed x) i ≡ true) e l))
+    go : (is_less (compare a b) ≡ true → is_less (compare b c) ≡ true → is_less (compare a c) ≡ true) → (o : Order) → Ordered x y o → (p : Order) → Ordered y z p →
+        is_less (or_else o (compare a b)) ≡ true → is_less (or_else p (compare b c)) ≡ true → is_less (or_else (compare_word x z) (compare a c)) ≡ true
+    go ih o (lower l) p (lower m) h k = rw (word_less x z (below_trans (signed x) (signed y) (signed z) l m))
+    go ih o (lower l) p (alike e) h k = rw (word_less x z (subst (λ (i : ℤ). lt_z (signed x) i ≡ true) e l))
     go ih o (lower l) p higher h k = absurd (false≢true k)
-    go ih o (alike e) p (lower m) h k = rw (word-less x z (subst (λ (i : ℤ). lt_z i (signed z) ≡ true) (sym e) m))
+    go ih o (alike e) p (lower m) h k = rw (word_less x z (subst (λ (i : ℤ). lt_z i (signed z) ≡ true) (sym e) m))
     go ih o (alike e) p (alike f) h k = rw (word_same x z (e ∙ f)) (ih h k)
     go ih o (alike e) p higher h k = absurd (false≢true k)
     go ih o higher p q h k = absurd (false≢true h)
 
-pub word-itself : (x : ℕ) → compareWord x x ≡ Same
-word-itself x = word_same x x refl
+pub word_itself : (x : ℕ) → compare_word x x ≡ Same
+word_itself x = word_same x x refl
 
 -- Same words of 32 bits are equal
-pub word-alike : (x y : ℕ) → x < 2 ^ 32 → y < 2 ^ 32 → compareWord x y ≡ Same → x ≡ y
+pub word_alike : (x y : ℕ) → x < 2 ^ 32 → y < 2 ^ 32 → compare_word x y ≡ Same → x ≡ y
 unfolding signed
-word-alike x y hx hy e = go (compareWord x y) (ordered x y) e
+word_alike x y hx hy e = go (compare_word x y) (ordered x y) e
   where
     go : (o : Order) → Ordered x y o → o ≡ Same → x ≡ y
     go o (lower l) e = let z : ◌≡◌ {A = ℕ} 0 1 = cc in absurd (omega arith)
@@ -86,9 +86,9 @@ word-alike x y hx hy e = go (compareWord x y) (ordered x y) e
     go o higher e = let z : ◌≡◌ {A = ℕ} 0 1 = cc in absurd (omega arith)
 
 -- two same words are the same to any third
-word-same-left : (x y z : ℕ) → signed x ≡ signed y → compareWord x z ≡ compareWord y z
-unfolding compareWord
-word-same-left x y z e = rw e
+word_same_left : (x y z : ℕ) → signed x ≡ signed y → compare_word x z ≡ compare_word y z
+unfolding compare_word
+word_same_left x y z e = rw e
 
 pub same_left : (a b c : List ℕ) → compare a b ≡ Same → compare a c ≡ compare b c
 unfolding compare or_else
@@ -96,14 +96,14 @@ same_left [] [] c h = refl
 same_left [] (y ∷ b) c h = let z : ◌≡◌ {A = ℕ} 0 1 = cc in absurd (omega arith)
 same_left (x ∷ a) [] c h = let z : ◌≡◌ {A = ℕ} 0 1 = cc in absurd (omega arith)
 same_left (x ∷ a) (y ∷ b) [] h = refl
-same_left (x ∷ a) (y ∷ b) (z ∷ c) h = go (same_left a b c) (compareWord x y) (ordered x y) h
+same_left (x ∷ a) (y ∷ b) (z ∷ c) h = go (same_left a b c) (compare_word x y) (ordered x y) h
   where
-    go : (compare a b ≡ Same → compare a c ≡ compare b c) → (o : Order) → Ordered x y o → or_else o (compare a b) ≡ Same → or_else (compareWord x z) (compare a c) ≡ or_else (compareWord y z) (compare b c)
+    go : (compare a b ≡ Same → compare a c ≡ compare b c) → (o : Order) → Ordered x y o → or_else o (compare a b) ≡ Same → or_else (compare_word x z) (compare a c) ≡ or_else (compare_word y z) (compare b c)
     go ih o (lower l) h = let z : ◌≡◌ {A = ℕ} 0 1 = cc in absurd (omega arith)
-    go ih o (alike e) h = rw (word-same-left x y z e, ih h)
+    go ih o (alike e) h = rw (word_same_left x y z e, ih h)
     go ih o higher h = let z : ◌≡◌ {A = ℕ} 0 1 = cc in absurd (omega arith)
 
 -- counts are not negative
-pub small-less : (x y : ℕ) → x < y → y < 2 ^ 31 → compareWord x y ≡ Less
+pub small_less : (x y : ℕ) → x < y → y < 2 ^ 31 → compare_word x y ≡ Less
 unfolding signed
-small-less x y h l = word-less x y (rw (to_z_pos w32 x (omega arith), to_z_pos w32 y (omega arith)) (lt-ltb x y h))
+small_less x y h l = word_less x y (rw (to_z_pos w32 x (omega arith), to_z_pos w32 y (omega arith)) (lt-ltb x y h))

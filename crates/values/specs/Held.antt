@@ -16,5 +16,5 @@ pub record Building (u : List ℕ) (at : ℕ) (ws : List ℕ) : Type 0 where
   pub past : 64 < length ws → 64 < at
 
 -- 55 for a value of over 64 words, 0 for one that is held
-unfoldable pub heldFinding : Held → ℕ
-heldFinding v = cond (nat_le v.len 64) 0 55
+unfoldable pub held_finding : Held → ℕ
+held_finding v = cond (nat_le v.len 64) 0 55

@@ -6,21 +6,21 @@ use Rattle.values.specs.declared.order.Order.{Order}
 use Rattle.values.specs.declared.order.Order.TheVariants.{Less, Same, Greater}
 
 -- = compares words
-unfoldable pub sameValue : Value → Value → Bool
-sameValue v w = same (encode v) (encode w)
+unfoldable pub same_value : Value → Value → Bool
+same_value v w = same (encode v) (encode w)
 
-unfoldable pub isIn : Value → Values → Bool
-isIn v nil = false
-isIn v (cons w ws) = cond (sameValue w v) true (isIn v ws)
+unfoldable pub is_in : Value → Values → Bool
+is_in v nil = false
+is_in v (cons w ws) = cond (same_value w v) true (is_in v ws)
 
-unfoldable pub insertBy : Order → Value → Value → Values → Values → Values
-insertBy Less v w ws more = cons v (cons w ws)
-insertBy Same v w ws more = cons w ws
-insertBy Greater v w ws more = cons w more
+unfoldable pub insert_by : Order → Value → Value → Values → Values → Values
+insert_by Less v w ws more = cons v (cons w ws)
+insert_by Same v w ws more = cons w ws
+insert_by Greater v w ws more = cons w more
 
-unfoldable pub insertValue : Value → Values → Values
-insertValue v nil = cons v nil
-insertValue v (cons w ws) = insertBy (compare (encode v) (encode w)) v w ws (insertValue v ws)
+unfoldable pub insert_value : Value → Values → Values
+insert_value v nil = cons v nil
+insert_value v (cons w ws) = insert_by (compare (encode v) (encode w)) v w ws (insert_value v ws)
 
 -- Apply: the value of the function vs at a. A member that is no pair is 51 (misfit), wherever it stands; otherwise the value is the second part of the one pair
 -- whose first part is a, and 52 (undefined) where there is none or more than one.
@@ -29,15 +29,15 @@ pub data Image : Type 0 where
   misfit : Image
   undefined : Image
 
-unfoldable pub isPairValue : Value → Bool
-isPairValue (int z) = false
-isPairValue (element g k) = false
-isPairValue (set vs) = false
-isPairValue (tuple vs) = count vs == 2
+unfoldable pub is_pair_value : Value → Bool
+is_pair_value (int z) = false
+is_pair_value (element g k) = false
+is_pair_value (set vs) = false
+is_pair_value (tuple vs) = count vs == 2
 
-unfoldable pub allPairs : Values → Bool
-allPairs nil = true
-allPairs (cons v vs) = isPairValue v && allPairs vs
+unfoldable pub all_pairs : Values → Bool
+all_pairs nil = true
+all_pairs (cons v vs) = is_pair_value v && all_pairs vs
 
 -- the second parts of the pairs whose first part is a
 unfoldable pub images : Value → Values → Values
@@ -47,13 +47,13 @@ images a (cons (element g k) ws) = images a ws
 images a (cons (set vs) ws) = images a ws
 images a (cons (tuple nil) ws) = images a ws
 images a (cons (tuple (cons x nil)) ws) = images a ws
-images a (cons (tuple (cons x (cons y nil))) ws) = cond (sameValue x a) (cons y (images a ws)) (images a ws)
+images a (cons (tuple (cons x (cons y nil))) ws) = cond (same_value x a) (cons y (images a ws)) (images a ws)
 images a (cons (tuple (cons x (cons y (cons z r)))) ws) = images a ws
 
-unfoldable pub onlyOne : Values → Image
-onlyOne nil = undefined
-onlyOne (cons y nil) = found y
-onlyOne (cons y (cons z ys)) = undefined
+unfoldable pub only_one : Values → Image
+only_one nil = undefined
+only_one (cons y nil) = found y
+only_one (cons y (cons z ys)) = undefined
 
-unfoldable pub applyValue : Value → Values → Image
-applyValue a vs = cond (allPairs vs) (onlyOne (images a vs)) misfit
+unfoldable pub apply_value : Value → Values → Image
+apply_value a vs = cond (all_pairs vs) (only_one (images a vs)) misfit

@@ -1,6 +1,6 @@
 // The order of values, by signed word sequence, and their equality.
 ghost use Rattle.std.specs.Prelude.{◌≡◌};
-ghost use Rattle.values.specs.Order.{compareWord, compare, isSame, isLess, same};
+ghost use Rattle.values.specs.Order.{compare_word, compare, is_same, is_less, same};
 
 use values_integers::integer::signed;
 
@@ -12,7 +12,7 @@ pub enum Order {
 }
 
 fn compare_word(x: u32, y: u32) -> Order
-    ensures { result ≡ compareWord x y }
+    ensures { result ≡ compare_word x y }
 {
     let p = signed(x);
     let q = signed(y);
@@ -48,7 +48,7 @@ pub fn compare(a: &[u32], b: &[u32]) -> Order
 }
 
 pub fn is_same(o: Order) -> bool
-    ensures { result ≡ isSame o }
+    ensures { result ≡ is_same o }
 {
     match o {
         Order::Less => false,
@@ -58,7 +58,7 @@ pub fn is_same(o: Order) -> bool
 }
 
 pub fn is_less(o: Order) -> bool
-    ensures { result ≡ isLess o }
+    ensures { result ≡ is_less o }
 {
     match o {
         Order::Less => true,

@@ -1,7 +1,7 @@
 // Sets on words: membership, insertion, Apply. Members are passed one by one, by their spans.
 ghost use Rattle.std.specs.Prelude.{◌≡◌, ◌^◌, ◌<◌};
 ghost use Rattle.values.specs.Held.{keep};
-ghost use Rattle.values.specs.Sets.{first, isMember, place, insertAt, insert, isPair, second, apply};
+ghost use Rattle.values.specs.Sets.{first, is_member, place, insert_at, insert, is_pair, second, apply};
 
 use super::building::{built, put};
 use super::held::{Held, hold};
@@ -36,7 +36,7 @@ pub fn first(w: &[u32]) -> &[u32]
 }
 
 pub fn is_member(s: &[u32], m: &[u32]) -> bool
-    ensures { result ≡ isMember s.now m.now }
+    ensures { result ≡ is_member s.now m.now }
 {
     let n = word(s, 1);
     let mut at = HEAD;
@@ -74,7 +74,7 @@ fn place_of(s: &[u32], m: &[u32]) -> Place
 }
 
 fn insert_at(p: usize, s: &[u32], m: &[u32]) -> Held
-    ensures { result ≡ keep (insertAt (Place.At p) s.now m.now) }
+    ensures { result ≡ keep (insert_at (Place.At p) s.now m.now) }
 {
     let head = [SET, std::num::wrapping_add_u32(word(s, 1) as u32, 1)];
     let mut u = [0u32; limits::VALUE];
@@ -97,7 +97,7 @@ pub fn insert(s: &[u32], m: &[u32]) -> Held
 }
 
 fn is_pair(w: &[u32]) -> bool
-    ensures { result ≡ isPair w.now }
+    ensures { result ≡ is_pair w.now }
 {
     if word(w, 0) == value_tags::TUPLE {
         return word(w, 1) == 2;

@@ -1,7 +1,7 @@
 // Which words are a value. For any words: a state's words are nobody's promise.
 ghost use Rattle.std.specs.Prelude.{◌≡◌, [], ◌≤◌, length, drop};
 ghost use Rattle.values.specs.Givens.{size_of};
-ghost use Rattle.values.specs.Form.{elementShape, groupShape, shape_of, follows, groupEnd, valueLength, is_value};
+ghost use Rattle.values.specs.Form.{element_shape, group_shape, shape_of, follows, group_end, value_length, is_value};
 
 use super::givens::size_of;
 use codes::{limits, value_tags};
@@ -18,7 +18,7 @@ pub const LEVELS: usize = HEADS;
 const NEGATIVE: usize = integer::NEGATIVE as usize;
 
 fn element_shape(givens: &[u32], w: &[u32]) -> Shape
-    ensures { result ≡ elementShape (size_of givens.now) w.now }
+    ensures { result ≡ element_shape (size_of givens.now) w.now }
 {
     if w.len() < ELEMENT_WORDS {
         return Shape::Broken;
@@ -30,7 +30,7 @@ fn element_shape(givens: &[u32], w: &[u32]) -> Shape
 }
 
 fn group_shape(tag: usize, n: usize) -> Shape
-    ensures { result ≡ groupShape tag n }
+    ensures { result ≡ group_shape tag n }
 {
     if tag == value_tags::SET {
         if n < NEGATIVE {
@@ -80,7 +80,7 @@ fn follows(ascending: bool, p: &[u32], m: &[u32]) -> bool
 #[cycle(group_end_value_length)]
 fn group_end(givens: &[u32], w: &[u32], n: usize, ascending: bool, depth: usize) -> usize
     requires { 2 ≤ length w.now }
-    ensures { (result ≡ groupEnd (valueLength (size_of givens.now) depth) ascending n [] (drop 2 w.now) 2) × (result ≤ length w.now) }
+    ensures { (result ≡ group_end (value_length (size_of givens.now) depth) ascending n [] (drop 2 w.now) 2) × (result ≤ length w.now) }
 {
     let mut last = HEAD;
     let mut at = HEAD;
@@ -104,7 +104,7 @@ fn group_end(givens: &[u32], w: &[u32], n: usize, ascending: bool, depth: usize)
 // The words of the value at the beginning of w, at most `depth` levels deep; 0 where none is there.
 #[cycle(group_end_value_length)]
 fn value_length(givens: &[u32], w: &[u32], depth: usize) -> usize
-    ensures { (result ≡ valueLength (size_of givens.now) depth w.now) × (result ≤ length w.now) }
+    ensures { (result ≡ value_length (size_of givens.now) depth w.now) × (result ≤ length w.now) }
 {
     if depth == 0 {
         return 0;

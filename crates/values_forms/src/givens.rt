@@ -2,7 +2,7 @@
 ghost use Rattle.std.specs.Prelude.{◌≡◌, ◌≤◌};
 ghost use Rattle.values.specs.Value.{encode};
 ghost use Rattle.values.specs.Held.{keep};
-ghost use Rattle.values.specs.Givens.{elements, smallSize, size_of};
+ghost use Rattle.values.specs.Givens.{elements, small_size, size_of};
 
 use codes::{limits, value_tags};
 use values::held::{Held, append, hold, over};
@@ -32,7 +32,7 @@ pub fn given_set(g: u32, n: usize) -> Held
 }
 
 fn small_size(n: usize) -> usize
-    ensures { (result ≡ smallSize n) × (result ≤ 20) }
+    ensures { (result ≡ small_size n) × (result ≤ 20) }
 {
     if n <= limits::ELEMENTS {
         return n;

@@ -1,6 +1,6 @@
 // How far a type's words reach, for any words.
 ghost use Rattle.std.specs.Prelude.{◌≡◌, ◌+◌, ◌≤◌, length};
-ghost use Rattle.values.specs.TypeWords.{clip, count_of, formerOf, typesEnd, typeLength};
+ghost use Rattle.values.specs.TypeWords.{clip, count_of, former_of, types_end, type_length};
 
 use codes::type_tags;
 use values::shapes::Former;
@@ -26,7 +26,7 @@ fn count_of(w: &[u32]) -> usize
 }
 
 fn former_of(w: &[u32]) -> Former
-    ensures { result ≡ formerOf w.now }
+    ensures { result ≡ former_of w.now }
 {
     let tag = word(w, 0);
     if tag == type_tags::GIVEN {
@@ -65,7 +65,7 @@ fn former_of(w: &[u32]) -> Former
 #[cycle(type_length_types_end)]
 fn types_end(w: &[u32], start: usize, skip: usize, n: usize, depth: usize) -> usize
     requires { (start ≤ 2) × (skip ≤ 1) × (n ≤ length w.now + 1) }
-    ensures { result ≡ typesEnd (typeLength depth) skip n w.now start }
+    ensures { result ≡ types_end (type_length depth) skip n w.now start }
 {
     let mut at = start;
     let mut i = 0;
@@ -80,7 +80,7 @@ fn types_end(w: &[u32], start: usize, skip: usize, n: usize, depth: usize) -> us
 // The words of the type at the beginning of w, at most `depth` levels deep.
 #[cycle(type_length_types_end)]
 pub fn type_length(w: &[u32], depth: usize) -> usize
-    ensures { (result ≡ typeLength depth w.now) × (result ≤ length w.now) }
+    ensures { (result ≡ type_length depth w.now) × (result ≤ length w.now) }
 {
     if depth == 0 {
         return 0;

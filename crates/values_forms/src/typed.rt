@@ -1,6 +1,6 @@
 // A value against a type, by their words: finding 42's test.
 ghost use Rattle.std.specs.Prelude.{◌≡◌, ◌<◌, ◌≤◌, ◌^◌, length, drop};
-ghost use Rattle.values.specs.Typed.{typeStep, whether, test_of, each, hasType};
+ghost use Rattle.values.specs.Typed.{type_step, whether, test_of, each, has_type};
 
 use super::form::LEVELS;
 use super::type_words::type_length;
@@ -11,7 +11,7 @@ use words::{from, word};
 
 // A recorded type has at most as many levels as its size.
 fn type_step(own: bool, t: &[u32]) -> usize
-    ensures { (result ≡ typeStep own t.now) × (result ≤ length t.now) }
+    ensures { (result ≡ type_step own t.now) × (result ≤ length t.now) }
 {
     if own {
         return type_length(t, limits::SIZE);
@@ -66,7 +66,7 @@ fn test_of(t: &[u32], w: &[u32]) -> Test
 #[cycle(each_has_type_of)]
 fn each_has(t: &[u32], w: &[u32], own: bool, n: usize, depth: usize) -> bool
     requires { n < 2 ^ 32 }
-    ensures { result ≡ each (hasType depth) own n t.now (drop 2 w.now) }
+    ensures { result ≡ each (has_type depth) own n t.now (drop 2 w.now) }
 {
     let mut here = 0;
     let mut at = HEAD;
@@ -87,7 +87,7 @@ fn each_has(t: &[u32], w: &[u32], own: bool, n: usize, depth: usize) -> bool
 
 #[cycle(each_has_type_of)]
 fn type_of(t: &[u32], w: &[u32], depth: usize) -> bool
-    ensures { result ≡ hasType depth t.now w.now }
+    ensures { result ≡ has_type depth t.now w.now }
 {
     if depth == 0 {
         return false;
@@ -102,7 +102,7 @@ fn type_of(t: &[u32], w: &[u32], depth: usize) -> bool
 
 // The value with the words w is of the type with the words t. A value of at most 64 words has at most 32 levels.
 pub fn has_type(t: &[u32], w: &[u32]) -> bool
-    ensures { result ≡ hasType 32 t.now w.now }
+    ensures { result ≡ has_type 32 t.now w.now }
 {
     type_of(t, w, LEVELS)
 }

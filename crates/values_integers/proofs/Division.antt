@@ -11,29 +11,29 @@ use lib.Dec.{le→leb, lt→ltb}
 use borrow.Author.Tests.{lt-ltb}
 use Rattle.values_integers.specs.declared.integer.Integer.{Integer}
 use Rattle.values_integers.specs.declared.integer.Integer.TheVariants.{Whole, Undefined, Outside}
-use Rattle.values_integers.specs.Integer.{floorDiv, floorMod, byDivisor, quotient, remainder, sum, difference, product, kept}
+use Rattle.values_integers.specs.Integer.{floor_div, floor_mod, by_divisor, quotient, remainder, sum, difference, product, kept}
 
-below-zero : (a x y : ℕ) → x < y → y ≡ suc (a + x) → sub_ℕ x y ≡ negsuc a
-below-zero a x y h e = rw (lt-ltb x y h) (ap negsuc (omega arith))
+below_zero : (a x y : ℕ) → x < y → y ≡ suc (a + x) → sub_ℕ x y ≡ negsuc a
+below_zero a x y h e = rw (lt-ltb x y h) (ap negsuc (omega arith))
 
-pub div-mod : (a : ℤ) (d : ℕ) → a ≡ floorDiv a (suc d) *ℤ pos (suc d) +ℤ floorMod a (suc d)
-unfolding floorDiv floorMod
-div-mod (pos a) d = ap pos (sym (div-add-mod' a (suc d)))
-div-mod (negsuc a) d =
+pub div_mod : (a : ℤ) (d : ℕ) → a ≡ floor_div a (suc d) *ℤ pos (suc d) +ℤ floor_mod a (suc d)
+unfolding floor_div floor_mod
+div_mod (pos a) d = ap pos (sym (div-add-mod' a (suc d)))
+div_mod (negsuc a) d =
     let q = a / suc d in
     let r = a % suc d in
     let l : r < suc d = mod-lt a (zero-lt-suc d) in
     let p : suc q * suc d ≡ suc (d + q * suc d) = omega arith in
     let s = div-add-mod' a (suc d) in
-    sym (ap (λ (m : ℕ). neg_ℤ (pos m) +ℤ pos (suc d - suc r)) p ∙ below-zero a (suc d - suc r) (suc (d + q * suc d)) (omega arith) (omega arith))
+    sym (ap (λ (m : ℕ). neg_ℤ (pos m) +ℤ pos (suc d - suc r)) p ∙ below_zero a (suc d - suc r) (suc (d + q * suc d)) (omega arith) (omega arith))
 
-pub mod-not-negative : (a : ℤ) (n : ℕ) → pos 0 ≤ℤ floorMod a n
-unfolding floorMod
-mod-not-negative (pos a) n = le_z_yes (le→leb 0 (a % n) (omega arith))
-mod-not-negative (negsuc a) n = le_z_yes (le→leb 0 (n - suc (a % n)) (omega arith))
+pub mod_not_negative : (a : ℤ) (n : ℕ) → pos 0 ≤ℤ floor_mod a n
+unfolding floor_mod
+mod_not_negative (pos a) n = le_z_yes (le→leb 0 (a % n) (omega arith))
+mod_not_negative (negsuc a) n = le_z_yes (le→leb 0 (n - suc (a % n)) (omega arith))
 
-pub mod_below : (a : ℤ) (d : ℕ) → floorMod a (suc d) <ℤ pos (suc d)
-unfolding floorMod
+pub mod_below : (a : ℤ) (d : ℕ) → floor_mod a (suc d) <ℤ pos (suc d)
+unfolding floor_mod
 mod_below (pos a) d = lt_z_yes (lt→ltb (a % suc d) (suc d) (mod-lt a (zero-lt-suc d)))
 mod_below (negsuc a) d = lt_z_yes (lt→ltb (suc d - suc (a % suc d)) (suc d) (omega arith))
 
@@ -77,6 +77,6 @@ ends =
     ∷ gives (product least (pos 1)) (Whole least)
     ∷ []
 
-pub ends-hold : Hold ends
-unfolding Hold ends least most quotient remainder byDivisor floorDiv floorMod sum difference product kept
-ends-hold = search tt depth 60
+pub ends_hold : Hold ends
+unfolding Hold ends least most quotient remainder by_divisor floor_div floor_mod sum difference product kept
+ends_hold = search tt depth 60

@@ -14,40 +14,40 @@ use mir.Syntax.{w32, w64}
 use mir.Val.{SFits, Fits, to_z, of_z}
 use mir.ValLaws.{to_z_pos, to_z-neg}
 use Rattle.values_integers.specs.declared.integer.Integer.TheVariants.{Whole, Undefined, Outside}
-use Rattle.values_integers.specs.Integer.{signed, word_of, kept, floorDiv, floorMod, byDivisor, quotient, remainder}
+use Rattle.values_integers.specs.Integer.{signed, word_of, kept, floor_div, floor_mod, by_divisor, quotient, remainder}
 
 -- ---- bounds
 
-mag-neg : (k : ℕ) → mag (neg_ℤ (pos k)) ≤ k
-mag-neg zero = omega arith
-mag-neg (suc k) = omega arith
+mag_neg : (k : ℕ) → mag (neg_ℤ (pos k)) ≤ k
+mag_neg zero = omega arith
+mag_neg (suc k) = omega arith
 
-pub mag-negℤ : (z : ℤ) → mag (neg_ℤ z) ≤ mag z + 1
-mag-negℤ (pos n) = let h = mag-neg n in omega arith
-mag-negℤ (negsuc n) = omega arith
+pub mag_negℤ : (z : ℤ) → mag (neg_ℤ z) ≤ mag z + 1
+mag_negℤ (pos n) = let h = mag_neg n in omega arith
+mag_negℤ (negsuc n) = omega arith
 
-mag-sub : (a b : ℕ) → mag (sub_ℕ a b) ≤ a + b
-mag-sub a b = go (ltb a b)
+mag_sub : (a b : ℕ) → mag (sub_ℕ a b) ≤ a + b
+mag_sub a b = go (ltb a b)
   where
     go : (t : Bool) → mag (cond t (negsuc (b - suc a)) (pos (a - b))) ≤ a + b
     go true = omega arith
     go false = omega arith
 
-pub mag-add : (x y : ℤ) → mag (x +ℤ y) ≤ mag x + mag y + 1
-mag-add (pos a) (pos b) = omega arith
-mag-add (pos a) (negsuc b) = let h = mag-sub a (suc b) in omega arith
-mag-add (negsuc a) (pos b) = let h = mag-sub b (suc a) in omega arith
-mag-add (negsuc a) (negsuc b) = omega arith
+pub mag_add : (x y : ℤ) → mag (x +ℤ y) ≤ mag x + mag y + 1
+mag_add (pos a) (pos b) = omega arith
+mag_add (pos a) (negsuc b) = let h = mag_sub a (suc b) in omega arith
+mag_add (negsuc a) (pos b) = let h = mag_sub b (suc a) in omega arith
+mag_add (negsuc a) (negsuc b) = omega arith
 
-pub mag-mul : (x y : ℤ) → mag (x *ℤ y) ≤ nat_abs x * nat_abs y
-mag-mul (pos a) (pos b) = omega arith
-mag-mul (pos a) (negsuc b) = mag-neg (a * suc b)
-mag-mul (negsuc a) (pos b) = mag-neg (suc a * b)
-mag-mul (negsuc a) (negsuc b) = omega arith
+pub mag_mul : (x y : ℤ) → mag (x *ℤ y) ≤ nat_abs x * nat_abs y
+mag_mul (pos a) (pos b) = omega arith
+mag_mul (pos a) (negsuc b) = mag_neg (a * suc b)
+mag_mul (negsuc a) (pos b) = mag_neg (suc a * b)
+mag_mul (negsuc a) (negsuc b) = omega arith
 
-natAbs-mag : (z : ℤ) → nat_abs z ≤ mag z + 1
-natAbs-mag (pos n) = omega arith
-natAbs-mag (negsuc n) = omega arith
+nat_abs_mag : (z : ℤ) → nat_abs z ≤ mag z + 1
+nat_abs_mag (pos n) = omega arith
+nat_abs_mag (negsuc n) = omega arith
 
 -- what a sum, a difference or a product of two i32 comes to fits an i64
 module _ (x y : ℤ) (fx : SFits w32 x) (fy : SFits w32 y) where
@@ -55,17 +55,17 @@ module _ (x y : ℤ) (fx : SFits w32 x) (fy : SFits w32 y) where
   widen = record { sfits = omega (arith, fx.sfits) }
 
   pub sum_fits : SFits w64 (x +ℤ y)
-  sum_fits = record { sfits = omega (arith, mag-add x y, fx.sfits, fy.sfits) }
+  sum_fits = record { sfits = omega (arith, mag_add x y, fx.sfits, fy.sfits) }
 
-  pub difference-fits : SFits w64 (x -ℤ y)
-  difference-fits = record { sfits = omega (arith, mag-add x (neg_ℤ y), mag-negℤ y, fx.sfits, fy.sfits) }
+  pub difference_fits : SFits w64 (x -ℤ y)
+  difference_fits = record { sfits = omega (arith, mag_add x (neg_ℤ y), mag_negℤ y, fx.sfits, fy.sfits) }
 
-  pub product-fits : SFits w64 (x *ℤ y)
-  product-fits =
-      let p : nat_abs x ≤ 2 ^ 31 = omega (arith, natAbs-mag x, fx.sfits) in
-      let q : nat_abs y ≤ 2 ^ 31 = omega (arith, natAbs-mag y, fy.sfits) in
+  pub product_fits : SFits w64 (x *ℤ y)
+  product_fits =
+      let p : nat_abs x ≤ 2 ^ 31 = omega (arith, nat_abs_mag x, fx.sfits) in
+      let q : nat_abs y ≤ 2 ^ 31 = omega (arith, nat_abs_mag y, fy.sfits) in
       let m : nat_abs x * nat_abs y ≤ 2 ^ 31 * 2 ^ 31 = mul-le-mul p q in
-      record { sfits = omega (arith, mag-mul x y) }
+      record { sfits = omega (arith, mag_mul x y) }
 
 -- ---- kept
 
@@ -79,9 +79,9 @@ unfolding kept
 kept_high (pos n) h = rw (le-ltb n (2 ^ 31) (omega (arith, ltb-true 2147483647 n h)))
 kept_high (negsuc n) h = absurd (false≢true h)
 
-pub kept-bound : (z : ℤ) → lt_z z (negsuc 2147483647) ≡ false → lt_z (pos 2147483647) z ≡ false → SFits w32 z
-kept-bound (pos n) g h = record { sfits = omega (arith, ltb-false 2147483647 n h) }
-kept-bound (negsuc n) g h = record { sfits = omega (arith, ltb-false 2147483647 n g) }
+pub kept_bound : (z : ℤ) → lt_z z (negsuc 2147483647) ≡ false → lt_z (pos 2147483647) z ≡ false → SFits w32 z
+kept_bound (pos n) g h = record { sfits = omega (arith, ltb-false 2147483647 n h) }
+kept_bound (negsuc n) g h = record { sfits = omega (arith, ltb-false 2147483647 n g) }
 
 pub kept_in : (z : ℤ) → SFits w32 z → Whole z ≡ kept z
 unfolding kept
@@ -128,138 +128,138 @@ next a d = ⊎_elim (λ e. inl (turns e)) (λ h. inr (stays h)) (eq-or-lt_of_le 
 
 -- ---- a divisor of at least 1
 
-not-one : (n : ℤ) → lt_z n (pos 1) ≡ true → (f : ℤ → ℕ → ℤ) (a : ℤ) → Undefined ≡ byDivisor f a n
-unfolding byDivisor
-not-one (pos zero) h f a = refl
-not-one (pos (suc d)) h f a = absurd (omega (arith, ltb-true (suc d) 1 h))
-not-one (negsuc d) h f a = refl
+not_one_lem : (n : ℤ) → lt_z n (pos 1) ≡ true → (f : ℤ → ℕ → ℤ) (a : ℤ) → Undefined ≡ by_divisor f a n
+unfolding by_divisor
+not_one_lem (pos zero) h f a = refl
+not_one_lem (pos (suc d)) h f a = absurd (omega (arith, ltb-true (suc d) 1 h))
+not_one_lem (negsuc d) h f a = refl
 
-pub low-quotient : (a n : ℤ) → lt_z n (pos 1) ≡ true → Undefined ≡ quotient a n
+pub low_quotient : (a n : ℤ) → lt_z n (pos 1) ≡ true → Undefined ≡ quotient a n
 unfolding quotient
-low-quotient a n h = not-one n h floorDiv a
+low_quotient a n h = not_one_lem n h floor_div a
 
-pub low-remainder : (a n : ℤ) → lt_z n (pos 1) ≡ true → Undefined ≡ remainder a n
+pub low_remainder : (a n : ℤ) → lt_z n (pos 1) ≡ true → Undefined ≡ remainder a n
 unfolding remainder
-low-remainder a n h = not-one n h floorMod a
+low_remainder a n h = not_one_lem n h floor_mod a
 
-neg-less : (k : ℕ) → neg_ℤ (pos k) -ℤ pos 1 ≡ negsuc k
-neg-less zero = refl
-neg-less (suc k) = ap (λ (x : ℕ). negsuc (suc x)) (add-zero k)
+neg_less : (k : ℕ) → neg_ℤ (pos k) -ℤ pos 1 ≡ negsuc k
+neg_less zero = refl
+neg_less (suc k) = ap (λ (x : ℕ). negsuc (suc x)) (add-zero k)
 
-mag-floor : (a : ℤ) (n : ℕ) → mag (floorDiv a n) ≤ mag a
-unfolding floorDiv
-mag-floor (pos a) n = div-le_self a n
-mag-floor (negsuc a) n = div-le_self a n
+mag_floor : (a : ℤ) (n : ℕ) → mag (floor_div a n) ≤ mag a
+unfolding floor_div
+mag_floor (pos a) n = div-le_self a n
+mag_floor (negsuc a) n = div-le_self a n
 
 module _ (d : ℕ) where
   quot_fits : (a : ℤ) → SFits w32 a → SFits w32 (quot_z a (pos (suc d)))
   quot_fits (pos a) f = record { sfits = omega (arith, f.sfits, div-le_self a (suc d)) }
   quot_fits (negsuc a) f = ⊎_elim
       (λ t. record { sfits = rw t.up (omega (arith, f.sfits, div-le_self a (suc d))) })
-      (λ s. record { sfits = rw s.same (omega (arith, f.sfits, div-le_self a (suc d), mag-neg (a / suc d))) })
+      (λ s. record { sfits = rw s.same (omega (arith, f.sfits, div-le_self a (suc d), mag_neg (a / suc d))) })
       (next a d)
 
-  quot-down : (a : ℤ) → lt_z (rem_z a (pos (suc d))) (pos 0) ≡ true → quot_z a (pos (suc d)) -ℤ pos 1 ≡ floorDiv a (suc d)
-  unfolding floorDiv
-  quot-down (pos a) h = absurd (omega (arith, ltb-true (a % suc d) 0 h))
-  quot-down (negsuc a) h = ⊎_elim
+  quot_down : (a : ℤ) → lt_z (rem_z a (pos (suc d))) (pos 0) ≡ true → quot_z a (pos (suc d)) -ℤ pos 1 ≡ floor_div a (suc d)
+  unfolding floor_div
+  quot_down (pos a) h = absurd (omega (arith, ltb-true (a % suc d) 0 h))
+  quot_down (negsuc a) h = ⊎_elim
       (λ t. absurd (false≢true (rw t.none at h)))
-      (λ s. neg-less (suc a / suc d) ∙ ap negsuc s.same)
+      (λ s. neg_less (suc a / suc d) ∙ ap negsuc s.same)
       (next a d)
 
-  quot-same : (a : ℤ) → lt_z (rem_z a (pos (suc d))) (pos 0) ≡ false → quot_z a (pos (suc d)) ≡ floorDiv a (suc d)
-  unfolding floorDiv
-  quot-same (pos a) h = refl
-  quot-same (negsuc a) h = ⊎_elim
+  quot_same : (a : ℤ) → lt_z (rem_z a (pos (suc d))) (pos 0) ≡ false → quot_z a (pos (suc d)) ≡ floor_div a (suc d)
+  unfolding floor_div
+  quot_same (pos a) h = refl
+  quot_same (negsuc a) h = ⊎_elim
       (λ t. rw t.up)
       (λ s. absurd (true≢false (rw s.more at h)))
       (next a d)
 
-  rem-up : (a : ℤ) → lt_z (rem_z a (pos (suc d))) (pos 0) ≡ true → rem_z a (pos (suc d)) +ℤ pos (suc d) ≡ floorMod a (suc d)
-  unfolding floorMod
-  rem-up (pos a) h = absurd (omega (arith, ltb-true (a % suc d) 0 h))
-  rem-up (negsuc a) h = ⊎_elim
+  rem_up : (a : ℤ) → lt_z (rem_z a (pos (suc d))) (pos 0) ≡ true → rem_z a (pos (suc d)) +ℤ pos (suc d) ≡ floor_mod a (suc d)
+  unfolding floor_mod
+  rem_up (pos a) h = absurd (omega (arith, ltb-true (a % suc d) 0 h))
+  rem_up (negsuc a) h = ⊎_elim
       (λ t. absurd (false≢true (rw t.none at h)))
       (λ s. rw (s.more, le-ltb (suc d) (suc (a % suc d)) (omega (arith, s.below))))
       (next a d)
 
-  rem-same : (a : ℤ) → lt_z (rem_z a (pos (suc d))) (pos 0) ≡ false → rem_z a (pos (suc d)) ≡ floorMod a (suc d)
-  unfolding floorMod
-  rem-same (pos a) h = refl
-  rem-same (negsuc a) h = ⊎_elim
+  rem_same : (a : ℤ) → lt_z (rem_z a (pos (suc d))) (pos 0) ≡ false → rem_z a (pos (suc d)) ≡ floor_mod a (suc d)
+  unfolding floor_mod
+  rem_same (pos a) h = refl
+  rem_same (negsuc a) h = ⊎_elim
       (λ t. rw t.none (ap pos (omega (arith, t.last))))
       (λ s. absurd (true≢false (rw s.more at h)))
       (next a d)
 
-  mod-fits : (a : ℤ) → suc d < 2 ^ 31 → SFits w32 (floorMod a (suc d))
-  unfolding floorMod
-  mod-fits (pos a) h = record { sfits = omega (arith, mod-lt a (zero-lt-suc d)) }
-  mod-fits (negsuc a) h = record { sfits = omega arith }
+  mod_fits : (a : ℤ) → suc d < 2 ^ 31 → SFits w32 (floor_mod a (suc d))
+  unfolding floor_mod
+  mod_fits (pos a) h = record { sfits = omega (arith, mod-lt a (zero-lt-suc d)) }
+  mod_fits (negsuc a) h = record { sfits = omega arith }
 
-floor-fits : (a : ℤ) (n : ℕ) → SFits w32 a → SFits w32 (floorDiv a n)
-floor-fits a n f = record { sfits = omega (arith, mag-floor a n, f.sfits) }
+floor_fits : (a : ℤ) (n : ℕ) → SFits w32 a → SFits w32 (floor_div a n)
+floor_fits a n f = record { sfits = omega (arith, mag_floor a n, f.sfits) }
 
 -- division toward zero by n ≥ 1, and its two corrections, as the code takes them
-pub div-safe : (a n : ℤ) → SFits w32 a → SFits w32 n → lt_z n (pos 1) ≡ false → (0 < of_z w32 n) × SFits w32 (quot_z a n)
-div-safe a (pos zero) f g h = absurd (true≢false h)
-div-safe a (pos (suc d)) f g h = (omega arith, quot_fits d a f)
-div-safe a (negsuc d) f g h = absurd (true≢false h)
+pub div_safe : (a n : ℤ) → SFits w32 a → SFits w32 n → lt_z n (pos 1) ≡ false → (0 < of_z w32 n) × SFits w32 (quot_z a n)
+div_safe a (pos zero) f g h = absurd (true≢false h)
+div_safe a (pos (suc d)) f g h = (omega arith, quot_fits d a f)
+div_safe a (negsuc d) f g h = absurd (true≢false h)
 
 module _ (a : ℤ) where
-  pub quotient-down : (n : ℤ) → SFits w32 a → lt_z n (pos 1) ≡ false → lt_z (rem_z a n) (pos 0) ≡ true →
+  pub quotient_down : (n : ℤ) → SFits w32 a → lt_z n (pos 1) ≡ false → lt_z (rem_z a n) (pos 0) ≡ true →
       SFits w32 (quot_z a n -ℤ pos 1) × (Whole (quot_z a n -ℤ pos 1) ≡ quotient a n)
-  unfolding quotient byDivisor
-  quotient-down (pos zero) f h t = absurd (true≢false h)
-  quotient-down (pos (suc d)) f h t = (rw (quot-down d a t) (floor-fits a (suc d) f), ap Whole (quot-down d a t))
-  quotient-down (negsuc d) f h t = absurd (true≢false h)
+  unfolding quotient by_divisor
+  quotient_down (pos zero) f h t = absurd (true≢false h)
+  quotient_down (pos (suc d)) f h t = (rw (quot_down d a t) (floor_fits a (suc d) f), ap Whole (quot_down d a t))
+  quotient_down (negsuc d) f h t = absurd (true≢false h)
 
-  pub quotient-same : (n : ℤ) → lt_z n (pos 1) ≡ false → lt_z (rem_z a n) (pos 0) ≡ false → Whole (quot_z a n) ≡ quotient a n
-  unfolding quotient byDivisor
-  quotient-same (pos zero) h t = absurd (true≢false h)
-  quotient-same (pos (suc d)) h t = ap Whole (quot-same d a t)
-  quotient-same (negsuc d) h t = absurd (true≢false h)
+  pub quotient_same : (n : ℤ) → lt_z n (pos 1) ≡ false → lt_z (rem_z a n) (pos 0) ≡ false → Whole (quot_z a n) ≡ quotient a n
+  unfolding quotient by_divisor
+  quotient_same (pos zero) h t = absurd (true≢false h)
+  quotient_same (pos (suc d)) h t = ap Whole (quot_same d a t)
+  quotient_same (negsuc d) h t = absurd (true≢false h)
 
-  pub remainder-up : (n : ℤ) → SFits w32 n → lt_z n (pos 1) ≡ false → lt_z (rem_z a n) (pos 0) ≡ true →
+  pub remainder_up : (n : ℤ) → SFits w32 n → lt_z n (pos 1) ≡ false → lt_z (rem_z a n) (pos 0) ≡ true →
       SFits w32 (rem_z a n +ℤ n) × (Whole (rem_z a n +ℤ n) ≡ remainder a n)
-  unfolding remainder byDivisor
-  remainder-up (pos zero) f h t = absurd (true≢false h)
-  remainder-up (pos (suc d)) f h t = (rw (rem-up d a t) (mod-fits d a (omega (arith, f.sfits))), ap Whole (rem-up d a t))
-  remainder-up (negsuc d) f h t = absurd (true≢false h)
+  unfolding remainder by_divisor
+  remainder_up (pos zero) f h t = absurd (true≢false h)
+  remainder_up (pos (suc d)) f h t = (rw (rem_up d a t) (mod_fits d a (omega (arith, f.sfits))), ap Whole (rem_up d a t))
+  remainder_up (negsuc d) f h t = absurd (true≢false h)
 
-  pub remainder-same : (n : ℤ) → lt_z n (pos 1) ≡ false → lt_z (rem_z a n) (pos 0) ≡ false → Whole (rem_z a n) ≡ remainder a n
-  unfolding remainder byDivisor
-  remainder-same (pos zero) h t = absurd (true≢false h)
-  remainder-same (pos (suc d)) h t = ap Whole (rem-same d a t)
-  remainder-same (negsuc d) h t = absurd (true≢false h)
+  pub remainder_same : (n : ℤ) → lt_z n (pos 1) ≡ false → lt_z (rem_z a n) (pos 0) ≡ false → Whole (rem_z a n) ≡ remainder a n
+  unfolding remainder by_divisor
+  remainder_same (pos zero) h t = absurd (true≢false h)
+  remainder_same (pos (suc d)) h t = ap Whole (rem_same d a t)
+  remainder_same (negsuc d) h t = absurd (true≢false h)
 
-pub rem-fits : (a n : ℤ) → SFits w32 a → SFits w32 (rem_z a n)
-rem-fits (pos a) n f = record { sfits = omega (arith, f.sfits, mod-le a (nat_abs n)) }
-rem-fits (negsuc a) n f = record { sfits = omega (arith, f.sfits, mag-rem' (suc a % nat_abs n) (mod-le (suc a) (nat_abs n))) }
+pub rem_fits : (a n : ℤ) → SFits w32 a → SFits w32 (rem_z a n)
+rem_fits (pos a) n f = record { sfits = omega (arith, f.sfits, mod-le a (nat_abs n)) }
+rem_fits (negsuc a) n f = record { sfits = omega (arith, f.sfits, mag_rem' (suc a % nat_abs n) (mod-le (suc a) (nat_abs n))) }
   where
-    mag-rem' : (r : ℕ) {b : ℕ} → r ≤ suc b → mag (neg_ℤ (pos r)) ≤ b
-    mag-rem' zero h = omega arith
-    mag-rem' (suc r) h = omega arith
+    mag_rem' : (r : ℕ) {b : ℕ} → r ≤ suc b → mag (neg_ℤ (pos r)) ≤ b
+    mag_rem' zero h = omega arith
+    mag_rem' (suc r) h = omega arith
 
 -- ---- words and integers
 
-pub minus-one-pos : (m : ℕ) → negsuc 0 -ℤ pos m ≡ negsuc m
-minus-one-pos zero = refl
-minus-one-pos (suc k) = ap (λ (x : ℕ). negsuc (suc x)) (zero-add k)
+pub minus_one_pos : (m : ℕ) → negsuc 0 -ℤ pos m ≡ negsuc m
+minus_one_pos zero = refl
+minus_one_pos (suc k) = ap (λ (x : ℕ). negsuc (suc x)) (zero-add k)
 
-minus-one-neg : (k : ℕ) → negsuc 0 -ℤ negsuc k ≡ pos k
-minus-one-neg k = rw (le-ltb (suc k) 1 (omega arith)) (ap pos (omega arith))
+minus_one_neg : (k : ℕ) → negsuc 0 -ℤ negsuc k ≡ pos k
+minus_one_neg k = rw (le-ltb (suc k) 1 (omega arith)) (ap pos (omega arith))
 
 -- a word of 2^31 or more, by its complement m
 module _ (w : ℕ) (h : 2147483648 ≤ w) (f : w < 2 ^ 32) where
   pub complement : negsuc 0 -ℤ to_z w32 (4294967295 - w) ≡ negsuc (4294967295 - w)
-  complement = rw (to_z_pos w32 (4294967295 - w) (omega arith)) (minus-one-pos (4294967295 - w))
+  complement = rw (to_z_pos w32 (4294967295 - w) (omega arith)) (minus_one_pos (4294967295 - w))
 
-  pub complement-fits : SFits w32 (negsuc (4294967295 - w))
-  complement-fits = record { sfits = omega arith }
+  pub complement_fits : SFits w32 (negsuc (4294967295 - w))
+  complement_fits = record { sfits = omega arith }
 
-  pub complement-signed : negsuc (4294967295 - w) ≡ signed w
+  pub complement_signed : negsuc (4294967295 - w) ≡ signed w
   unfolding signed
-  complement-signed =
+  complement_signed =
       let e : w ≡ 2 ^ 32 - suc (4294967295 - w) = omega arith in
       sym (ap (to_z w32) e ∙ to_z-neg w32 (4294967295 - w) (omega arith))
 
@@ -273,7 +273,7 @@ pub record Complement (z y : ℤ) : Type 0 where
 pub negated : (z : ℤ) → SFits w32 z → lt_z z (pos 0) ≡ true → Complement z (negsuc 0 -ℤ z)
 unfolding word_of
 negated (pos n) f h = absurd (omega (arith, ltb-true n 0 h))
-negated (negsuc k) f h = subst (Complement (negsuc k)) (sym (minus-one-neg k)) here
+negated (negsuc k) f h = subst (Complement (negsuc k)) (sym (minus_one_neg k)) here
   where
     here : Complement (negsuc k) (pos k)
     here = record { fits = record { sfits = f.sfits }; sign = tt; small = f.sfits; word = omega arith }
@@ -282,7 +282,7 @@ pub natural : (z : ℤ) → SFits w32 z → lt_z z (pos 0) ≡ false → T (non_
 natural (pos n) f h = (tt, record { fits = omega (arith, f.sfits) })
 natural (negsuc n) f h = absurd (true≢false h)
 
-pub natural-word : (z : ℤ) → lt_z z (pos 0) ≡ false → nat_abs z ≡ word_of z
+pub natural_word : (z : ℤ) → lt_z z (pos 0) ≡ false → nat_abs z ≡ word_of z
 unfolding word_of
-natural-word (pos n) h = refl
-natural-word (negsuc n) h = absurd (true≢false h)
+natural_word (pos n) h = refl
+natural_word (negsuc n) h = absurd (true≢false h)

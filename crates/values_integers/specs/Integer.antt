@@ -18,10 +18,10 @@ abbrev pub in32 : ℤ → Bool
 in32 z = ltb (mag z) (2 ^ 31)
 
 -- the finding of each answer; a whole number has none
-abbrev pub integerFinding : Integer → ℕ
-integerFinding (Whole z) = 0
-integerFinding Undefined = 52
-integerFinding Outside = 53
+abbrev pub integer_finding : Integer → ℕ
+integer_finding (Whole z) = 0
+integer_finding Undefined = 52
+integer_finding Outside = 53
 
 unfoldable pub kept : ℤ → Integer
 kept z = cond (in32 z) (Whole z) Outside
@@ -36,21 +36,21 @@ unfoldable pub product : ℤ → ℤ → Integer
 product a b = kept (a *ℤ b)
 
 -- division that rounds down, and what it leaves (document 01: "For n ≥ 1, a mod n lies in 0 to n − 1 and a = (a div n) times n + a mod n")
-unfoldable pub floorDiv : ℤ → ℕ → ℤ
-floorDiv (pos a) n = pos (a / n)
-floorDiv (negsuc a) n = negsuc (a / n)
+unfoldable pub floor_div : ℤ → ℕ → ℤ
+floor_div (pos a) n = pos (a / n)
+floor_div (negsuc a) n = negsuc (a / n)
 
-unfoldable pub floorMod : ℤ → ℕ → ℤ
-floorMod (pos a) n = pos (a % n)
-floorMod (negsuc a) n = pos (n - suc (a % n))
+unfoldable pub floor_mod : ℤ → ℕ → ℤ
+floor_mod (pos a) n = pos (a % n)
+floor_mod (negsuc a) n = pos (n - suc (a % n))
 
-unfoldable pub byDivisor : (ℤ → ℕ → ℤ) → ℤ → ℤ → Integer
-byDivisor f a (pos zero) = Undefined
-byDivisor f a (pos (suc d)) = Whole (f a (suc d))
-byDivisor f a (negsuc d) = Undefined
+unfoldable pub by_divisor : (ℤ → ℕ → ℤ) → ℤ → ℤ → Integer
+by_divisor f a (pos zero) = Undefined
+by_divisor f a (pos (suc d)) = Whole (f a (suc d))
+by_divisor f a (negsuc d) = Undefined
 
 unfoldable pub quotient : ℤ → ℤ → Integer
-quotient a n = byDivisor floorDiv a n
+quotient a n = by_divisor floor_div a n
 
 unfoldable pub remainder : ℤ → ℤ → Integer
-remainder a n = byDivisor floorMod a n
+remainder a n = by_divisor floor_mod a n

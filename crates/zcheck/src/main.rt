@@ -2,8 +2,8 @@
 // No contract can say which bytes C's read and write move; `report` says what is written for the bytes that were read.
 ghost use Rattle.std.specs.Prelude.{◌≡◌, [], length};
 ghost use Rattle.checker_rules.specs.declared.Finding.TheVariants.{Refused};
-ghost use Rattle.printer_rules.specs.Print.{printedOf, printOf};
-ghost use Rattle.zcheck.specs.Report.{reportOf, Prints, Areas};
+ghost use Rattle.printer_rules.specs.Print.{printed_of, print_of};
+ghost use Rattle.zcheck.specs.Report.{report_of, Prints, Areas};
 
 use checker_rules::Finding;
 use codes::{WORD_BYTES, findings, limits};
@@ -23,7 +23,7 @@ const OUTPUT: usize = 11 * DICTIONARY + 34;
 // The printed finding of a document's words: its length.
 fn print_check(doc: &[u32], dict: &mut [u32], work: &mut [u32], out: &mut [u8]) -> usize
     requires { Areas (length dict.old) (length work.old) (length out.old) }
-    ensures { Prints (printedOf doc.now) result out.new }
+    ensures { Prints (printed_of doc.now) result out.new }
 {
     let finding = checker::check(doc, dict, work);
     printer::print_finding(finding, dict, out)
@@ -32,7 +32,7 @@ fn print_check(doc: &[u32], dict: &mut [u32], work: &mut [u32], out: &mut [u8]) 
 // 11 at 0, printed: its length.
 fn print_broken(dict: &[u32], out: &mut [u8]) -> usize
     requires { 180258 ≡ length out.old }
-    ensures { Prints (printOf (Refused 11 0) []) result out.new }
+    ensures { Prints (print_of (Refused 11 0) []) result out.new }
 {
     let finding = Finding::Refused {
         number: findings::BROKEN_LAYOUT,
@@ -44,7 +44,7 @@ fn print_broken(dict: &[u32], out: &mut [u8]) -> usize
 // What the program writes for its input, at the beginning of the buffer: its length.
 // Document 01, forms: "with areas of 16,384 words".
 fn report(input: &[u8], out: &mut [u8; OUTPUT]) -> usize
-    ensures { Prints (reportOf input.now) result out.new }
+    ensures { Prints (report_of input.now) result out.new }
 {
     let mut doc: [u32; 16384] = [0; 16384];
     let mut dict: [u32; 16384] = [0; 16384];

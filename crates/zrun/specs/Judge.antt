@@ -4,6 +4,6 @@ use Rattle.evaluator_rules.specs.Run.{Ran}
 use Rattle.evaluator_rules.specs.declared.Finding.{Finding}
 use Rattle.evaluator_rules.specs.declared.Finding.TheVariants.{Refused}
 
-unfoldable pub judgeOf : Answer → Ran → Finding
-judgeOf (accepted E) r = r.finding
-judgeOf (refused number place) r = Refused number place
+unfoldable pub judge_of : Answer → Ran → Finding
+judge_of (accepted E) r = r.finding
+judge_of (refused number place) r = Refused number place

@@ -2,9 +2,9 @@
 // to standard output, or to standard error why a file cannot be read. A file whose bytes are no words, or more than 16,384, counts as one of none:
 // a document of no words is 11 at 0, a state 41 at 0.
 ghost use Rattle.std.specs.Prelude.{◌≡◌, ◌≤◌, length};
-ghost use Rattle.fitter_rules.specs.Fit.{fitOf};
+ghost use Rattle.fitter_rules.specs.Fit.{fit_of};
 ghost use Rattle.evaluator_rules.specs.Run.{run_of};
-ghost use Rattle.zrun.specs.Judge.{judgeOf};
+ghost use Rattle.zrun.specs.Judge.{judge_of};
 
 use codes::{WORD_BYTES, limits};
 use evaluator_rules::Finding;
@@ -85,7 +85,7 @@ fn load(i: usize, area: &mut [u32]) -> Input
 
 // The refusal of the fit call, else the finding of the run.
 fn judge(doc: &[u32], state: &[u32], dict: &mut [u32], work: &mut [u32]) -> Finding
-    ensures { result ≡ judgeOf (fitOf doc.now state.now (length dict.old) (length work.old)) (run_of doc.now state.now (length work.old)) }
+    ensures { result ≡ judge_of (fit_of doc.now state.now (length dict.old) (length work.old)) (run_of doc.now state.now (length work.old)) }
 {
     let fitted = fitter::fit(doc, state, dict, work);
     match fitted {

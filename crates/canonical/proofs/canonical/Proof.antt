@@ -2,7 +2,7 @@ use mathlib.Core.Path.{sym, ap, ◌∙◌, subst}
 use lib.ListN.{replicate}
 use borrow.Author.Rules.{rules}
 use Rattle.canonical_rules.specs.Call.{CanonicalCall}
-use Rattle.canonical.proofs.CallLaws.{call-refused}
+use Rattle.canonical.proofs.CallLaws.{call_refused}
 use Rattle.canonical.proofs.canonical.Statement.{statement}
 use Rattle.canonical.proofs.canonical.Tie as tie
 
@@ -21,7 +21,7 @@ returns c =
 returns-2 : tie.Need-returns-2
 returns-2 c =
     let s = c.before.before.before.before.before.before.before.before.before.before in
-    call-refused s.args.doc.now _ _ _ _ (sym c.before.before.before.read.ensures ∙ c.before.first.given.1) c.before.before.before.before.before.before.clear.ensures
+    call_refused s.args.doc.now _ _ _ _ (sym c.before.before.before.read.ensures ∙ c.before.first.given.1) c.before.before.before.before.before.before.clear.ensures
 
 pub canonical-spec : {M : Type 1} → statement M
 canonical-spec =

@@ -1,5 +1,5 @@
 use mathlib.Core.Path.{ap, ◌∙◌}
-use Rattle.capi_codes.specs.Code.{checkCode}
+use Rattle.capi_codes.specs.Code.{check_code}
 use borrow.Author.Rules.{rules}
 use Rattle.capi.proofs.z_fit.Statement.{statement}
 use Rattle.capi.proofs.z_fit.Tie as tie
@@ -7,7 +7,7 @@ use Rattle.capi.proofs.z_fit.Tie as tie
 returns : tie.Need-returns
 returns c =
     let e = c.before.before.before.before.before.fit.ensures in
-    record { finding = c.check-code.ensures ∙ ap checkCode e.finding; recorded = e.recorded; cleared = e.cleared }
+    record { finding = c.check-code.ensures ∙ ap check_code e.finding; recorded = e.recorded; cleared = e.cleared }
 
 pub z-fit-spec : {M : Type 1} → statement M
 z-fit-spec = tie.close (tie.spec (λ c κs. search rules) (λ c κs. search rules) (λ c. search rules) (λ c. search rules) returns)

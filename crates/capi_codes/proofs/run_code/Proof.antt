@@ -1,18 +1,18 @@
-use Rattle.capi_codes.specs.Code.{runCode}
+use Rattle.capi_codes.specs.Code.{run_code}
 use borrow.Author.Rules.{rules}
 use Rattle.capi_codes.proofs.run_code.Statement.{statement}
 use Rattle.capi_codes.proofs.run_code.Tie as tie
 
 returns : tie.Need-returns
-unfolding runCode
+unfolding run_code
 returns c = rw c.enum_told.given.1
 
 returns-2 : tie.Need-returns-2
-unfolding runCode
+unfolding run_code
 returns-2 c = rw c.before.f.given.1
 
 returns-3 : tie.Need-returns-3
-unfolding runCode
+unfolding run_code
 returns-3 c = rw c.before.f2.given.1
 
 pub run-code-spec : {M : Type 1} → statement M

@@ -1,4 +1,4 @@
-use Rattle.checker.proofs.FromLaws.{from-none, node_at, from-listed, from-small, from-ask, from_goes, from-stops}
+use Rattle.checker.proofs.FromLaws.{from_none, node_at_lem, from_listed, from_small, from_ask, from_goes, from_stops}
 use native.Mathlib.Omega.{arith}
 use borrow.Author.Rules.{rules}
 use Prim.Native.Nat.{ℕ, ◌<◌}
@@ -36,23 +36,23 @@ abbrev paragraphs-from-calls : ℕ → paragraphs-from-lts.Claims
 paragraphs-from-calls t = (word-reads.Asked, word-reads.Learnt, operand-reads.Asked, operand-reads.Learnt, enter-reads.Asked, enter-reads.Learnt, paragraphs-from-below t, paragraphs-from.Post)
 
 paragraphs-from-returns : (t : ℕ) → paragraphs-from-lts.Need-returns (paragraphs-from-calls t) (paragraphs-from-at t) paragraphs-from.Post
-paragraphs-from-returns t c = λ D R. from-none _ _ _ c.if1.true _ _ D R
+paragraphs-from-returns t c = λ D R. from_none _ _ _ c.if1.true _ _ D R
 
 paragraphs-from-enter-requires : (t : ℕ) → paragraphs-from-lts.Need-enter-requires (paragraphs-from-calls t) (paragraphs-from-at t) paragraphs-from.Post
-paragraphs-from-enter-requires t c κs = (from-listed _ _ _ _ _ _ c.before.before.before.before.before.before.before.before.before.before.requires.1 c.before.before.before.before.before.if1.false _ (node_at _ _ _ _ c.before.before.before.before.word.ensures.0 c.before.before.before.operand.ensures.0), c.before.before.before.before.before.before.before.before.before.before.requires.1.ready)
+paragraphs-from-enter-requires t c κs = (from_listed _ _ _ _ _ _ c.before.before.before.before.before.before.before.before.before.before.requires.1 c.before.before.before.before.before.if1.false _ (node_at_lem _ _ _ _ c.before.before.before.before.word.ensures.0 c.before.before.before.operand.ensures.0), c.before.before.before.before.before.before.before.before.before.before.requires.1.ready)
 
 paragraphs-from-add-paragraphs-from : (t : ℕ) → paragraphs-from-lts.Need-overflow-add-paragraphs-from (paragraphs-from-calls t) (paragraphs-from-at t) paragraphs-from.Post
-paragraphs-from-add-paragraphs-from t c = let h = from-small _ _ _ _ _ _ c.before.before.before.before.before.before.before.before.before.before.before.before.before.before.before.before.before.before.before.before.before.before.requires.1 c.before.before.before.before.before.before.before.before.before.before.before.before.before.before.before.before.before.if1.false in omega arith
+paragraphs-from-add-paragraphs-from t c = let h = from_small _ _ _ _ _ _ c.before.before.before.before.before.before.before.before.before.before.before.before.before.before.before.before.before.before.before.before.before.before.requires.1 c.before.before.before.before.before.before.before.before.before.before.before.before.before.before.before.before.before.if1.false in omega arith
 
-paragraphs-from-paragraphs-from-requires :
+paragraphs_from_paragraphs_from_requires :
     (t : ℕ) → paragraphs-from-lts.Need-paragraphs-from-requires (paragraphs-from-calls t) (paragraphs-from-at t) paragraphs-from.Post
-paragraphs-from-paragraphs-from-requires t c κs = (omega (arith, c.before.before.before.before.before.before.before.before.before.before.before.before.before.before.before.before.before.before.before.before.before.before.requires.0, c.before.before.before.before.before.before.before.before.before.before.before.before.before.before.before.before.before.if1.false), from-ask _ _ _ _ _ _ c.before.before.before.before.before.before.before.before.before.before.before.before.before.before.before.before.before.before.before.before.before.before.requires.1 c.before.before.before.before.before.before.before.before.before.before.before.before.before.before.before.before.before.if1.false _ _ _ _ _ c.before.before.before.before.before.before.before.before.before.before.before.enter.ensures c.before.before.before.enum_told.given.1 c.before.before.before.before.before.before.before.before.before.before.before.enter.auto.1.0 c.before.before.before.before.before.before.before.before.before.before.before.enter.auto.1.1.1.0)
+paragraphs_from_paragraphs_from_requires t c κs = (omega (arith, c.before.before.before.before.before.before.before.before.before.before.before.before.before.before.before.before.before.before.before.before.before.before.requires.0, c.before.before.before.before.before.before.before.before.before.before.before.before.before.before.before.before.before.if1.false), from_ask _ _ _ _ _ _ c.before.before.before.before.before.before.before.before.before.before.before.before.before.before.before.before.before.before.before.before.before.before.requires.1 c.before.before.before.before.before.before.before.before.before.before.before.before.before.before.before.before.before.if1.false _ _ _ _ _ c.before.before.before.before.before.before.before.before.before.before.before.enter.ensures c.before.before.before.enum_told.given.1 c.before.before.before.before.before.before.before.before.before.before.before.enter.auto.1.0 c.before.before.before.before.before.before.before.before.before.before.before.enter.auto.1.1.1.0)
 
 paragraphs-from-returns-2 : (t : ℕ) → paragraphs-from-lts.Need-returns-2 (paragraphs-from-calls t) (paragraphs-from-at t) paragraphs-from.Post
-paragraphs-from-returns-2 t c = λ D R. from_goes _ _ _ c.before.before.before.before.before.before.before.before.before.before.before.before.before.before.before.before.before.before.before.before.before.before.before.before.if1.false _ (node_at _ _ _ _ c.before.before.before.before.before.before.before.before.before.before.before.before.before.before.before.before.before.before.before.before.before.before.before.word.ensures.0 c.before.before.before.before.before.before.before.before.before.before.before.before.before.before.before.before.before.before.before.before.before.before.operand.ensures.0) _ _ _ _ _ _ _ c.before.before.before.before.before.before.before.before.before.before.before.before.before.before.before.before.before.before.enter.ensures c.before.before.before.before.before.before.before.before.before.before.enum_told.given.1 c.before.before.before.before.before.before.before.before.before.before.before.before.before.before.before.before.before.before.enter.auto.1.1.0 _ _ c.before.before.before.before.before.before.paragraphs-from.ensures D R
+paragraphs-from-returns-2 t c = λ D R. from_goes _ _ _ c.before.before.before.before.before.before.before.before.before.before.before.before.before.before.before.before.before.before.before.before.before.before.before.before.if1.false _ (node_at_lem _ _ _ _ c.before.before.before.before.before.before.before.before.before.before.before.before.before.before.before.before.before.before.before.before.before.before.before.word.ensures.0 c.before.before.before.before.before.before.before.before.before.before.before.before.before.before.before.before.before.before.before.before.before.before.operand.ensures.0) _ _ _ _ _ _ _ c.before.before.before.before.before.before.before.before.before.before.before.before.before.before.before.before.before.before.enter.ensures c.before.before.before.before.before.before.before.before.before.before.enum_told.given.1 c.before.before.before.before.before.before.before.before.before.before.before.before.before.before.before.before.before.before.enter.auto.1.1.0 _ _ c.before.before.before.before.before.before.paragraphs-from.ensures D R
 
 paragraphs-from-returns-3 : (t : ℕ) → paragraphs-from-lts.Need-returns-3 (paragraphs-from-calls t) (paragraphs-from-at t) paragraphs-from.Post
-paragraphs-from-returns-3 t c = λ D R. from-stops _ _ _ c.before.before.before.before.before.before.before.before.before.before.before.before.before.before.before.if1.false _ (node_at _ _ _ _ c.before.before.before.before.before.before.before.before.before.before.before.before.before.before.word.ensures.0 c.before.before.before.before.before.before.before.before.before.before.before.before.before.operand.ensures.0) _ _ _ _ _ _ _ c.before.before.before.before.before.before.before.before.before.enter.ensures _ _ c.before.entered.given.1 D R
+paragraphs-from-returns-3 t c = λ D R. from_stops _ _ _ c.before.before.before.before.before.before.before.before.before.before.before.before.before.before.before.if1.false _ (node_at_lem _ _ _ _ c.before.before.before.before.before.before.before.before.before.before.before.before.before.before.word.ensures.0 c.before.before.before.before.before.before.before.before.before.before.before.before.before.operand.ensures.0) _ _ _ _ _ _ _ c.before.before.before.before.before.before.before.before.before.enter.ensures _ _ c.before.entered.given.1 D R
 
 pub +paragraphs-from-spec : {M : Type 1} → statement M
 +paragraphs-from-spec = close μ-paragraphs-from λ t. paragraphs-from-lts.spec (paragraphs-from-calls t) (paragraphs-from-at t) paragraphs-from.Post
@@ -63,7 +63,7 @@ pub +paragraphs-from-spec : {M : Type 1} → statement M
     (λ c. search rules)
     (paragraphs-from-add-paragraphs-from t)
     (λ c. search rules)
-    (paragraphs-from-paragraphs-from-requires t)
+    (paragraphs_from_paragraphs_from_requires t)
     (λ c. search rules)
     (λ c. search rules)
     (λ c. search rules)

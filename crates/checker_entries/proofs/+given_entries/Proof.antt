@@ -1,7 +1,7 @@
 use native.Mathlib.Omega.{arith}
 use mathlib.Core.Path.{refl}
 use lib.ListN.{length}
-use Rattle.checker_entries.proofs.Writing.{givens-none, givens-next}
+use Rattle.checker_entries.proofs.Writing.{givens_none, givens_next}
 use borrow.Author.Rules.{rules}
 use Prim.Native.Nat.{ℕ, ◌<◌, ◌-◌}
 use borrow.Fn.Kinds.{In}
@@ -41,7 +41,7 @@ given-entries-returns : (t : ℕ) → given-entries-lts.Need-returns (
   given-entries-below t,
   given-entries.Post,
 ) (given-entries-at t) given-entries.Post
-given-entries-returns t c = givens-none _ _ _ _ c.if1.true
+given-entries-returns t c = givens_none _ _ _ _ c.if1.true
 
 -- src/lib.rt:57:9
 given-entries-word-requires : (t : ℕ) → given-entries-lts.Need-word-requires (
@@ -223,7 +223,7 @@ given-entries-returns-2 : (t : ℕ) → given-entries-lts.Need-returns-2 (
   given-entries-below t,
   given-entries.Post,
 ) (given-entries-at t) given-entries.Post
-given-entries-returns-2 t c = givens-next _ _ _ _ _ _ _ _ _ _ _ c.before.before.before.before.before.before.before.before.before.before.before.before.before.before.before.before.before.before.before.before.before.if1.false c.before.before.before.before.before.before.before.before.before.before.before.before.before.before.before.before.before.before.before.before.word.ensures.0 c.before.before.before.before.before.before.before.before.before.before.before.before.before.before.before.before.before.before.put-head.ensures c.before.before.before.before.before.before.before.before.before.before.before.before.before.before.store.ensures c.before.before.before.before.before.before.before.before.before.before.store2.ensures c.before.before.before.before.before.before.store3.ensures c.before.before.given-entries.ensures
+given-entries-returns-2 t c = givens_next _ _ _ _ _ _ _ _ _ _ _ c.before.before.before.before.before.before.before.before.before.before.before.before.before.before.before.before.before.before.before.before.before.if1.false c.before.before.before.before.before.before.before.before.before.before.before.before.before.before.before.before.before.before.before.before.word.ensures.0 c.before.before.before.before.before.before.before.before.before.before.before.before.before.before.before.before.before.before.put-head.ensures c.before.before.before.before.before.before.before.before.before.before.before.before.before.before.store.ensures c.before.before.before.before.before.before.before.before.before.before.store2.ensures c.before.before.before.before.before.before.store3.ensures c.before.before.given-entries.ensures
 
 pub +given-entries-spec : {M : Type 1} → statement M
 +given-entries-spec = close μ-given-entries λ t. given-entries-lts.spec (

@@ -1,6 +1,6 @@
 use native.Mathlib.Omega.{arith}
 use mathlib.Core.Path.{refl}
-use Rattle.checker_entries.proofs.Writing.{names-none, first-asked, names-asked, names-next}
+use Rattle.checker_entries.proofs.Writing.{names_none, first_asked, names_asked, names_next}
 use borrow.Author.Rules.{rules}
 use Prim.Native.Nat.{ℕ, ◌<◌}
 use borrow.Fn.Kinds.{In}
@@ -37,7 +37,7 @@ name-entries-returns : (t : ℕ) → name-entries-lts.Need-returns (
   name-entries-below t,
   name-entries.Post,
 ) (name-entries-at t) name-entries.Post
-name-entries-returns t c = names-none _ _ _ _ _ c.if1.true
+name-entries-returns t c = names_none _ _ _ _ _ c.if1.true
 
 -- src/lib.rt:90:33
 name-entries-word-requires : (t : ℕ) → name-entries-lts.Need-word-requires (
@@ -81,7 +81,7 @@ name-entries-name-entry-requires : (t : ℕ) → name-entries-lts.Need-name-entr
   name-entries-below t,
   name-entries.Post,
 ) (name-entries-at t) name-entries.Post
-name-entries-name-entry-requires t c κs = let A = c.before.before.before.before.before.before.before.before.before.requires.1 in let n = A.near in (first-asked _ _ _ _ _ _ c.before.before.before.before.before.if1.false A _ c.word2.ensures.0, c.before.before.word.ensures.1, omega arith)
+name-entries-name-entry-requires t c κs = let A = c.before.before.before.before.before.before.before.before.before.requires.1 in let n = A.near in (first_asked _ _ _ _ _ _ c.before.before.before.before.before.if1.false A _ c.word2.ensures.0, c.before.before.word.ensures.1, omega arith)
 
 -- src/lib.rt:91:27
 name-entries-add-name-entries : (t : ℕ) → name-entries-lts.Need-overflow-add-name-entries (
@@ -114,7 +114,7 @@ name-entries-name-entries-requires : (t : ℕ) → name-entries-lts.Need-name-en
   name-entries-below t,
   name-entries.Post,
 ) (name-entries-at t) name-entries.Post
-name-entries-name-entries-requires t c κs = (omega (arith, c.before.before.before.before.before.before.before.before.before.before.before.before.before.requires.0, c.before.before.before.before.before.before.before.before.before.if1.false), names-asked _ _ _ _ _ _ _ _ _ _ c.before.before.before.before.before.before.before.before.before.if1.false c.before.before.before.before.before.before.before.before.before.before.before.before.before.requires.1 c.before.before.before.before.before.before.word.ensures.0 c.before.before.before.before.word2.ensures.0 c.before.before.before.name-entry.ensures)
+name-entries-name-entries-requires t c κs = (omega (arith, c.before.before.before.before.before.before.before.before.before.before.before.before.before.requires.0, c.before.before.before.before.before.before.before.before.before.if1.false), names_asked _ _ _ _ _ _ _ _ _ _ c.before.before.before.before.before.before.before.before.before.if1.false c.before.before.before.before.before.before.before.before.before.before.before.before.before.requires.1 c.before.before.before.before.before.before.word.ensures.0 c.before.before.before.before.word2.ensures.0 c.before.before.before.name_entry_lem.ensures)
 
 -- src/lib.rt:76:1
 name-entries-same-length : (t : ℕ) → name-entries-lts.Need-same-length (
@@ -136,7 +136,7 @@ name-entries-returns-2 : (t : ℕ) → name-entries-lts.Need-returns-2 (
   name-entries-below t,
   name-entries.Post,
 ) (name-entries-at t) name-entries.Post
-name-entries-returns-2 t c = names-next _ _ _ _ _ _ _ _ _ _ c.before.before.before.before.before.before.before.before.before.before.before.before.if1.false c.before.before.before.before.before.before.before.before.before.before.before.before.before.before.before.before.requires.1 c.before.before.before.before.before.before.before.before.before.word.ensures.0 c.before.before.before.before.before.before.before.word2.ensures.0 c.before.before.before.before.before.before.name-entry.ensures _ _ c.before.before.name-entries.ensures
+name-entries-returns-2 t c = names_next _ _ _ _ _ _ _ _ _ _ c.before.before.before.before.before.before.before.before.before.before.before.before.if1.false c.before.before.before.before.before.before.before.before.before.before.before.before.before.before.before.before.requires.1 c.before.before.before.before.before.before.before.before.before.word.ensures.0 c.before.before.before.before.before.before.before.word2.ensures.0 c.before.before.before.before.before.before.name_entry_lem.ensures _ _ c.before.before.name-entries.ensures
 
 pub +name-entries-spec : {M : Type 1} → statement M
 +name-entries-spec = close μ-name-entries λ t. name-entries-lts.spec (

@@ -1,6 +1,6 @@
 use native.Mathlib.Omega.{arith}
 use mathlib.Core.Path.{refl}
-use Rattle.checker_entries.proofs.Writing.{parts_none, first-asked, reading-of, parts-asked, parts_next}
+use Rattle.checker_entries.proofs.Writing.{parts_none, first_asked, reading_of, parts_asked, parts_next}
 use borrow.Author.Rules.{rules}
 use Prim.Native.Nat.{ℕ, ◌<◌}
 use borrow.Fn.Kinds.{In}
@@ -126,7 +126,7 @@ put-parts-put-type-requires : (t : ℕ) → put-parts-lts.Need-put-type-requires
   put-parts-below t,
   put-parts.Post,
 ) (put-parts-at t) put-parts.Post
-put-parts-put-type-requires t c κs = let A = c.before.before.before.before.before.before.before.before.before.before.before.before.before.requires.1 in let n = A.near in (reading-of _ _ _ (first-asked _ _ _ _ _ _ c.before.before.before.before.before.before.before.before.before.if1.false A _ c.before.before.before.before.before.word2.ensures.0), omega arith)
+put-parts-put-type-requires t c κs = let A = c.before.before.before.before.before.before.before.before.before.before.before.before.before.requires.1 in let n = A.near in (reading_of _ _ _ (first_asked _ _ _ _ _ _ c.before.before.before.before.before.before.before.before.before.if1.false A _ c.before.before.before.before.before.word2.ensures.0), omega arith)
 
 -- src/lib.rt:106:24
 put-parts-add-put-parts : (t : ℕ) → put-parts-lts.Need-overflow-add-put-parts (
@@ -165,7 +165,7 @@ put-parts-put-parts-requires : (t : ℕ) → put-parts-lts.Need-put-parts-requir
   put-parts-below t,
   put-parts.Post,
 ) (put-parts-at t) put-parts.Post
-put-parts-put-parts-requires t c κs = (omega (arith, c.before.before.before.before.before.before.before.before.before.before.before.before.before.before.before.before.before.requires.0, c.before.before.before.before.before.before.before.before.before.before.before.before.before.if1.false), parts-asked _ _ _ _ _ _ _ _ _ _ c.before.before.before.before.before.before.before.before.before.before.before.before.before.if1.false c.before.before.before.before.before.before.before.before.before.before.before.before.before.before.before.before.before.requires.1 c.before.before.before.before.before.before.before.before.before.before.before.word.ensures.0 c.before.before.before.before.before.before.before.before.before.word2.ensures.0 _ c.before.before.before.before.before.before.before.store.ensures c.before.before.before.put-type.ensures)
+put-parts-put-parts-requires t c κs = (omega (arith, c.before.before.before.before.before.before.before.before.before.before.before.before.before.before.before.before.before.requires.0, c.before.before.before.before.before.before.before.before.before.before.before.before.before.if1.false), parts_asked _ _ _ _ _ _ _ _ _ _ c.before.before.before.before.before.before.before.before.before.before.before.before.before.if1.false c.before.before.before.before.before.before.before.before.before.before.before.before.before.before.before.before.before.requires.1 c.before.before.before.before.before.before.before.before.before.before.before.word.ensures.0 c.before.before.before.before.before.before.before.before.before.word2.ensures.0 _ c.before.before.before.before.before.before.before.store.ensures c.before.before.before.put-type.ensures)
 
 -- src/lib.rt:95:1
 put-parts-same-length : (t : ℕ) → put-parts-lts.Need-same-length (

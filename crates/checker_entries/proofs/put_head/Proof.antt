@@ -1,6 +1,6 @@
 use native.Mathlib.Omega.{arith}
 use mathlib.Core.Path.{refl}
-use Rattle.checker_entries.proofs.Writing.{four-words}
+use Rattle.checker_entries.proofs.Writing.{four_words}
 use borrow.Author.Rules.{rules}
 use Rattle.checker_entries.proofs.put_head.Statement.{statement}
 use Rattle.checker_entries.proofs.put_head.Tie as tie
@@ -58,7 +58,7 @@ same_length c = search rules
 
 -- src/lib.rt:39:1
 returns : tie.Need-returns
-returns c = four-words c.before.before.before.before.before.before.before.before.before.before.before.before.before.before.before.before.before.args.w.now _ _ _ _ c.before.before.before.before.before.before.before.before.before.before.before.before.before.before.before.before.before.args.at _ _ _ _ c.before.before.before.before.before.before.before.before.before.before.before.before.before.before.store.ensures c.before.before.before.before.before.before.before.before.before.before.store2.ensures c.before.before.before.before.before.before.store3.ensures c.before.before.store4.ensures
+returns c = four_words c.before.before.before.before.before.before.before.before.before.before.before.before.before.before.before.before.before.args.w.now _ _ _ _ c.before.before.before.before.before.before.before.before.before.before.before.before.before.before.before.before.before.args.at _ _ _ _ c.before.before.before.before.before.before.before.before.before.before.before.before.before.before.store.ensures c.before.before.before.before.before.before.before.before.before.before.store2.ensures c.before.before.before.before.before.before.store3.ensures c.before.before.store4.ensures
 
 pub put-head-spec : {M : Type 1} → statement M
 put-head-spec =

@@ -1,5 +1,5 @@
 use Rattle.checker_extension.proofs.ListedLaws.{listed_at}
-use Rattle.checker_extension.proofs.EnteringLaws.{entered-refused, entries-wait, entered-accepted, entered-full}
+use Rattle.checker_extension.proofs.EnteringLaws.{entered_refused, entries_wait, entered_accepted, entered_full}
 use native.Mathlib.Omega.{arith}
 use borrow.Author.Rules.{rules}
 use Rattle.checker_extension.proofs.enter.Statement.{statement}
@@ -12,13 +12,13 @@ returns : tie.Need-returns
 returns c =
     let v = c.before.before.before.before.before.before in
     let s = v.before.before.before.before.before.before.before.before.before.before in
-    entered-refused _ _ s.requires.0 _ _ _ _ _ s.requires.1 _ _ _ _ v.visit.ensures c.if1.true
+    entered_refused _ _ s.requires.0 _ _ _ _ _ s.requires.1 _ _ _ _ v.visit.ensures c.if1.true
 
 append-requires : tie.Need-append-requires
 append-requires c κs =
     let v = c.before.before.before.before.before.before.before.before in
     let s = v.before.before.before.before.before.before.before.before.before.before in
-    entries-wait _ _ s.requires.0 _ _ _ _ _ s.requires.1 _ _ _ _ v.visit.ensures c.before.before.if1.false
+    entries_wait _ _ s.requires.0 _ _ _ _ _ s.requires.1 _ _ _ _ v.visit.ensures c.before.before.if1.false
 
 extend-requires : tie.Need-extend-requires
 extend-requires c κs =
@@ -32,7 +32,7 @@ returns-2 : tie.Need-returns-2
 returns-2 c =
     let v = c.before.before.before.before.before.before.before.before.before.before.before.before.before.before.before.before.before in
     let s = v.before.before.before.before.before.before.before.before.before.before in
-    entered-accepted _ _ s.requires.0 _ _ _ _ _ s.requires.1 _ _ _ _ v.visit.ensures c.before.before.before.before.before.before.before.before.before.before.before.if1.false _ _ c.before.before.before.before.before.before.before.before.append.ensures c.before.before.before.before.before.if2.true
+    entered_accepted _ _ s.requires.0 _ _ _ _ _ s.requires.1 _ _ _ _ v.visit.ensures c.before.before.before.before.before.before.before.before.before.before.before.if1.false _ _ c.before.before.before.before.before.before.before.before.append.ensures c.before.before.before.before.before.if2.true
     _ _ v.before.before.before.before.word.ensures.0 c.before.before.extend.ensures
 
 cast-t29 : tie.Need-overflow-cast-t29
@@ -42,7 +42,7 @@ returns-3 : tie.Need-returns-3
 returns-3 c =
     let v = c.before.before.before.before.before.before.before.before.before.before.before.before in
     let s = v.before.before.before.before.before.before.before.before.before.before in
-    entered-full _ _ s.requires.0 _ _ _ _ _ s.requires.1 _ _ _ _ v.visit.ensures c.before.before.before.before.before.before.if1.false _ _ c.before.before.before.append.ensures c.if2.false
+    entered_full _ _ s.requires.0 _ _ _ _ _ s.requires.1 _ _ _ _ v.visit.ensures c.before.before.before.before.before.before.if1.false _ _ c.before.before.before.append.ensures c.if2.false
 
 pub enter_spec : {M : Type 1} → statement M
 enter_spec =

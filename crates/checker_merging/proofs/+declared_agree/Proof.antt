@@ -1,8 +1,8 @@
 use mathlib.Core.Path.{◌≡◌, refl, sym, ap, subst, ◌∙◌}
 use native.Mathlib.Omega.{arith}
 use lib.ListN.{length}
-use Rattle.words.proofs.Lists.{drop-done}
-use Rattle.checker_merging.proofs.MergeLaws.{declared-none, declared-go, declared-stop}
+use Rattle.words.proofs.Lists.{drop_done}
+use Rattle.checker_merging.proofs.MergeLaws.{declared_none, declared_go, declared_stop}
 use borrow.Author.Rules.{rules}
 use Prim.Native.Nat.{ℕ, ◌<◌, ◌-◌}
 use borrow.Fn.Kinds.{In}
@@ -43,7 +43,7 @@ declared-agree-returns : (t : ℕ) → declared-agree-lts.Need-returns (
   declared-agree-below t,
   declared-agree.Post,
 ) (declared-agree-at t) declared-agree.Post
-declared-agree-returns t c = declared-none _ _ _ _ _ _ _ (drop-done _ _ c.if1.true)
+declared-agree-returns t c = declared_none _ _ _ _ _ _ _ (drop_done _ _ c.if1.true)
 
 -- src/lib.rt:27:36
 declared-agree-word-requires : (t : ℕ) → declared-agree-lts.Need-word-requires (
@@ -98,7 +98,7 @@ declared-agree-returns-2 : (t : ℕ) → declared-agree-lts.Need-returns-2 (
   declared-agree-below t,
   declared-agree.Post,
 ) (declared-agree-at t) declared-agree.Post
-declared-agree-returns-2 t c = declared-go _ _ _ _ _ _ _ _ _ c.before.before.before.before.if1.false c.before.before.before.word.ensures.0 _ c.before.before.agrees.ensures c.before.if2.true _ c.declared-agree.ensures
+declared-agree-returns-2 t c = declared_go _ _ _ _ _ _ _ _ _ c.before.before.before.before.if1.false c.before.before.before.word.ensures.0 _ c.before.before.agrees.ensures c.before.if2.true _ c.declared-agree.ensures
 
 -- src/lib.rt:20:1
 declared-agree-returns-3 : (t : ℕ) → declared-agree-lts.Need-returns-3 (
@@ -109,7 +109,7 @@ declared-agree-returns-3 : (t : ℕ) → declared-agree-lts.Need-returns-3 (
   declared-agree-below t,
   declared-agree.Post,
 ) (declared-agree-at t) declared-agree.Post
-declared-agree-returns-3 t c = declared-stop _ _ _ _ _ _ _ _ _ c.before.before.before.if1.false c.before.before.word.ensures.0 _ c.before.agrees.ensures c.if2.false
+declared-agree-returns-3 t c = declared_stop _ _ _ _ _ _ _ _ _ c.before.before.before.if1.false c.before.before.word.ensures.0 _ c.before.agrees.ensures c.if2.false
 
 pub +declared-agree-spec : {M : Type 1} → statement M
 +declared-agree-spec = close μ-declared-agree λ t. declared-agree-lts.spec (

@@ -1,5 +1,5 @@
 use native.Mathlib.Omega.{arith}
-use Rattle.checker_merging.proofs.MergeLaws.{rows_none, rows-go, rows-stop, rows-asked, rows-fewer}
+use Rattle.checker_merging.proofs.MergeLaws.{rows_none, rows_go, rows_stop, rows_asked, rows_fewer}
 use borrow.Author.Rules.{rules}
 use Prim.Native.Nat.{ℕ, ◌<◌}
 use borrow.Fn.Kinds.{In}
@@ -76,7 +76,7 @@ rows-agree-agrees-requires : (t : ℕ) → rows-agree-lts.Need-agrees-requires (
   rows-agree-below t,
   rows-agree.Post,
 ) (rows-agree-at t) rows-agree.Post
-rows-agree-agrees-requires t c κs = rows-asked _ _ _ _ _ _ _ c.before.before.if1.false c.before.before.before.before.before.before.requires.1 _ c.word2.ensures.0
+rows-agree-agrees-requires t c κs = rows_asked _ _ _ _ _ _ _ c.before.before.if1.false c.before.before.before.before.before.before.requires.1 _ c.word2.ensures.0
 
 -- src/lib.rt:42:48
 rows-agree-add-rows-agree : (t : ℕ) → rows-agree-lts.Need-overflow-add-rows-agree (
@@ -109,7 +109,7 @@ rows-agree-rows-agree-requires : (t : ℕ) → rows-agree-lts.Need-rows-agree-re
   rows-agree-below t,
   rows-agree.Post,
 ) (rows-agree-at t) rows-agree.Post
-rows-agree-rows-agree-requires t c κs = (omega (arith, c.before.before.before.before.before.before.before.before.requires.0, c.before.before.before.before.if1.false), rows-fewer _ _ _ _ _ _ _ c.before.before.before.before.if1.false c.before.before.before.before.before.before.before.before.requires.1)
+rows-agree-rows-agree-requires t c κs = (omega (arith, c.before.before.before.before.before.before.before.before.requires.0, c.before.before.before.before.if1.false), rows_fewer _ _ _ _ _ _ _ c.before.before.before.before.if1.false c.before.before.before.before.before.before.before.before.requires.1)
 
 -- src/lib.rt:42:9
 rows-agree-returns-2 : (t : ℕ) → rows-agree-lts.Need-returns-2 (
@@ -120,7 +120,7 @@ rows-agree-returns-2 : (t : ℕ) → rows-agree-lts.Need-returns-2 (
   rows-agree-below t,
   rows-agree.Post,
 ) (rows-agree-at t) rows-agree.Post
-rows-agree-returns-2 t c = rows-go _ _ _ _ _ _ _ c.before.before.before.before.before.if1.false _ _ c.before.before.before.before.word.ensures.0 c.before.before.before.word2.ensures.0 _ c.before.before.agrees.ensures c.before.if2.true _ c.rows-agree.ensures
+rows-agree-returns-2 t c = rows_go _ _ _ _ _ _ _ c.before.before.before.before.before.if1.false _ _ c.before.before.before.before.word.ensures.0 c.before.before.before.word2.ensures.0 _ c.before.before.agrees.ensures c.before.if2.true _ c.rows-agree.ensures
 
 -- src/lib.rt:34:1
 rows-agree-returns-3 : (t : ℕ) → rows-agree-lts.Need-returns-3 (
@@ -131,7 +131,7 @@ rows-agree-returns-3 : (t : ℕ) → rows-agree-lts.Need-returns-3 (
   rows-agree-below t,
   rows-agree.Post,
 ) (rows-agree-at t) rows-agree.Post
-rows-agree-returns-3 t c = rows-stop _ _ _ _ _ _ _ c.before.before.before.before.if1.false _ _ c.before.before.before.word.ensures.0 c.before.before.word2.ensures.0 _ c.before.agrees.ensures c.if2.false
+rows-agree-returns-3 t c = rows_stop _ _ _ _ _ _ _ c.before.before.before.before.if1.false _ _ c.before.before.before.word.ensures.0 c.before.before.word2.ensures.0 _ c.before.agrees.ensures c.if2.false
 
 pub +rows-agree-spec : {M : Type 1} → statement M
 +rows-agree-spec = close μ-rows-agree λ t. rows-agree-lts.spec (

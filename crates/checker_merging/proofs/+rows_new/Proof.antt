@@ -1,5 +1,5 @@
 use native.Mathlib.Omega.{arith}
-use Rattle.checker_merging.proofs.NewLaws.{rows_end, rows-go, rows-stop}
+use Rattle.checker_merging.proofs.NewLaws.{rows_end, rows_go, rows_stop}
 use borrow.Author.Rules.{rules}
 use Prim.Native.Nat.{ℕ, ◌<◌}
 use borrow.Fn.Kinds.{In}
@@ -97,7 +97,7 @@ rows-new-returns-2 : (t : ℕ) → rows-new-lts.Need-returns-2 (
   rows-new-below t,
   rows-new.Post,
 ) (rows-new-at t) rows-new.Post
-rows-new-returns-2 t c = rows-go _ _ _ _ _ c.before.before.before.before.if1.false c.before.before.before.word.ensures.0 _ c.before.before.find-name.ensures c.before.if2.true _ c.rows-new.ensures
+rows-new-returns-2 t c = rows_go _ _ _ _ _ c.before.before.before.before.if1.false c.before.before.before.word.ensures.0 _ c.before.before.find-name.ensures c.before.if2.true _ c.rows-new.ensures
 
 -- src/lib.rt:89:1
 rows-new-returns-3 : (t : ℕ) → rows-new-lts.Need-returns-3 (
@@ -108,7 +108,7 @@ rows-new-returns-3 : (t : ℕ) → rows-new-lts.Need-returns-3 (
   rows-new-below t,
   rows-new.Post,
 ) (rows-new-at t) rows-new.Post
-rows-new-returns-3 t c = rows-stop _ _ _ _ _ c.before.before.before.if1.false c.before.before.word.ensures.0 _ c.before.find-name.ensures c.if2.false
+rows-new-returns-3 t c = rows_stop _ _ _ _ _ c.before.before.before.if1.false c.before.before.word.ensures.0 _ c.before.find-name.ensures c.if2.false
 
 pub +rows-new-spec : {M : Type 1} → statement M
 +rows-new-spec = close μ-rows-new λ t. rows-new-lts.spec (

@@ -1,4 +1,4 @@
-use Rattle.checker_merging.proofs.MergeLaws.{one_found, one-absent, readings-of}
+use Rattle.checker_merging.proofs.MergeLaws.{one_found, one_absent, readings_of}
 use borrow.Author.Rules.{rules}
 use Rattle.checker_merging.proofs.agrees.Statement.{statement}
 use Rattle.checker_merging.proofs.agrees.Tie as tie
@@ -30,15 +30,15 @@ word-requires c κs = search rules
 
 -- src/lib.rt:14:9
 same-type-requires : tie.Need-same-type-requires
-same-type-requires c κs = readings-of _ _ _ _ _ _ _ _ c.before.before.before.before.before.before.requires c.before.if1.true c.word.ensures.0
+same-type-requires c κs = readings_of _ _ _ _ _ _ _ _ c.before.before.before.before.before.before.requires c.before.if1.true c.word.ensures.0
 
 -- src/lib.rt:14:9
 returns : tie.Need-returns
-returns c = one_found _ _ _ _ _ _ _ _ c.before.before.before.find.ensures c.before.before.if1.true _ _ c.before.word.ensures.0 c.same-type.ensures
+returns c = one_found _ _ _ _ _ _ _ _ c.before.before.before.find.ensures c.before.before.if1.true _ _ c.before.word.ensures.0 c.same_type_lem.ensures
 
 -- src/lib.rt:8:1
 returns-2 : tie.Need-returns-2
-returns-2 c = one-absent _ _ _ _ _ _ _ _ c.before.find.ensures c.if1.false
+returns-2 c = one_absent _ _ _ _ _ _ _ _ c.before.find.ensures c.if1.false
 
 pub agrees-spec : {M : Type 1} → statement M
 agrees-spec =

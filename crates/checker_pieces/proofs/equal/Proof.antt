@@ -1,6 +1,6 @@
 use native.Mathlib.Omega.{arith}
 use Rattle.types_cells.specs.Store.{run}
-use Rattle.checker_pieces.proofs.Stages.{few-side}
+use Rattle.checker_pieces.proofs.Stages.{few_side}
 use borrow.Author.Rules.{rules}
 use Rattle.checker_pieces.proofs.equal.Statement.{statement}
 use Rattle.checker_pieces.proofs.equal.Tie as tie
@@ -10,7 +10,7 @@ use Rattle.checker_pieces.proofs.all_equal.Reads as all-equal-reads
 
 -- src/lib.rt:37:17
 cast-t7 : tie.Need-overflow-cast-t7
-cast-t7 c = let z = few-side _ _ _ _ _ c.before.before.requires in omega arith
+cast-t7 c = let z = few_side _ _ _ _ _ c.before.before.requires in omega arith
 
 -- src/lib.rt:38:24
 slice-aggregate-all-equal : tie.Need-slice-aggregate-all-equal

@@ -1,6 +1,6 @@
 use lib.ListN.{length}
 use borrow.Author.Tests.{lt-leb, le-leb}
-use Rattle.evaluator_rules.specs.Run.{run_of, runRead, runWork, runWorkWords}
+use Rattle.evaluator_rules.specs.Run.{run_of, run_read, run_work, run_work_words}
 use mathlib.Core.Path.{◌≡◌, refl, sym, ap, subst, ◌∙◌}
 use mathlib.Core.Bool.{true, false}
 use mathlib.Core.List.{List}
@@ -18,8 +18,8 @@ enum_told : tie.Need-enum-told
 enum_told c = search rules
 
 returns : tie.Need-returns
-unfolding run_of runRead runWork
-returns c = rw (← c.before.before.before.read.ensures, c.before.enum_told.given.1, lt-leb runWorkWords (length c.before.before.before.before.before.before.before.args.work.now) c.if1.true)
+unfolding run_of run_read run_work
+returns c = rw (← c.before.before.before.read.ensures, c.before.enum_told.given.1, lt-leb run_work_words (length c.before.before.before.before.before.before.before.args.work.now) c.if1.true)
 
 run-state-requires : tie.Need-run-state-requires
 run-state-requires c κs = (sym c.before.before.before.before.read.ensures ∙ c.before.before.enum_told.given.1, omega arith)
@@ -31,11 +31,11 @@ same_length : tie.Need-same-length
 same_length c = search rules
 
 returns-2 : tie.Need-returns-2
-unfolding run_of runRead runWork
-returns-2 c = rw (← c.before.before.before.before.before.before.before.read.ensures, c.before.before.before.before.before.enum_told.given.1, le-leb runWorkWords (length c.before.before.before.before.before.before.before.before.before.before.before.args.work.now) (omega arith)) c.before.before.run-state.ensures
+unfolding run_of run_read run_work
+returns-2 c = rw (← c.before.before.before.before.before.before.before.read.ensures, c.before.before.before.before.before.enum_told.given.1, le-leb run_work_words (length c.before.before.before.before.before.before.before.before.before.before.before.args.work.now) (omega arith)) c.before.before.run-state.ensures
 
 returns-3 : tie.Need-returns-3
-unfolding run_of runRead
+unfolding run_of run_read
 returns-3 c = rw (← c.before.before.before.read.ensures, c.before.c.given.1)
 
 pub run-read-spec : {M : Type 1} → statement M

@@ -1,4 +1,4 @@
-use Rattle.evaluator_rules.specs.Run.{runState}
+use Rattle.evaluator_rules.specs.Run.{run_state}
 use mathlib.Core.Path.{◌≡◌, refl, sym, ap, subst, ◌∙◌}
 use mathlib.Core.Bool.{true, false}
 use mathlib.Core.List.{List}
@@ -27,11 +27,11 @@ same_length : tie.Need-same-length
 same_length c = search rules
 
 returns : tie.Need-returns
-unfolding runState
+unfolding run_state
 returns c = rw (← c.before.before.before.before.before.before.first-ill-formed.ensures, c.before.before.before.before.enum_told.given.1) c.before.before.run-paragraphs.ensures
 
 returns-2 : tie.Need-returns-2
-unfolding runState
+unfolding run_state
 returns-2 c = rw (← c.before.before.before.first-ill-formed.ensures, c.before.c.given.1)
 
 pub run-state-spec : {M : Type 1} → statement M

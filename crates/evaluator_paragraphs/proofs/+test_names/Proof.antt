@@ -1,13 +1,13 @@
 use lib.ListN.{length, get_or}
 use Rattle.reader_rules.specs.Kinds.{expressions}
-use Rattle.reader_rules.specs.Decode.{tree_of, exprAt}
-use Rattle.states_rules.specs.Names.{documentNames}
+use Rattle.reader_rules.specs.Decode.{tree_of, expr_at}
+use Rattle.states_rules.specs.Names.{document_names}
 use Rattle.evaluator_rules.specs.Rules.{test}
 use Rattle.evaluator_nodes.specs.Ready.{Ready}
 use Rattle.evaluator_scope.specs.Named.{Among, said}
-use Rattle.evaluator_scope.proofs.BlockLaws.{scoped-same}
-use Rattle.evaluator_paragraphs.proofs.StepLaws.{names-end, names-stop, names-go, names-failed}
-use Rattle.evaluator_scope.proofs.NamedLaws.{declares-here, declares-later}
+use Rattle.evaluator_scope.proofs.BlockLaws.{scoped_same}
+use Rattle.evaluator_paragraphs.proofs.StepLaws.{names_end, names_stop, names_go, names_failed}
+use Rattle.evaluator_scope.proofs.NamedLaws.{declares_here, declares_later}
 use mathlib.Core.Path.{◌≡◌, refl, sym, ap, subst, ◌∙◌}
 use mathlib.Core.Bool.{true, false}
 use mathlib.Core.List.{List}
@@ -51,7 +51,7 @@ test-names-returns t c =
     let x = s₀.args.x.now in
     let j = s₀.args.j in
     let v = s₀.args.v in
-    record { kept = refl; told = λ scope g. names-end v (test (exprAt d (get_or x 1 0)) scope) x j (said d st) c.before.if1.true c.judge.ensures.0 c.judge.ensures.1 }
+    record { kept = refl; told = λ scope g. names_end v (test (expr_at d (get_or x 1 0)) scope) x j (said d st) c.before.if1.true c.judge.ensures.0 c.judge.ensures.1 }
 
 test-names-word-requires : (t : ℕ) → test-names-lts.Need-word-requires (test-names-calls t) (test-names-at t) test-names.Post
 test-names-word-requires t c κs = search rules
@@ -68,7 +68,7 @@ test-names-held-name-requires t c κs =
     let x = s₀.args.x.now in
     let j = s₀.args.j in
     let v = s₀.args.v in
-    (s₀.requires.1.0, subst (λ (n : ℕ). Among n (documentNames (tree_of d))) (sym c.word2.ensures.0) (declares-here x j (omega arith) s₀.requires.1.2))
+    (s₀.requires.1.0, subst (λ (n : ℕ). Among n (document_names (tree_of d))) (sym c.word2.ensures.0) (declares_here x j (omega arith) s₀.requires.1.2))
 
 test-names-tests-requires : (t : ℕ) → test-names-lts.Need-tests-requires (test-names-calls t) (test-names-at t) test-names.Post
 test-names-tests-requires t c κs =
@@ -93,7 +93,7 @@ test-names-returns-2 t c =
     let x = s₀.args.x.now in
     let j = s₀.args.j in
     let v = s₀.args.v in
-    record { kept = c.before.before.before.before.tests.ensures.kept; told = λ scope g. names-stop v (test (exprAt d (get_or x 1 0)) scope) x j (said d st) c.before.before.before.before.before.before.before.before.before.if1.false (rw (c.before.before.before.before.before.before.before.word.ensures.0, c.before.before.before.before.before.before.word2.ensures.0) at (c.before.before.before.before.tests.ensures.told (said d st c.before.before.before.before.before.before.word2.result) c.before.before.before.before.before.held-name.ensures scope g)) c.if2.true }
+    record { kept = c.before.before.before.before.tests.ensures.kept; told = λ scope g. names_stop v (test (expr_at d (get_or x 1 0)) scope) x j (said d st) c.before.before.before.before.before.before.before.before.before.if1.false (rw (c.before.before.before.before.before.before.before.word.ensures.0, c.before.before.before.before.before.before.word2.ensures.0) at (c.before.before.before.before.tests.ensures.told (said d st c.before.before.before.before.before.before.word2.result) c.before.before.before.before.before.held-name.ensures scope g)) c.if2.true }
 
 test-names-add-test-names : (t : ℕ) → test-names-lts.Need-overflow-add-test-names (test-names-calls t) (test-names-at t) test-names.Post
 test-names-add-test-names t c = omega (arith, c.before.before.before.before.before.before.before.before.before.before.before.if1.false, c.before.before.before.before.before.before.before.before.before.before.before.before.before.before.before.before.before.requires.1.4)
@@ -109,7 +109,7 @@ test-names-test-names-requires t c κs =
     let v = s₀.args.v in
     let r = s₀.requires.1.1 in
     let w = r.wide in
-    (omega (arith, c.before.before.before.before.before.before.before.before.before.before.before.if1.false, s₀.requires.0), (s₀.requires.1.0, record { at = r.at; room = r.room; wide = omega (arith, w, c.before.before.before.before.before.before.tests.auto.1.1.0) }, declares-later x j c.before.before.before.before.before.before.before.before.before.before.before.if1.false s₀.requires.1.2, s₀.requires.1.3, s₀.requires.1.4))
+    (omega (arith, c.before.before.before.before.before.before.before.before.before.before.before.if1.false, s₀.requires.0), (s₀.requires.1.0, record { at = r.at; room = r.room; wide = omega (arith, w, c.before.before.before.before.before.before.tests.auto.1.1.0) }, declares_later x j c.before.before.before.before.before.before.before.before.before.before.before.if1.false s₀.requires.1.2, s₀.requires.1.3, s₀.requires.1.4))
 
 test-names-same-length-2 : (t : ℕ) → test-names-lts.Need-same-length-2 (test-names-calls t) (test-names-at t) test-names.Post
 test-names-same-length-2 t c = search rules
@@ -123,7 +123,7 @@ test-names-returns-3 t c =
     let x = s₀.args.x.now in
     let j = s₀.args.j in
     let v = s₀.args.v in
-    record { kept = c.before.before.test-names.ensures.kept ∙ c.before.before.before.before.before.before.before.before.before.tests.ensures.kept; told = λ scope g. names-go v (test (exprAt d (get_or x 1 0)) scope) x j (said d st) c.before.before.before.before.before.before.before.before.before.before.before.before.before.before.if1.false (rw (c.before.before.before.before.before.before.before.before.before.before.before.before.word.ensures.0, c.before.before.before.before.before.before.before.before.before.before.before.word2.ensures.0) at (c.before.before.before.before.before.before.before.before.before.tests.ensures.told (said d st c.before.before.before.before.before.before.before.before.before.before.before.word2.result) c.before.before.before.before.before.before.before.before.before.before.held-name.ensures scope g)) c.before.before.before.before.before.if2.false c.before.before.before.before.if3.true (c.before.before.test-names.ensures.told scope (scoped-same st _ _ s₀.args.n c.before.before.before.before.before.before.before.before.before.tests.ensures.kept g)) }
+    record { kept = c.before.before.test-names.ensures.kept ∙ c.before.before.before.before.before.before.before.before.before.tests.ensures.kept; told = λ scope g. names_go v (test (expr_at d (get_or x 1 0)) scope) x j (said d st) c.before.before.before.before.before.before.before.before.before.before.before.before.before.before.if1.false (rw (c.before.before.before.before.before.before.before.before.before.before.before.before.word.ensures.0, c.before.before.before.before.before.before.before.before.before.before.before.word2.ensures.0) at (c.before.before.before.before.before.before.before.before.before.tests.ensures.told (said d st c.before.before.before.before.before.before.before.before.before.before.before.word2.result) c.before.before.before.before.before.before.before.before.before.before.held-name.ensures scope g)) c.before.before.before.before.before.if2.false c.before.before.before.before.if3.true (c.before.before.test-names.ensures.told scope (scoped_same st _ _ s₀.args.n c.before.before.before.before.before.before.before.before.before.tests.ensures.kept g)) }
 
 test-names-fail-requires : (t : ℕ) → test-names-lts.Need-fail-requires (test-names-calls t) (test-names-at t) test-names.Post
 test-names-fail-requires t c κs = c.before.before.before.before.before.before.before.before.before.before.before.before.before.before.before.before.requires.1.3
@@ -140,7 +140,7 @@ test-names-returns-4 t c =
     let x = s₀.args.x.now in
     let j = s₀.args.j in
     let v = s₀.args.v in
-    record { kept = c.before.before.before.before.before.before.tests.ensures.kept; told = λ scope g. names-failed v (test (exprAt d (get_or x 1 0)) scope) x j (said d st) c.before.before.before.before.before.before.before.before.before.before.before.if1.false (rw (c.before.before.before.before.before.before.before.before.before.word.ensures.0, c.before.before.before.before.before.before.before.before.word2.ensures.0) at (c.before.before.before.before.before.before.tests.ensures.told (said d st c.before.before.before.before.before.before.before.before.word2.result) c.before.before.before.before.before.before.before.held-name.ensures scope g)) c.before.before.if2.false c.before.if3.false c.fail.ensures }
+    record { kept = c.before.before.before.before.before.before.tests.ensures.kept; told = λ scope g. names_failed v (test (expr_at d (get_or x 1 0)) scope) x j (said d st) c.before.before.before.before.before.before.before.before.before.before.before.if1.false (rw (c.before.before.before.before.before.before.before.before.before.word.ensures.0, c.before.before.before.before.before.before.before.before.word2.ensures.0) at (c.before.before.before.before.before.before.tests.ensures.told (said d st c.before.before.before.before.before.before.before.before.word2.result) c.before.before.before.before.before.before.before.held-name.ensures scope g)) c.before.before.if2.false c.before.if3.false c.fail.ensures }
 
 pub +test-names-spec : {M : Type 1} → statement M
 +test-names-spec = close μ-test-names λ t. test-names-lts.spec (test-names-calls t) (test-names-at t) test-names.Post (test-names-judge-requires t)

@@ -3,9 +3,9 @@ use lib.ListN.{length, get_or, drop}
 use Rattle.layout.specs.Layout.{part}
 use Rattle.reader_rules.specs.Nodes.{kind_at, operand_at}
 use Rattle.evaluator_scope.specs.Named.{said}
-use Rattle.evaluator_scope.proofs.BlockLaws.{scoped-same}
-use Rattle.reader_rules.proofs.TreeParagraph.{paragraph-constraint}
-use Rattle.evaluator_paragraphs.proofs.StepLaws.{abbreviation-globals, constraint-steps, schema-steps, schema-kind}
+use Rattle.evaluator_scope.proofs.BlockLaws.{scoped_same}
+use Rattle.reader_rules.proofs.TreeParagraph.{paragraph_constraint}
+use Rattle.evaluator_paragraphs.proofs.StepLaws.{abbreviation_globals, constraint_steps, schema_steps, schema_kind}
 use mathlib.Core.Path.{◌≡◌, refl, sym, ap, subst, ◌∙◌}
 use mathlib.Core.Bool.{true, false}
 use mathlib.Core.List.{List}
@@ -41,7 +41,7 @@ abbreviation-requires c κs =
     let q = ((sym (c.before.before.word.ensures.0 ∙ ap (λ (y : List ℕ). get_or y 0 0) c.before.before.before.part.ensures)) ∙ c.before.match.keys3) in
     let r = s₀.requires.2 in
     let f = r.few in
-    (s₀.requires.1, q, record { few = omega (arith, f, abbreviation-globals d k s₀.requires.1 (said d st) st st st 0 q); wide = r.wide }, c.before.before.before.part.ensures)
+    (s₀.requires.1, q, record { few = omega (arith, f, abbreviation_globals d k s₀.requires.1 (said d st) st st st 0 q); wide = r.wide }, c.before.before.before.part.ensures)
 
 word-requires-2 : tie.Need-word-requires-2
 word-requires-2 c κs = search rules
@@ -55,7 +55,7 @@ demand-requires c κs =
     let q = ((sym (c.before.before.before.word.ensures.0 ∙ ap (λ (y : List ℕ). get_or y 0 0) c.before.before.before.before.part.ensures)) ∙ c.before.before.match.keys4) in
     let r = s₀.requires.2 in
     let f = r.few in
-    let o = (paragraph-constraint d k s₀.requires.1 q (operand_at d k 1) refl).first in
+    let o = (paragraph_constraint d k s₀.requires.1 q (operand_at d k 1) refl).first in
     (rw (c.word2.ensures.0, c.before.before.before.before.part.ensures) (record { at = o.at; room = omega arith; wide = r.wide }), s₀.requires.1.small)
 
 judge-requires : tie.Need-judge-requires
@@ -83,7 +83,7 @@ returns-3 c =
     let st = s₀.args.state.now in
     let k = s₀.args.k in
     let q = ((sym (c.before.before.before.before.before.word.ensures.0 ∙ ap (λ (y : List ℕ). get_or y 0 0) c.before.before.before.before.before.before.part.ensures)) ∙ c.before.before.before.before.match.keys3) in
-    rw (abbreviation-globals d k s₀.requires.1 (said d st) st st st 0 q) (c.before.before.abbreviation.ensures (said d st))
+    rw (abbreviation_globals d k s₀.requires.1 (said d st) st st st 0 q) (c.before.before.abbreviation.ensures (said d st))
 
 same-length-4 : tie.Need-same-length-4
 same-length-4 c = search rules
@@ -94,7 +94,7 @@ returns-4 c =
     let d = s₀.args.doc.now in
     let st = s₀.args.state.now in
     let k = s₀.args.k in
-    constraint-steps d k s₀.requires.1 (said d st) st _ _ s₀.args.n _ (c.before.before.before.word2.ensures.0 ∙ ap (λ (y : List ℕ). get_or y 1 0) c.before.before.before.before.before.before.before.part.ensures) ((sym (c.before.before.before.before.before.before.word.ensures.0 ∙ ap (λ (y : List ℕ). get_or y 0 0) c.before.before.before.before.before.before.before.part.ensures)) ∙ c.before.before.before.before.before.match.keys4) c.before.before.demand.ensures
+    constraint_steps d k s₀.requires.1 (said d st) st _ _ s₀.args.n _ (c.before.before.before.word2.ensures.0 ∙ ap (λ (y : List ℕ). get_or y 1 0) c.before.before.before.before.before.before.before.part.ensures) ((sym (c.before.before.before.before.before.before.word.ensures.0 ∙ ap (λ (y : List ℕ). get_or y 0 0) c.before.before.before.before.before.before.before.part.ensures)) ∙ c.before.before.before.before.before.match.keys4) c.before.before.demand.ensures
 
 returns-5 : tie.Need-returns-5
 returns-5 c =
@@ -104,7 +104,7 @@ returns-5 c =
     let k = s₀.args.k in
     let e = c.before.before.word.ensures.0 ∙ ap (λ (y : List ℕ). get_or y 0 0) c.before.before.before.part.ensures in
     let r = c.before.match.rest in
-    schema-steps d k s₀.requires.1 (said d st) st _ st s₀.args.n (schema-kind d k s₀.requires.1 (λ z. r.0.0.0.1 (e ∙ z)) (λ z. r.0.0.1 (e ∙ z)) (λ z. r.0.1 (e ∙ z)) (λ z. r.1 (e ∙ z))) c.judge.ensures.0 c.judge.ensures.1
+    schema_steps d k s₀.requires.1 (said d st) st _ st s₀.args.n (schema_kind d k s₀.requires.1 (λ z. r.0.0.0.1 (e ∙ z)) (λ z. r.0.0.1 (e ∙ z)) (λ z. r.0.1 (e ∙ z)) (λ z. r.1 (e ∙ z))) c.judge.ensures.0 c.judge.ensures.1
 
 pub paragraph-spec : {M : Type 1} → statement M
 paragraph-spec = tie.close (tie.spec part-requires

@@ -5,19 +5,19 @@ use mathlib.Core.List.{List}
 use native.Mathlib.Omega.{arith}
 use Rattle.layout.specs.Layout.{count, part}
 use Rattle.reader_rules.specs.Nodes.{operand_at}
-use Rattle.reader_rules.specs.Limited.{globalCount}
+use Rattle.reader_rules.specs.Limited.{global_count}
 use Rattle.states_rules.specs.Names.{names_of}
-use Rattle.states.proofs.NameLaws.{document-words}
+use Rattle.states.proofs.NameLaws.{document_words_lem}
 use Rattle.evaluator_scope.specs.Named.{Declares, said}
 use Rattle.evaluator_paragraphs.specs.Paragraphs.{Roomy}
-use Rattle.evaluator_paragraphs.proofs.StepLaws.{from, RunLeft, left-all, run-over, this-paragraph, global-sum, declares-this, declares-others, run-stops, run-goes, run-fails}
+use Rattle.evaluator_paragraphs.proofs.StepLaws.{from, RunLeft, left_all, run_over, this_paragraph_lem, global_sum, declares_this, declares_others, run_stops, run_goes, run_fails}
 use borrow.Author.Rules.{rules}
 use Rattle.evaluator_paragraphs.proofs.run_from.Statement.{statement}
 use Rattle.evaluator_paragraphs.proofs.run_from.Tie as tie
 
 abbrev invariant-loop : tie.invariant-loop
 invariant-loop doc state table work₀ n w i b₀ j₀ work b j =
-    (length work ≡ length work₀) × (1 ≤ j) × (j ≤ 256) × Roomy work b (globalCount (from doc j)) × Declares doc (names_of (from doc j)) × RunLeft doc (said doc state) state work₀ n i work b j
+    (length work ≡ length work₀) × (1 ≤ j) × (j ≤ 256) × Roomy work b (global_count (from doc j)) × Declares doc (names_of (from doc j)) × RunLeft doc (said doc state) state work₀ n i work b j
 
 abbrev decreases-loop : tie.decreases-loop
 decreases-loop doc state table work₀ n w i b₀ j₀ work b j = length w - j
@@ -27,7 +27,7 @@ loop-holds c =
     let s₀ = c.before.before.before.before.before in
     let a = s₀.args in
     let lw = ap length s₀.requires.1 in
-    (refl, s₀.requires.2, s₀.requires.3, rw lw at s₀.requires.4, rw lw at s₀.requires.5, left-all a.doc.now (said a.doc.now a.state.now) a.state.now a.work.now a.n a.i)
+    (refl, s₀.requires.2, s₀.requires.3, rw lw at s₀.requires.4, rw lw at s₀.requires.5, left_all a.doc.now (said a.doc.now a.state.now) a.state.now a.work.now a.n a.i)
 
 paragraph-requires : tie.Need-paragraph-requires invariant-loop decreases-loop
 paragraph-requires c κs =
@@ -39,7 +39,7 @@ paragraph-requires c κs =
     let x : c.before.word.result ≡ operand_at d (count d) l.j = c.before.word.ensures.0 ∙ ap (λ (z : List ℕ). get_or z l.j 0) s₀.requires.1 in
     let q : l.j < length (part d (count d)) = omega (arith, lw, c.before.before.loop-test.true) in
     let r = l.invariant.3 in
-    (s₀.requires.0, this-paragraph d f l.j s₀.requires.0.read l.invariant.1 q _ x, record { few = omega (arith, r.few, global-sum d f l.j s₀.requires.0.read l.invariant.1 q _ x); wide = r.wide }, declares-this d f l.j s₀.requires.0.read l.invariant.1 q _ x l.invariant.4)
+    (s₀.requires.0, this_paragraph_lem d f l.j s₀.requires.0.read l.invariant.1 q _ x, record { few = omega (arith, r.few, global_sum d f l.j s₀.requires.0.read l.invariant.1 q _ x); wide = r.wide }, declares_this d f l.j s₀.requires.0.read l.invariant.1 q _ x l.invariant.4)
 
 returns : tie.Need-returns invariant-loop decreases-loop
 returns c =
@@ -50,7 +50,7 @@ returns c =
     let lw = ap length s₀.requires.1 in
     let x : c.before.before.before.before.before.before.word.result ≡ operand_at d (count d) l.j = c.before.before.before.before.before.before.word.ensures.0 ∙ ap (λ (z : List ℕ). get_or z l.j 0) s₀.requires.1 in
     let q : l.j < length (part d (count d)) = omega (arith, lw, c.before.before.before.before.before.before.before.loop-test.true) in
-    λ scope g. rw lw (l.invariant.5.run _ (λ own h. run-stops d f l.j s₀.requires.0.read l.invariant.1 q _ x own (c.before.before.before.before.paragraph.ensures own h) c.if1.true) scope g)
+    λ scope g. rw lw (l.invariant.5.run _ (λ own h. run_stops d f l.j s₀.requires.0.read l.invariant.1 q _ x own (c.before.before.before.before.paragraph.ensures own h) c.if1.true) scope g)
 
 global-count-requires : tie.Need-global-count-requires invariant-loop decreases-loop
 global-count-requires c κs =
@@ -61,7 +61,7 @@ global-count-requires c κs =
     let lw = ap length s₀.requires.1 in
     let x : c.before.before.before.before.before.before.before.word.result ≡ operand_at d (count d) l.j = c.before.before.before.before.before.before.before.word.ensures.0 ∙ ap (λ (z : List ℕ). get_or z l.j 0) s₀.requires.1 in
     let q : l.j < length (part d (count d)) = omega (arith, lw, c.before.before.before.before.before.before.before.before.loop-test.true) in
-    this-paragraph d f l.j s₀.requires.0.read l.invariant.1 q _ x
+    this_paragraph_lem d f l.j s₀.requires.0.read l.invariant.1 q _ x
 
 add-b : tie.Need-overflow-add-b invariant-loop decreases-loop
 add-b c =
@@ -72,7 +72,7 @@ add-b c =
     let lw = ap length s₀.requires.1 in
     let x : c.before.before.before.before.before.before.before.before.word.result ≡ operand_at d (count d) l.j = c.before.before.before.before.before.before.before.before.word.ensures.0 ∙ ap (λ (z : List ℕ). get_or z l.j 0) s₀.requires.1 in
     let q : l.j < length (part d (count d)) = omega (arith, lw, c.before.before.before.before.before.before.before.before.before.loop-test.true) in
-    omega (arith, l.invariant.3.few, c.global-count.ensures, global-sum d f l.j s₀.requires.0.read l.invariant.1 q _ x)
+    omega (arith, l.invariant.3.few, c.global-count.ensures, global_sum d f l.j s₀.requires.0.read l.invariant.1 q _ x)
 
 loop-again : tie.Need-loop-preserved invariant-loop decreases-loop
 loop-again c =
@@ -85,7 +85,7 @@ loop-again c =
     let q : l.j < length (part d (count d)) = omega (arith, lw, c.before.before.before.before.before.before.before.before.before.loop-test.true) in
     let r = l.invariant.3 in
     let k = c.before.before.before.before.before.before.paragraph.auto.1.1.1.0 in
-    (k ∙ l.invariant.0, omega arith, omega (arith, (document-words d s₀.requires.0.read).1), record { few = omega (arith, r.few, c.global-count.ensures, global-sum d f l.j s₀.requires.0.read l.invariant.1 q _ x); wide = omega (arith, r.wide, k) }, declares-others d f l.j s₀.requires.0.read l.invariant.1 q _ x l.invariant.4, record { run = λ r' h. l.invariant.5.run r' (λ own g. run-goes d f l.j s₀.requires.0.read l.invariant.1 q _ x own (c.before.before.before.before.before.before.paragraph.ensures own g) c.before.before.if1.false c.before.if2.true (λ own' g'. h own' (rw c.global-count.ensures g'))) })
+    (k ∙ l.invariant.0, omega arith, omega (arith, (document_words_lem d s₀.requires.0.read).1), record { few = omega (arith, r.few, c.global-count.ensures, global_sum d f l.j s₀.requires.0.read l.invariant.1 q _ x); wide = omega (arith, r.wide, k) }, declares_others d f l.j s₀.requires.0.read l.invariant.1 q _ x l.invariant.4, record { run = λ r' h. l.invariant.5.run r' (λ own g. run_goes d f l.j s₀.requires.0.read l.invariant.1 q _ x own (c.before.before.before.before.before.before.paragraph.ensures own g) c.before.before.if1.false c.before.if2.true (λ own' g'. h own' (rw c.global-count.ensures g'))) })
 
 returns-2 : tie.Need-returns-2 invariant-loop decreases-loop
 returns-2 c =
@@ -96,7 +96,7 @@ returns-2 c =
     let lw = ap length s₀.requires.1 in
     let x : c.before.before.before.before.before.before.before.word.result ≡ operand_at d (count d) l.j = c.before.before.before.before.before.before.before.word.ensures.0 ∙ ap (λ (z : List ℕ). get_or z l.j 0) s₀.requires.1 in
     let q : l.j < length (part d (count d)) = omega (arith, lw, c.before.before.before.before.before.before.before.before.loop-test.true) in
-    λ scope g. rw lw (l.invariant.5.run _ (λ own h. run-fails d f l.j s₀.requires.0.read l.invariant.1 q _ x own (c.before.before.before.before.before.paragraph.ensures own h) c.before.if1.false c.if2.false) scope g)
+    λ scope g. rw lw (l.invariant.5.run _ (λ own h. run_fails d f l.j s₀.requires.0.read l.invariant.1 q _ x own (c.before.before.before.before.before.paragraph.ensures own h) c.before.if1.false c.if2.false) scope g)
 
 returns-3 : tie.Need-returns-3 invariant-loop decreases-loop
 returns-3 c =
@@ -105,7 +105,7 @@ returns-3 c =
     let f = said d s₀.args.state.now in
     let l = c.before.before.loop in
     let lw = ap length s₀.requires.1 in
-    λ scope g. rw lw (l.invariant.5.run _ (λ own h. run-over d f l.j own (omega (arith, lw, c.before.loop-test.false)) c.judge.ensures.0 c.judge.ensures.1) scope g)
+    λ scope g. rw lw (l.invariant.5.run _ (λ own h. run_over d f l.j own (omega (arith, lw, c.before.loop-test.false)) c.judge.ensures.0 c.judge.ensures.1) scope g)
 
 pub run-from-spec : {M : Type 1} → statement M
 run-from-spec =

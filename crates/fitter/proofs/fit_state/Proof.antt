@@ -1,7 +1,7 @@
 use mathlib.Core.Path.{sym, ◌∙◌}
 use Rattle.reader_rules.specs.Decode.{tree_of}
-use Rattle.states_rules.specs.Names.{documentNames}
-use Rattle.fitter.proofs.Findings.{readable-finding, refused-finding}
+use Rattle.states_rules.specs.Names.{document_names}
+use Rattle.fitter.proofs.Findings.{readable_finding, refused_finding}
 use borrow.Author.Rules.{rules}
 use Rattle.fitter.proofs.fit_state.Statement.{statement}
 use Rattle.fitter.proofs.fit_state.Tie as tie
@@ -12,14 +12,14 @@ first-mistyped-requires c κs = (c.before.before.before.before.before.before.req
 returns : tie.Need-returns
 returns c =
     let s = c.before.before.before.before.before.before.before.before in
-    let ns = documentNames (tree_of s.args.doc.now) in
-    λ E H. readable-finding ns s.args.state.now E (sym c.before.before.before.before.first-ill-formed.ensures ∙ c.before.before.enum_told.given.1) c.before.first-mistyped.result (c.before.first-mistyped.ensures E H) c.finding-of.result c.finding-of.ensures
+    let ns = document_names (tree_of s.args.doc.now) in
+    λ E H. readable_finding ns s.args.state.now E (sym c.before.before.before.before.first-ill-formed.ensures ∙ c.before.before.enum_told.given.1) c.before.first-mistyped.result (c.before.first-mistyped.ensures E H) c.finding-of.result c.finding-of.ensures
 
 returns-2 : tie.Need-returns-2
 returns-2 c =
     let s = c.before.before.before.before.before.before.before in
-    let ns = documentNames (tree_of s.args.doc.now) in
-    λ E H. refused-finding ns s.args.state.now E _ _ (sym c.before.before.before.first-ill-formed.ensures ∙ c.before.formed.given.1)
+    let ns = document_names (tree_of s.args.doc.now) in
+    λ E H. refused_finding ns s.args.state.now E _ _ (sym c.before.before.before.first-ill-formed.ensures ∙ c.before.formed.given.1)
 
 pub fit-state-spec : {M : Type 1} → statement M
 fit-state-spec =

@@ -1,5 +1,5 @@
 use Rattle.reader.proofs.LinkLaws.{tallied, linked}
-use Rattle.reader_rules.specs.Nodes.{documentForm}
+use Rattle.reader_rules.specs.Nodes.{document_form}
 use Rattle.layout.proofs.Laws.{laid}
 use native.Mathlib.Omega.{arith}
 use mathlib.Core.Path.{sym, ◌∙◌}
@@ -8,10 +8,10 @@ use Rattle.reader.proofs.check_uses_and_tree.Statement.{statement}
 use Rattle.reader.proofs.check_uses_and_tree.Tie as tie
 
 link-nodes-requires : tie.Need-link-nodes-requires
-link-nodes-requires c κs = (laid documentForm _ c.before.before.before.requires.0).few
+link-nodes-requires c κs = (laid document_form _ c.before.before.before.requires.0).few
 
 first-misused-requires : tie.Need-first-misused-requires
-first-misused-requires c κs = (rw c.before.before.before.link-nodes.ensures.0 (tallied _), (laid documentForm _ c.before.before.before.before.before.before.before.requires.0).few)
+first-misused-requires c κs = (rw c.before.before.before.link-nodes.ensures.0 (tallied _), (laid document_form _ c.before.before.before.before.before.before.before.requires.0).few)
 
 check-tree-requires : tie.Need-check-tree-requires
 check-tree-requires c κs =
@@ -21,7 +21,7 @@ check-tree-requires c κs =
       laid = s.requires.0;
       nodes = s.requires.1;
       uses = sym c.before.before.before.first-misused.ensures ∙ c.before.enum_told.given.1;
-      parents = rw c.before.before.before.before.before.before.before.link-nodes.ensures.1 (linked d (omega (arith, (laid documentForm d s.requires.0).few)));
+      parents = rw c.before.before.before.before.before.before.before.link-nodes.ensures.1 (linked d (omega (arith, (laid document_form d s.requires.0).few)));
     }
 
 returns : tie.Need-returns

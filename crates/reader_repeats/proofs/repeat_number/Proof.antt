@@ -16,7 +16,7 @@ kind-at-requires c κs = search rules
 returns : tie.Need-returns
 returns c =
     let s = c.before.before.before.before.before.before in
-    let e = c.before.kind-at.ensures.0 in
+    let e = c.before.kind_at_lem.ensures.0 in
     let t = c.if1.true in
     let z = nothing_written _ _ s.requires.0.0 _ s.requires.0.1 s.requires.0.2 _ _ s.requires.1 (omega arith) in
     (z.0, λ q. z.1)

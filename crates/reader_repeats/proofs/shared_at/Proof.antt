@@ -11,11 +11,11 @@ returns-2 c = rw (← c.before.before.before.sort-at.ensures, lt-ltb _ _ c.befor
 
 returns-3 : tie.Need-returns-3
 returns-3 c =
-    rw (← c.before.before.before.before.before.before.before.sort-at.ensures, lt-ltb _ _ c.before.before.before.before.before.if1.false, ← c.before.before.before.before.before.before.word.ensures.0, lt-ltb _ _ c.before.before.before.before.if2.false, ← c.before.before.before.kind-at.ensures.0, eq-eqb _ 11 c.before.before.if3.true, ← c.before.declared-at.ensures) c.share.ensures
+    rw (← c.before.before.before.before.before.before.before.sort-at.ensures, lt-ltb _ _ c.before.before.before.before.before.if1.false, ← c.before.before.before.before.before.before.word.ensures.0, lt-ltb _ _ c.before.before.before.before.if2.false, ← c.before.before.before.kind_at_lem.ensures.0, eq-eqb _ 11 c.before.before.if3.true, ← c.before.declared_at.ensures) c.share.ensures
 
 returns-4 : tie.Need-returns-4
 returns-4 c =
-    rw (← c.before.before.before.before.before.sort-at.ensures, lt-ltb _ _ c.before.before.before.if1.false, ← c.before.before.before.before.word.ensures.0, lt-ltb _ _ c.before.before.if2.false, ← c.before.kind-at.ensures.0, ne_eqb _ 11 c.if3.false)
+    rw (← c.before.before.before.before.before.sort-at.ensures, lt-ltb _ _ c.before.before.before.if1.false, ← c.before.before.before.before.word.ensures.0, lt-ltb _ _ c.before.before.if2.false, ← c.before.kind_at_lem.ensures.0, ne_eqb _ 11 c.if3.false)
 
 pub shared-at-spec : {M : Type 1} → statement M
 shared-at-spec =

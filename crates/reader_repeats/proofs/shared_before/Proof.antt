@@ -1,5 +1,5 @@
-use Rattle.reader_repeats.specs.Marks.{sharedAt}
-use Rattle.words.proofs.Loops.{some-on, some_go, some_end}
+use Rattle.reader_repeats.specs.Marks.{shared_at}
+use Rattle.words.proofs.Loops.{some_on, some_go, some_end}
 use Rattle.words.specs.Loops.{some}
 use lib.ListN.{length}
 use native.Mathlib.Omega.{arith}
@@ -11,7 +11,7 @@ use Rattle.reader_repeats.proofs.shared_before.Statement.{statement}
 use Rattle.reader_repeats.proofs.shared_before.Tie as tie
 
 abbrev invariant-loop : tie.invariant-loop
-invariant-loop doc k ids w n i₀ i = (i ≤ n + 1) × (some (sharedAt doc k ids w) 1 (length w - 1) ≡ some (sharedAt doc k ids w) i (n + 1 - i))
+invariant-loop doc k ids w n i₀ i = (i ≤ n + 1) × (some (shared_at doc k ids w) 1 (length w - 1) ≡ some (shared_at doc k ids w) i (n + 1 - i))
 
 abbrev decreases-loop : tie.decreases-loop
 decreases-loop doc k ids w n i₀ i = n + 1 - i
@@ -20,7 +20,7 @@ loop-holds : tie.Need-loop-init invariant-loop decreases-loop
 loop-holds c = (omega arith, rw (add-sub_cancel, c.operand-count.ensures))
 
 returns : tie.Need-returns invariant-loop decreases-loop
-returns c = some-on _ _ _ (omega arith) (sym c.before.shared_at.ensures ∙ c.if1.true) ∙ sym c.before.before.before.loop.invariant.1
+returns c = some_on _ _ _ (omega arith) (sym c.before.shared_at.ensures ∙ c.if1.true) ∙ sym c.before.before.before.loop.invariant.1
 
 loop-less : tie.Need-loop-smaller invariant-loop decreases-loop
 loop-less c = omega arith

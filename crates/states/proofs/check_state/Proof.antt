@@ -1,5 +1,5 @@
 use mathlib.Core.Path.{◌≡◌, sym, ◌∙◌}
-use Rattle.states_rules.specs.States.{stateCheckOf}
+use Rattle.states_rules.specs.States.{state_check_of}
 use borrow.Author.Rules.{rules}
 use Rattle.states.proofs.check_state.Statement.{statement}
 use Rattle.states.proofs.check_state.Tie as tie
@@ -21,11 +21,11 @@ enum-known-first : tie.Need-enum-known-first
 enum-known-first c = search rules
 
 returns : tie.Need-returns
-unfolding stateCheckOf
+unfolding state_check_of
 returns c = rw (← c.before.before.before.read.ensures, c.before.enum_told.given.1) c.first-ill-formed.ensures
 
 returns-2 : tie.Need-returns-2
-unfolding stateCheckOf
+unfolding state_check_of
 returns-2 c = rw (← c.before.before.before.read.ensures, c.before.first.given.1)
 
 pub check-state-spec : {M : Type 1} → statement M

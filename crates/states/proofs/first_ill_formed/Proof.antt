@@ -2,10 +2,10 @@ use mathlib.Core.Path.{◌≡◌, sym, ◌∙◌}
 use native.Mathlib.Omega.{arith}
 use Rattle.layout.proofs.Laws.{laid}
 use Rattle.reader_rules.specs.Decode.{tree_of}
-use Rattle.states_rules.specs.States.{stateForm}
-use Rattle.states_rules.specs.Names.{documentNames}
-use Rattle.states.proofs.TableLaws.{positive-document, by-table, not-laid, not-counted}
-use Rattle.states.proofs.NameLaws.{document-words}
+use Rattle.states_rules.specs.States.{state_form}
+use Rattle.states_rules.specs.Names.{document_names}
+use Rattle.states.proofs.TableLaws.{positive_document, by_table, not_laid, not_counted}
+use Rattle.states.proofs.NameLaws.{document_words_lem}
 use borrow.Author.Rules.{rules}
 use Rattle.states.proofs.first_ill_formed.Statement.{statement}
 use Rattle.states.proofs.first_ill_formed.Tie as tie
@@ -33,7 +33,7 @@ slice-aggregate-first-ill-entry c = search rules
 
 first-ill-entry-requires : tie.Need-first-ill-entry-requires
 first-ill-entry-requires c κs =
-    let l = laid stateForm c.before.before.before.before.before.before.before.before.before.before.args.state.now (sym c.before.before.before.before.laid_out.ensures ∙ c.before.before.before.if1.true) in
+    let l = laid state_form c.before.before.before.before.before.before.before.before.before.before.args.state.now (sym c.before.before.before.before.laid_out.ensures ∙ c.before.before.before.if1.true) in
     omega (arith, l.few, c.before.before.word.ensures.0, c.before.if2.true)
 
 returns : tie.Need-returns
@@ -44,18 +44,18 @@ returns c =
     let l = sym c.before.before.before.before.before.laid_out.ensures ∙ c.before.before.before.before.if1.true in
     let e = sym c.before.before.before.word.ensures.0 ∙ c.before.before.if2.true ∙ p.ensures.0 in
     (rw p.ensures.0 at c.first-ill-entry.ensures)
-    ∙ by-table (documentNames (tree_of d)) s.args.state.now (positive-document d s.requires (document-words d s.requires).0) l e 2048 (omega arith) _ p.ensures.1
+    ∙ by_table (document_names (tree_of d)) s.args.state.now (positive_document d s.requires (document_words_lem d s.requires).0) l e 2048 (omega arith) _ p.ensures.1
 
 returns-2 : tie.Need-returns-2
 returns-2 c =
     let s = c.before.before.before.before.before.before.before.before.before in
     let p = c.before.before.before.before.before.put-names in
-    not-counted (documentNames (tree_of s.args.doc.now)) s.args.state.now (sym c.before.before.before.laid_out.ensures ∙ c.before.before.if1.true) (λ x. c.if2.false (c.before.word.ensures.0 ∙ x ∙ sym p.ensures.0))
+    not_counted (document_names (tree_of s.args.doc.now)) s.args.state.now (sym c.before.before.before.laid_out.ensures ∙ c.before.before.if1.true) (λ x. c.if2.false (c.before.word.ensures.0 ∙ x ∙ sym p.ensures.0))
 
 returns-3 : tie.Need-returns-3
 returns-3 c =
     let s = c.before.before.before.before.before.before.before in
-    not-laid (documentNames (tree_of s.args.doc.now)) s.args.state.now (sym c.before.laid_out.ensures ∙ c.if1.false)
+    not_laid (document_names (tree_of s.args.doc.now)) s.args.state.now (sym c.before.laid_out.ensures ∙ c.if1.false)
 
 pub first-ill-formed-spec : {M : Type 1} → statement M
 first-ill-formed-spec =

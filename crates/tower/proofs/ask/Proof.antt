@@ -1,4 +1,4 @@
-use Rattle.tower.proofs.Building.{measuring, tested-as}
+use Rattle.tower.proofs.Building.{measuring, tested_as}
 use borrow.Author.Rules.{rules}
 use Rattle.tower.proofs.ask.Statement.{statement}
 use Rattle.tower.proofs.ask.Tie as tie
@@ -13,7 +13,7 @@ finite-requires c κs = let P = c.before.before.before.requires in record { L = 
 
 -- src/main.rt:105:13
 cell-size-requires : tie.Need-cell-size-requires
-cell-size-requires c κs = let P = c.before.before.before.before.before.before.before.before.requires in measuring _ _ _ _ P.top _ P.ready P.made P.few (tested-as _ _ _ _ _ c.before.if1.true c.before.before.before.before.finite.ensures)
+cell-size-requires c κs = let P = c.before.before.before.before.before.before.before.before.requires in measuring _ _ _ _ P.top _ P.ready P.made P.few (tested_as _ _ _ _ _ c.before.if1.true c.before.before.before.before.finite.ensures)
 
 -- src/main.rt:106:9
 same_length : tie.Need-same-length

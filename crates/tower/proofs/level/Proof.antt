@@ -1,5 +1,5 @@
 use native.Mathlib.Omega.{arith}
-use Rattle.tower.proofs.Building.{room-part, room_after, level-room, level-asking, level-applied}
+use Rattle.tower.proofs.Building.{room_part, room_after, level_room, level_asking, level_applied}
 use borrow.Author.Rules.{rules}
 use Rattle.tower.proofs.level.Statement.{statement}
 use Rattle.tower.proofs.level.Tie as tie
@@ -11,7 +11,7 @@ use Rattle.tower.proofs.generic.Reads as generic-reads
 
 -- src/main.rt:95:5
 generic-requires : tie.Need-generic-requires
-generic-requires c κs = room-part _ _ _ 11 34 8 31 (level-room _ _ _ _ _ c.before.before.before.requires) (omega arith) (omega arith)
+generic-requires c κs = room_part _ _ _ 11 34 8 31 (level_room _ _ _ _ _ c.before.before.before.requires) (omega arith) (omega arith)
 
 -- src/main.rt:96:16
 add-applied : tie.Need-overflow-add-applied
@@ -24,7 +24,7 @@ add-applied-2 c = let z = c.before.before.before.before.before.before.before.req
 -- src/main.rt:96:5
 applied-requires : tie.Need-applied-requires
 applied-requires c κs = let l = c.before.before.before.before.before.before.before.requires.made in
-    (room_after _ _ _ _ 11 34 8 31 _ _ 3 3 (level-room _ _ _ _ _ c.before.before.before.before.before.before.before.requires) c.before.before.before.generic.ensures (omega arith) (omega arith) (omega arith) (omega arith), omega arith)
+    (room_after _ _ _ _ 11 34 8 31 _ _ 3 3 (level_room _ _ _ _ _ c.before.before.before.before.before.before.before.requires) c.before.before.before.generic.ensures (omega arith) (omega arith) (omega arith) (omega arith), omega arith)
 
 -- src/main.rt:97:25
 add-merge : tie.Need-overflow-add-merge
@@ -36,7 +36,7 @@ add-merge-2 c = let z = c.before.before.before.before.before.before.before.befor
 
 -- src/main.rt:97:5
 merge-requires : tie.Need-merge-requires
-merge-requires c κs = level-asking _ _ _ _ _ c.before.before.before.before.before.before.before.before.before.before.before.requires _ _ c.before.before.before.before.before.before.before.generic.ensures c.before.before.before.applied.ensures
+merge-requires c κs = level_asking _ _ _ _ _ c.before.before.before.before.before.before.before.before.before.before.before.requires _ _ c.before.before.before.before.before.before.before.generic.ensures c.before.before.before.applied.ensures
 
 -- src/main.rt:91:1
 same_length : tie.Need-same-length
@@ -44,7 +44,7 @@ same_length c = search rules
 
 -- src/main.rt:91:1
 returns : tie.Need-returns
-returns c = level-applied _ _ _ _ _ c.before.before.before.before.before.before.before.before.before.before.before.before.before.before.requires _ _ c.before.before.before.before.before.before.before.before.before.before.generic.ensures c.before.before.before.before.before.before.applied.ensures _ _ c.before.before.merge.ensures
+returns c = level_applied _ _ _ _ _ c.before.before.before.before.before.before.before.before.before.before.before.before.before.before.requires _ _ c.before.before.before.before.before.before.before.before.before.before.generic.ensures c.before.before.before.before.before.before.applied.ensures _ _ c.before.before.merge.ensures
 
 pub level-spec : {M : Type 1} → statement M
 level-spec =

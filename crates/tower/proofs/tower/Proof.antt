@@ -1,6 +1,6 @@
 use mathlib.Core.Bool.{true}
 use native.Mathlib.Omega.{arith}
-use Rattle.tower.proofs.Building.{asking, ready-merge, merged-as}
+use Rattle.tower.proofs.Building.{asking, ready_merge, merged_as}
 use borrow.Author.Rules.{rules}
 use Rattle.tower.proofs.tower.Statement.{statement}
 use Rattle.tower.proofs.tower.Tie as tie
@@ -33,7 +33,7 @@ merge-requires c κs = let P = c.before.before.before.before.before.before.befor
 -- src/main.rt:141:17
 ask-requires : tie.Need-ask-requires
 ask-requires c κs = let P = c.before.before.before.before.before.before.before.before.before.before.before.before.before.before.requires in let s = P.some in
-    record { top = _; ready = ready-merge _ _ _ _ _ _ _ (c.before.before.before.before.before.before.before.before.before.before.build.ensures c.before.before.before.before.before.before.before.if1.true) (omega arith) (omega arith) (merged-as _ _ _ _ _ _ true c.before.if3.true c.before.before.before.before.merge.ensures); made = omega arith; few = P.few }
+    record { top = _; ready = ready_merge _ _ _ _ _ _ _ (c.before.before.before.before.before.before.before.before.before.before.build.ensures c.before.before.before.before.before.before.before.if1.true) (omega arith) (omega arith) (merged_as _ _ _ _ _ _ true c.before.if3.true c.before.before.before.before.merge.ensures); made = omega arith; few = P.few }
 
 -- src/main.rt:141:17
 same_length : tie.Need-same-length

@@ -7,9 +7,9 @@ use lib.Seq.{sets}
 use Rattle.types_rules.specs.Types.{Ty, Tys}
 use Rattle.types_cells.specs.Store.{run}
 use Rattle.types_cells.specs.Settled.{heap, Reads}
-use Rattle.types_cells.proofs.Reading.{heap-length, place-few}
+use Rattle.types_cells.proofs.Reading.{heap_length, place_few}
 use Rattle.types_instances.specs.Filled.{Row}
-use Rattle.types_instances.proofs.FillWords.{body, fill-words, lead-inside, Emitting, emit-start, emit-step, emit-end, wrote-all}
+use Rattle.types_instances.proofs.FillWords.{body, fill_words, lead_inside, Emitting, emit_start, emit_step, emit_end, wrote_all}
 use borrow.Author.Rules.{rules}
 use borrow.Fn.Kinds.{In}
 use borrow.Fn.PlainCycle.{Measures, is, falls, and}
@@ -66,22 +66,22 @@ write-filled-name-words-requires : (t : ℕ) → write-filled-lts.Need-name-word
 write-filled-name-words-requires t c κs = search rules
 
 write-filled-parts-of-requires : (t : ℕ) → write-filled-lts.Need-parts-of-requires (write-filled-calls t) (write-filled-at t) write-filled.Post write-filled-Inv-loop write-filled-μ-loop
-write-filled-parts-of-requires t c κs = let P = c.before.before.before.before.before.before.before.requires.1.filling in let f = place-few _ _ _ _ P.actuals.areas P.reads in (P.actuals.areas.size, omega arith)
+write-filled-parts-of-requires t c κs = let P = c.before.before.before.before.before.before.before.requires.1.filling in let f = place_few _ _ _ _ P.actuals.areas P.reads in (P.actuals.areas.size, omega arith)
 
 write-filled-lead-words-requires : (t : ℕ) → write-filled-lts.Need-lead-words-requires (write-filled-calls t) (write-filled-at t) write-filled.Post write-filled-Inv-loop write-filled-μ-loop
 write-filled-lead-words-requires t c κs = search rules
 
 write-filled-add-q : (t : ℕ) → write-filled-lts.Need-overflow-add-q (write-filled-calls t) (write-filled-at t) write-filled.Post write-filled-Inv-loop write-filled-μ-loop
-write-filled-add-q t c = let P = c.before.before.before.before.before.before.before.before.before.requires.1.filling in let f = place-few _ _ _ _ P.actuals.areas P.reads in let z = c.lead-words.ensures.1 in omega arith
+write-filled-add-q t c = let P = c.before.before.before.before.before.before.before.before.before.requires.1.filling in let f = place_few _ _ _ _ P.actuals.areas P.reads in let z = c.lead-words.ensures.1 in omega arith
 
 write-filled-put-words-requires : (t : ℕ) → write-filled-lts.Need-put-words-requires (write-filled-calls t) (write-filled-at t) write-filled.Post write-filled-Inv-loop write-filled-μ-loop
 write-filled-put-words-requires t c κs =
     let P = c.before.before.before.before.before.before.before.before.before.before.requires.1.filling in
     let r = c.before.before.before.before.before.before.before.before.before.before.requires.1.room in
-    let f = place-few _ _ _ _ P.actuals.areas P.reads in
+    let f = place_few _ _ _ _ P.actuals.areas P.reads in
     let z = c.before.lead-words.ensures.1 in
     let e = c.before.lead-words.ensures.0 in
-    let i = lead-inside _ _ _ P.reads _ c.before.before.before.before.before.type-word.ensures.0 in
+    let i = lead_inside _ _ _ P.reads _ c.before.before.before.before.before.type-word.ensures.0 in
     (P.actuals.areas.size, omega arith, omega arith, omega arith)
 
 write-filled-loop-holds : (t : ℕ) → write-filled-lts.Need-loop-init (write-filled-calls t) (write-filled-at t) write-filled.Post write-filled-Inv-loop write-filled-μ-loop
@@ -89,7 +89,7 @@ write-filled-loop-holds t c =
     let z = c.before.before.before.before.lead-words.ensures.2 in (
       omega arith,
       refl,
-      λ g hs R S. emit-start _ _ g hs R _ _ _ _ c.before.before.before.before.before.before.before.before.type-word.ensures.0 c.before.before.before.before.before.before.name-words.ensures.0 c.before.before.before.before.before.parts-of.ensures.0 (ap (λ y. c.before.before.before.before.before.before.before.before.before.before.before.before.before.args.p + y) c.before.before.before.before.lead-words.ensures.0) _ _,
+      λ g hs R S. emit_start _ _ g hs R _ _ _ _ c.before.before.before.before.before.before.before.before.type-word.ensures.0 c.before.before.before.before.before.before.name-words.ensures.0 c.before.before.before.before.before.parts_of_lem.ensures.0 (ap (λ y. c.before.before.before.before.before.before.before.before.before.before.before.before.before.args.p + y) c.before.before.before.before.lead-words.ensures.0) _ _,
     )
 
 write-filled-put-words-requires-2 : (t : ℕ) → write-filled-lts.Need-put-words-requires-2 (write-filled-calls t) (write-filled-at t) write-filled.Post write-filled-Inv-loop write-filled-μ-loop
@@ -97,10 +97,10 @@ write-filled-put-words-requires-2 t c κs =
     let s = c.before.before.before.before.before.before.before.before.before.before.before.before.before.before.before.before.args in
     let P = c.before.before.before.before.before.before.before.before.before.before.before.before.before.before.before.before.requires.1.filling in
     let r = c.before.before.before.before.before.before.before.before.before.before.before.before.before.before.before.before.requires.1.room in
-    let hl = heap-length s.a.now s.d.now P.actuals.areas.size in
+    let hl = heap_length s.a.now s.d.now P.actuals.areas.size in
     let f = P.actuals.areas.few in
-    let S = emit-step _ _ _ _ _ _ _ _ _ _ (c.before.before.loop.invariant.2 P.type P.actuals.types P.reads P.actuals.stand) c.before.loop-test.true in
-    let fw = ap length (fill-words _ _ P.type P.actuals.types P.reads _ _ c.before.before.before.before.before.before.before.before.before.before.before.type-word.ensures.0 c.before.before.before.before.before.before.before.before.before.before.if1.false c.before.before.before.before.before.before.before.lead-words.ensures.0) ∙ length-append (run (heap s.a.now s.d.now) s.p c.before.before.before.before.before.before.before.lead-words.result) (body P.actuals.types P.type) in
+    let S = emit_step _ _ _ _ _ _ _ _ _ _ (c.before.before.loop.invariant.2 P.type P.actuals.types P.reads P.actuals.stand) c.before.loop-test.true in
+    let fw = ap length (fill_words _ _ P.type P.actuals.types P.reads _ _ c.before.before.before.before.before.before.before.before.before.before.before.type-word.ensures.0 c.before.before.before.before.before.before.before.before.before.before.if1.false c.before.before.before.before.before.before.before.lead-words.ensures.0) ∙ length-append (run (heap s.a.now s.d.now) s.p c.before.before.before.before.before.before.before.lead-words.result) (body P.actuals.types P.type) in
     let pe = c.before.before.before.before.before.put-words.ensures.end in
     let low = S.low in
     let rm = S.room in
@@ -110,9 +110,9 @@ write-filled-add-q-2 : (t : ℕ) → write-filled-lts.Need-overflow-add-q-2 (wri
 write-filled-add-q-2 t c =
     let s = c.before.before.before.before.before.before.before.before.before.before.before.before.before.before.before.before.before.before.before.args in
     let P = c.before.before.before.before.before.before.before.before.before.before.before.before.before.before.before.before.before.before.before.requires.1.filling in
-    let hl = heap-length s.a.now s.d.now P.actuals.areas.size in
+    let hl = heap_length s.a.now s.d.now P.actuals.areas.size in
     let f = P.actuals.areas.few in
-    let S = emit-step _ _ _ _ _ _ _ _ _ _ (c.before.before.before.before.before.loop.invariant.2 P.type P.actuals.types P.reads P.actuals.stand) c.before.before.before.before.loop-test.true in
+    let S = emit_step _ _ _ _ _ _ _ _ _ _ (c.before.before.before.before.before.loop.invariant.2 P.type P.actuals.types P.reads P.actuals.stand) c.before.before.before.before.loop-test.true in
     let low = S.low in omega arith
 
 write-filled-write-filled-requires : (t : ℕ) → write-filled-lts.Need-write-filled-requires (write-filled-calls t) (write-filled-at t) write-filled.Post write-filled-Inv-loop write-filled-μ-loop
@@ -120,8 +120,8 @@ write-filled-write-filled-requires t c κs =
     let s = c.before.before.before.before.before.before.before.before.before.before.before.before.before.before.before.before.before.before.before.before.args in
     let P = c.before.before.before.before.before.before.before.before.before.before.before.before.before.before.before.before.before.before.before.before.requires.1.filling in
     let r = c.before.before.before.before.before.before.before.before.before.before.before.before.before.before.before.before.before.before.before.before.requires.1.room in
-    let S = emit-step _ _ _ _ _ _ _ _ _ _ (c.before.before.before.before.before.before.loop.invariant.2 P.type P.actuals.types P.reads P.actuals.stand) c.before.before.before.before.before.loop-test.true in
-    let fw = ap length (fill-words _ _ P.type P.actuals.types P.reads _ _ c.before.before.before.before.before.before.before.before.before.before.before.before.before.before.before.type-word.ensures.0 c.before.before.before.before.before.before.before.before.before.before.before.before.before.before.if1.false c.before.before.before.before.before.before.before.before.before.before.before.lead-words.ensures.0) ∙ length-append (run (heap s.a.now s.d.now) s.p c.before.before.before.before.before.before.before.before.before.before.before.lead-words.result) (body P.actuals.types P.type) in
+    let S = emit_step _ _ _ _ _ _ _ _ _ _ (c.before.before.before.before.before.before.loop.invariant.2 P.type P.actuals.types P.reads P.actuals.stand) c.before.before.before.before.before.loop-test.true in
+    let fw = ap length (fill_words _ _ P.type P.actuals.types P.reads _ _ c.before.before.before.before.before.before.before.before.before.before.before.before.before.before.before.type-word.ensures.0 c.before.before.before.before.before.before.before.before.before.before.before.before.before.before.if1.false c.before.before.before.before.before.before.before.before.before.before.before.lead-words.ensures.0) ∙ length-append (run (heap s.a.now s.d.now) s.p c.before.before.before.before.before.before.before.before.before.before.before.lead-words.result) (body P.actuals.types P.type) in
     let pe = c.before.before.before.before.before.before.before.before.before.put-words.ensures.end in
     let qe = c.before.before.before.put-words2.ensures.end in
     let low = S.low in
@@ -134,11 +134,11 @@ write-filled-write-filled-requires t c κs =
 write-filled-skip-requires : (t : ℕ) → write-filled-lts.Need-skip-requires (write-filled-calls t) (write-filled-at t) write-filled.Post write-filled-Inv-loop write-filled-μ-loop
 write-filled-skip-requires t c κs =
     let P = c.before.before.before.before.before.before.before.before.before.before.before.before.before.before.before.before.before.before.before.before.before.before.before.requires.1.filling in
-    let S = emit-step _ _ _ _ _ _ _ _ _ _ (c.before.before.before.before.before.before.before.before.before.loop.invariant.2 P.type P.actuals.types P.reads P.actuals.stand) c.before.before.before.before.before.before.before.before.loop-test.true in
+    let S = emit_step _ _ _ _ _ _ _ _ _ _ (c.before.before.before.before.before.before.before.before.before.loop.invariant.2 P.type P.actuals.types P.reads P.actuals.stand) c.before.before.before.before.before.before.before.before.loop-test.true in
     record { areas = P.actuals.areas; readable = record { type = S.part; reads = S.reads } }
 
 write-filled-add-j : (t : ℕ) → write-filled-lts.Need-overflow-add-j (write-filled-calls t) (write-filled-at t) write-filled.Post write-filled-Inv-loop write-filled-μ-loop
-write-filled-add-j t c = let f = c.before.before.before.before.before.before.before.before.before.before.before.before.before.before.before.before.parts-of.ensures.1 in let q = c.before.before.before.before.before.before.before.before.before.loop-test.true in omega arith
+write-filled-add-j t c = let f = c.before.before.before.before.before.before.before.before.before.before.before.before.before.before.before.before.parts_of_lem.ensures.1 in let q = c.before.before.before.before.before.before.before.before.before.loop-test.true in omega arith
 
 write-filled-loop-less : (t : ℕ) → write-filled-lts.Need-loop-smaller (write-filled-calls t) (write-filled-at t) write-filled.Post write-filled-Inv-loop write-filled-μ-loop
 write-filled-loop-less t c = let q = c.before.before.before.before.before.before.before.before.before.loop-test.true in omega arith
@@ -149,12 +149,12 @@ write-filled-loop-again t c =
     let L = c.before.before.before.before.before.before.before.before.before.before.loop in
     let l = c.before.before.before.before.before.before.before.before.before.loop-test.true in
     let o = L.invariant.0 in
-    let T = emit-step _ _ _ _ _ _ _ _ _ _ (L.invariant.2 P.type P.actuals.types P.reads P.actuals.stand) l in
+    let T = emit_step _ _ _ _ _ _ _ _ _ _ (L.invariant.2 P.type P.actuals.types P.reads P.actuals.stand) l in
     let e = c.skip.ensures.is T.part T.reads in (
       omega arith,
       c.before.before.before.write-filled.auto.1.1.1.1.0 ∙ c.before.before.before.before.before.before.before.put-words2.auto.1.1.1.1.0 ∙ L.invariant.1,
       λ g hs R S.
-          let U = emit-step _ _ _ _ _ _ _ _ _ _ (L.invariant.2 g hs R S) l in
+          let U = emit_step _ _ _ _ _ _ _ _ _ _ (L.invariant.2 g hs R S) l in
           U.next _ _ _ _ _ c.before.before.before.before.before.before.before.put-words2.ensures (c.before.before.before.write-filled.ensures.is U.part hs U.reads S) (c.skip.ensures.is U.part U.reads),
     )
 
@@ -164,7 +164,7 @@ write-filled-same-length-2 t c = c.before.loop.invariant.1 ∙ c.before.before.b
 write-filled-returns-2 : (t : ℕ) → write-filled-lts.Need-returns-2 (write-filled-calls t) (write-filled-at t) write-filled.Post write-filled-Inv-loop write-filled-μ-loop
 write-filled-returns-2 t c =
     record {
-      is = λ g hs R S. wrote-all _ _ g hs R _ _ c.before.before.before.before.before.before.before.before.before.before.type-word.ensures.0 c.before.before.before.before.before.before.before.before.before.if1.false c.before.before.before.before.before.before.lead-words.ensures.0 _ _ _ _ _ _ c.before.before.before.before.put-words.ensures (emit-end _ _ _ _ _ _ _ _ _ _ (c.before.loop.invariant.2 g hs R S) c.loop-test.false);
+      is = λ g hs R S. wrote_all _ _ g hs R _ _ c.before.before.before.before.before.before.before.before.before.before.type-word.ensures.0 c.before.before.before.before.before.before.before.before.before.if1.false c.before.before.before.before.before.before.lead-words.ensures.0 _ _ _ _ _ _ c.before.before.before.before.put-words.ensures (emit_end _ _ _ _ _ _ _ _ _ _ (c.before.loop.invariant.2 g hs R S) c.loop-test.false);
     }
 
 pub +write-filled-spec : {M : Type 1} → statement M

@@ -3,7 +3,7 @@ use native.Mathlib.Omega.{arith}
 use Prim.Native.Nat.{◌+◌, ◌-◌, ◌≤◌}
 use lib.ListN.{length, length-set}
 use Rattle.types_cells.specs.Store.{run}
-use Rattle.types_instances.proofs.Copying.{Copied, copied-start, copied-step, copied-end}
+use Rattle.types_instances.proofs.Copying.{Copied, copied_start, copied_step, copied_end}
 use borrow.Author.Rules.{rules}
 use Rattle.types_instances.proofs.copy_words.Statement.{statement}
 use Rattle.types_instances.proofs.copy_words.Tie as tie
@@ -19,7 +19,7 @@ abbrev decreases-loop : tie.decreases-loop
 decreases-loop a₀ at from first k j₀ a j = k - j
 
 loop-holds : tie.Need-loop-init invariant-loop decreases-loop
-loop-holds c = let s = c.before.before.args in (omega arith, refl, copied-start s.a.now s.at (run s.from.now s.first s.k))
+loop-holds c = let s = c.before.before.args in (omega arith, refl, copied_start s.a.now s.at (run s.from.now s.first s.k))
 
 add-store : tie.Need-overflow-add-store invariant-loop decreases-loop
 add-store c = search rules
@@ -52,7 +52,7 @@ loop-again c =
       omega arith,
       ap length E ∙ length-set L.a (s.at + L.j) c.before.before.before.word.result ∙ L.invariant.1,
       subst (λ z. Copied s.a.now z s.at (run s.from.now s.first s.k) (L.j + 1)) (sym E)
-          (copied-step s.a.now L.a s.at s.from.now s.first s.k L.j c.before.before.before.word.result P.0 l c.before.before.before.word.ensures.0 L.invariant.2),
+          (copied_step s.a.now L.a s.at s.from.now s.first s.k L.j c.before.before.before.word.result P.0 l c.before.before.before.word.ensures.0 L.invariant.2),
     )
 
 same_length : tie.Need-same-length invariant-loop decreases-loop
@@ -62,7 +62,7 @@ returns : tie.Need-returns invariant-loop decreases-loop
 returns c =
     let s = c.before.before.before.before.args in
     let L = c.before.loop in
-    sym (copied-end s.a.now L.a s.at s.from.now s.first s.k L.j c.before.before.before.before.requires.0 c.loop-test.false L.invariant.2)
+    sym (copied_end s.a.now L.a s.at s.from.now s.first s.k L.j c.before.before.before.before.requires.0 c.loop-test.false L.invariant.2)
 
 pub copy-words-spec : {M : Type 1} → statement M
 copy-words-spec =

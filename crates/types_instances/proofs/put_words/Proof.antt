@@ -5,7 +5,7 @@ use lib.ListN.{length, length-set}
 use Rattle.types_cells.specs.Store.{run}
 use Rattle.types_cells.specs.Settled.{heap}
 use Rattle.types_cells.proofs.Words.{run_length}
-use Rattle.types_instances.proofs.Copying.{Copied, copied-start, copied-step, copied-end}
+use Rattle.types_instances.proofs.Copying.{Copied, copied_start, copied_step, copied_end}
 use borrow.Author.Rules.{rules}
 use Rattle.types_instances.proofs.put_words.Statement.{statement}
 use Rattle.types_instances.proofs.put_words.Tie as tie
@@ -21,7 +21,7 @@ abbrev decreases-loop : tie.decreases-loop
 decreases-loop a d p k out₀ at j₀ out j = k - j
 
 loop-holds : tie.Need-loop-init invariant-loop decreases-loop
-loop-holds c = let s = c.before.before.before.args in (omega arith, refl, copied-start s.out.now s.at (run (heap s.a.now s.d.now) s.p s.k))
+loop-holds c = let s = c.before.before.before.args in (omega arith, refl, copied_start s.out.now s.at (run (heap s.a.now s.d.now) s.p s.k))
 
 add-store : tie.Need-overflow-add-store invariant-loop decreases-loop
 add-store c = search rules
@@ -54,7 +54,7 @@ loop-again c =
       omega arith,
       ap length E ∙ length-set L.out (s.at + L.j) c.before.before.before.type-word.result ∙ L.invariant.1,
       subst (λ z. Copied s.out.now z s.at (run (heap s.a.now s.d.now) s.p s.k) (L.j + 1)) (sym E)
-          (copied-step s.out.now L.out s.at (heap s.a.now s.d.now) s.p s.k L.j c.before.before.before.type-word.result P.1 l c.before.before.before.type-word.ensures.0 L.invariant.2),
+          (copied_step s.out.now L.out s.at (heap s.a.now s.d.now) s.p s.k L.j c.before.before.before.type-word.result P.1 l c.before.before.before.type-word.ensures.0 L.invariant.2),
     )
 
 add-result : tie.Need-overflow-add-result invariant-loop decreases-loop
@@ -69,7 +69,7 @@ returns c =
     let P = c.before.before.before.before.before.requires in
     let L = c.before.loop in
     record {
-      area = sym (copied-end s.out.now L.out s.at (heap s.a.now s.d.now) s.p s.k L.j P.1 c.loop-test.false L.invariant.2);
+      area = sym (copied_end s.out.now L.out s.at (heap s.a.now s.d.now) s.p s.k L.j P.1 c.loop-test.false L.invariant.2);
       end = ap (λ z. s.at + z) (sym (run_length (heap s.a.now s.d.now) s.p s.k P.1));
     }
 

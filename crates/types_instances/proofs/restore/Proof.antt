@@ -1,7 +1,7 @@
 use mathlib.Core.Path.{ap, ◌∙◌}
 use Prim.Native.Nat.{◌+◌, ◌*◌, ◌-◌}
 use lib.Seq.{sets}
-use Rattle.types_cells.specs.Layout.{recordsAt, firstRun, runsAt}
+use Rattle.types_cells.specs.Layout.{records_at, first_run, runs_at}
 use Rattle.types_cells.specs.Store.{run}
 use Rattle.types_instances.specs.Moved.{restored}
 use borrow.Author.Rules.{rules}
@@ -42,8 +42,8 @@ returns : tie.Need-returns
 unfolding restored
 returns c =
     let s = c.before.before.before.before.before.before.before.before.before.before.before.before.before.before.args in
-    c.before.before.copy-words3.ensures ∙ ap (λ z. sets z runsAt (run s.from.now (s.at + s.n + 4 * s.n) (s.top - firstRun)))
-    (c.before.before.before.before.before.before.copy-words2.ensures ∙ ap (λ z. sets z recordsAt (run s.from.now (s.at + s.n) (4 * s.n))) c.before.before.before.before.before.before.before.before.before.before.copy-words.ensures)
+    c.before.before.copy-words3.ensures ∙ ap (λ z. sets z runs_at (run s.from.now (s.at + s.n + 4 * s.n) (s.top - first_run)))
+    (c.before.before.before.before.before.before.copy-words2.ensures ∙ ap (λ z. sets z records_at (run s.from.now (s.at + s.n) (4 * s.n))) c.before.before.before.before.before.before.before.before.before.before.copy-words.ensures)
 
 pub restore-spec : {M : Type 1} → statement M
 restore-spec =

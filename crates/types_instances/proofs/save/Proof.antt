@@ -1,4 +1,4 @@
-use Rattle.types_instances.proofs.Saving.{saved-area}
+use Rattle.types_instances.proofs.Saving.{saved_area}
 use borrow.Author.Rules.{rules}
 use Rattle.types_instances.proofs.save.Statement.{statement}
 use Rattle.types_instances.proofs.save.Tie as tie
@@ -46,7 +46,7 @@ returns : tie.Need-returns
 returns c =
     let s = c.before.before.before.before.before.before.before.before.before.before.before.before.before.before.args in
     let P = c.before.before.before.before.before.before.before.before.before.before.before.before.before.before.requires in
-    saved-area s.a.now s.n s.top P.0 P.1 P.2 P.3 _ _ _ _ s.at c.before.before.before.before.before.before.before.before.before.before.copy-words.ensures c.before.before.before.before.before.before.copy-words2.ensures c.before.before.copy-words3.ensures
+    saved_area s.a.now s.n s.top P.0 P.1 P.2 P.3 _ _ _ _ s.at c.before.before.before.before.before.before.before.before.before.before.copy-words.ensures c.before.before.before.before.before.before.copy-words2.ensures c.before.before.copy-words3.ensures
 
 pub save-spec : {M : Type 1} → statement M
 save-spec =

@@ -2,7 +2,7 @@ use mathlib.Core.Path.{◌≡◌, refl, sym, ap, subst, ◌∙◌}
 use native.Mathlib.Omega.{arith}
 use Prim.Native.Nat.{◌+◌, ◌-◌, ◌≤◌}
 use lib.ListN.{length, length-set}
-use Rattle.types_instances.proofs.Copying.{Wiped, wiped-step, wiped-end}
+use Rattle.types_instances.proofs.Copying.{Wiped, wiped_step, wiped_end}
 use borrow.Author.Rules.{rules}
 use Rattle.types_instances.proofs.wipe.Statement.{statement}
 use Rattle.types_instances.proofs.wipe.Tie as tie
@@ -35,7 +35,7 @@ loop-again c =
     let E = c.before.before.store.ensures in (
       ap length E ∙ length-set L.a L.i 0 ∙ L.invariant.0,
       subst (λ z. Wiped s.a.now z s.from s.to (L.i + 1)) (sym E)
-          (wiped-step s.a.now L.a s.from s.to L.i c.before.before.before.before.loop-test.true L.invariant.1),
+          (wiped_step s.a.now L.a s.from s.to L.i c.before.before.before.before.loop-test.true L.invariant.1),
     )
 
 same_length : tie.Need-same-length invariant-loop decreases-loop
@@ -45,7 +45,7 @@ returns : tie.Need-returns invariant-loop decreases-loop
 returns c =
     let s = c.before.before.before.args in
     let L = c.before.loop in
-    sym (wiped-end s.a.now L.a s.from s.to L.i c.loop-test.false L.invariant.1)
+    sym (wiped_end s.a.now L.a s.from s.to L.i c.loop-test.false L.invariant.1)
 
 pub wipe-spec : {M : Type 1} → statement M
 wipe-spec =

@@ -1,5 +1,5 @@
 use native.Mathlib.Omega.{arith}
-use Rattle.types_solver.proofs.Equating.{all_done, first-asking, few-next, others-ask, all-merged, all-refused}
+use Rattle.types_solver.proofs.Equating.{all_done, first_asking, few_next, others_ask, all_merged, all_refused}
 use borrow.Author.Rules.{rules}
 use Prim.Native.Nat.{ℕ, ◌<◌}
 use borrow.Fn.Kinds.{In}
@@ -37,7 +37,7 @@ merge-all-cast-merge : (t : ℕ) → merge-all-lts.Need-overflow-cast-merge (mer
 merge-all-cast-merge t c = omega (arith, c.shared-slice-known3.given c.before.before.before.before.before.before.args.j)
 
 merge-all-merge-requires : (t : ℕ) → merge-all-lts.Need-merge-requires (merge-all-calls t) (merge-all-at t) merge-all.Post
-merge-all-merge-requires t c κs = first-asking _ _ _ _ _ _ _ c.before.before.before.before.before.before.requires.1 c.before.before.if1.false
+merge-all-merge-requires t c κs = first_asking _ _ _ _ _ _ _ c.before.before.before.before.before.before.requires.1 c.before.before.if1.false
 
 merge-all-add-merge-all : (t : ℕ) → merge-all-lts.Need-overflow-add-merge-all (merge-all-calls t) (merge-all-at t) merge-all.Post
 merge-all-add-merge-all t c = search rules
@@ -46,22 +46,22 @@ merge-all-sub-merge-all : (t : ℕ) → merge-all-lts.Need-overflow-sub-merge-al
 merge-all-sub-merge-all t c = search rules
 
 merge-all-add-merge-all-2 : (t : ℕ) → merge-all-lts.Need-overflow-add-merge-all-2 (merge-all-calls t) (merge-all-at t) merge-all.Post
-merge-all-add-merge-all-2 t c = let z = few-next _ _ _ _ _ _ _ c.before.before.before.before.before.before.before.before.before.before.before.requires.1 c.before.before.before.before.before.before.before.if1.false in omega arith
+merge-all-add-merge-all-2 t c = let z = few_next _ _ _ _ _ _ _ c.before.before.before.before.before.before.before.before.before.before.before.requires.1 c.before.before.before.before.before.before.before.if1.false in omega arith
 
 merge-all-merge-all-requires : (t : ℕ) → merge-all-lts.Need-merge-all-requires (merge-all-calls t) (merge-all-at t) merge-all.Post
-merge-all-merge-all-requires t c κs = let z = c.before.before.before.before.before.before.before.if1.false in let e = c.before.before.before.before.before.before.before.before.before.before.before.requires.0 in (omega (arith, z, e), others-ask _ _ _ _ _ _ _ c.before.before.before.before.before.before.before.before.before.before.before.requires.1 z _ _ c.before.before.before.before.merge.ensures c.before.if2.true)
+merge-all-merge-all-requires t c κs = let z = c.before.before.before.before.before.before.before.if1.false in let e = c.before.before.before.before.before.before.before.before.before.before.before.requires.0 in (omega (arith, z, e), others_ask _ _ _ _ _ _ _ c.before.before.before.before.before.before.before.before.before.before.before.requires.1 z _ _ c.before.before.before.before.merge.ensures c.before.if2.true)
 
 merge-all-same-length : (t : ℕ) → merge-all-lts.Need-same-length (merge-all-calls t) (merge-all-at t) merge-all.Post
 merge-all-same-length t c = search rules
 
 merge-all-returns-2 : (t : ℕ) → merge-all-lts.Need-returns-2 (merge-all-calls t) (merge-all-at t) merge-all.Post
-merge-all-returns-2 t c = all-merged _ _ _ _ _ _ _ c.before.before.before.before.before.before.before.before.before.before.before.before.before.before.requires.1 c.before.before.before.before.before.before.before.before.before.before.if1.false _ _ c.before.before.before.before.before.before.before.merge.ensures c.before.before.before.before.if2.true _ _ c.before.before.merge-all.ensures
+merge-all-returns-2 t c = all_merged _ _ _ _ _ _ _ c.before.before.before.before.before.before.before.before.before.before.before.before.before.before.requires.1 c.before.before.before.before.before.before.before.before.before.before.if1.false _ _ c.before.before.before.before.before.before.before.merge.ensures c.before.before.before.before.if2.true _ _ c.before.before.merge-all.ensures
 
 merge-all-same-length-2 : (t : ℕ) → merge-all-lts.Need-same-length-2 (merge-all-calls t) (merge-all-at t) merge-all.Post
 merge-all-same-length-2 t c = search rules
 
 merge-all-returns-3 : (t : ℕ) → merge-all-lts.Need-returns-3 (merge-all-calls t) (merge-all-at t) merge-all.Post
-merge-all-returns-3 t c = all-refused _ _ _ _ _ _ _ c.before.before.before.before.before.before.before.before.before.before.requires.1 c.before.before.before.before.before.before.if1.false _ _ c.before.before.before.merge.ensures c.if2.false
+merge-all-returns-3 t c = all_refused _ _ _ _ _ _ _ c.before.before.before.before.before.before.before.before.before.before.requires.1 c.before.before.before.before.before.before.if1.false _ _ c.before.before.before.merge.ensures c.if2.false
 
 pub +merge-all-spec : {M : Type 1} → statement M
 +merge-all-spec = close μ-merge-all λ t. merge-all-lts.spec (merge-all-calls t) (merge-all-at t) merge-all.Post

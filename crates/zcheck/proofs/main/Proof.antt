@@ -1,5 +1,5 @@
 use borrow.Author.Rules.{rules}
-use Rattle.zcheck.proofs.Reports.{prints-within, prints-taken}
+use Rattle.zcheck.proofs.Reports.{prints_within, prints_taken}
 use Rattle.zcheck.proofs.main.Statement.{statement}
 use Rattle.zcheck.proofs.main.Tie as tie
 
@@ -12,7 +12,7 @@ main_spec =
     (λ c. search rules)
     (λ c. search rules)
     (λ c κs. search rules)
-    (λ c. prints-within c.report.ensures)
-    (λ c. prints-taken c.before.report.ensures)
+    (λ c. prints_within c.report.ensures)
+    (λ c. prints_taken c.before.report.ensures)
     (λ c κs. search rules)
     (λ c. search rules))

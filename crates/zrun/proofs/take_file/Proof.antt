@@ -2,7 +2,7 @@ use mathlib.Core.Path.{◌≡◌, sym, subst, ◌∙◌}
 use Prim.Native.Nat.{ℕ, ◌/◌, ◌≤◌}
 use native.Mathlib.Omega.{arith}
 use lib.ListN.{length, take, length-take}
-use Rattle.input.proofs.Laws.{words-room}
+use Rattle.input.proofs.Laws.{words_room}
 use borrow.Author.Rules.{rules}
 use Rattle.zrun.proofs.take_file.Statement.{statement}
 use Rattle.zrun.proofs.take_file.Tie as tie
@@ -19,7 +19,7 @@ returns-2 c =
     let area = c.before.before.before.before.before.before.before.before.before.before.before.before.before.args.area.now in
     let bytes = take called.result.n called.new.1.0 in
     let k : called.result.n ≡ length bytes = omega (arith, called.ensures, called.auto.1.0, length-take called.result.n called.new.1.0) in
-    subst (λ (m : ℕ). m / 4 ≤ length area) (sym k) (words-room bytes (length area) (sym words.ensures.0 ∙ c.if2.true))
+    subst (λ (m : ℕ). m / 4 ≤ length area) (sym k) (words_room bytes (length area) (sym words.ensures.0 ∙ c.if2.true))
 
 pub take-file-spec : {M : Type 1} → statement M
 take-file-spec =

@@ -8,7 +8,7 @@ use lib.ListN.{length}
 use lib.Seq.{sets}
 use borrow.Author.Rules.{rules}
 use borrow.Author.Tests.{lt-ltb, le-ltb}
-use Rattle.canonical.proofs.VisitLaws.{numbersFrom, Left, left-start, left-plain, left-node, left_end, visit-small, visit-length, operand-visit, visited}
+use Rattle.canonical.proofs.VisitLaws.{numbers_from, Left, left_start, left_plain, left_node, left_end, visit_small, visit_length, operand_visit, visited}
 use borrow.Fn.Kinds.{In}
 use borrow.Fn.PlainCycle.{Measures, is, falls, and}
 use Rattle.canonical.proofs.order.visit.Reads as visit
@@ -33,7 +33,7 @@ visit-below t = and 2 visit-kinds.ps (falls 2 visit-kinds.ps ◌<◌ μ-visit t)
 
 abbrev visit-Inv-loop : visit-lts.invariant-loop
 visit-Inv-loop doc k order₀ at w n end₀ i₀ order end i =
-    (1 ≤ i) × (i ≤ n + 1) × (length order ≡ length order₀) × Left doc w n i end order (sets order₀ end₀ (numbersFrom doc w n 1)) (end₀ + length (numbersFrom doc w n 1))
+    (1 ≤ i) × (i ≤ n + 1) × (length order ≡ length order₀) × Left doc w n i end order (sets order₀ end₀ (numbers_from doc w n 1)) (end₀ + length (numbers_from doc w n 1))
 
 abbrev visit-μ-loop : visit-lts.decreases-loop
 visit-μ-loop doc k order₀ at w n end₀ i₀ order end i = n + 1 - i
@@ -48,7 +48,7 @@ visit-operand-count-requires : (t : ℕ) → visit-lts.Need-operand-count-requir
 visit-operand-count-requires t c κs = search rules
 
 visit-loop-holds : (t : ℕ) → visit-lts.Need-loop-init (visit-calls t) (visit-at t) visit.Post visit-Inv-loop visit-μ-loop
-visit-loop-holds t c = (omega arith, omega arith, refl, left-start _ _ _ _ _)
+visit-loop-holds t c = (omega arith, omega arith, refl, left_start _ _ _ _ _)
 
 visit-add-loop : (t : ℕ) → visit-lts.Need-overflow-add-loop (visit-calls t) (visit-at t) visit.Post visit-Inv-loop visit-μ-loop
 visit-add-loop t c = search rules
@@ -64,7 +64,7 @@ visit-visit-requires t c κs =
     let s = c.before.before.before.before.before.before.before.before.before.before in
     let l = c.before.before.before.before.before.loop in
     let v =
-    operand-visit s.args.doc.now s.args.k s.args.at s.requires.1 _ c.before.before.before.before.before.before.before.part.ensures _ c.before.before.before.before.before.before.operand-count.ensures l.i l.end _ l.order _ l.invariant.0
+    operand_visit s.args.doc.now s.args.k s.args.at s.requires.1 _ c.before.before.before.before.before.before.before.part.ensures _ c.before.before.before.before.before.before.operand-count.ensures l.i l.end _ l.order _ l.invariant.0
     c.before.before.before.before.loop-test.true l.invariant.3 refl c.before.word.result (subst (λ x. ltb 5 x ≡ true) c.before.before.before.sort-at.ensures (lt-ltb _ _ c.before.before.if1.true)) c.before.word.ensures.0
     in
     let m = s.requires.0 in
@@ -86,15 +86,15 @@ visit-loop-again t c =
       omega arith,
       ⊎_elim (λ p. ap length p.6 ∙ p.3.kept.1.1.0 ∙ l.invariant.2) (λ p. ap length p.1 ∙ l.invariant.2) c.if1.branch,
       ⊎_elim
-          (λ p. rw (p.6, p.7) (left-node _ _ _ _ _ _ _ _ t l.invariant.3 p.1.result (subst (λ x. ltb 5 x ≡ true) q (lt-ltb _ _ p.0.taken)) p.1.ensures.0 _ _ p.3.ensures.0 p.3.ensures.1))
-          (λ p. rw (p.1, p.2) (left-plain _ _ _ _ _ _ _ _ t l.invariant.3 (subst (λ x. ltb 5 x ≡ false) q (le-ltb _ _ p.0.left))))
+          (λ p. rw (p.6, p.7) (left_node _ _ _ _ _ _ _ _ t l.invariant.3 p.1.result (subst (λ x. ltb 5 x ≡ true) q (lt-ltb _ _ p.0.taken)) p.1.ensures.0 _ _ p.3.ensures.0 p.3.ensures.1))
+          (λ p. rw (p.1, p.2) (left_plain _ _ _ _ _ _ _ _ t l.invariant.3 (subst (λ x. ltb 5 x ≡ false) q (le-ltb _ _ p.0.left))))
           c.if1.branch,
     )
 
 visit-cast-store : (t : ℕ) → visit-lts.Need-overflow-cast-store (visit-calls t) (visit-at t) visit.Post visit-Inv-loop visit-μ-loop
 visit-cast-store t c =
     let s = c.before.before.before.before.before.before.before in
-    let b = visit-small s.args.doc.now s.args.k s.args.at s.requires.1 in
+    let b = visit_small s.args.doc.now s.args.k s.args.at s.requires.1 in
     omega (arith, b)
 
 visit-store-requires : (t : ℕ) → visit-lts.Need-store-requires (visit-calls t) (visit-at t) visit.Post visit-Inv-loop visit-μ-loop
@@ -105,7 +105,7 @@ visit-add-result t c =
     let s = c.before.before.before.before.before.before.before.before.before.before in
     let l = c.before.before.before.before.before.loop in
     let e = (left_end _ _ _ _ _ _ _ _ (omega arith) l.invariant.3).1 in
-    let v = visit-length s.args.doc.now s.args.k s.args.at s.requires.1 _ c.before.before.before.before.before.before.before.part.ensures _ c.before.before.before.before.before.before.operand-count.ensures in
+    let v = visit_length s.args.doc.now s.args.k s.args.at s.requires.1 _ c.before.before.before.before.before.before.before.part.ensures _ c.before.before.before.before.before.before.operand-count.ensures in
     let r = s.requires.1.room in
     omega (arith, e, v, r)
 

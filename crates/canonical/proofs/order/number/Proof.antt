@@ -3,7 +3,7 @@ use native.Mathlib.Omega.{arith}
 use Prim.Native.Nat.{◌+◌, ◌-◌, ◌≤◌}
 use lib.ListN.{length, length-set}
 use borrow.Author.Rules.{rules}
-use Rattle.canonical.proofs.NumberLaws.{NumbersTo, numbers-next, numbers-all}
+use Rattle.canonical.proofs.NumberLaws.{NumbersTo, numbers_next, numbers_all}
 use Rattle.canonical.proofs.order.number.Statement.{statement}
 use Rattle.canonical.proofs.order.number.Tie as tie
 
@@ -35,14 +35,14 @@ loop-again c =
       omega arith,
       ap length c.before.before.store.ensures ∙ length-set l.numbers v.result _ ∙ l.invariant.1,
       subst (λ u. NumbersTo s.nodes.now (l.i + 1) u) (sym c.before.before.store.ensures)
-          (numbers-next s.nodes.now l.numbers l.i v.result p.distinct (omega arith) (sym v.ensures.0)
+          (numbers_next s.nodes.now l.numbers l.i v.result p.distinct (omega arith) (sym v.ensures.0)
           (let b = p.inside l.i (omega arith) in let e = v.ensures.0 in let q = l.invariant.1 in omega (arith, b, e, q)) l.invariant.2),
     )
 
 returns : tie.Need-returns invariant-loop decreases-loop
 returns c =
     let l = c.before.loop in
-    numbers-all c.before.before.before.before.args.nodes.now l.numbers l.i (omega arith) l.invariant.2
+    numbers_all c.before.before.before.before.args.nodes.now l.numbers l.i (omega arith) l.invariant.2
 
 pub number-spec : {M : Type 1} → statement M
 number-spec =

@@ -6,14 +6,14 @@ use lib.ListN.{length}
 use lib.Seq.{sets}
 use borrow.Author.Rules.{rules}
 use Rattle.layout.specs.Layout.{part}
-use Rattle.layout.specs.Rows.{rowPairs}
-use Rattle.canonical.proofs.RowLaws.{PairsLeft, row_room, pairs_next, pairs-done}
+use Rattle.layout.specs.Rows.{row_pairs}
+use Rattle.canonical.proofs.RowLaws.{PairsLeft, row_room, pairs_next, pairs_done}
 use Rattle.canonical.proofs.rows.put_pairs.Statement.{statement}
 use Rattle.canonical.proofs.rows.put_pairs.Tie as tie
 
 abbrev invariant-loop : tie.invariant-loop
 invariant-loop doc nodes output₀ n at₀ i₀ output at i =
-    (i ≤ n) × (length output ≡ length output₀) × PairsLeft (part doc) nodes i at output (sets output₀ 1 (rowPairs (map (part doc) nodes) at₀))
+    (i ≤ n) × (length output ≡ length output₀) × PairsLeft (part doc) nodes i at output (sets output₀ 1 (row_pairs (map (part doc) nodes) at₀))
 
 abbrev decreases-loop : tie.decreases-loop
 decreases-loop doc nodes output₀ n at₀ i₀ output at i = n - i
@@ -74,7 +74,7 @@ returns : tie.Need-returns invariant-loop decreases-loop
 returns c =
     let s = c.before.before.before.before.before.args in
     let l = c.before.loop in
-    pairs-done (part s.doc.now) s.nodes.now l.i l.at l.output _ (omega arith) l.invariant.2
+    pairs_done (part s.doc.now) s.nodes.now l.i l.at l.output _ (omega arith) l.invariant.2
 
 pub put-pairs-spec : {M : Type 1} → statement M
 put-pairs-spec =

@@ -4,15 +4,15 @@ use Prim.Native.Nat.{◌+◌, ◌-◌, ◌≤◌}
 use lib.ListN.{length, drop, length-set}
 use lib.Seq.{sets}
 use borrow.Author.Rules.{rules}
-use Rattle.canonical_rules.specs.RowMap.{mapRow}
+use Rattle.canonical_rules.specs.RowMap.{map_row}
 use Rattle.canonical.specs.Rows.{table_at}
-use Rattle.canonical.proofs.RowLaws.{row-start, row_next, row-end}
+use Rattle.canonical.proofs.RowLaws.{row_start, row_next, row_end}
 use Rattle.canonical.proofs.rows.put_row.Statement.{statement}
 use Rattle.canonical.proofs.rows.put_row.Tie as tie
 
 abbrev invariant-loop : tie.invariant-loop
 invariant-loop w numbers output₀ at n i₀ output i =
-    let v = mapRow (table_at numbers) w in (1 ≤ i) × (i ≤ n) × (length output ≡ length output₀) × (sets output₀ (at + 1) (drop 1 v) ≡ sets output (at + i) (drop i v))
+    let v = map_row (table_at numbers) w in (1 ≤ i) × (i ≤ n) × (length output ≡ length output₀) × (sets output₀ (at + 1) (drop 1 v) ≡ sets output (at + i) (drop i v))
 
 abbrev decreases-loop : tie.decreases-loop
 decreases-loop w numbers output₀ at n i₀ output i = n - i
@@ -42,9 +42,9 @@ returns : tie.Need-returns invariant-loop decreases-loop
 returns c =
     let s = c.before.before.before.before.before.before.before.before.before.before.args in
     let l = c.before.loop in
-    sym (row-start s.w.now s.numbers.now _ s.at c.before.before.before.before.before.before.before.before.before.before.requires.0 _ c.before.before.before.before.before.word.ensures.0 _ c.before.before.before.before.store.ensures
+    sym (row_start s.w.now s.numbers.now _ s.at c.before.before.before.before.before.before.before.before.before.before.requires.0 _ c.before.before.before.before.before.word.ensures.0 _ c.before.before.before.before.store.ensures
     ∙ l.invariant.3
-    ∙ row-end s.w.now s.numbers.now l.output s.at l.i (omega arith))
+    ∙ row_end s.w.now s.numbers.now l.output s.at l.i (omega arith))
 
 pub put-row-spec : {M : Type 1} → statement M
 put-row-spec =

@@ -1,4 +1,4 @@
-use Rattle.checker_closing.specs.Declarations.{many, none-new, some-new}
+use Rattle.checker_closing.specs.Declarations.{many, none_new, some_new}
 use mathlib.Core.Path.{refl}
 use native.Mathlib.Omega.{arith}
 use borrow.Author.Rules.{rules}
@@ -35,7 +35,7 @@ same-length-3 : tie.Need-same-length-3
 same-length-3 c = search rules
 
 returns-2 : tie.Need-returns-2
-returns-2 c = none-new _ c.before.before.before.before.before.before.before.before.before.declare.ensures c.before.before.before.before.before.if2.true c.before.before.before.wipe.ensures c.lined-at2.ensures
+returns-2 c = none_new _ c.before.before.before.before.before.before.before.before.before.declare.ensures c.before.before.before.before.before.if2.true c.before.before.before.wipe.ensures c.lined-at2.ensures
 
 lined-at-requires-3 : tie.Need-lined-at-requires-3
 lined-at-requires-3 c κs = search rules
@@ -44,7 +44,7 @@ same-length-4 : tie.Need-same-length-4
 same-length-4 c = search rules
 
 returns-3 : tie.Need-returns-3
-returns-3 c = some-new _ c.before.before.before.before.before.declare.ensures (let z = c.before.before.if1.false in omega arith) c.before.if2.false refl c.lined-at3.ensures
+returns-3 c = some_new _ c.before.before.before.before.before.declare.ensures (let z = c.before.before.if1.false in omega arith) c.before.if2.false refl c.lined-at3.ensures
 
 pub entered-spec : {M : Type 1} → statement M
 entered-spec =

@@ -1,4 +1,4 @@
-use Rattle.checker_closing.proofs.DeclarationLaws.{own-clash, own-known, own-large, own-none}
+use Rattle.checker_closing.proofs.DeclarationLaws.{own_clash, own_known, own_large, own_none}
 use native.Mathlib.Omega.{arith}
 use borrow.Author.Tests.{not-true, not-false}
 use borrow.Author.Rules.{rules}
@@ -13,19 +13,19 @@ declared-fits-requires : tie.Need-declared-fits-requires
 declared-fits-requires c κs = search rules
 
 returns : tie.Need-returns
-returns c = own-clash c.before.declared-fits.ensures (not-true _ c.if1.true)
+returns c = own_clash c.before.declared-fits.ensures (not-true _ c.if1.true)
 
 new-if-requires : tie.Need-new-if-requires
 new-if-requires c κs = search rules
 
 returns-2 : tie.Need-returns-2
-returns-2 c = own-known c.before.before.before.declared-fits.ensures (not-false _ c.before.before.if1.false) c.before.new-if.ensures (not-true _ c.if2.true)
+returns-2 c = own_known c.before.before.before.declared-fits.ensures (not-false _ c.before.before.if1.false) c.before.new-if.ensures (not-true _ c.if2.true)
 
 returns-3 : tie.Need-returns-3
-returns-3 c = own-large c.before.before.before.before.declared-fits.ensures (not-false _ c.before.before.before.if1.false) c.before.before.new-if.ensures (not-false _ c.before.if2.false) c.if3.true
+returns-3 c = own_large c.before.before.before.before.declared-fits.ensures (not-false _ c.before.before.before.if1.false) c.before.before.new-if.ensures (not-false _ c.before.if2.false) c.if3.true
 
 returns-4 : tie.Need-returns-4
-returns-4 c = own-none c.before.before.before.before.declared-fits.ensures (not-false _ c.before.before.before.if1.false) c.before.before.new-if.ensures (not-false _ c.before.if2.false) (let z = c.if3.false in omega arith)
+returns-4 c = own_none c.before.before.before.before.declared-fits.ensures (not-false _ c.before.before.before.if1.false) c.before.before.new-if.ensures (not-false _ c.before.if2.false) (let z = c.if3.false in omega arith)
 
 pub own-finding-spec : {M : Type 1} → statement M
 own-finding-spec =

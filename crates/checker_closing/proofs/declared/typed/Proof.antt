@@ -1,5 +1,5 @@
 use Rattle.checker_closing.specs.Declarations.{untyped}
-use Rattle.checker_closing.proofs.DeclarationLaws.{typed-refused, typed-fits}
+use Rattle.checker_closing.proofs.DeclarationLaws.{typed_refused, typed_fits}
 use mathlib.Core.Path.{refl}
 use borrow.Author.Rules.{rules}
 use Rattle.checker_closing.proofs.declared.typed.Statement.{statement}
@@ -29,7 +29,7 @@ same-length-2 : tie.Need-same-length-2
 same-length-2 c = search rules
 
 returns-2 : tie.Need-returns-2
-returns-2 c = typed-refused c.before.before.before.before.before.if1.false c.before.before.own-finding.ensures c.before.if2.true c.lined-at2.ensures
+returns-2 c = typed_refused c.before.before.before.before.before.if1.false c.before.before.own-finding.ensures c.before.if2.true c.lined-at2.ensures
 
 entered-requires : tie.Need-entered-requires
 entered-requires c κs = c.before.before.before.before.before.before.before.before.before.before.before.before.requires.entering c.before.before.before.before.before.before.if1.false
@@ -41,7 +41,7 @@ same-length-4 : tie.Need-same-length-4
 same-length-4 c = search rules
 
 returns-3 : tie.Need-returns-3
-returns-3 c = typed-fits c.before.before.before.before.before.before.before.before.before.before.before.if1.false c.before.before.before.before.before.before.before.before.own-finding.ensures c.before.before.before.before.before.before.before.if2.false c.before.before.before.before.entered.ensures
+returns-3 c = typed_fits c.before.before.before.before.before.before.before.before.before.before.before.if1.false c.before.before.before.before.before.before.before.before.own-finding.ensures c.before.before.before.before.before.before.before.if2.false c.before.before.before.before.entered.ensures
 
 pub typed_spec : {M : Type 1} → statement M
 typed_spec =

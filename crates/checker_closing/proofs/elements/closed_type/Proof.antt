@@ -1,4 +1,4 @@
-use Rattle.checker_closing.proofs.ElementLaws.{closed-several, closed-storing, closed-one}
+use Rattle.checker_closing.proofs.ElementLaws.{closed_several, closed_storing, closed_one}
 use borrow.Author.Tests.{not-true, not-false}
 use borrow.Author.Rules.{rules}
 use Rattle.checker_closing.proofs.elements.closed_type.Statement.{statement}
@@ -19,10 +19,10 @@ same_length : tie.Need-same-length
 same_length c = search rules
 
 returns : tie.Need-returns
-returns c = closed-several c.before.before.before.before.close.ensures (not-true _ c.before.if1.true) c.refused.ensures
+returns c = closed_several c.before.before.before.before.close.ensures (not-true _ c.before.if1.true) c.refused.ensures
 
 kept-type-requires : tie.Need-kept-type-requires
-kept-type-requires c κs = closed-storing c.before.before.before.before.before.close.ensures (not-false _ c.before.before.if1.false) c.before.before.before.before.before.before.before.before.before.before.requires
+kept-type-requires c κs = closed_storing c.before.before.before.before.before.close.ensures (not-false _ c.before.before.if1.false) c.before.before.before.before.before.before.before.before.before.before.requires
 
 same-length-2 : tie.Need-same-length-2
 same-length-2 c = search rules
@@ -31,7 +31,7 @@ same-length-3 : tie.Need-same-length-3
 same-length-3 c = search rules
 
 returns-2 : tie.Need-returns-2
-returns-2 c = closed-one c.before.before.before.before.before.before.before.before.before.before.close.ensures (not-false _ c.before.before.before.before.before.before.before.if1.false) c.before.before.before.before.kept-type.ensures
+returns-2 c = closed_one c.before.before.before.before.before.before.before.before.before.before.close.ensures (not-false _ c.before.before.before.before.before.before.before.if1.false) c.before.before.before.before.kept-type.ensures
 
 pub closed-type-spec : {M : Type 1} → statement M
 closed-type-spec =

@@ -1,4 +1,4 @@
-use Rattle.checker_closing.proofs.ElementLaws.{element-no-power, element-closing, element-power}
+use Rattle.checker_closing.proofs.ElementLaws.{element_no_power, element_closing, element_power}
 use native.Mathlib.Omega.{arith}
 use borrow.Author.Rules.{rules}
 use Rattle.checker_closing.proofs.elements.element_type.Statement.{statement}
@@ -19,13 +19,13 @@ same_length : tie.Need-same-length
 same_length c = search rules
 
 returns : tie.Need-returns
-returns c = element-no-power c.before.before.before.before.is-power.ensures c.before.if1.true c.refused.ensures
+returns c = element_no_power c.before.before.before.before.is-power.ensures c.before.if1.true c.refused.ensures
 
 add-closed-type : tie.Need-overflow-add-closed-type
 add-closed-type c = let x = c.before.before.before.before.before.before.before.before.before.before.requires.working.room.cells in omega arith
 
 closed-type-requires : tie.Need-closed-type-requires
-closed-type-requires c κs = element-closing c.before.before.before.before.before.is-power.ensures c.before.before.if1.false c.before.before.before.before.before.before.before.before.before.before.requires
+closed-type-requires c κs = element_closing c.before.before.before.before.before.is-power.ensures c.before.before.if1.false c.before.before.before.before.before.before.before.before.before.before.requires
 
 same-length-2 : tie.Need-same-length-2
 same-length-2 c = search rules
@@ -34,7 +34,7 @@ same-length-3 : tie.Need-same-length-3
 same-length-3 c = search rules
 
 returns-2 : tie.Need-returns-2
-returns-2 c = element-power c.before.before.before.before.before.before.before.before.before.before.is-power.ensures c.before.before.before.before.before.before.before.if1.false c.before.before.before.before.closed-type.ensures
+returns-2 c = element_power c.before.before.before.before.before.before.before.before.before.before.is-power.ensures c.before.before.before.before.before.before.before.if1.false c.before.before.before.before.closed_type.ensures
 
 pub element-type-spec : {M : Type 1} → statement M
 element-type-spec =

@@ -1,5 +1,5 @@
 use Rattle.checker_closing.specs.Included.{unbrought}
-use Rattle.checker_closing.proofs.IncludedLaws.{row_of, show-asked, brought-rows}
+use Rattle.checker_closing.proofs.IncludedLaws.{row_of, show_asked, brought_rows}
 use mathlib.Core.Path.{refl}
 use borrow.Author.Rules.{rules}
 use Rattle.checker_closing.proofs.included.brought.Statement.{statement}
@@ -28,7 +28,7 @@ add-show-rows c = search rules
 
 -- src/included.rt:180:5
 show-rows-requires : tie.Need-show-rows-requires
-show-rows-requires c κs = let s = c.before.before.before.before.before.before.before.before.before.before.before in (s.requires.0, show-asked (row_of s.args.places.now c.before.before.span.ensures c.before.before.before.word.ensures.0) (s.requires.2.rows c.before.before.before.before.if1.false))
+show-rows-requires c κs = let s = c.before.before.before.before.before.before.before.before.before.before.before in (s.requires.0, show_asked (row_of s.args.places.now c.before.before.span.ensures c.before.before.before.word.ensures.0) (s.requires.2.rows c.before.before.before.before.if1.false))
 
 -- src/included.rt:162:1
 same_length : tie.Need-same-length
@@ -40,7 +40,7 @@ same-length-2 c = search rules
 
 -- src/included.rt:162:1
 returns-2 : tie.Need-returns-2
-returns-2 c = brought-rows (row_of _ c.before.before.before.before.before.before.before.span.ensures c.before.before.before.before.before.before.before.before.word.ensures.0) c.before.before.before.before.before.before.before.before.before.if1.false c.before.before.before.before.show-rows.ensures
+returns-2 c = brought_rows (row_of _ c.before.before.before.before.before.before.before.span.ensures c.before.before.before.before.before.before.before.before.word.ensures.0) c.before.before.before.before.before.before.before.before.before.if1.false c.before.before.before.before.show-rows.ensures
 
 pub brought-spec : {M : Type 1} → statement M
 brought-spec =

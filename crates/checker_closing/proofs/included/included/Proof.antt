@@ -1,5 +1,5 @@
 use Rattle.checker_closing.specs.Included.{unvisited}
-use Rattle.checker_closing.proofs.IncludedLaws.{row_of, line-asked, included-rows}
+use Rattle.checker_closing.proofs.IncludedLaws.{row_of, line_asked, included_rows}
 use mathlib.Core.Path.{refl}
 use borrow.Author.Rules.{rules}
 use Rattle.checker_closing.proofs.included.included.Statement.{statement}
@@ -28,7 +28,7 @@ add-line-rows c = search rules
 
 -- src/included.rt:121:5
 line-rows-requires : tie.Need-line-rows-requires
-line-rows-requires c κs = let s = c.before.before.before.before.before.before.before.before.before.before.before in (s.requires.0, line-asked (row_of s.args.places.now c.before.before.span.ensures c.before.before.before.word.ensures.0) (s.requires.2.rows c.before.before.before.before.if1.false))
+line-rows-requires c κs = let s = c.before.before.before.before.before.before.before.before.before.before.before in (s.requires.0, line_asked (row_of s.args.places.now c.before.before.span.ensures c.before.before.before.word.ensures.0) (s.requires.2.rows c.before.before.before.before.if1.false))
 
 -- src/included.rt:100:1
 same_length : tie.Need-same-length
@@ -40,7 +40,7 @@ same-length-2 c = search rules
 
 -- src/included.rt:100:1
 returns-2 : tie.Need-returns-2
-returns-2 c = included-rows (row_of _ c.before.before.before.before.before.before.before.span.ensures c.before.before.before.before.before.before.before.before.word.ensures.0) c.before.before.before.before.before.before.before.before.before.if1.false c.before.before.before.before.line-rows.ensures
+returns-2 c = included_rows (row_of _ c.before.before.before.before.before.before.before.span.ensures c.before.before.before.before.before.before.before.before.word.ensures.0) c.before.before.before.before.before.before.before.before.before.if1.false c.before.before.before.before.line_rows.ensures
 
 pub included-spec : {M : Type 1} → statement M
 included-spec =

@@ -1,5 +1,5 @@
 use Rattle.checker_closing.specs.Included.{united}
-use Rattle.checker_closing.proofs.IncludedLaws.{rows-fine, lined-refused}
+use Rattle.checker_closing.proofs.IncludedLaws.{rows_fine, lined_refused}
 use borrow.Author.Rules.{rules}
 use Rattle.checker_closing.proofs.included.line_rows.Statement.{statement}
 use Rattle.checker_closing.proofs.included.line_rows.Tie as tie
@@ -27,11 +27,11 @@ same-length-2 c = search rules
 
 -- src/included.rt:94:9
 returns : tie.Need-returns
-returns c = lined-refused c.before.before.rows-finding.ensures c.before.if1.true c.lined-at.ensures
+returns c = lined_refused c.before.before.rows-finding.ensures c.before.if1.true c.lined-at.ensures
 
 -- src/included.rt:96:5
 unite-requires : tie.Need-unite-requires
-unite-requires c κs = let A = c.before.before.before.before.before.before.before.before.before.before.requires in (A.0, A.1.unite (rows-fine c.before.before.before.rows-finding.ensures c.before.before.if1.false))
+unite-requires c κs = let A = c.before.before.before.before.before.before.before.before.before.before.requires in (A.0, A.1.unite (rows_fine c.before.before.before.rows-finding.ensures c.before.before.if1.false))
 
 -- src/included.rt:74:1
 same-length-3 : tie.Need-same-length-3
@@ -43,7 +43,7 @@ same-length-4 c = search rules
 
 -- src/included.rt:74:1
 returns-2 : tie.Need-returns-2
-returns-2 c = united (rows-fine c.before.before.before.before.before.before.before.before.rows-finding.ensures c.before.before.before.before.before.before.before.if1.false) c.before.before.before.before.unite.ensures
+returns-2 c = united (rows_fine c.before.before.before.before.before.before.before.before.rows-finding.ensures c.before.before.before.before.before.before.before.if1.false) c.before.before.before.before.unite.ensures
 
 pub line-rows-spec : {M : Type 1} → statement M
 line-rows-spec =

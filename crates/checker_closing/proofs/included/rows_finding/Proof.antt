@@ -1,4 +1,4 @@
-use Rattle.checker_closing.proofs.IncludedLaws.{rows-clash, rows-known, rows-large, rows_none}
+use Rattle.checker_closing.proofs.IncludedLaws.{rows_clash, rows_known, rows_large, rows_none}
 use borrow.Author.Tests.{not-true, not-false}
 use borrow.Author.Rules.{rules}
 use Rattle.checker_closing.proofs.included.rows_finding.Statement.{statement}
@@ -15,7 +15,7 @@ rows-agree-requires c κs = search rules
 
 -- src/included.rt:36:9
 returns : tie.Need-returns
-returns c = rows-clash c.before.rows_agree.ensures (not-true _ c.if1.true)
+returns c = rows_clash c.before.rows_agree.ensures (not-true _ c.if1.true)
 
 -- src/included.rt:38:9
 rows-new-if-requires : tie.Need-rows-new-if-requires
@@ -23,7 +23,7 @@ rows-new-if-requires c κs = search rules
 
 -- src/included.rt:39:9
 returns-2 : tie.Need-returns-2
-returns-2 c = rows-known c.before.before.before.rows_agree.ensures (not-false _ c.before.before.if1.false) c.before.rows-new-if.ensures (not-true _ c.if2.true)
+returns-2 c = rows_known c.before.before.before.rows_agree.ensures (not-false _ c.before.before.if1.false) c.before.rows-new-if.ensures (not-true _ c.if2.true)
 
 -- src/included.rt:41:9
 rows-small-requires : tie.Need-rows-small-requires
@@ -31,7 +31,7 @@ rows-small-requires c κs = search rules
 
 -- src/included.rt:42:9
 returns-3 : tie.Need-returns-3
-returns-3 c = rows-large c.before.before.before.before.before.rows_agree.ensures (not-false _ c.before.before.before.before.if1.false) c.before.before.before.rows-new-if.ensures (not-false _ c.before.before.if2.false) c.before.rows-small.ensures (not-true _ c.if3.true)
+returns-3 c = rows_large c.before.before.before.before.before.rows_agree.ensures (not-false _ c.before.before.before.before.if1.false) c.before.before.before.rows-new-if.ensures (not-false _ c.before.before.if2.false) c.before.rows-small.ensures (not-true _ c.if3.true)
 
 -- src/included.rt:21:1
 returns-4 : tie.Need-returns-4

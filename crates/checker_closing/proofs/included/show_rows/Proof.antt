@@ -1,4 +1,4 @@
-use Rattle.checker_closing.proofs.IncludedLaws.{shown-asked, shown-large, shown-kept}
+use Rattle.checker_closing.proofs.IncludedLaws.{shown_asked, shown_large, shown_kept}
 use borrow.Author.Tests.{not-true, not-false}
 use borrow.Author.Rules.{rules}
 use Rattle.checker_closing.proofs.included.show_rows.Statement.{statement}
@@ -27,11 +27,11 @@ same-length-2 c = search rules
 
 -- src/included.rt:155:9
 returns : tie.Need-returns
-returns c = shown-large c.before.before.rows-small.ensures (not-true _ c.before.if1.true) c.lined-at.ensures
+returns c = shown_large c.before.before.rows-small.ensures (not-true _ c.before.if1.true) c.lined-at.ensures
 
 -- src/included.rt:157:9
 keep-rows-requires : tie.Need-keep-rows-requires
-keep-rows-requires c κs = shown-asked c.before.before.before.rows-small.ensures c.before.before.before.before.before.before.before.before.before.before.requires.1 (not-false _ c.before.before.if1.false)
+keep-rows-requires c κs = shown_asked c.before.before.before.rows-small.ensures c.before.before.before.before.before.before.before.before.before.before.requires.1 (not-false _ c.before.before.if1.false)
 
 -- src/included.rt:158:5
 lined-at-requires-2 : tie.Need-lined-at-requires-2
@@ -47,7 +47,7 @@ same-length-4 c = search rules
 
 -- src/included.rt:139:1
 returns-2 : tie.Need-returns-2
-returns-2 c = shown-kept c.before.before.before.before.before.before.before.before.before.rows-small.ensures (not-false _ c.before.before.before.before.before.before.before.before.if1.false) c.before.before.before.before.before.keep-rows.ensures c.lined-at2.ensures
+returns-2 c = shown_kept c.before.before.before.before.before.before.before.before.before.rows-small.ensures (not-false _ c.before.before.before.before.before.before.before.before.if1.false) c.before.before.before.before.before.keep-rows.ensures c.lined-at2.ensures
 
 pub show-rows-spec : {M : Type 1} → statement M
 show-rows-spec =

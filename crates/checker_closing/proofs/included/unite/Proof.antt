@@ -1,4 +1,4 @@
-use Rattle.checker_closing.proofs.IncludedLaws.{united-many, united-few}
+use Rattle.checker_closing.proofs.IncludedLaws.{united_many, united_few}
 use borrow.Author.Rules.{rules}
 use Rattle.checker_closing.proofs.included.unite.Statement.{statement}
 use Rattle.checker_closing.proofs.included.unite.Tie as tie
@@ -30,7 +30,7 @@ same-length-2 c = search rules
 
 -- src/included.rt:68:9
 returns : tie.Need-returns
-returns c = united-many c.before.before.before.before.before.before.before.before.before.before.keep-rows.ensures c.before.before.before.before.merge.ensures c.before.if1.true c.lined-at.ensures
+returns c = united_many c.before.before.before.before.before.before.before.before.before.before.keep-rows.ensures c.before.before.before.before.merge.ensures c.before.if1.true c.lined-at.ensures
 
 -- src/included.rt:70:5
 lined-at-requires-2 : tie.Need-lined-at-requires-2
@@ -46,7 +46,7 @@ same-length-4 c = search rules
 
 -- src/included.rt:48:1
 returns-2 : tie.Need-returns-2
-returns-2 c = united-few c.before.before.before.before.before.before.before.before.before.before.keep-rows.ensures c.before.before.before.before.merge.ensures c.before.if1.false c.lined-at2.ensures
+returns-2 c = united_few c.before.before.before.before.before.before.before.before.before.before.keep-rows.ensures c.before.before.before.before.merge.ensures c.before.if1.false c.lined-at2.ensures
 
 pub unite-spec : {M : Type 1} → statement M
 unite-spec =

@@ -26,7 +26,7 @@ component-rows-requires c κs = c.before.before.before.before.before.before.befo
 
 -- src/includes.rt:87:5
 rename-rows-requires : tie.Need-rename-rows-requires
-rename-rows-requires c κs = let A = c.before.before.before.before.before.before.before.before.before.before.before.requires in (A.0, A.2.rename c.before.before.before.before.before.if1.false _ _ c.before.before.before.component-rows.ensures)
+rename-rows-requires c κs = let A = c.before.before.before.before.before.before.before.before.before.before.before.requires in (A.0, A.2.rename c.before.before.before.before.before.if1.false _ _ c.before.before.before.component_rows_lem.ensures)
 
 -- src/includes.rt:70:1
 same_length : tie.Need-same-length
@@ -34,7 +34,7 @@ same_length c = search rules
 
 -- src/includes.rt:70:1
 returns-2 : tie.Need-returns-2
-returns-2 c = components c.before.before.before.before.before.before.before.before.if1.false _ _ c.before.before.before.before.before.before.component-rows.ensures c.before.before.rename-rows.ensures
+returns-2 c = components c.before.before.before.before.before.before.before.before.if1.false _ _ c.before.before.before.before.before.before.component_rows_lem.ensures c.before.before.rename-rows.ensures
 
 pub named-spec : {M : Type 1} → statement M
 named-spec =

@@ -1,4 +1,4 @@
-use Rattle.checker_closing.proofs.SchemaLaws.{renamed-wrong, renamed-right}
+use Rattle.checker_closing.proofs.SchemaLaws.{renamed_wrong, renamed_right}
 use borrow.Author.Rules.{rules}
 use Rattle.checker_closing.proofs.includes.rename_rows.Statement.{statement}
 use Rattle.checker_closing.proofs.includes.rename_rows.Tie as tie
@@ -38,7 +38,7 @@ same_length c = search rules
 
 -- src/includes.rt:64:9
 returns : tie.Need-returns
-returns c = renamed-wrong _ c.before.before.before.before.bring.ensures c.before.before.before.before.before.before.word.ensures.0 c.before.before.before.before.before.word2.ensures.0 c.before.before.before.before.bring.auto.0 c.before.if1.true c.lined-at.ensures
+returns c = renamed_wrong _ c.before.before.before.before.bring.ensures c.before.before.before.before.before.before.word.ensures.0 c.before.before.before.before.before.word2.ensures.0 c.before.before.before.before.bring.auto.0 c.before.if1.true c.lined-at.ensures
 
 -- src/includes.rt:66:5
 lined-at-requires-2 : tie.Need-lined-at-requires-2
@@ -50,7 +50,7 @@ same-length-2 c = search rules
 
 -- src/includes.rt:50:1
 returns-2 : tie.Need-returns-2
-returns-2 c = renamed-right _ c.before.before.before.before.bring.ensures c.before.before.before.before.before.before.word.ensures.0 c.before.before.before.before.before.word2.ensures.0 c.before.before.before.before.bring.auto.0 c.before.if1.false c.lined-at2.ensures
+returns-2 c = renamed_right _ c.before.before.before.before.bring.ensures c.before.before.before.before.before.before.word.ensures.0 c.before.before.before.before.before.word2.ensures.0 c.before.before.before.before.bring.auto.0 c.before.if1.false c.lined-at2.ensures
 
 pub rename-rows-spec : {M : Type 1} → statement M
 rename-rows-spec =

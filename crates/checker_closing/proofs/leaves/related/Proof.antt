@@ -1,4 +1,4 @@
-use Rattle.checker_closing.proofs.LeafLaws.{comparing, as-equality, as-membership, as-comparison}
+use Rattle.checker_closing.proofs.LeafLaws.{comparing, as_equality, as_membership, as_comparison}
 use borrow.Author.Rules.{rules}
 use Rattle.checker_closing.proofs.leaves.related.Statement.{statement}
 use Rattle.checker_closing.proofs.leaves.related.Tie as tie
@@ -15,7 +15,7 @@ same_length : tie.Need-same-length
 same_length c = search rules
 
 returns : tie.Need-returns
-returns c = as-equality _ _ _ _ _ _ _ _ _ _ c.before.before.before.before.if1.true (c.before.before.equality.ensures _)
+returns c = as_equality _ _ _ _ _ _ _ _ _ _ c.before.before.before.before.if1.true (c.before.before.equality.ensures _)
 
 membership-requires : tie.Need-membership-requires
 membership-requires c κs = search rules
@@ -24,7 +24,7 @@ same-length-2 : tie.Need-same-length-2
 same-length-2 c = search rules
 
 returns-2 : tie.Need-returns-2
-returns-2 c = as-membership _ _ _ _ _ _ _ _ _ _ c.before.before.before.before.if2.true c.before.before.membership.ensures
+returns-2 c = as_membership _ _ _ _ _ _ _ _ _ _ c.before.before.before.before.if2.true c.before.before.membership.ensures
 
 comparison-requires : tie.Need-comparison-requires
 comparison-requires c κs = search rules
@@ -33,7 +33,7 @@ same-length-3 : tie.Need-same-length-3
 same-length-3 c = search rules
 
 returns-3 : tie.Need-returns-3
-returns-3 c = as-comparison _ _ _ _ _ _ _ _ _ _ c.before.before.before.before.before.before.before.before.requires.0 c.before.before.before.before.before.before.before.before.requires.1 c.before.before.before.before.before.if1.false c.before.before.before.before.if2.false (c.before.before.comparison.ensures _)
+returns-3 c = as_comparison _ _ _ _ _ _ _ _ _ _ c.before.before.before.before.before.before.before.before.requires.0 c.before.before.before.before.before.before.before.before.requires.1 c.before.before.before.before.before.if1.false c.before.before.before.before.if2.false (c.before.before.comparison.ensures _)
 
 pub related-spec : {M : Type 1} → statement M
 related-spec =

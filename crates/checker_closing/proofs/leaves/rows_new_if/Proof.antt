@@ -1,4 +1,4 @@
-use Rattle.checker_closing.proofs.LeafLaws.{new-global, new-local}
+use Rattle.checker_closing.proofs.LeafLaws.{new_global, new_local}
 use borrow.Author.Rules.{rules}
 use Rattle.checker_closing.proofs.leaves.rows_new_if.Statement.{statement}
 use Rattle.checker_closing.proofs.leaves.rows_new_if.Tie as tie
@@ -10,10 +10,10 @@ rows-new-requires : tie.Need-rows-new-requires
 rows-new-requires c κs = search rules
 
 returns : tie.Need-returns
-returns c = new-global _ _ _ _ _ c.before.if1.true c.rows_new.ensures
+returns c = new_global _ _ _ _ _ c.before.if1.true c.rows_new.ensures
 
 returns-2 : tie.Need-returns-2
-returns-2 c = new-local _ _ _ _ c.if1.false
+returns-2 c = new_local _ _ _ _ c.if1.false
 
 pub rows-new-if-spec : {M : Type 1} → statement M
 rows-new-if-spec = tie.close (tie.spec rows-new-requires returns returns-2)

@@ -1,4 +1,4 @@
-use Rattle.checker_closing.proofs.RelationLaws.{end-several, end-one}
+use Rattle.checker_closing.proofs.RelationLaws.{end_several, end_one}
 use borrow.Author.Rules.{rules}
 use Rattle.checker_closing.proofs.relation.ended.Statement.{statement}
 use Rattle.checker_closing.proofs.relation.ended.Tie as tie
@@ -21,7 +21,7 @@ same_length : tie.Need-same-length
 same_length c = search rules
 
 returns : tie.Need-returns
-returns c = end-one c.before.before.before.before.before.before.before.before.close.ensures c.before.before.before.before.before.if1.true c.before.before.before.before.before.before.before.before.close.auto.0 c.before.before.before.wipe.ensures c.verdict-at.ensures
+returns c = end_one c.before.before.before.before.before.before.before.before.close.ensures c.before.before.before.before.before.if1.true c.before.before.before.before.before.before.before.before.close.auto.0 c.before.before.before.wipe.ensures c.verdict-at.ensures
 
 verdict-at-requires-2 : tie.Need-verdict-at-requires-2
 verdict-at-requires-2 c κs = search rules
@@ -30,7 +30,7 @@ same-length-2 : tie.Need-same-length-2
 same-length-2 c = search rules
 
 returns-2 : tie.Need-returns-2
-returns-2 c = end-several c.before.before.before.before.close.ensures c.before.if1.false c.verdict-at2.ensures
+returns-2 c = end_several c.before.before.before.before.close.ensures c.before.if1.false c.verdict-at2.ensures
 
 pub ended-spec : {M : Type 1} → statement M
 ended-spec =

@@ -1,5 +1,5 @@
 use Rattle.checker_closing.specs.Relations.{refused}
-use Rattle.checker_closing.proofs.RelationLaws.{rule-ends, rule_fits}
+use Rattle.checker_closing.proofs.RelationLaws.{rule_ends, rule_fits}
 use borrow.Author.Rules.{rules}
 use Rattle.checker_closing.proofs.relation.ruled.Statement.{statement}
 use Rattle.checker_closing.proofs.relation.ruled.Tie as tie
@@ -22,7 +22,7 @@ returns : tie.Need-returns
 returns c = refused _ _ c.before.before.before.before.before.related.ensures c.before.if1.true c.verdict-at.ensures
 
 ended-requires : tie.Need-ended-requires
-ended-requires c κs = rule-ends _ c.before.before.before.before.before.related.ensures c.before.if1.false c.before.before.before.before.before.before.before.before.before.requires
+ended-requires c κs = rule_ends _ c.before.before.before.before.before.related.ensures c.before.if1.false c.before.before.before.before.before.before.before.before.before.requires
 
 same-length-2 : tie.Need-same-length-2
 same-length-2 c = search rules

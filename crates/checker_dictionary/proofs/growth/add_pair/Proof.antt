@@ -1,10 +1,10 @@
 use Rattle.std.proofs.Common.{◌∙◌, rules}
-use Rattle.checker_dictionary.specs.Growth.{pairAdded}
+use Rattle.checker_dictionary.specs.Growth.{pair_added}
 use Rattle.checker_dictionary.proofs.growth.add_pair.Statement.{statement}
 use Rattle.checker_dictionary.proofs.growth.add_pair.Tie as tie
 
 returns : tie.Need-returns
-unfolding pairAdded
+unfolding pair_added
 returns c = c.before.before.store2.ensures ∙ rw (c.before.before.before.before.before.before.store.ensures, c.before.before.before.before.before.before.before.before.before.before.raise.ensures)
 
 pub add-pair-spec : {M : Type 1} → statement M

@@ -1,6 +1,6 @@
 use Rattle.std.proofs.Common.{◌≡◌, ◌-◌, ◌≤◌, length, sym, refl, ◌∙◌, arith, rules}
 use Rattle.checker_dictionary.specs.Growth.{lifted}
-use Rattle.checker_dictionary.proofs.LiftLaws.{lifted-go, lifted-end}
+use Rattle.checker_dictionary.proofs.LiftLaws.{lifted_go, lifted_end}
 use Rattle.checker_dictionary.proofs.growth.lift.Statement.{statement}
 use Rattle.checker_dictionary.proofs.growth.lift.Tie as tie
 
@@ -20,13 +20,13 @@ loop-again : tie.Need-loop-preserved invariant-loop decreases-loop
 loop-again c =
     let l = c.before.before.before.before.before.before.before.loop in
     let s = c.before.before.store in
-    (omega arith, s.auto.0 ∙ l.invariant.1, l.invariant.2 ∙ lifted-go _ _ _ (omega arith) ∙ rw (← c.before.before.before.before.word.ensures.0, ← s.ensures))
+    (omega arith, s.auto.0 ∙ l.invariant.1, l.invariant.2 ∙ lifted_go _ _ _ (omega arith) ∙ rw (← c.before.before.before.before.word.ensures.0, ← s.ensures))
 
 same_length : tie.Need-same-length invariant-loop decreases-loop
 same_length c = c.before.loop.invariant.1
 
 returns : tie.Need-returns invariant-loop decreases-loop
-returns c = sym (c.before.loop.invariant.2 ∙ lifted-end _ _ _ (omega arith))
+returns c = sym (c.before.loop.invariant.2 ∙ lifted_end _ _ _ (omega arith))
 
 pub lift-spec : {M : Type 1} → statement M
 lift-spec =

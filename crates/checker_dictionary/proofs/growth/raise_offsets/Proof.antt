@@ -1,12 +1,12 @@
 use Rattle.std.proofs.Common.{◌≡◌, ◌+◌, ◌-◌, ◌≤◌, length, sym, refl, ◌∙◌, add-sub_cancel, arith, rules}
 use Rattle.words.specs.Loops.{run}
-use Rattle.words.proofs.Loops.{run-go, run_end}
-use Rattle.checker_dictionary.specs.Growth.{offsetRaised}
+use Rattle.words.proofs.Loops.{run_go, run_end}
+use Rattle.checker_dictionary.specs.Growth.{offset_raised}
 use Rattle.checker_dictionary.proofs.growth.raise_offsets.Statement.{statement}
 use Rattle.checker_dictionary.proofs.growth.raise_offsets.Tie as tie
 
 abbrev invariant-loop : tie.invariant-loop
-invariant-loop d₀ n k₀ d k = (1 ≤ k) × (k ≤ n + 1) × (length d ≡ length d₀) × (run offsetRaised 1 n d₀ ≡ run offsetRaised k (n + 1 - k) d)
+invariant-loop d₀ n k₀ d k = (1 ≤ k) × (k ≤ n + 1) × (length d ≡ length d₀) × (run offset_raised 1 n d₀ ≡ run offset_raised k (n + 1 - k) d)
 
 abbrev decreases-loop : tie.decreases-loop
 decreases-loop d₀ n k₀ d k = n + 1 - k
@@ -21,11 +21,11 @@ loop-less : tie.Need-loop-smaller invariant-loop decreases-loop
 loop-less c = omega arith
 
 loop-again : tie.Need-loop-preserved invariant-loop decreases-loop
-unfolding offsetRaised
+unfolding offset_raised
 loop-again c =
     let l = c.before.before.before.before.before.loop in
     let t = c.before.before.raise in
-    (omega arith, omega arith, t.auto.0 ∙ l.invariant.2, l.invariant.3 ∙ run-go _ _ _ _ (omega arith) ∙ rw (← t.ensures))
+    (omega arith, omega arith, t.auto.0 ∙ l.invariant.2, l.invariant.3 ∙ run_go _ _ _ _ (omega arith) ∙ rw (← t.ensures))
 
 same_length : tie.Need-same-length invariant-loop decreases-loop
 same_length c = c.before.loop.invariant.2

@@ -1,6 +1,6 @@
 use Rattle.std.proofs.Common.{◌≡◌, ℕ, ◌+◌, List, set, sym, ap, ◌∙◌, subst, arith, rules}
-use Rattle.checker_dictionary.specs.Index.{bucketOf, IndexedTo}
-use Rattle.checker_dictionary.proofs.IndexLaws.{indexed-past, indexed-more}
+use Rattle.checker_dictionary.specs.Index.{bucket_of, IndexedTo}
+use Rattle.checker_dictionary.proofs.IndexLaws.{indexed_past, indexed_more}
 use Rattle.checker_dictionary.proofs.index.add.Statement.{statement}
 use Rattle.checker_dictionary.proofs.index.add.Tie as tie
 use Rattle.checker_dictionary.proofs.index.add.Reads as reads
@@ -11,7 +11,7 @@ use Rattle.words.proofs.word.Reads as word-reads
 
 -- src/index.rt:91:9
 returns : tie.Need-returns
-returns c = λ I. indexed-past _ _ _ c.if1.true I
+returns c = λ I. indexed_past _ _ _ c.if1.true I
 
 -- src/index.rt:93:26
 name-of-requires : tie.Need-name-of-requires
@@ -51,7 +51,7 @@ same_length c = search rules
 
 -- src/index.rt:86:1
 returns-2 : tie.Need-returns-2
-unfolding bucketOf
+unfolding bucket_of
 returns-2 c = λ I.
     let a = c.before.before.before.before.before.before.before.before.before.before.before.before.before.before.args in
     let p = c.before.before.before.before.before.before.before.before.before.before.before.before.before.before.requires in
@@ -60,7 +60,7 @@ returns-2 c = λ I.
     let old = c.before.before.before.before.before.before.before.before.word.ensures.0 in
     let one = c.before.before.before.before.before.before.store.ensures in
     let two = c.before.before.store2.ensures in
-    subst (λ (w : List ℕ). IndexedTo a.d.now w a.k) (sym (two ∙ rw (one, old, name))) (indexed-more a.d.now a.w.now a.k p.0 room p.2 I)
+    subst (λ (w : List ℕ). IndexedTo a.d.now w a.k) (sym (two ∙ rw (one, old, name))) (indexed_more a.d.now a.w.now a.k p.0 room p.2 I)
 
 pub add_spec : {M : Type 1} → statement M
 add_spec =

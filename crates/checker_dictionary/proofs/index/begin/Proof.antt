@@ -1,7 +1,7 @@
 use Rattle.std.proofs.Common.{◌≡◌, ℕ, ◌≤◌, List, ◌++◌, length, take, drop, sym, subst, arith, length-drop, length-take-le, rules}
 use borrow.Rule.Slice.PartMut.{post_of}
-use Rattle.checker_dictionary.specs.Index.{bucketCount, IndexedTo}
-use Rattle.checker_dictionary.proofs.IndexLaws.{indexed-cleared}
+use Rattle.checker_dictionary.specs.Index.{bucket_count, IndexedTo}
+use Rattle.checker_dictionary.proofs.IndexLaws.{indexed_cleared}
 use Rattle.checker_dictionary.proofs.index.begin.Statement.{statement}
 use Rattle.checker_dictionary.proofs.index.begin.Tie as tie
 use Rattle.checker_dictionary.proofs.index.begin.Reads as reads
@@ -38,8 +38,8 @@ returns c = λ d.
     let w = c.before.before.before.before.before.args.w.now in
     let p = c.before.before.before.before.before.requires in
     let e = c.before.before.clear.ensures in
-    let l : bucketCount ≤ length (take 1024 (drop 512 w)) = let a = length-drop 512 w in let b = length-take-le 1024 (drop 512 w) (omega arith) in omega arith in
-    subst (λ (m : List ℕ). IndexedTo d (take 512 w ++ (m ++ post_of 512 1024 w)) 0) (sym e) (indexed-cleared d (take 512 w) (post_of 512 1024 w) _ (length-take-le 512 w (omega arith)) l)
+    let l : bucket_count ≤ length (take 1024 (drop 512 w)) = let a = length-drop 512 w in let b = length-take-le 1024 (drop 512 w) (omega arith) in omega arith in
+    subst (λ (m : List ℕ). IndexedTo d (take 512 w ++ (m ++ post_of 512 1024 w)) 0) (sym e) (indexed_cleared d (take 512 w) (post_of 512 1024 w) _ (length-take-le 512 w (omega arith)) l)
 
 pub begin-spec : {M : Type 1} → statement M
 begin-spec =

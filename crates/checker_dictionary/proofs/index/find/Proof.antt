@@ -1,8 +1,8 @@
 use Rattle.std.proofs.Common.{◌≡◌, ◌≤◌, sym, refl, ap, ◌∙◌, arith, rules}
 use Rattle.layout.specs.Layout.{count}
-use Rattle.checker_dictionary.specs.Lookup.{isEntry, newest}
+use Rattle.checker_dictionary.specs.Lookup.{is_entry, newest}
 use Rattle.checker_dictionary.specs.Index.{indexed, IndexedTo}
-use Rattle.checker_dictionary.proofs.LookupLaws.{newest-hit, newest-miss}
+use Rattle.checker_dictionary.proofs.LookupLaws.{newest_hit, newest_miss}
 use Rattle.checker_dictionary.proofs.index.find.Statement.{statement}
 use Rattle.checker_dictionary.proofs.index.find.Tie as tie
 use Rattle.checker_dictionary.proofs.index.find.Reads as reads
@@ -12,7 +12,7 @@ use Rattle.checker_dictionary.proofs.lookup.is_entry.Reads as is-entry-reads
 use Rattle.words.proofs.word.Reads as word-reads
 
 abbrev invariant-loop : tie.invariant-loop
-invariant-loop d w class name k₀ k = (newest (isEntry d class name) (count d) ≡ newest (isEntry d class name) k) × (indexed (count d) ≤ k) × (k ≤ count d)
+invariant-loop d w class name k₀ k = (newest (is_entry d class name) (count d) ≡ newest (is_entry d class name) k) × (indexed (count d) ≤ k) × (k ≤ count d)
 
 abbrev decreases-loop : tie.decreases-loop
 decreases-loop d w class name k₀ k = k
@@ -31,7 +31,7 @@ is-entry-requires c κs = search rules
 
 -- src/index.rt:64:13
 returns : tie.Need-returns invariant-loop decreases-loop
-returns c = λ I. newest-hit _ _ (omega arith) (sym c.before.is-entry.ensures ∙ c.if1.true) ∙ sym c.before.before.before.loop.invariant.0
+returns c = λ I. newest_hit _ _ (omega arith) (sym c.before.is_entry_lem.ensures ∙ c.if1.true) ∙ sym c.before.before.before.loop.invariant.0
 
 -- src/index.rt:66:9
 sub-k : tie.Need-overflow-sub-k invariant-loop decreases-loop
@@ -45,7 +45,7 @@ loop-less c = omega arith
 loop-again : tie.Need-loop-preserved invariant-loop decreases-loop
 loop-again c =
     let l = c.before.before.before.loop.invariant in
-    (l.0 ∙ newest-miss _ _ (omega arith) (sym c.before.is-entry.ensures ∙ c.if1.false), omega arith, omega arith)
+    (l.0 ∙ newest_miss _ _ (omega arith) (sym c.before.is_entry_lem.ensures ∙ c.if1.false), omega arith, omega arith)
 
 -- src/index.rt:68:5
 linked-requires : tie.Need-linked-requires invariant-loop decreases-loop

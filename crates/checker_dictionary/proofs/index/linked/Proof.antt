@@ -1,9 +1,9 @@
 use Rattle.std.proofs.Common.{◌≡◌, ◌%◌, ◌^◌, ◌<◌, get_or, sym, refl, ap, ◌∙◌, subst, arith, rules}
 use Rattle.layout.specs.Layout.{count}
-use Rattle.checker_dictionary.specs.Lookup.{isEntry, newest}
-use Rattle.checker_dictionary.specs.Index.{bucketOf, indexed, IndexedTo}
-use Rattle.checker_dictionary.proofs.LookupLaws.{newest-hit, newest-none}
-use Rattle.checker_dictionary.proofs.IndexLaws.{Chained, chained-first, chained-next, older-less}
+use Rattle.checker_dictionary.specs.Lookup.{is_entry, newest}
+use Rattle.checker_dictionary.specs.Index.{bucket_of, indexed, IndexedTo}
+use Rattle.checker_dictionary.proofs.LookupLaws.{newest_hit, newest_none}
+use Rattle.checker_dictionary.proofs.IndexLaws.{Chained, chained_first, chained_next, older_less}
 use Rattle.checker_dictionary.proofs.index.linked.Statement.{statement}
 use Rattle.checker_dictionary.proofs.index.linked.Tie as tie
 use Rattle.checker_dictionary.proofs.index.linked.Reads as reads
@@ -27,11 +27,11 @@ word-requires c κs = search rules
 
 -- src/index.rt:44:5
 loop-holds : tie.Need-loop-init invariant-loop decreases-loop
-unfolding bucketOf
+unfolding bucket_of
 loop-holds c =
     let a = c.before.before.before.args in
     let w = c.word.ensures in
-    (w.1, λ I. subst (Chained _ _ _ _) (sym w.0) (chained-first a.d.now a.w.now _ a.class a.name I))
+    (w.1, λ I. subst (Chained _ _ _ _) (sym w.0) (chained_first a.d.now a.w.now _ a.class a.name I))
 
 -- src/index.rt:45:12
 is-entry-requires : tie.Need-is-entry-requires invariant-loop decreases-loop
@@ -41,7 +41,7 @@ is-entry-requires c κs = search rules
 returns : tie.Need-returns invariant-loop decreases-loop
 returns c = λ I.
     let C = c.before.before.before.loop.invariant.1 I in
-    newest-hit _ _ (omega arith) (sym c.before.is-entry.ensures ∙ c.if1.true) ∙ sym C.rest
+    newest_hit _ _ (omega arith) (sym c.before.is_entry_lem.ensures ∙ c.if1.true) ∙ sym C.rest
 
 -- src/index.rt:48:29
 add-word-2 : tie.Need-overflow-add-word-2 invariant-loop decreases-loop
@@ -55,7 +55,7 @@ word-requires-2 c κs = search rules
 returns-2 : tie.Need-returns-2 invariant-loop decreases-loop
 returns-2 c = λ I.
     let C = c.before.before.before.before.before.loop.invariant.1 I in
-    let less = older-less _ _ _ _ _ I _ C (omega arith) in
+    let less = older_less _ _ _ _ _ I _ C (omega arith) in
     let e = c.before.word2.ensures.0 in
     absurd (omega arith)
 
@@ -70,12 +70,12 @@ loop-again c =
       w.1,
       λ I.
           let C = c.before.before.before.before.before.loop.invariant.1 I in
-          subst (Chained _ _ _ _) (sym w.0) (chained-next _ _ _ _ _ I _ C (omega arith) (sym c.before.before.before.is-entry.ensures ∙ c.before.before.if1.false)),
+          subst (Chained _ _ _ _) (sym w.0) (chained_next _ _ _ _ _ I _ C (omega arith) (sym c.before.before.before.is_entry_lem.ensures ∙ c.before.before.if1.false)),
     )
 
 -- src/index.rt:40:1
 returns-3 : tie.Need-returns-3 invariant-loop decreases-loop
-returns-3 c = λ I. let C = c.before.loop.invariant.1 I in newest-none _ _ (omega arith) ∙ sym C.rest
+returns-3 c = λ I. let C = c.before.loop.invariant.1 I in newest_none _ _ (omega arith) ∙ sym C.rest
 
 pub linked-spec : {M : Type 1} → statement M
 linked-spec =

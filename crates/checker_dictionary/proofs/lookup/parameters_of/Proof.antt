@@ -1,10 +1,10 @@
-use Rattle.checker_dictionary.specs.Lookup.{parametersAt}
+use Rattle.checker_dictionary.specs.Lookup.{parameters_at}
 use Rattle.std.proofs.Common.{rules}
 use Rattle.checker_dictionary.proofs.lookup.parameters_of.Statement.{statement}
 use Rattle.checker_dictionary.proofs.lookup.parameters_of.Tie as tie
 
 returns : tie.Need-returns
-unfolding parametersAt
+unfolding parameters_at
 returns c = rw (← c.before.offset.ensures.0) c.word.ensures
 
 pub parameters-of-spec : {M : Type 1} → statement M

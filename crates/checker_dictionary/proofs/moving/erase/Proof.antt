@@ -1,6 +1,6 @@
 use Rattle.std.proofs.Common.{◌≡◌, ◌+◌, ◌-◌, ◌≤◌, length, replicate, sym, refl, ap, ◌∙◌, arith, rules}
 use lib.Seq.{sets}
-use Rattle.checker_dictionary.proofs.MovingLaws.{erase-step, erase-start}
+use Rattle.checker_dictionary.proofs.MovingLaws.{erase_step, erase_start}
 use Rattle.checker_dictionary.proofs.moving.erase.Statement.{statement}
 use Rattle.checker_dictionary.proofs.moving.erase.Tie as tie
 use Rattle.checker_dictionary.proofs.moving.erase.Reads as reads
@@ -15,7 +15,7 @@ decreases-loop d₀ at end i₀ d i = end - i
 
 -- src/moving.rt:52:5
 loop-holds : tie.Need-loop-init invariant-loop decreases-loop
-loop-holds c = let a = c.before.args in (omega arith, omega arith, refl, erase-start a.d.now a.at)
+loop-holds c = let a = c.before.args in (omega arith, omega arith, refl, erase_start a.d.now a.at)
 
 -- src/moving.rt:53:9
 store-requires : tie.Need-store-requires invariant-loop decreases-loop
@@ -35,7 +35,7 @@ loop-again c =
     let l = c.before.before.before.before.before.loop in
     let s = c.before.before.store in
     let a = c.before.before.before.before.before.before.before.args in
-    (omega arith, omega arith, s.auto.0 ∙ l.invariant.2, s.ensures ∙ rw l.invariant.3 (erase-step a.d.now a.at l.i l.invariant.0))
+    (omega arith, omega arith, s.auto.0 ∙ l.invariant.2, s.ensures ∙ rw l.invariant.3 (erase_step a.d.now a.at l.i l.invariant.0))
 
 -- src/moving.rt:48:1
 same_length : tie.Need-same-length invariant-loop decreases-loop

@@ -1,6 +1,6 @@
 use Rattle.std.proofs.Common.{◌≡◌, ◌+◌, ◌-◌, ◌≤◌, length, take, drop, replicate, sym, refl, ap, ◌∙◌, arith, rules}
 use lib.Seq.{sets}
-use Rattle.checker_dictionary.proofs.MovingLaws.{down-next}
+use Rattle.checker_dictionary.proofs.MovingLaws.{down_next}
 use Rattle.checker_dictionary.proofs.moving.shift_down.Statement.{statement}
 use Rattle.checker_dictionary.proofs.moving.shift_down.Tie as tie
 use Rattle.checker_dictionary.proofs.moving.shift_down.Reads as reads
@@ -52,7 +52,7 @@ loop-again c =
     let l = c.before.before.before.before.before.before.before.loop.invariant in
     let p = c.before.before.before.before.before.before.before.before.before.requires in
     let s = c.before.before.store in
-    (omega arith, s.auto.0 ∙ l.1, s.ensures ∙ rw c.before.before.before.before.word.ensures.0 (rw l.2 (down-next _ _ _ _ _ p.0 p.1 c.before.before.before.before.before.before.loop-test.true)))
+    (omega arith, s.auto.0 ∙ l.1, s.ensures ∙ rw c.before.before.before.before.word.ensures.0 (rw l.2 (down_next _ _ _ _ _ p.0 p.1 c.before.before.before.before.before.before.loop-test.true)))
 
 -- src/moving.rt:23:1
 same_length : tie.Need-same-length invariant-loop decreases-loop

@@ -1,6 +1,6 @@
 use Rattle.std.proofs.Common.{◌≡◌, ◌+◌, ◌-◌, ◌≤◌, length, take, drop, replicate, sym, refl, ap, ◌∙◌, arith, rules}
 use lib.Seq.{sets}
-use Rattle.checker_dictionary.proofs.MovingLaws.{up_start, up_step, up-end}
+use Rattle.checker_dictionary.proofs.MovingLaws.{up_start, up_step, up_end}
 use Rattle.checker_dictionary.proofs.moving.shift_up.Statement.{statement}
 use Rattle.checker_dictionary.proofs.moving.shift_up.Tie as tie
 use Rattle.checker_dictionary.proofs.moving.shift_up.Reads as reads
@@ -60,7 +60,7 @@ same_length c = c.before.loop.invariant.1
 
 -- src/moving.rt:10:1
 returns : tie.Need-returns invariant-loop decreases-loop
-returns c = c.before.loop.invariant.2 ∙ up-end _ _ _ _ c.loop-test.false
+returns c = c.before.loop.invariant.2 ∙ up_end _ _ _ _ c.loop-test.false
 
 pub shift-up-spec : {M : Type 1} → statement M
 shift-up-spec =

@@ -1,6 +1,6 @@
 use Rattle.std.proofs.Common.{◌≡◌, sym, ap, ◌∙◌, subst, rules}
 use Rattle.checker_dictionary.specs.Spaced.{PlaceAsk, Respaced}
-use Rattle.checker_dictionary.proofs.PlacingLaws.{close-ask, closed}
+use Rattle.checker_dictionary.proofs.PlacingLaws.{close_ask, closed}
 use Rattle.checker_dictionary.proofs.placing.close.Statement.{statement}
 use Rattle.checker_dictionary.proofs.placing.close.Tie as tie
 use Rattle.checker_dictionary.proofs.placing.close.Reads as reads
@@ -24,7 +24,7 @@ add-place c = search rules
 place-requires : tie.Need-place-requires
 place-requires c κs =
     let s = c.before.before.before.before in
-    rw c.before.word.ensures.0 (close-ask _ s.requires.0 s.requires.1)
+    rw c.before.word.ensures.0 (close_ask _ s.requires.0 s.requires.1)
 
 -- src/placing.rt:66:1
 same_length : tie.Need-same-length

@@ -1,5 +1,5 @@
 use Rattle.std.proofs.Common.{sym, ◌∙◌, arith, rules}
-use Rattle.checker_dictionary.proofs.SpacedLaws.{first-none, first_some}
+use Rattle.checker_dictionary.proofs.SpacedLaws.{first_none, first_some}
 use Rattle.checker_dictionary.proofs.placing.first.Statement.{statement}
 use Rattle.checker_dictionary.proofs.placing.first.Tie as tie
 use Rattle.checker_dictionary.proofs.placing.first.Reads as reads
@@ -12,7 +12,7 @@ word-requires c κs = search rules
 
 -- src/placing.rt:23:9
 returns : tie.Need-returns
-returns c = (sym (first-none _ (sym c.before.word.ensures.0 ∙ c.if1.true)), omega arith)
+returns c = (sym (first_none _ (sym c.before.word.ensures.0 ∙ c.if1.true)), omega arith)
 
 -- src/placing.rt:25:5
 word-requires-2 : tie.Need-word-requires-2

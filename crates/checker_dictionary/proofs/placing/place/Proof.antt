@@ -1,7 +1,7 @@
 use Rattle.std.proofs.Common.{◌≡◌, ℕ, List, sym, ◌∙◌, subst, arith, rules}
 use Rattle.checker_rules.specs.Dictionary.{entries}
 use Rattle.checker_dictionary.specs.Spaced.{Respaced}
-use Rattle.checker_dictionary.proofs.PlacingLaws.{place-order, place_inside, placed-entries}
+use Rattle.checker_dictionary.proofs.PlacingLaws.{place_order, place_inside, placed_entries}
 use Rattle.checker_dictionary.proofs.placing.place.Statement.{statement}
 use Rattle.checker_dictionary.proofs.placing.place.Tie as tie
 use Rattle.checker_dictionary.proofs.placing.place.Reads as reads
@@ -29,7 +29,7 @@ size-requires c κs = search rules
 sub-m : tie.Need-overflow-sub-m
 sub-m c =
     let p = c.before.before.before.before.before.before.before.requires in
-    let o = place-order _ _ p in
+    let o = place_order _ _ p in
     let f = c.before.before.first.ensures.0 in
     let z = c.size.ensures.0 in
     omega arith
@@ -38,7 +38,7 @@ sub-m c =
 shift-requires : tie.Need-shift-requires
 shift-requires c κs =
     let p = c.before.before.before.before.before.before.before.before.requires in
-    let o = place-order _ _ p in
+    let o = place_order _ _ p in
     let i = place_inside _ _ p in
     let f = c.before.before.before.first.ensures.0 in
     let z = c.before.size.ensures.0 in
@@ -80,7 +80,7 @@ returns c = λ D S.
     let moved = c.before.before.before.before.before.before.before.before.before.before.shift.ensures in
     let zeros = c.before.before.before.before.before.before.erase.ensures in
     let pairs = c.before.before.place-pairs.ensures in
-    subst (λ (l : List ℕ). Respaced (entries D) l a.to) (sym (pairs ∙ rw (zeros, moved, n, z, f))) (placed-entries a.d.now a.to s.requires D S)
+    subst (λ (l : List ℕ). Respaced (entries D) l a.to) (sym (pairs ∙ rw (zeros, moved, n, z, f))) (placed_entries a.d.now a.to s.requires D S)
 
 pub place-spec : {M : Type 1} → statement M
 place-spec =

@@ -1,6 +1,6 @@
 use Rattle.std.proofs.Common.{◌≡◌, ◌+◌, ◌-◌, ◌≤◌, length, sym, refl, ◌∙◌, add-sub_cancel, arith, rules}
 use Rattle.checker_dictionary.specs.Spaced.{placed}
-use Rattle.checker_dictionary.proofs.PlacingLaws.{placed-go, placed_end}
+use Rattle.checker_dictionary.proofs.PlacingLaws.{placed_go, placed_end}
 use Rattle.checker_dictionary.proofs.placing.place_pairs.Statement.{statement}
 use Rattle.checker_dictionary.proofs.placing.place_pairs.Tie as tie
 use Rattle.checker_dictionary.proofs.placing.place_pairs.Reads as reads
@@ -65,7 +65,7 @@ loop-again c =
     let l = c.before.before.before.before.before.before.before.before.loop in
     let s = c.before.before.before.store in
     let w = c.before.before.before.before.before.word.ensures.0 in
-    (omega arith, omega arith, s.auto.0 ∙ l.invariant.2, l.invariant.3 ∙ placed-go _ _ _ _ c.before.before.before.before.before.before.before.loop-test.true ∙ rw (← s.ensures, ← w, ← c.wrapping-add-u32.ensures))
+    (omega arith, omega arith, s.auto.0 ∙ l.invariant.2, l.invariant.3 ∙ placed_go _ _ _ _ c.before.before.before.before.before.before.before.loop-test.true ∙ rw (← s.ensures, ← w, ← c.wrapping-add-u32.ensures))
 
 -- src/placing.rt:38:1
 same_length : tie.Need-same-length invariant-loop decreases-loop

@@ -1,5 +1,5 @@
 use Rattle.std.proofs.Common.{◌≡◌, ℕ, ◌<◌, sym, refl, ap, ◌∙◌, subst, arith, rules}
-use Rattle.checker_dictionary.proofs.WaitingLaws.{wait-none, wait-full, wait-next, wait-ready, wait-bound}
+use Rattle.checker_dictionary.proofs.WaitingLaws.{wait_none, wait_full, wait_next, wait_ready, wait_bound}
 use borrow.Fn.Kinds.{In}
 use borrow.Fn.PlainCycle.{Measures, is, falls, and}
 use Rattle.checker_dictionary.proofs.waiting.append_all.Reads as append-all
@@ -33,7 +33,7 @@ append-all-returns : (t : ℕ) → append-all-lts.Need-returns (
   append-all-below t,
   append-all.Post,
 ) (append-all-at t) append-all.Post
-append-all-returns t c D es l H W = wait-none _ c.if1.true _ D es l H
+append-all-returns t c D es l H W = wait_none _ c.if1.true _ D es l H
 
 -- src/waiting.rt:21:9
 append-all-word-requires : (t : ℕ) → append-all-lts.Need-word-requires (
@@ -59,7 +59,7 @@ append-all-add-span : (t : ℕ) → append-all-lts.Need-overflow-add-span (
   append-all-below t,
   append-all.Post,
 ) (append-all-at t) append-all.Post
-append-all-add-span t c = let z = wait-bound _ _ _ c.before.before.if1.false c.before.before.before.before.before.requires.1.1 in let y = c.before.before.before.shared-slice-known.given in omega arith
+append-all-add-span t c = let z = wait_bound _ _ _ c.before.before.if1.false c.before.before.before.before.before.requires.1.1 in let y = c.before.before.before.shared-slice-known.given in omega arith
 
 -- src/waiting.rt:22:18
 append-all-span-requires : (t : ℕ) → append-all-lts.Need-span-requires (
@@ -98,7 +98,7 @@ append-all-add-append-all : (t : ℕ) → append-all-lts.Need-overflow-add-appen
   append-all-below t,
   append-all.Post,
 ) (append-all-at t) append-all.Post
-append-all-add-append-all t c = let z = wait-bound _ _ _ c.before.before.before.before.before.before.before.before.if1.false c.before.before.before.before.before.before.before.before.before.before.before.requires.1.1 in let y = c.before.before.before.before.before.before.before.before.before.shared-slice-known.given in omega arith
+append-all-add-append-all t c = let z = wait_bound _ _ _ c.before.before.before.before.before.before.before.before.if1.false c.before.before.before.before.before.before.before.before.before.before.before.requires.1.1 in let y = c.before.before.before.before.before.before.before.before.before.shared-slice-known.given in omega arith
 
 -- src/waiting.rt:23:36
 append-all-add-append-all-2 : (t : ℕ) → append-all-lts.Need-overflow-add-append-all-2 (
@@ -111,7 +111,7 @@ append-all-add-append-all-2 : (t : ℕ) → append-all-lts.Need-overflow-add-app
   append-all-below t,
   append-all.Post,
 ) (append-all-at t) append-all.Post
-append-all-add-append-all-2 t c = let z = wait-bound _ _ _ c.before.before.before.before.before.before.before.before.if1.false c.before.before.before.before.before.before.before.before.before.before.before.requires.1.1 in let q = c.before.before.before.before.before.before.before.word.ensures.0 in let y = c.before.before.before.before.before.before.before.before.before.shared-slice-known.given in omega arith
+append-all-add-append-all-2 t c = let z = wait_bound _ _ _ c.before.before.before.before.before.before.before.before.if1.false c.before.before.before.before.before.before.before.before.before.before.before.requires.1.1 in let q = c.before.before.before.before.before.before.before.word.ensures.0 in let y = c.before.before.before.before.before.before.before.before.before.shared-slice-known.given in omega arith
 
 -- src/waiting.rt:23:50
 append-all-sub-append-all : (t : ℕ) → append-all-lts.Need-overflow-sub-append-all (
@@ -137,7 +137,7 @@ append-all-append-all-requires : (t : ℕ) → append-all-lts.Need-append-all-re
   append-all-below t,
   append-all.Post,
 ) (append-all-at t) append-all.Post
-append-all-append-all-requires t c κs = (omega (arith, c.before.before.before.before.before.before.before.before.before.before.before.requires.0, c.before.before.before.before.before.before.before.before.if1.false), (omega (arith, c.before.before.before.before.append.auto.0, c.before.before.before.before.before.before.before.before.before.before.before.requires.1.0), wait-ready _ _ _ c.before.before.before.before.before.before.before.before.if1.false _ _ _ c.before.before.before.before.before.before.before.word.ensures.0 _ c.before.before.before.before.before.span.ensures _ c.before.before.before.before.append.ensures c.before.before.before.before.before.before.before.before.before.before.before.requires.1.1))
+append-all-append-all-requires t c κs = (omega (arith, c.before.before.before.before.before.before.before.before.before.before.before.requires.0, c.before.before.before.before.before.before.before.before.if1.false), (omega (arith, c.before.before.before.before.append.auto.0, c.before.before.before.before.before.before.before.before.before.before.before.requires.1.0), wait_ready _ _ _ c.before.before.before.before.before.before.before.before.if1.false _ _ _ c.before.before.before.before.before.before.before.word.ensures.0 _ c.before.before.before.before.before.span.ensures _ c.before.before.before.before.append.ensures c.before.before.before.before.before.before.before.before.before.before.before.requires.1.1))
 
 -- src/waiting.rt:23:9
 append-all-same-length : (t : ℕ) → append-all-lts.Need-same-length (
@@ -163,7 +163,7 @@ append-all-returns-2 : (t : ℕ) → append-all-lts.Need-returns-2 (
   append-all-below t,
   append-all.Post,
 ) (append-all-at t) append-all.Post
-append-all-returns-2 t c = wait-next _ _ _ c.before.before.before.before.before.before.before.before.before.before.before.if1.false _ _ _ c.before.before.before.before.before.before.before.before.before.before.word.ensures.0 _ c.before.before.before.before.before.before.before.before.span.ensures _ c.before.before.before.before.before.before.before.append.ensures c.before.before.before.before.if2.true c.before.before.before.before.before.before.before.append.auto.0 _ _ c.before.before.append-all.ensures
+append-all-returns-2 t c = wait_next _ _ _ c.before.before.before.before.before.before.before.before.before.before.before.if1.false _ _ _ c.before.before.before.before.before.before.before.before.before.before.word.ensures.0 _ c.before.before.before.before.before.before.before.before.span.ensures _ c.before.before.before.before.before.before.before.append.ensures c.before.before.before.before.if2.true c.before.before.before.before.before.before.before.append.auto.0 _ _ c.before.before.append-all.ensures
 
 -- src/waiting.rt:14:1
 append-all-same-length-2 : (t : ℕ) → append-all-lts.Need-same-length-2 (
@@ -189,7 +189,7 @@ append-all-returns-3 : (t : ℕ) → append-all-lts.Need-returns-3 (
   append-all-below t,
   append-all.Post,
 ) (append-all-at t) append-all.Post
-append-all-returns-3 t c = wait-full _ _ _ c.before.before.before.before.before.before.before.if1.false _ _ _ c.before.before.before.before.before.before.word.ensures.0 _ c.before.before.before.before.span.ensures _ c.before.before.before.append.ensures c.if2.false
+append-all-returns-3 t c = wait_full _ _ _ c.before.before.before.before.before.before.before.if1.false _ _ _ c.before.before.before.before.before.before.word.ensures.0 _ c.before.before.before.before.span.ensures _ c.before.before.before.append.ensures c.if2.false
 
 pub +append-all-spec : {M : Type 1} → statement M
 +append-all-spec = close μ-append-all λ t. append-all-lts.spec (

@@ -1,6 +1,6 @@
 use native.Mathlib.Omega.{arith}
 use mathlib.Core.Path.{refl}
-use Rattle.checker_entries.proofs.ParameterLaws.{parameters-done, parameters-asked, parameters-next}
+use Rattle.checker_entries.proofs.ParameterLaws.{parameters_done, parameters_asked, parameters_next}
 use borrow.Author.Rules.{rules}
 use Prim.Native.Nat.{ℕ, ◌<◌, ◌-◌}
 use borrow.Fn.Kinds.{In}
@@ -70,7 +70,7 @@ push-parameters-returns : (t : ℕ) → push-parameters-lts.Need-returns (
   push-parameters-below t,
   push-parameters.Post,
 ) (push-parameters-at t) push-parameters.Post
-push-parameters-returns t c = parameters-done _ _ _ _ _ _ c.before.before.before.before.requires.1 c.if1.true refl
+push-parameters-returns t c = parameters_done _ _ _ _ _ _ c.before.before.before.before.requires.1 c.if1.true refl
 
 -- src/parameters.rt:29:5
 push-parameters-store-requires : (t : ℕ) → push-parameters-lts.Need-store-requires (
@@ -216,7 +216,7 @@ push-parameters-add-push-parameters : (t : ℕ) → push-parameters-lts.Need-ove
 push-parameters-add-push-parameters t c = search rules
 
 -- src/parameters.rt:33:5
-push-parameters-push-parameters-requires :
+push_parameters_push_parameters_requires :
     (t : ℕ) → push-parameters-lts.Need-push-parameters-requires (
       store-reads.Asked,
       store-reads.Learnt,
@@ -227,7 +227,7 @@ push-parameters-push-parameters-requires :
       push-parameters-below t,
       push-parameters.Post,
     ) (push-parameters-at t) push-parameters.Post
-push-parameters-push-parameters-requires t c κs = (omega (arith, c.before.before.before.before.before.before.before.before.before.before.before.before.before.before.before.before.before.before.before.before.before.before.before.requires.0, c.before.before.before.before.before.before.before.before.before.before.before.before.before.before.before.before.before.before.before.if1.false), parameters-asked _ _ _ _ _ _ _ _ _ _ _ _ c.before.before.before.before.before.before.before.before.before.before.before.before.before.before.before.before.before.before.before.before.before.before.before.requires.1 c.before.before.before.before.before.before.before.before.before.before.before.before.before.before.before.before.before.before.before.if1.false refl c.before.before.before.before.before.before.before.before.before.before.before.before.before.before.before.before.before.store.ensures c.before.before.before.before.before.before.before.before.before.before.before.before.before.store2.ensures c.before.before.before.before.before.before.before.before.before.store3.ensures c.before.before.before.before.before.word.ensures.0 c.before.before.before.before.push_row.ensures)
+push_parameters_push_parameters_requires t c κs = (omega (arith, c.before.before.before.before.before.before.before.before.before.before.before.before.before.before.before.before.before.before.before.before.before.before.before.requires.0, c.before.before.before.before.before.before.before.before.before.before.before.before.before.before.before.before.before.before.before.if1.false), parameters_asked _ _ _ _ _ _ _ _ _ _ _ _ c.before.before.before.before.before.before.before.before.before.before.before.before.before.before.before.before.before.before.before.before.before.before.before.requires.1 c.before.before.before.before.before.before.before.before.before.before.before.before.before.before.before.before.before.before.before.if1.false refl c.before.before.before.before.before.before.before.before.before.before.before.before.before.before.before.before.before.store.ensures c.before.before.before.before.before.before.before.before.before.before.before.before.before.store2.ensures c.before.before.before.before.before.before.before.before.before.store3.ensures c.before.before.before.before.before.word.ensures.0 c.before.before.before.before.push_row.ensures)
 
 -- src/parameters.rt:21:1
 push-parameters-same-length : (t : ℕ) → push-parameters-lts.Need-same-length (
@@ -266,7 +266,7 @@ push-parameters-returns-2 : (t : ℕ) → push-parameters-lts.Need-returns-2 (
   push-parameters-below t,
   push-parameters.Post,
 ) (push-parameters-at t) push-parameters.Post
-push-parameters-returns-2 t c = parameters-next _ _ _ _ _ _ _ _ _ _ _ _ c.before.before.before.before.before.before.before.before.before.before.before.before.before.before.before.before.before.before.before.before.before.before.before.before.before.before.before.before.requires.1 c.before.before.before.before.before.before.before.before.before.before.before.before.before.before.before.before.before.before.before.before.before.before.before.before.if1.false refl c.before.before.before.before.before.before.before.before.before.before.before.before.before.before.before.before.before.before.before.before.before.before.store.ensures c.before.before.before.before.before.before.before.before.before.before.before.before.before.before.before.before.before.before.store2.ensures c.before.before.before.before.before.before.before.before.before.before.before.before.before.before.store3.ensures c.before.before.before.before.before.before.before.before.before.before.word.ensures.0 c.before.before.before.before.before.before.before.before.before.push_row.ensures _ _ _ c.before.before.before.before.push-parameters.ensures
+push-parameters-returns-2 t c = parameters_next _ _ _ _ _ _ _ _ _ _ _ _ c.before.before.before.before.before.before.before.before.before.before.before.before.before.before.before.before.before.before.before.before.before.before.before.before.before.before.before.before.requires.1 c.before.before.before.before.before.before.before.before.before.before.before.before.before.before.before.before.before.before.before.before.before.before.before.before.if1.false refl c.before.before.before.before.before.before.before.before.before.before.before.before.before.before.before.before.before.before.before.before.before.before.store.ensures c.before.before.before.before.before.before.before.before.before.before.before.before.before.before.before.before.before.before.store2.ensures c.before.before.before.before.before.before.before.before.before.before.before.before.before.before.store3.ensures c.before.before.before.before.before.before.before.before.before.before.word.ensures.0 c.before.before.before.before.before.before.before.before.before.push_row.ensures _ _ _ c.before.before.before.before.push-parameters.ensures
 
 pub +push-parameters-spec : {M : Type 1} → statement M
 +push-parameters-spec = close μ-push-parameters λ t. push-parameters-lts.spec (
@@ -295,7 +295,7 @@ pub +push-parameters-spec : {M : Type 1} → statement M
     (push-parameters-word-requires t)
     (push-parameters-push-row-requires t)
     (push-parameters-add-push-parameters t)
-    (push-parameters-push-parameters-requires t)
+    (push_parameters_push_parameters_requires t)
     (push-parameters-same-length t)
     (push-parameters-same-length-2 t)
     (push-parameters-returns-2 t)

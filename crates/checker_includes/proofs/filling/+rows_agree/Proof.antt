@@ -1,5 +1,5 @@
 use native.Mathlib.Omega.{arith}
-use Rattle.checker_includes.proofs.AgreeLaws.{agree-none, agree-go, agree-stop, one-asked, agree-fewer}
+use Rattle.checker_includes.proofs.AgreeLaws.{agree_none, agree_go, agree_stop, one_asked, agree_fewer}
 use borrow.Author.Rules.{rules}
 use Prim.Native.Nat.{ℕ, ◌<◌}
 use borrow.Fn.Kinds.{In}
@@ -27,7 +27,7 @@ abbrev rows-agree-calls : ℕ → rows-agree-lts.Claims
 rows-agree-calls t = (word-reads.Asked, word-reads.Learnt, agrees-reads.Asked, agrees-reads.Learnt, rows-agree-below t, rows-agree.Post)
 
 rows-agree-returns : (t : ℕ) → rows-agree-lts.Need-returns (rows-agree-calls t) (rows-agree-at t) rows-agree.Post
-rows-agree-returns t c = agree-none _ _ _ _ _ _ _ _ c.if1.true
+rows-agree-returns t c = agree_none _ _ _ _ _ _ _ _ c.if1.true
 
 rows-agree-word-requires : (t : ℕ) → rows-agree-lts.Need-word-requires (rows-agree-calls t) (rows-agree-at t) rows-agree.Post
 rows-agree-word-requires t c κs = search rules
@@ -39,7 +39,7 @@ rows-agree-word-requires-2 : (t : ℕ) → rows-agree-lts.Need-word-requires-2 (
 rows-agree-word-requires-2 t c κs = search rules
 
 rows-agree-agrees-requires : (t : ℕ) → rows-agree-lts.Need-agrees-requires (rows-agree-calls t) (rows-agree-at t) rows-agree.Post
-rows-agree-agrees-requires t c κs = one-asked _ _ _ _ _ _ _ _ c.before.before.if1.false c.before.before.before.before.before.before.before.requires.1 _ c.word2.ensures.0
+rows-agree-agrees-requires t c κs = one_asked _ _ _ _ _ _ _ _ c.before.before.if1.false c.before.before.before.before.before.before.before.requires.1 _ c.word2.ensures.0
 
 rows-agree-add-rows-agree : (t : ℕ) → rows-agree-lts.Need-overflow-add-rows-agree (rows-agree-calls t) (rows-agree-at t) rows-agree.Post
 rows-agree-add-rows-agree t c = search rules
@@ -48,13 +48,13 @@ rows-agree-sub-rows-agree : (t : ℕ) → rows-agree-lts.Need-overflow-sub-rows-
 rows-agree-sub-rows-agree t c = search rules
 
 rows-agree-rows-agree-requires : (t : ℕ) → rows-agree-lts.Need-rows-agree-requires (rows-agree-calls t) (rows-agree-at t) rows-agree.Post
-rows-agree-rows-agree-requires t c κs = (omega (arith, c.before.before.before.before.before.before.before.before.before.requires.0, c.before.before.before.before.if1.false), agree-fewer _ _ _ _ _ _ _ _ c.before.before.before.before.if1.false c.before.before.before.before.before.before.before.before.before.requires.1)
+rows-agree-rows-agree-requires t c κs = (omega (arith, c.before.before.before.before.before.before.before.before.before.requires.0, c.before.before.before.before.if1.false), agree_fewer _ _ _ _ _ _ _ _ c.before.before.before.before.if1.false c.before.before.before.before.before.before.before.before.before.requires.1)
 
 rows-agree-returns-2 : (t : ℕ) → rows-agree-lts.Need-returns-2 (rows-agree-calls t) (rows-agree-at t) rows-agree.Post
-rows-agree-returns-2 t c = agree-go _ _ _ _ _ _ _ _ c.before.before.before.before.before.if1.false _ _ c.before.before.before.before.word.ensures.0 c.before.before.before.word2.ensures.0 _ c.before.before.agrees.ensures c.before.if2.true _ c.rows-agree.ensures
+rows-agree-returns-2 t c = agree_go _ _ _ _ _ _ _ _ c.before.before.before.before.before.if1.false _ _ c.before.before.before.before.word.ensures.0 c.before.before.before.word2.ensures.0 _ c.before.before.agrees.ensures c.before.if2.true _ c.rows-agree.ensures
 
 rows-agree-returns-3 : (t : ℕ) → rows-agree-lts.Need-returns-3 (rows-agree-calls t) (rows-agree-at t) rows-agree.Post
-rows-agree-returns-3 t c = agree-stop _ _ _ _ _ _ _ _ c.before.before.before.before.if1.false _ _ c.before.before.before.word.ensures.0 c.before.before.word2.ensures.0 _ c.before.agrees.ensures c.if2.false
+rows-agree-returns-3 t c = agree_stop _ _ _ _ _ _ _ _ c.before.before.before.before.if1.false _ _ c.before.before.before.word.ensures.0 c.before.before.word2.ensures.0 _ c.before.agrees.ensures c.if2.false
 
 pub +rows-agree-spec : {M : Type 1} → statement M
 +rows-agree-spec = close μ-rows-agree λ t. rows-agree-lts.spec (rows-agree-calls t)

@@ -1,4 +1,4 @@
-use Rattle.checker_includes.proofs.AgreeLaws.{one_found, one-absent, comparing-of}
+use Rattle.checker_includes.proofs.AgreeLaws.{one_found, one_absent, comparing_of}
 use borrow.Author.Rules.{rules}
 use Rattle.checker_includes.proofs.filling.agrees.Statement.{statement}
 use Rattle.checker_includes.proofs.filling.agrees.Tie as tie
@@ -24,13 +24,13 @@ word-requires : tie.Need-word-requires
 word-requires c κs = search rules
 
 same-filled-requires : tie.Need-same-filled-requires
-same-filled-requires c κs = comparing-of _ _ _ _ _ _ _ _ _ c.before.before.before.before.before.before.before.requires c.before.if1.true c.word.ensures.0
+same-filled-requires c κs = comparing_of _ _ _ _ _ _ _ _ _ c.before.before.before.before.before.before.before.requires c.before.if1.true c.word.ensures.0
 
 returns : tie.Need-returns
 returns c = one_found _ _ _ _ _ _ _ _ _ c.before.before.before.find.ensures c.before.before.if1.true _ _ c.before.word.ensures.0 c.same-filled.ensures
 
 returns-2 : tie.Need-returns-2
-returns-2 c = one-absent _ _ _ _ _ _ _ _ _ c.before.find.ensures c.if1.false
+returns-2 c = one_absent _ _ _ _ _ _ _ _ _ c.before.find.ensures c.if1.false
 
 pub agrees-spec : {M : Type 1} → statement M
 agrees-spec =

@@ -5,11 +5,11 @@ use lib.ListN.{get_or}
 use Rattle.types_rules.specs.Types.{tnil}
 use Rattle.types_cells.specs.Calls.{Tells}
 use Rattle.types_cells.specs.Settled.{heap}
-use Rattle.types_cells.proofs.Reading.{place-few}
-use Rattle.types_instances.specs.Fill.{nthType, actualType, fill}
+use Rattle.types_cells.proofs.Reading.{place_few}
+use Rattle.types_instances.specs.Fill.{nth_type, actual_type, fill}
 use Rattle.types_instances.specs.Filled.{place_of}
-use Rattle.types_instances.proofs.Rows.{row-some, actual-none, actual-some, parameter-fill}
-use Rattle.checker_includes.proofs.SameLaws.{parameter-stays}
+use Rattle.types_instances.proofs.Rows.{row_some, actual_none, actual_some, parameter_fill}
+use Rattle.checker_includes.proofs.SameLaws.{parameter_stays}
 use borrow.Author.Rules.{rules}
 use Rattle.checker_includes.proofs.filling.same_actual.Statement.{statement}
 use Rattle.checker_includes.proofs.filling.same_actual.Tie as tie
@@ -20,7 +20,7 @@ use Rattle.types_cells.proofs.type_words.same_type.Reads as same-type-reads
 use Rattle.types_cells.proofs.type_words.type_word.Reads as type-word-reads
 
 add-type-word : tie.Need-overflow-add-type-word
-add-type-word c = let P = c.before.before.before.requires.0 in let f = place-few _ _ _ _ P.actuals.areas P.left.reads in omega arith
+add-type-word c = let P = c.before.before.before.requires.0 in let f = place_few _ _ _ _ P.actuals.areas P.left.reads in omega arith
 
 type-word-requires : tie.Need-type-word-requires
 type-word-requires c κs = search rules
@@ -38,10 +38,10 @@ returns c =
     record {
       tells = λ g k hs R S T.
           let v = get_or H (s.p + 1) 0 in
-          let q = parameter-fill H s.p g hs R c.before.before.before.before.before.before.before.requires.1 in
-          let n = actual-none H s.row.now hs v T (ap (place_of s.row.now) (sym c.before.before.before.type-word.ensures.0) ∙ sym c.before.before.actual.ensures ∙ c.before.if1.true) in
-          let e : g ≡ fill hs g = parameter-stays H s.p g R v q.1 ∙ sym (q.0 ∙ n) in
-          subst (λ z. Tells c.same-type.result (z ≡ k)) e (c.same-type.ensures.tells g k R S);
+          let q = parameter_fill H s.p g hs R c.before.before.before.before.before.before.before.requires.1 in
+          let n = actual_none H s.row.now hs v T (ap (place_of s.row.now) (sym c.before.before.before.type-word.ensures.0) ∙ sym c.before.before.actual.ensures ∙ c.before.if1.true) in
+          let e : g ≡ fill hs g = parameter_stays H s.p g R v q.1 ∙ sym (q.0 ∙ n) in
+          subst (λ z. Tells c.same_type_lem.result (z ≡ k)) e (c.same_type_lem.ensures.tells g k R S);
     }
 
 sub-same-type : tie.Need-overflow-sub-same-type
@@ -54,7 +54,7 @@ same-type-requires-2 c κs =
     let A = P.actuals in
     let q = c.before.actual.result in
     let ne = c.if1.false in
-    let G = row-some (heap s.a.now s.d.now) s.row.now A.types c.before.before.type-word.result (q - 1) A.stand (sym c.before.actual.ensures ∙ (let z : q ≡ suc (q - 1) = omega arith in z)) in
+    let G = row_some (heap s.a.now s.d.now) s.row.now A.types c.before.before.type-word.result (q - 1) A.stand (sym c.before.actual.ensures ∙ (let z : q ≡ suc (q - 1) = omega arith in z)) in
     record { areas = A.areas; left = record { type = G.type; reads = G.reads }; right = P.right }
 
 returns-2 : tie.Need-returns-2
@@ -66,9 +66,9 @@ returns-2 c =
     let ne = c.before.if1.false in
     record {
       tells = λ g k hs R S T.
-          let G = row-some H s.row.now hs v (q - 1) T (sym c.before.before.actual.ensures ∙ (let z : q ≡ suc (q - 1) = omega arith in z)) in
-          let f = parameter-fill H s.p g hs R c.before.before.before.before.before.before.before.requires.1 in
-          let e : G.type ≡ fill hs g = sym (f.0 ∙ ap (λ z. actualType (nthType hs z) z tnil) (sym c.before.before.before.type-word.ensures.0) ∙ actual-some H hs v (q - 1) G) in
+          let G = row_some H s.row.now hs v (q - 1) T (sym c.before.before.actual.ensures ∙ (let z : q ≡ suc (q - 1) = omega arith in z)) in
+          let f = parameter_fill H s.p g hs R c.before.before.before.before.before.before.before.requires.1 in
+          let e : G.type ≡ fill hs g = sym (f.0 ∙ ap (λ z. actual_type (nth_type hs z) z tnil) (sym c.before.before.before.type-word.ensures.0) ∙ actual_some H hs v (q - 1) G) in
           subst (λ z. Tells c.same-type2.result (z ≡ k)) e (c.same-type2.ensures.tells G.type k G.reads S);
     }
 

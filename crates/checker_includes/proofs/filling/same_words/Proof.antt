@@ -3,7 +3,7 @@ use mathlib.Core.Bool.{true, false}
 use native.Mathlib.Omega.{arith}
 use Prim.Native.Nat.{◌+◌, ◌-◌, ◌≤◌}
 use lib.ListN.{get_or}
-use Rattle.types_rules.proofs.Terms.{bool-no}
+use Rattle.types_rules.proofs.Terms.{bool_no}
 use Rattle.types_cells.specs.Settled.{heap}
 use Rattle.types_cells.proofs.Reading.{below_next}
 use Rattle.checker_includes.proofs.SameLaws.{SameWords}
@@ -39,7 +39,7 @@ returns : tie.Need-returns invariant-loop decreases-loop
 returns c =
     let x = c.before.before.type-word.ensures.0 in
     let y = c.before.type-word2.ensures.0 in
-    record { holds = λ z. absurd (bool-no false z refl); fails = λ z h. c.if1.true (x ∙ h c.before.before.before.before.loop.j c.before.before.before.loop-test.true ∙ sym y) }
+    record { holds = λ z. absurd (bool_no false z refl); fails = λ z h. c.if1.true (x ∙ h c.before.before.before.before.loop.j c.before.before.before.loop-test.true ∙ sym y) }
 
 add-j : tie.Need-overflow-add-j invariant-loop decreases-loop
 add-j c = search rules
@@ -59,7 +59,7 @@ loop-again c =
 returns-2 : tie.Need-returns-2 invariant-loop decreases-loop
 returns-2 c =
     let l = c.loop-test.false in
-    record { holds = λ z i m. c.before.loop.invariant.1 i (omega arith); fails = λ z. absurd (bool-no true refl z) }
+    record { holds = λ z i m. c.before.loop.invariant.1 i (omega arith); fails = λ z. absurd (bool_no true refl z) }
 
 pub same-words-spec : {M : Type 1} → statement M
 same-words-spec =

@@ -1,7 +1,7 @@
 use native.Mathlib.Omega.{arith}
 use lib.ListN.{length}
-use Rattle.words.proofs.Lists.{drop-done}
-use Rattle.checker_includes.proofs.OverlapLaws.{overlap-end, overlap-stop, overlap-go}
+use Rattle.words.proofs.Lists.{drop_done}
+use Rattle.checker_includes.proofs.OverlapLaws.{overlap_end, overlap_stop, overlap_go}
 use borrow.Author.Rules.{rules}
 use Prim.Native.Nat.{ℕ, ◌<◌, ◌-◌}
 use borrow.Fn.Kinds.{In}
@@ -37,7 +37,7 @@ none-declared-returns : (t : ℕ) → none-declared-lts.Need-returns (
   none-declared-below t,
   none-declared.Post,
 ) (none-declared-at t) none-declared.Post
-none-declared-returns t c = overlap-end _ _ _ c.before.before.before.args.part.now c.before.before.before.args.j (drop-done _ _ c.if1.true)
+none-declared-returns t c = overlap_end _ _ _ c.before.before.before.args.part.now c.before.before.before.args.j (drop_done _ _ c.if1.true)
 
 none-declared-word-requires : (t : ℕ) → none-declared-lts.Need-word-requires (
   word-reads.Asked,
@@ -67,7 +67,7 @@ none-declared-returns-2 : (t : ℕ) → none-declared-lts.Need-returns-2 (
   none-declared-below t,
   none-declared.Post,
 ) (none-declared-at t) none-declared.Post
-none-declared-returns-2 t c = overlap-stop _ _ _ _ _ _ c.before.before.before.if1.false c.before.before.word.ensures.0 _ c.before.find.ensures c.if2.true
+none-declared-returns-2 t c = overlap_stop _ _ _ _ _ _ c.before.before.before.if1.false c.before.before.word.ensures.0 _ c.before.find.ensures c.if2.true
 
 none-declared-add-none-declared : (t : ℕ) → none-declared-lts.Need-overflow-add-none-declared (
   word-reads.Asked,
@@ -97,7 +97,7 @@ none-declared-returns-3 : (t : ℕ) → none-declared-lts.Need-returns-3 (
   none-declared-below t,
   none-declared.Post,
 ) (none-declared-at t) none-declared.Post
-none-declared-returns-3 t c = overlap-go _ _ _ _ _ _ c.before.before.before.before.if1.false c.before.before.before.word.ensures.0 _ c.before.before.find.ensures c.before.if2.false _ c.none-declared.ensures
+none-declared-returns-3 t c = overlap_go _ _ _ _ _ _ c.before.before.before.before.if1.false c.before.before.before.word.ensures.0 _ c.before.before.find.ensures c.before.if2.false _ c.none-declared.ensures
 
 pub +none-declared-spec : {M : Type 1} → statement M
 +none-declared-spec = close μ-none-declared λ t. none-declared-lts.spec (

@@ -1,7 +1,7 @@
 use native.Mathlib.Omega.{arith}
 use Prim.Native.Nat.{◌-◌, ◌≤◌}
 use Rattle.checker_includes.specs.Keeping.{AllKept}
-use Rattle.checker_includes.proofs.KeepAll.{all_start, all_short, step-asked, all-step, all_end}
+use Rattle.checker_includes.proofs.KeepAll.{all_start, all_short, step_asked, all_step, all_end}
 use borrow.Author.Rules.{rules}
 use Rattle.checker_includes.proofs.storing.keep_all.Statement.{statement}
 use Rattle.checker_includes.proofs.storing.keep_all.Tie as tie
@@ -31,7 +31,7 @@ add-keep-row-2 : tie.Need-overflow-add-keep-row-2 invariant-loop decreases-loop
 add-keep-row-2 c = let P = c.before.before.before.before.before.before.before.requires in let I = c.before.before.loop.invariant in let r = P.beside.1 in let q = P.near in let x = P.room in let y = I.1.more in let z = all_short _ _ _ _ _ _ _ _ _ _ P _ _ _ I.1 in let u = P.many in let t = c.before.loop-test.true in omega arith
 
 keep-row-requires : tie.Need-keep-row-requires invariant-loop decreases-loop
-keep-row-requires c κs = step-asked _ _ _ _ _ _ _ _ _ _ c.before.before.before.before.before.before.before.requires _ _ _ c.before.loop-test.true c.before.before.loop.invariant.1
+keep-row-requires c κs = step_asked _ _ _ _ _ _ _ _ _ _ c.before.before.before.before.before.before.before.requires _ _ _ c.before.loop-test.true c.before.before.loop.invariant.1
 
 add-j : tie.Need-overflow-add-j invariant-loop decreases-loop
 add-j c = search rules
@@ -42,7 +42,7 @@ loop-less c = let l = c.before.before.before.before.loop-test.true in omega arit
 loop-again : tie.Need-loop-preserved invariant-loop decreases-loop
 loop-again c =
     let l = c.before.before.before.before.loop-test.true in
-    (omega arith, all-step _ _ _ _ _ _ _ _ _ _ c.before.before.before.before.before.before.before.before.before.before.requires _ _ _ l c.before.before.before.before.before.loop.invariant.1 _ _ c.before.before.keep_row.ensures)
+    (omega arith, all_step _ _ _ _ _ _ _ _ _ _ c.before.before.before.before.before.before.before.before.before.before.requires _ _ _ l c.before.before.before.before.before.loop.invariant.1 _ _ c.before.before.keep_row.ensures)
 
 same_length : tie.Need-same-length invariant-loop decreases-loop
 same_length c = c.before.loop.invariant.1.size

@@ -1,4 +1,4 @@
-use Rattle.checker_includes.proofs.KeepRow.{row-found, row-asked, row_fresh}
+use Rattle.checker_includes.proofs.KeepRow.{row_found, row_asked, row_fresh}
 use borrow.Author.Rules.{rules}
 use Rattle.checker_includes.proofs.storing.keep_row.Statement.{statement}
 use Rattle.checker_includes.proofs.storing.keep_row.Tie as tie
@@ -41,7 +41,7 @@ same_length c = search rules
 
 returns : tie.Need-returns
 returns c =
-    row-found _ _ _ _ _ _ _ _ _ c.before.before.before.before.before.before.before.before.before.before.before.before.before.before.requires _ _ c.before.before.before.before.before.before.before.before.word.ensures.0 c.before.before.before.before.before.before.before.find.ensures c.before.before.before.before.before.before.if1.true _ c.before.before.before.before.word2.ensures.0 _ c.before.before.store.ensures
+    row_found _ _ _ _ _ _ _ _ _ c.before.before.before.before.before.before.before.before.before.before.before.before.before.before.requires _ _ c.before.before.before.before.before.before.before.before.word.ensures.0 c.before.before.before.before.before.before.before.find.ensures c.before.before.before.before.before.before.if1.true _ c.before.before.before.before.word2.ensures.0 _ c.before.before.store.ensures
 
 add-word-3 : tie.Need-overflow-add-word-3
 add-word-3 c = search rules
@@ -50,7 +50,7 @@ word-requires-3 : tie.Need-word-requires-3
 word-requires-3 c κs = search rules
 
 write-instance-requires : tie.Need-write-instance-requires
-write-instance-requires c κs = row-asked _ _ _ _ _ _ _ _ _ c.before.before.before.before.before.before.before.before.before.before.before.requires _ c.before.word3.ensures.0
+write-instance-requires c κs = row_asked _ _ _ _ _ _ _ _ _ c.before.before.before.before.before.before.before.before.before.before.before.requires _ c.before.word3.ensures.0
 
 add-store-2 : tie.Need-overflow-add-store-2
 add-store-2 c = search rules

@@ -1,4 +1,4 @@
-use Rattle.checker_includes.proofs.KeptLaws.{all_asked, move-asked, rows-kept}
+use Rattle.checker_includes.proofs.KeptLaws.{all_asked, move_asked, rows_kept}
 use borrow.Author.Rules.{rules}
 use Rattle.checker_includes.proofs.storing.keep_rows.Statement.{statement}
 use Rattle.checker_includes.proofs.storing.keep_rows.Tie as tie
@@ -14,7 +14,7 @@ sub-move-words : tie.Need-overflow-sub-move-words
 sub-move-words c = search rules
 
 move-words-requires : tie.Need-move-words-requires
-move-words-requires c κs = move-asked _ _ _ _ _ _ _ _ _ _ _ c.before.before.before.before.before.before.before.before.before.before.before.requires _ _ c.before.before.before.before.keep_all.ensures
+move-words-requires c κs = move_asked _ _ _ _ _ _ _ _ _ _ _ c.before.before.before.before.before.before.before.before.before.before.before.requires _ _ c.before.before.before.before.keep_all.ensures
 
 same_length : tie.Need-same-length
 same_length c = search rules
@@ -23,7 +23,7 @@ same-length-2 : tie.Need-same-length-2
 same-length-2 c = search rules
 
 returns : tie.Need-returns
-returns c = rows-kept _ _ _ _ _ _ _ _ _ _ _ c.before.before.before.before.before.before.before.before.before.before.before.before.before.before.requires _ _ c.before.before.before.before.before.before.before.keep_all.ensures _ _ c.before.before.move-words.ensures
+returns c = rows_kept _ _ _ _ _ _ _ _ _ _ _ c.before.before.before.before.before.before.before.before.before.before.before.before.before.before.requires _ _ c.before.before.before.before.before.before.before.keep_all.ensures _ _ c.before.before.move-words.ensures
 
 pub keep-rows-spec : {M : Type 1} → statement M
 keep-rows-spec =

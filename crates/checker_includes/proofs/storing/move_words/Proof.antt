@@ -1,4 +1,4 @@
-use Rattle.checker_includes.proofs.MoveLaws.{moved-some, moved_none}
+use Rattle.checker_includes.proofs.MoveLaws.{moved_some, moved_none}
 use borrow.Author.Rules.{rules}
 use Rattle.checker_includes.proofs.storing.move_words.Statement.{statement}
 use Rattle.checker_includes.proofs.storing.move_words.Tie as tie
@@ -29,7 +29,7 @@ same-length-2 : tie.Need-same-length-2
 same-length-2 c = search rules
 
 returns-2 : tie.Need-returns-2
-returns-2 c = moved-some _ _ _ _ _ _ c.before.before.before.before.before.before.before.before.before.before.before.requires _ c.before.before.before.before.before.before.before.copy-words.ensures _ c.before.before.before.wipe.ensures c.if1.false
+returns-2 c = moved_some _ _ _ _ _ _ c.before.before.before.before.before.before.before.before.before.before.before.requires _ c.before.before.before.before.before.before.before.copy-words.ensures _ c.before.before.before.wipe.ensures c.if1.false
 
 pub move-words-spec : {M : Type 1} → statement M
 move-words-spec =

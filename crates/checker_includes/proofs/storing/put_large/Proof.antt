@@ -2,7 +2,7 @@ use mathlib.Core.Path.{◌≡◌, refl, sym, ap, subst, ◌∙◌}
 use native.Mathlib.Omega.{arith}
 use Prim.Native.Nat.{◌+◌, ◌-◌, ◌≤◌}
 use lib.ListN.{length, length-set}
-use Rattle.checker_includes.proofs.LargeLaws.{Put, put-start, put_step, put-end}
+use Rattle.checker_includes.proofs.LargeLaws.{Put, put_start, put_step, put_end}
 use borrow.Author.Rules.{rules}
 use Rattle.checker_includes.proofs.storing.put_large.Statement.{statement}
 use Rattle.checker_includes.proofs.storing.put_large.Tie as tie
@@ -17,7 +17,7 @@ abbrev decreases-loop : tie.decreases-loop
 decreases-loop a₀ at j₀ a j = 32 - j
 
 loop-holds : tie.Need-loop-init invariant-loop decreases-loop
-loop-holds c = let s = c.before.args in (omega arith, refl, put-start s.a.now s.at)
+loop-holds c = let s = c.before.args in (omega arith, refl, put_start s.a.now s.at)
 
 add-store : tie.Need-overflow-add-store invariant-loop decreases-loop
 add-store c = search rules
@@ -58,7 +58,7 @@ returns : tie.Need-returns invariant-loop decreases-loop
 returns c =
     let s = c.before.before.before.before.before.before.before.args in
     let L = c.before.before.before.before.before.loop in
-    c.before.before.store2.ensures ∙ put-end s.a.now L.a s.at L.j c.before.before.before.before.loop-test.false L.invariant.0 L.invariant.2
+    c.before.before.store2.ensures ∙ put_end s.a.now L.a s.at L.j c.before.before.before.before.loop-test.false L.invariant.0 L.invariant.2
 
 pub put-large-spec : {M : Type 1} → statement M
 put-large-spec =

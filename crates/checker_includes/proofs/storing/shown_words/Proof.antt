@@ -1,4 +1,4 @@
-use Rattle.checker_includes.proofs.StoreLaws.{shown-large, wording-asked, shown-small}
+use Rattle.checker_includes.proofs.StoreLaws.{shown_large, wording_asked, shown_small}
 use borrow.Author.Rules.{rules}
 use Rattle.checker_includes.proofs.storing.shown_words.Statement.{statement}
 use Rattle.checker_includes.proofs.storing.shown_words.Tie as tie
@@ -21,16 +21,16 @@ same_length : tie.Need-same-length
 same_length c = search rules
 
 returns : tie.Need-returns
-returns c = shown-large _ _ _ _ _ _ c.before.before.before.before.before.before.before.before.before.requires _ c.before.before.before.before.before.settled-size.ensures c.before.before.before.before.if1.true _ c.before.before.put-large.ensures
+returns c = shown_large _ _ _ _ _ _ c.before.before.before.before.before.before.before.before.before.requires _ c.before.before.before.before.before.settled-size.ensures c.before.before.before.before.if1.true _ c.before.before.put-large.ensures
 
 settled-words-requires : tie.Need-settled-words-requires
-settled-words-requires c κs = wording-asked _ _ _ _ _ _ c.before.before.before.before.before.before.requires _ c.before.before.settled-size.ensures c.before.if1.false
+settled-words-requires c κs = wording_asked _ _ _ _ _ _ c.before.before.before.before.before.before.requires _ c.before.before.settled-size.ensures c.before.if1.false
 
 same-length-2 : tie.Need-same-length-2
 same-length-2 c = search rules
 
 returns-2 : tie.Need-returns-2
-returns-2 c = shown-small _ _ _ _ _ _ c.before.before.before.before.before.before.before.before.before.requires _ c.before.before.before.before.before.settled-size.ensures c.before.before.before.before.if1.false _ _ c.before.before.settled-words.ensures
+returns-2 c = shown_small _ _ _ _ _ _ c.before.before.before.before.before.before.before.before.before.requires _ c.before.before.before.before.before.settled-size.ensures c.before.before.before.before.if1.false _ _ c.before.before.settled-words.ensures
 
 pub shown-words-spec : {M : Type 1} → statement M
 shown-words-spec =

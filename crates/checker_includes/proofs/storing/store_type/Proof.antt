@@ -1,4 +1,4 @@
-use Rattle.checker_includes.proofs.StoreLaws.{type-stored}
+use Rattle.checker_includes.proofs.StoreLaws.{type_stored}
 use borrow.Author.Rules.{rules}
 use Rattle.checker_includes.proofs.storing.store_type.Statement.{statement}
 use Rattle.checker_includes.proofs.storing.store_type.Tie as tie
@@ -23,7 +23,7 @@ same-length-2 : tie.Need-same-length-2
 same-length-2 c = search rules
 
 returns : tie.Need-returns
-returns c = type-stored _ _ _ _ _ _ _ _ c.before.before.before.before.before.before.before.before.before.before.before.before.before.requires _ _ c.before.before.before.before.before.before.before.shown-words.ensures _ _ c.before.before.move-words.ensures
+returns c = type_stored _ _ _ _ _ _ _ _ c.before.before.before.before.before.before.before.before.before.before.before.before.before.requires _ _ c.before.before.before.before.before.before.before.shown-words.ensures _ _ c.before.before.move-words.ensures
 
 pub store-type-spec : {M : Type 1} → statement M
 store-type-spec =

@@ -3,7 +3,7 @@ use Prim.Native.Nat.{◌+◌, ◌≤◌, ◌-◌}
 use lib.ListN.{length, take}
 use native.Mathlib.Omega.{arith}
 use Rattle.checker_kinds.specs.Formers.{up_from}
-use Rattle.checker_kinds.proofs.ProductRule.{fill-length, fill_step, none_filled}
+use Rattle.checker_kinds.proofs.ProductRule.{fill_length, fill_step, none_filled}
 use borrow.Author.Rules.{rules}
 use Rattle.checker_kinds.proofs.building.count_up.Statement.{statement}
 use Rattle.checker_kinds.proofs.building.count_up.Tie as tie
@@ -38,7 +38,7 @@ loop-less : tie.Need-loop-smaller invariant-loop decreases-loop
 loop-less c = let t = c.loop-test.true in omega arith
 
 loop-again : tie.Need-loop-preserved invariant-loop decreases-loop
-loop-again c = let p = c.before.before.requires.0 in let t = c.loop-test.true in let e = c.before.loop.invariant.1 in (omega arith, fill-length c.before.loop.row c.before.loop.j (c.before.before.args.first + c.before.loop.j) ∙ e, fill_step _ _ c.before.loop.j c.before.loop.invariant.2 (omega arith))
+loop-again c = let p = c.before.before.requires.0 in let t = c.loop-test.true in let e = c.before.loop.invariant.1 in (omega arith, fill_length c.before.loop.row c.before.loop.j (c.before.before.args.first + c.before.loop.j) ∙ e, fill_step _ _ c.before.loop.j c.before.loop.invariant.2 (omega arith))
 
 same_length : tie.Need-same-length invariant-loop decreases-loop
 same_length c = c.before.loop.invariant.1

@@ -1,4 +1,4 @@
-use Rattle.checker_kinds.proofs.SetRule.{set-unknown, set-members, set-power, set-ruled, set-refused}
+use Rattle.checker_kinds.proofs.SetRule.{set_unknown, set_members, set_power, set_ruled, set_refused}
 use borrow.Author.Rules.{rules}
 use Rattle.checker_kinds.proofs.building.set_rule.Statement.{statement}
 use Rattle.checker_kinds.proofs.building.set_rule.Tie as tie
@@ -10,7 +10,7 @@ use Rattle.types_cells.proofs.growth.new_unknown.Reads as new-unknown-reads
 
 -- src/building.rt:98:5
 new-unknown-requires : tie.Need-new-unknown-requires
-new-unknown-requires c κs = set-unknown _ _ _ _ _ _ c.before.before.before.before.requires
+new-unknown-requires c κs = set_unknown _ _ _ _ _ _ c.before.before.before.before.requires
 
 -- src/building.rt:99:50
 add-all-equal : tie.Need-overflow-add-all-equal
@@ -18,15 +18,15 @@ add-all-equal c = search rules
 
 -- src/building.rt:99:9
 all-equal-requires : tie.Need-all-equal-requires
-all-equal-requires c κs = set-members _ _ _ _ _ _ c.before.before.before.before.before.before.before.before.requires _ c.before.before.before.new-unknown.ensures
+all-equal-requires c κs = set_members _ _ _ _ _ _ c.before.before.before.before.before.before.before.before.requires _ c.before.before.before.new-unknown.ensures
 
 -- src/building.rt:101:43
 add-power : tie.Need-overflow-add-power
 add-power c = search rules
 
 -- src/building.rt:101:9
-power-requires : tie.Need-power-requires
-power-requires c κs = set-power _ _ _ _ _ _ c.before.before.before.before.before.before.before.before.before.before.before.before.before.requires _ c.before.before.before.before.before.before.before.before.new-unknown.ensures _ _ c.before.before.before.before.all-equal.ensures c.before.if1.true
+power_requires : tie.Need-power-requires
+power_requires c κs = set_power _ _ _ _ _ _ c.before.before.before.before.before.before.before.before.before.before.before.before.before.requires _ c.before.before.before.before.before.before.before.before.new-unknown.ensures _ _ c.before.before.before.before.all-equal.ensures c.before.if1.true
 
 -- src/building.rt:104:19
 add-t18 : tie.Need-overflow-add-t18
@@ -46,7 +46,7 @@ same_length c = search rules
 
 -- src/building.rt:102:9
 returns : tie.Need-returns
-returns c = set-ruled _ _ _ _ _ _ c.before.before.before.before.before.before.before.before.before.before.before.before.before.before.before.before.requires _ c.before.before.before.before.before.before.before.before.before.before.before.new-unknown.ensures _ _ c.before.before.before.before.before.before.before.all-equal.ensures c.before.before.before.before.if1.true _ c.before.before.power.ensures
+returns c = set_ruled _ _ _ _ _ _ c.before.before.before.before.before.before.before.before.before.before.before.before.before.before.before.before.requires _ c.before.before.before.before.before.before.before.before.before.before.before.new-unknown.ensures _ _ c.before.before.before.before.before.before.before.all-equal.ensures c.before.before.before.before.if1.true _ c.before.before.power.ensures
 
 -- src/building.rt:94:1
 same-length-2 : tie.Need-same-length-2
@@ -54,7 +54,7 @@ same-length-2 c = search rules
 
 -- src/building.rt:94:1
 returns-2 : tie.Need-returns-2
-returns-2 c = set-refused _ _ _ _ _ _ c.before.before.before.before.before.before.before.before.before.before.before.before.requires _ c.before.before.before.before.before.before.before.new-unknown.ensures _ _ c.before.before.before.all-equal.ensures c.if1.false
+returns-2 c = set_refused _ _ _ _ _ _ c.before.before.before.before.before.before.before.before.before.before.before.before.requires _ c.before.before.before.before.before.before.before.new-unknown.ensures _ _ c.before.before.before.all-equal.ensures c.if1.false
 
 pub set-rule-spec : {M : Type 1} → statement M
 set-rule-spec =
@@ -64,7 +64,7 @@ set-rule-spec =
     add-all-equal
     all-equal-requires
     add-power
-    power-requires
+    power_requires
     add-t18
     add-t19
     add-t20

@@ -1,4 +1,4 @@
-use Rattle.checker_kinds.proofs.FormerLaws.{tuple-ruled}
+use Rattle.checker_kinds.proofs.FormerLaws.{tuple_ruled}
 use borrow.Author.Rules.{rules}
 use Rattle.checker_kinds.proofs.building.tuple_rule.Statement.{statement}
 use Rattle.checker_kinds.proofs.building.tuple_rule.Tie as tie
@@ -19,7 +19,7 @@ same_length : tie.Need-same-length
 same_length c = search rules
 
 returns : tie.Need-returns
-returns c = tuple-ruled _ _ _ _ _ _ c.before.before.product.ensures
+returns c = tuple_ruled _ _ _ _ _ _ c.before.before.product.ensures
 
 pub tuple-rule-spec : {M : Type 1} → statement M
 tuple-rule-spec = tie.close (tie.spec product-requires add-t9 add-t10 same_length returns)

@@ -1,5 +1,5 @@
 use native.Mathlib.Omega.{arith}
-use Rattle.checker_kinds.proofs.Applying.{apply-making, pair-building, power-building, apply-asks, apply-told}
+use Rattle.checker_kinds.proofs.Applying.{apply_making, pair_building, power_building, apply_asks, apply_told}
 use borrow.Author.Rules.{rules}
 use Rattle.checker_kinds.proofs.equations.apply_rule.Statement.{statement}
 use Rattle.checker_kinds.proofs.equations.apply_rule.Tie as tie
@@ -12,7 +12,7 @@ use Rattle.types_cells.proofs.growth.new_unknown.Reads as new-unknown-reads
 
 -- src/equations.rt:80:5
 new-unknown-requires : tie.Need-new-unknown-requires
-new-unknown-requires c κs = apply-making _ _ _ _ _ _ c.before.before.before.requires
+new-unknown-requires c κs = apply_making _ _ _ _ _ _ c.before.before.before.requires
 
 -- src/equations.rt:81:38
 add-pair : tie.Need-overflow-add-pair
@@ -20,7 +20,7 @@ add-pair c = search rules
 
 -- src/equations.rt:81:5
 pair-requires : tie.Need-pair-requires
-pair-requires c κs = pair-building _ _ _ _ _ _ c.before.before.before.before.before.before.before.requires _ c.before.before.before.new-unknown.ensures _ (omega arith)
+pair-requires c κs = pair_building _ _ _ _ _ _ c.before.before.before.before.before.before.before.requires _ c.before.before.before.new-unknown.ensures _ (omega arith)
 
 -- src/equations.rt:82:39
 add-power : tie.Need-overflow-add-power
@@ -35,8 +35,8 @@ add-power-3 : tie.Need-overflow-add-power-3
 add-power-3 c = search rules
 
 -- src/equations.rt:82:5
-power-requires : tie.Need-power-requires
-power-requires c κs = power-building _ _ _ _ _ _ c.before.before.before.before.before.before.before.before.before.before.before.requires _ c.before.before.before.before.before.before.before.new-unknown.ensures _ _ _ c.before.before.before.pair.ensures (omega arith) _ _ (omega arith) (omega arith)
+power_requires : tie.Need-power-requires
+power_requires c κs = power_building _ _ _ _ _ _ c.before.before.before.before.before.before.before.before.before.before.before.requires _ c.before.before.before.before.before.before.before.new-unknown.ensures _ _ _ c.before.before.before.pair.ensures (omega arith) _ _ (omega arith) (omega arith)
 
 -- src/equations.rt:83:46
 add-equal : tie.Need-overflow-add-equal
@@ -47,8 +47,8 @@ add-equal-2 : tie.Need-overflow-add-equal-2
 add-equal-2 c = search rules
 
 -- src/equations.rt:83:9
-equal-requires : tie.Need-equal-requires
-equal-requires c κs = apply-asks _ _ _ _ _ _ c.before.before.before.before.before.before.before.before.before.before.before.before.before.before.before.requires _ c.before.before.before.before.before.before.before.before.before.before.before.new-unknown.ensures _ _ _ c.before.before.before.before.before.before.before.pair.ensures (omega arith) _ _ _ _ c.before.before.before.power.ensures (omega arith) (omega arith) _ _ (omega arith) (omega arith)
+equal_requires : tie.Need-equal-requires
+equal_requires c κs = apply_asks _ _ _ _ _ _ c.before.before.before.before.before.before.before.before.before.before.before.before.before.before.before.requires _ c.before.before.before.before.before.before.before.before.before.before.before.new-unknown.ensures _ _ _ c.before.before.before.before.before.before.before.pair.ensures (omega arith) _ _ _ _ c.before.before.before.power.ensures (omega arith) (omega arith) _ _ (omega arith) (omega arith)
 
 -- src/equations.rt:87:16
 add-t16 : tie.Need-overflow-add-t16
@@ -64,7 +64,7 @@ same_length c = search rules
 
 -- src/equations.rt:76:1
 returns : tie.Need-returns
-returns c = apply-told _ _ _ _ _ _ c.before.before.before.before.before.before.before.before.before.before.before.before.before.before.before.before.before.before.requires _ c.before.before.before.before.before.before.before.before.before.before.before.before.before.before.new-unknown.ensures _ _ _ c.before.before.before.before.before.before.before.before.before.before.pair.ensures (omega arith) _ _ _ _ c.before.before.before.before.before.before.power.ensures (omega arith) (omega arith) _ _ _ _ c.before.before.equal.ensures (omega arith) (omega arith) _ _ (omega arith) (omega arith)
+returns c = apply_told _ _ _ _ _ _ c.before.before.before.before.before.before.before.before.before.before.before.before.before.before.before.before.before.before.requires _ c.before.before.before.before.before.before.before.before.before.before.before.before.before.before.new-unknown.ensures _ _ _ c.before.before.before.before.before.before.before.before.before.before.pair.ensures (omega arith) _ _ _ _ c.before.before.before.before.before.before.power.ensures (omega arith) (omega arith) _ _ _ _ c.before.before.equal.ensures (omega arith) (omega arith) _ _ (omega arith) (omega arith)
 
 pub apply-rule-spec : {M : Type 1} → statement M
 apply-rule-spec =
@@ -76,10 +76,10 @@ apply-rule-spec =
     add-power
     add-power-2
     add-power-3
-    power-requires
+    power_requires
     add-equal
     add-equal-2
-    equal-requires
+    equal_requires
     add-t16
     add-t17
     same_length

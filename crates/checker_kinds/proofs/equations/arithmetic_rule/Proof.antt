@@ -1,5 +1,5 @@
 use native.Mathlib.Omega.{arith}
-use Rattle.checker_kinds.proofs.Integers.{arithmetic-told}
+use Rattle.checker_kinds.proofs.Integers.{arithmetic_told}
 use borrow.Author.Rules.{rules}
 use Rattle.checker_kinds.proofs.equations.arithmetic_rule.Statement.{statement}
 use Rattle.checker_kinds.proofs.equations.arithmetic_rule.Tie as tie
@@ -21,7 +21,7 @@ same_length c = search rules
 
 -- src/equations.rt:62:1
 returns : tie.Need-returns
-returns c = arithmetic-told _ _ _ _ _ _ _ c.before.before.both-integers.ensures _ c.before.before.before.before.before.before.requires _ (omega arith)
+returns c = arithmetic_told _ _ _ _ _ _ _ c.before.before.both-integers.ensures _ c.before.before.before.before.before.before.requires _ (omega arith)
 
 pub arithmetic-rule-spec : {M : Type 1} → statement M
 arithmetic-rule-spec = tie.close (tie.spec both-integers-requires add-t10 same_length returns)

@@ -1,6 +1,6 @@
 use native.Mathlib.Omega.{arith}
 use Rattle.types_cells.specs.Store.{run}
-use Rattle.checker_kinds.proofs.Integers.{integer-making, few-operands, both-asks, both_told}
+use Rattle.checker_kinds.proofs.Integers.{integer_making, few_operands, both_asks, both_told}
 use borrow.Author.Rules.{rules}
 use Rattle.checker_kinds.proofs.equations.both_integers.Statement.{statement}
 use Rattle.checker_kinds.proofs.equations.both_integers.Tie as tie
@@ -11,15 +11,15 @@ use Rattle.checker_pieces.proofs.formers.integer.Reads as integer-reads
 
 -- src/equations.rt:44:5
 integer-requires : tie.Need-integer-requires
-integer-requires c κs = integer-making _ _ _ _ _ c.before.before.before.requires
+integer-requires c κs = integer_making _ _ _ _ _ c.before.before.before.requires
 
 -- src/equations.rt:45:18
 cast-t10 : tie.Need-overflow-cast-t10
-cast-t10 c = let z = few-operands _ _ _ _ _ _ c.before.before.before.before.before.before.requires in omega (arith, z.0)
+cast-t10 c = let z = few_operands _ _ _ _ _ _ c.before.before.before.before.before.before.requires in omega (arith, z.0)
 
 -- src/equations.rt:45:28
 cast-t11 : tie.Need-overflow-cast-t11
-cast-t11 c = let z = few-operands _ _ _ _ _ _ c.before.before.before.before.before.before.requires in omega (arith, z.1)
+cast-t11 c = let z = few_operands _ _ _ _ _ _ c.before.before.before.before.before.before.requires in omega (arith, z.1)
 
 -- src/equations.rt:46:37
 add-all-equal : tie.Need-overflow-add-all-equal
@@ -32,7 +32,7 @@ slice-aggregate-all-equal c = search rules
 -- src/equations.rt:46:5
 all-equal-requires : tie.Need-all-equal-requires
 unfolding run
-all-equal-requires c κs = (omega arith, both-asks _ _ _ _ _ _ c.before.before.before.before.before.before.before.before.requires c.before.before.before.before.integer.ensures _ (omega arith))
+all-equal-requires c κs = (omega arith, both_asks _ _ _ _ _ _ c.before.before.before.before.before.before.before.before.requires c.before.before.before.before.integer.ensures _ (omega arith))
 
 -- src/equations.rt:40:1
 same_length : tie.Need-same-length

@@ -1,5 +1,5 @@
 use native.Mathlib.Omega.{arith}
-use Rattle.checker_kinds.proofs.Integers.{comparison-told}
+use Rattle.checker_kinds.proofs.Integers.{comparison_told}
 use borrow.Author.Rules.{rules}
 use Rattle.checker_kinds.proofs.equations.comparison.Statement.{statement}
 use Rattle.checker_kinds.proofs.equations.comparison.Tie as tie
@@ -21,7 +21,7 @@ same_length c = search rules
 
 -- src/equations.rt:50:1
 returns : tie.Need-returns
-returns c = λ top. comparison-told _ _ _ _ _ _ _ c.before.before.both-integers.ensures _ (omega arith) top
+returns c = λ top. comparison_told _ _ _ _ _ _ _ c.before.before.both-integers.ensures _ (omega arith) top
 
 pub comparison-spec : {M : Type 1} → statement M
 comparison-spec = tie.close (tie.spec both-integers-requires add-t9 same_length returns)

@@ -1,4 +1,4 @@
-use Rattle.checker_kinds.proofs.Relations.{equality-told}
+use Rattle.checker_kinds.proofs.Relations.{equality_told}
 use borrow.Author.Rules.{rules}
 use Rattle.checker_kinds.proofs.equations.equality.Statement.{statement}
 use Rattle.checker_kinds.proofs.equations.equality.Tie as tie
@@ -7,8 +7,8 @@ use Rattle.checker_kinds.proofs.equations.equality.Lts as lts
 use Rattle.checker_pieces.proofs.equal.Reads as equal-reads
 
 -- src/equations.rt:19:9
-equal-requires : tie.Need-equal-requires
-equal-requires c κs = search rules
+equal_requires : tie.Need-equal-requires
+equal_requires c κs = search rules
 
 -- src/equations.rt:15:1
 same_length : tie.Need-same-length
@@ -16,7 +16,7 @@ same_length c = search rules
 
 -- src/equations.rt:15:1
 returns : tie.Need-returns
-returns c = λ top. equality-told _ _ _ _ _ _ _ c.before.before.equal.ensures top
+returns c = λ top. equality_told _ _ _ _ _ _ _ c.before.before.equal.ensures top
 
 pub equality-spec : {M : Type 1} → statement M
-equality-spec = tie.close (tie.spec equal-requires same_length returns)
+equality-spec = tie.close (tie.spec equal_requires same_length returns)

@@ -1,4 +1,4 @@
-use Rattle.checker_kinds.proofs.Selecting.{select-reads, looking, select-absent, select-cell, entering, select-settled}
+use Rattle.checker_kinds.proofs.Selecting.{select_reads, looking, select_absent, select_cell, entering, select_settled}
 use native.Mathlib.Omega.{arith}
 use borrow.Author.Rules.{rules}
 use Rattle.checker_kinds.proofs.equations.select_rule.Statement.{statement}
@@ -10,7 +10,7 @@ use Rattle.types_solver.proofs.acyclicity.finite.Reads as finite-reads
 use Rattle.types_cells.proofs.growth.new_settled.Reads as new-settled-reads
 
 finite-requires : tie.Need-finite-requires
-finite-requires c κs = select-reads _ _ _ _ _ _ c.before.before.before.requires
+finite-requires c κs = select_reads _ _ _ _ _ _ c.before.before.before.requires
 
 component-requires : tie.Need-component-requires
 component-requires c κs = looking _ _ _ _ _ _ _ c.before.before.before.finite.ensures c.before.before.before.before.before.before.before.requires
@@ -19,7 +19,7 @@ same_length : tie.Need-same-length
 same_length c = search rules
 
 returns : tie.Need-returns
-returns c = select-absent _ _ _ _ _ _ _ c.before.before.before.before.before.finite.ensures c.before.before.before.before.before.before.before.before.before.requires _ _ c.before.component.ensures c.if1.true
+returns c = select_absent _ _ _ _ _ _ _ c.before.before.before.before.before.finite.ensures c.before.before.before.before.before.before.before.before.before.requires _ _ c.before.component.ensures c.if1.true
 
 sub-t13 : tie.Need-overflow-sub-t13
 sub-t13 c = omega (arith, c.before.if1.false)
@@ -28,7 +28,7 @@ same-length-2 : tie.Need-same-length-2
 same-length-2 c = search rules
 
 returns-2 : tie.Need-returns-2
-returns-2 c = select-cell _ _ _ _ _ _ _ c.before.before.before.before.before.before.finite.ensures c.before.before.before.before.before.before.before.before.before.before.requires _ _ c.before.before.component.ensures _ (let e = c.before.if1.false in omega arith) c.if2.true
+returns-2 c = select_cell _ _ _ _ _ _ _ c.before.before.before.before.before.before.finite.ensures c.before.before.before.before.before.before.before.before.before.before.requires _ _ c.before.before.component.ensures _ (let e = c.before.if1.false in omega arith) c.if2.true
 
 new-settled-requires : tie.Need-new-settled-requires
 new-settled-requires c κs = entering _ _ _ _ _ _ _ c.before.before.before.before.before.before.before.finite.ensures c.before.before.before.before.before.before.before.before.before.before.before.requires _ _ c.before.before.before.component.ensures (let e = c.before.if2.false in omega arith)
@@ -40,7 +40,7 @@ same-length-3 : tie.Need-same-length-3
 same-length-3 c = search rules
 
 returns-3 : tie.Need-returns-3
-returns-3 c = select-settled _ _ _ _ _ _ _ c.before.before.before.before.before.before.before.before.before.before.finite.ensures c.before.before.before.before.before.before.before.before.before.before.before.before.before.before.requires _ _ c.before.before.before.before.before.before.component.ensures (let e = c.before.before.before.before.if2.false in omega arith) _ c.before.before.new-settled.ensures _ (omega arith)
+returns-3 c = select_settled _ _ _ _ _ _ _ c.before.before.before.before.before.before.before.before.before.before.finite.ensures c.before.before.before.before.before.before.before.before.before.before.before.before.before.before.requires _ _ c.before.before.before.before.before.before.component.ensures (let e = c.before.before.before.before.if2.false in omega arith) _ c.before.before.new-settled.ensures _ (omega arith)
 
 pub select-rule-spec : {M : Type 1} → statement M
 select-rule-spec =

@@ -1,4 +1,4 @@
-use Rattle.checker_lookup.proofs.BindingLaws.{binding-places, binding-rows, binding-makes, binding-bound}
+use Rattle.checker_lookup.proofs.BindingLaws.{binding_places, binding_rows, binding_makes, binding_bound}
 use borrow.Author.Rules.{rules}
 use Rattle.checker_lookup.proofs.bindings.binding.Statement.{statement}
 use Rattle.checker_lookup.proofs.bindings.binding.Tie as tie
@@ -10,7 +10,7 @@ use Rattle.types_cells.proofs.growth.new_cell.Reads as new-cell-reads
 
 -- src/bindings.rt:64:5
 settle-places-requires : tie.Need-settle-places-requires
-settle-places-requires c κs = binding-places _ _ _ _ _ _ _ c.before.before.before.before.requires
+settle-places-requires c κs = binding_places _ _ _ _ _ _ _ c.before.before.before.before.requires
 
 -- src/bindings.rt:65:16
 add-cell : tie.Need-overflow-add-cell
@@ -18,7 +18,7 @@ add-cell c = search rules
 
 -- src/bindings.rt:66:5
 put-rows-requires : tie.Need-put-rows-requires
-put-rows-requires c κs = binding-rows _ _ _ _ _ _ _ c.before.before.before.before.before.before.before.before.requires _ c.before.before.before.settle-places.ensures
+put-rows-requires c κs = binding_rows _ _ _ _ _ _ _ c.before.before.before.before.before.before.before.before.requires _ c.before.before.before.settle-places.ensures
 
 -- src/bindings.rt:67:15
 add-ids : tie.Need-overflow-add-ids
@@ -38,7 +38,7 @@ cast-new-cell-3 c = search rules
 
 -- src/bindings.rt:68:5
 new-cell-requires : tie.Need-new-cell-requires
-new-cell-requires c κs = binding-makes _ _ _ _ _ _ _ c.before.before.before.before.before.before.before.before.before.before.before.before.requires _ c.before.before.before.before.before.before.before.settle-places.ensures _ c.before.before.before.put-rows.ensures
+new-cell-requires c κs = binding_makes _ _ _ _ _ _ _ c.before.before.before.before.before.before.before.before.before.before.before.before.requires _ c.before.before.before.before.before.before.before.settle-places.ensures _ c.before.before.before.put_rows.ensures
 
 -- src/bindings.rt:71:16
 add-t20 : tie.Need-overflow-add-t20
@@ -54,7 +54,7 @@ same_length c = search rules
 
 -- src/bindings.rt:52:1
 returns : tie.Need-returns
-returns c = binding-bound _ _ _ _ _ _ _ c.before.before.before.before.before.before.before.before.before.before.before.before.before.before.before.requires _ c.before.before.before.before.before.before.before.before.before.before.settle-places.ensures _ c.before.before.before.before.before.before.put-rows.ensures _ c.before.before.new-cell.ensures
+returns c = binding_bound _ _ _ _ _ _ _ c.before.before.before.before.before.before.before.before.before.before.before.before.before.before.before.requires _ c.before.before.before.before.before.before.before.before.before.before.settle-places.ensures _ c.before.before.before.before.before.before.put_rows.ensures _ c.before.before.new_cell.ensures
 
 pub binding-spec : {M : Type 1} → statement M
 binding-spec =

@@ -1,4 +1,4 @@
-use Rattle.checker_lookup.proofs.BindingLaws.{row-ask, row-ask-name, row_put}
+use Rattle.checker_lookup.proofs.BindingLaws.{row_ask, row_ask_name, row_put}
 use borrow.Author.Rules.{rules}
 use Rattle.checker_lookup.proofs.bindings.put_row.Statement.{statement}
 use Rattle.checker_lookup.proofs.bindings.put_row.Tie as tie
@@ -16,7 +16,7 @@ cast-add-word c = search rules
 
 -- src/bindings.rt:27:5
 add-word-requires : tie.Need-add-word-requires
-add-word-requires c κs = row-ask _ _ _ _ _ _ c.before.before.requires.0
+add-word-requires c κs = row_ask _ _ _ _ _ _ c.before.before.requires.0
 
 -- src/bindings.rt:28:28
 add-add-word-2 : tie.Need-overflow-add-add-word-2
@@ -32,7 +32,7 @@ cast-add-word-2 c = search rules
 
 -- src/bindings.rt:28:5
 add-word-requires-2 : tie.Need-add-word-requires-2
-add-word-requires-2 c κs = row-ask-name _ _ _ _ _ _ c.before.before.before.before.before.before.requires.0 _ c.before.before.before.add-word.ensures
+add-word-requires-2 c κs = row_ask_name _ _ _ _ _ _ c.before.before.before.before.before.before.requires.0 _ c.before.before.before.add-word.ensures
 
 -- src/bindings.rt:23:1
 same_length : tie.Need-same-length

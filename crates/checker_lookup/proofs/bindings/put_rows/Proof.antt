@@ -3,7 +3,7 @@ use Prim.Native.Nat.{ℕ, ◌-◌, ◌≤◌}
 use native.Mathlib.Omega.{arith}
 use lib.ListN.{length}
 use Rattle.checker_lookup.specs.Bindings.{RowsPut}
-use Rattle.checker_lookup.proofs.BindingLaws.{rows_start, rows-ask, rows_next}
+use Rattle.checker_lookup.proofs.BindingLaws.{rows_start, rows_ask, rows_next}
 use borrow.Author.Rules.{rules}
 use Rattle.checker_lookup.proofs.bindings.put_rows.Statement.{statement}
 use Rattle.checker_lookup.proofs.bindings.put_rows.Tie as tie
@@ -40,7 +40,7 @@ word-requires c κs = search rules
 
 -- src/bindings.rt:46:9
 put-row-requires : tie.Need-put-row-requires invariant-loop decreases-loop
-put-row-requires c κs = (rows-ask _ _ _ _ _ _ _ c.before.before.before.before.before.before.requires _ _ c.before.before.loop-test.true c.before.before.before.loop.invariant.2, c.word.ensures.1)
+put-row-requires c κs = (rows_ask _ _ _ _ _ _ _ c.before.before.before.before.before.before.requires _ _ c.before.before.loop-test.true c.before.before.before.loop.invariant.2, c.word.ensures.1)
 
 -- src/bindings.rt:47:9
 add-j : tie.Need-overflow-add-j invariant-loop decreases-loop

@@ -3,7 +3,7 @@ use Prim.Native.Nat.{ℕ, ◌-◌, ◌≤◌}
 use native.Mathlib.Omega.{arith}
 use lib.ListN.{length}
 use Rattle.checker_lookup.specs.Bindings.{PlacesSettled}
-use Rattle.checker_lookup.proofs.BindingLaws.{places-start, places-ask, places-next}
+use Rattle.checker_lookup.proofs.BindingLaws.{places_start, places_ask, places_next}
 use borrow.Author.Rules.{rules}
 use Rattle.checker_lookup.proofs.bindings.settle_places.Statement.{statement}
 use Rattle.checker_lookup.proofs.bindings.settle_places.Tie as tie
@@ -20,7 +20,7 @@ decreases-loop a₀ d w base m n j₀ a j = m - j
 
 -- src/bindings.rt:16:5
 loop-holds : tie.Need-loop-init invariant-loop decreases-loop
-loop-holds c = let s = c.before.before.before in (omega arith, refl, places-start _ _ _ _ _ _ s.requires)
+loop-holds c = let s = c.before.before.before in (omega arith, refl, places_start _ _ _ _ _ _ s.requires)
 
 -- src/bindings.rt:17:35
 add-new-settled : tie.Need-overflow-add-new-settled invariant-loop decreases-loop
@@ -44,7 +44,7 @@ word-requires c κs = search rules
 
 -- src/bindings.rt:17:9
 new-settled-requires : tie.Need-new-settled-requires invariant-loop decreases-loop
-new-settled-requires c κs = places-ask _ _ _ _ _ _ c.before.before.before.before.before.before.before.requires _ _ c.before.before.loop-test.true c.before.before.before.loop.invariant.2 _ c.word.ensures.0
+new-settled-requires c κs = places_ask _ _ _ _ _ _ c.before.before.before.before.before.before.before.requires _ _ c.before.before.loop-test.true c.before.before.before.loop.invariant.2 _ c.word.ensures.0
 
 -- src/bindings.rt:18:9
 add-j : tie.Need-overflow-add-j invariant-loop decreases-loop
@@ -56,7 +56,7 @@ loop-less c = search rules
 
 -- src/bindings.rt:16:5
 loop-again : tie.Need-loop-preserved invariant-loop decreases-loop
-loop-again c = (omega arith, c.before.before.new-settled.auto.0 ∙ c.before.before.before.before.before.before.loop.invariant.1, places-next _ _ _ _ _ _ c.before.before.before.before.before.before.before.before.before.before.requires _ _ c.before.before.before.before.before.loop-test.true c.before.before.before.before.before.before.loop.invariant.2 _ c.before.before.before.word.ensures.0 _ c.before.before.new-settled.ensures)
+loop-again c = (omega arith, c.before.before.new-settled.auto.0 ∙ c.before.before.before.before.before.before.loop.invariant.1, places_next _ _ _ _ _ _ c.before.before.before.before.before.before.before.before.before.before.requires _ _ c.before.before.before.before.before.loop-test.true c.before.before.before.before.before.before.loop.invariant.2 _ c.before.before.before.word.ensures.0 _ c.before.before.new-settled.ensures)
 
 -- src/bindings.rt:11:1
 same_length : tie.Need-same-length invariant-loop decreases-loop

@@ -1,5 +1,5 @@
-use Rattle.checker_lookup.proofs.ComponentLaws.{Writing, writing_start, writing-next, writing-end, components-of, component-few}
-use Rattle.types_cells.proofs.Reading.{place-few, names-length}
+use Rattle.checker_lookup.proofs.ComponentLaws.{Writing, writing_start, writing_next, writing_end, components_of_lem, component_few}
+use Rattle.types_cells.proofs.Reading.{place_few, names_length}
 use Rattle.types_cells.specs.Settled.{heap, Reads}
 use Rattle.types_rules.specs.Types.{Tys, node}
 use Rattle.types_rules.specs.Former.{binding}
@@ -25,7 +25,7 @@ decreases-loop a d w₀ p base m at₀ j₀ w at j = m - j
 
 -- src/components.rt:12:29
 add-type-word : tie.Need-overflow-add-type-word invariant-loop decreases-loop
-add-type-word c = let z = place-few _ _ _ _ c.before.before.before.requires.areas c.before.before.before.requires.reads in omega arith
+add-type-word c = let z = place_few _ _ _ _ c.before.before.before.requires.areas c.before.before.before.requires.reads in omega arith
 
 -- src/components.rt:12:9
 type-word-requires : tie.Need-type-word-requires invariant-loop decreases-loop
@@ -33,7 +33,7 @@ type-word-requires c κs = search rules
 
 -- src/components.rt:13:18
 add_at : tie.Need-overflow-add-at invariant-loop decreases-loop
-add_at c = let z = place-few _ _ _ _ c.before.before.before.before.requires.areas c.before.before.before.before.requires.reads in omega arith
+add_at c = let z = place_few _ _ _ _ c.before.before.before.before.requires.areas c.before.before.before.before.requires.reads in omega arith
 
 -- src/components.rt:15:5
 loop-holds : tie.Need-loop-init invariant-loop decreases-loop
@@ -53,20 +53,20 @@ add-put-row c = search rules
 
 -- src/components.rt:17:38
 add-put-row-2 : tie.Need-overflow-add-put-row-2 invariant-loop decreases-loop
-add-put-row-2 c = let P = c.before.before.before.before.before.before.before.before.requires in let l = component-few _ _ _ _ _ _ P (writing-next _ _ _ _ _ _ _ _ _ _ c.before.before.loop-test.true (c.before.before.before.loop.invariant.2 _ _ P.reads)).low in omega arith
+add-put-row-2 c = let P = c.before.before.before.before.before.before.before.before.requires in let l = component_few _ _ _ _ _ _ P (writing_next _ _ _ _ _ _ _ _ _ _ c.before.before.loop-test.true (c.before.before.before.loop.invariant.2 _ _ P.reads)).low in omega arith
 
 -- src/components.rt:17:9
 put-row-requires : tie.Need-put-row-requires invariant-loop decreases-loop
-put-row-requires c κs = let P = c.before.before.before.before.before.before.before.before.requires in let l = component-few _ _ _ _ _ _ P (writing-next _ _ _ _ _ _ _ _ _ _ c.before.before.loop-test.true (c.before.before.before.loop.invariant.2 _ _ P.reads)).low in
-    let n = names-length _ _ _ _ _ P.reads (sym c.before.before.before.before.type-word.ensures.0) in let t = P.table in (omega arith, c.before.type-word2.ensures.1, l)
+put-row-requires c κs = let P = c.before.before.before.before.before.before.before.before.requires in let l = component_few _ _ _ _ _ _ P (writing_next _ _ _ _ _ _ _ _ _ _ c.before.before.loop-test.true (c.before.before.before.loop.invariant.2 _ _ P.reads)).low in
+    let n = names_length _ _ _ _ _ P.reads (sym c.before.before.before.before.type-word.ensures.0) in let t = P.table in (omega arith, c.before.type-word2.ensures.1, l)
 
 -- src/components.rt:18:25
 add-skip : tie.Need-overflow-add-skip invariant-loop decreases-loop
-add-skip c = let P = c.before.before.before.before.before.before.before.before.before.before.before.requires in let l = component-few _ _ _ _ _ _ P (writing-next _ _ _ _ _ _ _ _ _ _ c.before.before.before.before.before.loop-test.true (c.before.before.before.before.before.before.loop.invariant.2 _ _ P.reads)).low in omega arith
+add-skip c = let P = c.before.before.before.before.before.before.before.before.before.before.before.requires in let l = component_few _ _ _ _ _ _ P (writing_next _ _ _ _ _ _ _ _ _ _ c.before.before.before.before.before.loop-test.true (c.before.before.before.before.before.before.loop.invariant.2 _ _ P.reads)).low in omega arith
 
 -- src/components.rt:18:9
 skip-requires : tie.Need-skip-requires invariant-loop decreases-loop
-skip-requires c κs = let P = c.before.before.before.before.before.before.before.before.before.before.before.requires in let N = writing-next _ _ _ _ _ _ _ _ _ _ c.before.before.before.before.before.loop-test.true (c.before.before.before.before.before.before.loop.invariant.2 _ _ P.reads) in
+skip-requires c κs = let P = c.before.before.before.before.before.before.before.before.before.before.before.requires in let N = writing_next _ _ _ _ _ _ _ _ _ _ c.before.before.before.before.before.loop-test.true (c.before.before.before.before.before.before.loop.invariant.2 _ _ P.reads) in
     record { areas = P.areas; readable = record { type = N.type; reads = N.reads } }
 
 -- src/components.rt:19:9
@@ -83,7 +83,7 @@ loop-again c = let lt = c.before.before.before.before.before.before.loop-test.tr
   omega arith,
   t.auto.0 ∙ l.invariant.1,
   λ ids gs R.
-      let N = writing-next _ _ _ _ _ _ _ _ ids gs lt (l.invariant.2 ids gs R) in
+      let N = writing_next _ _ _ _ _ _ _ _ ids gs lt (l.invariant.2 ids gs R) in
       N.then t.new.0 _ _ c.before.before.before.before.before.type-word2.ensures.0 t.ensures (c.skip.ensures.is N.type N.reads),
 )
 
@@ -93,7 +93,7 @@ same_length c = c.before.loop.invariant.1
 
 -- src/components.rt:8:1
 returns : tie.Need-returns invariant-loop decreases-loop
-returns c = record { of = λ ids gs R. components-of _ _ _ _ _ _ _ c.before.before.before.before.before.before.requires c.before.before.type-word.ensures.0 ids gs R (writing-end _ _ _ _ _ _ _ _ ids gs c.loop-test.false (c.before.loop.invariant.2 ids gs R)) }
+returns c = record { of = λ ids gs R. components_of_lem _ _ _ _ _ _ _ c.before.before.before.before.before.before.requires c.before.before.type-word.ensures.0 ids gs R (writing_end _ _ _ _ _ _ _ _ ids gs c.loop-test.false (c.before.loop.invariant.2 ids gs R)) }
 
 pub component-rows-spec : {M : Type 1} → statement M
 component-rows-spec =

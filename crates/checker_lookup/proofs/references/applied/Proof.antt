@@ -1,4 +1,4 @@
-use Rattle.checker_lookup.proofs.AppliedLaws.{powering, applied-not, applied-ask, applied}
+use Rattle.checker_lookup.proofs.AppliedLaws.{powering, applied_not, applied_ask, applied}
 use borrow.Author.Rules.{rules}
 use Rattle.checker_lookup.proofs.references.applied.Statement.{statement}
 use Rattle.checker_lookup.proofs.references.applied.Tie as tie
@@ -14,7 +14,7 @@ same_length : tie.Need-same-length
 same_length c = search rules
 
 returns : tie.Need-returns
-returns c = applied-not _ _ _ _ _ _ _ c.before.before.before.before.before.before.before.before.requires _ _ c.before.before.before.are-powers.ensures c.if1.true
+returns c = applied_not _ _ _ _ _ _ _ c.before.before.before.before.before.before.before.before.requires _ _ c.before.before.before.are_powers_lem.ensures c.if1.true
 
 add-instance : tie.Need-overflow-add-instance
 add-instance c = search rules
@@ -26,13 +26,13 @@ add-instance-3 : tie.Need-overflow-add-instance-3
 add-instance-3 c = search rules
 
 instance-requires : tie.Need-instance-requires
-instance-requires c κs = applied-ask _ _ _ _ _ _ _ c.before.before.before.before.before.before.before.before.before.requires _ _ c.before.before.before.before.are-powers.ensures c.before.if1.false
+instance-requires c κs = applied_ask _ _ _ _ _ _ _ c.before.before.before.before.before.before.before.before.before.requires _ _ c.before.before.before.before.are_powers_lem.ensures c.before.if1.false
 
 same-length-2 : tie.Need-same-length-2
 same-length-2 c = search rules
 
 returns-2 : tie.Need-returns-2
-returns-2 c = applied _ _ _ _ _ _ _ c.before.before.before.before.before.before.before.before.before.before.before.before.requires _ _ c.before.before.before.before.before.before.before.are-powers.ensures c.before.before.before.before.if1.false _ _ _ _ c.before.before.instance.ensures
+returns-2 c = applied _ _ _ _ _ _ _ c.before.before.before.before.before.before.before.before.before.before.before.before.requires _ _ c.before.before.before.before.before.before.before.are_powers_lem.ensures c.before.before.before.before.if1.false _ _ _ _ c.before.before.instance.ensures
 
 pub applied-spec : {M : Type 1} → statement M
 applied-spec =

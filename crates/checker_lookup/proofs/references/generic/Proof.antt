@@ -1,4 +1,4 @@
-use Rattle.checker_lookup.proofs.ReferenceLaws.{row-asked, instance-asked, generic}
+use Rattle.checker_lookup.proofs.ReferenceLaws.{row_asked, instance_asked, generic}
 use borrow.Author.Rules.{rules}
 use Rattle.checker_lookup.proofs.references.generic.Statement.{statement}
 use Rattle.checker_lookup.proofs.references.generic.Tie as tie
@@ -9,7 +9,7 @@ use Rattle.checker_lookup.proofs.references.instance.Reads as instance-reads
 
 -- src/references.rt:60:5
 fresh-row-requires : tie.Need-fresh-row-requires
-fresh-row-requires c κs = row-asked _ _ _ _ _ _ c.before.before.before.requires
+fresh-row-requires c κs = row_asked _ _ _ _ _ _ c.before.before.before.requires
 
 -- src/references.rt:61:20
 add-instance : tie.Need-overflow-add-instance
@@ -17,7 +17,7 @@ add-instance c = search rules
 
 -- src/references.rt:61:5
 instance-requires : tie.Need-instance-requires
-instance-requires c κs = instance-asked _ _ _ _ _ _ c.before.before.before.before.before.before.before.requires _ c.before.before.before.fresh-row.ensures
+instance-requires c κs = instance_asked _ _ _ _ _ _ c.before.before.before.before.before.before.before.requires _ c.before.before.before.fresh-row.ensures
 
 -- src/references.rt:56:1
 same_length : tie.Need-same-length

@@ -1,4 +1,4 @@
-use Rattle.checker_lookup.proofs.LookingUp.{not-recorded, recorded-at, global}
+use Rattle.checker_lookup.proofs.LookingUp.{not_recorded, recorded_at, global}
 use borrow.Author.Rules.{rules}
 use Rattle.checker_lookup.proofs.references.global.Statement.{statement}
 use Rattle.checker_lookup.proofs.references.global.Tie as tie
@@ -15,7 +15,7 @@ find-name-requires c κs = search rules
 
 -- src/references.rt:90:9
 returns : tie.Need-returns
-returns c = not-recorded _ _ _ _ _ _ _ c.before.find-name.ensures c.if1.true
+returns c = not_recorded _ _ _ _ _ _ _ c.before.find-name.ensures c.if1.true
 
 -- src/references.rt:97:9
 parameters-of-requires : tie.Need-parameters-of-requires
@@ -31,7 +31,7 @@ add-p c = search rules
 
 -- src/references.rt:99:9
 generic-requires : tie.Need-generic-requires
-generic-requires c κs = recorded-at _ _ _ _ _ _ _ c.before.before.before.before.find-name.ensures c.before.before.before.if1.false _ c.before.before.parameters-of.ensures.0 _ c.before.type-place.ensures.0 c.before.before.before.before.before.before.before.before.requires
+generic-requires c κs = recorded_at _ _ _ _ _ _ _ c.before.before.before.before.find-name.ensures c.before.before.before.if1.false _ c.before.before.parameters-of.ensures.0 _ c.before.type-place.ensures.0 c.before.before.before.before.before.before.before.before.requires
 
 -- src/references.rt:84:1
 same_length : tie.Need-same-length

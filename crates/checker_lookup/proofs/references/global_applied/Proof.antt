@@ -1,4 +1,4 @@
-use Rattle.checker_lookup.proofs.LookingUpApplied.{applied-unknown, applied-count, applying-at, global-applied}
+use Rattle.checker_lookup.proofs.LookingUpApplied.{applied_unknown, applied_count, applying_at, global_applied}
 use borrow.Author.Rules.{rules}
 use Rattle.checker_lookup.proofs.references.global_applied.Statement.{statement}
 use Rattle.checker_lookup.proofs.references.global_applied.Tie as tie
@@ -15,7 +15,7 @@ find-name-requires c κs = search rules
 
 -- src/references.rt:214:9
 returns : tie.Need-returns
-returns c = applied-unknown _ _ _ _ _ _ _ _ c.before.before.before.before.before.before.requires _ c.before.find-name.ensures c.if1.true
+returns c = applied_unknown _ _ _ _ _ _ _ _ c.before.before.before.before.before.before.requires _ c.before.find-name.ensures c.if1.true
 
 -- src/references.rt:221:8
 parameters-of-requires : tie.Need-parameters-of-requires
@@ -23,7 +23,7 @@ parameters-of-requires c κs = search rules
 
 -- src/references.rt:222:9
 returns-2 : tie.Need-returns-2
-returns-2 c = applied-count _ _ _ _ _ _ _ _ c.before.before.before.before.before.before.before.before.requires _ c.before.before.before.find-name.ensures c.before.before.if1.false _ c.before.parameters-of.ensures.0 c.if2.true
+returns-2 c = applied_count _ _ _ _ _ _ _ _ c.before.before.before.before.before.before.before.before.requires _ c.before.before.before.find-name.ensures c.before.before.if1.false _ c.before.parameters-of.ensures.0 c.if2.true
 
 -- src/references.rt:229:26
 type-place-requires : tie.Need-type-place-requires
@@ -35,7 +35,7 @@ add-p c = search rules
 
 -- src/references.rt:230:5
 applied-requires : tie.Need-applied-requires
-applied-requires c κs = applying-at _ _ _ _ _ _ _ _ c.before.before.before.before.before.before.before.before.before.before.requires _ c.before.before.before.before.before.find-name.ensures c.before.before.before.before.if1.false _ c.before.before.before.parameters-of.ensures.0 c.before.before.if2.false _ c.before.type-place.ensures.0
+applied-requires c κs = applying_at _ _ _ _ _ _ _ _ c.before.before.before.before.before.before.before.before.before.before.requires _ c.before.before.before.before.before.find-name.ensures c.before.before.before.before.if1.false _ c.before.before.before.parameters-of.ensures.0 c.before.before.if2.false _ c.before.type-place.ensures.0
 
 -- src/references.rt:200:1
 same_length : tie.Need-same-length
@@ -43,7 +43,7 @@ same_length c = search rules
 
 -- src/references.rt:200:1
 returns-3 : tie.Need-returns-3
-returns-3 c = global-applied _ _ _ _ _ _ _ _ c.before.before.before.before.before.before.before.before.before.before.before.before.before.requires _ c.before.before.before.before.before.before.before.before.find-name.ensures c.before.before.before.before.before.before.before.if1.false _ c.before.before.before.before.before.before.parameters-of.ensures.0 c.before.before.before.before.before.if2.false _ c.before.before.before.before.type-place.ensures.0 _ _ _ _ _ c.before.before.applied.ensures
+returns-3 c = global_applied _ _ _ _ _ _ _ _ c.before.before.before.before.before.before.before.before.before.before.before.before.before.requires _ c.before.before.before.before.before.before.before.before.find-name.ensures c.before.before.before.before.before.before.before.if1.false _ c.before.before.before.before.before.before.parameters-of.ensures.0 c.before.before.before.before.before.if2.false _ c.before.before.before.before.type-place.ensures.0 _ _ _ _ _ c.before.before.applied.ensures
 
 pub global-applied-spec : {M : Type 1} → statement M
 global-applied-spec =

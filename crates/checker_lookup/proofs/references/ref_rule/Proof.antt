@@ -1,4 +1,4 @@
-use Rattle.checker_lookup.proofs.LookingUpApplied.{refers-plain, refers-local, consulted-with, refers-global}
+use Rattle.checker_lookup.proofs.LookingUpApplied.{refers_plain, refers_local, consulted_with, refers_global}
 use borrow.Author.Rules.{rules}
 use Rattle.checker_lookup.proofs.references.ref_rule.Statement.{statement}
 use Rattle.checker_lookup.proofs.references.ref_rule.Tie as tie
@@ -18,7 +18,7 @@ same_length c = search rules
 
 -- src/references.rt:249:9
 returns : tie.Need-returns
-returns c = refers-plain _ _ _ _ _ _ _ _ _ c.before.before.before.before.before.before.before.before.before.requires c.before.before.before.before.if1.true _ _ _ _ _ c.before.before.reference.ensures
+returns c = refers_plain _ _ _ _ _ _ _ _ _ c.before.before.before.before.before.before.before.before.before.requires c.before.before.before.before.if1.true _ _ _ _ _ c.before.before.reference.ensures
 
 -- src/references.rt:251:9
 find-requires : tie.Need-find-requires
@@ -26,11 +26,11 @@ find-requires c κs = search rules
 
 -- src/references.rt:253:9
 returns-2 : tie.Need-returns-2
-returns-2 c = refers-local _ _ _ _ _ _ _ _ _ c.before.before.before.before.before.before.before.requires c.before.before.if1.false _ c.before.find.ensures c.if2.true
+returns-2 c = refers_local _ _ _ _ _ _ _ _ _ c.before.before.before.before.before.before.before.requires c.before.before.if1.false _ c.before.find.ensures c.if2.true
 
 -- src/references.rt:260:5
 global-applied-requires : tie.Need-global-applied-requires
-global-applied-requires c κs = consulted-with _ _ _ _ _ _ _ _ _ c.before.before.before.before.before.before.before.before.requires c.before.before.before.if1.false _ c.before.before.find.ensures
+global-applied-requires c κs = consulted_with _ _ _ _ _ _ _ _ _ c.before.before.before.before.before.before.before.before.requires c.before.before.before.if1.false _ c.before.before.find.ensures
 
 -- src/references.rt:234:1
 same-length-2 : tie.Need-same-length-2
@@ -38,7 +38,7 @@ same-length-2 c = search rules
 
 -- src/references.rt:234:1
 returns-3 : tie.Need-returns-3
-returns-3 c = refers-global _ _ _ _ _ _ _ _ _ c.before.before.before.before.before.before.before.before.before.before.before.requires c.before.before.before.before.before.before.if1.false _ c.before.before.before.before.before.find.ensures c.before.before.before.before.if2.false _ _ _ _ _ c.before.before.global-applied.ensures
+returns-3 c = refers_global _ _ _ _ _ _ _ _ _ c.before.before.before.before.before.before.before.before.before.before.before.requires c.before.before.before.before.before.before.if1.false _ c.before.before.before.before.before.find.ensures c.before.before.before.before.if2.false _ _ _ _ _ c.before.before.global_applied.ensures
 
 pub ref-rule-spec : {M : Type 1} → statement M
 ref-rule-spec =

@@ -1,4 +1,4 @@
-use Rattle.checker_lookup.proofs.LookingUp.{local-entering, local-refers, consulted, global-refers}
+use Rattle.checker_lookup.proofs.LookingUp.{local_entering, local_refers, consulted, global_refers}
 use borrow.Author.Rules.{rules}
 use Rattle.checker_lookup.proofs.references.reference.Statement.{statement}
 use Rattle.checker_lookup.proofs.references.reference.Tie as tie
@@ -27,7 +27,7 @@ word-requires c κs = search rules
 
 -- src/references.rt:123:13
 settled-requires : tie.Need-settled-requires
-settled-requires c κs = local-entering _ _ _ _ _ _ _ _ c.before.before.before.before.before.before.before.requires c.before.before.before.find.ensures c.before.before.if1.true _ c.word.ensures.0
+settled-requires c κs = local_entering _ _ _ _ _ _ _ _ c.before.before.before.before.before.before.before.requires c.before.before.before.find.ensures c.before.before.if1.true _ c.word.ensures.0
 
 -- src/references.rt:124:9
 same_length : tie.Need-same-length
@@ -35,7 +35,7 @@ same_length c = search rules
 
 -- src/references.rt:124:9
 returns : tie.Need-returns
-returns c = local-refers _ _ _ _ _ _ _ _ c.before.before.before.before.before.before.before.before.before.before.requires c.before.before.before.before.before.before.find.ensures c.before.before.before.before.before.if1.true _ c.before.before.before.word.ensures.0 _ _ _ _ c.before.before.settled.ensures
+returns c = local_refers _ _ _ _ _ _ _ _ c.before.before.before.before.before.before.before.before.before.before.requires c.before.before.before.before.before.before.find.ensures c.before.before.before.before.before.if1.true _ c.before.before.before.word.ensures.0 _ _ _ _ c.before.before.settled.ensures
 
 -- src/references.rt:131:5
 global-requires : tie.Need-global-requires
@@ -47,7 +47,7 @@ same-length-2 c = search rules
 
 -- src/references.rt:109:1
 returns-2 : tie.Need-returns-2
-returns-2 c = global-refers _ _ _ _ _ _ _ _ c.before.before.before.before.before.before.before.before.before.requires c.before.before.before.before.before.find.ensures c.before.before.before.before.if1.false _ _ _ _ _ c.before.before.global.ensures
+returns-2 c = global_refers _ _ _ _ _ _ _ _ c.before.before.before.before.before.before.before.before.before.requires c.before.before.before.before.before.find.ensures c.before.before.before.before.if1.false _ _ _ _ _ c.before.before.global.ensures
 
 pub reference-spec : {M : Type 1} → statement M
 reference-spec =

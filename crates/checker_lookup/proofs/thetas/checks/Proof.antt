@@ -1,4 +1,4 @@
-use Rattle.checker_lookup.proofs.CheckLaws.{checked-names, checked-parameters, checked-strokes, checked-all}
+use Rattle.checker_lookup.proofs.CheckLaws.{checked_names, checked_parameters, checked_strokes, checked_all}
 use borrow.Author.Tests.{not-true, not-false}
 use borrow.Author.Rules.{rules}
 use Rattle.checker_lookup.proofs.thetas.checks.Statement.{statement}
@@ -18,7 +18,7 @@ same_length c = search rules
 
 -- src/thetas.rt:95:9
 returns : tie.Need-returns
-returns c = checked-names _ _ _ _ _ _ _ _ _ c.before.before.before.place-rows.ensures (not-true _ c.if1.true)
+returns c = checked_names _ _ _ _ _ _ _ _ _ c.before.before.before.place-rows.ensures (not-true _ c.if1.true)
 
 -- src/thetas.rt:98:9
 same-length-2 : tie.Need-same-length-2
@@ -26,7 +26,7 @@ same-length-2 c = search rules
 
 -- src/thetas.rt:98:9
 returns-2 : tie.Need-returns-2
-returns-2 c = checked-parameters _ _ _ _ _ _ _ _ _ c.before.before.before.before.place-rows.ensures (not-false _ c.before.if1.false) c.if2.true
+returns-2 c = checked_parameters _ _ _ _ _ _ _ _ _ c.before.before.before.before.place-rows.ensures (not-false _ c.before.if1.false) c.if2.true
 
 -- src/thetas.rt:100:8
 some-stroked-requires : tie.Need-some-stroked-requires
@@ -38,7 +38,7 @@ same-length-3 c = search rules
 
 -- src/thetas.rt:101:9
 returns-3 : tie.Need-returns-3
-returns-3 c = checked-strokes _ _ _ _ _ _ _ _ _ c.before.before.before.before.before.before.before.place-rows.ensures (not-false _ c.before.before.before.before.if1.false) c.before.before.before.if2.false _ c.before.some-stroked.ensures c.if3.true
+returns-3 c = checked_strokes _ _ _ _ _ _ _ _ _ c.before.before.before.before.before.before.before.place-rows.ensures (not-false _ c.before.before.before.before.if1.false) c.before.before.before.if2.false _ c.before.some-stroked.ensures c.if3.true
 
 -- src/thetas.rt:82:1
 same-length-4 : tie.Need-same-length-4
@@ -46,7 +46,7 @@ same-length-4 c = search rules
 
 -- src/thetas.rt:82:1
 returns-4 : tie.Need-returns-4
-returns-4 c = checked-all _ _ _ _ _ _ _ _ _ c.before.before.before.before.before.before.before.place-rows.ensures (not-false _ c.before.before.before.before.if1.false) c.before.before.before.if2.false _ c.before.some-stroked.ensures c.if3.false
+returns-4 c = checked_all _ _ _ _ _ _ _ _ _ c.before.before.before.before.before.before.before.place-rows.ensures (not-false _ c.before.before.before.before.if1.false) c.before.before.before.if2.false _ c.before.some-stroked.ensures c.if3.false
 
 pub checks-spec : {M : Type 1} → statement M
 checks-spec =

@@ -1,4 +1,4 @@
-use Rattle.checker_lookup.proofs.ThetaLaws.{scope-local, scope-unknown, scope-generic, scope-recorded}
+use Rattle.checker_lookup.proofs.ThetaLaws.{scope_local, scope_unknown, scope_generic, scope_recorded}
 use borrow.Author.Rules.{rules}
 use Rattle.checker_lookup.proofs.thetas.place_in_scope.Statement.{statement}
 use Rattle.checker_lookup.proofs.thetas.place_in_scope.Tie as tie
@@ -32,7 +32,7 @@ add-result c = search rules
 
 -- src/thetas.rt:21:9
 returns : tie.Need-returns
-returns c = scope-local _ _ _ _ _ c.before.before.find.ensures c.before.if1.true _ c.word.ensures.0
+returns c = scope_local _ _ _ _ _ c.before.before.find.ensures c.before.if1.true _ c.word.ensures.0
 
 -- src/thetas.rt:23:9
 find-name-requires : tie.Need-find-name-requires
@@ -40,7 +40,7 @@ find-name-requires c κs = search rules
 
 -- src/thetas.rt:25:9
 returns-2 : tie.Need-returns-2
-returns-2 c = scope-unknown _ _ _ _ _ c.before.before.before.find.ensures c.before.before.if1.false _ c.before.find-name.ensures c.if2.true
+returns-2 c = scope_unknown _ _ _ _ _ c.before.before.before.find.ensures c.before.before.if1.false _ c.before.find-name.ensures c.if2.true
 
 -- src/thetas.rt:27:8
 parameters-of-requires : tie.Need-parameters-of-requires
@@ -48,7 +48,7 @@ parameters-of-requires c κs = search rules
 
 -- src/thetas.rt:28:9
 returns-3 : tie.Need-returns-3
-returns-3 c = scope-generic _ _ _ _ _ c.before.before.before.before.before.find.ensures c.before.before.before.before.if1.false _ c.before.before.before.find-name.ensures c.before.before.if2.false _ c.before.parameters-of.ensures.0 c.if3.true
+returns-3 c = scope_generic _ _ _ _ _ c.before.before.before.before.before.find.ensures c.before.before.before.before.if1.false _ c.before.before.before.find-name.ensures c.before.before.if2.false _ c.before.parameters-of.ensures.0 c.if3.true
 
 -- src/thetas.rt:30:24
 type-place-requires : tie.Need-type-place-requires
@@ -60,7 +60,7 @@ add-result-2 c = search rules
 
 -- src/thetas.rt:15:1
 returns-4 : tie.Need-returns-4
-returns-4 c = scope-recorded _ _ _ _ _ c.before.before.before.before.before.before.find.ensures c.before.before.before.before.before.if1.false _ c.before.before.before.before.find-name.ensures c.before.before.before.if2.false _ c.before.before.parameters-of.ensures.0 c.before.if3.false _ c.type-place.ensures.0
+returns-4 c = scope_recorded _ _ _ _ _ c.before.before.before.before.before.before.find.ensures c.before.before.before.before.before.if1.false _ c.before.before.before.before.find-name.ensures c.before.before.before.if2.false _ c.before.before.parameters-of.ensures.0 c.before.if3.false _ c.type-place.ensures.0
 
 pub place-in-scope-spec : {M : Type 1} → statement M
 place-in-scope-spec =

@@ -1,5 +1,5 @@
 use borrow.Author.Tests.{not-true, not-false}
-use Rattle.checker_lookup.proofs.PlacedLaws.{row-passed, row-absent, place-fits, row-present}
+use Rattle.checker_lookup.proofs.PlacedLaws.{row_passed, row_absent, place_fits, row_present}
 use native.Mathlib.Omega.{arith}
 use mathlib.Core.Path.{sym, ◌∙◌}
 use borrow.Author.Rules.{rules}
@@ -26,7 +26,7 @@ same_length c = search rules
 
 -- src/thetas.rt:56:9
 returns : tie.Need-returns
-returns c = row-passed _ _ _ _ _ _ c.before.before.before.before.before.before.requires c.before.before.word.ensures.0 (sym c.before.takes.ensures ∙ not-true _ c.if1.true)
+returns c = row_passed _ _ _ _ _ _ c.before.before.before.before.before.before.requires c.before.before.word.ensures.0 (sym c.before.takes.ensures ∙ not-true _ c.if1.true)
 
 -- src/thetas.rt:58:40
 add-place-in-scope : tie.Need-overflow-add-place-in-scope
@@ -42,7 +42,7 @@ same-length-2 c = search rules
 
 -- src/thetas.rt:60:9
 returns-2 : tie.Need-returns-2
-returns-2 c = row-absent _ _ _ _ _ _ c.before.before.before.before.before.before.before.before.before.requires c.before.before.before.before.before.word.ensures.0 (sym c.before.before.before.before.takes.ensures ∙ not-false _ c.before.before.before.if1.false) _ c.before.place-in-scope.ensures c.if2.true
+returns-2 c = row_absent _ _ _ _ _ _ c.before.before.before.before.before.before.before.before.before.requires c.before.before.before.before.before.word.ensures.0 (sym c.before.before.before.before.takes.ensures ∙ not-false _ c.before.before.before.if1.false) _ c.before.place-in-scope.ensures c.if2.true
 
 -- src/thetas.rt:62:14
 add-store : tie.Need-overflow-add-store
@@ -54,7 +54,7 @@ sub-store c = search rules
 
 -- src/thetas.rt:62:22
 cast-store : tie.Need-overflow-cast-store
-cast-store c = let z = place-fits _ _ _ _ _ _ c.before.before.before.before.before.before.before.before.before.before.requires c.before.before.before.before.before.before.word.ensures.0 (sym c.before.before.before.before.before.takes.ensures ∙ not-false _ c.before.before.before.before.if1.false) _ c.before.before.place-in-scope.ensures c.before.if2.false in omega arith
+cast-store c = let z = place_fits _ _ _ _ _ _ c.before.before.before.before.before.before.before.before.before.before.requires c.before.before.before.before.before.before.word.ensures.0 (sym c.before.before.before.before.before.takes.ensures ∙ not-false _ c.before.before.before.before.if1.false) _ c.before.before.place-in-scope.ensures c.before.if2.false in omega arith
 
 -- src/thetas.rt:62:5
 store-requires : tie.Need-store-requires
@@ -66,7 +66,7 @@ same-length-3 c = search rules
 
 -- src/thetas.rt:50:1
 returns-3 : tie.Need-returns-3
-returns-3 c = row-present _ _ _ _ _ _ c.before.before.before.before.before.before.before.before.before.before.before.before.before.requires c.before.before.before.before.before.before.before.before.before.word.ensures.0 (sym c.before.before.before.before.before.before.before.before.takes.ensures ∙ not-false _ c.before.before.before.before.before.before.before.if1.false) _ c.before.before.before.before.before.place-in-scope.ensures c.before.before.before.before.if2.false _ c.before.before.store.ensures
+returns-3 c = row_present _ _ _ _ _ _ c.before.before.before.before.before.before.before.before.before.before.before.before.before.requires c.before.before.before.before.before.before.before.before.before.word.ensures.0 (sym c.before.before.before.before.before.before.before.before.takes.ensures ∙ not-false _ c.before.before.before.before.before.before.before.if1.false) _ c.before.before.before.before.before.place-in-scope.ensures c.before.before.before.before.if2.false _ c.before.before.store.ensures
 
 pub place-row-spec : {M : Type 1} → statement M
 place-row-spec =

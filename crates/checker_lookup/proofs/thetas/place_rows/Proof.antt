@@ -1,5 +1,5 @@
 use borrow.Author.Tests.{not-true, not-false}
-use Rattle.checker_lookup.proofs.PlacedLaws.{Placing, placing-start, placing-ask, placing-next, placing-stops, placing-end}
+use Rattle.checker_lookup.proofs.PlacedLaws.{Placing, placing_start, placing_ask, placing_next, placing_stops, placing_end}
 use lib.ListN.{length}
 use native.Mathlib.Omega.{arith}
 use Prim.Native.Nat.{◌-◌, ◌≤◌}
@@ -19,7 +19,7 @@ decreases-loop d w₀ rows base m stroke j₀ w j = m - j
 
 -- src/thetas.rt:72:5
 loop-holds : tie.Need-loop-init invariant-loop decreases-loop
-loop-holds c = (omega arith, refl, placing-start _ _ _ _ _)
+loop-holds c = (omega arith, refl, placing_start _ _ _ _ _)
 
 -- src/thetas.rt:73:42
 mul-place-row : tie.Need-overflow-mul-place-row invariant-loop decreases-loop
@@ -31,7 +31,7 @@ add-place-row c = search rules
 
 -- src/thetas.rt:73:13
 place-row-requires : tie.Need-place-row-requires invariant-loop decreases-loop
-place-row-requires c κs = placing-ask _ _ _ _ _ _ _ _ c.before.before.before.before.before.requires c.before.before.loop.invariant.2 c.before.before.loop.invariant.1 c.before.loop-test.true
+place-row-requires c κs = placing_ask _ _ _ _ _ _ _ _ c.before.before.before.before.before.requires c.before.before.loop.invariant.2 c.before.before.loop.invariant.1 c.before.loop-test.true
 
 -- src/thetas.rt:74:13
 same_length : tie.Need-same-length invariant-loop decreases-loop
@@ -39,7 +39,7 @@ same_length c = c.before.before.before.place-row.auto.1.0 ∙ c.before.before.be
 
 -- src/thetas.rt:74:13
 returns : tie.Need-returns invariant-loop decreases-loop
-returns c = placing-stops _ _ _ _ _ _ _ _ c.before.before.before.before.before.before.before.before.before.requires c.before.before.before.before.before.before.loop.invariant.2 _ _ c.before.before.before.place-row.ensures c.before.before.before.before.before.loop-test.true (not-true _ c.if1.true)
+returns c = placing_stops _ _ _ _ _ _ _ _ c.before.before.before.before.before.before.before.before.before.requires c.before.before.before.before.before.before.loop.invariant.2 _ _ c.before.before.before.place-row.ensures c.before.before.before.before.before.loop-test.true (not-true _ c.if1.true)
 
 -- src/thetas.rt:76:9
 add-j : tie.Need-overflow-add-j invariant-loop decreases-loop
@@ -51,7 +51,7 @@ loop-less c = let l = c.before.before.before.before.before.loop-test.true in ome
 
 -- src/thetas.rt:72:5
 loop-again : tie.Need-loop-preserved invariant-loop decreases-loop
-loop-again c = let l = c.before.before.before.before.before.loop-test.true in (omega arith, c.before.before.before.place-row.auto.1.0 ∙ c.before.before.before.before.before.before.loop.invariant.1, placing-next _ _ _ _ _ _ _ _ c.before.before.before.before.before.before.before.before.before.requires c.before.before.before.before.before.before.loop.invariant.2 _ _ c.before.before.before.place-row.ensures (not-false _ c.if1.false))
+loop-again c = let l = c.before.before.before.before.before.loop-test.true in (omega arith, c.before.before.before.place-row.auto.1.0 ∙ c.before.before.before.before.before.before.loop.invariant.1, placing_next _ _ _ _ _ _ _ _ c.before.before.before.before.before.before.before.before.before.requires c.before.before.before.before.before.before.loop.invariant.2 _ _ c.before.before.before.place-row.ensures (not-false _ c.if1.false))
 
 -- src/thetas.rt:67:1
 same-length-2 : tie.Need-same-length-2 invariant-loop decreases-loop
@@ -59,7 +59,7 @@ same-length-2 c = c.before.loop.invariant.1
 
 -- src/thetas.rt:67:1
 returns-2 : tie.Need-returns-2 invariant-loop decreases-loop
-returns-2 c = let l = c.loop-test.false in let i = c.before.loop.invariant.0 in placing-end _ _ _ _ _ _ _ _ c.before.before.before.before.requires c.before.loop.invariant.2 (omega arith)
+returns-2 c = let l = c.loop-test.false in let i = c.before.loop.invariant.0 in placing_end _ _ _ _ _ _ _ _ c.before.before.before.before.requires c.before.loop.invariant.2 (omega arith)
 
 pub place-rows-spec : {M : Type 1} → statement M
 place-rows-spec =

@@ -1,4 +1,4 @@
-use Rattle.checker_lookup.proofs.ThetaRules.{no-schema, components-asked, rows-asked, theta-refused, theta-binding, theta-typed}
+use Rattle.checker_lookup.proofs.ThetaRules.{no_schema_lem, components_asked, rows_asked, theta_refused, theta_binding, theta_typed}
 use borrow.Author.Rules.{rules}
 use Rattle.checker_lookup.proofs.thetas.theta_rule.Statement.{statement}
 use Rattle.checker_lookup.proofs.thetas.theta_rule.Tie as tie
@@ -7,7 +7,7 @@ use Rattle.checker_lookup.proofs.thetas.theta_rule.Lts as lts
 use Rattle.checker_dictionary.proofs.index.find_schema.Reads as find-schema-reads
 use Rattle.checker_dictionary.proofs.lookup.parameters_of.Reads as parameters-of-reads
 use Rattle.checker_dictionary.proofs.lookup.type_place.Reads as type-place-reads
-use Rattle.checker_lookup.proofs.bindings.binding.Reads as binding-reads
+use Rattle.checker_lookup.proofs.bindings.binding.Reads as binding_reads
 use Rattle.checker_lookup.proofs.components.component_rows.Reads as component-rows-reads
 use Rattle.checker_lookup.proofs.thetas.checks.Reads as checks-reads
 
@@ -17,7 +17,7 @@ find-schema-requires c κs = search rules
 
 -- src/thetas.rt:123:9
 returns : tie.Need-returns
-returns c = no-schema _ _ _ _ _ _ _ _ _ c.before.before.before.before.before.before.requires _ c.before.find-schema.ensures c.if1.true
+returns c = no_schema_lem _ _ _ _ _ _ _ _ _ c.before.before.before.before.before.before.requires _ c.before.find-schema.ensures c.if1.true
 
 -- src/thetas.rt:130:50
 type-place-requires : tie.Need-type-place-requires
@@ -29,7 +29,7 @@ add-component-rows c = search rules
 
 -- src/thetas.rt:130:9
 component-rows-requires : tie.Need-component-rows-requires
-component-rows-requires c κs = components-asked _ _ _ _ _ _ _ _ _ c.before.before.before.before.before.before.before.before.before.requires _ c.before.before.before.before.find-schema.ensures c.before.before.before.if1.false _ c.type-place.ensures.0
+component-rows-requires c κs = components_asked _ _ _ _ _ _ _ _ _ c.before.before.before.before.before.before.before.before.before.requires _ c.before.before.before.before.find-schema.ensures c.before.before.before.if1.false _ c.type-place.ensures.0
 
 -- src/thetas.rt:131:46
 parameters-of-requires : tie.Need-parameters-of-requires
@@ -37,19 +37,19 @@ parameters-of-requires c κs = search rules
 
 -- src/thetas.rt:131:9
 checks-requires : tie.Need-checks-requires
-checks-requires c κs = rows-asked _ _ _ _ _ _ _ _ _ c.before.before.before.before.before.before.before.before.before.before.before.before.before.before.requires _ c.before.before.before.before.before.before.before.before.before.find-schema.ensures c.before.before.before.before.before.before.before.before.if1.false _ c.before.before.before.before.before.type-place.ensures.0 _ _ c.before.before.before.before.component-rows.ensures
+checks-requires c κs = rows_asked _ _ _ _ _ _ _ _ _ c.before.before.before.before.before.before.before.before.before.before.before.before.before.before.requires _ c.before.before.before.before.before.before.before.before.before.find-schema.ensures c.before.before.before.before.before.before.before.before.if1.false _ c.before.before.before.before.before.type-place.ensures.0 _ _ c.before.before.before.before.component_rows_lem.ensures
 
 -- src/thetas.rt:133:9
 returns-2 : tie.Need-returns-2
-returns-2 c = theta-refused _ _ _ _ _ _ _ _ _ c.before.before.before.before.before.before.before.before.before.before.before.before.before.before.before.before.before.before.requires _ c.before.before.before.before.before.before.before.before.before.before.before.before.before.find-schema.ensures c.before.before.before.before.before.before.before.before.before.before.before.before.if1.false _ c.before.before.before.before.before.before.before.before.before.type-place.ensures.0 _ _ c.before.before.before.before.before.before.before.before.component-rows.ensures _ c.before.before.before.before.parameters-of.ensures.0 _ _ c.before.before.before.checks.ensures c.if2.true
+returns-2 c = theta_refused _ _ _ _ _ _ _ _ _ c.before.before.before.before.before.before.before.before.before.before.before.before.before.before.before.before.before.before.requires _ c.before.before.before.before.before.before.before.before.before.before.before.before.before.find-schema.ensures c.before.before.before.before.before.before.before.before.before.before.before.before.if1.false _ c.before.before.before.before.before.before.before.before.before.type-place.ensures.0 _ _ c.before.before.before.before.before.before.before.before.component_rows_lem.ensures _ c.before.before.before.before.parameters-of.ensures.0 _ _ c.before.before.before.checks.ensures c.if2.true
 
 -- src/thetas.rt:140:9
 binding-requires : tie.Need-binding-requires
-binding-requires c κs = theta-binding _ _ _ _ _ _ _ _ _ c.before.before.before.before.before.before.before.before.before.before.before.before.before.before.before.before.before.before.before.before.requires _ c.before.before.before.before.before.before.before.before.before.before.before.before.before.before.before.find-schema.ensures c.before.before.before.before.before.before.before.before.before.before.before.before.before.before.if1.false _ c.before.before.before.before.before.before.before.before.before.before.before.type-place.ensures.0 _ _ c.before.before.before.before.before.before.before.before.before.before.component-rows.ensures _ c.before.before.before.before.before.before.parameters-of.ensures.0 _ _ c.before.before.before.before.before.checks.ensures c.before.before.if2.false c.before.before.before.before.before.checks.auto.1.0
+binding-requires c κs = theta_binding _ _ _ _ _ _ _ _ _ c.before.before.before.before.before.before.before.before.before.before.before.before.before.before.before.before.before.before.before.before.requires _ c.before.before.before.before.before.before.before.before.before.before.before.before.before.before.before.find-schema.ensures c.before.before.before.before.before.before.before.before.before.before.before.before.before.before.if1.false _ c.before.before.before.before.before.before.before.before.before.before.before.type-place.ensures.0 _ _ c.before.before.before.before.before.before.before.before.before.before.component_rows_lem.ensures _ c.before.before.before.before.before.before.parameters-of.ensures.0 _ _ c.before.before.before.before.before.checks.ensures c.before.before.if2.false c.before.before.before.before.before.checks.auto.1.0
 
 -- src/thetas.rt:107:1
 returns-3 : tie.Need-returns-3
-returns-3 c = theta-typed _ _ _ _ _ _ _ _ _ c.before.before.before.before.before.before.before.before.before.before.before.before.before.before.before.before.before.before.before.before.before.before.before.requires _ c.before.before.before.before.before.before.before.before.before.before.before.before.before.before.before.before.before.before.find-schema.ensures c.before.before.before.before.before.before.before.before.before.before.before.before.before.before.before.before.before.if1.false _ c.before.before.before.before.before.before.before.before.before.before.before.before.before.before.type-place.ensures.0 _ _ c.before.before.before.before.before.before.before.before.before.before.before.before.before.component-rows.ensures _ c.before.before.before.before.before.before.before.before.before.parameters-of.ensures.0 _ _ c.before.before.before.before.before.before.before.before.checks.ensures c.before.before.before.before.before.if2.false _ _ _ _ c.before.before.binding.ensures
+returns-3 c = theta_typed _ _ _ _ _ _ _ _ _ c.before.before.before.before.before.before.before.before.before.before.before.before.before.before.before.before.before.before.before.before.before.before.before.requires _ c.before.before.before.before.before.before.before.before.before.before.before.before.before.before.before.before.before.before.find-schema.ensures c.before.before.before.before.before.before.before.before.before.before.before.before.before.before.before.before.before.if1.false _ c.before.before.before.before.before.before.before.before.before.before.before.before.before.before.type-place.ensures.0 _ _ c.before.before.before.before.before.before.before.before.before.before.before.before.before.component_rows_lem.ensures _ c.before.before.before.before.before.before.before.before.before.parameters-of.ensures.0 _ _ c.before.before.before.before.before.before.before.before.checks.ensures c.before.before.before.before.before.if2.false _ _ _ _ c.before.before.binding.ensures
 
 pub theta-rule-spec : {M : Type 1} → statement M
 theta-rule-spec =

@@ -1,4 +1,4 @@
-use Rattle.checker_paragraphs.proofs.AbbreviationLaws.{type-fine, told-unvisited, told-refused}
+use Rattle.checker_paragraphs.proofs.AbbreviationLaws.{type_fine, told_unvisited, told_refused}
 use Rattle.checker_paragraphs.specs.Abbreviations.{entered}
 use borrow.Author.Rules.{rules}
 use Rattle.checker_paragraphs.proofs.abbreviations.abbreviated.Statement.{statement}
@@ -16,7 +16,7 @@ unlined-requires c κs = search rules
 
 -- src/abbreviations.rt:75:9
 returns : tie.Need-returns
-returns c = told-unvisited c.before.if1.true c.unlined.ensures
+returns c = told_unvisited c.before.if1.true c.unlined.ensures
 
 -- src/abbreviations.rt:77:9
 type-finding-requires : tie.Need-type-finding-requires
@@ -28,11 +28,11 @@ lined-at-requires c κs = search rules
 
 -- src/abbreviations.rt:79:9
 returns-2 : tie.Need-returns-2
-returns-2 c = told-refused c.before.before.before.before.before.before.before.if1.false c.before.before.before.before.type-finding.ensures c.before.if2.true c.lined-at.ensures
+returns-2 c = told_refused c.before.before.before.before.before.before.before.if1.false c.before.before.before.before.type-finding.ensures c.before.if2.true c.lined-at.ensures
 
 -- src/abbreviations.rt:81:5
 enter-requires : tie.Need-enter-requires
-enter-requires c κs = let A = c.before.before.before.before.before.before.before.before.before.before.before.before.before.before.requires in (A.2.entry c.before.before.before.before.before.before.before.before.if1.false _ (type-fine c.before.before.before.before.before.type-finding.ensures c.before.before.if2.false), A.1, A.2.low c.before.before.before.before.before.before.before.before.if1.false)
+enter-requires c κs = let A = c.before.before.before.before.before.before.before.before.before.before.before.before.before.before.requires in (A.2.entry c.before.before.before.before.before.before.before.before.if1.false _ (type_fine c.before.before.before.before.before.type-finding.ensures c.before.before.if2.false), A.1, A.2.low c.before.before.before.before.before.before.before.before.if1.false)
 
 -- src/abbreviations.rt:82:5
 lined-at-requires-2 : tie.Need-lined-at-requires-2
@@ -40,7 +40,7 @@ lined-at-requires-2 c κs = search rules
 
 -- src/abbreviations.rt:62:1
 returns-3 : tie.Need-returns-3
-returns-3 c = let L = c.lined-at2.ensures in entered c.before.before.before.before.before.before.before.before.before.before.before.before.before.before.if1.false L.number_is L.place_is L.count-is L.at-is _ (type-fine c.before.before.before.before.before.before.before.before.before.before.before.type-finding.ensures c.before.before.before.before.before.before.before.before.if2.false) c.before.before.before.before.before.enter.ensures
+returns-3 c = let L = c.lined-at2.ensures in entered c.before.before.before.before.before.before.before.before.before.before.before.before.before.before.if1.false L.number_is L.place_is L.count_is L.at_is _ (type_fine c.before.before.before.before.before.before.before.before.before.before.before.type-finding.ensures c.before.before.before.before.before.before.before.before.if2.false) c.before.before.before.before.before.enter.ensures
 
 pub abbreviated-spec : {M : Type 1} → statement M
 abbreviated-spec =

@@ -1,4 +1,4 @@
-use Rattle.checker_paragraphs.proofs.AbbreviationLaws.{words-end, entry-made}
+use Rattle.checker_paragraphs.proofs.AbbreviationLaws.{words_end, entry_made}
 use native.Mathlib.Omega.{arith}
 use borrow.Author.Rules.{rules}
 use Rattle.checker_paragraphs.proofs.abbreviations.enter.Statement.{statement}
@@ -20,11 +20,11 @@ settled-words-requires c κs = search rules
 
 -- src/abbreviations.rt:57:26
 sub-put-head : tie.Need-overflow-sub-put-head
-sub-put-head c = let y = words-end c.before.before.before.before.before.before.before.before.before.before.requires.0 c.before.before.before.settled-words.ensures in let z = y.0 in omega arith
+sub-put-head c = let y = words_end c.before.before.before.before.before.before.before.before.before.before.requires.0 c.before.before.before.settled-words.ensures in let z = y.0 in omega arith
 
 -- src/abbreviations.rt:57:26
 sub-put-head-2 : tie.Need-overflow-sub-put-head-2
-sub-put-head-2 c = let y = words-end c.before.before.before.before.before.before.before.before.before.before.requires.0 c.before.before.before.settled-words.ensures in let z = y.0 in omega arith
+sub-put-head-2 c = let y = words_end c.before.before.before.before.before.before.before.before.before.before.requires.0 c.before.before.before.settled-words.ensures in let z = y.0 in omega arith
 
 -- src/abbreviations.rt:57:58
 word-requires : tie.Need-word-requires
@@ -32,7 +32,7 @@ word-requires c κs = search rules
 
 -- src/abbreviations.rt:57:5
 put-head-requires : tie.Need-put-head-requires
-put-head-requires c κs = let y = words-end c.before.before.before.before.before.before.before.before.before.before.before.requires.0 c.before.before.before.before.settled-words.ensures in let z = y.1 in (omega arith, omega arith, omega arith, c.word.ensures.1, c.before.before.before.before.before.before.before.before.before.before.before.requires.1)
+put-head-requires c κs = let y = words_end c.before.before.before.before.before.before.before.before.before.before.before.requires.0 c.before.before.before.before.settled-words.ensures in let z = y.1 in (omega arith, omega arith, omega arith, c.word.ensures.1, c.before.before.before.before.before.before.before.before.before.before.before.requires.1)
 
 -- src/abbreviations.rt:58:5
 wipe-requires : tie.Need-wipe-requires
@@ -48,7 +48,7 @@ same-length-2 c = search rules
 
 -- src/abbreviations.rt:43:1
 returns : tie.Need-returns
-returns c = entry-made _ _ c.before.before.before.before.before.before.before.before.before.before.before.settled-words.ensures c.before.before.before.before.before.before.before.word.ensures.0 c.before.before.before.before.before.before.put-head.ensures c.before.before.wipe.ensures
+returns c = entry_made _ _ c.before.before.before.before.before.before.before.before.before.before.before.settled-words.ensures c.before.before.before.before.before.before.before.word.ensures.0 c.before.before.before.before.before.before.put-head.ensures c.before.before.wipe.ensures
 
 pub enter_spec : {M : Type 1} → statement M
 enter_spec =

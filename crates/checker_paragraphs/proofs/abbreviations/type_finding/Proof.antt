@@ -1,4 +1,4 @@
-use Rattle.checker_paragraphs.proofs.AbbreviationLaws.{type-several, type-sizing, type-clash, type-large, type-none}
+use Rattle.checker_paragraphs.proofs.AbbreviationLaws.{type_several, type_sizing, type_clash, type_large, type_none}
 use borrow.Author.Tests.{not-true, not-false}
 use borrow.Author.Rules.{rules}
 use Rattle.checker_paragraphs.proofs.abbreviations.type_finding.Statement.{statement}
@@ -20,7 +20,7 @@ same_length c = search rules
 
 -- src/abbreviations.rt:31:9
 returns : tie.Need-returns
-returns c = type-several c.before.before.before.close.ensures (not-true _ c.if1.true)
+returns c = type_several c.before.before.before.close.ensures (not-true _ c.if1.true)
 
 -- src/abbreviations.rt:33:22
 span-requires : tie.Need-span-requires
@@ -36,11 +36,11 @@ same-length-2 c = search rules
 
 -- src/abbreviations.rt:34:9
 returns-2 : tie.Need-returns-2
-returns-2 c = type-clash c.before.before.before.before.before.before.close.ensures (not-false _ c.before.before.before.if1.false) c.before.before.span.ensures c.before.names-new.ensures (not-true _ c.if2.true)
+returns-2 c = type_clash c.before.before.before.before.before.before.close.ensures (not-false _ c.before.before.before.if1.false) c.before.before.span.ensures c.before.names_new.ensures (not-true _ c.if2.true)
 
 -- src/abbreviations.rt:36:23
 settled-size-requires : tie.Need-settled-size-requires
-settled-size-requires c κs = type-sizing c.before.before.before.before.before.before.before.close.ensures c.before.before.before.before.before.before.before.before.before.before.before.before.before.requires (not-false _ c.before.before.before.before.if1.false)
+settled-size-requires c κs = type_sizing c.before.before.before.before.before.before.before.close.ensures c.before.before.before.before.before.before.before.before.before.before.before.before.before.requires (not-false _ c.before.before.before.before.if1.false)
 
 -- src/abbreviations.rt:37:9
 same-length-3 : tie.Need-same-length-3
@@ -48,7 +48,7 @@ same-length-3 c = search rules
 
 -- src/abbreviations.rt:37:9
 returns-3 : tie.Need-returns-3
-returns-3 c = type-large c.before.before.before.before.before.before.before.before.before.close.ensures (not-false _ c.before.before.before.before.before.before.if1.false) c.before.before.before.before.before.span.ensures c.before.before.before.before.names-new.ensures (not-false _ c.before.before.before.if2.false) c.before.settled-size.ensures c.if3.true
+returns-3 c = type_large c.before.before.before.before.before.before.before.before.before.close.ensures (not-false _ c.before.before.before.before.before.before.if1.false) c.before.before.before.before.before.span.ensures c.before.before.before.before.names_new.ensures (not-false _ c.before.before.before.if2.false) c.before.settled-size.ensures c.if3.true
 
 -- src/abbreviations.rt:26:1
 same-length-4 : tie.Need-same-length-4
@@ -56,7 +56,7 @@ same-length-4 c = search rules
 
 -- src/abbreviations.rt:26:1
 returns-4 : tie.Need-returns-4
-returns-4 c = type-none c.before.before.before.before.before.before.before.before.before.close.ensures (not-false _ c.before.before.before.before.before.before.if1.false) c.before.before.before.before.before.span.ensures c.before.before.before.before.names-new.ensures (not-false _ c.before.before.before.if2.false) c.before.settled-size.ensures c.before.before.before.before.before.before.before.before.before.close.auto.0 c.if3.false
+returns-4 c = type_none c.before.before.before.before.before.before.before.before.before.close.ensures (not-false _ c.before.before.before.before.before.before.if1.false) c.before.before.before.before.before.span.ensures c.before.before.before.before.names_new.ensures (not-false _ c.before.before.before.if2.false) c.before.settled-size.ensures c.before.before.before.before.before.before.before.before.before.close.auto.0 c.if3.false
 
 pub type-finding-spec : {M : Type 1} → statement M
 type-finding-spec =

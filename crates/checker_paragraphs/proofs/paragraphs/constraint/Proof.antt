@@ -1,4 +1,4 @@
-use Rattle.checker_paragraphs.proofs.ParagraphNodes.{constraint-ask, constraint-told}
+use Rattle.checker_paragraphs.proofs.ParagraphNodes.{constraint_ask, constraint_told}
 use mathlib.Core.Path.{refl}
 use native.Mathlib.Omega.{arith}
 use borrow.Author.Rules.{rules}
@@ -16,7 +16,7 @@ word-requires c κs = search rules
 
 -- src/paragraphs.rt:154:9
 pred-requires : tie.Need-pred-requires
-pred-requires c κs = constraint-ask c.before.before.before.before.before.before.before.before.requires.0 c.before.before.before.before.before.before.before.before.requires.2 c.before.before.before.before.before.before.before.before.requires.1 c.word.ensures.0
+pred-requires c κs = constraint_ask c.before.before.before.before.before.before.before.before.requires.0 c.before.before.before.before.before.before.before.before.requires.2 c.before.before.before.before.before.before.before.before.requires.1 c.word.ensures.0
 
 -- src/paragraphs.rt:155:5
 unlined-requires : tie.Need-unlined-requires
@@ -32,7 +32,7 @@ same-length-2 c = search rules
 
 -- src/paragraphs.rt:143:1
 returns : tie.Need-returns
-returns c = constraint-told c.before.before.before.before.before.before.before.before.before.before.before.before.before.before.requires.0 c.before.before.before.before.before.before.before.before.before.before.before.before.before.before.requires.2 c.before.before.before.before.before.before.before.before.before.before.before.before.before.before.requires.1 c.before.before.before.before.before.before.word.ensures.0 c.before.before.before.before.before.pred.ensures c.unlined.ensures
+returns c = constraint_told c.before.before.before.before.before.before.before.before.before.before.before.before.before.before.requires.0 c.before.before.before.before.before.before.before.before.before.before.before.before.before.before.requires.2 c.before.before.before.before.before.before.before.before.before.before.before.before.before.before.requires.1 c.before.before.before.before.before.before.word.ensures.0 c.before.before.before.before.before.pred.ensures c.unlined.ensures
 
 pub constraint-spec : {M : Type 1} → statement M
 constraint-spec =

@@ -1,4 +1,4 @@
-use Rattle.checker_paragraphs.proofs.ParagraphNodes.{node-small, refusing, agreeing, given-some, given-short, given-clashes, given-told}
+use Rattle.checker_paragraphs.proofs.ParagraphNodes.{node_small, refusing, agreeing, given_some, given_short, given_clashes, given_told}
 use mathlib.Core.Path.{refl}
 use native.Mathlib.Omega.{arith}
 use borrow.Author.Rules.{rules}
@@ -20,15 +20,15 @@ lined-at-requires c κs = search rules
 
 -- src/paragraphs.rt:59:9
 returns : tie.Need-returns
-returns c = given-clashes c.before.before.before.before.before.before.before.before.before.requires.0 c.before.before.before.before.before.before.before.before.before.requires.2 c.before.before.before.before.before.before.before.before.before.requires.1 c.before.before.names-new.ensures (refusing _ c.before.if1.true) c.lined-at.ensures
+returns c = given_clashes c.before.before.before.before.before.before.before.before.before.requires.0 c.before.before.before.before.before.before.before.before.before.requires.2 c.before.before.before.before.before.before.before.before.before.requires.1 c.before.before.names_new.ensures (refusing _ c.before.if1.true) c.lined-at.ensures
 
 -- src/paragraphs.rt:61:5
 given-entries-requires : tie.Need-given-entries-requires
-given-entries-requires c κs = let l = given-short c.before.before.before.before.before.before.before.before.before.requires.0 c.before.before.before.before.before.before.before.before.before.requires.2 c.before.before.before.before.before.before.before.before.before.requires.1 in omega arith
+given-entries-requires c κs = let l = given_short c.before.before.before.before.before.before.before.before.before.requires.0 c.before.before.before.before.before.before.before.before.before.requires.2 c.before.before.before.before.before.before.before.before.before.requires.1 in omega arith
 
 -- src/paragraphs.rt:62:20
 sub-lined-at : tie.Need-overflow-sub-lined-at
-sub-lined-at c = let l = given-some c.before.before.before.before.before.before.before.before.before.before.before.before.requires.0 c.before.before.before.before.before.before.before.before.before.before.before.before.requires.2 c.before.before.before.before.before.before.before.before.before.before.before.before.requires.1 in omega arith
+sub-lined-at c = let l = given_some c.before.before.before.before.before.before.before.before.before.before.before.before.requires.0 c.before.before.before.before.before.before.before.before.before.before.before.before.requires.2 c.before.before.before.before.before.before.before.before.before.before.before.before.requires.1 in omega arith
 
 -- src/paragraphs.rt:62:5
 lined-at-requires-2 : tie.Need-lined-at-requires-2
@@ -36,7 +36,7 @@ lined-at-requires-2 c κs = search rules
 
 -- src/paragraphs.rt:54:1
 returns-2 : tie.Need-returns-2
-returns-2 c = given-told c.before.before.before.before.before.before.before.before.before.before.before.before.before.requires.0 c.before.before.before.before.before.before.before.before.before.before.before.before.before.requires.2 c.before.before.before.before.before.before.before.before.before.before.before.before.before.requires.1 c.before.before.before.before.before.before.names-new.ensures (agreeing _ c.before.before.before.before.before.if1.false) c.before.before.before.given-entries.ensures c.lined-at2.ensures
+returns-2 c = given_told c.before.before.before.before.before.before.before.before.before.before.before.before.before.requires.0 c.before.before.before.before.before.before.before.before.before.before.before.before.before.requires.2 c.before.before.before.before.before.before.before.before.before.before.before.before.before.requires.1 c.before.before.before.before.before.before.names_new.ensures (agreeing _ c.before.before.before.before.before.if1.false) c.before.before.before.given-entries.ensures c.lined-at2.ensures
 
 pub given-spec : {M : Type 1} → statement M
 given-spec =

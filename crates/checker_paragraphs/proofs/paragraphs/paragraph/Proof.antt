@@ -1,4 +1,4 @@
-use Rattle.checker_paragraphs.proofs.ParagraphNodes.{kind-is, kind-last}
+use Rattle.checker_paragraphs.proofs.ParagraphNodes.{kind_is, kind_last}
 use mathlib.Core.Path.{refl}
 use native.Mathlib.Omega.{arith}
 use borrow.Author.Rules.{rules}
@@ -25,7 +25,7 @@ word-requires c κs = search rules
 
 -- src/paragraphs.rt:175:9
 given-requires : tie.Need-given-requires
-given-requires c κs = (node_of c.before.before.before.before.before.before.before.before.before.requires.0 c.before.before.before.before.part.ensures, kind-is _ _ _ _ _ c.before.before.before.before.part.ensures c.before.before.before.word.ensures.0 c.before.before.if1.true, c.before.before.before.before.before.before.before.before.before.requires.1)
+given-requires c κs = (node_of c.before.before.before.before.before.before.before.before.before.requires.0 c.before.before.before.before.part.ensures, kind_is _ _ _ _ _ c.before.before.before.before.part.ensures c.before.before.before.word.ensures.0 c.before.before.if1.true, c.before.before.before.before.before.before.before.before.before.requires.1)
 
 -- src/paragraphs.rt:175:9
 same_length : tie.Need-same-length
@@ -41,7 +41,7 @@ returns c = c.before.before.given.ensures
 
 -- src/paragraphs.rt:178:9
 axiomatic-requires : tie.Need-axiomatic-requires
-axiomatic-requires c κs = (node_of c.before.before.before.before.before.before.before.before.before.before.requires.0 c.before.before.before.before.before.part.ensures, kind-is _ _ _ _ _ c.before.before.before.before.before.part.ensures c.before.before.before.before.word.ensures.0 c.before.before.if2.true, c.before.before.before.before.before.before.before.before.before.before.requires.1)
+axiomatic-requires c κs = (node_of c.before.before.before.before.before.before.before.before.before.before.requires.0 c.before.before.before.before.before.part.ensures, kind_is _ _ _ _ _ c.before.before.before.before.before.part.ensures c.before.before.before.before.word.ensures.0 c.before.before.if2.true, c.before.before.before.before.before.before.before.before.before.before.requires.1)
 
 -- src/paragraphs.rt:178:9
 same-length-3 : tie.Need-same-length-3
@@ -57,7 +57,7 @@ returns-2 c = c.before.before.before.before.axiomatic.ensures
 
 -- src/paragraphs.rt:181:9
 schema-paragraph-requires : tie.Need-schema-paragraph-requires
-schema-paragraph-requires c κs = (node_of c.before.before.before.before.before.before.before.before.before.before.before.requires.0 c.before.before.before.before.before.before.part.ensures, kind-is _ _ _ _ _ c.before.before.before.before.before.before.part.ensures c.before.before.before.before.before.word.ensures.0 c.before.before.if3.true, c.before.before.before.before.before.before.before.before.before.before.before.requires.1)
+schema-paragraph-requires c κs = (node_of c.before.before.before.before.before.before.before.before.before.before.before.requires.0 c.before.before.before.before.before.before.part.ensures, kind_is _ _ _ _ _ c.before.before.before.before.before.before.part.ensures c.before.before.before.before.before.word.ensures.0 c.before.before.if3.true, c.before.before.before.before.before.before.before.before.before.before.before.requires.1)
 
 -- src/paragraphs.rt:181:9
 same-length-5 : tie.Need-same-length-5
@@ -73,7 +73,7 @@ returns-3 c = c.before.before.before.before.schema-paragraph.ensures
 
 -- src/paragraphs.rt:184:9
 abbreviation-requires : tie.Need-abbreviation-requires
-abbreviation-requires c κs = (node_of c.before.before.before.before.before.before.before.before.before.before.before.before.requires.0 c.before.before.before.before.before.before.before.part.ensures, kind-is _ _ _ _ _ c.before.before.before.before.before.before.before.part.ensures c.before.before.before.before.before.before.word.ensures.0 c.before.before.if4.true, c.before.before.before.before.before.before.before.before.before.before.before.before.requires.1)
+abbreviation-requires c κs = (node_of c.before.before.before.before.before.before.before.before.before.before.before.before.requires.0 c.before.before.before.before.before.before.before.part.ensures, kind_is _ _ _ _ _ c.before.before.before.before.before.before.before.part.ensures c.before.before.before.before.before.before.word.ensures.0 c.before.before.if4.true, c.before.before.before.before.before.before.before.before.before.before.before.before.requires.1)
 
 -- src/paragraphs.rt:184:9
 same-length-7 : tie.Need-same-length-7
@@ -89,7 +89,7 @@ returns-4 c = c.before.before.before.before.abbreviation.ensures
 
 -- src/paragraphs.rt:186:5
 constraint-requires : tie.Need-constraint-requires
-constraint-requires c κs = (node_of c.before.before.before.before.before.before.before.before.before.before.before.before.requires.0 c.before.before.before.before.before.before.before.part.ensures, kind-last c.before.before.before.before.before.before.before.before.before.before.before.before.requires.0 c.before.before.before.before.before.before.before.part.ensures c.before.before.before.before.before.before.word.ensures.0 c.before.before.before.before.before.if1.false c.before.before.before.before.if2.false c.before.before.before.if3.false c.before.before.if4.false, c.before.before.before.before.before.before.before.before.before.before.before.before.requires.1)
+constraint-requires c κs = (node_of c.before.before.before.before.before.before.before.before.before.before.before.before.requires.0 c.before.before.before.before.before.before.before.part.ensures, kind_last c.before.before.before.before.before.before.before.before.before.before.before.before.requires.0 c.before.before.before.before.before.before.before.part.ensures c.before.before.before.before.before.before.word.ensures.0 c.before.before.before.before.before.if1.false c.before.before.before.before.if2.false c.before.before.before.if3.false c.before.before.if4.false, c.before.before.before.before.before.before.before.before.before.before.before.before.requires.1)
 
 -- src/paragraphs.rt:168:1
 same-length-9 : tie.Need-same-length-9

@@ -1,5 +1,5 @@
-use Rattle.checker_paragraphs.proofs.Defined.{schema-parameters, schema-ask, schema-stops, schema-rows, schema-low, schema-end, schema-told}
-use Rattle.checker_paragraphs.proofs.ParagraphNodes.{node-small, all-parameters}
+use Rattle.checker_paragraphs.proofs.Defined.{schema_parameters, schema_ask, schema_stops, schema_rows_lem, schema_low, schema_end, schema_told}
+use Rattle.checker_paragraphs.proofs.ParagraphNodes.{node_small, all_parameters}
 use mathlib.Core.Path.{refl}
 use native.Mathlib.Omega.{arith}
 use borrow.Author.Rules.{rules}
@@ -20,7 +20,7 @@ word-requires c κs = search rules
 
 -- src/paragraphs.rt:108:9
 push-parameters-requires : tie.Need-push-parameters-requires
-push-parameters-requires c κs = schema-parameters c.before.before.before.before.before.before.before.before.requires.0 c.before.before.before.before.before.before.before.before.requires.2 c.before.before.word.ensures.0 c.before.before.before.before.before.before.before.before.requires.1
+push-parameters-requires c κs = schema_parameters c.before.before.before.before.before.before.before.before.requires.0 c.before.before.before.before.before.before.before.before.requires.2 c.before.before.word.ensures.0 c.before.before.before.before.before.before.before.before.requires.1
 
 -- src/paragraphs.rt:109:57
 add-word : tie.Need-overflow-add-word
@@ -32,7 +32,7 @@ word-requires-2 c κs = search rules
 
 -- src/paragraphs.rt:109:9
 schema-requires : tie.Need-schema-requires
-schema-requires c κs = schema-ask c.before.before.before.before.before.before.before.before.before.before.before.before.before.before.before.before.requires.0 c.before.before.before.before.before.before.before.before.before.before.before.before.before.before.before.before.requires.2 c.before.before.before.before.before.before.before.before.before.before.word.ensures.0 c.before.before.before.before.before.before.before.before.before.before.before.before.before.before.before.before.requires.1 c.word2.ensures.0 refl (all-parameters c.before.before.before.before.before.before.before.before.before.before.before.before.before.before.before.before.args.p.now c.before.before.before.before.before.before.before.push-parameters.ensures)
+schema-requires c κs = schema_ask c.before.before.before.before.before.before.before.before.before.before.before.before.before.before.before.before.requires.0 c.before.before.before.before.before.before.before.before.before.before.before.before.before.before.before.before.requires.2 c.before.before.before.before.before.before.before.before.before.before.word.ensures.0 c.before.before.before.before.before.before.before.before.before.before.before.before.before.before.before.before.requires.1 c.word2.ensures.0 refl (all_parameters c.before.before.before.before.before.before.before.before.before.before.before.before.before.before.before.before.args.p.now c.before.before.before.before.before.before.before.push-parameters.ensures)
 
 -- src/paragraphs.rt:111:9
 same_length : tie.Need-same-length
@@ -44,7 +44,7 @@ same-length-2 c = search rules
 
 -- src/paragraphs.rt:111:9
 returns : tie.Need-returns
-returns c = schema-stops c.before.before.before.before.before.before.before.before.before.before.before.before.before.before.before.before.before.before.before.before.before.before.before.requires.0 c.before.before.before.before.before.before.before.before.before.before.before.before.before.before.before.before.before.before.before.before.before.before.before.requires.2 c.before.before.before.before.before.before.before.before.before.before.before.before.before.before.before.before.before.word.ensures.0 c.before.before.before.before.before.before.before.before.before.before.before.before.before.before.before.before.before.before.before.before.before.before.before.requires.1 c.before.before.before.before.before.before.before.word2.ensures.0 refl (all-parameters c.before.before.before.before.before.before.before.before.before.before.before.before.before.before.before.before.before.before.before.before.before.before.before.args.p.now c.before.before.before.before.before.before.before.before.before.before.before.before.before.before.push-parameters.ensures) c.before.before.before.before.before.before.schema.ensures c.if1.true _ _
+returns c = schema_stops c.before.before.before.before.before.before.before.before.before.before.before.before.before.before.before.before.before.before.before.before.before.before.before.requires.0 c.before.before.before.before.before.before.before.before.before.before.before.before.before.before.before.before.before.before.before.before.before.before.before.requires.2 c.before.before.before.before.before.before.before.before.before.before.before.before.before.before.before.before.before.word.ensures.0 c.before.before.before.before.before.before.before.before.before.before.before.before.before.before.before.before.before.before.before.before.before.before.before.requires.1 c.before.before.before.before.before.before.before.word2.ensures.0 refl (all_parameters c.before.before.before.before.before.before.before.before.before.before.before.before.before.before.before.before.before.before.before.before.before.before.before.args.p.now c.before.before.before.before.before.before.before.before.before.before.before.before.before.before.push-parameters.ensures) c.before.before.before.before.before.before.schema.ensures c.if1.true _ _
 
 -- src/paragraphs.rt:113:44
 word-requires-3 : tie.Need-word-requires-3
@@ -52,15 +52,15 @@ word-requires-3 c κs = search rules
 
 -- src/paragraphs.rt:113:5
 schema-entry-requires : tie.Need-schema-entry-requires
-schema-entry-requires c κs = (schema-rows c.before.before.before.before.before.before.before.before.before.before.before.before.before.before.before.before.before.before.before.before.before.before.before.before.before.before.requires.0 c.before.before.before.before.before.before.before.before.before.before.before.before.before.before.before.before.before.before.before.before.before.before.before.before.before.before.requires.2 c.before.before.before.before.before.before.before.before.before.before.before.before.before.before.before.before.before.before.before.before.word.ensures.0 c.before.before.before.before.before.before.before.before.before.before.before.before.before.before.before.before.before.before.before.before.before.before.before.before.before.before.requires.1 c.before.before.before.before.before.before.before.before.before.before.word2.ensures.0 refl (all-parameters c.before.before.before.before.before.before.before.before.before.before.before.before.before.before.before.before.before.before.before.before.before.before.before.before.before.before.args.p.now c.before.before.before.before.before.before.before.before.before.before.before.before.before.before.before.before.before.push-parameters.ensures) c.before.before.before.before.before.before.before.before.before.schema.ensures c.before.before.before.if1.false, let l = schema-low c.before.before.before.before.before.before.before.before.before.before.before.before.before.before.before.before.before.before.before.before.before.before.before.before.before.before.requires.0 c.before.before.before.before.before.before.before.before.before.before.before.before.before.before.before.before.before.before.before.before.before.before.before.before.before.before.requires.2 c.before.before.before.before.before.before.before.before.before.before.before.before.before.before.before.before.before.before.before.before.word.ensures.0 c.before.before.before.before.before.before.before.before.before.before.before.before.before.before.before.before.before.before.before.before.before.before.before.before.before.before.requires.1 c.before.before.before.before.before.before.before.before.before.before.word2.ensures.0 refl (all-parameters c.before.before.before.before.before.before.before.before.before.before.before.before.before.before.before.before.before.before.before.before.before.before.before.before.before.before.args.p.now c.before.before.before.before.before.before.before.before.before.before.before.before.before.before.before.before.before.push-parameters.ensures) c.before.before.before.before.before.before.before.before.before.schema.ensures c.before.before.before.if1.false in omega arith, c.word3.ensures.1, c.before.before.before.before.before.before.before.before.before.before.before.before.before.before.before.before.before.before.before.before.word.ensures.1)
+schema-entry-requires c κs = (schema_rows_lem c.before.before.before.before.before.before.before.before.before.before.before.before.before.before.before.before.before.before.before.before.before.before.before.before.before.before.requires.0 c.before.before.before.before.before.before.before.before.before.before.before.before.before.before.before.before.before.before.before.before.before.before.before.before.before.before.requires.2 c.before.before.before.before.before.before.before.before.before.before.before.before.before.before.before.before.before.before.before.before.word.ensures.0 c.before.before.before.before.before.before.before.before.before.before.before.before.before.before.before.before.before.before.before.before.before.before.before.before.before.before.requires.1 c.before.before.before.before.before.before.before.before.before.before.word2.ensures.0 refl (all_parameters c.before.before.before.before.before.before.before.before.before.before.before.before.before.before.before.before.before.before.before.before.before.before.before.before.before.before.args.p.now c.before.before.before.before.before.before.before.before.before.before.before.before.before.before.before.before.before.push-parameters.ensures) c.before.before.before.before.before.before.before.before.before.schema.ensures c.before.before.before.if1.false, let l = schema_low c.before.before.before.before.before.before.before.before.before.before.before.before.before.before.before.before.before.before.before.before.before.before.before.before.before.before.requires.0 c.before.before.before.before.before.before.before.before.before.before.before.before.before.before.before.before.before.before.before.before.before.before.before.before.before.before.requires.2 c.before.before.before.before.before.before.before.before.before.before.before.before.before.before.before.before.before.before.before.before.word.ensures.0 c.before.before.before.before.before.before.before.before.before.before.before.before.before.before.before.before.before.before.before.before.before.before.before.before.before.before.requires.1 c.before.before.before.before.before.before.before.before.before.before.word2.ensures.0 refl (all_parameters c.before.before.before.before.before.before.before.before.before.before.before.before.before.before.before.before.before.before.before.before.before.before.before.before.before.before.args.p.now c.before.before.before.before.before.before.before.before.before.before.before.before.before.before.before.before.before.push-parameters.ensures) c.before.before.before.before.before.before.before.before.before.schema.ensures c.before.before.before.if1.false in omega arith, c.word3.ensures.1, c.before.before.before.before.before.before.before.before.before.before.before.before.before.before.before.before.before.before.before.before.word.ensures.1)
 
 -- src/paragraphs.rt:114:5
 wipe-requires : tie.Need-wipe-requires
-wipe-requires c κs = schema-end c.before.before.before.before.before.before.before.before.before.before.before.before.before.before.before.before.before.before.before.before.before.before.before.before.before.before.before.before.before.before.requires.0 c.before.before.before.before.before.before.before.before.before.before.before.before.before.before.before.before.before.before.before.before.before.before.before.before.before.before.before.before.before.before.requires.2 c.before.before.before.before.before.before.before.before.before.before.before.before.before.before.before.before.before.before.before.before.before.before.before.before.word.ensures.0 c.before.before.before.before.before.before.before.before.before.before.before.before.before.before.before.before.before.before.before.before.before.before.before.before.before.before.before.before.before.before.requires.1 c.before.before.before.before.before.before.before.before.before.before.before.before.before.before.word2.ensures.0 refl (all-parameters c.before.before.before.before.before.before.before.before.before.before.before.before.before.before.before.before.before.before.before.before.before.before.before.before.before.before.before.before.before.before.args.p.now c.before.before.before.before.before.before.before.before.before.before.before.before.before.before.before.before.before.before.before.before.before.push-parameters.ensures) c.before.before.before.before.before.before.before.before.before.before.before.before.before.schema.ensures c.before.before.before.before.before.before.before.if1.false
+wipe-requires c κs = schema_end c.before.before.before.before.before.before.before.before.before.before.before.before.before.before.before.before.before.before.before.before.before.before.before.before.before.before.before.before.before.before.requires.0 c.before.before.before.before.before.before.before.before.before.before.before.before.before.before.before.before.before.before.before.before.before.before.before.before.before.before.before.before.before.before.requires.2 c.before.before.before.before.before.before.before.before.before.before.before.before.before.before.before.before.before.before.before.before.before.before.before.before.word.ensures.0 c.before.before.before.before.before.before.before.before.before.before.before.before.before.before.before.before.before.before.before.before.before.before.before.before.before.before.before.before.before.before.requires.1 c.before.before.before.before.before.before.before.before.before.before.before.before.before.before.word2.ensures.0 refl (all_parameters c.before.before.before.before.before.before.before.before.before.before.before.before.before.before.before.before.before.before.before.before.before.before.before.before.before.before.before.before.before.before.args.p.now c.before.before.before.before.before.before.before.before.before.before.before.before.before.before.before.before.before.before.before.before.before.push-parameters.ensures) c.before.before.before.before.before.before.before.before.before.before.before.before.before.schema.ensures c.before.before.before.before.before.before.before.if1.false
 
 -- src/paragraphs.rt:115:5
 lined-at-requires : tie.Need-lined-at-requires
-lined-at-requires c κs = node-small c.before.before.before.before.before.before.before.before.before.before.before.before.before.before.before.before.before.before.before.before.before.before.before.before.before.before.before.before.before.before.before.before.before.requires.0
+lined-at-requires c κs = node_small c.before.before.before.before.before.before.before.before.before.before.before.before.before.before.before.before.before.before.before.before.before.before.before.before.before.before.before.before.before.before.before.before.before.requires.0
 
 -- src/paragraphs.rt:96:1
 same-length-3 : tie.Need-same-length-3
@@ -72,7 +72,7 @@ same-length-4 c = omega (arith, c.before.before.before.before.before.before.befo
 
 -- src/paragraphs.rt:96:1
 returns-2 : tie.Need-returns-2
-returns-2 c = schema-told c.before.before.before.before.before.before.before.before.before.before.before.before.before.before.before.before.before.before.before.before.before.before.before.before.before.before.before.before.before.before.before.before.before.before.requires.0 c.before.before.before.before.before.before.before.before.before.before.before.before.before.before.before.before.before.before.before.before.before.before.before.before.before.before.before.before.before.before.before.before.before.before.requires.2 c.before.before.before.before.before.before.before.before.before.before.before.before.before.before.before.before.before.before.before.before.before.before.before.before.before.before.before.before.word.ensures.0 c.before.before.before.before.before.before.before.before.before.before.before.before.before.before.before.before.before.before.before.before.before.before.before.before.before.before.before.before.before.before.before.before.before.before.requires.1 c.before.before.before.before.before.before.before.before.before.before.before.before.before.before.before.before.before.before.word2.ensures.0 c.before.before.before.before.before.before.before.before.word3.ensures.0 (all-parameters c.before.before.before.before.before.before.before.before.before.before.before.before.before.before.before.before.before.before.before.before.before.before.before.before.before.before.before.before.before.before.before.before.before.before.args.p.now c.before.before.before.before.before.before.before.before.before.before.before.before.before.before.before.before.before.before.before.before.before.before.before.before.before.push-parameters.ensures) c.before.before.before.before.before.before.before.before.before.before.before.before.before.before.before.before.before.schema.ensures c.before.before.before.before.before.before.before.before.before.before.before.if1.false c.before.before.before.before.before.before.before.schema-entry.ensures c.before.before.before.wipe.ensures c.lined-at.ensures
+returns-2 c = schema_told c.before.before.before.before.before.before.before.before.before.before.before.before.before.before.before.before.before.before.before.before.before.before.before.before.before.before.before.before.before.before.before.before.before.before.requires.0 c.before.before.before.before.before.before.before.before.before.before.before.before.before.before.before.before.before.before.before.before.before.before.before.before.before.before.before.before.before.before.before.before.before.before.requires.2 c.before.before.before.before.before.before.before.before.before.before.before.before.before.before.before.before.before.before.before.before.before.before.before.before.before.before.before.before.word.ensures.0 c.before.before.before.before.before.before.before.before.before.before.before.before.before.before.before.before.before.before.before.before.before.before.before.before.before.before.before.before.before.before.before.before.before.before.requires.1 c.before.before.before.before.before.before.before.before.before.before.before.before.before.before.before.before.before.before.word2.ensures.0 c.before.before.before.before.before.before.before.before.word3.ensures.0 (all_parameters c.before.before.before.before.before.before.before.before.before.before.before.before.before.before.before.before.before.before.before.before.before.before.before.before.before.before.before.before.before.before.before.before.before.before.args.p.now c.before.before.before.before.before.before.before.before.before.before.before.before.before.before.before.before.before.before.before.before.before.before.before.before.before.push-parameters.ensures) c.before.before.before.before.before.before.before.before.before.before.before.before.before.before.before.before.before.schema.ensures c.before.before.before.before.before.before.before.before.before.before.before.if1.false c.before.before.before.before.before.before.before.schema-entry.ensures c.before.before.before.wipe.ensures c.lined-at.ensures
 
 pub schema-paragraph-spec : {M : Type 1} → statement M
 schema-paragraph-spec =

@@ -1,4 +1,4 @@
-use Rattle.checker_paragraphs.proofs.SchemaNodes.{plain_at, plain-ask, plain_done, from_at, from-ask, from-done, near, left_at, left-lower, left-asked, left-stops, right-at, right-lower, right-asked, right-stops, rows-asked, rows-joined}
+use Rattle.checker_paragraphs.proofs.SchemaNodes.{plain_at_lem, plain_ask, plain_done, from_at, from_ask, from_done, near, left_at, left_lower, left_asked, left_stops_lem, right_at, right_lower, right_asked, right_stops_lem, rows_asked, rows_joined}
 use mathlib.Core.Path.{refl}
 use native.Mathlib.Omega.{arith}
 use borrow.Author.Rules.{rules}
@@ -6,7 +6,7 @@ use Prim.Native.Nat.{ℕ, ◌<◌}
 use borrow.Fn.Kinds.{In}
 use borrow.Fn.PlainCycle.{Measures, is, falls, and}
 use Rattle.checker_paragraphs.proofs.schemas.schema.Reads as schema
-use Rattle.checker_paragraphs.proofs.schemas.schema.Kinds as schema-kinds
+use Rattle.checker_paragraphs.proofs.schemas.schema.Kinds as schema_kinds
 use Rattle.checker_paragraphs.proofs.schemas.+schema.Lts-schema as schema-lts
 use Rattle.checker_nodes.proofs.nodes.brings.Reads as brings-reads
 use Rattle.checker_nodes.proofs.nodes.text.Reads as text-reads
@@ -16,14 +16,14 @@ use Rattle.words.proofs.word.Reads as word-reads
 use Rattle.checker_paragraphs.proofs.schemas.+schema.{statement}
 use Rattle.checker_paragraphs.proofs.schemas.+schema.Tie.{close}
 
-abbrev μ-schema : Measures 4 schema-kinds.ps ℕ
+abbrev μ-schema : Measures 4 schema_kinds.ps ℕ
 μ-schema κs a = a.1.1.1.1.1.1.1.0
 
-abbrev schema-at : ℕ → In 4 schema-kinds.ps
-schema-at t = and 4 schema-kinds.ps (is 4 schema-kinds.ps μ-schema t) schema.Pre
+abbrev schema-at : ℕ → In 4 schema_kinds.ps
+schema-at t = and 4 schema_kinds.ps (is 4 schema_kinds.ps μ-schema t) schema.Pre
 
-abbrev schema-below : ℕ → In 4 schema-kinds.ps
-schema-below t = and 4 schema-kinds.ps (falls 4 schema-kinds.ps ◌<◌ μ-schema t) schema.Pre
+abbrev schema_below_lem : ℕ → In 4 schema_kinds.ps
+schema_below_lem t = and 4 schema_kinds.ps (falls 4 schema_kinds.ps ◌<◌ μ-schema t) schema.Pre
 
 -- src/schemas.rt:75:9
 schema-part-requires : (t : ℕ) → schema-lts.Need-part-requires (
@@ -35,7 +35,7 @@ schema-part-requires : (t : ℕ) → schema-lts.Need-part-requires (
   text-reads.Learnt,
   brings-reads.Asked,
   brings-reads.Learnt,
-  schema-below t,
+  schema_below_lem t,
   schema.Post,
   conjoin-reads.Asked,
   conjoin-reads.Learnt,
@@ -52,7 +52,7 @@ schema-word-requires : (t : ℕ) → schema-lts.Need-word-requires (
   text-reads.Learnt,
   brings-reads.Asked,
   brings-reads.Learnt,
-  schema-below t,
+  schema_below_lem t,
   schema.Post,
   conjoin-reads.Asked,
   conjoin-reads.Learnt,
@@ -69,12 +69,12 @@ schema-text-requires : (t : ℕ) → schema-lts.Need-text-requires (
   text-reads.Learnt,
   brings-reads.Asked,
   brings-reads.Learnt,
-  schema-below t,
+  schema_below_lem t,
   schema.Post,
   conjoin-reads.Asked,
   conjoin-reads.Learnt,
 ) (schema-at t) schema.Post
-schema-text-requires t c κs = (plain_at _ _ _ _ c.before.before.before.before.before.before.before.before.before.requires.1.0 c.before.before.before.before.part.ensures c.before.before.before.word.ensures.0 _ _ _ _ _ _ c.before.before.before.before.before.before.before.before.before.requires.1.1 c.before.before.if1.true, plain-ask _ _ _ _ c.before.before.before.before.before.before.before.before.before.requires.1.0 c.before.before.before.before.part.ensures c.before.before.before.word.ensures.0 _ _ _ _ _ _ c.before.before.before.before.before.before.before.before.before.requires.1.1 c.before.before.if1.true)
+schema-text-requires t c κs = (plain_at_lem _ _ _ _ c.before.before.before.before.before.before.before.before.before.requires.1.0 c.before.before.before.before.part.ensures c.before.before.before.word.ensures.0 _ _ _ _ _ _ c.before.before.before.before.before.before.before.before.before.requires.1.1 c.before.before.if1.true, plain_ask _ _ _ _ c.before.before.before.before.before.before.before.before.before.requires.1.0 c.before.before.before.before.part.ensures c.before.before.before.word.ensures.0 _ _ _ _ _ _ c.before.before.before.before.before.before.before.before.before.requires.1.1 c.before.before.if1.true)
 
 -- src/schemas.rt:78:9
 schema-same-length : (t : ℕ) → schema-lts.Need-same-length (
@@ -86,7 +86,7 @@ schema-same-length : (t : ℕ) → schema-lts.Need-same-length (
   text-reads.Learnt,
   brings-reads.Asked,
   brings-reads.Learnt,
-  schema-below t,
+  schema_below_lem t,
   schema.Post,
   conjoin-reads.Asked,
   conjoin-reads.Learnt,
@@ -103,7 +103,7 @@ schema-same-length-2 : (t : ℕ) → schema-lts.Need-same-length-2 (
   text-reads.Learnt,
   brings-reads.Asked,
   brings-reads.Learnt,
-  schema-below t,
+  schema_below_lem t,
   schema.Post,
   conjoin-reads.Asked,
   conjoin-reads.Learnt,
@@ -120,7 +120,7 @@ schema-returns : (t : ℕ) → schema-lts.Need-returns (
   text-reads.Learnt,
   brings-reads.Asked,
   brings-reads.Learnt,
-  schema-below t,
+  schema_below_lem t,
   schema.Post,
   conjoin-reads.Asked,
   conjoin-reads.Learnt,
@@ -137,12 +137,12 @@ schema-brings-requires : (t : ℕ) → schema-lts.Need-brings-requires (
   text-reads.Learnt,
   brings-reads.Asked,
   brings-reads.Learnt,
-  schema-below t,
+  schema_below_lem t,
   schema.Post,
   conjoin-reads.Asked,
   conjoin-reads.Learnt,
 ) (schema-at t) schema.Post
-schema-brings-requires t c κs = (from_at _ _ _ _ c.before.before.before.before.before.before.before.before.before.before.requires.1.0 c.before.before.before.before.before.part.ensures c.before.before.before.before.word.ensures.0 _ _ _ _ _ _ c.before.before.before.before.before.before.before.before.before.before.requires.1.1 c.before.before.if2.true, from-ask _ _ _ _ c.before.before.before.before.before.before.before.before.before.before.requires.1.0 c.before.before.before.before.before.part.ensures c.before.before.before.before.word.ensures.0 _ _ _ _ _ _ c.before.before.before.before.before.before.before.before.before.before.requires.1.1 c.before.before.if2.true)
+schema-brings-requires t c κs = (from_at _ _ _ _ c.before.before.before.before.before.before.before.before.before.before.requires.1.0 c.before.before.before.before.before.part.ensures c.before.before.before.before.word.ensures.0 _ _ _ _ _ _ c.before.before.before.before.before.before.before.before.before.before.requires.1.1 c.before.before.if2.true, from_ask _ _ _ _ c.before.before.before.before.before.before.before.before.before.before.requires.1.0 c.before.before.before.before.before.part.ensures c.before.before.before.before.word.ensures.0 _ _ _ _ _ _ c.before.before.before.before.before.before.before.before.before.before.requires.1.1 c.before.before.if2.true)
 
 -- src/schemas.rt:81:9
 schema-same-length-3 : (t : ℕ) → schema-lts.Need-same-length-3 (
@@ -154,7 +154,7 @@ schema-same-length-3 : (t : ℕ) → schema-lts.Need-same-length-3 (
   text-reads.Learnt,
   brings-reads.Asked,
   brings-reads.Learnt,
-  schema-below t,
+  schema_below_lem t,
   schema.Post,
   conjoin-reads.Asked,
   conjoin-reads.Learnt,
@@ -171,7 +171,7 @@ schema-same-length-4 : (t : ℕ) → schema-lts.Need-same-length-4 (
   text-reads.Learnt,
   brings-reads.Asked,
   brings-reads.Learnt,
-  schema-below t,
+  schema_below_lem t,
   schema.Post,
   conjoin-reads.Asked,
   conjoin-reads.Learnt,
@@ -188,12 +188,12 @@ schema-returns-2 : (t : ℕ) → schema-lts.Need-returns-2 (
   text-reads.Learnt,
   brings-reads.Asked,
   brings-reads.Learnt,
-  schema-below t,
+  schema_below_lem t,
   schema.Post,
   conjoin-reads.Asked,
   conjoin-reads.Learnt,
 ) (schema-at t) schema.Post
-schema-returns-2 t c = from-done _ _ _ _ c.before.before.before.before.before.before.before.before.before.before.before.before.before.before.before.requires.1.0 c.before.before.before.before.before.before.before.before.before.before.part.ensures c.before.before.before.before.before.before.before.before.before.word.ensures.0 _ _ _ _ _ _ c.before.before.before.before.before.before.before.before.before.before.before.before.before.before.before.requires.1.1 c.before.before.before.before.before.before.before.if2.true _ _ _ _ _ _ c.before.before.before.before.brings.ensures
+schema-returns-2 t c = from_done _ _ _ _ c.before.before.before.before.before.before.before.before.before.before.before.before.before.before.before.requires.1.0 c.before.before.before.before.before.before.before.before.before.before.part.ensures c.before.before.before.before.before.before.before.before.before.word.ensures.0 _ _ _ _ _ _ c.before.before.before.before.before.before.before.before.before.before.before.before.before.before.before.requires.1.1 c.before.before.before.before.before.before.before.if2.true _ _ _ _ _ _ c.before.before.before.before.brings.ensures
 
 -- src/schemas.rt:83:50
 schema-word-requires-2 : (t : ℕ) → schema-lts.Need-word-requires-2 (
@@ -205,7 +205,7 @@ schema-word-requires-2 : (t : ℕ) → schema-lts.Need-word-requires-2 (
   text-reads.Learnt,
   brings-reads.Asked,
   brings-reads.Learnt,
-  schema-below t,
+  schema_below_lem t,
   schema.Post,
   conjoin-reads.Asked,
   conjoin-reads.Learnt,
@@ -222,12 +222,12 @@ schema-schema-requires : (t : ℕ) → schema-lts.Need-schema-requires (
   text-reads.Learnt,
   brings-reads.Asked,
   brings-reads.Learnt,
-  schema-below t,
+  schema_below_lem t,
   schema.Post,
   conjoin-reads.Asked,
   conjoin-reads.Learnt,
 ) (schema-at t) schema.Post
-schema-schema-requires t c κs = (let l = left-lower _ _ _ _ c.before.before.before.before.before.before.before.before.before.before.before.requires.1.0 c.before.before.before.before.before.before.part.ensures c.before.before.before.before.before.word.ensures.0 _ _ _ _ _ _ c.before.before.before.before.before.before.before.before.before.before.before.requires.1.1 c.before.before.before.before.if1.false c.before.before.before.if2.false _ c.word2.ensures.0 in omega (arith, c.before.before.before.before.before.before.before.before.before.before.before.requires.0, l), (left_at _ _ _ _ c.before.before.before.before.before.before.before.before.before.before.before.requires.1.0 c.before.before.before.before.before.before.part.ensures c.before.before.before.before.before.word.ensures.0 _ _ _ _ _ _ c.before.before.before.before.before.before.before.before.before.before.before.requires.1.1 c.before.before.before.before.if1.false c.before.before.before.if2.false _ c.word2.ensures.0, left-asked _ _ _ _ c.before.before.before.before.before.before.before.before.before.before.before.requires.1.0 c.before.before.before.before.before.before.part.ensures c.before.before.before.before.before.word.ensures.0 _ _ _ _ _ _ c.before.before.before.before.before.before.before.before.before.before.before.requires.1.1 c.before.before.before.before.if1.false c.before.before.before.if2.false _ c.word2.ensures.0))
+schema-schema-requires t c κs = (let l = left_lower _ _ _ _ c.before.before.before.before.before.before.before.before.before.before.before.requires.1.0 c.before.before.before.before.before.before.part.ensures c.before.before.before.before.before.word.ensures.0 _ _ _ _ _ _ c.before.before.before.before.before.before.before.before.before.before.before.requires.1.1 c.before.before.before.before.if1.false c.before.before.before.if2.false _ c.word2.ensures.0 in omega (arith, c.before.before.before.before.before.before.before.before.before.before.before.requires.0, l), (left_at _ _ _ _ c.before.before.before.before.before.before.before.before.before.before.before.requires.1.0 c.before.before.before.before.before.before.part.ensures c.before.before.before.before.before.word.ensures.0 _ _ _ _ _ _ c.before.before.before.before.before.before.before.before.before.before.before.requires.1.1 c.before.before.before.before.if1.false c.before.before.before.if2.false _ c.word2.ensures.0, left_asked _ _ _ _ c.before.before.before.before.before.before.before.before.before.before.before.requires.1.0 c.before.before.before.before.before.before.part.ensures c.before.before.before.before.before.word.ensures.0 _ _ _ _ _ _ c.before.before.before.before.before.before.before.before.before.before.before.requires.1.1 c.before.before.before.before.if1.false c.before.before.before.if2.false _ c.word2.ensures.0))
 
 -- src/schemas.rt:85:9
 schema-same-length-5 : (t : ℕ) → schema-lts.Need-same-length-5 (
@@ -239,7 +239,7 @@ schema-same-length-5 : (t : ℕ) → schema-lts.Need-same-length-5 (
   text-reads.Learnt,
   brings-reads.Asked,
   brings-reads.Learnt,
-  schema-below t,
+  schema_below_lem t,
   schema.Post,
   conjoin-reads.Asked,
   conjoin-reads.Learnt,
@@ -256,7 +256,7 @@ schema-same-length-6 : (t : ℕ) → schema-lts.Need-same-length-6 (
   text-reads.Learnt,
   brings-reads.Asked,
   brings-reads.Learnt,
-  schema-below t,
+  schema_below_lem t,
   schema.Post,
   conjoin-reads.Asked,
   conjoin-reads.Learnt,
@@ -273,12 +273,12 @@ schema-returns-3 : (t : ℕ) → schema-lts.Need-returns-3 (
   text-reads.Learnt,
   brings-reads.Asked,
   brings-reads.Learnt,
-  schema-below t,
+  schema_below_lem t,
   schema.Post,
   conjoin-reads.Asked,
   conjoin-reads.Learnt,
 ) (schema-at t) schema.Post
-schema-returns-3 t c = left-stops _ _ _ _ c.before.before.before.before.before.before.before.before.before.before.before.before.before.before.before.before.before.before.requires.1.0 c.before.before.before.before.before.before.before.before.before.before.before.before.before.part.ensures c.before.before.before.before.before.before.before.before.before.before.before.before.word.ensures.0 _ _ _ _ _ _ c.before.before.before.before.before.before.before.before.before.before.before.before.before.before.before.before.before.before.requires.1.1 c.before.before.before.before.before.before.before.before.before.before.before.if1.false c.before.before.before.before.before.before.before.before.before.before.if2.false _ c.before.before.before.before.before.before.before.word2.ensures.0 _ _ _ _ _ _ c.before.before.before.before.before.before.schema.ensures c.if3.true
+schema-returns-3 t c = left_stops_lem _ _ _ _ c.before.before.before.before.before.before.before.before.before.before.before.before.before.before.before.before.before.before.requires.1.0 c.before.before.before.before.before.before.before.before.before.before.before.before.before.part.ensures c.before.before.before.before.before.before.before.before.before.before.before.before.word.ensures.0 _ _ _ _ _ _ c.before.before.before.before.before.before.before.before.before.before.before.before.before.before.before.before.before.before.requires.1.1 c.before.before.before.before.before.before.before.before.before.before.before.if1.false c.before.before.before.before.before.before.before.before.before.before.if2.false _ c.before.before.before.before.before.before.before.word2.ensures.0 _ _ _ _ _ _ c.before.before.before.before.before.before.schema.ensures c.if3.true
 
 -- src/schemas.rt:87:46
 schema-add-schema : (t : ℕ) → schema-lts.Need-overflow-add-schema (
@@ -290,7 +290,7 @@ schema-add-schema : (t : ℕ) → schema-lts.Need-overflow-add-schema (
   text-reads.Learnt,
   brings-reads.Asked,
   brings-reads.Learnt,
-  schema-below t,
+  schema_below_lem t,
   schema.Post,
   conjoin-reads.Asked,
   conjoin-reads.Learnt,
@@ -307,7 +307,7 @@ schema-word-requires-3 : (t : ℕ) → schema-lts.Need-word-requires-3 (
   text-reads.Learnt,
   brings-reads.Asked,
   brings-reads.Learnt,
-  schema-below t,
+  schema_below_lem t,
   schema.Post,
   conjoin-reads.Asked,
   conjoin-reads.Learnt,
@@ -324,12 +324,12 @@ schema-schema-requires-2 : (t : ℕ) → schema-lts.Need-schema-requires-2 (
   text-reads.Learnt,
   brings-reads.Asked,
   brings-reads.Learnt,
-  schema-below t,
+  schema_below_lem t,
   schema.Post,
   conjoin-reads.Asked,
   conjoin-reads.Learnt,
 ) (schema-at t) schema.Post
-schema-schema-requires-2 t c κs = (let l = right-lower _ _ _ _ c.before.before.before.before.before.before.before.before.before.before.before.before.before.before.before.before.before.before.before.before.before.requires.1.0 c.before.before.before.before.before.before.before.before.before.before.before.before.before.before.before.before.part.ensures c.before.before.before.before.before.before.before.before.before.before.before.before.before.before.before.word.ensures.0 _ _ _ _ _ _ c.before.before.before.before.before.before.before.before.before.before.before.before.before.before.before.before.before.before.before.before.before.requires.1.1 c.before.before.before.before.before.before.before.before.before.before.before.before.before.before.if1.false c.before.before.before.before.before.before.before.before.before.before.before.before.before.if2.false _ c.before.before.before.before.before.before.before.before.before.before.word2.ensures.0 _ _ _ _ _ _ c.before.before.before.before.before.before.before.before.before.schema.ensures c.before.before.before.if3.false _ c.word3.ensures.0 in omega (arith, c.before.before.before.before.before.before.before.before.before.before.before.before.before.before.before.before.before.before.before.before.before.requires.0, l), (right-at _ _ _ _ c.before.before.before.before.before.before.before.before.before.before.before.before.before.before.before.before.before.before.before.before.before.requires.1.0 c.before.before.before.before.before.before.before.before.before.before.before.before.before.before.before.before.part.ensures c.before.before.before.before.before.before.before.before.before.before.before.before.before.before.before.word.ensures.0 _ _ _ _ _ _ c.before.before.before.before.before.before.before.before.before.before.before.before.before.before.before.before.before.before.before.before.before.requires.1.1 c.before.before.before.before.before.before.before.before.before.before.before.before.before.before.if1.false c.before.before.before.before.before.before.before.before.before.before.before.before.before.if2.false _ c.before.before.before.before.before.before.before.before.before.before.word2.ensures.0 _ _ _ _ _ _ c.before.before.before.before.before.before.before.before.before.schema.ensures c.before.before.before.if3.false _ c.word3.ensures.0, right-asked _ _ _ _ c.before.before.before.before.before.before.before.before.before.before.before.before.before.before.before.before.before.before.before.before.before.requires.1.0 c.before.before.before.before.before.before.before.before.before.before.before.before.before.before.before.before.part.ensures c.before.before.before.before.before.before.before.before.before.before.before.before.before.before.before.word.ensures.0 _ _ _ _ _ _ c.before.before.before.before.before.before.before.before.before.before.before.before.before.before.before.before.before.before.before.before.before.requires.1.1 c.before.before.before.before.before.before.before.before.before.before.before.before.before.before.if1.false c.before.before.before.before.before.before.before.before.before.before.before.before.before.if2.false _ c.before.before.before.before.before.before.before.before.before.before.word2.ensures.0 _ _ _ _ _ _ c.before.before.before.before.before.before.before.before.before.schema.ensures c.before.before.before.if3.false _ c.word3.ensures.0))
+schema-schema-requires-2 t c κs = (let l = right_lower _ _ _ _ c.before.before.before.before.before.before.before.before.before.before.before.before.before.before.before.before.before.before.before.before.before.requires.1.0 c.before.before.before.before.before.before.before.before.before.before.before.before.before.before.before.before.part.ensures c.before.before.before.before.before.before.before.before.before.before.before.before.before.before.before.word.ensures.0 _ _ _ _ _ _ c.before.before.before.before.before.before.before.before.before.before.before.before.before.before.before.before.before.before.before.before.before.requires.1.1 c.before.before.before.before.before.before.before.before.before.before.before.before.before.before.if1.false c.before.before.before.before.before.before.before.before.before.before.before.before.before.if2.false _ c.before.before.before.before.before.before.before.before.before.before.word2.ensures.0 _ _ _ _ _ _ c.before.before.before.before.before.before.before.before.before.schema.ensures c.before.before.before.if3.false _ c.word3.ensures.0 in omega (arith, c.before.before.before.before.before.before.before.before.before.before.before.before.before.before.before.before.before.before.before.before.before.requires.0, l), (right_at _ _ _ _ c.before.before.before.before.before.before.before.before.before.before.before.before.before.before.before.before.before.before.before.before.before.requires.1.0 c.before.before.before.before.before.before.before.before.before.before.before.before.before.before.before.before.part.ensures c.before.before.before.before.before.before.before.before.before.before.before.before.before.before.before.word.ensures.0 _ _ _ _ _ _ c.before.before.before.before.before.before.before.before.before.before.before.before.before.before.before.before.before.before.before.before.before.requires.1.1 c.before.before.before.before.before.before.before.before.before.before.before.before.before.before.if1.false c.before.before.before.before.before.before.before.before.before.before.before.before.before.if2.false _ c.before.before.before.before.before.before.before.before.before.before.word2.ensures.0 _ _ _ _ _ _ c.before.before.before.before.before.before.before.before.before.schema.ensures c.before.before.before.if3.false _ c.word3.ensures.0, right_asked _ _ _ _ c.before.before.before.before.before.before.before.before.before.before.before.before.before.before.before.before.before.before.before.before.before.requires.1.0 c.before.before.before.before.before.before.before.before.before.before.before.before.before.before.before.before.part.ensures c.before.before.before.before.before.before.before.before.before.before.before.before.before.before.before.word.ensures.0 _ _ _ _ _ _ c.before.before.before.before.before.before.before.before.before.before.before.before.before.before.before.before.before.before.before.before.before.requires.1.1 c.before.before.before.before.before.before.before.before.before.before.before.before.before.before.if1.false c.before.before.before.before.before.before.before.before.before.before.before.before.before.if2.false _ c.before.before.before.before.before.before.before.before.before.before.word2.ensures.0 _ _ _ _ _ _ c.before.before.before.before.before.before.before.before.before.schema.ensures c.before.before.before.if3.false _ c.word3.ensures.0))
 
 -- src/schemas.rt:89:9
 schema-same-length-7 : (t : ℕ) → schema-lts.Need-same-length-7 (
@@ -341,7 +341,7 @@ schema-same-length-7 : (t : ℕ) → schema-lts.Need-same-length-7 (
   text-reads.Learnt,
   brings-reads.Asked,
   brings-reads.Learnt,
-  schema-below t,
+  schema_below_lem t,
   schema.Post,
   conjoin-reads.Asked,
   conjoin-reads.Learnt,
@@ -358,7 +358,7 @@ schema-same-length-8 : (t : ℕ) → schema-lts.Need-same-length-8 (
   text-reads.Learnt,
   brings-reads.Asked,
   brings-reads.Learnt,
-  schema-below t,
+  schema_below_lem t,
   schema.Post,
   conjoin-reads.Asked,
   conjoin-reads.Learnt,
@@ -375,12 +375,12 @@ schema-returns-4 : (t : ℕ) → schema-lts.Need-returns-4 (
   text-reads.Learnt,
   brings-reads.Asked,
   brings-reads.Learnt,
-  schema-below t,
+  schema_below_lem t,
   schema.Post,
   conjoin-reads.Asked,
   conjoin-reads.Learnt,
 ) (schema-at t) schema.Post
-schema-returns-4 t c = right-stops _ _ _ _ c.before.before.before.before.before.before.before.before.before.before.before.before.before.before.before.before.before.before.before.before.before.before.before.before.before.before.before.before.requires.1.0 c.before.before.before.before.before.before.before.before.before.before.before.before.before.before.before.before.before.before.before.before.before.before.before.part.ensures c.before.before.before.before.before.before.before.before.before.before.before.before.before.before.before.before.before.before.before.before.before.before.word.ensures.0 _ _ _ _ _ _ c.before.before.before.before.before.before.before.before.before.before.before.before.before.before.before.before.before.before.before.before.before.before.before.before.before.before.before.before.requires.1.1 c.before.before.before.before.before.before.before.before.before.before.before.before.before.before.before.before.before.before.before.before.before.if1.false c.before.before.before.before.before.before.before.before.before.before.before.before.before.before.before.before.before.before.before.before.if2.false _ c.before.before.before.before.before.before.before.before.before.before.before.before.before.before.before.before.before.word2.ensures.0 _ _ _ _ _ _ c.before.before.before.before.before.before.before.before.before.before.before.before.before.before.before.before.schema.ensures c.before.before.before.before.before.before.before.before.before.before.if3.false _ c.before.before.before.before.before.before.before.word3.ensures.0 _ _ _ _ _ _ c.before.before.before.before.before.before.schema2.ensures c.if4.true
+schema-returns-4 t c = right_stops_lem _ _ _ _ c.before.before.before.before.before.before.before.before.before.before.before.before.before.before.before.before.before.before.before.before.before.before.before.before.before.before.before.before.requires.1.0 c.before.before.before.before.before.before.before.before.before.before.before.before.before.before.before.before.before.before.before.before.before.before.before.part.ensures c.before.before.before.before.before.before.before.before.before.before.before.before.before.before.before.before.before.before.before.before.before.before.word.ensures.0 _ _ _ _ _ _ c.before.before.before.before.before.before.before.before.before.before.before.before.before.before.before.before.before.before.before.before.before.before.before.before.before.before.before.before.requires.1.1 c.before.before.before.before.before.before.before.before.before.before.before.before.before.before.before.before.before.before.before.before.before.if1.false c.before.before.before.before.before.before.before.before.before.before.before.before.before.before.before.before.before.before.before.before.if2.false _ c.before.before.before.before.before.before.before.before.before.before.before.before.before.before.before.before.before.word2.ensures.0 _ _ _ _ _ _ c.before.before.before.before.before.before.before.before.before.before.before.before.before.before.before.before.schema.ensures c.before.before.before.before.before.before.before.before.before.before.if3.false _ c.before.before.before.before.before.before.before.word3.ensures.0 _ _ _ _ _ _ c.before.before.before.before.before.before.schema2.ensures c.if4.true
 
 -- src/schemas.rt:91:5
 schema-conjoin-requires : (t : ℕ) → schema-lts.Need-conjoin-requires (
@@ -392,12 +392,12 @@ schema-conjoin-requires : (t : ℕ) → schema-lts.Need-conjoin-requires (
   text-reads.Learnt,
   brings-reads.Asked,
   brings-reads.Learnt,
-  schema-below t,
+  schema_below_lem t,
   schema.Post,
   conjoin-reads.Asked,
   conjoin-reads.Learnt,
 ) (schema-at t) schema.Post
-schema-conjoin-requires t c κs = (let z = c.before.before.before.before.before.before.before.before.before.before.before.before.before.before.before.before.before.before.before.before.before.before.before.before.before.before.before.before.before.before.requires.1.0.small in omega arith, rows-asked _ _ _ _ c.before.before.before.before.before.before.before.before.before.before.before.before.before.before.before.before.before.before.before.before.before.before.before.before.before.before.before.before.before.before.requires.1.0 c.before.before.before.before.before.before.before.before.before.before.before.before.before.before.before.before.before.before.before.before.before.before.before.before.before.part.ensures c.before.before.before.before.before.before.before.before.before.before.before.before.before.before.before.before.before.before.before.before.before.before.before.before.word.ensures.0 _ _ _ _ _ _ c.before.before.before.before.before.before.before.before.before.before.before.before.before.before.before.before.before.before.before.before.before.before.before.before.before.before.before.before.before.before.requires.1.1 c.before.before.before.before.before.before.before.before.before.before.before.before.before.before.before.before.before.before.before.before.before.before.before.if1.false c.before.before.before.before.before.before.before.before.before.before.before.before.before.before.before.before.before.before.before.before.before.before.if2.false _ c.before.before.before.before.before.before.before.before.before.before.before.before.before.before.before.before.before.before.before.word2.ensures.0 _ _ _ _ _ _ c.before.before.before.before.before.before.before.before.before.before.before.before.before.before.before.before.before.before.schema.ensures c.before.before.before.before.before.before.before.before.before.before.before.before.if3.false _ c.before.before.before.before.before.before.before.before.before.word3.ensures.0 _ _ _ _ _ _ c.before.before.before.before.before.before.before.before.schema2.ensures c.before.before.if4.false)
+schema-conjoin-requires t c κs = (let z = c.before.before.before.before.before.before.before.before.before.before.before.before.before.before.before.before.before.before.before.before.before.before.before.before.before.before.before.before.before.before.requires.1.0.small in omega arith, rows_asked _ _ _ _ c.before.before.before.before.before.before.before.before.before.before.before.before.before.before.before.before.before.before.before.before.before.before.before.before.before.before.before.before.before.before.requires.1.0 c.before.before.before.before.before.before.before.before.before.before.before.before.before.before.before.before.before.before.before.before.before.before.before.before.before.part.ensures c.before.before.before.before.before.before.before.before.before.before.before.before.before.before.before.before.before.before.before.before.before.before.before.before.word.ensures.0 _ _ _ _ _ _ c.before.before.before.before.before.before.before.before.before.before.before.before.before.before.before.before.before.before.before.before.before.before.before.before.before.before.before.before.before.before.requires.1.1 c.before.before.before.before.before.before.before.before.before.before.before.before.before.before.before.before.before.before.before.before.before.before.before.if1.false c.before.before.before.before.before.before.before.before.before.before.before.before.before.before.before.before.before.before.before.before.before.before.if2.false _ c.before.before.before.before.before.before.before.before.before.before.before.before.before.before.before.before.before.before.before.word2.ensures.0 _ _ _ _ _ _ c.before.before.before.before.before.before.before.before.before.before.before.before.before.before.before.before.before.before.schema.ensures c.before.before.before.before.before.before.before.before.before.before.before.before.if3.false _ c.before.before.before.before.before.before.before.before.before.word3.ensures.0 _ _ _ _ _ _ c.before.before.before.before.before.before.before.before.schema2.ensures c.before.before.if4.false)
 
 -- src/schemas.rt:62:1
 schema-same-length-9 : (t : ℕ) → schema-lts.Need-same-length-9 (
@@ -409,7 +409,7 @@ schema-same-length-9 : (t : ℕ) → schema-lts.Need-same-length-9 (
   text-reads.Learnt,
   brings-reads.Asked,
   brings-reads.Learnt,
-  schema-below t,
+  schema_below_lem t,
   schema.Post,
   conjoin-reads.Asked,
   conjoin-reads.Learnt,
@@ -426,7 +426,7 @@ schema-same-length-10 : (t : ℕ) → schema-lts.Need-same-length-10 (
   text-reads.Learnt,
   brings-reads.Asked,
   brings-reads.Learnt,
-  schema-below t,
+  schema_below_lem t,
   schema.Post,
   conjoin-reads.Asked,
   conjoin-reads.Learnt,
@@ -443,12 +443,12 @@ schema-returns-5 : (t : ℕ) → schema-lts.Need-returns-5 (
   text-reads.Learnt,
   brings-reads.Asked,
   brings-reads.Learnt,
-  schema-below t,
+  schema_below_lem t,
   schema.Post,
   conjoin-reads.Asked,
   conjoin-reads.Learnt,
 ) (schema-at t) schema.Post
-schema-returns-5 t c = rows-joined _ _ _ _ c.before.before.before.before.before.before.before.before.before.before.before.before.before.before.before.before.before.before.before.before.before.before.before.before.before.before.before.before.before.before.before.before.before.before.before.requires.1.0 c.before.before.before.before.before.before.before.before.before.before.before.before.before.before.before.before.before.before.before.before.before.before.before.before.before.before.before.before.before.before.part.ensures c.before.before.before.before.before.before.before.before.before.before.before.before.before.before.before.before.before.before.before.before.before.before.before.before.before.before.before.before.before.word.ensures.0 _ _ _ _ _ _ c.before.before.before.before.before.before.before.before.before.before.before.before.before.before.before.before.before.before.before.before.before.before.before.before.before.before.before.before.before.before.before.before.before.before.before.requires.1.1 c.before.before.before.before.before.before.before.before.before.before.before.before.before.before.before.before.before.before.before.before.before.before.before.before.before.before.before.before.if1.false c.before.before.before.before.before.before.before.before.before.before.before.before.before.before.before.before.before.before.before.before.before.before.before.before.before.before.before.if2.false _ c.before.before.before.before.before.before.before.before.before.before.before.before.before.before.before.before.before.before.before.before.before.before.before.before.word2.ensures.0 _ _ _ _ _ _ c.before.before.before.before.before.before.before.before.before.before.before.before.before.before.before.before.before.before.before.before.before.before.before.schema.ensures c.before.before.before.before.before.before.before.before.before.before.before.before.before.before.before.before.before.if3.false _ c.before.before.before.before.before.before.before.before.before.before.before.before.before.before.word3.ensures.0 _ _ _ _ _ _ c.before.before.before.before.before.before.before.before.before.before.before.before.before.schema2.ensures c.before.before.before.before.before.before.before.if4.false _ _ _ _ _ _ c.before.before.before.before.conjoin.ensures
+schema-returns-5 t c = rows_joined _ _ _ _ c.before.before.before.before.before.before.before.before.before.before.before.before.before.before.before.before.before.before.before.before.before.before.before.before.before.before.before.before.before.before.before.before.before.before.before.requires.1.0 c.before.before.before.before.before.before.before.before.before.before.before.before.before.before.before.before.before.before.before.before.before.before.before.before.before.before.before.before.before.before.part.ensures c.before.before.before.before.before.before.before.before.before.before.before.before.before.before.before.before.before.before.before.before.before.before.before.before.before.before.before.before.before.word.ensures.0 _ _ _ _ _ _ c.before.before.before.before.before.before.before.before.before.before.before.before.before.before.before.before.before.before.before.before.before.before.before.before.before.before.before.before.before.before.before.before.before.before.before.requires.1.1 c.before.before.before.before.before.before.before.before.before.before.before.before.before.before.before.before.before.before.before.before.before.before.before.before.before.before.before.before.if1.false c.before.before.before.before.before.before.before.before.before.before.before.before.before.before.before.before.before.before.before.before.before.before.before.before.before.before.before.if2.false _ c.before.before.before.before.before.before.before.before.before.before.before.before.before.before.before.before.before.before.before.before.before.before.before.before.word2.ensures.0 _ _ _ _ _ _ c.before.before.before.before.before.before.before.before.before.before.before.before.before.before.before.before.before.before.before.before.before.before.before.schema.ensures c.before.before.before.before.before.before.before.before.before.before.before.before.before.before.before.before.before.if3.false _ c.before.before.before.before.before.before.before.before.before.before.before.before.before.before.word3.ensures.0 _ _ _ _ _ _ c.before.before.before.before.before.before.before.before.before.before.before.before.before.schema2.ensures c.before.before.before.before.before.before.before.if4.false _ _ _ _ _ _ c.before.before.before.before.conjoin.ensures
 
 pub +schema-spec : {M : Type 1} → statement M
 +schema-spec = close μ-schema λ t. schema-lts.spec (
@@ -460,7 +460,7 @@ pub +schema-spec : {M : Type 1} → statement M
   text-reads.Learnt,
   brings-reads.Asked,
   brings-reads.Learnt,
-  schema-below t,
+  schema_below_lem t,
   schema.Post,
   conjoin-reads.Asked,
   conjoin-reads.Learnt,

@@ -1,4 +1,4 @@
-use Rattle.checker_paragraphs.proofs.SchemaNodes.{join-clash, keep-ready, merge-ready, join-many, join-done}
+use Rattle.checker_paragraphs.proofs.SchemaNodes.{join_clash, keep_ready, merge_ready, join_many, join_done}
 use Rattle.checker_paragraphs.proofs.ParagraphNodes.{refusing, agreeing}
 use mathlib.Core.Path.{refl}
 use native.Mathlib.Omega.{arith}
@@ -35,7 +35,7 @@ same-length-2 c = search rules
 
 -- src/schemas.rt:50:9
 returns : tie.Need-returns
-returns c = join-clash _ _ _ _ _ _ _ _ _ _ c.before.before.rows_agree.ensures (refusing _ c.before.if1.true) _ c.lined-at.ensures
+returns c = join_clash _ _ _ _ _ _ _ _ _ _ c.before.before.rows_agree.ensures (refusing _ c.before.if1.true) _ c.lined-at.ensures
 
 -- src/schemas.rt:52:9
 span-requires : tie.Need-span-requires
@@ -47,11 +47,11 @@ add-keep-rows c = search rules
 
 -- src/schemas.rt:53:9
 keep-rows-requires : tie.Need-keep-rows-requires
-keep-rows-requires c κs = let A = c.before.before.before.before.before.before.before.before.before.before.requires.1 in keep-ready _ _ _ _ _ _ _ _ 0 A _ c.before.before.span.ensures _ (omega arith)
+keep-rows-requires c κs = let A = c.before.before.before.before.before.before.before.before.before.before.requires.1 in keep_ready _ _ _ _ _ _ _ _ 0 A _ c.before.before.span.ensures _ (omega arith)
 
 -- src/schemas.rt:54:9
 merge-requires : tie.Need-merge-requires
-merge-requires c κs = merge-ready _ _ _ _ _ _ _ _ 0 c.before.before.before.before.before.before.before.before.before.before.before.before.before.before.before.before.requires.1 _ _ _ c.before.before.before.before.before.before.before.before.span.ensures _ _ (omega arith) c.before.before.before.before.before.keep-rows.ensures
+merge-requires c κs = merge_ready _ _ _ _ _ _ _ _ 0 c.before.before.before.before.before.before.before.before.before.before.before.before.before.before.before.before.requires.1 _ _ _ c.before.before.before.before.before.before.before.before.span.ensures _ _ (omega arith) c.before.before.before.before.before.keep-rows.ensures
 
 -- src/schemas.rt:56:9
 lined-at-requires-2 : tie.Need-lined-at-requires-2
@@ -67,7 +67,7 @@ same-length-4 c = search rules
 
 -- src/schemas.rt:56:9
 returns-2 : tie.Need-returns-2
-returns-2 c = join-many _ _ _ _ _ _ _ _ _ c.before.before.before.before.before.before.before.before.before.before.before.before.before.before.before.before.before.before.before.before.before.requires.1 _ _ _ c.before.before.before.before.before.before.before.before.before.before.before.before.before.span.ensures _ _ (omega arith) c.before.before.before.before.before.before.before.before.before.before.keep-rows.ensures _ c.before.before.before.before.before.before.before.before.before.before.before.before.before.before.before.rows_agree.ensures (agreeing _ c.before.before.before.before.before.before.before.before.before.before.before.before.before.before.if1.false) _ _ c.before.before.before.before.merge.ensures _ c.before.if2.true c.lined-at2.ensures
+returns-2 c = join_many _ _ _ _ _ _ _ _ _ c.before.before.before.before.before.before.before.before.before.before.before.before.before.before.before.before.before.before.before.before.before.requires.1 _ _ _ c.before.before.before.before.before.before.before.before.before.before.before.before.before.span.ensures _ _ (omega arith) c.before.before.before.before.before.before.before.before.before.before.keep-rows.ensures _ c.before.before.before.before.before.before.before.before.before.before.before.before.before.before.before.rows_agree.ensures (agreeing _ c.before.before.before.before.before.before.before.before.before.before.before.before.before.before.if1.false) _ _ c.before.before.before.before.merge.ensures _ c.before.if2.true c.lined-at2.ensures
 
 -- src/schemas.rt:58:5
 lined-at-requires-3 : tie.Need-lined-at-requires-3
@@ -83,7 +83,7 @@ same-length-6 c = search rules
 
 -- src/schemas.rt:34:1
 returns-3 : tie.Need-returns-3
-returns-3 c = join-done _ _ _ _ _ _ _ _ _ c.before.before.before.before.before.before.before.before.before.before.before.before.before.before.before.before.before.before.before.before.before.requires.1 _ _ _ c.before.before.before.before.before.before.before.before.before.before.before.before.before.span.ensures _ _ (omega arith) c.before.before.before.before.before.before.before.before.before.before.keep-rows.ensures _ c.before.before.before.before.before.before.before.before.before.before.before.before.before.before.before.rows_agree.ensures (agreeing _ c.before.before.before.before.before.before.before.before.before.before.before.before.before.before.if1.false) _ _ c.before.before.before.before.merge.ensures _ c.before.if2.false c.lined-at3.ensures
+returns-3 c = join_done _ _ _ _ _ _ _ _ _ c.before.before.before.before.before.before.before.before.before.before.before.before.before.before.before.before.before.before.before.before.before.requires.1 _ _ _ c.before.before.before.before.before.before.before.before.before.before.before.before.before.span.ensures _ _ (omega arith) c.before.before.before.before.before.before.before.before.before.before.keep-rows.ensures _ c.before.before.before.before.before.before.before.before.before.before.before.before.before.before.before.rows_agree.ensures (agreeing _ c.before.before.before.before.before.before.before.before.before.before.before.before.before.before.if1.false) _ _ c.before.before.before.before.merge.ensures _ c.before.if2.false c.lined-at3.ensures
 
 pub conjoin-spec : {M : Type 1} → statement M
 conjoin-spec =

@@ -1,4 +1,4 @@
-use Rattle.checker_pieces.proofs.Forming.{integer-built}
+use Rattle.checker_pieces.proofs.Forming.{integer_built}
 use borrow.Author.Rules.{rules}
 use Rattle.checker_pieces.proofs.formers.integer.Statement.{statement}
 use Rattle.checker_pieces.proofs.formers.integer.Tie as tie
@@ -13,7 +13,7 @@ same_length : tie.Need-same-length
 same_length c = search rules
 
 returns : tie.Need-returns
-returns c = integer-built _ _ _ c.before.before.before.before.before.requires c.before.before.new-cell.ensures
+returns c = integer_built _ _ _ c.before.before.before.before.before.requires c.before.before.new_cell.ensures
 
 pub integer-spec : {M : Type 1} → statement M
 integer-spec = tie.close (tie.spec new-cell-requires same_length returns)

@@ -3,7 +3,7 @@ use Prim.Native.Nat.{◌≤◌, ◌-◌}
 use lib.ListN.{take}
 use native.Mathlib.Omega.{arith}
 use Rattle.checker_pieces.specs.Building.{Laid}
-use Rattle.checker_pieces.proofs.Forming.{laid_none, laid-size, lay-ask, lay-next}
+use Rattle.checker_pieces.proofs.Forming.{laid_none, laid_size, lay_ask, lay_next}
 use borrow.Author.Rules.{rules}
 use Rattle.checker_pieces.proofs.formers.lay.Statement.{statement}
 use Rattle.checker_pieces.proofs.formers.lay.Tie as tie
@@ -30,7 +30,7 @@ shared-slice-read-add-word : tie.Need-shared-slice-read-add-word invariant-loop 
 shared-slice-read-add-word c = let h = c.before.before.before.before.before.before.requires.1 in let t = c.before.before.loop-test.true in omega arith
 
 add-word-requires : tie.Need-add-word-requires invariant-loop decreases-loop
-add-word-requires c κs = lay-ask _ _ _ _ _ c.before.before.before.before.before.before.requires _ _ c.before.before.loop-test.true c.before.before.before.loop.invariant.1
+add-word-requires c κs = lay_ask _ _ _ _ _ c.before.before.before.before.before.before.requires _ _ c.before.before.loop-test.true c.before.before.before.loop.invariant.1
 
 add-j : tie.Need-overflow-add-j invariant-loop decreases-loop
 add-j c = let h = c.before.before.before.before.before.before.before.before.before.requires.0 in let t = c.before.before.before.before.before.loop-test.true in omega arith
@@ -41,10 +41,10 @@ loop-less c = let t = c.before.before.before.before.before.loop-test.true in ome
 loop-again : tie.Need-loop-preserved invariant-loop decreases-loop
 loop-again c =
     let t = c.before.before.before.before.before.loop-test.true in
-    (omega arith, lay-next _ _ _ _ _ c.before.before.before.before.before.before.before.before.before.requires _ _ t c.before.before.before.before.before.before.loop.invariant.1 _ c.before.before.add-word.ensures)
+    (omega arith, lay_next _ _ _ _ _ c.before.before.before.before.before.before.before.before.before.requires _ _ t c.before.before.before.before.before.before.loop.invariant.1 _ c.before.before.add-word.ensures)
 
 same_length : tie.Need-same-length invariant-loop decreases-loop
-same_length c = laid-size _ _ _ _ _ c.before.before.before.before.requires _ c.before.loop.j c.before.loop.invariant.1
+same_length c = laid_size _ _ _ _ _ c.before.before.before.before.requires _ c.before.loop.j c.before.loop.invariant.1
 
 returns : tie.Need-returns invariant-loop decreases-loop
 returns c =

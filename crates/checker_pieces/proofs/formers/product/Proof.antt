@@ -1,5 +1,5 @@
 use native.Mathlib.Omega.{arith}
-use Rattle.checker_pieces.proofs.Forming.{product-built, product-make}
+use Rattle.checker_pieces.proofs.Forming.{product_built, product_make}
 use borrow.Author.Rules.{rules}
 use Rattle.checker_pieces.proofs.formers.product.Statement.{statement}
 use Rattle.checker_pieces.proofs.formers.product.Tie as tie
@@ -21,13 +21,13 @@ cast-new-cell-3 : tie.Need-overflow-cast-new-cell-3
 cast-new-cell-3 c = let h = c.before.before.before.before.before.before.before.requires.0 in omega arith
 
 new-cell-requires : tie.Need-new-cell-requires
-new-cell-requires c κs = product-make _ _ _ _ _ c.before.before.before.before.before.before.before.requires _ c.before.before.before.lay.ensures
+new-cell-requires c κs = product_make _ _ _ _ _ c.before.before.before.before.before.before.before.requires _ c.before.before.before.lay.ensures
 
 same_length : tie.Need-same-length
 same_length c = search rules
 
 returns : tie.Need-returns
-returns c = product-built _ _ _ _ _ c.before.before.before.before.before.before.before.before.before.before.requires _ c.before.before.before.before.before.before.lay.ensures _ c.before.before.new-cell.ensures
+returns c = product_built _ _ _ _ _ c.before.before.before.before.before.before.before.before.before.before.requires _ c.before.before.before.before.before.before.lay.ensures _ c.before.before.new_cell.ensures
 
 pub product-spec : {M : Type 1} → statement M
 product-spec =

@@ -1,4 +1,4 @@
-use Rattle.checker_pieces.proofs.PowerRows.{row-asked, powers-asked, sides-asked, are-powers, rows-length}
+use Rattle.checker_pieces.proofs.PowerRows.{row_asked, powers_asked, sides_asked, are_powers_lem, rows_length_lem}
 use borrow.Author.Rules.{rules}
 use Rattle.checker_pieces.proofs.powers.are_powers.Statement.{statement}
 use Rattle.checker_pieces.proofs.powers.are_powers.Tie as tie
@@ -10,7 +10,7 @@ use Rattle.checker_pieces.proofs.rows.power_row.Reads as power-row-reads
 
 -- src/powers.rt:34:5
 fresh-row-requires : tie.Need-fresh-row-requires
-fresh-row-requires c κs = row-asked _ _ _ _ _ _ (rows-length _ _ c.before.before.before.before.requires.0) c.before.before.before.before.requires.1
+fresh-row-requires c κs = row_asked _ _ _ _ _ _ (rows_length_lem _ _ c.before.before.before.before.requires.0) c.before.before.before.before.requires.1
 
 -- src/powers.rt:35:24
 add-power-row : tie.Need-overflow-add-power-row
@@ -18,7 +18,7 @@ add-power-row c = search rules
 
 -- src/powers.rt:35:5
 power-row-requires : tie.Need-power-row-requires
-power-row-requires c κs = powers-asked _ _ _ _ _ _ (rows-length _ _ c.before.before.before.before.before.before.before.before.requires.0) c.before.before.before.before.before.before.before.before.requires.1 _ c.before.before.before.fresh-row.ensures
+power-row-requires c κs = powers_asked _ _ _ _ _ _ (rows_length_lem _ _ c.before.before.before.before.before.before.before.before.requires.0) c.before.before.before.before.before.before.before.before.requires.1 _ c.before.before.before.fresh-row.ensures
 
 -- src/powers.rt:36:28
 add-all-equal : tie.Need-overflow-add-all-equal
@@ -34,7 +34,7 @@ add-all-equal-3 c = search rules
 
 -- src/powers.rt:36:5
 all-equal-requires : tie.Need-all-equal-requires
-all-equal-requires c κs = (c.before.before.before.before.before.before.before.before.before.before.before.before.requires.0, sides-asked _ _ _ _ _ _ (rows-length _ _ c.before.before.before.before.before.before.before.before.before.before.before.before.requires.0) c.before.before.before.before.before.before.before.before.before.before.before.before.requires.1 _ c.before.before.before.before.before.before.before.fresh-row.ensures _ c.before.before.before.power-row.ensures)
+all-equal-requires c κs = (c.before.before.before.before.before.before.before.before.before.before.before.before.requires.0, sides_asked _ _ _ _ _ _ (rows_length_lem _ _ c.before.before.before.before.before.before.before.before.before.before.before.before.requires.0) c.before.before.before.before.before.before.before.before.before.before.before.before.requires.1 _ c.before.before.before.before.before.before.before.fresh-row.ensures _ c.before.before.before.power-row.ensures)
 
 -- src/powers.rt:23:1
 same_length : tie.Need-same-length
@@ -42,7 +42,7 @@ same_length c = search rules
 
 -- src/powers.rt:23:1
 returns : tie.Need-returns
-returns c = are-powers _ _ _ _ _ _ (rows-length _ _ c.before.before.before.before.before.before.before.before.before.before.before.before.before.before.before.requires.0) c.before.before.before.before.before.before.before.before.before.before.before.before.before.before.before.requires.1 _ c.before.before.before.before.before.before.before.before.before.before.fresh-row.ensures _ c.before.before.before.before.before.before.power-row.ensures _ _ c.before.before.all-equal.ensures
+returns c = are_powers_lem _ _ _ _ _ _ (rows_length_lem _ _ c.before.before.before.before.before.before.before.before.before.before.before.before.before.before.before.requires.0) c.before.before.before.before.before.before.before.before.before.before.before.before.before.before.before.requires.1 _ c.before.before.before.before.before.before.before.before.before.before.fresh-row.ensures _ c.before.before.before.before.before.before.power-row.ensures _ _ c.before.before.all-equal.ensures
 
 pub are-powers-spec : {M : Type 1} → statement M
 are-powers-spec =

@@ -3,7 +3,7 @@ use Prim.Native.Nat.{ℕ, ◌-◌, ◌≤◌}
 use native.Mathlib.Omega.{arith}
 use lib.ListN.{length}
 use Rattle.checker_pieces.specs.Rows.{RowMade}
-use Rattle.checker_pieces.proofs.FreshRows.{row-start, row-ask, row_next}
+use Rattle.checker_pieces.proofs.FreshRows.{row_start, row_ask, row_next}
 use borrow.Author.Rules.{rules}
 use Rattle.checker_pieces.proofs.rows.fresh_row.Statement.{statement}
 use Rattle.checker_pieces.proofs.rows.fresh_row.Tie as tie
@@ -18,13 +18,13 @@ abbrev decreases-loop : tie.decreases-loop
 decreases-loop a₀ n m j₀ a j = m - j
 
 loop-holds : tie.Need-loop-init invariant-loop decreases-loop
-loop-holds c = (omega arith, refl, row-start _ _ _ c.before.requires)
+loop-holds c = (omega arith, refl, row_start _ _ _ c.before.requires)
 
 add-new-unknown : tie.Need-overflow-add-new-unknown invariant-loop decreases-loop
 add-new-unknown c = search rules
 
 new-unknown-requires : tie.Need-new-unknown-requires invariant-loop decreases-loop
-new-unknown-requires c κs = row-ask _ _ _ c.before.before.before.before.requires _ _ c.before.loop-test.true c.before.before.loop.invariant.2
+new-unknown-requires c κs = row_ask _ _ _ c.before.before.before.before.requires _ _ c.before.loop-test.true c.before.before.loop.invariant.2
 
 add-j : tie.Need-overflow-add-j invariant-loop decreases-loop
 add-j c = search rules

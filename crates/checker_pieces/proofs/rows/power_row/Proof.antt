@@ -3,7 +3,7 @@ use Prim.Native.Nat.{ℕ, ◌+◌, ◌-◌, ◌≤◌}
 use native.Mathlib.Omega.{arith}
 use lib.ListN.{length}
 use Rattle.checker_pieces.specs.Rows.{PowersMade}
-use Rattle.checker_pieces.proofs.PowerRows.{powers-start, powers-ask, powers-next}
+use Rattle.checker_pieces.proofs.PowerRows.{powers_start, powers_ask, powers_next}
 use borrow.Author.Rules.{rules}
 use Rattle.checker_pieces.proofs.rows.power_row.Statement.{statement}
 use Rattle.checker_pieces.proofs.rows.power_row.Tie as tie
@@ -19,7 +19,7 @@ decreases-loop a₀ n top first m j₀ a j = m - j
 
 -- src/rows.rt:25:5
 loop-holds : tie.Need-loop-init invariant-loop decreases-loop
-loop-holds c = (omega arith, refl, powers-start _ _ _ _ _ c.before.requires)
+loop-holds c = (omega arith, refl, powers_start _ _ _ _ _ c.before.requires)
 
 -- src/rows.rt:26:27
 add-power : tie.Need-overflow-add-power invariant-loop decreases-loop
@@ -34,8 +34,8 @@ add-power-3 : tie.Need-overflow-add-power-3 invariant-loop decreases-loop
 add-power-3 c = let A = c.before.before.before.before.requires in let l = c.before.loop-test.true in let r = A.room.cells in let q = A.made in omega arith
 
 -- src/rows.rt:26:9
-power-requires : tie.Need-power-requires invariant-loop decreases-loop
-power-requires c κs = powers-ask _ _ _ _ _ c.before.before.before.before.requires _ _ c.before.loop-test.true c.before.before.loop.invariant.2
+power_requires : tie.Need-power-requires invariant-loop decreases-loop
+power_requires c κs = powers_ask _ _ _ _ _ c.before.before.before.before.requires _ _ c.before.loop-test.true c.before.before.loop.invariant.2
 
 -- src/rows.rt:27:9
 add-j : tie.Need-overflow-add-j invariant-loop decreases-loop
@@ -47,7 +47,7 @@ loop-less c = search rules
 
 -- src/rows.rt:25:5
 loop-again : tie.Need-loop-preserved invariant-loop decreases-loop
-loop-again c = (omega arith, c.before.before.power.auto.0 ∙ c.before.before.before.before.before.loop.invariant.1, powers-next _ _ _ _ _ c.before.before.before.before.before.before.before.requires _ _ c.before.before.before.before.loop-test.true c.before.before.before.before.before.loop.invariant.2 _ c.before.before.power.ensures)
+loop-again c = (omega arith, c.before.before.power.auto.0 ∙ c.before.before.before.before.before.loop.invariant.1, powers_next _ _ _ _ _ c.before.before.before.before.before.before.before.requires _ _ c.before.before.before.before.loop-test.true c.before.before.before.before.before.loop.invariant.2 _ c.before.before.power.ensures)
 
 -- src/rows.rt:20:1
 same_length : tie.Need-same-length invariant-loop decreases-loop
@@ -67,7 +67,7 @@ power-row-spec =
     add-power
     add-power-2
     add-power-3
-    power-requires
+    power_requires
     add-j
     loop-less
     loop-again

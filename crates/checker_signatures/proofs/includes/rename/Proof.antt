@@ -4,10 +4,10 @@ use Prim.Native.Nat.{ℕ, ◌+◌, ◌-◌, ◌*◌, ◌≤◌, ◌<◌}
 use native.Mathlib.Omega.{arith}
 use lib.ListN.{length, get_or}
 use Rattle.checker_rules.specs.Signatures.{renamed}
-use Rattle.checker_signatures.specs.Rows.{rows, renames, renameRows}
+use Rattle.checker_signatures.specs.Rows.{rows, renames, rename_rows}
 use Rattle.checker_signatures.specs.Tables.{Table}
-use Rattle.checker_signatures.proofs.TableLaws.{table_none, table-word, table-insert, table-count, table-length}
-use Rattle.checker_signatures.proofs.MergeLaws.{rename-start, rename-go, rename-end}
+use Rattle.checker_signatures.proofs.TableLaws.{table_none, table_word, table_insert, table_count, table_length}
+use Rattle.checker_signatures.proofs.MergeLaws.{rename_start, rename_go, rename_end}
 use borrow.Author.Rules.{rules}
 use Rattle.checker_signatures.proofs.includes.rename.Statement.{statement}
 use Rattle.checker_signatures.proofs.includes.rename.Tie as tie
@@ -15,7 +15,7 @@ use Rattle.checker_signatures.proofs.includes.rename.Tie as tie
 abbrev invariant-loop : tie.invariant-loop
 invariant-loop work₀ source m base part first n₀ j₀ work n j =
     (j ≤ m) × (n + j ≤ m) × (length work ≡ length work₀)
-    × Table work₀ work base (renameRows (renames part first) (rows work₀ (source + 2 * j) (m - j))) n
+    × Table work₀ work base (rename_rows (renames part first) (rows work₀ (source + 2 * j) (m - j))) n
 
 abbrev decreases-loop : tie.decreases-loop
 decreases-loop work₀ source m base part first n₀ j₀ work n j = j
@@ -25,7 +25,7 @@ loop-holds c =
     let a = c.before.before.args in
     let w = a.work.now in
     let ps = renames a.part.now a.first in
-    (omega arith, omega arith, refl, table_none w a.base (renameRows ps (rows w (a.source + 2 * a.m) (a.m - a.m))) (rename-start ps w a.source a.m))
+    (omega arith, omega arith, refl, table_none w a.base (rename_rows ps (rows w (a.source + 2 * a.m) (a.m - a.m))) (rename_start ps w a.source a.m))
 
 insert-requires : tie.Need-insert-requires invariant-loop decreases-loop
 insert-requires c κs =
@@ -48,19 +48,19 @@ loop-again c =
     let y = c.before.before.before.before.before.word2 in
     let i = c.before.before.before.before.renamed in
     let t = c.before.before.insert in
-    let rs = renameRows ps (rows w (a.source + 2 * l.j) (a.m - l.j)) in
+    let rs = rename_rows ps (rows w (a.source + 2 * l.j) (a.m - l.j)) in
     let p = s.requires.0.room in
     let kept : (at : ℕ) → a.source ≤ at → at < a.source + 2 * a.m → get_or l.work at 0 ≡ get_or w at 0 =
-    λ at q r. table-word w a.base l.work rs l.n l.invariant.3 a.m a.source a.m at (omega (arith, l.invariant.1)) s.requires.0.apart q r in
+    λ at q r. table_word w a.base l.work rs l.n l.invariant.3 a.m a.source a.m at (omega (arith, l.invariant.1)) s.requires.0.apart q r in
     let e = i.ensures.0 ∙ ap (renamed ps) (x.ensures.0 ∙ kept (a.source + 2 * (l.j - 1)) (omega arith) (omega (arith, l.invariant.0))) in
     let f = y.ensures.0 ∙ kept (a.source + 2 * (l.j - 1) + 1) (omega arith) (omega (arith, l.invariant.0)) in
-    let g = table-insert w a.base l.work rs l.n l.invariant.3 t.new.0 i.result y.result t.result (omega (arith, l.invariant.1)) t.ensures in
-    let n = (table-count w a.base l.work rs l.n l.invariant.3 t.new.0 i.result y.result t.result t.ensures).1 in (
+    let g = table_insert w a.base l.work rs l.n l.invariant.3 t.new.0 i.result y.result t.result (omega (arith, l.invariant.1)) t.ensures in
+    let n = (table_count w a.base l.work rs l.n l.invariant.3 t.new.0 i.result y.result t.result t.ensures).1 in (
       omega (arith, l.invariant.0),
       omega (arith, n, h, l.invariant.1),
-      table-length w a.base t.new.0 _ t.result g,
+      table_length w a.base t.new.0 _ t.result g,
       subst (λ (z : List (ℕ × ℕ)). Table w t.new.0 a.base z t.result)
-          (sym (rename-go ps w a.source a.m l.j h l.invariant.0 i.result y.result e f)) g,
+          (sym (rename_go ps w a.source a.m l.j h l.invariant.0 i.result y.result e f)) g,
     )
 
 same_length : tie.Need-same-length invariant-loop decreases-loop
@@ -74,7 +74,7 @@ returns c =
     let l = c.before.loop in
     let z : l.j ≡ 0 = omega arith in
     subst (λ (rs : List (ℕ × ℕ)). Table w l.work a.base rs l.n)
-    (ap (λ (j : ℕ). renameRows ps (rows w (a.source + 2 * j) (a.m - j))) z ∙ rename-end ps w a.source a.m) l.invariant.3
+    (ap (λ (j : ℕ). rename_rows ps (rows w (a.source + 2 * j) (a.m - j))) z ∙ rename_end ps w a.source a.m) l.invariant.3
 
 pub rename-spec : {M : Type 1} → statement M
 rename-spec =

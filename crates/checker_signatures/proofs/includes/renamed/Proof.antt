@@ -3,7 +3,7 @@ use Prim.Native.Nat.{◌-◌, ◌≤◌}
 use native.Mathlib.Omega.{arith}
 use Rattle.checker_rules.specs.Signatures.{renamed}
 use Rattle.checker_signatures.specs.Rows.{renames}
-use Rattle.checker_signatures.proofs.IncludeLaws.{renamed-hit, renamed-go, renamed-end}
+use Rattle.checker_signatures.proofs.IncludeLaws.{renamed_hit, renamed_go, renamed_end}
 use borrow.Author.Rules.{rules}
 use Rattle.checker_signatures.proofs.includes.renamed.Statement.{statement}
 use Rattle.checker_signatures.proofs.includes.renamed.Tie as tie
@@ -22,7 +22,7 @@ returns c =
     let a = c.before.before.before.before.before.before.args in
     let l = c.before.before.before.before.loop in
     let x = sym c.before.before.word.ensures.0 ∙ c.before.if1.true in
-    (c.word2.ensures.0 ∙ sym (l.invariant.1 ∙ renamed-hit a.part.now l.i a.id c.before.before.before.loop-test.true x), c.word2.ensures.1)
+    (c.word2.ensures.0 ∙ sym (l.invariant.1 ∙ renamed_hit a.part.now l.i a.id c.before.before.before.loop-test.true x), c.word2.ensures.1)
 
 loop-less : tie.Need-loop-smaller invariant-loop decreases-loop
 loop-less c = omega arith
@@ -31,13 +31,13 @@ loop-again : tie.Need-loop-preserved invariant-loop decreases-loop
 loop-again c =
     let a = c.before.before.before.before.before.args in
     let l = c.before.before.before.loop in
-    (omega arith, l.invariant.1 ∙ renamed-go a.part.now l.i a.id c.before.before.loop-test.true (λ q. c.if1.false (c.before.word.ensures.0 ∙ q)))
+    (omega arith, l.invariant.1 ∙ renamed_go a.part.now l.i a.id c.before.before.loop-test.true (λ q. c.if1.false (c.before.word.ensures.0 ∙ q)))
 
 returns-2 : tie.Need-returns-2 invariant-loop decreases-loop
 returns-2 c =
     let s = c.before.before.before in
     let l = c.before.loop in
-    (sym (l.invariant.1 ∙ renamed-end s.args.part.now l.i s.args.id c.loop-test.false), s.requires.1)
+    (sym (l.invariant.1 ∙ renamed_end s.args.part.now l.i s.args.id c.loop-test.false), s.requires.1)
 
 pub renamed-spec : {M : Type 1} → statement M
 renamed-spec =

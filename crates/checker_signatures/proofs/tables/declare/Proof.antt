@@ -3,10 +3,10 @@ use mathlib.Core.List.{List}
 use Prim.Native.Nat.{ℕ, ◌+◌, ◌-◌, ◌≤◌, ◌<◌}
 use native.Mathlib.Omega.{arith}
 use lib.ListN.{length, drop}
-use Rattle.checker_signatures.specs.Rows.{rows, declareRows}
+use Rattle.checker_signatures.specs.Rows.{rows, declare_rows}
 use Rattle.checker_signatures.specs.Tables.{Table}
-use Rattle.checker_signatures.proofs.TableLaws.{table-self, turned}
-use Rattle.checker_signatures.proofs.MergeLaws.{declare-go, declare-end}
+use Rattle.checker_signatures.proofs.TableLaws.{table_self, turned}
+use Rattle.checker_signatures.proofs.MergeLaws.{declare_go, declare_end}
 use borrow.Author.Rules.{rules}
 use Rattle.checker_signatures.proofs.tables.declare.Statement.{statement}
 use Rattle.checker_signatures.proofs.tables.declare.Tie as tie
@@ -14,7 +14,7 @@ use Rattle.checker_signatures.proofs.tables.declare.Tie as tie
 abbrev invariant-loop : tie.invariant-loop
 invariant-loop work₀ base m part first place e n₀ i₀ work n i =
     (first ≤ i) × (n + first ≤ m + i) × (length work ≡ length work₀) × Table work₀ work base (rows work base n) n
-    × (declareRows (drop first part) place (rows work₀ base m) ≡ declareRows (drop i part) place (rows work base n))
+    × (declare_rows (drop first part) place (rows work₀ base m) ≡ declare_rows (drop i part) place (rows work base n))
 
 abbrev decreases-loop : tie.decreases-loop
 decreases-loop work₀ base m part first place e n₀ i₀ work n i = e - i
@@ -22,7 +22,7 @@ decreases-loop work₀ base m part first place e n₀ i₀ work n i = e - i
 loop-holds : tie.Need-loop-init invariant-loop decreases-loop
 loop-holds c =
     let a = c.before.before.args in
-    (omega arith, omega arith, refl, table-self a.work.now a.base a.m, refl)
+    (omega arith, omega arith, refl, table_self a.work.now a.base a.m, refl)
 
 insert-requires : tie.Need-insert-requires invariant-loop decreases-loop
 insert-requires c κs = (omega arith, c.before.word.ensures.1, c.before.before.before.before.before.before.requires.1)
@@ -44,7 +44,7 @@ loop-again c =
       omega (arith, g.more, l.invariant.1),
       g.same,
       g.table,
-      l.invariant.4 ∙ declare-go a.part.now a.place l.i (rows l.work a.base l.n) h x.result x.ensures.0 (rows t.new.0 a.base t.result) g.new,
+      l.invariant.4 ∙ declare_go a.part.now a.place l.i (rows l.work a.base l.n) h x.result x.ensures.0 (rows t.new.0 a.base t.result) g.new,
     )
 
 same_length : tie.Need-same-length invariant-loop decreases-loop
@@ -55,7 +55,7 @@ returns c =
     let a = c.before.before.before.before.args in
     let l = c.before.loop in
     subst (λ (z : List (ℕ × ℕ)). Table a.work.now l.work a.base z l.n)
-    (sym (l.invariant.4 ∙ declare-end a.part.now a.place l.i (rows l.work a.base l.n) (omega arith))) l.invariant.3
+    (sym (l.invariant.4 ∙ declare_end a.part.now a.place l.i (rows l.work a.base l.n) (omega arith))) l.invariant.3
 
 pub declare-spec : {M : Type 1} → statement M
 declare-spec =

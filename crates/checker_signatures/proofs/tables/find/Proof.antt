@@ -2,7 +2,7 @@ use mathlib.Core.Path.{◌≡◌, refl, sym, ◌∙◌}
 use Prim.Native.Nat.{◌≤◌, ◌<◌}
 use native.Mathlib.Omega.{arith}
 use Rattle.checker_signatures.specs.Rows.{rows, place_in}
-use Rattle.checker_signatures.proofs.InsertLaws.{find-hit, find-miss, find_none}
+use Rattle.checker_signatures.proofs.InsertLaws.{find_hit, find_miss, find_none}
 use borrow.Author.Rules.{rules}
 use Rattle.checker_signatures.proofs.tables.find.Statement.{statement}
 use Rattle.checker_signatures.proofs.tables.find.Tie as tie
@@ -24,7 +24,7 @@ returns c =
     let e = sym c.before.word.ensures.0 ∙ c.if1.true in
     record {
       most = omega arith;
-      there = λ q. l.invariant.1 ∙ find-hit s.args.work.now s.args.base s.args.id l.j h e;
+      there = λ q. l.invariant.1 ∙ find_hit s.args.work.now s.args.base s.args.id l.j h e;
       present = λ q. e;
       absent = λ q. absurd (omega arith);
     }
@@ -34,7 +34,7 @@ loop-again c =
     let s = c.before.before.before.before.before in
     let l = c.before.before.before.loop in
     let h : 0 < l.j = c.before.before.loop-test.true in
-    (omega arith, l.invariant.1 ∙ find-miss s.args.work.now s.args.base s.args.id l.j h (λ q. c.if1.false (c.before.word.ensures.0 ∙ q)))
+    (omega arith, l.invariant.1 ∙ find_miss s.args.work.now s.args.base s.args.id l.j h (λ q. c.if1.false (c.before.word.ensures.0 ∙ q)))
 
 returns-2 : tie.Need-returns-2 invariant-loop decreases-loop
 returns-2 c =

@@ -5,7 +5,7 @@ use native.Mathlib.Omega.{arith}
 use lib.ListN.{length}
 use lib.Seq.{sets}
 use Rattle.checker_signatures.specs.Rows.{rows, flat}
-use Rattle.checker_signatures.proofs.InsertLaws.{shifted, shift-start, shift-go, shift-end}
+use Rattle.checker_signatures.proofs.InsertLaws.{shifted, shift_start, shift_go, shift_end}
 use borrow.Author.Rules.{rules}
 use Rattle.checker_signatures.proofs.tables.put_before.Statement.{statement}
 use Rattle.checker_signatures.proofs.tables.put_before.Tie as tie
@@ -21,7 +21,7 @@ decreases-loop work₀ at k id place i₀ p₀ j₀ work i p j = k - j
 loop-holds : tie.Need-loop-init invariant-loop decreases-loop
 loop-holds c =
     let a = c.before.args in
-    (omega arith, c.before.requires.1, c.before.requires.2, refl, shift-start a.work.now a.at a.k a.id a.place)
+    (omega arith, c.before.requires.1, c.before.requires.2, refl, shift_start a.work.now a.at a.k a.id a.place)
 
 loop-again : tie.Need-loop-preserved invariant-loop decreases-loop
 loop-again c =
@@ -34,7 +34,7 @@ loop-again c =
       x.ensures.1,
       y.ensures.1,
       t.auto.0 ∙ l.invariant.3,
-      l.invariant.4 ∙ shift-go l.work a.at a.k l.j l.i l.p c.before.before.before.before.before.before.before.before.loop-test.true t.new.0 t.ensures x.result y.result x.ensures.0 y.ensures.0,
+      l.invariant.4 ∙ shift_go l.work a.at a.k l.j l.i l.p c.before.before.before.before.before.before.before.before.loop-test.true t.new.0 t.ensures x.result y.result x.ensures.0 y.ensures.0,
     )
 
 same_length : tie.Need-same-length invariant-loop decreases-loop
@@ -45,7 +45,7 @@ returns c =
     let a = c.before.before.before.before.before.before.before.args in
     let l = c.before.before.before.before.before.loop in
     let t = c.before.before.put-row2 in
-    t.ensures ∙ sym (l.invariant.4 ∙ shift-end l.work a.at a.k l.j l.i l.p (omega arith))
+    t.ensures ∙ sym (l.invariant.4 ∙ shift_end l.work a.at a.k l.j l.i l.p (omega arith))
 
 pub put-before-spec : {M : Type 1} → statement M
 put-before-spec =

@@ -1,6 +1,6 @@
 use Rattle.std.proofs.Common.{ℕ, ◌-◌, ◌<◌, subst, rules}
 use Rattle.values.specs.Held.{Building}
-use Rattle.enumeration.proofs.Laws.{sets-none, sets-take, sets-skip}
+use Rattle.enumeration.proofs.Laws.{sets_none, sets_take, sets_skip}
 use borrow.Fn.Kinds.{In}
 use borrow.Fn.PlainCycle.{Measures, is, falls, and}
 use Rattle.enumeration.proofs.powers.subsets.Reads as subsets
@@ -23,16 +23,16 @@ abbrev subsets-calls : ℕ → subsets-lts.Claims
 subsets-calls t = (subset-reads.Asked, subset-reads.Learnt, subsets-below t, subsets.Post)
 
 subsets-returns : (t : ℕ) → subsets-lts.Need-returns (subsets-calls t) (subsets-at t) subsets.Post
-subsets-returns t c = λ ws b. subst (Building _ _) (sets-none _ _ ws _ c.if1.true) b
+subsets-returns t c = λ ws b. subst (Building _ _) (sets_none _ _ ws _ c.if1.true) b
 
 subsets-returns-2 : (t : ℕ) → subsets-lts.Need-returns-2 (subsets-calls t) (subsets-at t) subsets.Post
 subsets-returns-2 t c =
     λ ws b.
     let p = c.before.before.subsets.ensures _ (c.before.before.before.before.before.before.subset.ensures ws b) in
-    subst (Building _ _) (sets-take _ _ _ ws _ c.before.before.before.before.before.before.before.before.before.if1.false c.before.before.before.before.before.before.before.before.before.before.before.before.requires.1.1 c.before.before.before.before.before.before.before.before.if2.true) p
+    subst (Building _ _) (sets_take _ _ _ ws _ c.before.before.before.before.before.before.before.before.before.if1.false c.before.before.before.before.before.before.before.before.before.before.before.before.requires.1.1 c.before.before.before.before.before.before.before.before.if2.true) p
 
 subsets-returns-3 : (t : ℕ) → subsets-lts.Need-returns-3 (subsets-calls t) (subsets-at t) subsets.Post
-subsets-returns-3 t c = λ ws b. subst (Building _ _) (sets-skip _ _ _ ws _ c.before.before.before.before.before.if1.false c.before.before.before.before.before.before.before.before.requires.1.1 c.before.before.before.before.if2.false) (c.before.before.subsets2.ensures _ b)
+subsets-returns-3 t c = λ ws b. subst (Building _ _) (sets_skip _ _ _ ws _ c.before.before.before.before.before.if1.false c.before.before.before.before.before.before.before.before.requires.1.1 c.before.before.before.before.if2.false) (c.before.before.subsets2.ensures _ b)
 
 pub +subsets-spec : {M : Type 1} → statement M
 +subsets-spec = close μ-subsets λ t. subsets-lts.spec (subsets-calls t) (subsets-at t) subsets.Post

@@ -1,6 +1,6 @@
 use Rattle.std.proofs.Common.{◌≤◌, [], ◌∙◌, mul-le-mul, arith, rules}
-use Rattle.values.proofs.Holding.{building-none}
-use Rattle.enumeration_rules.specs.OnWords.{growOn}
+use Rattle.values.proofs.Holding.{building_none}
+use Rattle.enumeration_rules.specs.OnWords.{grow_on}
 use Rattle.enumeration.proofs.products.grow.Statement.{statement}
 use Rattle.enumeration.proofs.products.grow.Tie as tie
 
@@ -11,8 +11,8 @@ mul-t9 c =
     record { fits = omega (arith, mul-le-mul a b) }
 
 returns : tie.Need-returns
-unfolding growOn
-returns c = c.built.ensures _ (c.before.before.tuples.ensures _ (c.before.before.before.before.before.before.before.put.ensures [] building-none)) ∙ rw (c.before.before.before.before.from.ensures, c.before.before.before.from2.ensures, c.before.before.before.before.before.before.before.before.before.before.before.word.ensures.0, c.before.before.before.before.before.before.before.before.before.before.word2.ensures.0)
+unfolding grow_on
+returns c = c.built.ensures _ (c.before.before.tuples.ensures _ (c.before.before.before.before.before.before.before.put.ensures [] building_none)) ∙ rw (c.before.before.before.before.from.ensures, c.before.before.before.from2.ensures, c.before.before.before.before.before.before.before.before.before.before.before.word.ensures.0, c.before.before.before.before.before.before.before.before.before.before.word2.ensures.0)
 
 pub grow_spec : {M : Type 1} → statement M
 grow_spec =

@@ -4,7 +4,7 @@ use Prim.Native.Nat.{ℕ}
 use native.Mathlib.Omega.{arith}
 use lib.ListN.{length, set}
 use Rattle.evaluator_operations.specs.Worked.{SetIn}
-use Rattle.evaluator_operations.proofs.GatherLaws.{set-written}
+use Rattle.evaluator_operations.proofs.GatherLaws.{set_written}
 use borrow.Author.Rules.{rules}
 use Rattle.evaluator_operations.proofs.gathering.put_set.Statement.{statement}
 use Rattle.evaluator_operations.proofs.gathering.put_set.Tie as tie
@@ -23,7 +23,7 @@ returns-2 c =
     λ vs l h.
     let a = c.before.before.before.before.before.before.before.before.before.before.before.before.args in
     let e = c.before.before.store.ensures ∙ ap (λ (u : List ℕ). set u 64 a.t.len) c.before.before.before.before.before.before.copy.ensures in
-    subst (λ (u : List ℕ). SetIn u vs) (sym e) (set-written a.s.now a.t vs l h)
+    subst (λ (u : List ℕ). SetIn u vs) (sym e) (set_written a.s.now a.t vs l h)
 
 pub put-set-spec : {M : Type 1} → statement M
 put-set-spec =

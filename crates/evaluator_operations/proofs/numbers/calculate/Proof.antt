@@ -1,4 +1,4 @@
-use Rattle.evaluator_operations.proofs.OperationLaws.{other-plus}
+use Rattle.evaluator_operations.proofs.OperationLaws.{other_plus}
 use mir.Syntax.{w32}
 use mir.ValLaws.{to_z-of_z}
 use Rattle.evaluator_rules.specs.Operations.{calculate}
@@ -26,7 +26,7 @@ returns-5 : tie.Need-returns-5
 unfolding calculate
 returns-5 c =
     let r = c.before.match.rest in
-    rw (other-plus _ r.0.0.0.1 r.0.0.1 r.0.1 r.1) (rw (to_z-of_z w32 _ c.before.before.ranges.a, to_z-of_z w32 _ c.before.before.ranges.b) at c.add.ensures)
+    rw (other_plus _ r.0.0.0.1 r.0.0.1 r.0.1 r.1) (rw (to_z-of_z w32 _ c.before.before.ranges.a, to_z-of_z w32 _ c.before.before.ranges.b) at c.add.ensures)
 
 pub calculate-spec : {M : Type 1} → statement M
 calculate-spec =

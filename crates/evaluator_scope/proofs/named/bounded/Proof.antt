@@ -1,7 +1,7 @@
 use Rattle.values.specs.Value.{encode}
 use Rattle.values.specs.Held.{over}
 use Rattle.values.specs.declared.held.Held.{Held}
-use Rattle.values.proofs.Holding.{held-len}
+use Rattle.values.proofs.Holding.{held_len}
 use mathlib.Core.Path.{◌≡◌, refl, sym, ap, subst, ◌∙◌}
 use mathlib.Core.Bool.{true, false}
 use mathlib.Core.List.{List}
@@ -17,7 +17,7 @@ over-requires c κs = search rules
 
 returns : tie.Need-returns
 unfolding over
-returns c = (omega (arith, ap (λ (h : Held). h.len) c.over.ensures), λ x g. absurd (omega (arith, c.before.if1.true, held-len c.before.before.args.v (encode x) g.words g.short, g.short)))
+returns c = (omega (arith, ap (λ (h : Held). h.len) c.over.ensures), λ x g. absurd (omega (arith, c.before.if1.true, held_len c.before.before.args.v (encode x) g.words g.short, g.short)))
 
 returns-2 : tie.Need-returns-2
 returns-2 c = (omega (arith, c.if1.false), λ x g. refl)

@@ -3,7 +3,7 @@ use Rattle.values.specs.Held.{keep}
 use Rattle.values.specs.declared.held.Held.{Held}
 use Rattle.evaluator_operations.specs.Worked.{Holds}
 use Rattle.evaluator_scope.specs.Named.{said}
-use Rattle.evaluator_scope.proofs.NamedLaws.{entry-few, name-plain, name-given}
+use Rattle.evaluator_scope.proofs.NamedLaws.{entry_few, name_plain, name_given}
 use mathlib.Core.Path.{◌≡◌, refl, sym, ap, subst, ◌∙◌}
 use mathlib.Core.Bool.{true, false}
 use mathlib.Core.List.{List}
@@ -26,7 +26,7 @@ mul-word c =
     let d = s₀.args.doc.now in
     let st = s₀.args.state.now in
     let tb = s₀.args.table.now in
-    omega (arith, c.before.place_of.ensures, entry-few d st tb s₀.requires.0 s₀.args.name s₀.requires.1)
+    omega (arith, c.before.place_of.ensures, entry_few d st tb s₀.requires.0 s₀.args.name s₀.requires.1)
 
 word-requires : tie.Need-word-requires
 word-requires c κs = search rules
@@ -42,7 +42,7 @@ returns c =
     let tb = s₀.args.table.now in
     let e = c.before.before.before.before.place_of.ensures in
     let z = rw e at (sym c.before.before.word.ensures.0 ∙ c.before.if1.true) in
-    subst (λ (r : Held). Holds r (said d st s₀.args.name)) (sym (c.hold.ensures ∙ ap keep (c.before.before.before.part.ensures ∙ ap (part st) e))) (name-plain d st tb s₀.requires.0 s₀.args.name s₀.requires.1 (λ i. omega (arith, c.before.before.before.before.before.before.shared-slice-known2.given i)) z)
+    subst (λ (r : Held). Holds r (said d st s₀.args.name)) (sym (c.hold.ensures ∙ ap keep (c.before.before.before.part.ensures ∙ ap (part st) e))) (name_plain d st tb s₀.requires.0 s₀.args.name s₀.requires.1 (λ i. omega (arith, c.before.before.before.before.before.before.shared-slice-known2.given i)) z)
 
 cast-given-set : tie.Need-overflow-cast-given-set
 cast-given-set c = search rules
@@ -60,7 +60,7 @@ returns-2 c =
     let st = s₀.args.state.now in
     let tb = s₀.args.table.now in
     let e = c.before.before.before.before.before.place_of.ensures in
-    subst (λ (r : Held). Holds r (said d st s₀.args.name)) (sym c.given-set.ensures) (rw (c.before.before.before.word.ensures.0, c.before.word2.ensures.0, c.before.before.before.before.part.ensures, e) (name-given d st tb s₀.requires.0 s₀.args.name s₀.requires.1 (λ i. omega (arith, c.before.before.before.before.before.before.before.shared-slice-known2.given i)) (λ z. c.before.before.if1.false (c.before.before.before.word.ensures.0 ∙ (rw e z)))))
+    subst (λ (r : Held). Holds r (said d st s₀.args.name)) (sym c.given-set.ensures) (rw (c.before.before.before.word.ensures.0, c.before.word2.ensures.0, c.before.before.before.before.part.ensures, e) (name_given d st tb s₀.requires.0 s₀.args.name s₀.requires.1 (λ i. omega (arith, c.before.before.before.before.before.before.before.shared-slice-known2.given i)) (λ z. c.before.before.if1.false (c.before.before.before.word.ensures.0 ∙ (rw e z)))))
 
 pub held-name-spec : {M : Type 1} → statement M
 held-name-spec = tie.close (tie.spec place-of-requires part-requires mul-word word-requires hold-requires returns cast-given-set word-requires-2 given-set-requires returns-2)

@@ -1,16 +1,16 @@
 use borrow.Author.Tests.{ne_eqb}
 use borrow.Author.Rules.{rules}
 use Rattle.words.proofs.Loops.{tests}
-use Rattle.printer_rules.specs.Lines.{dictionarySize}
+use Rattle.printer_rules.specs.Lines.{dictionary_size}
 use Rattle.printer.proofs.lines.dictionary_size.Statement.{statement}
 use Rattle.printer.proofs.lines.dictionary_size.Tie as tie
 
 returns : tie.Need-returns
-unfolding dictionarySize
+unfolding dictionary_size
 returns c = rw (← c.before.word.ensures.0) (search tests)
 
 returns-2 : tie.Need-returns-2
-unfolding dictionarySize
+unfolding dictionary_size
 returns-2 c =
     rw (
       ← c.before.before.before.word.ensures.0,

@@ -5,8 +5,8 @@ use borrow.Author.Rules.{rules}
 use Prim.Native.Nat.{ℕ, ◌<◌, ◌/◌, ◌%◌}
 use borrow.Fn.Kinds.{In}
 use borrow.Fn.PlainCycle.{Measures, is, falls, and}
-use Rattle.printer_rules.proofs.Decimal.{decimal-one, decimal-more}
-use Rattle.printer.proofs.PutLaws.{put_then, put-text}
+use Rattle.printer_rules.proofs.Decimal.{decimal_one, decimal_more}
+use Rattle.printer.proofs.PutLaws.{put_then, put_text}
 use Rattle.printer.proofs.numbers.put_number.Reads as put-number
 use Rattle.printer.proofs.numbers.put_number.Kinds as put-number-kinds
 use Rattle.printer.proofs.numbers.+put_number.Lts-put_number as put-number-lts
@@ -27,7 +27,7 @@ abbrev put-number-calls : ℕ → put-number-lts.Claims
 put-number-calls t = (put-byte-reads.Asked, put-byte-reads.Learnt, put-number-below t, put-number.Post)
 
 put-number-returns : (t : ℕ) → put-number-lts.Need-returns (put-number-calls t) (put-number-at t) put-number.Post
-put-number-returns t c = put-text (sym (decimal-one _ c.before.before.before.before.if1.true)) c.before.before.put_byte.ensures
+put-number-returns t c = put_text (sym (decimal_one _ c.before.before.before.before.if1.true)) c.before.before.put_byte.ensures
 
 put-number-put-number-requires : (t : ℕ) → put-number-lts.Need-put-number-requires (put-number-calls t) (put-number-at t) put-number.Post
 put-number-put-number-requires t c κs =
@@ -37,8 +37,8 @@ put-number-put-number-requires t c κs =
 
 put-number-returns-2 : (t : ℕ) → put-number-lts.Need-returns-2 (put-number-calls t) (put-number-at t) put-number.Post
 put-number-returns-2 t c =
-    put-text
-    (sym (decimal-more _ c.before.before.before.before.before.before.before.before.if1.false))
+    put_text
+    (sym (decimal_more _ c.before.before.before.before.before.before.before.before.if1.false))
     (put_then c.before.before.before.before.before.before.put-number.ensures c.before.before.put-byte2.ensures)
 
 pub +put-number-spec : {M : Type 1} → statement M

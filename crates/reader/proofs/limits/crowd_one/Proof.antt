@@ -1,7 +1,7 @@
 use mathlib.Core.Path.{sym, ap, ◌∙◌}
 use native.Mathlib.Omega.{arith}
-use Rattle.reader_rules.specs.Limits.{isClosing}
-use Rattle.reader.proofs.CountLaws.{crowd-other, crowd-past, crowd-more}
+use Rattle.reader_rules.specs.Limits.{is_closing}
+use Rattle.reader.proofs.CountLaws.{crowd_other, crowd_past, crowd_more}
 use borrow.Author.Rules.{rules}
 use Rattle.reader.proofs.limits.crowd_one.Statement.{statement}
 use Rattle.reader.proofs.limits.crowd_one.Tie as tie
@@ -34,7 +34,7 @@ same_length c = search rules
 
 -- src/limits.rt:81:13
 returns : tie.Need-returns
-returns c = crowd-past _ _ _ (ap isClosing (sym c.before.before.before.before.before.kind-at.ensures.0) ∙ sym c.before.before.before.before.is-closing.ensures ∙ c.before.before.before.if1.true) _ c.before.word.ensures.0 c.if2.true
+returns c = crowd_past _ _ _ (ap is_closing (sym c.before.before.before.before.before.kind_at_lem.ensures.0) ∙ sym c.before.before.before.before.is-closing.ensures ∙ c.before.before.before.if1.true) _ c.before.word.ensures.0 c.if2.true
 
 -- src/limits.rt:83:25
 cast-store : tie.Need-overflow-cast-store
@@ -50,11 +50,11 @@ same-length-2 c = search rules
 
 -- src/limits.rt:84:9
 returns-2 : tie.Need-returns-2
-returns-2 c = crowd-more _ _ _ (ap isClosing (sym c.before.before.before.before.before.before.before.before.before.kind-at.ensures.0) ∙ sym c.before.before.before.before.before.before.before.before.is-closing.ensures ∙ c.before.before.before.before.before.before.before.if1.true) _ c.before.before.before.before.before.word.ensures.0 (let t = c.before.before.before.before.if2.false in omega arith) _ c.before.before.store.ensures
+returns-2 c = crowd_more _ _ _ (ap is_closing (sym c.before.before.before.before.before.before.before.before.before.kind_at_lem.ensures.0) ∙ sym c.before.before.before.before.before.before.before.before.is-closing.ensures ∙ c.before.before.before.before.before.before.before.if1.true) _ c.before.before.before.before.before.word.ensures.0 (let t = c.before.before.before.before.if2.false in omega arith) _ c.before.before.store.ensures
 
 -- src/limits.rt:74:1
 returns-3 : tie.Need-returns-3
-returns-3 c = crowd-other _ _ _ (ap isClosing (sym c.before.before.kind-at.ensures.0) ∙ sym c.before.is-closing.ensures ∙ c.if1.false)
+returns-3 c = crowd_other _ _ _ (ap is_closing (sym c.before.before.kind_at_lem.ensures.0) ∙ sym c.before.is-closing.ensures ∙ c.if1.false)
 
 pub crowd-one-spec : {M : Type 1} → statement M
 crowd-one-spec =

@@ -3,7 +3,7 @@ use Prim.Native.Nat.{◌<◌}
 use native.Mathlib.Omega.{arith}
 use Rattle.reader_repeats.specs.Parents.{places}
 use Rattle.reader.specs.Counts.{reaches}
-use Rattle.reader.proofs.CountLaws.{table-parent, table-place, reaches-none, reaches-top, reaches-up}
+use Rattle.reader.proofs.CountLaws.{table_parent, table_place, reaches_none, reaches_top, reaches_up}
 use borrow.Author.Rules.{rules}
 use Rattle.reader.proofs.limits.has_above.Statement.{statement}
 use Rattle.reader.proofs.limits.has_above.Tie as tie
@@ -29,7 +29,7 @@ word-requires c κs = search rules
 returns : tie.Need-returns invariant-loop decreases-loop
 returns c =
     let l = c.before.before.before.loop in
-    reaches-top _ _ _ _ c.before.before.loop-test.true (table-parent _ _ c.before.before.before.before.before.before.requires.0 _ _ l.invariant.0 c.before.word.ensures.0) c.if1.true ∙ l.invariant.1
+    reaches_top _ _ _ _ c.before.before.loop-test.true (table_parent _ _ c.before.before.before.before.before.before.requires.0 _ _ l.invariant.0 c.before.word.ensures.0) c.if1.true ∙ l.invariant.1
 
 -- src/limits.rt:48:9
 sub-left : tie.Need-overflow-sub-left invariant-loop decreases-loop
@@ -43,11 +43,11 @@ loop-less c = omega (arith, c.before.before.loop-test.true)
 loop-again : tie.Need-loop-preserved invariant-loop decreases-loop
 loop-again c =
     let l = c.before.before.before.loop in
-    (table-place _ _ c.before.before.before.before.before.before.requires.0 l.a c.before.word.result l.invariant.0 c.before.word.ensures.0, reaches-up _ _ _ _ c.before.before.loop-test.true (table-parent _ _ c.before.before.before.before.before.before.requires.0 _ _ l.invariant.0 c.before.word.ensures.0) c.if1.false ∙ l.invariant.1)
+    (table_place _ _ c.before.before.before.before.before.before.requires.0 l.a c.before.word.result l.invariant.0 c.before.word.ensures.0, reaches_up _ _ _ _ c.before.before.loop-test.true (table_parent _ _ c.before.before.before.before.before.before.requires.0 _ _ l.invariant.0 c.before.word.ensures.0) c.if1.false ∙ l.invariant.1)
 
 -- src/limits.rt:37:1
 returns-2 : tie.Need-returns-2 invariant-loop decreases-loop
-returns-2 c = reaches-none _ _ _ c.loop-test.false ∙ c.before.loop.invariant.1
+returns-2 c = reaches_none _ _ _ c.loop-test.false ∙ c.before.loop.invariant.1
 
 pub has-above-spec : {M : Type 1} → statement M
 has-above-spec =

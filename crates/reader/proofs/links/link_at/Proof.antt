@@ -1,4 +1,4 @@
-use Rattle.reader.specs.Links.{tallyAt, linkAt}
+use Rattle.reader.specs.Links.{tally_at, link_at}
 use borrow.Author.Tests.{lt-ltb, le-ltb}
 use Rattle.words.proofs.Loops.{tests}
 use borrow.Author.Rules.{rules}
@@ -6,11 +6,11 @@ use Rattle.reader.proofs.links.link_at.Statement.{statement}
 use Rattle.reader.proofs.links.link_at.Tie as tie
 
 returns : tie.Need-returns
-unfolding tallyAt linkAt
+unfolding tally_at link_at
 returns c = rw (← c.before.sort-at.ensures, le-ltb _ _ c.if1.true) (search tests)
 
 returns-2 : tie.Need-returns-2
-unfolding tallyAt linkAt
+unfolding tally_at link_at
 returns-2 c = let s = c.before.before.before.before.before.before.before.before.before.before.sort-at.ensures in
     let w = c.before.before.before.before.before.before.before.before.word.ensures.0 in
     let l = c.before.before.before.before.before.before.before.before.before.if1.false in

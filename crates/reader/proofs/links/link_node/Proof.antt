@@ -1,5 +1,5 @@
-use Rattle.reader.specs.Links.{tallyAt, tallyNode, linkAt, linkNode}
-use Rattle.words.proofs.Loops.{run-go, run_end}
+use Rattle.reader.specs.Links.{tally_at, tally_node, link_at, link_node}
+use Rattle.words.proofs.Loops.{run_go, run_end}
 use Rattle.words.specs.Loops.{run}
 use lib.ListN.{length}
 use native.Mathlib.Omega.{arith}
@@ -13,7 +13,7 @@ use Rattle.reader.proofs.links.link_node.Tie as tie
 abbrev invariant-loop : tie.invariant-loop
 invariant-loop w k used₀ up₀ n i₀ used up i =
     (1 ≤ i) × (i ≤ n + 1) × (length used ≡ length used₀) × (length up ≡ length up₀)
-    × (tallyNode w used₀ ≡ run (tallyAt w) i (n + 1 - i) used) × (linkNode w k up₀ ≡ run (linkAt w k) i (n + 1 - i) up)
+    × (tally_node w used₀ ≡ run (tally_at w) i (n + 1 - i) used) × (link_node w k up₀ ≡ run (link_at w k) i (n + 1 - i) up)
 
 abbrev decreases-loop : tie.decreases-loop
 decreases-loop w k used₀ up₀ n i₀ used up i = n + 1 - i
@@ -28,7 +28,7 @@ loop-again : tie.Need-loop-preserved invariant-loop decreases-loop
 loop-again c =
     let l = c.before.before.before.before.before.before.before.before.loop in
     let t = c.before.before.before.before.link_at in
-    (omega arith, omega arith, t.auto.1.1.1.0 ∙ l.invariant.2, t.auto.1.1.1.1.0 ∙ l.invariant.3, l.invariant.4 ∙ run-go _ _ _ _ (omega arith) ∙ rw (← t.ensures.0), l.invariant.5 ∙ run-go _ _ _ _ (omega arith) ∙ rw (← t.ensures.1))
+    (omega arith, omega arith, t.auto.1.1.1.0 ∙ l.invariant.2, t.auto.1.1.1.1.0 ∙ l.invariant.3, l.invariant.4 ∙ run_go _ _ _ _ (omega arith) ∙ rw (← t.ensures.0), l.invariant.5 ∙ run_go _ _ _ _ (omega arith) ∙ rw (← t.ensures.1))
 
 returns : tie.Need-returns invariant-loop decreases-loop
 returns c = (sym (c.before.loop.invariant.4 ∙ run_end _ _ _ _ (omega arith)), sym (c.before.loop.invariant.5 ∙ run_end _ _ _ _ (omega arith)))

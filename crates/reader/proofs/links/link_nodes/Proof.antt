@@ -1,5 +1,5 @@
 use Rattle.reader.specs.Links.{tally_of, tally, link_of, link}
-use Rattle.words.proofs.Loops.{run-go, run_end}
+use Rattle.words.proofs.Loops.{run_go, run_end}
 use Rattle.words.specs.Loops.{run}
 use lib.ListN.{length}
 use native.Mathlib.Omega.{arith}
@@ -29,7 +29,7 @@ loop-again c =
     let l = c.before.before.before.before.before.before.before.before.before.loop in
     let t = c.before.before.before.before.link-node in
     let p = c.before.before.before.before.before.before.before.part.ensures in
-    (omega arith, omega arith, t.auto.1.1.0 ∙ l.invariant.2, t.auto.1.1.1.0 ∙ l.invariant.3, l.invariant.4 ∙ run-go _ _ _ _ (omega arith) ∙ rw (← p, ← t.ensures.0), l.invariant.5 ∙ run-go _ _ _ _ (omega arith) ∙ rw (← p, ← t.ensures.1))
+    (omega arith, omega arith, t.auto.1.1.0 ∙ l.invariant.2, t.auto.1.1.1.0 ∙ l.invariant.3, l.invariant.4 ∙ run_go _ _ _ _ (omega arith) ∙ rw (← p, ← t.ensures.0), l.invariant.5 ∙ run_go _ _ _ _ (omega arith) ∙ rw (← p, ← t.ensures.1))
 
 same_length : tie.Need-same-length invariant-loop decreases-loop
 same_length c = c.before.loop.invariant.2

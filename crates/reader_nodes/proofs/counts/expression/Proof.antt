@@ -2,18 +2,18 @@ use mathlib.Core.Logic.{⊎_elim}
 use native.Mathlib.Omega.{arith}
 use Prim.Native.Nat.{◌<◌}
 use borrow.Author.Tests.{ne_eqb}
-use Rattle.reader_nodes.specs.Choices.{expressionCounts}
+use Rattle.reader_nodes.specs.Choices.{expression_counts}
 use Rattle.reader_nodes.proofs.RangeLaws.{over}
 use borrow.Author.Rules.{rules}
 use Rattle.reader_nodes.proofs.counts.expression.Statement.{statement}
 use Rattle.reader_nodes.proofs.counts.expression.Tie as tie
 
 returns : tie.Need-returns
-unfolding expressionCounts
+unfolding expression_counts
 returns c = rw c.before.match.keys1 c.from-below.ensures
 
 returns-2 : tie.Need-returns-2
-unfolding expressionCounts
+unfolding expression_counts
 returns-2 c = rw c.before.match.keys2 c.from-below2.ensures
 
 returns-3 : tie.Need-returns-3
@@ -23,7 +23,7 @@ returns-4 : tie.Need-returns-4
 returns-4 c = c.collection.ensures
 
 returns-5 : tie.Need-returns-5
-unfolding expressionCounts
+unfolding expression_counts
 returns-5 c =
     let s = c.before.before.before in
     let q = s.args.q in

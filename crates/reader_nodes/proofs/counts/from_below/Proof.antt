@@ -1,11 +1,11 @@
 use Rattle.words.proofs.Loops.{tests}
-use Rattle.reader_nodes.specs.Choices.{countsNumber}
+use Rattle.reader_nodes.specs.Choices.{counts_number}
 use borrow.Author.Rules.{rules}
 use Rattle.reader_nodes.proofs.counts.from_below.Statement.{statement}
 use Rattle.reader_nodes.proofs.counts.from_below.Tie as tie
 
 returns : tie.Need-returns
-unfolding countsNumber
+unfolding counts_number
 returns c = search tests
 
 pub from-below-spec : {M : Type 1} → statement M

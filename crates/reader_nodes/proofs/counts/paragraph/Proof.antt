@@ -1,6 +1,6 @@
 use mathlib.Core.Logic.{⊎_elim}
 use borrow.Author.Tests.{ne_eqb}
-use Rattle.reader_nodes.specs.Choices.{paragraphCounts}
+use Rattle.reader_nodes.specs.Choices.{paragraph_counts}
 use Rattle.reader_nodes.proofs.RangeLaws.{under, over}
 use Rattle.words.proofs.Loops.{tests}
 use borrow.Author.Rules.{rules}
@@ -8,17 +8,17 @@ use Rattle.reader_nodes.proofs.counts.paragraph.Statement.{statement}
 use Rattle.reader_nodes.proofs.counts.paragraph.Tie as tie
 
 returns : tie.Need-returns
-unfolding paragraphCounts
+unfolding paragraph_counts
 returns c = rw c.before.match.keys1 c.from-below.ensures
 
 returns-2 : tie.Need-returns-2
-unfolding paragraphCounts
+unfolding paragraph_counts
 returns-2 c =
     let r = c.before.before.before.match.rest in
     rw (ne_eqb c.before.before.before.before.args.q 2 r.1) (search tests)
 
 returns-3 : tie.Need-returns-3
-unfolding paragraphCounts
+unfolding paragraph_counts
 returns-3 c =
     let s = c.before.before.before.args in
     let r = c.before.before.match.rest in

@@ -12,7 +12,7 @@ returns-2 c = rw (← c.before.before.before.sort-at.ensures, ← c.before.befor
 returns-3 : tie.Need-returns-3
 returns-3 c =
     let b = c.before.before.before.before.before in
-    rw (← b.before.sort-at.ensures, ← b.word.ensures.0, ← c.before.kind-at.ensures.0, ← c.of-sort.ensures) (search tests)
+    rw (← b.before.sort-at.ensures, ← b.word.ensures.0, ← c.before.kind_at_lem.ensures.0, ← c.of-sort.ensures) (search tests)
 
 returns-4 : tie.Need-returns-4
 returns-4 c = rw (← c.before.before.before.before.sort-at.ensures, ← c.before.before.before.word.ensures.0) (search tests)

@@ -1,10 +1,10 @@
-use Rattle.reader_rules.specs.Identifiers.{name_of, isIdentifier}
+use Rattle.reader_rules.specs.Identifiers.{name_of, is_identifier}
 use borrow.Author.Rules.{rules}
 use Rattle.reader_nodes.proofs.plain.is_identifier.Statement.{statement}
 use Rattle.reader_nodes.proofs.plain.is_identifier.Tie as tie
 
 returns : tie.Need-returns
-unfolding name_of isIdentifier
+unfolding name_of is_identifier
 returns c = c.is_name.ensures
 
 pub is-identifier-spec : {M : Type 1} → statement M

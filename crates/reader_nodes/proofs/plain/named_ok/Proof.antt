@@ -1,16 +1,16 @@
 use native.Mathlib.Omega.{arith}
 use mathlib.Core.Path.{◌≡◌}
-use Rattle.reader_rules.specs.Kinds.{plainOk}
+use Rattle.reader_rules.specs.Kinds.{plain_ok}
 use borrow.Author.Rules.{rules}
 use Rattle.reader_nodes.proofs.plain.named_ok.Statement.{statement}
 use Rattle.reader_nodes.proofs.plain.named_ok.Tie as tie
 
 returns : tie.Need-returns
-unfolding plainOk
+unfolding plain_ok
 returns c = rw c.before.if1.true c.is-identifier.ensures
 
 returns-2 : tie.Need-returns-2
-unfolding plainOk
+unfolding plain_ok
 returns-2 c =
     let s = c.before.before in
     let v = c.before.if1.false in

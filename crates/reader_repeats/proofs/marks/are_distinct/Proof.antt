@@ -1,4 +1,4 @@
-use Rattle.reader_repeats.proofs.MarkLaws.{distinct-off, distinct-go, distinct-end}
+use Rattle.reader_repeats.proofs.MarkLaws.{distinct_off, distinct_go, distinct_end}
 use Rattle.reader_repeats.specs.Marks.{distinct}
 use Rattle.words.proofs.Lists.{take_rest}
 use Rattle.words.specs.Loops.{has}
@@ -26,7 +26,7 @@ returns c =
     let i = c.before.before.before.before.before.loop.i in
     let s = c.before.before.span.ensures ∙ take_rest x (i + 1) in
     let e : has (get_or x i 0) (drop (i + 1) x) ≡ true = rw (s, c.before.before.before.word.ensures.0) at (sym c.before.stands.ensures ∙ c.if1.true) in
-    distinct-off x i (omega arith) e ∙ sym c.before.before.before.before.before.loop.invariant.1
+    distinct_off x i (omega arith) e ∙ sym c.before.before.before.before.before.loop.invariant.1
 
 loop-less : tie.Need-loop-smaller invariant-loop decreases-loop
 loop-less c = omega arith
@@ -37,10 +37,10 @@ loop-again c =
     let i = c.before.before.before.before.before.loop.i in
     let s = c.before.before.span.ensures ∙ take_rest x (i + 1) in
     let e : has (get_or x i 0) (drop (i + 1) x) ≡ false = rw (s, c.before.before.before.word.ensures.0) at (sym c.before.stands.ensures ∙ c.if1.false) in
-    (omega arith, c.before.before.before.before.before.loop.invariant.1 ∙ distinct-go x i (omega arith) e)
+    (omega arith, c.before.before.before.before.before.loop.invariant.1 ∙ distinct_go x i (omega arith) e)
 
 returns-2 : tie.Need-returns-2 invariant-loop decreases-loop
-returns-2 c = distinct-end c.before.before.before.args.xs.now c.before.loop.i (omega arith) ∙ sym c.before.loop.invariant.1
+returns-2 c = distinct_end c.before.before.before.args.xs.now c.before.loop.i (omega arith) ∙ sym c.before.loop.invariant.1
 
 pub are-distinct-spec : {M : Type 1} → statement M
 are-distinct-spec =

@@ -1,5 +1,5 @@
-use Rattle.reader_repeats.proofs.MarkLaws.{unmarked-off, unmarked-go, unmarked-end, marked-go, marked-end}
-use Rattle.reader_repeats.specs.Marks.{isFree, withMark, unmarked, marked}
+use Rattle.reader_repeats.proofs.MarkLaws.{unmarked_off, unmarked_go, unmarked_end, marked_go, marked_end}
+use Rattle.reader_repeats.specs.Marks.{is_free, with_mark, unmarked, marked}
 use lib.ListN.{length, get_or, drop}
 use native.Mathlib.Omega.{arith}
 use Prim.Native.Nat.{◌≤◌, ◌-◌}
@@ -28,9 +28,9 @@ loop-again c =
     let l = c.before.before.before.before.before.before.before.loop in
     let w = c.before.before.before.before.word.ensures.0 in
     let m = c.before.before.before.mark-one.ensures in
-    let e : isFree l.seen (get_or a.ids.now l.i 0) ≡ true = rw w at (sym m.0 ∙ c.if1.true) in
-    let s : c.before.before.before.mark-one.new.0 ≡ withMark l.seen (get_or a.ids.now l.i 0) = rw w at m.1 in
-    (omega arith, c.before.before.before.mark-one.auto.0 ∙ l.invariant.1, rw s (l.invariant.2 ∙ unmarked-go a.ids.now l.i l.seen (omega arith) e), rw s (l.invariant.3 ∙ marked-go a.ids.now l.i l.seen (omega arith)))
+    let e : is_free l.seen (get_or a.ids.now l.i 0) ≡ true = rw w at (sym m.0 ∙ c.if1.true) in
+    let s : c.before.before.before.mark-one.new.0 ≡ with_mark l.seen (get_or a.ids.now l.i 0) = rw w at m.1 in
+    (omega arith, c.before.before.before.mark-one.auto.0 ∙ l.invariant.1, rw s (l.invariant.2 ∙ unmarked_go a.ids.now l.i l.seen (omega arith) e), rw s (l.invariant.3 ∙ marked_go a.ids.now l.i l.seen (omega arith)))
 
 same_length : tie.Need-same-length invariant-loop decreases-loop
 same_length c = c.before.before.before.mark-one.auto.0 ∙ c.before.before.before.before.before.before.before.loop.invariant.1
@@ -40,8 +40,8 @@ returns c =
     let a = c.before.before.before.before.before.before.before.before.before.before.args in
     let l = c.before.before.before.before.before.before.before.loop in
     let m = c.before.before.before.mark-one.ensures in
-    let e : isFree l.seen (get_or a.ids.now l.i 0) ≡ false = rw c.before.before.before.before.word.ensures.0 at (sym m.0 ∙ c.if1.false) in
-    (unmarked-off a.ids.now l.i l.seen (omega arith) e ∙ sym l.invariant.2, λ q. absurd (false≢true q))
+    let e : is_free l.seen (get_or a.ids.now l.i 0) ≡ false = rw c.before.before.before.before.word.ensures.0 at (sym m.0 ∙ c.if1.false) in
+    (unmarked_off a.ids.now l.i l.seen (omega arith) e ∙ sym l.invariant.2, λ q. absurd (false≢true q))
 
 same-length-2 : tie.Need-same-length-2 invariant-loop decreases-loop
 same-length-2 c = c.before.loop.invariant.1
@@ -50,7 +50,7 @@ returns-2 : tie.Need-returns-2 invariant-loop decreases-loop
 returns-2 c =
     let a = c.before.before.before.before.args in
     let l = c.before.loop in
-    (unmarked-end a.ids.now l.i l.seen (omega arith) ∙ sym l.invariant.2, λ _. marked-end a.ids.now l.i l.seen (omega arith) ∙ sym l.invariant.3)
+    (unmarked_end a.ids.now l.i l.seen (omega arith) ∙ sym l.invariant.2, λ _. marked_end a.ids.now l.i l.seen (omega arith) ∙ sym l.invariant.3)
 
 pub mark-new-spec : {M : Type 1} → statement M
 mark-new-spec =

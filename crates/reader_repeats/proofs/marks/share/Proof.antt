@@ -1,4 +1,4 @@
-use Rattle.reader_repeats.proofs.MarkLaws.{shares-on, shares-go, shares-end}
+use Rattle.reader_repeats.proofs.MarkLaws.{shares_on, shares_go, shares_end}
 use Rattle.reader_repeats.specs.Marks.{shares}
 use Rattle.words.specs.Loops.{has}
 use lib.ListN.{get_or, drop}
@@ -24,7 +24,7 @@ returns c =
     let a = c.before.before.before.before.before.before.before.args in
     let i = c.before.before.before.before.loop.i in
     let e : has (get_or a.ys.now i 0) a.xs.now ≡ true = rw c.before.before.word.ensures.0 at (sym c.before.stands.ensures ∙ c.if1.true) in
-    shares-on a.ys.now i a.xs.now (omega arith) e ∙ sym c.before.before.before.before.loop.invariant.1
+    shares_on a.ys.now i a.xs.now (omega arith) e ∙ sym c.before.before.before.before.loop.invariant.1
 
 loop-less : tie.Need-loop-smaller invariant-loop decreases-loop
 loop-less c = omega arith
@@ -34,12 +34,12 @@ loop-again c =
     let a = c.before.before.before.before.before.before.before.args in
     let i = c.before.before.before.before.loop.i in
     let e : has (get_or a.ys.now i 0) a.xs.now ≡ false = rw c.before.before.word.ensures.0 at (sym c.before.stands.ensures ∙ c.if1.false) in
-    (omega arith, c.before.before.before.before.loop.invariant.1 ∙ shares-go a.ys.now i a.xs.now (omega arith) e)
+    (omega arith, c.before.before.before.before.loop.invariant.1 ∙ shares_go a.ys.now i a.xs.now (omega arith) e)
 
 returns-2 : tie.Need-returns-2 invariant-loop decreases-loop
 returns-2 c =
     let a = c.before.before.before.before.args in
-    shares-end a.ys.now c.before.loop.i a.xs.now (omega arith) ∙ sym c.before.loop.invariant.1
+    shares_end a.ys.now c.before.loop.i a.xs.now (omega arith) ∙ sym c.before.loop.invariant.1
 
 pub share-spec : {M : Type 1} → statement M
 share-spec =

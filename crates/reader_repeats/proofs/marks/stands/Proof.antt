@@ -1,4 +1,4 @@
-use Rattle.reader_repeats.proofs.MarkLaws.{has_here, has-go, has_end}
+use Rattle.reader_repeats.proofs.MarkLaws.{has_here, has_go, has_end}
 use Rattle.words.specs.Loops.{has}
 use lib.ListN.{drop}
 use native.Mathlib.Omega.{arith}
@@ -24,7 +24,7 @@ loop-less : tie.Need-loop-smaller invariant-loop decreases-loop
 loop-less c = omega arith
 
 loop-again : tie.Need-loop-preserved invariant-loop decreases-loop
-loop-again c = let a = c.before.before.before.before.before.args in (omega arith, c.before.before.before.loop.invariant.1 ∙ has-go a.xs.now c.before.before.before.loop.i a.x (omega arith) (omega arith))
+loop-again c = let a = c.before.before.before.before.before.args in (omega arith, c.before.before.before.loop.invariant.1 ∙ has_go a.xs.now c.before.before.before.loop.i a.x (omega arith) (omega arith))
 
 returns-2 : tie.Need-returns-2 invariant-loop decreases-loop
 returns-2 c = let a = c.before.before.before.args in has_end a.xs.now c.before.loop.i a.x (omega arith) ∙ sym c.before.loop.invariant.1

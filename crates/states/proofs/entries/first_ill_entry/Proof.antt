@@ -1,5 +1,5 @@
 use borrow.Author.Rules.{rules}
-use Rattle.states.specs.Table.{numberBy}
+use Rattle.states.specs.Table.{number_by}
 use Rattle.states.proofs.entries.first_ill_entry.Statement.{statement}
 use Rattle.states.proofs.entries.first_ill_entry.Tie as tie
 use Rattle.states.proofs.entries.first_ill_entry.Reads as reads
@@ -19,11 +19,11 @@ enum-known-first : tie.Need-enum-known-first
 enum-known-first c = search rules
 
 returns : tie.Need-returns
-unfolding numberBy
+unfolding number_by
 returns c = rw (← c.before.before.before.first-ill.ensures, c.before.enum_told.given.1) c.first-ill2.ensures
 
 returns-2 : tie.Need-returns-2
-unfolding numberBy
+unfolding number_by
 returns-2 c = rw (← c.before.before.before.first-ill.ensures, c.before.first.given.1)
 
 pub first-ill-entry-spec : {M : Type 1} → statement M

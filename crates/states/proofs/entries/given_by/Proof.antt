@@ -1,6 +1,6 @@
 use borrow.Author.Tests.{ne_eqb}
 use Rattle.words.proofs.Loops.{tests}
-use Rattle.states.specs.Table.{givenBy}
+use Rattle.states.specs.Table.{given_by}
 use borrow.Author.Rules.{rules}
 use Rattle.states.proofs.entries.given_by.Statement.{statement}
 use Rattle.states.proofs.entries.given_by.Tie as tie
@@ -17,7 +17,7 @@ word-requires : tie.Need-word-requires
 word-requires c κs = search rules
 
 returns : tie.Need-returns
-unfolding givenBy
+unfolding given_by
 returns c = rw (← c.before.word.ensures.0) (search tests)
 
 part-requires : tie.Need-part-requires
@@ -27,11 +27,11 @@ is-size-requires : tie.Need-is-size-requires
 is-size-requires c κs = search rules
 
 returns-2 : tie.Need-returns-2
-unfolding givenBy
+unfolding given_by
 returns-2 c = rw (← c.before.before.before.before.word.ensures.0, ne_eqb c.before.before.before.before.word.result 0 c.before.before.before.if1.false, ← c.before.before.part.ensures, ← c.before.is-size.ensures, c.if2.true)
 
 returns-3 : tie.Need-returns-3
-unfolding givenBy
+unfolding given_by
 returns-3 c = rw (← c.before.before.before.before.word.ensures.0, ne_eqb c.before.before.before.before.word.result 0 c.before.before.before.if1.false, ← c.before.before.part.ensures, ← c.before.is-size.ensures, c.if2.false)
 
 pub given-by-spec : {M : Type 1} → statement M

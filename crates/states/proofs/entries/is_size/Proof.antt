@@ -1,5 +1,5 @@
 use Rattle.words.proofs.Loops.{tests}
-use Rattle.states_rules.specs.States.{isSize}
+use Rattle.states_rules.specs.States.{is_size}
 use borrow.Author.Rules.{rules}
 use Rattle.states.proofs.entries.is_size.Statement.{statement}
 use Rattle.states.proofs.entries.is_size.Tie as tie
@@ -11,11 +11,11 @@ word-requires : tie.Need-word-requires
 word-requires c κs = search rules
 
 returns : tie.Need-returns
-unfolding isSize
+unfolding is_size
 returns c = rw (← c.word.ensures.0) (search tests)
 
 returns-2 : tie.Need-returns-2
-unfolding isSize
+unfolding is_size
 returns-2 c = search tests
 
 pub is-size-spec : {M : Type 1} → statement M

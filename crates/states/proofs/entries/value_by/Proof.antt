@@ -1,6 +1,6 @@
 use borrow.Author.Tests.{eq-eqb}
 use Rattle.words.proofs.Loops.{tests}
-use Rattle.states.specs.Table.{valueBy}
+use Rattle.states.specs.Table.{value_by}
 use borrow.Author.Rules.{rules}
 use Rattle.states.proofs.entries.value_by.Statement.{statement}
 use Rattle.states.proofs.entries.value_by.Tie as tie
@@ -23,15 +23,15 @@ is-value-requires : tie.Need-is-value-requires
 is-value-requires c κs = search rules
 
 returns : tie.Need-returns
-unfolding valueBy
+unfolding value_by
 returns c = rw (← c.before.before.before.before.word.ensures.0, eq-eqb c.before.before.before.before.word.result 0 c.before.before.before.if1.true, ← c.before.before.part.ensures, ← c.before.is-value.ensures, c.if2.true)
 
 returns-2 : tie.Need-returns-2
-unfolding valueBy
+unfolding value_by
 returns-2 c = rw (← c.before.before.before.before.word.ensures.0, eq-eqb c.before.before.before.before.word.result 0 c.before.before.before.if1.true, ← c.before.before.part.ensures, ← c.before.is-value.ensures, c.if2.false)
 
 returns-3 : tie.Need-returns-3
-unfolding valueBy
+unfolding value_by
 returns-3 c = rw (← c.before.word.ensures.0) (search tests)
 
 pub value-by-spec : {M : Type 1} → statement M

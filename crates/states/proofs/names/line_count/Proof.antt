@@ -2,8 +2,8 @@ use Rattle.words.proofs.Loops.{tests}
 use mathlib.Core.Path.{◌≡◌, sym, ◌∙◌, ap}
 use lib.ListN.{length}
 use native.Mathlib.Omega.{arith}
-use Rattle.states.specs.Table.{lineCount}
-use Rattle.states.proofs.NameLaws.{decl-words}
+use Rattle.states.specs.Table.{line_count}
+use Rattle.states.proofs.NameLaws.{decl_words}
 use borrow.Author.Rules.{rules}
 use Rattle.states.proofs.names.line_count.Statement.{statement}
 use Rattle.states.proofs.names.line_count.Tie as tie
@@ -20,18 +20,18 @@ part-requires c κs = search rules
 
 sub-result : tie.Need-overflow-sub-result
 sub-result c =
-    let q = sym c.before.before.kind-at.ensures.0 ∙ c.before.if1.true in
-    omega (arith, (decl-words _ _ c.before.before.before.before.requires q).0, ap length c.part.ensures)
+    let q = sym c.before.before.kind_at_lem.ensures.0 ∙ c.before.if1.true in
+    omega (arith, (decl_words _ _ c.before.before.before.before.requires q).0, ap length c.part.ensures)
 
 returns : tie.Need-returns
-unfolding lineCount
+unfolding line_count
 returns c =
-    let q = sym c.before.before.kind-at.ensures.0 ∙ c.before.if1.true in
-    (rw (c.part.ensures, q), omega (arith, (decl-words _ _ c.before.before.before.before.requires q).1, ap length c.part.ensures))
+    let q = sym c.before.before.kind_at_lem.ensures.0 ∙ c.before.if1.true in
+    (rw (c.part.ensures, q), omega (arith, (decl_words _ _ c.before.before.before.before.requires q).1, ap length c.part.ensures))
 
 returns-2 : tie.Need-returns-2
-unfolding lineCount
-returns-2 c = (rw (← c.before.kind-at.ensures.0) (search tests), omega arith)
+unfolding line_count
+returns-2 c = (rw (← c.before.kind_at_lem.ensures.0) (search tests), omega arith)
 
 pub line-count-spec : {M : Type 1} → statement M
 line-count-spec = tie.close (tie.spec kind-at-requires part-requires sub-result returns returns-2)

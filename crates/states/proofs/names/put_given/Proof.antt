@@ -3,9 +3,9 @@ use Prim.Native.Nat.{◌+◌, ◌-◌, ◌≤◌, ◌*◌}
 use native.Mathlib.Omega.{arith}
 use mathlib.Core.Bool.{true}
 use lib.ListN.{length, drop}
-use Rattle.states.specs.Table.{put_pair, putNames}
-use Rattle.states_rules.specs.Names.{namesAs}
-use Rattle.states.proofs.NameLaws.{put_go, put-end}
+use Rattle.states.specs.Table.{put_pair, put_names}
+use Rattle.states_rules.specs.Names.{names_as}
+use Rattle.states.proofs.NameLaws.{put_go, put_end}
 use borrow.Author.Rules.{rules}
 use Rattle.states.proofs.names.put_given.Statement.{statement}
 use Rattle.states.proofs.names.put_given.Tie as tie
@@ -14,7 +14,7 @@ use Rattle.states.proofs.names.put_given.Lts as lts
 use Rattle.states.proofs.names.put_pair.Reads as put-pair-reads
 
 abbrev invariant-loop : tie.invariant-loop
-invariant-loop w state n table₀ e i₀ table i = (1 ≤ i) × (length table ≡ length table₀) × (putNames (namesAs true (drop 1 w)) state (n + 1) table₀ ≡ putNames (namesAs true (drop i w)) state (n + i) table)
+invariant-loop w state n table₀ e i₀ table i = (1 ≤ i) × (length table ≡ length table₀) × (put_names (names_as true (drop 1 w)) state (n + 1) table₀ ≡ put_names (names_as true (drop i w)) state (n + i) table)
 
 abbrev decreases-loop : tie.decreases-loop
 decreases-loop w state n table₀ e i₀ table i = e - i
@@ -48,7 +48,7 @@ returns : tie.Need-returns invariant-loop decreases-loop
 returns c =
     let s = c.before.before.before.before.before in
     let l = c.before.loop in
-    sym (l.invariant.2 ∙ put-end s.args.w.now s.args.state.now s.args.n l.i l.table (omega arith))
+    sym (l.invariant.2 ∙ put_end s.args.w.now s.args.state.now s.args.n l.i l.table (omega arith))
 
 pub put-given-spec : {M : Type 1} → statement M
 put-given-spec =

@@ -1,8 +1,8 @@
 use mathlib.Core.Path.{◌≡◌, refl, sym, ap, ◌∙◌}
 use native.Mathlib.Omega.{arith}
 use lib.ListN.{length}
-use Rattle.states.specs.Table.{putNames}
-use Rattle.states.proofs.NameLaws.{given-words, given-names, given-count, axiom-names, other-names, put-lines}
+use Rattle.states.specs.Table.{put_names}
+use Rattle.states.proofs.NameLaws.{given_words, given_names, given_count, axiom_names, other_names, put_lines}
 use borrow.Author.Rules.{rules}
 use Rattle.states.proofs.names.put_paragraph.Statement.{statement}
 use Rattle.states.proofs.names.put_paragraph.Tie as tie
@@ -23,20 +23,20 @@ part-requires c κs = search rules
 put-given-requires : tie.Need-put-given-requires
 put-given-requires c κs =
     let s = c.before.before.before.before.before.before.before in
-    let q = sym c.before.before.before.kind-at.ensures.0 ∙ c.before.before.if1.true in
-    (s.requires.1, omega (arith, (given-words _ _ s.requires.0 q).1, ap length c.before.part.ensures))
+    let q = sym c.before.before.before.kind_at_lem.ensures.0 ∙ c.before.before.if1.true in
+    (s.requires.1, omega (arith, (given_words _ _ s.requires.0 q).1, ap length c.before.part.ensures))
 
 sub-result : tie.Need-overflow-sub-result
 sub-result c =
     let s = c.before.before.before.before.before.before.before.before.before.before in
-    let q = sym c.before.before.before.before.before.before.kind-at.ensures.0 ∙ c.before.before.before.before.before.if1.true in
-    omega (arith, (given-words _ _ s.requires.0 q).0, ap length c.before.before.before.before.part.ensures)
+    let q = sym c.before.before.before.before.before.before.kind_at_lem.ensures.0 ∙ c.before.before.before.before.before.if1.true in
+    omega (arith, (given_words _ _ s.requires.0 q).0, ap length c.before.before.before.before.part.ensures)
 
 add-result : tie.Need-overflow-add-result
 add-result c =
     let s = c.before.before.before.before.before.before.before.before.before.before in
-    let q = sym c.before.before.before.before.before.before.kind-at.ensures.0 ∙ c.before.before.before.before.before.if1.true in
-    omega (arith, s.requires.1, (given-words _ _ s.requires.0 q).1, ap length c.before.before.before.before.part.ensures)
+    let q = sym c.before.before.before.before.before.before.kind_at_lem.ensures.0 ∙ c.before.before.before.before.before.if1.true in
+    omega (arith, s.requires.1, (given_words _ _ s.requires.0 q).1, ap length c.before.before.before.before.part.ensures)
 
 same_length : tie.Need-same-length
 same_length c = search rules
@@ -44,9 +44,9 @@ same_length c = search rules
 returns : tie.Need-returns
 returns c =
     let s = c.before.before.before.before.before.before.before.before.before.before in
-    let q = sym c.before.before.before.before.before.before.kind-at.ensures.0 ∙ c.before.before.before.before.before.if1.true in
+    let q = sym c.before.before.before.before.before.before.kind_at_lem.ensures.0 ∙ c.before.before.before.before.before.if1.true in
     let p = c.before.before.before.before.part.ensures in
-    (omega (arith, ap length p, given-count _ _ s.requires.0 q), rw (given-names _ _ s.requires.0 q, ← p) c.before.before.put-given.ensures, omega (arith, (given-words _ _ s.requires.0 q).1, ap length p))
+    (omega (arith, ap length p, given_count _ _ s.requires.0 q), rw (given_names _ _ s.requires.0 q, ← p) c.before.before.put-given.ensures, omega (arith, (given_words _ _ s.requires.0 q).1, ap length p))
 
 operand-requires : tie.Need-operand-requires
 operand-requires c κs = search rules
@@ -54,7 +54,7 @@ operand-requires c κs = search rules
 text-count-requires : tie.Need-text-count-requires
 text-count-requires c κs =
     let s = c.before.before.before.before.before.before.before in
-    (axiom-names _ _ s.requires.0 (sym c.before.before.before.kind-at.ensures.0 ∙ c.before.if2.true) _ c.operand.ensures.0).0
+    (axiom_names _ _ s.requires.0 (sym c.before.before.before.kind_at_lem.ensures.0 ∙ c.before.if2.true) _ c.operand.ensures.0).0
 
 add-result-2 : tie.Need-overflow-add-result-2
 add-result-2 c = omega (arith, c.before.before.before.before.before.before.before.before.requires.1, c.text-count.ensures.1)
@@ -62,15 +62,15 @@ add-result-2 c = omega (arith, c.before.before.before.before.before.before.befor
 returns-2 : tie.Need-returns-2
 returns-2 c =
     let s = c.before.before.before.before.before.before.before.before in
-    let a = (axiom-names _ _ s.requires.0 (sym c.before.before.before.before.kind-at.ensures.0 ∙ c.before.before.if2.true) c.before.operand.result c.before.operand.ensures.0).1 in
-    (omega (arith, c.text-count.ensures.0, ap length a), rw a (sym (put-lines _ _ _ _)), omega (arith, c.text-count.ensures.1))
+    let a = (axiom_names _ _ s.requires.0 (sym c.before.before.before.before.kind_at_lem.ensures.0 ∙ c.before.before.if2.true) c.before.operand.result c.before.operand.ensures.0).1 in
+    (omega (arith, c.text-count.ensures.0, ap length a), rw a (sym (put_lines _ _ _ _)), omega (arith, c.text-count.ensures.1))
 
 returns-3 : tie.Need-returns-3
-unfolding putNames
+unfolding put_names
 returns-3 c =
     let s = c.before.before.before.before.before.before in
-    let e = c.before.before.kind-at.ensures.0 in
-    let o = other-names _ _ s.requires.0 (λ x. c.before.if1.false (e ∙ x)) (λ x. c.if2.false (e ∙ x)) in
+    let e = c.before.before.kind_at_lem.ensures.0 in
+    let o = other_names _ _ s.requires.0 (λ x. c.before.if1.false (e ∙ x)) (λ x. c.if2.false (e ∙ x)) in
     (omega (arith, ap length o), rw o, omega arith)
 
 pub put-paragraph-spec : {M : Type 1} → statement M

@@ -3,9 +3,9 @@ use mathlib.Core.Bool.{true}
 use Prim.Native.Nat.{◌+◌, ◌-◌, ◌≤◌}
 use native.Mathlib.Omega.{arith}
 use lib.ListN.{length, drop}
-use Rattle.states_rules.specs.States.{entryFrom}
-use Rattle.states_rules.specs.Names.{namesAs}
-use Rattle.states.proofs.PlaceLaws.{entry_here, entry-go, entry-end}
+use Rattle.states_rules.specs.States.{entry_from}
+use Rattle.states_rules.specs.Names.{names_as}
+use Rattle.states.proofs.PlaceLaws.{entry_here, entry_go, entry_end}
 use borrow.Author.Rules.{rules}
 use Rattle.states.proofs.places.place_in.Statement.{statement}
 use Rattle.states.proofs.places.place_in.Tie as tie
@@ -15,7 +15,7 @@ use Rattle.words.proofs.word.Reads as word-reads
 
 abbrev invariant-loop : tie.invariant-loop
 invariant-loop w from k name e i₀ at₀ i at =
-    (from ≤ i) × (at + from ≡ k + i) × (entryFrom (namesAs true (drop from w)) name k ≡ entryFrom (namesAs true (drop i w)) name at)
+    (from ≤ i) × (at + from ≡ k + i) × (entry_from (names_as true (drop from w)) name k ≡ entry_from (names_as true (drop i w)) name at)
 
 abbrev decreases-loop : tie.decreases-loop
 decreases-loop w from k name e i₀ at₀ i at = e - i
@@ -43,12 +43,12 @@ loop-less c = omega arith
 loop-again : tie.Need-loop-preserved invariant-loop decreases-loop
 loop-again c =
     let l = c.before.before.before.loop in
-    (omega arith, omega (arith, l.invariant.1), l.invariant.2 ∙ entry-go c.before.before.before.before.before.args.w.now c.before.before.before.before.before.args.name l.i l.at (omega arith) (λ x. c.if1.false (c.before.word.ensures.0 ∙ x)))
+    (omega arith, omega (arith, l.invariant.1), l.invariant.2 ∙ entry_go c.before.before.before.before.before.args.w.now c.before.before.before.before.before.args.name l.i l.at (omega arith) (λ x. c.if1.false (c.before.word.ensures.0 ∙ x)))
 
 returns-2 : tie.Need-returns-2 invariant-loop decreases-loop
 returns-2 c =
     let l = c.before.loop in
-    sym (l.invariant.2 ∙ entry-end c.before.before.before.args.w.now c.before.before.before.args.name l.i l.at (omega arith))
+    sym (l.invariant.2 ∙ entry_end c.before.before.before.args.w.now c.before.before.before.args.name l.i l.at (omega arith))
 
 pub place-in-spec : {M : Type 1} → statement M
 place-in-spec =

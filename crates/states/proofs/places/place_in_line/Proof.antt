@@ -2,8 +2,8 @@ use mathlib.Core.Path.{◌≡◌, refl, sym, ap, ◌∙◌}
 use native.Mathlib.Omega.{arith}
 use lib.ListN.{length}
 use Rattle.words.proofs.Loops.{tests}
-use Rattle.states.specs.Table.{linePlace}
-use Rattle.states.proofs.NameLaws.{decl-words}
+use Rattle.states.specs.Table.{line_place}
+use Rattle.states.proofs.NameLaws.{decl_words}
 use borrow.Author.Rules.{rules}
 use Rattle.states.proofs.places.place_in_line.Statement.{statement}
 use Rattle.states.proofs.places.place_in_line.Tie as tie
@@ -21,18 +21,18 @@ part-requires c κs = search rules
 
 place-in-requires : tie.Need-place-in-requires
 place-in-requires c κs =
-    let q = sym c.before.before.kind-at.ensures.0 ∙ c.before.if1.true in
-    (c.before.before.before.before.requires.1, omega (arith, (decl-words _ _ c.before.before.before.before.requires.0 q).1, ap length c.part.ensures))
+    let q = sym c.before.before.kind_at_lem.ensures.0 ∙ c.before.if1.true in
+    (c.before.before.before.before.requires.1, omega (arith, (decl_words _ _ c.before.before.before.before.requires.0 q).1, ap length c.part.ensures))
 
 returns : tie.Need-returns
-unfolding linePlace
+unfolding line_place
 returns c =
-    let q = sym c.before.before.before.kind-at.ensures.0 ∙ c.before.before.if1.true in
+    let q = sym c.before.before.before.kind_at_lem.ensures.0 ∙ c.before.before.if1.true in
     rw (q, ← c.before.part.ensures) c.place_in.ensures
 
 returns-2 : tie.Need-returns-2
-unfolding linePlace
-returns-2 c = rw (← c.before.kind-at.ensures.0) (search tests)
+unfolding line_place
+returns-2 c = rw (← c.before.kind_at_lem.ensures.0) (search tests)
 
 pub place-in-line-spec : {M : Type 1} → statement M
 place-in-line-spec =

@@ -1,4 +1,4 @@
-use Rattle.types_cells.specs.Layout.{recordsAt}
+use Rattle.types_cells.specs.Layout.{records_at}
 use Rattle.types_cells.specs.Store.{frozen}
 use lib.Seq.{get_or-drop}
 use mathlib.Core.Path.{◌∙◌, sym}
@@ -17,7 +17,7 @@ word-requires c κs = search rules
 
 returns : tie.Need-returns
 unfolding frozen
-returns c = (c.word.ensures.0 ∙ sym (get_or-drop recordsAt c.before.before.args.a.now c.before.before.args.k 0), c.word.ensures.1)
+returns c = (c.word.ensures.0 ∙ sym (get_or-drop records_at c.before.before.args.a.now c.before.before.args.k 0), c.word.ensures.1)
 
 pub held_spec : {M : Type 1} → statement M
 held_spec = tie.close (tie.spec add-word word-requires returns)

@@ -4,7 +4,7 @@ use native.Mathlib.Omega.{arith}
 use lib.ListN.{length}
 use Rattle.types_cells.specs.Store.{frozen, Solved}
 use Rattle.types_cells.specs.Flat.{Kept, Direct, Refers}
-use Rattle.types_cells.proofs.Flat.{kept_on, kept-start, direct-next, refers-refl, refers-on}
+use Rattle.types_cells.proofs.Flat.{kept_on, kept_start, direct_next, refers_refl, refers_on}
 use borrow.Author.Rules.{rules}
 use Rattle.types_rules.specs.Equations.{Pairs}
 use Rattle.types_cells.proofs.links.flatten.Statement.{statement}
@@ -21,7 +21,7 @@ abbrev decreases-loop : tie.decreases-loop
 decreases-loop a₀ n i₀ a i = n - i
 
 loop-holds : tie.Need-loop-init invariant-loop decreases-loop
-loop-holds c = (omega arith, refl, refl, kept-start _ _, (λ j l. absurd (omega arith)), refers-refl _)
+loop-holds c = (omega arith, refl, refl, kept_start _ _, (λ j l. absurd (omega arith)), refers_refl _)
 
 shorten-requires : tie.Need-shorten-requires invariant-loop decreases-loop
 shorten-requires c κs =
@@ -40,7 +40,7 @@ loop-again c =
     let i = c.before.before.before.before.before.loop.invariant in
     let t = c.before.before.before.before.loop-test.true in
     let S = c.before.before.shorten in
-    (omega arith, S.auto.0 ∙ i.1, S.ensures.still ∙ i.2, kept_on _ _ _ _ _ i.3 S.ensures t, direct-next _ _ _ _ S.ensures i.4, refers-on _ _ _ i.5 S.ensures.refers)
+    (omega arith, S.auto.0 ∙ i.1, S.ensures.still ∙ i.2, kept_on _ _ _ _ _ i.3 S.ensures t, direct_next _ _ _ _ S.ensures i.4, refers_on _ _ _ i.5 S.ensures.refers)
 
 same_length : tie.Need-same-length invariant-loop decreases-loop
 same_length c = c.before.loop.invariant.1

@@ -1,8 +1,8 @@
 use borrow.Author.Rules.{rules}
 use mathlib.Core.Path.{◌≡◌, refl, sym, ap, ◌∙◌}
 use native.Mathlib.Omega.{arith}
-use Rattle.types_cells.specs.Store.{linkAt, linkPart}
-use Rattle.types_cells.proofs.Words.{link-part, link-none}
+use Rattle.types_cells.specs.Store.{link_at, link_part}
+use Rattle.types_cells.proofs.Words.{link_part_lem, link_none}
 use Rattle.types_cells.proofs.links.link.Statement.{statement}
 use Rattle.types_cells.proofs.links.link.Tie as tie
 use Rattle.types_cells.proofs.links.link.Reads as reads
@@ -16,17 +16,17 @@ word-requires : tie.Need-word-requires
 word-requires c κs = search rules
 
 returns : tie.Need-returns
-unfolding linkAt
+unfolding link_at
 returns c =
     let e = c.before.word.ensures.0 in
     let l = c.if1.true in
-    (sym (ap linkPart (sym e) ∙ link-part _ l), l)
+    (sym (ap link_part (sym e) ∙ link_part_lem _ l), l)
 
 returns-2 : tie.Need-returns-2
-unfolding linkAt
+unfolding link_at
 returns-2 c =
     let e = c.before.word.ensures.0 in
-    (sym (ap linkPart (sym e) ∙ link-none _ c.if1.false), omega arith)
+    (sym (ap link_part (sym e) ∙ link_none _ c.if1.false), omega arith)
 
 pub link-spec : {M : Type 1} → statement M
 link-spec = tie.close (tie.spec add-word word-requires returns returns-2)

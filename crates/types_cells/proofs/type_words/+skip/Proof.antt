@@ -5,8 +5,8 @@ use Prim.Native.Nat.{ℕ, suc, ◌+◌, ◌-◌, ◌<◌}
 use lib.ListN.{length, get_or}
 use Rattle.types_rules.specs.Types.{Ty}
 use Rattle.types_rules.specs.Words.{words}
-use Rattle.types_cells.specs.Settled.{heap, leadWords, Reads, Reading, Ends}
-use Rattle.types_cells.proofs.Reading.{reads-one, heap-length, place-low, inside, Scan, scan-start, Stepped, scan_step, scan-on, scan-end}
+use Rattle.types_cells.specs.Settled.{heap, lead_words, Reads, Reading, Ends}
+use Rattle.types_cells.proofs.Reading.{reads_one, heap_length, place_low, inside, Scan, scan_start, Stepped, scan_step, scan_on, scan_end}
 use borrow.Fn.Kinds.{In}
 use borrow.Fn.PlainCycle.{Measures, is, falls, and}
 use Rattle.types_cells.proofs.type_words.skip.Reads as skip
@@ -47,9 +47,9 @@ skip-parts-of-requires : (t : ℕ) → skip-lts.Need-parts-of-requires (skip-cal
 skip-parts-of-requires t c κs =
     let P = c.before.before.before.before.requires.1 in
     let s = c.before.before.before.before.args in
-    let hl = heap-length s.a.now s.d.now P.areas.size in
+    let hl = heap_length s.a.now s.d.now P.areas.size in
     let f = P.areas.few in
-    let pl = place-low _ _ _ P.readable.reads in
+    let pl = place_low _ _ _ P.readable.reads in
     (P.areas.size, omega arith)
 
 skip-lead-words-requires : (t : ℕ) → skip-lts.Need-lead-words-requires (skip-calls t) (skip_at t) skip.Post skip-Inv-loop skip-μ-loop
@@ -59,23 +59,23 @@ skip-add-at : (t : ℕ) → skip-lts.Need-overflow-add-at (skip-calls t) (skip_a
 skip-add-at t c =
     let P = c.before.before.before.before.before.before.requires.1 in
     let s = c.before.before.before.before.before.before.args in
-    let hl = heap-length s.a.now s.d.now P.areas.size in
+    let hl = heap_length s.a.now s.d.now P.areas.size in
     let f = P.areas.few in
-    let pl = place-low _ _ _ P.readable.reads in
+    let pl = place_low _ _ _ P.readable.reads in
     let z = c.lead-words.ensures.1 in omega arith
 
 skip-loop-holds : (t : ℕ) → skip-lts.Need-loop-init (skip-calls t) (skip_at t) skip.Post skip-Inv-loop skip-μ-loop
 skip-loop-holds t c =
     let z = c.lead-words.ensures.2 in
-    (omega arith, λ g R. scan-start _ _ g R _ _ _ _ c.before.before.before.type-word.ensures.0 c.before.before.name-words.ensures.0 c.before.parts-of.ensures.0 (ap (λ y. c.before.before.before.before.before.before.args.p + y) c.lead-words.ensures.0))
+    (omega arith, λ g R. scan_start _ _ g R _ _ _ _ c.before.before.before.type-word.ensures.0 c.before.before.name-words.ensures.0 c.before.parts_of_lem.ensures.0 (ap (λ y. c.before.before.before.before.before.before.args.p + y) c.lead-words.ensures.0))
 
 skip-add-skip : (t : ℕ) → skip-lts.Need-overflow-add-skip (skip-calls t) (skip_at t) skip.Post skip-Inv-loop skip-μ-loop
 skip-add-skip t c =
     let P = c.before.before.before.before.before.before.before.before.requires.1 in
     let s = c.before.before.before.before.before.before.before.before.args in
-    let hl = heap-length s.a.now s.d.now P.areas.size in
+    let hl = heap_length s.a.now s.d.now P.areas.size in
     let f = P.areas.few in
-    let pl = place-low _ _ _ P.readable.reads in
+    let pl = place_low _ _ _ P.readable.reads in
     let g = P.readable.type in
     let S = scan_step _ _ _ _ _ _ (c.before.loop.invariant.1 g P.readable.reads) c.loop-test.true in
     let q = S.low in omega arith
@@ -84,9 +84,9 @@ skip-skip-requires : (t : ℕ) → skip-lts.Need-skip-requires (skip-calls t) (s
 skip-skip-requires t c κs =
     let P = c.before.before.before.before.before.before.before.before.requires.1 in
     let s = c.before.before.before.before.before.before.before.before.args in
-    let hl = heap-length s.a.now s.d.now P.areas.size in
+    let hl = heap_length s.a.now s.d.now P.areas.size in
     let f = P.areas.few in
-    let pl = place-low _ _ _ P.readable.reads in
+    let pl = place_low _ _ _ P.readable.reads in
     let g = P.readable.type in
     let S = scan_step _ _ _ _ _ _ (c.before.loop.invariant.1 g P.readable.reads) c.loop-test.true in
     let q = S.low in
@@ -96,7 +96,7 @@ skip-skip-requires t c κs =
 
 skip-add-j : (t : ℕ) → skip-lts.Need-overflow-add-j (skip-calls t) (skip_at t) skip.Post skip-Inv-loop skip-μ-loop
 skip-add-j t c =
-    let f = c.before.before.before.before.parts-of.ensures.1 in
+    let f = c.before.before.before.before.parts_of_lem.ensures.1 in
     let q = c.before.loop-test.true in
     omega arith
 
@@ -112,11 +112,11 @@ skip-loop-again t c =
       omega arith,
       λ g R.
           let S = scan_step _ _ _ _ _ _ (c.before.before.loop.invariant.1 g R) c.before.loop-test.true in
-          scan-on _ _ _ _ _ _ _ S (c.skip.ensures.is S.part S.reads),
+          scan_on _ _ _ _ _ _ _ S (c.skip.ensures.is S.part S.reads),
     )
 
 skip-returns : (t : ℕ) → skip-lts.Need-returns (skip-calls t) (skip_at t) skip.Post skip-Inv-loop skip-μ-loop
-skip-returns t c = record { is = λ g R. sym (scan-end _ _ _ _ _ _ (c.before.loop.invariant.1 g R) c.loop-test.false) }
+skip-returns t c = record { is = λ g R. sym (scan_end _ _ _ _ _ _ (c.before.loop.invariant.1 g R) c.loop-test.false) }
 
 pub +skip-spec : {M : Type 1} → statement M
 +skip-spec = close μ-skip λ t. skip-lts.spec (skip-calls t)

@@ -5,9 +5,9 @@ use native.Mathlib.Omega.{arith}
 use Prim.Native.Nat.{ℕ, suc, ◌+◌, ◌-◌, ◌≤◌, ◌<◌}
 use lib.ListN.{length, get_or}
 use Rattle.types_rules.specs.Words.{words}
-use Rattle.types_rules.proofs.Terms.{bool-no}
+use Rattle.types_rules.proofs.Terms.{bool_no}
 use Rattle.types_cells.specs.Settled.{heap}
-use Rattle.types_cells.proofs.Reading.{place-few, same-yes, same-no, below_next}
+use Rattle.types_cells.proofs.Reading.{place_few, same_yes, same_no, below_next}
 use Rattle.types_cells.proofs.type_words.same_type.Statement.{statement}
 use Rattle.types_cells.proofs.type_words.same_type.Tie as tie
 use Rattle.types_cells.proofs.type_words.same_type.Reads as reads
@@ -39,7 +39,7 @@ returns c =
       tells = λ g k R S.
           let e = c.before.before.skip.ensures.is g R in
           let f = c.before.skip2.ensures.is k S in
-          record { holds = λ z. absurd (bool-no false z refl); fails = λ z q. c.if1.true (let y = ap (λ x. length (words x)) q in omega arith) };
+          record { holds = λ z. absurd (bool_no false z refl); fails = λ z q. c.if1.true (let y = ap (λ x. length (words x)) q in omega arith) };
     }
 
 loop-holds : tie.Need-loop-init invariant-loop decreases-loop
@@ -49,7 +49,7 @@ add-type-word : tie.Need-overflow-add-type-word invariant-loop decreases-loop
 add-type-word c =
     let s = c.before.before.before.before.before.before.before in
     let e = c.before.before.before.before.skip.ensures.is _ s.requires.left.reads in
-    let z = place-few _ _ _ _ s.requires.areas s.requires.left.reads in
+    let z = place_few _ _ _ _ s.requires.areas s.requires.left.reads in
     let l = c.loop-test.true in omega arith
 
 type-word-requires : tie.Need-type-word-requires invariant-loop decreases-loop
@@ -61,7 +61,7 @@ add-type-word-2 c =
     let e = c.before.before.before.before.before.skip.ensures.is _ s.requires.left.reads in
     let f = c.before.before.before.before.skip2.ensures.is _ s.requires.right.reads in
     let y = c.before.before.before.if1.false in
-    let z = place-few _ _ _ _ s.requires.areas s.requires.right.reads in
+    let z = place_few _ _ _ _ s.requires.areas s.requires.right.reads in
     let l = c.before.loop-test.true in omega arith
 
 type-word-requires-2 : tie.Need-type-word-requires-2 invariant-loop decreases-loop
@@ -75,11 +75,11 @@ returns-2 c =
           let l = c.before.before.before.loop-test.true in
           let x = c.before.before.type-word.ensures.0 in
           let y = c.before.type-word2.ensures.0 in
-          record { holds = λ z. absurd (bool-no false z refl); fails = λ z. same-no _ _ _ g k R S c.before.before.before.before.loop.j (omega arith) (λ q. c.if2.true (x ∙ q ∙ sym y)) };
+          record { holds = λ z. absurd (bool_no false z refl); fails = λ z. same_no _ _ _ g k R S c.before.before.before.before.loop.j (omega arith) (λ q. c.if2.true (x ∙ q ∙ sym y)) };
     }
 
 add-j : tie.Need-overflow-add-j invariant-loop decreases-loop
-add-j c = let l = c.before.before.before.loop-test.true in let s = c.before.before.before.before.before.before.before.before.before.before in let e = c.before.before.before.before.before.before.before.skip.ensures.is _ s.requires.left.reads in let z = place-few _ _ _ _ s.requires.areas s.requires.left.reads in omega arith
+add-j c = let l = c.before.before.before.loop-test.true in let s = c.before.before.before.before.before.before.before.before.before.before in let e = c.before.before.before.before.before.before.before.skip.ensures.is _ s.requires.left.reads in let z = place_few _ _ _ _ s.requires.areas s.requires.left.reads in omega arith
 
 loop-less : tie.Need-loop-smaller invariant-loop decreases-loop
 loop-less c = let l = c.before.before.before.loop-test.true in omega arith
@@ -97,7 +97,7 @@ returns-3 c =
           let f = c.before.before.before.skip2.ensures.is k S in
           let y = c.before.before.if1.false in
           let l = c.loop-test.false in
-          record { holds = λ z. same-yes _ _ _ g k R S (omega arith) (λ i q. c.before.loop.invariant.1 i (omega arith)); fails = λ z. absurd (bool-no true refl z) };
+          record { holds = λ z. same_yes _ _ _ g k R S (omega arith) (λ i q. c.before.loop.invariant.1 i (omega arith)); fails = λ z. absurd (bool_no true refl z) };
     }
 
 pub same-type-spec : {M : Type 1} → statement M

@@ -1,6 +1,6 @@
 use borrow.Author.Rules.{rules}
 use mathlib.Core.Path.{◌≡◌, sym, ap, ◌∙◌}
-use Rattle.types_cells.proofs.Reading.{heap-low, heap_high}
+use Rattle.types_cells.proofs.Reading.{heap_low, heap_high}
 use Rattle.types_cells.proofs.type_words.type_word.Statement.{statement}
 use Rattle.types_cells.proofs.type_words.type_word.Tie as tie
 use Rattle.types_cells.proofs.type_words.type_word.Reads as reads
@@ -11,7 +11,7 @@ word-requires : tie.Need-word-requires
 word-requires c κs = search rules
 
 returns : tie.Need-returns
-returns c = (c.word.ensures.0 ∙ sym (heap-low _ _ _ c.before.before.before.before.requires c.before.if1.true), c.word.ensures.1)
+returns c = (c.word.ensures.0 ∙ sym (heap_low _ _ _ c.before.before.before.before.requires c.before.if1.true), c.word.ensures.1)
 
 word-requires-2 : tie.Need-word-requires-2
 word-requires-2 c κs = search rules

@@ -2,7 +2,7 @@ use mathlib.Core.Path.{◌≡◌, sym, subst}
 use Prim.Native.Nat.{◌+◌, ◌-◌}
 use native.Mathlib.Omega.{arith}
 use Rattle.types_solver.specs.Sizes.{Cleared}
-use Rattle.types_solver.proofs.Testing.{clear-start, clear_step, clear-end}
+use Rattle.types_solver.proofs.Testing.{clear_start, clear_step, clear_end}
 use borrow.Author.Rules.{rules}
 use Rattle.types_solver.proofs.acyclicity.clear_marks.Statement.{statement}
 use Rattle.types_solver.proofs.acyclicity.clear_marks.Tie as tie
@@ -17,7 +17,7 @@ abbrev decreases-loop : tie.decreases-loop
 decreases-loop a₀ n i₀ a i = n - i
 
 loop-holds : tie.Need-loop-init invariant-loop decreases-loop
-loop-holds c = clear-start _
+loop-holds c = clear_start _
 
 add-store : tie.Need-overflow-add-store invariant-loop decreases-loop
 add-store c = let f = c.before.before.before.before.requires.held.few in let t = c.before.loop-test.true in omega arith
@@ -41,7 +41,7 @@ same_length : tie.Need-same-length invariant-loop decreases-loop
 same_length c = c.before.loop.invariant.same.size
 
 returns : tie.Need-returns invariant-loop decreases-loop
-returns c = clear-end _ _ _ _ c.loop-test.false c.before.loop.invariant
+returns c = clear_end _ _ _ _ c.loop-test.false c.before.loop.invariant
 
 pub clear-marks-spec : {M : Type 1} → statement M
 clear-marks-spec =

@@ -1,4 +1,4 @@
-use Rattle.types_solver.proofs.Marking.{same-held}
+use Rattle.types_solver.proofs.Marking.{same_held}
 use Rattle.types_solver.proofs.Testing.{tested}
 use borrow.Author.Rules.{rules}
 use Rattle.types_solver.proofs.acyclicity.finite.Statement.{statement}
@@ -12,7 +12,7 @@ clear-marks-requires : tie.Need-clear-marks-requires
 clear-marks-requires c κs = search rules
 
 visit-all-requires : tie.Need-visit-all-requires
-visit-all-requires c κs = let P = c.before.before.before.before.before.before.requires in record { L = P.L; held = same-held _ _ c.before.before.before.clear-marks.ensures.same _ _ P.held }
+visit-all-requires c κs = let P = c.before.before.before.before.before.before.requires in record { L = P.L; held = same_held _ _ c.before.before.before.clear-marks.ensures.same _ _ P.held }
 
 same_length : tie.Need-same-length
 same_length c = search rules

@@ -2,7 +2,7 @@ use mathlib.Core.Path.{◌≡◌, refl, sym, ap, subst, ◌∙◌}
 use mathlib.Core.Logic.{⊎_elim}
 use native.Mathlib.Nat.{eq-zero-or-pos}
 use native.Mathlib.Omega.{arith}
-use Rattle.types_solver.proofs.Looking.{looking-root, looking-few, looked-root}
+use Rattle.types_solver.proofs.Looking.{looking_root, looking_few, looked_root}
 use borrow.Author.Rules.{rules}
 use Rattle.types_solver.proofs.components.component.Statement.{statement}
 use Rattle.types_solver.proofs.components.component.Tie as tie
@@ -17,19 +17,19 @@ find-requires : tie.Need-find-requires
 find-requires c κs = let K = c.before.before.requires in record { n = K.n; L = K.L; held = K.held; made = K.made }
 
 field-requires : tie.Need-field-requires
-field-requires c κs = let l = looking-few _ _ _ (looking-root _ _ _ _ c.before.before.before.requires c.find.ensures) in (omega arith, omega arith)
+field-requires c κs = let l = looking_few _ _ _ (looking_root _ _ _ _ c.before.before.before.requires c.find.ensures) in (omega arith, omega arith)
 
 unknown-component-requires : tie.Need-unknown-component-requires
-unknown-component-requires c κs = (looking-root _ _ _ _ c.before.before.before.before.before.requires c.before.before.find.ensures, sym c.before.field.ensures.0 ∙ c.if1.true)
+unknown-component-requires c κs = (looking_root _ _ _ _ c.before.before.before.before.before.requires c.before.before.find.ensures, sym c.before.field.ensures.0 ∙ c.if1.true)
 
 returns : tie.Need-returns
-returns c = looked-root _ _ _ _ _ _ c.before.before.before.find.ensures c.unknown-component.ensures
+returns c = looked_root _ _ _ _ _ _ c.before.before.before.find.ensures c.unknown-component.ensures
 
 former-component-requires : tie.Need-former-component-requires
-former-component-requires c κs = (looking-root _ _ _ _ c.before.before.before.before.before.requires c.before.before.find.ensures, ⊎_elim (λ z. absurd (c.if1.false (c.before.field.ensures.0 ∙ z))) (λ p. p) (eq-zero-or-pos _))
+former-component-requires c κs = (looking_root _ _ _ _ c.before.before.before.before.before.requires c.before.before.find.ensures, ⊎_elim (λ z. absurd (c.if1.false (c.before.field.ensures.0 ∙ z))) (λ p. p) (eq-zero-or-pos _))
 
 returns-2 : tie.Need-returns-2
-returns-2 c = looked-root _ _ _ _ _ _ c.before.before.before.find.ensures c.former-component.ensures
+returns-2 c = looked_root _ _ _ _ _ _ c.before.before.before.find.ensures c.former-component.ensures
 
 pub component-spec : {M : Type 1} → statement M
 component-spec =

@@ -4,7 +4,7 @@ use native.Mathlib.Omega.{arith}
 use lib.ListN.{get_or}
 use borrow.Author.Count.{below_more}
 use Rattle.types_cells.specs.Store.{frozen, run}
-use Rattle.types_cells.proofs.Words.{run_at, run_length, in-getD}
+use Rattle.types_cells.proofs.Words.{run_at, run_length, in_get_d}
 use borrow.Author.Rules.{rules}
 use Rattle.types_solver.proofs.components.place.Statement.{statement}
 use Rattle.types_solver.proofs.components.place.Tie as tie
@@ -56,7 +56,7 @@ returns-2 c =
       hit = λ q. absurd (omega arith);
       first = λ j l e. c.before.loop.invariant.1 j (omega arith) (sym (run_at w s.args.p s.args.k j (omega arith)) ∙ e);
       none = λ e m.
-          let z = in-getD s.args.x (run w s.args.p s.args.k) m in
+          let z = in_get_d s.args.x (run w s.args.p s.args.k) m in
           let l = run_length w s.args.p s.args.k s.requires.left in
           let q : z.0 < s.args.k = let y = z.1 in omega arith in
           c.before.loop.invariant.1 z.0 (omega arith) (sym (run_at w s.args.p s.args.k z.0 q) ∙ z.2);

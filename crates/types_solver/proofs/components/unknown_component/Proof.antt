@@ -1,10 +1,10 @@
 use mathlib.Core.Path.{◌≡◌, refl, sym, ap, subst, ◌∙◌}
 use native.Mathlib.Omega.{arith}
 use Prim.Native.Nat.{◌+◌, ◌-◌, ◌≤◌}
-use Rattle.types_cells.specs.Layout.{settledFrom}
+use Rattle.types_cells.specs.Layout.{settled_from}
 use Rattle.types_cells.specs.Settled.{word_at, heap, Readable, Component}
-use Rattle.types_cells.proofs.Reading.{place-low, heap-length}
-use Rattle.types_solver.proofs.Looking.{open_none, settled-none, settled-some, looking-few}
+use Rattle.types_cells.proofs.Reading.{place_low, heap_length}
+use Rattle.types_solver.proofs.Looking.{open_none, settled_none, settled_some, looking_few}
 use borrow.Author.Rules.{rules}
 use Rattle.types_solver.proofs.components.unknown_component.Statement.{statement}
 use Rattle.types_solver.proofs.components.unknown_component.Tie as tie
@@ -14,7 +14,7 @@ use Rattle.types_solver.proofs.components.settled_component.Reads as settled-com
 use Rattle.words.proofs.word.Reads as word-reads
 
 add-word : tie.Need-overflow-add-word
-add-word c = let l = looking-few _ _ _ c.before.before.requires.0 in omega arith
+add-word c = let l = looking_few _ _ _ c.before.before.requires.0 in omega arith
 
 word-requires : tie.Need-word-requires
 word-requires c κs = search rules
@@ -33,7 +33,7 @@ settled-component-requires c κs = let s = c.before.before.before.before in
     let l = c.if1.false in
     record {
       areas = record { size = K.held.size; few = let f = K.few in omega arith };
-      readable = subst (λ z. Readable (heap s.args.a.now s.args.d.now) (z - settledFrom)) (sym e) (K.pinned.reads _ K.made (omega arith));
+      readable = subst (λ z. Readable (heap s.args.a.now s.args.d.now) (z - settled_from)) (sym e) (K.pinned.reads _ K.made (omega arith));
     }
 
 returns-2 : tie.Need-returns-2
@@ -41,7 +41,7 @@ unfolding word_at
 returns-2 c = let s = c.before.before.before.before.before.before in
     let e = c.before.before.before.word.ensures.0 in
     let l = c.before.before.if1.false in
-    settled-none _ _ _ _ s.requires.0.root (omega arith) _ (subst (λ z. Component s.args.a.now s.args.d.now (z - settledFrom) s.args.id c.before.settled-component.result) e c.before.settled-component.ensures) c.if2.true
+    settled_none _ _ _ _ s.requires.0.root (omega arith) _ (subst (λ z. Component s.args.a.now s.args.d.now (z - settled_from) s.args.id c.before.settled-component.result) e c.before.settled-component.ensures) c.if2.true
 
 add-result : tie.Need-overflow-add-result
 unfolding word_at
@@ -50,9 +50,9 @@ add-result c = let s = c.before.before.before.before.before.before in
     let e = c.before.before.before.word.ensures.0 in
     let l = c.before.before.if1.false in
     let D = K.pinned.reads _ K.made (omega arith) in
-    let C = subst (λ z. Component s.args.a.now s.args.d.now (z - settledFrom) s.args.id c.before.settled-component.result) e c.before.settled-component.ensures in
-    let f = place-low _ _ _ (C.some c.if2.false D.type D.reads).reads in
-    let h = heap-length s.args.a.now s.args.d.now K.held.size in
+    let C = subst (λ z. Component s.args.a.now s.args.d.now (z - settled_from) s.args.id c.before.settled-component.result) e c.before.settled-component.ensures in
+    let f = place_low _ _ _ (C.some c.if2.false D.type D.reads).reads in
+    let h = heap_length s.args.a.now s.args.d.now K.held.size in
     let g = K.few in omega arith
 
 returns-3 : tie.Need-returns-3
@@ -60,7 +60,7 @@ unfolding word_at
 returns-3 c = let s = c.before.before.before.before.before.before in
     let e = c.before.before.before.word.ensures.0 in
     let l = c.before.before.if1.false in
-    settled-some _ _ _ _ s.requires.0.root (omega arith) _ (subst (λ z. Component s.args.a.now s.args.d.now (z - settledFrom) s.args.id c.before.settled-component.result) e c.before.settled-component.ensures) c.if2.false
+    settled_some _ _ _ _ s.requires.0.root (omega arith) _ (subst (λ z. Component s.args.a.now s.args.d.now (z - settled_from) s.args.id c.before.settled-component.result) e c.before.settled-component.ensures) c.if2.false
 
 pub unknown-component-spec : {M : Type 1} → statement M
 unknown-component-spec =

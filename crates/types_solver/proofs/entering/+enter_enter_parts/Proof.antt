@@ -4,7 +4,7 @@ use native.Mathlib.Omega.{arith}
 use Prim.Native.Nat.{ℕ, suc, ◌+◌, ◌*◌, ◌-◌, ◌≤◌, ◌<◌}
 use lib.ListN.{length}
 use Rattle.types_cells.specs.Settled.{heap}
-use Rattle.types_solver.proofs.Instancing.{enter-place, first-ask, form-ask, former-done, in_row, later-place, parts-ask, parts-done, parts_none, putting, rest-ask, skip-ask, suc-pred}
+use Rattle.types_solver.proofs.Instancing.{enter_place, first_ask, form_ask, former_done, in_row, later_place, parts_ask, parts_done, parts_none, putting, rest_ask, skip_ask, suc_pred}
 use borrow.Fn.Kinds.{In}
 use borrow.Fn.PlainCycle.{Measures, is, falls, and}
 use Rattle.types_solver.proofs.entering.enter.Reads as enter
@@ -55,7 +55,7 @@ enter-type-word-requires t c κs = search rules
 
 enter-add-type-word : (t : ℕ) → enter-lts.Need-overflow-add-type-word (enter-calls t) (enter-at t) enter.Post
 enter-add-type-word t c =
-    let z = enter-place _ _ _ _ _ _ _ c.before.before.before.before.before.requires.1 in
+    let z = enter_place _ _ _ _ _ _ _ c.before.before.before.before.before.requires.1 in
     let z0 = z.0 in
     let z1 = z.1 in omega arith
 
@@ -73,12 +73,12 @@ enter-same-length t c = search rules
 
 enter-returns : (t : ℕ) → enter-lts.Need-returns (enter-calls t) (enter-at t) enter.Post
 enter-returns t c =
-    in_row _ _ _ _ _ _ _ c.before.before.before.before.before.before.before.before.requires.1 _ _ _ c.before.before.before.before.type-word.ensures.0 c.before.before.type-word2.ensures.0 c.before.row-cell.ensures c.if1.true _
-    (suc-pred _ c.if1.true)
+    in_row _ _ _ _ _ _ _ c.before.before.before.before.before.before.before.before.requires.1 _ _ _ c.before.before.before.before.type-word.ensures.0 c.before.before.type-word2.ensures.0 c.before.row_cell.ensures c.if1.true _
+    (suc_pred _ c.if1.true)
 
 enter-parts-of-requires : (t : ℕ) → enter-lts.Need-parts-of-requires (enter-calls t) (enter-at t) enter.Post
 enter-parts-of-requires t c κs =
-    let z = enter-place _ _ _ _ _ _ _ c.before.before.before.before.before.before.before.before.before.requires.1 in
+    let z = enter_place _ _ _ _ _ _ _ c.before.before.before.before.before.before.before.before.before.requires.1 in
     let z0 = z.0 in
     let z1 = z.1 in
     (c.before.before.before.before.before.before.before.before.before.requires.1.room.solved.held.size, omega arith)
@@ -88,7 +88,7 @@ enter-lead-words-requires t c κs = search rules
 
 enter-add-at : (t : ℕ) → enter-lts.Need-overflow-add-at (enter-calls t) (enter-at t) enter.Post
 enter-add-at t c =
-    let z = enter-place _ _ _ _ _ _ _ c.before.before.before.before.before.before.before.before.before.before.before.requires.1 in
+    let z = enter_place _ _ _ _ _ _ _ c.before.before.before.before.before.before.before.before.before.before.before.requires.1 in
     let z0 = z.0 in
     let z1 = z.1 in
     let l = c.lead-words.ensures.1 in omega arith
@@ -98,20 +98,20 @@ enter-name-words-requires t c κs = search rules
 
 enter-enter-parts-requires : (t : ℕ) → enter-lts.Need-enter-parts-requires (enter-calls t) (enter-at t) enter.Post
 enter-enter-parts-requires t c κs =
-    let z = enter-place _ _ _ _ _ _ _ c.before.before.before.before.before.before.before.before.before.before.before.before.before.requires.1 in
+    let z = enter_place _ _ _ _ _ _ _ c.before.before.before.before.before.before.before.before.before.before.before.before.before.requires.1 in
     let z0 = z.0 in
     let z1 = z.1 in
     let l = c.before.before.lead-words.ensures.2 in
     let m = c.before.before.before.before.before.before.before.before.before.before.before.before.before.requires.0 in (
       omega arith,
-      parts-ask _ _ _ _ _ _ _ c.before.before.before.before.before.before.before.before.before.before.before.before.before.requires.1 _ _ _ c.before.before.before.before.before.before.before.before.before.type-word.ensures.0 c.before.before.before.before.before.before.before.type-word2.ensures.0 c.before.before.before.before.before.before.row-cell.ensures
-          c.before.before.before.before.before.if1.false _ _ _ c.before.before.before.parts-of.ensures.0 c.before.name-words.ensures.0 (ap (λ y. c.before.before.before.before.before.before.before.before.before.before.before.before.before.args.p + y) c.before.before.lead-words.ensures.0),
+      parts_ask _ _ _ _ _ _ _ c.before.before.before.before.before.before.before.before.before.before.before.before.before.requires.1 _ _ _ c.before.before.before.before.before.before.before.before.before.type-word.ensures.0 c.before.before.before.before.before.before.before.type-word2.ensures.0 c.before.before.before.before.before.before.row_cell.ensures
+          c.before.before.before.before.before.if1.false _ _ _ c.before.before.before.parts_of_lem.ensures.0 c.before.name-words.ensures.0 (ap (λ y. c.before.before.before.before.before.before.before.before.before.before.before.before.before.args.p + y) c.before.before.lead-words.ensures.0),
     )
 
 enter-enter-former-requires : (t : ℕ) → enter-lts.Need-enter-former-requires (enter-calls t) (enter-at t) enter.Post
 enter-enter-former-requires t c κs =
-    form-ask _ _ _ _ _ _ _ c.before.before.before.before.before.before.before.before.before.before.before.before.before.before.before.before.before.requires.1 _ _ _ c.before.before.before.before.before.before.before.before.before.before.before.before.before.type-word.ensures.0 c.before.before.before.before.before.before.before.before.before.before.before.type-word2.ensures.0 c.before.before.before.before.before.before.before.before.before.before.row-cell.ensures
-    c.before.before.before.before.before.before.before.before.before.if1.false _ _ _ c.before.before.before.before.before.before.before.parts-of.ensures.0 c.before.before.before.before.before.name-words.ensures.0 (ap (λ y. c.before.before.before.before.before.before.before.before.before.before.before.before.before.before.before.before.before.args.p + y) c.before.before.before.before.before.before.lead-words.ensures.0)
+    form_ask _ _ _ _ _ _ _ c.before.before.before.before.before.before.before.before.before.before.before.before.before.before.before.before.before.requires.1 _ _ _ c.before.before.before.before.before.before.before.before.before.before.before.before.before.type-word.ensures.0 c.before.before.before.before.before.before.before.before.before.before.before.type-word2.ensures.0 c.before.before.before.before.before.before.before.before.before.before.row_cell.ensures
+    c.before.before.before.before.before.before.before.before.before.if1.false _ _ _ c.before.before.before.before.before.before.before.parts_of_lem.ensures.0 c.before.before.before.before.before.name-words.ensures.0 (ap (λ y. c.before.before.before.before.before.before.before.before.before.before.before.before.before.before.before.before.before.args.p + y) c.before.before.before.before.before.before.lead-words.ensures.0)
     _ _ _ c.before.before.before.enter-parts.ensures c.before.before.before.before.before.before.before.before.before.before.before.type-word2.ensures.1
 
 enter-same-length-2 : (t : ℕ) → enter-lts.Need-same-length-2 (enter-calls t) (enter-at t) enter.Post
@@ -119,8 +119,8 @@ enter-same-length-2 t c = search rules
 
 enter-returns-2 : (t : ℕ) → enter-lts.Need-returns-2 (enter-calls t) (enter-at t) enter.Post
 enter-returns-2 t c =
-    former-done _ _ _ _ _ _ _ c.before.before.before.before.before.before.before.before.before.before.before.before.before.before.before.before.before.before.before.before.requires.1 _ _ _ c.before.before.before.before.before.before.before.before.before.before.before.before.before.before.before.before.type-word.ensures.0 c.before.before.before.before.before.before.before.before.before.before.before.before.before.before.type-word2.ensures.0 c.before.before.before.before.before.before.before.before.before.before.before.before.before.row-cell.ensures
-    c.before.before.before.before.before.before.before.before.before.before.before.before.if1.false _ _ _ c.before.before.before.before.before.before.before.before.before.before.parts-of.ensures.0 c.before.before.before.before.before.before.before.before.name-words.ensures.0 (ap (λ y. c.before.before.before.before.before.before.before.before.before.before.before.before.before.before.before.before.before.before.before.before.args.p + y) c.before.before.before.before.before.before.before.before.before.lead-words.ensures.0)
+    former_done _ _ _ _ _ _ _ c.before.before.before.before.before.before.before.before.before.before.before.before.before.before.before.before.before.before.before.before.requires.1 _ _ _ c.before.before.before.before.before.before.before.before.before.before.before.before.before.before.before.before.type-word.ensures.0 c.before.before.before.before.before.before.before.before.before.before.before.before.before.before.type-word2.ensures.0 c.before.before.before.before.before.before.before.before.before.before.before.before.before.row_cell.ensures
+    c.before.before.before.before.before.before.before.before.before.before.before.before.if1.false _ _ _ c.before.before.before.before.before.before.before.before.before.before.parts_of_lem.ensures.0 c.before.before.before.before.before.before.before.before.name-words.ensures.0 (ap (λ y. c.before.before.before.before.before.before.before.before.before.before.before.before.before.before.before.before.before.before.before.before.args.p + y) c.before.before.before.before.before.before.before.before.before.lead-words.ensures.0)
     _ _ _ c.before.before.before.before.before.before.enter-parts.ensures c.before.before.before.before.before.before.before.before.before.before.before.before.before.before.type-word2.ensures.1 _ _ _ _ c.before.before.enter-former.ensures
 
 enter-parts-returns : (t : ℕ) → enter-parts-lts.Need-returns (enter-parts-calls t) (enter-parts-at t) enter-parts.Post
@@ -131,7 +131,7 @@ enter-parts-add-enter : (t : ℕ) → enter-parts-lts.Need-overflow-add-enter (e
 enter-parts-add-enter t c =
     let q = c.before.if1.false in
     let l : c.before.before.before.before.args.j < c.before.before.before.before.args.m = omega arith in
-    let z = enter-place _ _ _ _ _ _ _ (first-ask _ _ _ _ _ _ _ _ _ _ c.before.before.before.before.requires.1 l) in
+    let z = enter_place _ _ _ _ _ _ _ (first_ask _ _ _ _ _ _ _ _ _ _ c.before.before.before.before.requires.1 l) in
     let z0 = z.0 in
     let z1 = z.1 in omega arith
 
@@ -139,17 +139,17 @@ enter-parts-enter-requires : (t : ℕ) → enter-parts-lts.Need-enter-requires (
 enter-parts-enter-requires t c κs =
     let q = c.before.if1.false in
     let l : c.before.before.before.before.args.j < c.before.before.before.before.args.m = omega arith in
-    let z = enter-place _ _ _ _ _ _ _ (first-ask _ _ _ _ _ _ _ _ _ _ c.before.before.before.before.requires.1 l) in
+    let z = enter_place _ _ _ _ _ _ _ (first_ask _ _ _ _ _ _ _ _ _ _ c.before.before.before.before.requires.1 l) in
     let z0 = z.0 in
     let z1 = z.1 in
     let m = c.before.before.before.before.requires.0 in
-    (omega arith, first-ask _ _ _ _ _ _ _ _ _ _ c.before.before.before.before.requires.1 l)
+    (omega arith, first_ask _ _ _ _ _ _ _ _ _ _ c.before.before.before.before.requires.1 l)
 
 enter-parts-add-skip : (t : ℕ) → enter-parts-lts.Need-overflow-add-skip (enter-parts-calls t) (enter-parts-at t) enter-parts.Post
 enter-parts-add-skip t c =
     let q = c.before.before.before.before.before.if1.false in
     let l : c.before.before.before.before.before.before.before.before.args.j < c.before.before.before.before.before.before.before.before.args.m = omega arith in
-    let z = enter-place _ _ _ _ _ _ _ (first-ask _ _ _ _ _ _ _ _ _ _ c.before.before.before.before.before.before.before.before.requires.1 l) in
+    let z = enter_place _ _ _ _ _ _ _ (first_ask _ _ _ _ _ _ _ _ _ _ c.before.before.before.before.before.before.before.before.requires.1 l) in
     let z0 = z.0 in
     let z1 = z.1 in omega arith
 
@@ -157,10 +157,10 @@ enter-parts-skip-requires : (t : ℕ) → enter-parts-lts.Need-skip-requires (en
 enter-parts-skip-requires t c κs =
     let q = c.before.before.before.before.before.if1.false in
     let l : c.before.before.before.before.before.before.before.before.args.j < c.before.before.before.before.before.before.before.before.args.m = omega arith in
-    let z = enter-place _ _ _ _ _ _ _ (first-ask _ _ _ _ _ _ _ _ _ _ c.before.before.before.before.before.before.before.before.requires.1 l) in
+    let z = enter_place _ _ _ _ _ _ _ (first_ask _ _ _ _ _ _ _ _ _ _ c.before.before.before.before.before.before.before.before.requires.1 l) in
     let z0 = z.0 in
     let z1 = z.1 in
-    skip-ask _ _ _ _ _ _ _ _ _ _ c.before.before.before.before.before.before.before.before.requires.1 l _ _ _ _ c.before.before.before.enter.ensures
+    skip_ask _ _ _ _ _ _ _ _ _ _ c.before.before.before.before.before.before.before.before.requires.1 l _ _ _ _ c.before.before.before.enter.ensures
 
 enter-parts-add-enter-parts : (t : ℕ) → enter-parts-lts.Need-overflow-add-enter-parts (enter-parts-calls t) (enter-parts-at t) enter-parts.Post
 enter-parts-add-enter-parts t c = search rules
@@ -169,22 +169,22 @@ enter-parts-enter-parts-requires : (t : ℕ) → enter-parts-lts.Need-enter-part
 enter-parts-enter-parts-requires t c κs =
     let q = c.before.before.before.before.before.before.before.if1.false in
     let l : c.before.before.before.before.before.before.before.before.before.before.args.j < c.before.before.before.before.before.before.before.before.before.before.args.m = omega arith in
-    let z = enter-place _ _ _ _ _ _ _ (first-ask _ _ _ _ _ _ _ _ _ _ c.before.before.before.before.before.before.before.before.before.before.requires.1 l) in
+    let z = enter_place _ _ _ _ _ _ _ (first_ask _ _ _ _ _ _ _ _ _ _ c.before.before.before.before.before.before.before.before.before.before.requires.1 l) in
     let z0 = z.0 in
     let z1 = z.1 in
     let X = c.before.before.before.before.before.enter.ensures in
     let E = c.before.skip.ensures in
-    let w = later-place _ _ _ _ _ _ _ _ _ _ c.before.before.before.before.before.before.before.before.before.before.requires.1 l _ _ _ _ X _ E in
+    let w = later_place _ _ _ _ _ _ _ _ _ _ c.before.before.before.before.before.before.before.before.before.before.requires.1 l _ _ _ _ X _ E in
     let w0 = w.0 in
     let w1 = w.1 in
     let m = c.before.before.before.before.before.before.before.before.before.before.requires.0 in
-    (omega arith, rest-ask _ _ _ _ _ _ _ _ _ _ c.before.before.before.before.before.before.before.before.before.before.requires.1 l _ _ _ _ X _ E)
+    (omega arith, rest_ask _ _ _ _ _ _ _ _ _ _ c.before.before.before.before.before.before.before.before.before.before.requires.1 l _ _ _ _ X _ E)
 
 enter-parts-put-part-requires : (t : ℕ) → enter-parts-lts.Need-put-part-requires (enter-parts-calls t) (enter-parts-at t) enter-parts.Post
 enter-parts-put-part-requires t c κs =
     let q = c.before.before.before.before.before.before.before.before.before.before.before.if1.false in
     let l : c.before.before.before.before.before.before.before.before.before.before.before.before.before.before.args.j < c.before.before.before.before.before.before.before.before.before.before.before.before.before.before.args.m = omega arith in
-    let z = enter-place _ _ _ _ _ _ _ (first-ask _ _ _ _ _ _ _ _ _ _ c.before.before.before.before.before.before.before.before.before.before.before.before.before.before.requires.1 l) in
+    let z = enter_place _ _ _ _ _ _ _ (first_ask _ _ _ _ _ _ _ _ _ _ c.before.before.before.before.before.before.before.before.before.before.before.before.before.before.requires.1 l) in
     let z0 = z.0 in
     let z1 = z.1 in
     putting _ _ _ _ _ _ _ _ _ _ c.before.before.before.before.before.before.before.before.before.before.before.before.before.before.requires.1 l _ _ _ _ c.before.before.before.before.before.before.before.before.before.enter.ensures _ c.before.before.before.before.before.skip.ensures _ _ _ c.before.before.before.enter-parts.ensures
@@ -196,10 +196,10 @@ enter-parts-returns-2 : (t : ℕ) → enter-parts-lts.Need-returns-2 (enter-part
 enter-parts-returns-2 t c =
     let q = c.before.before.before.before.before.before.before.before.before.before.before.before.before.before.if1.false in
     let l : c.before.before.before.before.before.before.before.before.before.before.before.before.before.before.before.before.before.args.j < c.before.before.before.before.before.before.before.before.before.before.before.before.before.before.before.before.before.args.m = omega arith in
-    let z = enter-place _ _ _ _ _ _ _ (first-ask _ _ _ _ _ _ _ _ _ _ c.before.before.before.before.before.before.before.before.before.before.before.before.before.before.before.before.before.requires.1 l) in
+    let z = enter_place _ _ _ _ _ _ _ (first_ask _ _ _ _ _ _ _ _ _ _ c.before.before.before.before.before.before.before.before.before.before.before.before.before.before.before.before.before.requires.1 l) in
     let z0 = z.0 in
     let z1 = z.1 in
-    parts-done _ _ _ _ _ _ _ _ _ _ c.before.before.before.before.before.before.before.before.before.before.before.before.before.before.before.before.before.requires.1 l _ _ _ _ c.before.before.before.before.before.before.before.before.before.before.before.before.enter.ensures _ c.before.before.before.before.before.before.before.before.skip.ensures _ _ _ c.before.before.before.before.before.before.enter-parts.ensures _ c.before.before.put-part.ensures
+    parts_done _ _ _ _ _ _ _ _ _ _ c.before.before.before.before.before.before.before.before.before.before.before.before.before.before.before.before.before.requires.1 l _ _ _ _ c.before.before.before.before.before.before.before.before.before.before.before.before.enter.ensures _ c.before.before.before.before.before.before.before.before.skip.ensures _ _ _ c.before.before.before.before.before.before.enter-parts.ensures _ c.before.before.put_part.ensures
 
 pub +enter-enter-parts-spec : {M : Type 1} → statement M
 +enter-enter-parts-spec = close μ-enter μ-enter-parts (λ t. enter-lts.spec (enter-calls t) (enter-at t) enter.Post

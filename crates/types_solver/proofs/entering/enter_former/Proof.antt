@@ -2,7 +2,7 @@ use mathlib.Core.List.{[]}
 use native.Mathlib.Omega.{arith}
 use Prim.Native.Nat.{◌+◌}
 use borrow.Author.Rules.{rules}
-use Rattle.types_solver.proofs.Instancing.{arg-few, formed, forming}
+use Rattle.types_solver.proofs.Instancing.{arg_few, formed, forming}
 use Rattle.types_solver.proofs.entering.enter_former.Statement.{statement}
 use Rattle.types_solver.proofs.entering.enter_former.Tie as tie
 use Rattle.types_solver.proofs.entering.enter_former.Reads as reads
@@ -25,7 +25,7 @@ cast-new-cell-2 c =
     let r = P.room in
     let w = P.word in
     let s = c.before.before.before.args in
-    let z = arg-few s.t s.v (s.top + s.m) 4294967296 (omega arith) (omega arith) in
+    let z = arg_few s.t s.v (s.top + s.m) 4294967296 (omega arith) (omega arith) in
     let e = c.before.argument.ensures in omega arith
 
 cast-new-cell-3 : tie.Need-overflow-cast-new-cell-3
@@ -47,7 +47,7 @@ same_length : tie.Need-same-length
 same_length c = search rules
 
 returns : tie.Need-returns
-returns c = formed _ _ _ _ _ _ _ _ c.before.before.before.before.before.before.before.requires c.before.before.before.before.before.argument.ensures _ _ (omega arith) (omega arith) (omega arith) (λ e. omega arith) c.before.before.before.new-cell.ensures
+returns c = formed _ _ _ _ _ _ _ _ c.before.before.before.before.before.before.before.requires c.before.before.before.before.before.argument.ensures _ _ (omega arith) (omega arith) (omega arith) (λ e. omega arith) c.before.before.before.new_cell.ensures
 
 add-t19 : tie.Need-overflow-add-t19
 add-t19 c = search rules
@@ -56,7 +56,7 @@ same-length-2 : tie.Need-same-length-2
 same-length-2 c = search rules
 
 returns-2 : tie.Need-returns-2
-returns-2 c = formed _ _ _ _ _ _ _ _ c.before.before.before.before.before.before.before.requires c.before.before.before.before.before.argument.ensures _ _ (omega arith) (omega arith) (omega arith) (λ e. absurd (c.if1.false e)) c.before.before.before.new-cell.ensures
+returns-2 c = formed _ _ _ _ _ _ _ _ c.before.before.before.before.before.before.before.requires c.before.before.before.before.before.argument.ensures _ _ (omega arith) (omega arith) (omega arith) (λ e. absurd (c.if1.false e)) c.before.before.before.new_cell.ensures
 
 pub enter-former-spec : {M : Type 1} → statement M
 enter-former-spec =

@@ -5,12 +5,12 @@ use Prim.Native.Nat.{ℕ, ◌+◌, ◌-◌, ◌≤◌, ◌<◌}
 use lib.Dec.{eqb}
 use Rattle.types_rules.specs.Classes.{rep}
 use Rattle.types_rules.specs.Equations.{Pairs}
-use Rattle.types_cells.specs.Layout.{settledFrom}
+use Rattle.types_cells.specs.Layout.{settled_from}
 use Rattle.types_cells.specs.Store.{frozen, tag_at, Held}
 use Rattle.types_cells.specs.Calls.{Known}
 use Rattle.types_cells.specs.Settled.{word_at}
-use Rattle.types_cells.proofs.LinkLaws.{known-root, few-cell}
-use Rattle.types_solver.proofs.Opening.{left-yes, left-no, scan-next}
+use Rattle.types_cells.proofs.LinkLaws.{known_root, few_cell}
+use Rattle.types_solver.proofs.Opening.{left_yes, left_no, scan_next}
 use Rattle.types_solver.proofs.openness.left_open.Statement.{statement}
 use Rattle.types_solver.proofs.openness.left_open.Tie as tie
 use Rattle.types_solver.proofs.openness.left_open.Reads as reads
@@ -19,7 +19,7 @@ use Rattle.types_cells.proofs.links.find.Reads as find-reads
 use Rattle.types_solver.proofs.openness.is_open.Reads as is-open-reads
 
 abbrev invariant-loop : tie.invariant-loop
-invariant-loop a n i₀ i = (j : ℕ) → j < i → (L : Pairs ℕ) → Held a n L → tag_at (frozen a) (rep eqb L j) ≡ 0 → settledFrom ≤ word_at a (rep eqb L j)
+invariant-loop a n i₀ i = (j : ℕ) → j < i → (L : Pairs ℕ) → Held a n L → tag_at (frozen a) (rep eqb L j) ≡ 0 → settled_from ≤ word_at a (rep eqb L j)
 
 abbrev decreases-loop : tie.decreases-loop
 decreases-loop a n i₀ i = n - i
@@ -33,10 +33,10 @@ find-requires c κs = record { n = _; L = c.before.before.before.requires.L; hel
 is-open-requires : tie.Need-is-open-requires invariant-loop decreases-loop
 is-open-requires c κs =
     let K : Known c.before.before.before.before.args.a.now c.before.before.loop.i = record { n = _; L = c.before.before.before.before.requires.L; held = c.before.before.before.before.requires.held; made = c.before.loop-test.true } in
-    few-cell _ _ (known-root _ _ _ K c.find.ensures)
+    few_cell _ _ (known_root _ _ _ K c.find.ensures)
 
 returns : tie.Need-returns invariant-loop decreases-loop
-returns c = let q = c.before.is_open.ensures.holds c.if1.true in left-yes _ _ _ _ c.before.before.before.loop-test.true c.before.before.find.ensures q.0 q.1
+returns c = let q = c.before.is_open.ensures.holds c.if1.true in left_yes _ _ _ _ c.before.before.before.loop-test.true c.before.before.find.ensures q.0 q.1
 
 add-i : tie.Need-overflow-add-i invariant-loop decreases-loop
 add-i c = let l = c.before.before.before.loop-test.true in let f = c.before.before.before.before.before.before.requires.held.few in omega arith
@@ -45,10 +45,10 @@ loop-less : tie.Need-loop-smaller invariant-loop decreases-loop
 loop-less c = let l = c.before.before.before.loop-test.true in omega arith
 
 loop-again : tie.Need-loop-preserved invariant-loop decreases-loop
-loop-again c = scan-next _ _ _ _ c.before.before.before.loop-test.true c.before.before.find.ensures (c.before.is_open.ensures.fails c.if1.false) c.before.before.before.before.loop.invariant
+loop-again c = scan_next _ _ _ _ c.before.before.before.loop-test.true c.before.before.find.ensures (c.before.is_open.ensures.fails c.if1.false) c.before.before.before.before.loop.invariant
 
 returns-2 : tie.Need-returns-2 invariant-loop decreases-loop
-returns-2 c = let l = c.loop-test.false in left-no _ _ (λ i m. c.before.loop.invariant i (omega arith))
+returns-2 c = let l = c.loop-test.false in left_no _ _ (λ i m. c.before.loop.invariant i (omega arith))
 
 pub left-open-spec : {M : Type 1} → statement M
 left-open-spec =

@@ -4,11 +4,11 @@ use Prim.Native.Nat.{suc, ◌+◌, ◌-◌, ◌≤◌}
 use lib.ListN.{length, get_or}
 use Rattle.types_rules.specs.Types.{Ty, size}
 use Rattle.types_rules.specs.Words.{words}
-use Rattle.types_cells.specs.Settled.{heap, leadWords, Reads, Reading}
+use Rattle.types_cells.specs.Settled.{heap, lead_words, Reads, Reading}
 use Rattle.types_solver.specs.Sizes.{cap}
-use Rattle.types_cells.proofs.Reading.{heap-length, place-low}
-use Rattle.types_solver.proofs.Marking.{cap-le}
-use Rattle.types_solver.proofs.Summing.{Summing, sum-start, SumStep, sum_step, sum-end}
+use Rattle.types_cells.proofs.Reading.{heap_length, place_low}
+use Rattle.types_solver.proofs.Marking.{cap_le}
+use Rattle.types_solver.proofs.Summing.{Summing, sum_start, SumStep, sum_step, sum_end}
 use borrow.Author.Rules.{rules}
 use Prim.Native.Nat.{ℕ, ◌<◌}
 use borrow.Fn.Kinds.{In}
@@ -54,9 +54,9 @@ type-size-parts-of-requires : (t : ℕ) → type-size-lts.Need-parts-of-requires
 type-size-parts-of-requires t c κs =
     let P = c.before.before.before.before.requires.1 in
     let s = c.before.before.before.before.args in
-    let hl = heap-length s.a.now s.d.now P.areas.size in
+    let hl = heap_length s.a.now s.d.now P.areas.size in
     let f = P.areas.few in
-    let pl = place-low _ _ _ P.readable.reads in
+    let pl = place_low _ _ _ P.readable.reads in
     (P.areas.size, omega arith)
 
 type-size-lead-words-requires : (t : ℕ) → type-size-lts.Need-lead-words-requires (type-size-calls t) (type-size-at t) type-size.Post type-size-Inv-loop type-size-μ-loop
@@ -66,21 +66,21 @@ type-size-add-at : (t : ℕ) → type-size-lts.Need-overflow-add-at (type-size-c
 type-size-add-at t c =
     let P = c.before.before.before.before.before.before.requires.1 in
     let s = c.before.before.before.before.before.before.args in
-    let hl = heap-length s.a.now s.d.now P.areas.size in
+    let hl = heap_length s.a.now s.d.now P.areas.size in
     let f = P.areas.few in
-    let pl = place-low _ _ _ P.readable.reads in
+    let pl = place_low _ _ _ P.readable.reads in
     let z = c.lead-words.ensures.1 in omega arith
 
 type-size-loop-holds : (t : ℕ) → type-size-lts.Need-loop-init (type-size-calls t) (type-size-at t) type-size.Post type-size-Inv-loop type-size-μ-loop
 type-size-loop-holds t c =
     let z = c.lead-words.ensures.2 in
-    (omega arith, omega arith, λ g R. sum-start _ _ g R _ _ _ _ c.before.before.before.type-word.ensures.0 c.before.before.name-words.ensures.0 c.before.parts-of.ensures.0 (ap (λ y. c.before.before.before.before.before.before.args.p + y) c.lead-words.ensures.0))
+    (omega arith, omega arith, λ g R. sum_start _ _ g R _ _ _ _ c.before.before.before.type-word.ensures.0 c.before.before.name-words.ensures.0 c.before.parts_of_lem.ensures.0 (ap (λ y. c.before.before.before.before.before.before.args.p + y) c.lead-words.ensures.0))
 
 type-size-add-q : (t : ℕ) → type-size-lts.Need-overflow-add-q (type-size-calls t) (type-size-at t) type-size.Post type-size-Inv-loop type-size-μ-loop
 type-size-add-q t c =
     let P = c.before.before.before.before.before.before.before.before.requires.1 in
     let s = c.before.before.before.before.before.before.before.before.args in
-    let hl = heap-length s.a.now s.d.now P.areas.size in
+    let hl = heap_length s.a.now s.d.now P.areas.size in
     let f = P.areas.few in
     let S = sum_step _ _ _ _ _ _ _ (c.before.loop.invariant.2 P.readable.type P.readable.reads) c.loop-test.true in
     let q = S.low in omega arith
@@ -109,7 +109,7 @@ type-size-skip-requires t c κs =
 
 type-size-add-j : (t : ℕ) → type-size-lts.Need-overflow-add-j (type-size-calls t) (type-size-at t) type-size.Post type-size-Inv-loop type-size-μ-loop
 type-size-add-j t c =
-    let f = c.before.before.before.before.before.before.parts-of.ensures.1 in
+    let f = c.before.before.before.before.before.before.parts_of_lem.ensures.1 in
     let q = c.before.before.before.loop-test.true in
     omega arith
 
@@ -123,7 +123,7 @@ type-size-loop-again t c =
     let S₀ = sum_step _ _ _ _ _ _ _ (c.before.before.before.before.loop.invariant.2 P.readable.type P.readable.reads) c.before.before.before.loop-test.true in
     let e₀ = c.skip.ensures.is S₀.part S₀.reads in
     let k = c.before.capped.ensures in
-    let f = cap-le (c.before.before.before.before.loop.sum + c.before.before.type-size.result) in (
+    let f = cap_le (c.before.before.before.before.loop.sum + c.before.before.type-size.result) in (
       omega arith,
       omega arith,
       λ g R.
@@ -132,7 +132,7 @@ type-size-loop-again t c =
     )
 
 type-size-returns : (t : ℕ) → type-size-lts.Need-returns (type-size-calls t) (type-size-at t) type-size.Post type-size-Inv-loop type-size-μ-loop
-type-size-returns t c = record { is = λ g R. sum-end _ _ _ _ _ _ _ (c.before.loop.invariant.2 g R) c.loop-test.false c.before.loop.invariant.1; few = c.before.loop.invariant.1 }
+type-size-returns t c = record { is = λ g R. sum_end _ _ _ _ _ _ _ (c.before.loop.invariant.2 g R) c.loop-test.false c.before.loop.invariant.1; few = c.before.loop.invariant.1 }
 
 pub +type-size-spec : {M : Type 1} → statement M
 +type-size-spec = close μ-type-size λ t. type-size-lts.spec (type-size-calls t) (type-size-at t) type-size.Post

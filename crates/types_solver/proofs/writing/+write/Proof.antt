@@ -6,16 +6,16 @@ use Prim.Native.Nat.{suc, ◌+◌, ◌-◌, ◌≤◌}
 use native.Mathlib.Omega.{arith}
 use lib.ListN.{length, get_or}
 use lib.Seq.{sets}
-use Rattle.words.proofs.Lists.{sets-append}
+use Rattle.words.proofs.Lists.{sets_append}
 use Rattle.types_rules.specs.Types.{Ty}
 use Rattle.types_rules.specs.Words.{words}
 use Rattle.types_rules.specs.Equations.{Pairs}
-use Rattle.types_cells.specs.Layout.{settledFrom}
-use Rattle.types_cells.specs.Store.{frozen, tag_at, first_at, countAt}
+use Rattle.types_cells.specs.Layout.{settled_from}
+use Rattle.types_cells.specs.Store.{frozen, tag_at, first_at, count_at}
 use Rattle.types_cells.specs.Settled.{heap, word_at, Reads, Readable}
-use Rattle.types_solver.specs.Sizes.{markAt, Model}
-use Rattle.types_solver.specs.Written.{leadAt, name_at, rest, Resolved, Copied, Wrote, Writing, Leading}
-use Rattle.types_solver.proofs.Writer.{split-length, step-area, step_end, rest_end, r-few, r-cell, r-part, m-words, m-length, m-settled, m-readable, r-settled}
+use Rattle.types_solver.specs.Sizes.{mark_at, Model}
+use Rattle.types_solver.specs.Written.{lead_at, name_at, rest, Resolved, Copied, Wrote, Writing, Leading}
+use Rattle.types_solver.proofs.Writer.{split_length, step_area, step_end, rest_end, r_few, r_cell, r_part, m_words, m_length, m_settled, m_readable, r_settled}
 use borrow.Author.Rules.{rules}
 use Prim.Native.Nat.{ℕ, ◌<◌}
 use borrow.Fn.Kinds.{In}
@@ -34,7 +34,7 @@ use Rattle.types_solver.proofs.writing.+write.{statement}
 use Rattle.types_solver.proofs.writing.+write.Tie.{close}
 
 abbrev μ-write : Measures 3 write-kinds.ps ℕ
-μ-write κs a = markAt a.0.now a.1.1.1.1.0
+μ-write κs a = mark_at a.0.now a.1.1.1.1.0
 
 abbrev write-at : ℕ → In 3 write-kinds.ps
 write-at t = and 3 write-kinds.ps (is 3 write-kinds.ps μ-write t) write.Pre
@@ -58,10 +58,10 @@ write-find-requires : (t : ℕ) → write-lts.Need-find-requires (write-calls t)
 write-find-requires t c κs = let P = c.before.before.before.requires.1 in record { n = P.n; L = P.L; held = P.model.marked.held; made = P.made }
 
 write-field-requires : (t : ℕ) → write-lts.Need-field-requires (write-calls t) (write-at t) write.Post write-Inv-loop write-μ-loop
-write-field-requires t c κs = let P = c.before.before.before.before.requires.1 in let l = r-few _ _ _ c.find.ensures _ _ P.model.marked P.made in (omega arith, omega arith)
+write-field-requires t c κs = let P = c.before.before.before.before.requires.1 in let l = r_few _ _ _ c.find.ensures _ _ P.model.marked P.made in (omega arith, omega arith)
 
 write-add-word : (t : ℕ) → write-lts.Need-overflow-add-word (write-calls t) (write-at t) write.Post write-Inv-loop write-μ-loop
-write-add-word t c = let P = c.before.before.before.before.before.before.before.requires.1 in let l = r-few _ _ _ c.before.before.before.find.ensures _ _ P.model.marked P.made in omega arith
+write-add-word t c = let P = c.before.before.before.before.before.before.before.requires.1 in let l = r_few _ _ _ c.before.before.before.find.ensures _ _ P.model.marked P.made in omega arith
 
 write-word-requires : (t : ℕ) → write-lts.Need-word-requires (write-calls t) (write-at t) write.Post write-Inv-loop write-μ-loop
 write-word-requires t c κs = search rules
@@ -70,7 +70,7 @@ write-sub-put-type : (t : ℕ) → write-lts.Need-overflow-sub-put-type (write-c
 unfolding word_at
 write-sub-put-type t c = let P = c.before.before.before.before.before.before.before.before.requires.1 in
     let t = sym c.before.before.before.field.ensures.0 ∙ c.before.before.if1.true in
-    let v = r-settled _ _ _ c.before.before.before.before.find.ensures P.n P.L P.model.marked P.made P.resolved t in
+    let v = r_settled _ _ _ c.before.before.before.before.find.ensures P.n P.L P.model.marked P.made P.resolved t in
     let e = c.word.ensures.0 in omega arith
 
 write-put-type-requires : (t : ℕ) → write-lts.Need-put-type-requires (write-calls t) (write-at t) write.Post write-Inv-loop write-μ-loop
@@ -78,12 +78,12 @@ unfolding word_at
 write-put-type-requires t c κs = let s = c.before.before.before.before.before.before.before.before in
     let P = s.requires.1 in
     let t = sym c.before.before.before.field.ensures.0 ∙ c.before.before.if1.true in
-    let v = r-settled _ _ _ c.before.before.before.before.find.ensures P.n P.L P.model.marked P.made P.resolved t in
+    let v = r_settled _ _ _ c.before.before.before.before.find.ensures P.n P.L P.model.marked P.made P.resolved t in
     let e = c.word.ensures.0 in
     let q = P.room in (
       record {
         areas = record { size = P.model.marked.held.size; few = let f = P.few in omega arith };
-        readable = subst (λ z. Readable (heap s.args.a.now s.args.d.now) (z - settledFrom)) (sym e) (m-readable _ _ _ _ c.before.before.before.before.find.ensures P.n P.L P.σ P.model P.made v);
+        readable = subst (λ z. Readable (heap s.args.a.now s.args.d.now) (z - settled_from)) (sym e) (m_readable _ _ _ _ c.before.before.before.before.find.ensures P.n P.L P.σ P.model P.made v);
       },
       omega arith,
     )
@@ -97,13 +97,13 @@ write-returns t c = let s = c.before.before.before.before.before.before.before.b
     let e = c.before.before.before.word.ensures.0 in
     let t = sym c.before.before.before.before.before.before.field.ensures.0 ∙ c.before.before.before.before.before.if1.true in
     λ n L σ M R l.
-    let v = r-settled _ _ _ c.before.before.before.before.before.before.before.find.ensures n L M.marked l R t in
-    let D = m-readable _ _ _ _ c.before.before.before.before.before.before.before.find.ensures n L σ M l v in
-    let Rd = subst (λ z. Reads (heap s.args.a.now s.args.d.now) (z - settledFrom) D.type) (sym e) D.reads in
-    subst (λ g. Wrote s.args.out.now c.before.before.put-type.new.1.1.0 s.args.at c.before.before.put-type.result (words g)) (sym (m-settled _ _ _ _ c.before.before.before.before.before.before.before.find.ensures n L σ M l v D.type D.reads)) (c.before.before.put-type.ensures.is D.type Rd)
+    let v = r_settled _ _ _ c.before.before.before.before.before.before.before.find.ensures n L M.marked l R t in
+    let D = m_readable _ _ _ _ c.before.before.before.before.before.before.before.find.ensures n L σ M l v in
+    let Rd = subst (λ z. Reads (heap s.args.a.now s.args.d.now) (z - settled_from) D.type) (sym e) D.reads in
+    subst (λ g. Wrote s.args.out.now c.before.before.put-type.new.1.1.0 s.args.at c.before.before.put-type.result (words g)) (sym (m_settled _ _ _ _ c.before.before.before.before.before.before.before.find.ensures n L σ M l v D.type D.reads)) (c.before.before.put-type.ensures.is D.type Rd)
 
 write-field-requires-2 : (t : ℕ) → write-lts.Need-field-requires-2 (write-calls t) (write-at t) write.Post write-Inv-loop write-μ-loop
-write-field-requires-2 t c κs = let P = c.before.before.before.before.before.before.requires.1 in let l = r-few _ _ _ c.before.before.find.ensures _ _ P.model.marked P.made in (omega arith, omega arith)
+write-field-requires-2 t c κs = let P = c.before.before.before.before.before.before.requires.1 in let l = r_few _ _ _ c.before.before.find.ensures _ _ P.model.marked P.made in (omega arith, omega arith)
 
 write-put-lead-requires : (t : ℕ) → write-lts.Need-put-lead-requires (write-calls t) (write-at t) write.Post write-Inv-loop write-μ-loop
 write-put-lead-requires t c κs =
@@ -111,8 +111,8 @@ write-put-lead-requires t c κs =
     let Q = c.before.before.before.before.find.ensures in
     let q = P.room in
     record {
-      few = r-few _ _ _ Q _ _ P.model.marked P.made;
-      tags = (r-cell _ _ _ Q _ _ P.model.marked P.made).tags;
+      few = r_few _ _ _ Q _ _ P.model.marked P.made;
+      tags = (r_cell _ _ _ Q _ _ P.model.marked P.made).tags;
       some = ⊎_elim (λ z. absurd (c.before.before.if1.false (c.before.before.before.field.ensures.0 ∙ z))) (λ p. p) (eq-zero-or-pos _);
       room = omega arith;
     }
@@ -139,18 +139,18 @@ write-put-name-requires t c κs =
     let f = c.before.before.before.before.before.before.before.field2.ensures.1 in
     let p : 0 < tag_at (frozen c.before.before.before.before.before.before.before.before.before.before.before.before.before.before.args.a.now) c.before.before.before.before.before.before.before.before.before.before.find.result = ⊎_elim (λ z. absurd (c.before.before.before.before.before.before.before.before.if1.false (c.before.before.before.before.before.before.before.before.before.field.ensures.0 ∙ z))) (λ p. p) (eq-zero-or-pos _) in
     let i = (c.before.before.loop.invariant.2 P.n P.L P.σ P.model P.resolved P.made).1 in
-    let w = m-length _ _ _ _ Q _ _ P.σ P.model P.made p _ e in
+    let w = m_length _ _ _ _ Q _ _ P.σ P.model P.made p _ e in
     let h = c.before.before.before.before.before.put-lead.ensures.end in
     let q = P.room in
     let t = c.before.loop-test.true in
-    (r-few _ _ _ Q _ _ P.model.marked P.made, omega arith, omega arith)
+    (r_few _ _ _ Q _ _ P.model.marked P.made, omega arith, omega arith)
 
 write-part-requires : (t : ℕ) → write-lts.Need-part-requires (write-calls t) (write-at t) write.Post write-Inv-loop write-μ-loop
 write-part-requires t c κs =
     let P = c.before.before.before.before.before.before.before.before.before.before.before.before.before.before.before.before.before.before.requires.1 in
     let f = c.before.before.before.before.before.before.before.before.before.before.before.field2.ensures.1 in
     let t = c.before.before.before.before.before.loop-test.true in
-    let l = r-few _ _ _ c.before.before.before.before.before.before.before.before.before.before.before.before.before.before.find.ensures _ _ P.model.marked P.made in
+    let l = r_few _ _ _ c.before.before.before.before.before.before.before.before.before.before.before.before.before.before.find.ensures _ _ P.model.marked P.made in
     (omega arith, omega arith)
 
 write-write-requires : (t : ℕ) → write-lts.Need-write-requires (write-calls t) (write-at t) write.Post write-Inv-loop write-μ-loop
@@ -164,12 +164,12 @@ write-write-requires t c κs =
     let j = c.before.before.before.before.before.before.before.loop.j in
     let w = frozen s.args.a.now in
     let pe = c.part.ensures.0 in
-    let b = r-part _ _ _ Q _ _ P.model.marked P.made p P.small _ e j tk c.part.result pe in
+    let b = r_part _ _ _ Q _ _ P.model.marked P.made p P.small _ e j tk c.part.result pe in
     let i = (c.before.before.before.before.before.before.before.loop.invariant.2 P.n P.L P.σ P.model P.resolved P.made).1 in
-    let y = m-length _ _ _ _ Q _ _ P.σ P.model P.made p _ e in
+    let y = m_length _ _ _ _ Q _ _ P.σ P.model P.made p _ e in
     let h = c.before.before.before.before.before.before.before.before.before.before.put-lead.ensures.end in
     let g = c.before.before.before.before.put-name.ensures.end in
-    let z = split-length P.σ w c.before.before.before.before.before.before.before.before.before.before.before.before.before.before.before.find.result c.before.before.before.before.before.before.before.before.before.before.before.before.field2.result j tk in
+    let z = split_length P.σ w c.before.before.before.before.before.before.before.before.before.before.before.before.before.before.before.find.result c.before.before.before.before.before.before.before.before.before.before.before.before.field2.result j tk in
     let v = ap (λ u. length (words (P.σ u))) pe in
     let q = P.room in
     let m = s.requires.0 in
@@ -197,9 +197,9 @@ write-loop-again t c =
       omega arith,
       c.before.before.write.auto.1.1.0 ∙ c.before.before.before.before.before.before.before.put-name.auto.1.0 ∙ i.1,
       λ n L σ M R l.
-          let b = r-part _ _ _ Q n L M.marked l p P.small _ e j tk c.before.before.before.part.result pe in
+          let b = r_part _ _ _ Q n L M.marked l p P.small _ e j tk c.before.before.before.part.result pe in
           let D = subst (λ z. Wrote c.before.before.before.before.before.before.before.put-name.new.1.0 c.before.before.write.new.1.1.0 c.before.before.before.before.before.before.before.put-name.result c.before.before.write.result (words (σ z))) pe (c.before.before.write.ensures n L σ M R b.0) in (
-            (i.2 n L σ M R l).0 ∙ step-area σ w c.before.before.before.before.before.before.before.before.before.before.before.before.before.before.before.before.before.before.find.result c.before.before.before.before.before.before.before.before.before.before.before.before.before.before.before.field2.result j tk _ _ _ _ _ _ c.before.before.before.before.before.before.before.put-name.ensures D,
+            (i.2 n L σ M R l).0 ∙ step_area σ w c.before.before.before.before.before.before.before.before.before.before.before.before.before.before.before.before.before.before.find.result c.before.before.before.before.before.before.before.before.before.before.before.before.before.before.before.field2.result j tk _ _ _ _ _ _ c.before.before.before.before.before.before.before.put-name.ensures D,
             (i.2 n L σ M R l).1 ∙ step_end σ w c.before.before.before.before.before.before.before.before.before.before.before.before.before.before.before.before.before.before.find.result c.before.before.before.before.before.before.before.before.before.before.before.before.before.before.before.field2.result j tk _ _ _ _ _ _ c.before.before.before.before.before.before.before.put-name.ensures D,
           ),
     )
@@ -217,14 +217,14 @@ write-returns-2 t c =
     let pl = c.before.before.before.before.put-lead.ensures in
     let p : 0 < tag_at (frozen s.args.a.now) c.before.before.before.before.before.before.before.before.before.find.result = ⊎_elim (λ z. absurd (c.before.before.before.before.before.before.before.if1.false (c.before.before.before.before.before.before.before.before.field.ensures.0 ∙ z))) (λ p. p) (eq-zero-or-pos _) in
     λ n L σ M R l.
-    let u = m-words _ _ _ _ c.before.before.before.before.before.before.before.before.before.find.ensures n L σ M l p _ c.before.before.before.before.before.before.field2.ensures.0 in
-    let y = m-length _ _ _ _ c.before.before.before.before.before.before.before.before.before.find.ensures n L σ M l p _ c.before.before.before.before.before.before.field2.ensures.0 in
+    let u = m_words _ _ _ _ c.before.before.before.before.before.before.before.before.before.find.ensures n L σ M l p _ c.before.before.before.before.before.before.field2.ensures.0 in
+    let y = m_length _ _ _ _ c.before.before.before.before.before.before.before.before.before.find.ensures n L σ M l p _ c.before.before.before.before.before.before.field2.ensures.0 in
     let z = rest_end σ w r k c.before.loop.j c.loop-test.false in
     let f = ap length z in
     let g = (i n L σ M R l).1 in
     let h = pl.end in
     record {
-      area = sym (ap (sets s.args.out.now s.args.at) u ∙ sets-append s.args.out.now s.args.at (leadAt w r) (rest σ w r 0 k)
+      area = sym (ap (sets s.args.out.now s.args.at) u ∙ sets_append s.args.out.now s.args.at (lead_at w r) (rest σ w r 0 k)
           ∙ ap₂ (λ a b. sets a b (rest σ w r 0 k)) (sym pl.area) (sym h) ∙ (i n L σ M R l).0 ∙ ap (sets c.before.loop.out c.before.loop.m) z);
       end = omega arith;
     }

@@ -3,9 +3,9 @@ use mathlib.Core.List.{[], ◌∷◌}
 use Prim.Native.Nat.{ℕ, suc, ◌+◌, ◌-◌, ◌≤◌, ◌<◌}
 use native.Mathlib.Omega.{arith}
 use lib.ListN.{set, get_or}
-use Rattle.types_cells.specs.Store.{frozen, tag_at, arg_at, countAt}
-use Rattle.types_solver.specs.Written.{Wrote, leadAt, name_at}
-use Rattle.types_solver.proofs.Writer.{wrote_one, wrote-two, lead-one, lead-three, lead-five, lead-other}
+use Rattle.types_cells.specs.Store.{frozen, tag_at, arg_at, count_at}
+use Rattle.types_solver.specs.Written.{Wrote, lead_at, name_at}
+use Rattle.types_solver.proofs.Writer.{wrote_one, wrote_two, lead_one, lead_three, lead_five, lead_other}
 use borrow.Author.Rules.{rules}
 use Rattle.types_rules.specs.Former.{int}
 use Rattle.types_rules.specs.Types.{node, tnil}
@@ -36,8 +36,8 @@ returns c =
     let s = c.before.before.before.before.before.before.before.before in
     let w = frozen s.args.a.now in
     let f = c.before.before.before.before.before.field.ensures.0 in
-    subst (λ z. Wrote s.args.out.now z s.args.at (s.args.at + 1) (leadAt w s.args.r)) (sym c.before.before.before.store.ensures)
-    (wrote_one _ _ _ _ (lead-one w s.args.r (sym f ∙ c.if1.true) ∙ ap (λ z. z ∷ []) (sym f)))
+    subst (λ z. Wrote s.args.out.now z s.args.at (s.args.at + 1) (lead_at w s.args.r)) (sym c.before.before.before.store.ensures)
+    (wrote_one _ _ _ _ (lead_one w s.args.r (sym f ∙ c.if1.true) ∙ ap (λ z. z ∷ []) (sym f)))
 
 add-result-2 : tie.Need-overflow-add-result-2
 add-result-2 c = search rules
@@ -50,8 +50,8 @@ returns-2 c =
     let s = c.before.before.before.before.before.before.before.before.before in
     let w = frozen s.args.a.now in
     let f = c.before.before.before.before.before.before.field.ensures.0 in
-    subst (λ z. Wrote s.args.out.now z s.args.at (s.args.at + 1) (leadAt w s.args.r)) (sym c.before.before.before.before.store.ensures)
-    (wrote_one _ _ _ _ (lead-three w s.args.r (sym f ∙ c.if2.true) ∙ ap (λ z. z ∷ []) (sym f)))
+    subst (λ z. Wrote s.args.out.now z s.args.at (s.args.at + 1) (lead_at w s.args.r)) (sym c.before.before.before.before.store.ensures)
+    (wrote_one _ _ _ _ (lead_three w s.args.r (sym f ∙ c.if2.true) ∙ ap (λ z. z ∷ []) (sym f)))
 
 add-store : tie.Need-overflow-add-store
 add-store c = search rules
@@ -77,9 +77,9 @@ returns-3 c =
     let w = frozen s.args.a.now in
     let f = c.before.before.before.before.before.before.before.before.before.before.before.before.field.ensures.0 in
     let g = c.before.before.before.field2.ensures.0 in
-    subst (λ z. Wrote s.args.out.now z s.args.at (s.args.at + 2) (leadAt w s.args.r))
+    subst (λ z. Wrote s.args.out.now z s.args.at (s.args.at + 2) (lead_at w s.args.r))
     (sym (c.before.before.store2.ensures ∙ ap (λ z. set z (s.args.at + 1) c.before.before.before.field2.result) c.before.before.before.before.before.before.before.before.before.before.store.ensures))
-    (wrote-two _ _ _ _ _ (lead-five w s.args.r (sym f ∙ c.before.before.before.before.before.if3.true) ∙ ap₂ (λ u v. u ∷ v ∷ []) (sym f) (sym g)))
+    (wrote_two _ _ _ _ _ (lead_five w s.args.r (sym f ∙ c.before.before.before.before.before.if3.true) ∙ ap₂ (λ u v. u ∷ v ∷ []) (sym f) (sym g)))
 
 add-store-2 : tie.Need-overflow-add-store-2
 add-store-2 c = search rules
@@ -105,9 +105,9 @@ returns-4 c =
     let w = frozen s.args.a.now in
     let f = c.before.before.before.before.before.before.before.before.before.before.before.before.field.ensures.0 in
     let g = c.before.before.before.field3.ensures.0 in
-    subst (λ z. Wrote s.args.out.now z s.args.at (s.args.at + 2) (leadAt w s.args.r))
+    subst (λ z. Wrote s.args.out.now z s.args.at (s.args.at + 2) (lead_at w s.args.r))
     (sym (c.before.before.store3.ensures ∙ ap (λ z. set z (s.args.at + 1) c.before.before.before.field3.result) c.before.before.before.before.before.before.before.before.before.before.store.ensures))
-    (wrote-two _ _ _ _ _ (lead-other w s.args.r s.requires.some s.requires.tags (λ e. c.before.before.before.before.before.before.before.if1.false (f ∙ e)) (λ e. c.before.before.before.before.before.before.if2.false (f ∙ e)) (λ e. c.before.before.before.before.before.if3.false (f ∙ e))
+    (wrote_two _ _ _ _ _ (lead_other w s.args.r s.requires.some s.requires.tags (λ e. c.before.before.before.before.before.before.before.if1.false (f ∙ e)) (λ e. c.before.before.before.before.before.before.if2.false (f ∙ e)) (λ e. c.before.before.before.before.before.if3.false (f ∙ e))
     ∙ ap₂ (λ u v. u ∷ v ∷ []) (sym f) (sym g)))
 
 pub put-lead-spec : {M : Type 1} → statement M

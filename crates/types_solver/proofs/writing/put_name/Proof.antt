@@ -3,9 +3,9 @@ use mathlib.Core.List.{[], ◌∷◌}
 use Prim.Native.Nat.{ℕ, suc, ◌+◌, ◌-◌, ◌≤◌, ◌<◌}
 use native.Mathlib.Omega.{arith}
 use lib.ListN.{set, get_or}
-use Rattle.types_cells.specs.Store.{frozen, tag_at, arg_at, countAt}
-use Rattle.types_solver.specs.Written.{Wrote, leadAt, name_at}
-use Rattle.types_solver.proofs.Writer.{wrote_one, wrote_none, name-five, name-none}
+use Rattle.types_cells.specs.Store.{frozen, tag_at, arg_at, count_at}
+use Rattle.types_solver.specs.Written.{Wrote, lead_at, name_at}
+use Rattle.types_solver.proofs.Writer.{wrote_one, wrote_none, name_five, name_none}
 use borrow.Author.Rules.{rules}
 use Rattle.types_rules.specs.Former.{int}
 use Rattle.types_rules.specs.Types.{node, tnil}
@@ -48,12 +48,12 @@ returns c =
     let f = c.before.before.before.before.before.before.before.field.ensures.0 in
     let e = c.before.before.before.held.ensures.0 ∙ ap (λ z. get_or w (z + s.args.j) 0) c.before.before.before.before.field2.ensures.0 in
     subst (λ z. Wrote s.args.out.now z s.args.at (s.args.at + 1) (name_at w s.args.r s.args.j)) (sym c.before.before.store.ensures)
-    (wrote_one _ _ _ _ (name-five (λ i. node int tnil) w s.args.r s.args.j (sym f ∙ c.before.before.before.before.before.before.if1.true) ∙ ap (λ z. z ∷ []) (sym e)))
+    (wrote_one _ _ _ _ (name_five (λ i. node int tnil) w s.args.r s.args.j (sym f ∙ c.before.before.before.before.before.before.if1.true) ∙ ap (λ z. z ∷ []) (sym e)))
 
 returns-2 : tie.Need-returns-2
 returns-2 c =
     let s = c.before.before.before.before in
-    wrote_none _ _ _ (name-none (λ i. node int tnil) (frozen s.args.a.now) s.args.r s.args.j (λ e. c.if1.false (c.before.field.ensures.0 ∙ e)))
+    wrote_none _ _ _ (name_none (λ i. node int tnil) (frozen s.args.a.now) s.args.r s.args.j (λ e. c.if1.false (c.before.field.ensures.0 ∙ e)))
 
 pub put-name-spec : {M : Type 1} → statement M
 put-name-spec =

@@ -6,8 +6,8 @@ use lib.Seq.{sets}
 use Rattle.types_rules.specs.Types.{Ty}
 use Rattle.types_rules.specs.Words.{words}
 use Rattle.types_cells.specs.Settled.{heap, Reads}
-use Rattle.types_cells.proofs.Reading.{place-few, word_in}
-use Rattle.types_solver.proofs.Summing.{copy_step, copy-end}
+use Rattle.types_cells.proofs.Reading.{place_few, word_in}
+use Rattle.types_solver.proofs.Summing.{copy_step, copy_end}
 use borrow.Author.Rules.{rules}
 use Rattle.types_solver.proofs.writing.put_type.Statement.{statement}
 use Rattle.types_solver.proofs.writing.put_type.Tie as tie
@@ -42,7 +42,7 @@ add-store c =
     let s = c.before.before.before.before.before.before.before in
     let P = s.requires.0 in
     let e = c.before.before.before.skip.ensures.is P.readable.type P.readable.reads in
-    let f = place-few _ _ _ _ P.areas P.readable.reads in
+    let f = place_few _ _ _ _ P.areas P.readable.reads in
     let l = c.before.loop-test.true in
     let b = s.requires.1 in omega arith
 
@@ -51,7 +51,7 @@ add-type-word c =
     let s = c.before.before.before.before.before.before.before in
     let P = s.requires.0 in
     let e = c.before.before.before.skip.ensures.is P.readable.type P.readable.reads in
-    let f = place-few _ _ _ _ P.areas P.readable.reads in
+    let f = place_few _ _ _ _ P.areas P.readable.reads in
     let l = c.before.loop-test.true in omega arith
 
 type-word-requires : tie.Need-type-word-requires invariant-loop decreases-loop
@@ -68,7 +68,7 @@ add-j c =
     let s = c.before.before.before.before.before.before.before.before.before.before.before in
     let P = s.requires.0 in
     let e = c.before.before.before.before.before.before.before.skip.ensures.is P.readable.type P.readable.reads in
-    let f = place-few _ _ _ _ P.areas P.readable.reads in
+    let f = place_few _ _ _ _ P.areas P.readable.reads in
     let l = c.before.before.before.before.before.loop-test.true in omega arith
 
 loop-less : tie.Need-loop-smaller invariant-loop decreases-loop
@@ -94,7 +94,7 @@ add-result c =
     let s = c.before.before.before.before.before.before in
     let P = s.requires.0 in
     let e = c.before.before.skip.ensures.is P.readable.type P.readable.reads in
-    let f = place-few _ _ _ _ P.areas P.readable.reads in
+    let f = place_few _ _ _ _ P.areas P.readable.reads in
     let b = s.requires.1 in omega arith
 
 same_length : tie.Need-same-length invariant-loop decreases-loop
@@ -107,7 +107,7 @@ returns c =
           let e = c.before.before.skip.ensures.is g R in
           let l = c.loop-test.false in
           record {
-            area = sym (c.before.loop.invariant.2 g R ∙ copy-end c.before.loop.out (c.before.before.before.before.before.before.args.at + c.before.loop.j) c.before.loop.j (words g) (omega arith));
+            area = sym (c.before.loop.invariant.2 g R ∙ copy_end c.before.loop.out (c.before.before.before.before.before.before.args.at + c.before.loop.j) c.before.loop.j (words g) (omega arith));
             end = omega arith;
           };
     }

@@ -4,15 +4,15 @@ use mathlib.Core.Bool.{true, false}
 use native.Mathlib.Omega.{arith}
 use Prim.Native.Nat.{ℕ, suc, ◌+◌, ◌-◌, ◌<◌}
 use lib.ListN.{length, get_or}
-use Rattle.types_cells.specs.Store.{frozen, tag_at, first_at, countAt, Held}
+use Rattle.types_cells.specs.Store.{frozen, tag_at, first_at, count_at, Held}
 use Rattle.types_cells.specs.Calls.{Known, Root}
 use Rattle.types_cells.specs.Settled.{heap, Reads, Readable, Reading, Ends, Pinning, Pin, Settling}
 use Rattle.types_unifier.specs.Meeting.{Meeting, SameFormer}
-use Rattle.types_cells.proofs.LinkLaws.{known-root, few-cell}
+use Rattle.types_cells.proofs.LinkLaws.{known_root, few_cell}
 use Rattle.types_unifier.proofs.Turns.{pos}
-use Rattle.types_cells.proofs.Reading.{heap-length, place-low}
-use Rattle.types_cells.proofs.SettlingLaws.{heap-kept, kept-held}
-use Rattle.types_unifier.proofs.Walking.{Loop, pin-root, pin-unlike, pin-done, pin-failed, pin-next, pin-ahead, pin-start, part-below, root_below, pin-as, reads_as}
+use Rattle.types_cells.proofs.Reading.{heap_length, place_low}
+use Rattle.types_cells.proofs.SettlingLaws.{heap_kept, kept_held}
+use Rattle.types_unifier.proofs.Walking.{Loop, pin_root, pin_unlike, pin_done, pin_failed, pin_next, pin_ahead, pin_start, part_below, root_below, pin_as, reads_as}
 use borrow.Fn.Kinds.{In}
 use borrow.Fn.PlainCycle.{Measures, is, falls, and}
 use Rattle.types_unifier.proofs.settling.pin.Reads as pin
@@ -59,7 +59,7 @@ pin-field-requires t c κs =
     let s = c.before.before.before.before.before in
     let P = s.requires.1 in
     let K : Known s.args.a.now s.args.c = record { n = P.n; L = P.L; held = P.held; made = P.made } in
-    let l = few-cell _ _ (known-root _ _ _ K c.before.find.ensures) in (omega arith, omega arith)
+    let l = few_cell _ _ (known_root _ _ _ K c.before.find.ensures) in (omega arith, omega arith)
 
 pin-settle-requires : (t : ℕ) → pin-lts.Need-settle-requires (pin-calls t) (pin_at t) pin.Post pin-Inv-loop pin-μ-loop
 pin-settle-requires t c κs =
@@ -69,7 +69,7 @@ pin-settle-requires t c κs =
     let rb = root_below _ _ _ P.n P.L c.before.before.before.before.find.ensures P.held P.made in
     record {
       pinning = record { n = P.n; L = P.L; held = P.held; pinned = P.pinned; made = rb; few = P.few; readable = P.readable };
-      open-cell = sym c.before.before.field.ensures.0 ∙ c.before.if1.true;
+      open_cell = sym c.before.before.field.ensures.0 ∙ c.before.if1.true;
       root = c.before.before.before.before.find.ensures.free;
     }
 
@@ -77,18 +77,18 @@ pin-same-length : (t : ℕ) → pin-lts.Need-same-length (pin-calls t) (pin_at t
 pin-same-length t c = search rules
 
 pin-returns : (t : ℕ) → pin-lts.Need-returns (pin-calls t) (pin_at t) pin.Post pin-Inv-loop pin-μ-loop
-pin-returns t c = pin-root _ _ _ _ _ _ _ c.before.before.before.before.before.before.before.find.ensures c.before.before.settle.ensures
+pin-returns t c = pin_root _ _ _ _ _ _ _ c.before.before.before.before.before.before.before.find.ensures c.before.before.settle.ensures
 
 pin-same-former-requires : (t : ℕ) → pin-lts.Need-same-former-requires (pin-calls t) (pin_at t) pin.Post pin-Inv-loop pin-μ-loop
 pin-same-former-requires t c κs =
     let s = c.before.before.before.before.before.before.before.before in
     let P = s.requires.1 in
     let K : Known s.args.a.now s.args.c = record { n = P.n; L = P.L; held = P.held; made = P.made } in
-    let R = known-root _ _ _ K c.before.before.before.before.find.ensures in
+    let R = known_root _ _ _ K c.before.before.before.before.find.ensures in
     let rb = root_below _ _ _ P.n P.L c.before.before.before.before.find.ensures P.held P.made in
     let M : Meeting s.args.a.now s.args.d.now c.before.before.before.before.find.result s.args.p = record {
       areas = record { size = P.held.size; few = let f = P.few in omega arith };
-      few = few-cell _ _ R;
+      few = few_cell _ _ R;
       cell = P.held.cells _ rb;
       shaped = pos c.before.before.field.ensures.0 c.before.if1.false;
       readable = P.readable;
@@ -100,7 +100,7 @@ pin-field-requires-2 t c κs =
     let s = c.before.before.before.before.before.before.before.before.before.before.before in
     let P = s.requires.1 in
     let K : Known s.args.a.now s.args.c = record { n = P.n; L = P.L; held = P.held; made = P.made } in
-    let l = few-cell _ _ (known-root _ _ _ K c.before.before.before.before.before.before.before.find.ensures) in (omega arith, omega arith)
+    let l = few_cell _ _ (known_root _ _ _ K c.before.before.before.before.before.before.before.find.ensures) in (omega arith, omega arith)
 
 pin-name-words-requires : (t : ℕ) → pin-lts.Need-name-words-requires (pin-calls t) (pin_at t) pin.Post pin-Inv-loop pin-μ-loop
 pin-name-words-requires t c κs = search rules
@@ -112,8 +112,8 @@ pin-add-at : (t : ℕ) → pin-lts.Need-overflow-add-at (pin-calls t) (pin_at t)
 pin-add-at t c =
     let s = c.before.before.before.before.before.before.before.before.before.before.before.before.before.before in
     let P = s.requires.1 in
-    let l = place-low _ _ _ P.readable.reads in
-    let h = heap-length s.args.a.now s.args.d.now P.held.size in
+    let l = place_low _ _ _ P.readable.reads in
+    let h = heap_length s.args.a.now s.args.d.now P.held.size in
     let f = P.few in
     let z = c.lead-words.ensures.1 in omega arith
 
@@ -122,16 +122,16 @@ pin-loop-holds t c =
     let s = c.before.before.before.before.before.before.before.before.before.before.before.before.before.before in
     let P = s.requires.1 in
     let K : Known s.args.a.now s.args.c = record { n = P.n; L = P.L; held = P.held; made = P.made } in
-    let R = known-root _ _ _ K c.before.before.before.before.before.before.before.before.before.before.find.ensures in
+    let R = known_root _ _ _ K c.before.before.before.before.before.before.before.before.before.before.find.ensures in
     let rb = root_below _ _ _ P.n P.L c.before.before.before.before.before.before.before.before.before.before.find.ensures P.held P.made in
     let M : Meeting s.args.a.now s.args.d.now c.before.before.before.before.before.before.before.before.before.before.find.result s.args.p = record {
       areas = record { size = P.held.size; few = let f = P.few in omega arith };
-      few = few-cell _ _ R;
+      few = few_cell _ _ R;
       cell = P.held.cells _ rb;
       shaped = pos c.before.before.before.before.before.before.before.before.field.ensures.0 c.before.before.before.before.before.before.before.if1.false;
       readable = P.readable;
     } in
-    pin-start _ _ _ _ _ _ c.before.before.before.before.before.before.before.before.before.before.find.ensures c.before.before.field2.ensures.0 M.shaped
+    pin_start _ _ _ _ _ _ c.before.before.before.before.before.before.before.before.before.before.find.ensures c.before.before.field2.ensures.0 M.shaped
     (subst (λ z. SameFormer s.args.a.now s.args.d.now c.before.before.before.before.before.before.before.before.before.before.find.result s.args.p z) c.before.before.before.before.if2.true c.before.before.before.before.before.same-former.ensures) M _ _ _ c.before.before.before.before.before.before.before.before.field.ensures.0 c.before.name-words.ensures.0
     (ap (λ y. s.args.p + y) c.lead-words.ensures.0) (let y = c.lead-words.ensures.2 in let x = c.lead-words.ensures.0 in omega arith)
 
@@ -144,9 +144,9 @@ pin-add-q t c =
     let tx = pos c.before.before.before.before.before.before.before.before.before.before.field.ensures.0 c.before.before.before.before.before.before.before.before.before.if1.false in
     let X = subst (λ z. SameFormer s.args.a.now s.args.d.now c.before.before.before.before.before.before.before.before.before.before.before.before.find.result s.args.p z) c.before.before.before.before.before.before.if2.true c.before.before.before.before.before.before.before.same-former.ensures in
     let I = c.before.loop.invariant in
-    let h = heap-length s.args.a.now s.args.d.now P.held.size in
+    let h = heap_length s.args.a.now s.args.d.now P.held.size in
     let f = P.few in
-    let A = pin-ahead _ _ _ _ _ _ Q ek tx _ _ _ _ I X c.loop-test.true P in
+    let A = pin_ahead _ _ _ _ _ _ Q ek tx _ _ _ _ I X c.loop-test.true P in
     let y = A.low in omega arith
 
 pin-part-requires : (t : ℕ) → pin-lts.Need-part-requires (pin-calls t) (pin_at t) pin.Post pin-Inv-loop pin-μ-loop
@@ -159,7 +159,7 @@ pin-part-requires t c κs =
     let X = subst (λ z. SameFormer s.args.a.now s.args.d.now c.before.before.before.before.before.before.before.before.before.before.before.before.before.before.find.result s.args.p z) c.before.before.before.before.before.before.before.before.if2.true c.before.before.before.before.before.before.before.before.before.same-former.ensures in
     let I = c.before.before.before.loop.invariant in
     let K : Known s.args.a.now s.args.c = record { n = P.n; L = P.L; held = P.held; made = P.made } in
-    let l = few-cell _ _ (known-root _ _ _ K Q) in
+    let l = few_cell _ _ (known_root _ _ _ K Q) in
     let g = c.before.before.before.before.before.before.field2.ensures.1 in
     let q = c.before.before.loop-test.true in
     (omega arith, omega arith)
@@ -173,22 +173,22 @@ pin-pin-requires t c κs =
     let tx = pos c.before.before.before.before.before.before.before.before.before.before.before.before.before.field.ensures.0 c.before.before.before.before.before.before.before.before.before.before.before.before.if1.false in
     let X = subst (λ z. SameFormer s.args.a.now s.args.d.now c.before.before.before.before.before.before.before.before.before.before.before.before.before.before.before.find.result s.args.p z) c.before.before.before.before.before.before.before.before.before.if2.true c.before.before.before.before.before.before.before.before.before.before.same-former.ensures in
     let I = c.before.before.before.before.loop.invariant in
-    let h = heap-length s.args.a.now s.args.d.now P.held.size in
+    let h = heap_length s.args.a.now s.args.d.now P.held.size in
     let f = P.few in
     let lt = c.before.before.before.loop-test.true in
-    let A = pin-ahead _ _ _ _ _ _ Q ek tx _ _ _ _ I X lt P in
+    let A = pin_ahead _ _ _ _ _ _ Q ek tx _ _ _ _ I X lt P in
     let y = A.low in
     let o = I.later in
     let m = s.requires.0 in
-    let hk = heap-kept s.args.a.now c.before.before.before.before.loop.a s.args.d.now I.kept.low in
+    let hk = heap_kept s.args.a.now c.before.before.before.before.loop.a s.args.d.now I.kept.low in
     let hl = ap length hk in
-    let pb = part-below _ s.args.d.now _ _ _ s.args.p Q ek tx P.n P.L P.held P.made c.before.before.before.before.loop.j lt in
+    let pb = part_below _ s.args.d.now _ _ _ s.args.p Q ek tx P.n P.L P.held P.made c.before.before.before.before.loop.j lt in
     let pe = c.part.ensures.0 ∙ ap (λ z. get_or z (first_at z c.before.before.before.before.before.before.before.before.before.before.before.before.before.before.before.find.result + c.before.before.before.before.loop.j) 0) I.kept.still in (
       omega arith,
       record {
         n = P.n;
         L = P.L;
-        held = kept-held _ _ I.kept P.n P.L P.held;
+        held = kept_held _ _ I.kept P.n P.L P.held;
         pinned = (I.walk P.n P.L P.held P.pinned P.made).0;
         made = omega arith;
         few = f;
@@ -206,9 +206,9 @@ pin-skip-requires t c κs =
     let X = subst (λ z. SameFormer s.args.a.now s.args.d.now c.before.before.before.before.before.before.before.before.before.before.before.before.before.before.before.before.before.before.before.before.find.result s.args.p z) c.before.before.before.before.before.before.before.before.before.before.before.before.before.before.if2.true c.before.before.before.before.before.before.before.before.before.before.before.before.before.before.before.same-former.ensures in
     let I = c.before.before.before.before.before.before.before.before.before.loop.invariant in
     let lt = c.before.before.before.before.before.before.before.before.loop-test.true in
-    let A = pin-ahead _ _ _ _ _ _ Q ek tx _ _ _ _ I X lt P in
+    let A = pin_ahead _ _ _ _ _ _ Q ek tx _ _ _ _ I X lt P in
     let Y = c.before.before.before.before.pin.ensures in
-    let hk = heap-kept _ _ s.args.d.now Y.kept.low ∙ heap-kept s.args.a.now c.before.before.before.before.before.before.before.before.before.loop.a s.args.d.now I.kept.low in
+    let hk = heap_kept _ _ s.args.d.now Y.kept.low ∙ heap_kept s.args.a.now c.before.before.before.before.before.before.before.before.before.loop.a s.args.d.now I.kept.low in
     record { areas = record { size = Y.kept.size ∙ I.kept.size ∙ P.held.size; few = let f = P.few in omega arith }; readable = record { type = A.part; reads = reads_as _ _ _ A.part hk A.reads } }
 
 pin-add-j : (t : ℕ) → pin-lts.Need-overflow-add-j (pin-calls t) (pin_at t) pin.Post pin-Inv-loop pin-μ-loop
@@ -230,13 +230,13 @@ pin-loop-again t c =
     let X = subst (λ z. SameFormer s.args.a.now s.args.d.now c.before.before.before.before.before.before.before.before.before.before.before.before.before.before.before.before.before.before.before.before.before.find.result s.args.p z) c.before.before.before.before.before.before.before.before.before.before.before.before.before.before.before.if2.true c.before.before.before.before.before.before.before.before.before.before.before.before.before.before.before.before.same-former.ensures in
     let I = c.before.before.before.before.before.before.before.before.before.before.loop.invariant in
     let lt = c.before.before.before.before.before.before.before.before.before.loop-test.true in
-    let A = pin-ahead _ _ _ _ _ _ Q ek tx _ _ _ _ I X lt P in
+    let A = pin_ahead _ _ _ _ _ _ Q ek tx _ _ _ _ I X lt P in
     let Y = c.before.before.before.before.before.pin.ensures in
-    let hk = heap-kept _ _ s.args.d.now Y.kept.low ∙ heap-kept s.args.a.now c.before.before.before.before.before.before.before.before.before.before.loop.a s.args.d.now I.kept.low in
+    let hk = heap_kept _ _ s.args.d.now Y.kept.low ∙ heap_kept s.args.a.now c.before.before.before.before.before.before.before.before.before.before.loop.a s.args.d.now I.kept.low in
     let ee = c.skip.ensures.is A.part (reads_as _ _ _ A.part hk A.reads) in
     let o = I.later in
     let pe = c.before.before.before.before.before.before.part.ensures.0 ∙ ap (λ z. get_or z (first_at z c.before.before.before.before.before.before.before.before.before.before.before.before.before.before.before.before.before.before.before.before.before.find.result + c.before.before.before.before.before.before.before.before.before.before.loop.j) 0) I.kept.still in
-    pin-next _ _ _ _ _ _ Q ek tx _ _ _ _ I X lt _ _ (pin-as _ _ _ _ _ _ _ true Y pe c.before.before.if3.true) c.skip.ensures (omega arith)
+    pin_next _ _ _ _ _ _ Q ek tx _ _ _ _ I X lt _ _ (pin_as _ _ _ _ _ _ _ true Y pe c.before.before.if3.true) c.skip.ensures (omega arith)
 
 pin-same-length-2 : (t : ℕ) → pin-lts.Need-same-length-2 (pin-calls t) (pin_at t) pin.Post pin-Inv-loop pin-μ-loop
 pin-same-length-2 t c = c.before.before.before.pin.ensures.kept.size ∙ c.before.before.before.before.before.before.before.before.loop.invariant.kept.size
@@ -253,7 +253,7 @@ pin-returns-2 t c =
     let lt = c.before.before.before.before.before.before.before.loop-test.true in
     let Y = c.before.before.before.pin.ensures in
     let pe = c.before.before.before.before.part.ensures.0 ∙ ap (λ z. get_or z (first_at z c.before.before.before.before.before.before.before.before.before.before.before.before.before.before.before.before.before.before.before.find.result + c.before.before.before.before.before.before.before.before.loop.j) 0) I.kept.still in
-    pin-failed _ _ _ _ _ _ Q ek tx _ _ _ _ I X lt _ (pin-as _ _ _ _ _ _ _ false Y pe c.if3.false)
+    pin_failed _ _ _ _ _ _ Q ek tx _ _ _ _ I X lt _ (pin_as _ _ _ _ _ _ _ false Y pe c.if3.false)
 
 pin-same-length-3 : (t : ℕ) → pin-lts.Need-same-length-3 (pin-calls t) (pin_at t) pin.Post pin-Inv-loop pin-μ-loop
 pin-same-length-3 t c = c.before.loop.invariant.kept.size
@@ -267,7 +267,7 @@ pin-returns-3 t c =
     let tx = pos c.before.before.before.before.before.before.before.before.before.before.field.ensures.0 c.before.before.before.before.before.before.before.before.before.if1.false in
     let X = subst (λ z. SameFormer s.args.a.now s.args.d.now c.before.before.before.before.before.before.before.before.before.before.before.before.find.result s.args.p z) c.before.before.before.before.before.before.if2.true c.before.before.before.before.before.before.before.same-former.ensures in
     let I = c.before.loop.invariant in
-    pin-done _ _ _ _ _ _ Q ek tx _ _ _ _ I X c.loop-test.false
+    pin_done _ _ _ _ _ _ Q ek tx _ _ _ _ I X c.loop-test.false
 
 pin-same-length-4 : (t : ℕ) → pin-lts.Need-same-length-4 (pin-calls t) (pin_at t) pin.Post pin-Inv-loop pin-μ-loop
 pin-same-length-4 t c = search rules
@@ -275,7 +275,7 @@ pin-same-length-4 t c = search rules
 pin-returns-4 : (t : ℕ) → pin-lts.Need-returns-4 (pin-calls t) (pin_at t) pin.Post pin-Inv-loop pin-μ-loop
 pin-returns-4 t c =
     let s = c.before.before.before.before.before.before.before.before.before.before in
-    pin-unlike _ _ _ _ _ _ c.before.before.before.before.before.before.find.ensures refl (pos c.before.before.before.before.field.ensures.0 c.before.before.before.if1.false)
+    pin_unlike _ _ _ _ _ _ c.before.before.before.before.before.before.find.ensures refl (pos c.before.before.before.before.field.ensures.0 c.before.before.before.if1.false)
     (subst (λ z. SameFormer s.args.a.now s.args.d.now c.before.before.before.before.before.before.find.result s.args.p z) c.if2.false c.before.same-former.ensures)
 
 pub +pin-spec : {M : Type 1} → statement M

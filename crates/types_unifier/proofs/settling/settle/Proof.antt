@@ -3,10 +3,10 @@ use mathlib.Core.Path.{◌≡◌, refl, sym, ap, subst, ◌∙◌}
 use native.Mathlib.Omega.{arith}
 use Prim.Native.Nat.{◌+◌, ◌-◌, ◌≤◌}
 use lib.ListN.{set}
-use Rattle.types_cells.specs.Layout.{settledFrom}
+use Rattle.types_cells.specs.Layout.{settled_from}
 use Rattle.types_cells.specs.Settled.{word_at, heap, Readable, Pin, SameType}
 use Rattle.types_cells.proofs.SettlingLaws.{settled, compared}
-use Rattle.types_cells.proofs.Reading.{place-low, heap-length}
+use Rattle.types_cells.proofs.Reading.{place_low, heap_length}
 use Rattle.types_unifier.proofs.settling.settle.Statement.{statement}
 use Rattle.types_unifier.proofs.settling.settle.Tie as tie
 use Rattle.types_unifier.proofs.settling.settle.Reads as reads
@@ -27,15 +27,15 @@ add-store c = let f = c.before.before.before.before.before.before.requires.pinni
 add-store-2 : tie.Need-overflow-add-store-2
 add-store-2 c =
     let P = c.before.before.before.before.before.before.requires.pinning in
-    let l = place-low _ _ _ P.readable.reads in
-    let h = heap-length c.before.before.before.before.before.before.args.a.now c.before.before.before.before.before.before.args.d.now P.held.size in
+    let l = place_low _ _ _ P.readable.reads in
+    let h = heap_length c.before.before.before.before.before.before.args.a.now c.before.before.before.before.before.before.args.d.now P.held.size in
     let f = P.few in omega arith
 
 cast-store : tie.Need-overflow-cast-store
 cast-store c =
     let P = c.before.before.before.before.before.before.requires.pinning in
-    let l = place-low _ _ _ P.readable.reads in
-    let h = heap-length c.before.before.before.before.before.before.args.a.now c.before.before.before.before.before.before.args.d.now P.held.size in
+    let l = place_low _ _ _ P.readable.reads in
+    let h = heap_length c.before.before.before.before.before.before.args.a.now c.before.before.before.before.before.before.args.d.now P.held.size in
     let f = P.few in omega arith
 
 store-requires : tie.Need-store-requires
@@ -61,7 +61,7 @@ same-type-requires c κs =
     record {
       areas = record { size = P.held.size; few = let f = P.few in omega arith };
       left = P.readable;
-      right = subst (λ z. Readable (heap c.before.before.before.before.before.before.args.a.now c.before.before.before.before.before.before.args.d.now) (z - settledFrom)) (sym e) (P.pinned.reads _ P.made (omega arith));
+      right = subst (λ z. Readable (heap c.before.before.before.before.before.before.args.a.now c.before.before.before.before.before.before.args.d.now) (z - settled_from)) (sym e) (P.pinned.reads _ P.made (omega arith));
     }
 
 same-length-2 : tie.Need-same-length-2
@@ -73,7 +73,7 @@ returns-2 c =
     let s = c.before.before.before.before.before.before.before in
     let e = c.before.before.before.word.ensures.0 in
     let l = c.before.before.if1.false in
-    compared _ _ _ _ s.requires _ (omega arith) (subst (λ z. SameType s.args.a.now s.args.d.now s.args.p (z - settledFrom) c.same-type.result) e c.same-type.ensures)
+    compared _ _ _ _ s.requires _ (omega arith) (subst (λ z. SameType s.args.a.now s.args.d.now s.args.p (z - settled_from) c.same_type_lem.result) e c.same_type_lem.ensures)
 
 pub settle-spec : {M : Type 1} → statement M
 settle-spec =

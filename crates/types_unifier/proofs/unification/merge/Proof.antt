@@ -1,7 +1,7 @@
 use borrow.Author.Rules.{rules}
 use mathlib.Core.Path.{◌≡◌, refl, sym, ap, subst, ◌∙◌}
 use native.Mathlib.Omega.{arith}
-use Rattle.types_unifier.proofs.Turns.{merged, merge-open}
+use Rattle.types_unifier.proofs.Turns.{merged, merge_open}
 use Rattle.types_unifier.proofs.unification.merge.Statement.{statement}
 use Rattle.types_unifier.proofs.unification.merge.Tie as tie
 use Rattle.types_unifier.proofs.unification.merge.Reads as reads
@@ -13,7 +13,7 @@ push-requires : tie.Need-push-requires
 push-requires c κs = let p = c.before.before.before.requires in let f = p.solved.held.few in let l = p.left in let r = p.right in omega arith
 
 drain-requires : tie.Need-drain-requires
-drain-requires c κs = merge-open _ _ _ _ _ c.before.before.before.push.ensures c.before.before.before.before.before.before.before.requires
+drain-requires c κs = merge_open _ _ _ _ _ c.before.before.before.push.ensures c.before.before.before.before.before.before.before.requires
 
 same_length : tie.Need-same-length
 same_length c = search rules

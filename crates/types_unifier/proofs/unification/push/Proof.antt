@@ -7,7 +7,7 @@ use Rattle.types_unifier.proofs.unification.push.Tie as tie
 use Rattle.types_unifier.proofs.unification.push.Reads as reads
 use Rattle.types_unifier.proofs.unification.push.Lts as lts
 use Rattle.words.proofs.store.Reads as store-reads
-use Rattle.types_cells.specs.Layout.{secondsAt}
+use Rattle.types_cells.specs.Layout.{seconds_at}
 
 mul-store : tie.Need-overflow-mul-store
 mul-store c = search rules
@@ -37,7 +37,7 @@ same_length : tie.Need-same-length
 same_length c = search rules
 
 returns : tie.Need-returns
-returns c = c.before.before.store2.ensures ∙ ap (λ z. set z (secondsAt + 2 * c.before.before.before.before.before.before.before.before.before.args.k) c.before.before.before.before.before.before.before.before.before.args.q) c.before.before.before.before.before.before.store.ensures
+returns c = c.before.before.store2.ensures ∙ ap (λ z. set z (seconds_at + 2 * c.before.before.before.before.before.before.before.before.before.args.k) c.before.before.before.before.before.before.before.before.before.args.q) c.before.before.before.before.before.before.store.ensures
 
 pub push_spec : {M : Type 1} → statement M
 push_spec =

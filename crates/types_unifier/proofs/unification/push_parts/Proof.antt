@@ -2,13 +2,13 @@ use mathlib.Core.Path.{◌≡◌, refl, sym, ap, ap₂, subst, ◌∙◌}
 use Prim.Native.Nat.{ℕ, suc, ◌+◌, ◌-◌, ◌≤◌, ◌<◌}
 use native.Mathlib.Omega.{arith}
 use lib.ListN.{length, get_or, length-set}
-use Rattle.types_cells.specs.Layout.{maxPending, pairsAt, areaSize}
-use Rattle.types_cells.specs.Store.{frozen, first_at, countAt, parts_at, run, pending}
+use Rattle.types_cells.specs.Layout.{max_pending, pairs_at, area_size}
+use Rattle.types_cells.specs.Store.{frozen, first_at, count_at, parts_at, run, pending}
 use mathlib.Core.Option.{some}
-use Rattle.types_cells.proofs.Words.{frozen-length}
-use Rattle.types_unifier.proofs.PendingLaws.{left, left-start, left_end, left_step, push-frozen, push-front, pushed}
+use Rattle.types_cells.proofs.Words.{frozen_length}
+use Rattle.types_unifier.proofs.PendingLaws.{left, left_start, left_end, left_step, push_frozen, push_front, pushed}
 use borrow.Author.Rules.{rules}
-use Rattle.types_rules.specs.Classes.{zipN}
+use Rattle.types_rules.specs.Classes.{zip_n}
 use Rattle.types_unifier.proofs.unification.push_parts.Statement.{statement}
 use Rattle.types_unifier.proofs.unification.push_parts.Tie as tie
 use Rattle.types_unifier.proofs.unification.push_parts.Reads as reads
@@ -19,7 +19,7 @@ use Rattle.types_unifier.proofs.unification.push.Reads as push-reads
 
 abbrev invariant-loop : tie.invariant-loop
 invariant-loop a₀ k x y m j₀ a j =
-    (j ≤ m) × (length a ≡ length a₀) × (frozen a ≡ frozen a₀) × ((i : ℕ) → i < pairsAt → get_or a i 0 ≡ get_or a₀ i 0)
+    (j ≤ m) × (length a ≡ length a₀) × (frozen a ≡ frozen a₀) × ((i : ℕ) → i < pairs_at → get_or a i 0 ≡ get_or a₀ i 0)
     × (left (frozen a₀) (first_at (frozen a₀) x) (first_at (frozen a₀) y) m a k j ≡ left (frozen a₀) (first_at (frozen a₀) x) (first_at (frozen a₀) y) m a₀ k 0)
 
 abbrev decreases-loop : tie.decreases-loop
@@ -61,15 +61,15 @@ loop-again c =
     let me = c.before.before.before.before.before.before.before.before.before.before.field.ensures.0 in
     let jm = c.before.before.before.before.before.before.before.before.loop-test.true in
     let p = s.requires in
-    let size : length a ≡ areaSize = i.1 ∙ p.size in
-    let lk : k + j < maxPending = omega arith in
+    let size : length a ≡ area_size = i.1 ∙ p.size in
+    let lk : k + j < max_pending = omega arith in
     let ep : c.before.before.before.before.before.before.part.result ≡ get_or w (first_at w s.args.x + j) 0 = c.before.before.before.before.before.before.part.ensures.0 ∙ ap (λ z. get_or z (first_at z s.args.x + j) 0) i.2 in
     let eq : c.before.before.before.before.part2.result ≡ get_or w (first_at w s.args.y + j) 0 = c.before.before.before.before.part2.ensures.0 ∙ ap (λ z. get_or z (first_at z s.args.y + j) 0) i.2 in
     let e = c.before.before.push.ensures ∙ ap₂ (λ u v. pushed a (k + j) u v) ep eq in (
       omega arith,
       ap length e ∙ (simp length-set) ∙ i.1,
-      ap frozen e ∙ push-frozen a (k + j) _ _ size lk ∙ i.2,
-      λ t l. ap (λ z. get_or z t 0) e ∙ push-front a (k + j) _ _ size lk t l ∙ i.3 t l,
+      ap frozen e ∙ push_frozen a (k + j) _ _ size lk ∙ i.2,
+      λ t l. ap (λ z. get_or z t 0) e ∙ push_front a (k + j) _ _ size lk t l ∙ i.3 t l,
       ap (λ z. left w (first_at w s.args.x) (first_at w s.args.y) m z k (j + 1)) e
           ∙ left_step w (first_at w s.args.x) (first_at w s.args.y) m a k j size lk jm (omega (arith, p.two.left.room)) (omega (arith, p.two.right.room, p.same)) ∙ i.4,
     )
@@ -95,8 +95,8 @@ returns c =
       count = ap (λ z. k + z) me;
       still = i.2;
       front = i.3;
-      pairs = ap₂ (λ u v. zipN (run w (first_at w x) u) (run w (first_at w y) v) (pending s.args.a.now k)) (sym me) (sym (me ∙ s.requires.same))
-          ∙ sym (left-start w (first_at w x) (first_at w y) m s.args.a.now k) ∙ sym i.4
+      pairs = ap₂ (λ u v. zip_n (run w (first_at w x) u) (run w (first_at w y) v) (pending s.args.a.now k)) (sym me) (sym (me ∙ s.requires.same))
+          ∙ sym (left_start w (first_at w x) (first_at w y) m s.args.a.now k) ∙ sym i.4
           ∙ left_end w (first_at w x) (first_at w y) m c.before.loop.a k c.before.loop.j c.loop-test.false
           ∙ ap (λ z. some (pending c.before.loop.a (k + z))) jm;
     }

@@ -6,9 +6,9 @@ use lib.ListN.{get_or}
 use mathlib.Core.Bool.{true, false}
 use borrow.Author.Count.{below_more}
 use Rattle.types_cells.specs.Store.{frozen}
-use Rattle.types_unifier.proofs.ComparingLaws.{run-same, run-differ}
+use Rattle.types_unifier.proofs.ComparingLaws.{run_same, run_differ}
 use borrow.Author.Rules.{rules}
-use Rattle.types_rules.proofs.Terms.{bool-no}
+use Rattle.types_rules.proofs.Terms.{bool_no}
 use Rattle.types_unifier.proofs.unification.same_run.Statement.{statement}
 use Rattle.types_unifier.proofs.unification.same_run.Tie as tie
 use Rattle.types_unifier.proofs.unification.same_run.Reads as reads
@@ -37,7 +37,7 @@ held-requires-2 : tie.Need-held-requires-2 invariant-loop decreases-loop
 held-requires-2 c κs = search rules
 
 returns : tie.Need-returns invariant-loop decreases-loop
-returns c = record { holds = λ e. absurd (bool-no false e refl); fails = λ e. run-differ _ _ _ _ c.before.before.before.before.loop.j c.before.before.before.loop-test.true (λ q. c.if1.true (c.before.before.held.ensures.0 ∙ q ∙ sym c.before.held2.ensures.0)) }
+returns c = record { holds = λ e. absurd (bool_no false e refl); fails = λ e. run_differ _ _ _ _ c.before.before.before.before.loop.j c.before.before.before.loop-test.true (λ q. c.if1.true (c.before.before.held.ensures.0 ∙ q ∙ sym c.before.held2.ensures.0)) }
 
 add-j : tie.Need-overflow-add-j invariant-loop decreases-loop
 add-j c = search rules
@@ -52,7 +52,7 @@ returns-2 : tie.Need-returns-2 invariant-loop decreases-loop
 returns-2 c =
     let s = c.before.before.before in
     let e = le_antisymm c.before.loop.invariant.0 c.loop-test.false in
-    record { holds = λ t. run-same _ _ _ _ s.requires.left s.requires.right (λ i l. c.before.loop.invariant.1 i (omega arith)); fails = λ f. absurd (bool-no true refl f) }
+    record { holds = λ t. run_same _ _ _ _ s.requires.left s.requires.right (λ i l. c.before.loop.invariant.1 i (omega arith)); fails = λ f. absurd (bool_no true refl f) }
 
 pub same-run-spec : {M : Type 1} → statement M
 same-run-spec =

@@ -3,10 +3,10 @@ use mathlib.Core.Path.{◌≡◌, refl, sym, ap, subst, ◌∙◌}
 use native.Mathlib.Omega.{arith}
 use Prim.Native.Nat.{◌+◌, ◌-◌, ◌≤◌, suc}
 use lib.ListN.{set, length}
-use Rattle.types_cells.specs.Layout.{settledFrom}
+use Rattle.types_cells.specs.Layout.{settled_from}
 use Rattle.types_cells.specs.Settled.{word_at, Pinning, Pin}
 use Rattle.types_unifier.specs.Merging.{Tied}
-use Rattle.types_unifier.proofs.Tying.{tied-none, tied-some, pinning-y, pinning-as, pin-from}
+use Rattle.types_unifier.proofs.Tying.{tied_none, tied_some, pinning_y, pinning_as, pin_from}
 use Rattle.types_unifier.proofs.unification.tie.Statement.{statement}
 use Rattle.types_unifier.proofs.unification.tie.Tie as tie
 use Rattle.types_unifier.proofs.unification.tie.Reads as reads
@@ -33,7 +33,7 @@ returns c =
     let s = c.before.before.before.before.before.before.before.before.before in
     let e = c.before.before.before.before.before.word.ensures.0 in
     let l = c.if1.true in
-    subst (λ z. Tied s.args.a.now z s.args.d.now s.args.x s.args.y _) (sym c.before.before.before.set_link.ensures) (tied-none _ _ _ _ s.requires (omega arith))
+    subst (λ z. Tied s.args.a.now z s.args.d.now s.args.x s.args.y _) (sym c.before.before.before.set_link.ensures) (tied_none _ _ _ _ s.requires (omega arith))
 
 pin-requires : tie.Need-pin-requires
 unfolding word_at
@@ -41,7 +41,7 @@ pin-requires c κs =
     let s = c.before.before.before.before.before.before.before.before.before.before in
     let e = c.before.before.before.before.before.before.word.ensures.0 in
     let l = c.before.if1.false in
-    pinning-as _ _ _ _ _ _ c.before.before.before.before.set_link.ensures (ap (λ z. z - settledFrom) e) (pinning-y _ _ _ _ s.requires (omega arith))
+    pinning_as _ _ _ _ _ _ c.before.before.before.before.set_link.ensures (ap (λ z. z - settled_from) e) (pinning_y _ _ _ _ s.requires (omega arith))
 
 same-length-2 : tie.Need-same-length-2
 same-length-2 c = c.before.before.pin.ensures.kept.size ∙ c.before.before.before.before.before.before.before.set_link.auto.0
@@ -52,7 +52,7 @@ returns-2 c =
     let s = c.before.before.before.before.before.before.before.before.before.before.before.before.before in
     let e = c.before.before.before.before.before.before.before.before.before.word.ensures.0 in
     let l = c.before.before.before.before.if1.false in
-    tied-some _ _ _ _ s.requires _ _ (omega arith) (pin-from _ _ _ _ _ _ _ _ c.before.before.before.before.before.before.before.set_link.ensures (ap (λ z. z - settledFrom) e) c.before.before.pin.ensures)
+    tied_some _ _ _ _ s.requires _ _ (omega arith) (pin_from _ _ _ _ _ _ _ _ c.before.before.before.before.before.before.before.set_link.ensures (ap (λ z. z - settled_from) e) c.before.before.pin.ensures)
 
 pub tie-spec : {M : Type 1} → statement M
 tie-spec =

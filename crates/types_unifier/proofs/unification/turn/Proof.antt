@@ -4,7 +4,7 @@ use Prim.Native.Nat.{ℕ, suc, ◌+◌, ◌*◌, ◌<◌}
 use native.Mathlib.Omega.{arith}
 use lib.ListN.{get_or}
 use Rattle.types_cells.specs.Calls.{Known, Root}
-use Rattle.types_unifier.proofs.Turns.{known-a, known-b, few, skip-turned}
+use Rattle.types_unifier.proofs.Turns.{known_a, known_b, few, skip_turned}
 use Rattle.types_unifier.proofs.unification.turn.Statement.{statement}
 use Rattle.types_unifier.proofs.unification.turn.Tie as tie
 use Rattle.types_unifier.proofs.unification.turn.Reads as reads
@@ -23,7 +23,7 @@ word-requires : tie.Need-word-requires
 word-requires c κs = search rules
 
 find-requires : tie.Need-find-requires
-find-requires c κs = subst (λ z. Known c.before.before.before.before.args.a.now z) (sym c.word.ensures.0) (known-a _ _ _ c.before.before.before.before.requires)
+find-requires c κs = subst (λ z. Known c.before.before.before.before.args.a.now z) (sym c.word.ensures.0) (known_a _ _ _ c.before.before.before.before.requires)
 
 mul-word-2 : tie.Need-overflow-mul-word-2
 mul-word-2 c = let l = few _ _ _ c.before.before.before.before.before.before.requires in omega arith
@@ -35,7 +35,7 @@ word-requires-2 : tie.Need-word-requires-2
 word-requires-2 c κs = search rules
 
 find-requires-2 : tie.Need-find-requires-2
-find-requires-2 c κs = subst (λ z. Known c.before.before.before.before.before.before.before.args.a.now z) (sym c.word2.ensures.0) (known-b _ _ _ c.before.before.before.before.before.before.before.requires)
+find-requires-2 c κs = subst (λ z. Known c.before.before.before.before.before.before.before.args.a.now z) (sym c.word2.ensures.0) (known_b _ _ _ c.before.before.before.before.before.before.before.requires)
 
 same_length : tie.Need-same-length
 same_length c = search rules
@@ -43,7 +43,7 @@ same_length c = search rules
 returns : tie.Need-returns
 returns c =
     let s = c.before.before.before.before.before.before.before.before.before in
-    skip-turned _ _ _ s.requires _ _ (subst (λ z. Root s.args.a.now z c.before.before.before.before.find.result) c.before.before.before.before.before.word.ensures.0 c.before.before.before.before.find.ensures)
+    skip_turned _ _ _ s.requires _ _ (subst (λ z. Root s.args.a.now z c.before.before.before.before.find.result) c.before.before.before.before.before.word.ensures.0 c.before.before.before.before.find.ensures)
     (subst (λ z. Root s.args.a.now z c.before.find2.result) c.before.before.word2.ensures.0 c.before.find2.ensures) c.if1.true
 
 join-requires : tie.Need-join-requires

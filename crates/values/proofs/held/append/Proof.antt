@@ -1,5 +1,5 @@
 use Rattle.std.proofs.Common.{◌≡◌, ◌+◌, ◌≤◌, ◌++◌, length, sym, ◌∙◌, arith, length-append, rules}
-use Rattle.values.proofs.Holding.{keep-over, keep-fits, held-short, held-long, held-len, held-words, appended}
+use Rattle.values.proofs.Holding.{keep_over, keep_fits, held_short, held_long, held_len, held_words, appended}
 use Rattle.values.proofs.held.append.Statement.{statement}
 use Rattle.values.proofs.held.append.Tie as tie
 
@@ -7,16 +7,16 @@ returns : tie.Need-returns
 returns c =
     λ ws e.
     let a = c.before.before.before.args in
-    let l = held-long a.v ws e c.before.if1.true in
-    c.over.ensures ∙ sym (keep-over (ws ++ a.w.now) (omega (arith, length-append ws a.w.now)))
+    let l = held_long a.v ws e c.before.if1.true in
+    c.over.ensures ∙ sym (keep_over (ws ++ a.w.now) (omega (arith, length-append ws a.w.now)))
 
 returns-2 : tie.Need-returns-2
 returns-2 c =
     λ ws e.
     let a = c.before.before.before.before.args in
-    let h = held-short a.v ws e c.before.before.if1.false in
-    let l = held-len a.v ws e h in
-    c.over2.ensures ∙ sym (keep-over (ws ++ a.w.now) (omega (arith, length-append ws a.w.now)))
+    let h = held_short a.v ws e c.before.before.if1.false in
+    let l = held_len a.v ws e h in
+    c.over2.ensures ∙ sym (keep_over (ws ++ a.w.now) (omega (arith, length-append ws a.w.now)))
 
 slice-aggregate-copy : tie.Need-slice-aggregate-copy
 slice-aggregate-copy c = search rules
@@ -31,11 +31,11 @@ returns-3 : tie.Need-returns-3
 returns-3 c =
     λ ws e.
     let a = c.before.before.before.before.before.before.before.args in
-    let h = held-short a.v ws e c.before.before.before.before.before.if1.false in
-    let l = held-len a.v ws e h in
+    let h = held_short a.v ws e c.before.before.before.before.before.if1.false in
+    let l = held_len a.v ws e h in
     let k = length-append ws a.w.now in
     let w : length ws + length a.w.now ≤ 64 = omega arith in
-    rw (keep-fits (ws ++ a.w.now) (omega arith), c.before.copy.ensures, held-words a.v ws e h, l, appended ws a.w.now w, k)
+    rw (keep_fits (ws ++ a.w.now) (omega arith), c.before.copy.ensures, held_words a.v ws e h, l, appended ws a.w.now w, k)
 
 pub append-spec : {M : Type 1} → statement M
 append-spec =

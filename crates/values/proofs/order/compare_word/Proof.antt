@@ -1,11 +1,11 @@
 use Rattle.std.proofs.Common.{w32, rules}
 use mir.ValLaws.{to_z-of_z}
-use Rattle.values.specs.Order.{compareWord}
+use Rattle.values.specs.Order.{compare_word}
 use Rattle.values.proofs.order.compare_word.Statement.{statement}
 use Rattle.values.proofs.order.compare_word.Tie as tie
 
 returns : tie.Need-returns
-unfolding compareWord
+unfolding compare_word
 returns c =
     let x = c.before.before.signed in
     let y = c.before.signed2 in
@@ -14,7 +14,7 @@ returns c =
     rw (← x.ensures, ← y.ensures, rw (p, q) at c.if1.true)
 
 returns-2 : tie.Need-returns-2
-unfolding compareWord
+unfolding compare_word
 returns-2 c =
     let x = c.before.before.before.signed in
     let y = c.before.before.signed2 in
@@ -23,7 +23,7 @@ returns-2 c =
     rw (← x.ensures, ← y.ensures, rw (p, q) at c.before.if1.false, rw (p, q) at c.if2.true)
 
 returns-3 : tie.Need-returns-3
-unfolding compareWord
+unfolding compare_word
 returns-3 c =
     let x = c.before.before.before.signed in
     let y = c.before.before.signed2 in

@@ -1,5 +1,5 @@
 use Rattle.std.proofs.Common.{rules}
-use Rattle.values.specs.Order.{isLess}
+use Rattle.values.specs.Order.{is_less}
 use Rattle.values.proofs.order.is_less.Statement.{statement}
 use Rattle.values.proofs.order.is_less.Tie as tie
 
@@ -7,15 +7,15 @@ enum_told : tie.Need-enum-told
 enum_told c = search rules
 
 returns : tie.Need-returns
-unfolding isLess
+unfolding is_less
 returns c = rw c.enum_told.given.1
 
 returns-2 : tie.Need-returns-2
-unfolding isLess
+unfolding is_less
 returns-2 c = rw c.enum-told2.given.1
 
 returns-3 : tie.Need-returns-3
-unfolding isLess
+unfolding is_less
 returns-3 c = rw c.enum-told3.given.1
 
 pub is-less-spec : {M : Type 1} → statement M

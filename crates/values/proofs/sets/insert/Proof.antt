@@ -1,5 +1,5 @@
 use Rattle.std.proofs.Common.{rules}
-use Rattle.values.specs.Sets.{insert, insertAt}
+use Rattle.values.specs.Sets.{insert, insert_at}
 use Rattle.values.proofs.sets.insert.Statement.{statement}
 use Rattle.values.proofs.sets.insert.Tie as tie
 
@@ -7,7 +7,7 @@ enum_told : tie.Need-enum-told
 enum_told c = search rules
 
 returns : tie.Need-returns
-unfolding insert insertAt
+unfolding insert insert_at
 returns c = rw (← c.before.before.before.place_of.ensures, c.before.enum_told.given.1) c.hold.ensures
 
 returns-2 : tie.Need-returns-2

@@ -1,14 +1,14 @@
 use Rattle.std.proofs.Common.{ℕ, ◌+◌, ◌%◌, ◌^◌, List, [], ◌∷◌, get_or, take, drop, ap, ◌∙◌, append_assoc, rules}
-use Rattle.values.specs.Sets.{insertAt}
+use Rattle.values.specs.Sets.{insert_at}
 use Rattle.values.specs.Held.{keep}
-use Rattle.values.proofs.Holding.{building-none}
+use Rattle.values.proofs.Holding.{building_none}
 use Rattle.values.proofs.sets.insert_at.Statement.{statement}
 use Rattle.values.proofs.sets.insert_at.Tie as tie
 
 returns : tie.Need-returns
-unfolding insertAt
+unfolding insert_at
 returns c = let a = c.before.before.before.before.before.before.before.before.before.before.before.before.before.before.before.before.before.before.before.before.before.args in
-    let e₁ = c.before.before.before.before.before.before.before.before.before.before.before.before.before.before.put.ensures [] building-none in
+    let e₁ = c.before.before.before.before.before.before.before.before.before.before.before.before.before.before.put.ensures [] building_none in
     let e₂ = c.before.before.before.before.before.before.before.before.before.put2.ensures _ e₁ in
     let e₃ = c.before.before.before.before.before.before.put3.ensures _ e₂ in
     let e₄ = c.before.before.put4.ensures _ e₃ in

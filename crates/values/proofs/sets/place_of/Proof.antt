@@ -1,13 +1,13 @@
 use Rattle.std.proofs.Common.{◌≡◌, ◌+◌, ◌-◌, ◌*◌, ◌≤◌, drop, sym, ap, ◌∙◌, arith, rules}
 use native.Mathlib.Nat.{sub-zero}
 use Rattle.values.specs.Span.{span}
-use Rattle.values.specs.Sets.{place, placeFrom}
-use Rattle.values.proofs.Members.{place-less, place_same, place-go, place_end}
+use Rattle.values.specs.Sets.{place, place_from}
+use Rattle.values.proofs.Members.{place_less, place_same, place_go, place_end}
 use Rattle.values.proofs.sets.place_of.Statement.{statement}
 use Rattle.values.proofs.sets.place_of.Tie as tie
 
 abbrev invariant-loop : tie.invariant-loop
-invariant-loop s m n at₀ i₀ at i = (i ≤ n) × (at ≤ 2 + 96 * i) × (place s m ≡ placeFrom (n - i) at (drop at s) m)
+invariant-loop s m n at₀ i₀ at i = (i ≤ n) × (at ≤ 2 + 96 * i) × (place s m ≡ place_from (n - i) at (drop at s) m)
 
 abbrev decreases-loop : tie.decreases-loop
 decreases-loop s m n at₀ i₀ at i = n - i
@@ -23,7 +23,7 @@ returns : tie.Need-returns invariant-loop decreases-loop
 returns c =
     let s = c.before.before.before.before.before.before.before.before.before.before.args in
     let l = c.before.before.before.before.before.before.loop in
-    place-less s.s.now s.m.now c.before.before.before.before.before.before.before.word.result l.i l.at (omega arith)
+    place_less s.s.now s.m.now c.before.before.before.before.before.before.before.word.result l.i l.at (omega arith)
     (rw (← c.before.before.before.before.from.ensures, ← c.before.before.before.first.ensures) (sym c.before.before.compare.ensures ∙ c.enum_told.given.1)) ∙ sym l.invariant.2
 
 returns-2 : tie.Need-returns-2 invariant-loop decreases-loop
@@ -39,7 +39,7 @@ loop-again c =
     let l = c.before.before.before.before.before.before.before.loop in (
       omega arith,
       omega arith,
-      l.invariant.2 ∙ place-go s.s.now s.m.now c.before.before.before.before.before.before.before.before.word.result l.i l.at (omega arith)
+      l.invariant.2 ∙ place_go s.s.now s.m.now c.before.before.before.before.before.before.before.before.word.result l.i l.at (omega arith)
           (rw (← c.before.before.before.before.before.from.ensures, ← c.before.before.before.before.first.ensures) (sym c.before.before.before.compare.ensures ∙ c.before.enum-told3.given.1))
           c.span.result (c.span.ensures.0 ∙ ap span c.before.before.before.before.before.from.ensures),
     )

@@ -1,6 +1,6 @@
 use Rattle.std.proofs.Common.{◌≡◌, ◌+◌, ◌-◌, ◌*◌, ◌≤◌, drop, sym, ◌∙◌, zero-add, arith, rules}
 use Rattle.values.specs.Span.{span, spans}
-use Rattle.values.proofs.Spans.{spans-go, spans-end, spans-stop}
+use Rattle.values.proofs.Spans.{spans_go, spans_end, spans_stop}
 use Rattle.values.proofs.span.span.Statement.{statement}
 use Rattle.values.proofs.span.span.Tie as tie
 
@@ -18,19 +18,19 @@ returns : tie.Need-returns invariant-loop decreases-loop
 returns c =
     let l = c.before.before.loop in
     let s = c.before.before.before.before.args in
-    (sym (l.invariant.3 ∙ spans-stop s.w.now l.at l.left l.i (omega arith)), omega arith)
+    (sym (l.invariant.3 ∙ spans_stop s.w.now l.at l.left l.i (omega arith)), omega arith)
 
 loop-again : tie.Need-loop-preserved invariant-loop decreases-loop
 loop-again c =
     let l = c.before.before.before.before.loop in
     let s = c.before.before.before.before.before.before.args in
-    (omega arith, omega arith, omega arith, l.invariant.3 ∙ spans-go s.w.now l.at l.left l.i (omega arith) (omega arith) _ _ c.before.head.ensures.0 c.parts.ensures.0)
+    (omega arith, omega arith, omega arith, l.invariant.3 ∙ spans_go s.w.now l.at l.left l.i (omega arith) (omega arith) _ _ c.before.head.ensures.0 c.parts.ensures.0)
 
 returns-2 : tie.Need-returns-2 invariant-loop decreases-loop
 returns-2 c =
     let l = c.before.loop in
     let s = c.before.before.before.args in
-    (sym (l.invariant.3 ∙ spans-end s.w.now l.at l.left l.i (omega arith)), omega arith)
+    (sym (l.invariant.3 ∙ spans_end s.w.now l.at l.left l.i (omega arith)), omega arith)
 
 pub span-spec : {M : Type 1} → statement M
 span-spec =

@@ -7,8 +7,8 @@ use lib.ListN.{length, take, drop, length-drop}
 use borrow.Author.Rules.{rules}
 use borrow.Fn.PlainCycle.{Measures, is, falls, and}
 use Rattle.values.specs.Givens.{size_of}
-use Rattle.values.specs.Form.{follows, groupEnd, byShape, valueLength}
-use Rattle.values_forms.proofs.Forms.{shape-within, length_none, length-level, group-none, group-stop, group-go, group-done}
+use Rattle.values.specs.Form.{follows, group_end, by_shape, value_length}
+use Rattle.values_forms.proofs.Forms.{shape_within, length_none, length_level, group_none, group_stop, group_go, group_done}
 use borrow.Fn.Kinds.{In}
 use Rattle.values_forms.proofs.form.group_end.Reads as group-end
 use Rattle.values_forms.proofs.form.group_end.Kinds as group-end-kinds
@@ -49,7 +49,7 @@ value-length-below t =
     value-length.Pre
 
 abbrev group-end-Inv-loop : group-end-lts.invariant-loop
-group-end-Inv-loop givens w n ascending depth last₀ at₀ i₀ last at i = (i ≤ n) × (last ≤ at) × (at ≤ length w) × (groupEnd (valueLength (size_of givens) depth) ascending n [] (drop 2 w) 2 ≡ groupEnd (valueLength (size_of givens) depth) ascending (n - i) (take (at - last) (drop last w)) (drop at w) at)
+group-end-Inv-loop givens w n ascending depth last₀ at₀ i₀ last at i = (i ≤ n) × (last ≤ at) × (at ≤ length w) × (group_end (value_length (size_of givens) depth) ascending n [] (drop 2 w) 2 ≡ group_end (value_length (size_of givens) depth) ascending (n - i) (take (at - last) (drop last w)) (drop at w) at)
 
 abbrev group-end-μ-loop : group-end-lts.decreases-loop
 group-end-μ-loop givens w n ascending depth last₀ at₀ i₀ last at i = n - i
@@ -71,7 +71,7 @@ group-end-returns t c =
     let s = c.before.before.before.before.before.before.before.args in
     let l = c.before.before.before.before.loop in
     let v = c.before.value-length in (
-      group-none (valueLength (size_of s.givens.now) s.depth) s.ascending s.w.now s.n l.i l.last l.at c.before.before.before.loop-test.true
+      group_none (value_length (size_of s.givens.now) s.depth) s.ascending s.w.now s.n l.i l.last l.at c.before.before.before.loop-test.true
           (rw (← c.before.before.from.ensures) (sym v.ensures.0 ∙ c.if1.true)) ∙ sym l.invariant.3,
       omega arith,
     )
@@ -87,7 +87,7 @@ group-end-loop-again t c =
       omega arith,
       omega arith,
       omega arith,
-      l.invariant.3 ∙ group-go (valueLength (size_of s.givens.now) s.depth) s.ascending s.w.now s.n l.i l.last l.at c.before.before.before.before.before.before.before.loop-test.true
+      l.invariant.3 ∙ group_go (value_length (size_of s.givens.now) s.depth) s.ascending s.w.now s.n l.i l.last l.at c.before.before.before.before.before.before.before.loop-test.true
           v.result (rw f at v.ensures.0) c.before.before.before.before.if1.false
           (rw (← c.before.before.before.span.ensures, ← c.before.before.span2.ensures) (sym c.before.follows.ensures ∙ c.if2.true)),
     )
@@ -98,7 +98,7 @@ group-end-returns-2 t c =
     let l = c.before.before.before.before.before.before.before.before.loop in
     let v = c.before.before.before.before.before.value-length in
     let f = c.before.before.before.before.before.before.from.ensures in (
-      group-stop (valueLength (size_of s.givens.now) s.depth) s.ascending s.w.now s.n l.i l.last l.at c.before.before.before.before.before.before.before.loop-test.true
+      group_stop (value_length (size_of s.givens.now) s.depth) s.ascending s.w.now s.n l.i l.last l.at c.before.before.before.before.before.before.before.loop-test.true
           v.result (rw f at v.ensures.0) c.before.before.before.before.if1.false
           (rw (← c.before.before.before.span.ensures, ← c.before.before.span2.ensures) (sym c.before.follows.ensures ∙ c.if2.false)) ∙ sym l.invariant.3,
       omega arith,
@@ -108,7 +108,7 @@ group-end-returns-3 : (t : ℕ) → group-end-lts.Need-returns-3 (group-end-call
 group-end-returns-3 t c =
     let s = c.before.before.before.before.args in
     let l = c.before.loop in
-    (group-done (valueLength (size_of s.givens.now) s.depth) s.ascending (take (l.at - l.last) (drop l.last s.w.now)) (drop l.at s.w.now) s.n l.i l.at c.loop-test.false ∙ sym l.invariant.3, omega arith)
+    (group_done (value_length (size_of s.givens.now) s.depth) s.ascending (take (l.at - l.last) (drop l.last s.w.now)) (drop l.at s.w.now) s.n l.i l.at c.loop-test.false ∙ sym l.invariant.3, omega arith)
 
 value-length-returns : (t : ℕ) → value-length-lts.Need-returns (value-length-calls t) (value-length-at t) value-length.Post
 value-length-returns t c =
@@ -118,42 +118,42 @@ value-length-returns t c =
 value-length-group-end-requires : (t : ℕ) → value-length-lts.Need-group-end-requires (value-length-calls t) (value-length-at t) value-length.Post
 value-length-group-end-requires t c κs =
     let s = c.before.before.before.before.before.before.before.args in
-    (omega (arith, c.before.before.before.before.before.before.before.requires.0), rw (← c.before.before.before.shape_of.ensures, c.before.s2.given.1) at (shape-within (size_of s.givens.now) s.w.now))
+    (omega (arith, c.before.before.before.before.before.before.before.requires.0), rw (← c.before.before.before.shape_of.ensures, c.before.s2.given.1) at (shape_within (size_of s.givens.now) s.w.now))
 
 value-length-group-end-requires-2 : (t : ℕ) → value-length-lts.Need-group-end-requires-2 (value-length-calls t) (value-length-at t) value-length.Post
 value-length-group-end-requires-2 t c κs =
     let s = c.before.before.before.before.before.before.before.args in
-    (omega (arith, c.before.before.before.before.before.before.before.requires.0), rw (← c.before.before.before.shape_of.ensures, c.before.s3.given.1) at (shape-within (size_of s.givens.now) s.w.now))
+    (omega (arith, c.before.before.before.before.before.before.before.requires.0), rw (← c.before.before.before.shape_of.ensures, c.before.s3.given.1) at (shape_within (size_of s.givens.now) s.w.now))
 
 value-length-returns-2 : (t : ℕ) → value-length-lts.Need-returns-2 (value-length-calls t) (value-length-at t) value-length.Post
-unfolding byShape
+unfolding by_shape
 value-length-returns-2 t c =
     let s = c.before.before.before.before.before.before.args in
     let h = c.before.before.shape_of in
-    (sym (length-level (size_of s.givens.now) s.depth s.w.now c.before.before.before.if1.false h.result h.ensures ∙ rw c.enum_told.given.1), omega arith)
+    (sym (length_level (size_of s.givens.now) s.depth s.w.now c.before.before.before.if1.false h.result h.ensures ∙ rw c.enum_told.given.1), omega arith)
 
 value-length-returns-3 : (t : ℕ) → value-length-lts.Need-returns-3 (value-length-calls t) (value-length-at t) value-length.Post
-unfolding byShape
+unfolding by_shape
 value-length-returns-3 t c =
     let s = c.before.before.before.before.before.before.before.args in
     let h = c.before.before.before.shape_of in (
-      sym (length-level (size_of s.givens.now) s.depth s.w.now c.before.before.before.before.if1.false h.result h.ensures ∙ rw c.before.s.given.1),
-      rw (← h.ensures, c.before.s.given.1) at (shape-within (size_of s.givens.now) s.w.now),
+      sym (length_level (size_of s.givens.now) s.depth s.w.now c.before.before.before.before.if1.false h.result h.ensures ∙ rw c.before.s.given.1),
+      rw (← h.ensures, c.before.s.given.1) at (shape_within (size_of s.givens.now) s.w.now),
     )
 
 value-length-returns-4 : (t : ℕ) → value-length-lts.Need-returns-4 (value-length-calls t) (value-length-at t) value-length.Post
-unfolding byShape
+unfolding by_shape
 value-length-returns-4 t c =
     let s = c.before.before.before.before.before.before.before.before.args in
     let h = c.before.before.before.before.shape_of in
-    (sym (length-level (size_of s.givens.now) s.depth s.w.now c.before.before.before.before.before.if1.false h.result h.ensures ∙ rw c.before.before.s2.given.1 (sym c.group-end.ensures.0)), c.group-end.ensures.1)
+    (sym (length_level (size_of s.givens.now) s.depth s.w.now c.before.before.before.before.before.if1.false h.result h.ensures ∙ rw c.before.before.s2.given.1 (sym c.group-end.ensures.0)), c.group-end.ensures.1)
 
 value-length-returns-5 : (t : ℕ) → value-length-lts.Need-returns-5 (value-length-calls t) (value-length-at t) value-length.Post
-unfolding byShape
+unfolding by_shape
 value-length-returns-5 t c =
     let s = c.before.before.before.before.before.before.before.before.args in
     let h = c.before.before.before.before.shape_of in
-    (sym (length-level (size_of s.givens.now) s.depth s.w.now c.before.before.before.before.before.if1.false h.result h.ensures ∙ rw c.before.before.s3.given.1 (sym c.group-end2.ensures.0)), c.group-end2.ensures.1)
+    (sym (length_level (size_of s.givens.now) s.depth s.w.now c.before.before.before.before.before.if1.false h.result h.ensures ∙ rw c.before.before.s3.given.1 (sym c.group-end2.ensures.0)), c.group-end2.ensures.1)
 
 pub +group-end-value-length-spec : {M : Type 1} → statement M
 +group-end-value-length-spec = close μ-group-end μ-value-length (λ t. group-end-lts.spec (group-end-calls t) (group-end-at t) group-end.Post

@@ -1,13 +1,13 @@
 use mathlib.Core.Path.{◌∙◌, ap}
 use borrow.Author.Rules.{rules}
-use Rattle.values.specs.Order.{isLess}
+use Rattle.values.specs.Order.{is_less}
 use Rattle.values.specs.Form.{follows}
 use Rattle.values_forms.proofs.form.follows.Statement.{statement}
 use Rattle.values_forms.proofs.form.follows.Tie as tie
 
 returns : tie.Need-returns
 unfolding follows
-returns c = rw c.before.before.if1.true (c.is-less.ensures ∙ ap isLess c.before.compare.ensures)
+returns c = rw c.before.before.if1.true (c.is-less.ensures ∙ ap is_less c.before.compare.ensures)
 
 returns-2 : tie.Need-returns-2
 unfolding follows

@@ -5,8 +5,8 @@ use native.Mathlib.Nat.{sub-zero}
 use lib.ListN.{length, drop, length-drop}
 use borrow.Author.Rules.{rules}
 use borrow.Fn.PlainCycle.{Measures, is, falls, and}
-use Rattle.values.specs.TypeWords.{typesEnd, byFormer, typeLength, clip}
-use Rattle.values_forms.proofs.TypeSpans.{former-bounded, type-none, type-level, types-go, types-done}
+use Rattle.values.specs.TypeWords.{types_end, by_former, type_length, clip}
+use Rattle.values_forms.proofs.TypeSpans.{former_bounded, type_none, type_level, types_go, types_done}
 use borrow.Fn.Kinds.{In}
 use Rattle.values_forms.proofs.type_words.type_length.Reads as type-length
 use Rattle.values_forms.proofs.type_words.type_length.Kinds as type-length-kinds
@@ -50,29 +50,29 @@ types-end-calls t = (from-reads.Asked, from-reads.Learnt, type-length-below t, t
 type-length-returns : (t : ℕ) → type-length-lts.Need-returns (type-length-calls t) (type-length-at t) type-length.Post
 type-length-returns t c =
     let s = c.before.before.args in
-    (type-none s.depth s.w.now c.if1.true, omega arith)
+    (type_none s.depth s.w.now c.if1.true, omega arith)
 
 type-length-types-end-requires : (t : ℕ) → type-length-lts.Need-types-end-requires (type-length-calls t) (type-length-at t) type-length.Post
 type-length-types-end-requires t c κs =
     let s = c.before.before.before.before.before.before.args in
-    (omega (arith, c.before.before.before.before.before.before.requires.0), rw (← c.before.before.before.former-of.ensures, c.before.f2.given.1) at (former-bounded s.w.now))
+    (omega (arith, c.before.before.before.before.before.before.requires.0), rw (← c.before.before.before.former_of_lem.ensures, c.before.f2.given.1) at (former_bounded s.w.now))
 
 type-length-returns-2 : (t : ℕ) → type-length-lts.Need-returns-2 (type-length-calls t) (type-length-at t) type-length.Post
-unfolding byFormer
+unfolding by_former
 type-length-returns-2 t c =
     let s = c.before.before.before.before.before.before.before.args in
-    let h = c.before.before.before.before.former-of in
-    (sym (type-level s.depth s.w.now c.before.before.before.before.before.if1.false h.result h.ensures ∙ rw c.before.before.f.given.1 (sym c.clip.ensures.0)), c.clip.ensures.1)
+    let h = c.before.before.before.before.former_of_lem in
+    (sym (type_level s.depth s.w.now c.before.before.before.before.before.if1.false h.result h.ensures ∙ rw c.before.before.f.given.1 (sym c.clip.ensures.0)), c.clip.ensures.1)
 
 type-length-returns-3 : (t : ℕ) → type-length-lts.Need-returns-3 (type-length-calls t) (type-length-at t) type-length.Post
-unfolding byFormer
+unfolding by_former
 type-length-returns-3 t c =
     let s = c.before.before.before.before.before.before.before.before.args in
-    let h = c.before.before.before.before.before.former-of in
-    (sym (type-level s.depth s.w.now c.before.before.before.before.before.before.if1.false h.result h.ensures ∙ rw (c.before.before.before.f2.given.1, ← c.before.types-end.ensures) (sym c.clip2.ensures.0)), c.clip2.ensures.1)
+    let h = c.before.before.before.before.before.former_of_lem in
+    (sym (type_level s.depth s.w.now c.before.before.before.before.before.before.if1.false h.result h.ensures ∙ rw (c.before.before.before.f2.given.1, ← c.before.types-end.ensures) (sym c.clip2.ensures.0)), c.clip2.ensures.1)
 
 abbrev types-end-Inv-loop : types-end-lts.invariant-loop
-types-end-Inv-loop w start skip n depth at₀ i₀ at i = (i ≤ n) × (at ≤ length w + 2 + i) × (typesEnd (typeLength depth) skip n w start ≡ typesEnd (typeLength depth) skip (n - i) w at)
+types-end-Inv-loop w start skip n depth at₀ i₀ at i = (i ≤ n) × (at ≤ length w + 2 + i) × (types_end (type_length depth) skip n w start ≡ types_end (type_length depth) skip (n - i) w at)
 
 abbrev types-end-μ-loop : types-end-lts.decreases-loop
 types-end-μ-loop w start skip n depth at₀ i₀ at i = n - i
@@ -101,14 +101,14 @@ types-end-loop-again t c =
     let k : c.type-length.result ≤ length (drop (l.at + s.skip) s.w.now) = rw f at c.type-length.ensures.1 in (
       omega arith,
       omega (arith, length-drop (l.at + s.skip) s.w.now, c.before.before.before.before.before.requires.1),
-      l.invariant.2 ∙ types-go (typeLength s.depth) s.skip s.w.now s.n l.i l.at c.before.before.loop-test.true c.type-length.result (rw f at c.type-length.ensures.0),
+      l.invariant.2 ∙ types_go (type_length s.depth) s.skip s.w.now s.n l.i l.at c.before.before.loop-test.true c.type-length.result (rw f at c.type-length.ensures.0),
     )
 
 types-end-returns : (t : ℕ) → types-end-lts.Need-returns (types-end-calls t) (types-end-at t) types-end.Post types-end-Inv-loop types-end-μ-loop
 types-end-returns t c =
     let s = c.before.before.before.args in
     let l = c.before.loop in
-    types-done (typeLength s.depth) s.skip s.w.now s.n l.i l.at c.loop-test.false ∙ sym l.invariant.2
+    types_done (type_length s.depth) s.skip s.w.now s.n l.i l.at c.loop-test.false ∙ sym l.invariant.2
 
 pub +type-length-types-end-spec : {M : Type 1} → statement M
 +type-length-types-end-spec = close μ-type-length μ-types-end (λ t. type-length-lts.spec (type-length-calls t) (type-length-at t) type-length.Post

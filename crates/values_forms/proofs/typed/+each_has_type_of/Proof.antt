@@ -6,13 +6,13 @@ use lib.ListN.{length, drop, length-drop}
 use borrow.Author.Rules.{rules}
 use borrow.Fn.PlainCycle.{Measures, is, falls, and}
 use Rattle.values.specs.Span.{span}
-use Rattle.values.specs.Typed.{each, byTest, hasType}
-use Rattle.values_forms.proofs.Testing.{test-counted, typed-none, typed-level, each-stop, each-go, each-done}
+use Rattle.values.specs.Typed.{each, by_test, has_type}
+use Rattle.values_forms.proofs.Testing.{test_counted, typed_none, typed_level, each_stop, each_go, each_done}
 use borrow.Fn.Kinds.{In}
 use Rattle.values_forms.proofs.typed.each_has.Reads as each-has
 use Rattle.values_forms.proofs.typed.each_has.Kinds as each-has-kinds
 use Rattle.values_forms.proofs.typed.+each_has_type_of.Lts-each_has as each-has-lts
-use Rattle.values_forms.proofs.typed.type_of.Reads as type-of
+use Rattle.values_forms.proofs.typed.type_of.Reads as type_of_lem
 use Rattle.values_forms.proofs.typed.type_of.Kinds as type-of-kinds
 use Rattle.values_forms.proofs.typed.+each_has_type_of.Lts-type_of as type-of-lts
 use Rattle.values.proofs.span.span.Reads as span-reads
@@ -36,19 +36,19 @@ each-has-below t =
     and 2 each-has-kinds.ps (falls 2 each-has-kinds.ps ◌<◌ μ-each-has t) each-has.Pre
 
 abbrev type-of-at : ℕ → In 2 type-of-kinds.ps
-type-of-at t = and 2 type-of-kinds.ps (is 2 type-of-kinds.ps μ-type-of t) type-of.Pre
+type-of-at t = and 2 type-of-kinds.ps (is 2 type-of-kinds.ps μ-type-of t) type_of_lem.Pre
 
 abbrev type-of-below : ℕ → In 2 type-of-kinds.ps
-type-of-below t = and 2 type-of-kinds.ps (falls 2 type-of-kinds.ps ◌<◌ μ-type-of t) type-of.Pre
+type-of-below t = and 2 type-of-kinds.ps (falls 2 type-of-kinds.ps ◌<◌ μ-type-of t) type_of_lem.Pre
 
 abbrev each-has-Inv-loop : each-has-lts.invariant-loop
-each-has-Inv-loop t w own n depth here₀ at₀ i₀ here at i = (i ≤ n) × (here ≤ length t) × (at ≤ 2 + 96 * i) × (each (hasType depth) own n t (drop 2 w) ≡ each (hasType depth) own (n - i) (drop here t) (drop at w))
+each-has-Inv-loop t w own n depth here₀ at₀ i₀ here at i = (i ≤ n) × (here ≤ length t) × (at ≤ 2 + 96 * i) × (each (has_type depth) own n t (drop 2 w) ≡ each (has_type depth) own (n - i) (drop here t) (drop at w))
 
 abbrev each-has-μ-loop : each-has-lts.decreases-loop
 each-has-μ-loop t w own n depth here₀ at₀ i₀ here at i = n - i
 
 abbrev each-has-calls : ℕ → each-has-lts.Claims
-each-has-calls t = (from-reads.Asked, from-reads.Learnt, type-of-below t, type-of.Post, type-step-reads.Asked, type-step-reads.Learnt, span-reads.Asked, span-reads.Learnt)
+each-has-calls t = (from-reads.Asked, from-reads.Learnt, type-of-below t, type_of_lem.Post, type-step-reads.Asked, type-step-reads.Learnt, span-reads.Asked, span-reads.Learnt)
 
 abbrev type-of-calls : ℕ → type-of-lts.Claims
 type-of-calls t = (test-of-reads.Asked, test-of-reads.Learnt, from-reads.Asked, from-reads.Learnt, each-has-below t, each-has.Post)
@@ -76,54 +76,54 @@ each-has-loop-again t c =
       omega arith,
       omega (arith, length-drop l.here s.t.now),
       omega arith,
-      l.invariant.3 ∙ each-go (hasType s.depth) s.own s.t.now s.w.now s.n l.i l.here l.at c.before.before.before.before.before.before.loop-test.true
-          (rw (← e, ← f) (sym c.before.before.before.type-of.ensures ∙ c.before.before.if1.true)) c.before.type-step.result c.span.result (rw e at c.before.type-step.ensures.0) (rw f at c.span.ensures.0),
+      l.invariant.3 ∙ each_go (has_type s.depth) s.own s.t.now s.w.now s.n l.i l.here l.at c.before.before.before.before.before.before.loop-test.true
+          (rw (← e, ← f) (sym c.before.before.before.type_of_lem.ensures ∙ c.before.before.if1.true)) c.before.type-step.result c.span.result (rw e at c.before.type-step.ensures.0) (rw f at c.span.ensures.0),
     )
 
 each-has-returns : (t : ℕ) → each-has-lts.Need-returns (each-has-calls t) (each-has-at t) each-has.Post each-has-Inv-loop each-has-μ-loop
 each-has-returns t c =
     let s = c.before.before.before.before.before.before.before.before.args in
     let l = c.before.before.before.before.before.loop in
-    each-stop (hasType s.depth) s.own s.t.now s.w.now s.n l.i l.here l.at c.before.before.before.before.loop-test.true
-    (rw (← c.before.before.before.from.ensures, ← c.before.before.from2.ensures) (sym c.before.type-of.ensures ∙ c.if1.false)) ∙ sym l.invariant.3
+    each_stop (has_type s.depth) s.own s.t.now s.w.now s.n l.i l.here l.at c.before.before.before.before.loop-test.true
+    (rw (← c.before.before.before.from.ensures, ← c.before.before.from2.ensures) (sym c.before.type_of_lem.ensures ∙ c.if1.false)) ∙ sym l.invariant.3
 
 each-has-returns-2 : (t : ℕ) → each-has-lts.Need-returns-2 (each-has-calls t) (each-has-at t) each-has.Post each-has-Inv-loop each-has-μ-loop
 each-has-returns-2 t c =
     let s = c.before.before.before.before.args in
     let l = c.before.loop in
-    each-done (hasType s.depth) s.own s.t.now s.w.now s.n l.i l.here l.at c.loop-test.false ∙ sym l.invariant.3
+    each_done (has_type s.depth) s.own s.t.now s.w.now s.n l.i l.here l.at c.loop-test.false ∙ sym l.invariant.3
 
-type-of-returns : (t : ℕ) → type-of-lts.Need-returns (type-of-calls t) (type-of-at t) type-of.Post
+type-of-returns : (t : ℕ) → type-of-lts.Need-returns (type-of-calls t) (type-of-at t) type_of_lem.Post
 type-of-returns t c =
     let s = c.before.before.before.args in
-    typed-none s.depth s.t.now s.w.now c.if1.true
+    typed_none s.depth s.t.now s.w.now c.if1.true
 
-type-of-each-has-requires : (t : ℕ) → type-of-lts.Need-each-has-requires (type-of-calls t) (type-of-at t) type-of.Post
+type-of-each-has-requires : (t : ℕ) → type-of-lts.Need-each-has-requires (type-of-calls t) (type-of-at t) type_of_lem.Post
 type-of-each-has-requires t c κs =
     let s = c.before.before.before.before.before.before.before.before.args in
-    let n = rw (← c.before.before.before.before.test_of.ensures, c.before.before.q.given.1) at (test-counted s.t.now s.w.now) in
+    let n = rw (← c.before.before.before.before.test_of.ensures, c.before.before.q.given.1) at (test_counted s.t.now s.w.now) in
     (omega (arith, c.before.before.before.before.before.before.before.before.requires.0), omega (arith, n, c.before.before.before.before.before.before.shared-slice-known2.given 1))
 
-type-of-returns-2 : (t : ℕ) → type-of-lts.Need-returns-2 (type-of-calls t) (type-of-at t) type-of.Post
-unfolding byTest
+type-of-returns-2 : (t : ℕ) → type-of-lts.Need-returns-2 (type-of-calls t) (type-of-at t) type_of_lem.Post
+unfolding by_test
 type-of-returns-2 t c =
     let s = c.before.before.before.before.before.before.args in
     let h = c.before.before.test_of in
-    sym (typed-level s.depth s.t.now s.w.now c.before.before.before.if1.false h.result h.ensures ∙ rw c.enum_told.given.1)
+    sym (typed_level s.depth s.t.now s.w.now c.before.before.before.if1.false h.result h.ensures ∙ rw c.enum_told.given.1)
 
-type-of-returns-3 : (t : ℕ) → type-of-lts.Need-returns-3 (type-of-calls t) (type-of-at t) type-of.Post
-unfolding byTest
+type-of-returns-3 : (t : ℕ) → type-of-lts.Need-returns-3 (type-of-calls t) (type-of-at t) type_of_lem.Post
+unfolding by_test
 type-of-returns-3 t c =
     let s = c.before.before.before.before.before.before.args in
     let h = c.before.before.test_of in
-    sym (typed-level s.depth s.t.now s.w.now c.before.before.before.if1.false h.result h.ensures ∙ rw c.enum-told2.given.1)
+    sym (typed_level s.depth s.t.now s.w.now c.before.before.before.if1.false h.result h.ensures ∙ rw c.enum-told2.given.1)
 
-type-of-returns-4 : (t : ℕ) → type-of-lts.Need-returns-4 (type-of-calls t) (type-of-at t) type-of.Post
-unfolding byTest
+type-of-returns-4 : (t : ℕ) → type-of-lts.Need-returns-4 (type-of-calls t) (type-of-at t) type_of_lem.Post
+unfolding by_test
 type-of-returns-4 t c =
     let s = c.before.before.before.before.before.before.before.before.before.args in
     let h = c.before.before.before.before.before.test_of in
-    sym (typed-level s.depth s.t.now s.w.now c.before.before.before.before.before.before.if1.false h.result h.ensures ∙ rw (c.before.before.before.q.given.1, ← c.before.from.ensures) (sym c.each-has.ensures))
+    sym (typed_level s.depth s.t.now s.w.now c.before.before.before.before.before.before.if1.false h.result h.ensures ∙ rw (c.before.before.before.q.given.1, ← c.before.from.ensures) (sym c.each-has.ensures))
 
 pub +each-has-type-of-spec : {M : Type 1} → statement M
 +each-has-type-of-spec = close μ-each-has μ-type-of (λ t. each-has-lts.spec (each-has-calls t) (each-has-at t) each-has.Post
@@ -142,7 +142,7 @@ pub +each-has-type-of-spec : {M : Type 1} → statement M
     (each-has-loop-again t)
     (each-has-returns t)
     (each-has-returns-2 t))
-    λ t. type-of-lts.spec (type-of-calls t) (type-of-at t) type-of.Post
+    λ t. type-of-lts.spec (type-of-calls t) (type-of-at t) type_of_lem.Post
     (type-of-returns t)
     (λ c κs. search rules)
     (λ c. search rules)

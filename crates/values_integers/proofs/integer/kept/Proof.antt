@@ -2,7 +2,7 @@
 use mir.Syntax.{w32, w64}
 use mir.Val.{SFits}
 use mir.ValLaws.{to_z-of_z}
-use Rattle.values_integers.proofs.Integers.{kept_low, kept_high, kept-bound, kept_in}
+use Rattle.values_integers.proofs.Integers.{kept_low, kept_high, kept_bound, kept_in}
 use Rattle.values_integers.proofs.integer.kept.Statement.{statement}
 use Rattle.values_integers.proofs.integer.kept.Tie as tie
 
@@ -15,7 +15,7 @@ returns-2 c = kept_high _ (rw (to_z-of_z w64 _ c.before.before.ranges.z) at c.if
 inside : (c : tie.Else2) → SFits w32 c.before.before.args.z
 inside c =
     let b = to_z-of_z w64 _ c.before.before.ranges.z in
-    kept-bound _ (rw b at c.before.if1.false) (rw b at c.if2.false)
+    kept_bound _ (rw b at c.before.if1.false) (rw b at c.if2.false)
 
 cast-t3 : tie.Need-overflow-cast-t3
 cast-t3 c = rw (to_z-of_z w64 _ c.before.before.ranges.z) (inside c)

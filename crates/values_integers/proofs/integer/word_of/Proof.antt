@@ -6,7 +6,7 @@ use lib.IntN.{pos, negsuc, ◌-ℤ◌}
 use lib.Signed.{lt_z}
 use mir.Syntax.{w32}
 use mir.ValLaws.{to_z-of_z}
-use Rattle.values_integers.proofs.Integers.{Complement, negated, natural, natural-word}
+use Rattle.values_integers.proofs.Integers.{Complement, negated, natural, natural_word}
 use Rattle.values_integers.proofs.integer.word_of.Statement.{statement}
 use Rattle.values_integers.proofs.integer.word_of.Tie as tie
 
@@ -40,7 +40,7 @@ cast-result : tie.Need-overflow-cast-result
 cast-result c = rw (to_z-of_z w32 _ c.before.ranges.z) (natural _ c.before.ranges.z (not_negative c))
 
 returns-2 : tie.Need-returns-2
-returns-2 c = rw (to_z-of_z w32 _ c.before.ranges.z) (natural-word _ (not_negative c))
+returns-2 c = rw (to_z-of_z w32 _ c.before.ranges.z) (natural_word _ (not_negative c))
 
 pub word-of-spec : {M : Type 1} → statement M
 word-of-spec = tie.close (tie.spec sub-m cast-m sub-result returns cast-result returns-2)

@@ -1,8 +1,8 @@
 -- The answers of `brings`. Places: s the start, v after the visit of the Include.
 use mathlib.Core.Path.{refl, sym}
 use native.Mathlib.Omega.{arith}
-use Rattle.checker_contracts.proofs.Bringing.{brings-ask}
-use Rattle.checker_nodes.proofs.BringsNodes.{node-brings-brought, node-brings-told}
+use Rattle.checker_contracts.proofs.Bringing.{brings_ask}
+use Rattle.checker_nodes.proofs.BringsNodes.{node_brings_brought, node_brings_told}
 use borrow.Author.Rules.{rules}
 use Prim.Native.Nat.{ℕ}
 use Rattle.checker_nodes.proofs.nodes.brings.Reads as brings
@@ -19,7 +19,7 @@ brings-include-requires : (t : ℕ) → brings-lts.Need-include-requires (brings
 brings-include-requires t c κs =
     let s = c.before.before.before.before.before.before.before.before in
     let m = s.requires.0 in
-    (omega arith, (record { at = s.requires.1.0; words = c.before.before.before.part.ensures }, brings-ask _ _ _ _ _ _ _ s.requires.1.1 _ refl))
+    (omega arith, (record { at = s.requires.1.0; words = c.before.before.before.part.ensures }, brings_ask _ _ _ _ _ _ _ s.requires.1.1 _ refl))
 
 brings-slice-aggregate-brought : (t : ℕ) → brings-lts.Need-slice-aggregate-brought (brings-calls t) (brings-at t) brings.Post
 brings-slice-aggregate-brought t c = search sym
@@ -28,7 +28,7 @@ brings-brought-requires : (t : ℕ) → brings-lts.Need-brought-requires (brings
 brings-brought-requires t c κs =
     let v = c.before.before.before.before.before.before.before.before in
     let s = v.before.before.before.before.before.before.before.before.before in
-    node-brings-brought s.requires.1.0 v.before.before.before.before.part.ensures s.requires.1.1 v.include.ensures
+    node_brings_brought s.requires.1.0 v.before.before.before.before.part.ensures s.requires.1.1 v.include.ensures
 
 brings-same-length : (t : ℕ) → brings-lts.Need-same-length (brings-calls t) (brings-at t) brings.Post
 brings-same-length t c = search rules
@@ -40,7 +40,7 @@ brings-returns : (t : ℕ) → brings-lts.Need-returns (brings-calls t) (brings-
 brings-returns t c =
     let v = c.before.before.before.before.before.before.before.before.before.before.before.before.before in
     let s = v.before.before.before.before.before.before.before.before.before in
-    node-brings-told s.requires.1.0 v.before.before.before.before.part.ensures s.requires.1.1 v.include.ensures c.before.before.before.before.brought.ensures
+    node_brings_told s.requires.1.0 v.before.before.before.before.part.ensures s.requires.1.1 v.include.ensures c.before.before.before.before.brought.ensures
 
 pub brings-closed : {M : Type 1} (t : ℕ) → brings-lts.Closed (brings-calls t) (brings-at t) brings.Post M
 brings-closed t =

@@ -3,7 +3,7 @@ use mathlib.Core.Path.{refl}
 use Prim.Native.Nat.{ℕ}
 use native.Mathlib.Omega.{arith}
 use lib.ListN.{get_or}
-use Rattle.checker_nodes.proofs.PredLaws.{at_first, at-first-stopped, at_second, at-connected}
+use Rattle.checker_nodes.proofs.PredLaws.{at_first, at_first_stopped, at_second, at_connected}
 use borrow.Author.Rules.{rules}
 use Rattle.checker_nodes.proofs.nodes.conn.Reads as conn
 use Rattle.checker_nodes.proofs.nodes.+actuals_apply_arith_brings_compr_conn_decl_expr_group_incl_include_line_lines_opers_power_pred_quant_refer_rel_select_sset_text.Lts-conn as conn-lts
@@ -20,7 +20,7 @@ conn-pred-requires t c κs =
 conn-returns : (t : ℕ) → conn-lts.Need-returns (conn-calls t) (conn-at t) conn.Post
 conn-returns t c =
     let s = c.before.before.before.before.before.before.before.before.before.before.before.before.before.before.before in
-    at-first-stopped s.requires.1.0 s.requires.1.3 s.requires.1.1 s.requires.1.2 _ (get_or s.args.p.now 2 0) c.before.before.before.before.before.before.before.word.ensures.0 refl c.before.before.before.before.before.before.pred.ensures c.if1.true
+    at_first_stopped s.requires.1.0 s.requires.1.3 s.requires.1.1 s.requires.1.2 _ (get_or s.args.p.now 2 0) c.before.before.before.before.before.before.before.word.ensures.0 refl c.before.before.before.before.before.before.pred.ensures c.if1.true
 
 conn-pred-requires-2 : (t : ℕ) → conn-lts.Need-pred-requires-2 (conn-calls t) (conn-at t) conn.Post
 conn-pred-requires-2 t c κs =
@@ -33,7 +33,7 @@ conn-pred-requires-2 t c κs =
 conn-returns-2 : (t : ℕ) → conn-lts.Need-returns-2 (conn-calls t) (conn-at t) conn.Post
 conn-returns-2 t c =
     let s = c.before.before.before.before.before.before.before.before.before.before.before.before.before.before.before.before.before.before.before.before.before.before.before in
-    at-connected s.requires.1.0 s.requires.1.3 s.requires.1.1 s.requires.1.2 _ _ c.before.before.before.before.before.before.before.before.before.before.before.before.before.before.before.word.ensures.0 c.before.before.before.before.before.word2.ensures.0 c.before.before.before.before.before.before.before.before.before.before.before.before.before.before.pred.ensures c.before.before.before.before.before.before.before.before.if1.false c.before.before.before.before.pred2.ensures
+    at_connected s.requires.1.0 s.requires.1.3 s.requires.1.1 s.requires.1.2 _ _ c.before.before.before.before.before.before.before.before.before.before.before.before.before.before.before.word.ensures.0 c.before.before.before.before.before.word2.ensures.0 c.before.before.before.before.before.before.before.before.before.before.before.before.before.before.pred.ensures c.before.before.before.before.before.before.before.before.if1.false c.before.before.before.before.pred2.ensures
 
 pub conn-closed : {M : Type 1} (t : ℕ) → conn-lts.Closed (conn-calls t) (conn-at t) conn.Post M
 conn-closed t =

@@ -208,8 +208,8 @@ conn-below t = and 5 conn-kinds.ps (falls 5 conn-kinds.ps ◌<◌ μ-conn t) con
 abbrev pub decl-at : ℕ → In 5 decl-kinds.ps
 decl-at t = and 5 decl-kinds.ps (is 5 decl-kinds.ps μ-decl t) decl.Pre
 
-abbrev pub decl-below : ℕ → In 5 decl-kinds.ps
-decl-below t = and 5 decl-kinds.ps (falls 5 decl-kinds.ps ◌<◌ μ-decl t) decl.Pre
+abbrev pub decl_below : ℕ → In 5 decl-kinds.ps
+decl_below t = and 5 decl-kinds.ps (falls 5 decl-kinds.ps ◌<◌ μ-decl t) decl.Pre
 
 abbrev pub expr-at : ℕ → In 4 expr-kinds.ps
 expr-at t = and 4 expr-kinds.ps (is 4 expr-kinds.ps μ-expr t) expr.Pre
@@ -235,8 +235,8 @@ include-at t = and 6 include-kinds.ps (is 6 include-kinds.ps μ-include t) inclu
 abbrev pub include-below : ℕ → In 6 include-kinds.ps
 include-below t = and 6 include-kinds.ps (falls 6 include-kinds.ps ◌<◌ μ-include t) include.Pre
 
-abbrev pub line-at : ℕ → In 4 line-kinds.ps
-line-at t = and 4 line-kinds.ps (is 4 line-kinds.ps μ-line t) line.Pre
+abbrev pub line_at_lem : ℕ → In 4 line-kinds.ps
+line_at_lem t = and 4 line-kinds.ps (is 4 line-kinds.ps μ-line t) line.Pre
 
 abbrev pub line-below : ℕ → In 4 line-kinds.ps
 line-below t = and 4 line-kinds.ps (falls 4 line-kinds.ps ◌<◌ μ-line t) line.Pre
@@ -335,7 +335,7 @@ abbrev pub include-calls : ℕ → include-lts.Claims
 include-calls t = (schema-of-reads.Asked, schema-of-reads.Learnt, lined-at-reads.Asked, lined-at-reads.Learnt, word-reads.Asked, word-reads.Learnt, actuals-below t, actuals.Post, named-reads.Asked, named-reads.Learnt)
 
 abbrev pub line-calls : ℕ → line-lts.Claims
-line-calls t = (part-reads.Asked, part-reads.Learnt, word-reads.Asked, word-reads.Learnt, decl-below t, decl.Post, incl-below t, incl.Post)
+line-calls t = (part-reads.Asked, part-reads.Learnt, word-reads.Asked, word-reads.Learnt, decl_below t, decl.Post, incl-below t, incl.Post)
 
 abbrev pub lines-calls : ℕ → lines-lts.Claims
 lines-calls t = (lined-at-reads.Asked, lined-at-reads.Learnt, word-reads.Asked, word-reads.Learnt, line-below t, line.Post, lines-below t, lines.Post)

@@ -1,7 +1,7 @@
 -- The answers of `incl`. Places: s the start, v after the visit of the Include.
 use mathlib.Core.Path.{refl, sym}
 use native.Mathlib.Omega.{arith}
-use Rattle.checker_nodes.proofs.InclNodes.{node-incl-at, node-incl-ask, node-incl-included, node-incl-told}
+use Rattle.checker_nodes.proofs.InclNodes.{node_incl_at, node_incl_ask, node_incl_included, node_incl_told}
 use borrow.Author.Rules.{rules}
 use Prim.Native.Nat.{ℕ}
 use Rattle.checker_nodes.proofs.nodes.incl.Reads as incl
@@ -15,7 +15,7 @@ incl-include-requires : (t : ℕ) → incl-lts.Need-include-requires (incl-calls
 incl-include-requires t c κs =
     let s = c.before.before.before.before.before.before.before.before in
     let m = s.requires.0 in
-    (omega arith, (record { at = node-incl-at s.requires.1.0 s.requires.1.1 s.requires.1.2 s.args.global; words = s.requires.1.0.words }, node-incl-ask s.requires.1.0 s.requires.1.1 s.requires.1.2 s.args.global _ refl))
+    (omega arith, (record { at = node_incl_at s.requires.1.0 s.requires.1.1 s.requires.1.2 s.args.global; words = s.requires.1.0.words }, node_incl_ask s.requires.1.0 s.requires.1.1 s.requires.1.2 s.args.global _ refl))
 
 incl-slice-aggregate-included : (t : ℕ) → incl-lts.Need-slice-aggregate-included (incl-calls t) (incl-at t) incl.Post
 incl-slice-aggregate-included t c = search sym
@@ -24,7 +24,7 @@ incl-included-requires : (t : ℕ) → incl-lts.Need-included-requires (incl-cal
 incl-included-requires t c κs =
     let v = c.before.before.before.before.before.before.before.before in
     let s = v.before.before.before.before.before.before.before.before.before in
-    node-incl-included s.requires.1.0 s.requires.1.1 s.requires.1.2 s.args.global v.include.ensures
+    node_incl_included s.requires.1.0 s.requires.1.1 s.requires.1.2 s.args.global v.include.ensures
 
 incl-same-length : (t : ℕ) → incl-lts.Need-same-length (incl-calls t) (incl-at t) incl.Post
 incl-same-length t c = search rules
@@ -36,7 +36,7 @@ incl-returns : (t : ℕ) → incl-lts.Need-returns (incl-calls t) (incl-at t) in
 incl-returns t c =
     let v = c.before.before.before.before.before.before.before.before.before.before.before.before.before in
     let s = v.before.before.before.before.before.before.before.before.before in
-    node-incl-told s.requires.1.0 s.requires.1.1 s.requires.1.2 s.args.global v.include.ensures c.before.before.before.before.included.ensures
+    node_incl_told s.requires.1.0 s.requires.1.1 s.requires.1.2 s.args.global v.include.ensures c.before.before.before.before.included.ensures
 
 pub incl-closed : {M : Type 1} (t : ℕ) → incl-lts.Closed (incl-calls t) (incl-at t) incl.Post M
 incl-closed t =

@@ -1,6 +1,6 @@
 -- The answers of `include`. Places: s the start, l after the schema is looked up, v after the visit of the actuals.
 use native.Mathlib.Omega.{arith}
-use Rattle.checker_nodes.proofs.NamedNodes.{schema-found, node-schema-refused, node-schema-actuals, node-schema-named, node-schema-told}
+use Rattle.checker_nodes.proofs.NamedNodes.{schema_found, node_schema_refused, node_schema_actuals, node_schema_named, node_schema_told}
 use borrow.Author.Rules.{rules}
 use Prim.Native.Nat.{ℕ}
 use Rattle.checker_nodes.proofs.nodes.include.Reads as include
@@ -20,7 +20,7 @@ include-returns : (t : ℕ) → include-lts.Need-returns (include-calls t) (incl
 include-returns t c =
     let l = c.before.before.before in
     let s = l.before.before.before.before.before.before.before.before in
-    node-schema-refused s.requires.1.0 s.requires.1.1 l.schema-of.ensures c.before.if1.true c.lined-at.ensures
+    node_schema_refused s.requires.1.0 s.requires.1.1 l.schema-of.ensures c.before.if1.true c.lined-at.ensures
 
 include-word-requires : (t : ℕ) → include-lts.Need-word-requires (include-calls t) (include-at t) include.Post
 include-word-requires t c κs = search rules
@@ -29,7 +29,7 @@ include-actuals-requires : (t : ℕ) → include-lts.Need-actuals-requires (incl
 include-actuals-requires t c κs =
     let l = c.before.before.before.before.before.before in
     let s = l.before.before.before.before.before.before.before.before in
-    let a = node-schema-actuals s.requires.1.0 s.requires.1.1 (schema-found l.schema-of.ensures c.before.before.before.before.if1.false) c.before.word.ensures.0 in
+    let a = node_schema_actuals s.requires.1.0 s.requires.1.1 (schema_found l.schema-of.ensures c.before.before.before.before.if1.false) c.before.word.ensures.0 in
     let f = a.0 in
     let m = s.requires.0 in
     (omega arith, (s.requires.1.0, a.0, a.1, a.2))
@@ -39,14 +39,14 @@ include-named-requires t c κs =
     let v = c.before.before.before.before.before.before.before.before in
     let l = v.before.before.before.before.before.before.before in
     let s = l.before.before.before.before.before.before.before.before in
-    node-schema-named s.requires.1.0 s.requires.1.1 (schema-found l.schema-of.ensures v.before.before.before.before.before.if1.false) v.before.before.word.ensures.0 v.actuals.ensures
+    node_schema_named s.requires.1.0 s.requires.1.1 (schema_found l.schema-of.ensures v.before.before.before.before.before.if1.false) v.before.before.word.ensures.0 v.actuals.ensures
 
 include-returns-2 : (t : ℕ) → include-lts.Need-returns-2 (include-calls t) (include-at t) include.Post
 include-returns-2 t c =
     let v = c.before.before.before.before.before.before.before.before.before.before.before in
     let l = v.before.before.before.before.before.before.before in
     let s = l.before.before.before.before.before.before.before.before in
-    node-schema-told s.requires.1.0 s.requires.1.1 (schema-found l.schema-of.ensures v.before.before.before.before.before.if1.false) v.before.before.word.ensures.0 v.actuals.ensures c.before.before.named.ensures
+    node_schema_told s.requires.1.0 s.requires.1.1 (schema_found l.schema-of.ensures v.before.before.before.before.before.if1.false) v.before.before.word.ensures.0 v.actuals.ensures c.before.before.named.ensures
 
 pub include-closed : {M : Type 1} (t : ℕ) → include-lts.Closed (include-calls t) (include-at t) include.Post M
 include-closed t =

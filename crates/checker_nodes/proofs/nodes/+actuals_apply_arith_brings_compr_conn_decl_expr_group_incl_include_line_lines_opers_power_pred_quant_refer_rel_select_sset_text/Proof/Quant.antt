@@ -3,8 +3,8 @@ use mathlib.Core.Path.{refl}
 use Prim.Native.Nat.{ℕ}
 use native.Mathlib.Omega.{arith}
 use lib.ListN.{get_or}
-use Rattle.checker_nodes.proofs.PredLaws.{pred-told}
-use Rattle.checker_nodes.proofs.QuantLaws.{at-text, at-text-stopped, at_body, at-body-stopped, at-quantified}
+use Rattle.checker_nodes.proofs.PredLaws.{pred_told}
+use Rattle.checker_nodes.proofs.QuantLaws.{at_text, at_text_stopped, at_body, at_body_stopped, at_quantified}
 use borrow.Author.Rules.{rules}
 use Rattle.checker_nodes.proofs.nodes.quant.Reads as quant
 use Rattle.checker_nodes.proofs.nodes.+actuals_apply_arith_brings_compr_conn_decl_expr_group_incl_include_line_lines_opers_power_pred_quant_refer_rel_select_sset_text.Lts-quant as quant-lts
@@ -13,7 +13,7 @@ use Rattle.checker_nodes.proofs.nodes.+actuals_apply_arith_brings_compr_conn_dec
 quant-text-requires : (t : ℕ) → quant-lts.Need-text-requires (quant-calls t) (quant-at t) quant.Post
 quant-text-requires t c κs =
     let s = c.before.before.before.before.before.before.before.before in
-    let o = at-text s.requires.1.0 s.requires.1.3 s.requires.1.1 s.requires.1.2 _ (get_or s.args.p.now 2 0) c.word.ensures.0 refl in
+    let o = at_text s.requires.1.0 s.requires.1.3 s.requires.1.1 s.requires.1.2 _ (get_or s.args.p.now 2 0) c.word.ensures.0 refl in
     let x = o.0.below in
     let m = s.requires.0 in
     (omega arith, (o.0.at, o.1))
@@ -21,8 +21,8 @@ quant-text-requires t c κs =
 quant-returns : (t : ℕ) → quant-lts.Need-returns (quant-calls t) (quant-at t) quant.Post
 quant-returns t c =
     let s = c.before.before.before.before.before.before.before.before.before.before.before.before.before.before.before.before in
-    pred-told c.found.ensures
-    (at-text-stopped s.requires.1.0 s.requires.1.3 s.requires.1.1 s.requires.1.2 _ (get_or s.args.p.now 2 0) c.before.before.before.before.before.before.before.before.word.ensures.0 refl c.before.before.before.before.before.before.before.text.ensures c.before.if1.true)
+    pred_told c.found.ensures
+    (at_text_stopped s.requires.1.0 s.requires.1.3 s.requires.1.1 s.requires.1.2 _ (get_or s.args.p.now 2 0) c.before.before.before.before.before.before.before.before.word.ensures.0 refl c.before.before.before.before.before.before.before.text.ensures c.before.if1.true)
 
 quant-add-pred : (t : ℕ) → quant-lts.Need-overflow-add-pred (quant-calls t) (quant-at t) quant.Post
 quant-add-pred t c =
@@ -42,7 +42,7 @@ quant-pred-requires t c κs =
 quant-returns-2 : (t : ℕ) → quant-lts.Need-returns-2 (quant-calls t) (quant-at t) quant.Post
 quant-returns-2 t c =
     let s = c.before.before.before.before.before.before.before.before.before.before.before.before.before.before.before.before.before.before.before.before.before.before.before.before.before.before in
-    at-body-stopped s.requires.1.0 s.requires.1.3 s.requires.1.1 s.requires.1.2 _ _ c.before.before.before.before.before.before.before.before.before.before.before.before.before.before.before.before.before.before.word.ensures.0 c.before.before.before.before.before.before.before.word2.ensures.0 c.before.before.before.before.before.before.before.before.before.before.before.before.before.before.before.before.before.text.ensures c.before.before.before.before.before.before.before.before.before.before.before.if1.false c.before.before.before.before.before.before.pred.ensures c.if2.true
+    at_body_stopped s.requires.1.0 s.requires.1.3 s.requires.1.1 s.requires.1.2 _ _ c.before.before.before.before.before.before.before.before.before.before.before.before.before.before.before.before.before.before.word.ensures.0 c.before.before.before.before.before.before.before.word2.ensures.0 c.before.before.before.before.before.before.before.before.before.before.before.before.before.before.before.before.before.text.ensures c.before.before.before.before.before.before.before.before.before.before.before.if1.false c.before.before.before.before.before.before.pred.ensures c.if2.true
 
 quant-wipe-requires : (t : ℕ) → quant-lts.Need-wipe-requires (quant-calls t) (quant-at t) quant.Post
 quant-wipe-requires t c κs =
@@ -56,7 +56,7 @@ quant-wipe-requires t c κs =
 quant-returns-3 : (t : ℕ) → quant-lts.Need-returns-3 (quant-calls t) (quant-at t) quant.Post
 quant-returns-3 t c =
     let s = c.before.before.before.before.before.before.before.before.before.before.before.before.before.before.before.before.before.before.before.before.before.before.before.before.before.before.before.before.before.before in
-    at-quantified s.requires.1.0 s.requires.1.3 s.requires.1.1 s.requires.1.2 _ _ c.before.before.before.before.before.before.before.before.before.before.before.before.before.before.before.before.before.before.before.before.before.before.word.ensures.0 c.before.before.before.before.before.before.before.before.before.before.before.word2.ensures.0 c.before.before.before.before.before.before.before.before.before.before.before.before.before.before.before.before.before.before.before.before.before.text.ensures c.before.before.before.before.before.before.before.before.before.before.before.before.before.before.before.if1.false c.before.before.before.before.before.before.before.before.before.before.pred.ensures c.before.before.before.before.if2.false
+    at_quantified s.requires.1.0 s.requires.1.3 s.requires.1.1 s.requires.1.2 _ _ c.before.before.before.before.before.before.before.before.before.before.before.before.before.before.before.before.before.before.before.before.before.before.word.ensures.0 c.before.before.before.before.before.before.before.before.before.before.before.word2.ensures.0 c.before.before.before.before.before.before.before.before.before.before.before.before.before.before.before.before.before.before.before.before.before.text.ensures c.before.before.before.before.before.before.before.before.before.before.before.before.before.before.before.if1.false c.before.before.before.before.before.before.before.before.before.before.pred.ensures c.before.before.before.before.if2.false
     c.before.before.before.before.before.before.before.before.before.before.pred.auto.1.0 c.before.before.wipe.ensures
 
 pub quant-closed : {M : Type 1} (t : ℕ) → quant-lts.Closed (quant-calls t) (quant-at t) quant.Post M

@@ -4,8 +4,8 @@ use Prim.Native.Nat.{ℕ}
 use native.Mathlib.Omega.{arith}
 use lib.ListN.{get_or}
 use borrow.Author.Rules.{rules}
-use Rattle.checker_nodes.proofs.PredLaws.{pred-told}
-use Rattle.checker_nodes.proofs.RelLaws.{at_left, at-left-stopped, at_right, at-relation-asked, at-relation-told}
+use Rattle.checker_nodes.proofs.PredLaws.{pred_told}
+use Rattle.checker_nodes.proofs.RelLaws.{at_left, at_left_stopped, at_right, at_relation_asked, at_relation_told}
 use Rattle.checker_nodes.proofs.nodes.rel.Reads as rel
 use Rattle.checker_nodes.proofs.nodes.+actuals_apply_arith_brings_compr_conn_decl_expr_group_incl_include_line_lines_opers_power_pred_quant_refer_rel_select_sset_text.Lts-rel as rel-lts
 use Rattle.checker_nodes.proofs.nodes.+actuals_apply_arith_brings_compr_conn_decl_expr_group_incl_include_line_lines_opers_power_pred_quant_refer_rel_select_sset_text.Proof.Env.{rel-at, rel-calls}
@@ -22,8 +22,8 @@ rel-returns : (t : ℕ) → rel-lts.Need-returns (rel-calls t) (rel-at t) rel.Po
 rel-returns t c =
     let v = c.before.before.before.before.before.before.before in
     let s = v.before.before.before.before.before.before.before.before.before in
-    pred-told c.found.ensures
-    (at-left-stopped s.requires.1.0 s.requires.1.3 s.requires.1.1 s.requires.1.2 _ (get_or s.args.p.now 2 0) v.before.word.ensures.0 refl v.expr.ensures c.before.if1.true)
+    pred_told c.found.ensures
+    (at_left_stopped s.requires.1.0 s.requires.1.3 s.requires.1.1 s.requires.1.2 _ (get_or s.args.p.now 2 0) v.before.word.ensures.0 refl v.expr.ensures c.before.if1.true)
 
 rel-expr-requires-2 : (t : ℕ) → rel-lts.Need-expr-requires-2 (rel-calls t) (rel-at t) rel.Post
 rel-expr-requires-2 t c κs =
@@ -39,14 +39,14 @@ rel-relation-requires t c κs =
     let u = c.before.before.before.before.before.before in
     let v = u.before.before.before.before.before.before.before.before.before.before in
     let s = v.before.before.before.before.before.before.before.before.before in
-    at-relation-asked s.requires.1.0 s.requires.1.3 s.requires.1.1 s.requires.1.2 _ _ v.before.word.ensures.0 u.before.word2.ensures.0 v.expr.ensures u.before.before.before.before.if1.false u.expr2.ensures _ c.word3.ensures.0
+    at_relation_asked s.requires.1.0 s.requires.1.3 s.requires.1.1 s.requires.1.2 _ _ v.before.word.ensures.0 u.before.word2.ensures.0 v.expr.ensures u.before.before.before.before.if1.false u.expr2.ensures _ c.word3.ensures.0
 
 rel-returns-2 : (t : ℕ) → rel-lts.Need-returns-2 (rel-calls t) (rel-at t) rel.Post
 rel-returns-2 t c =
     let u = c.before.before.before.before.before.before.before.before.before in
     let v = u.before.before.before.before.before.before.before.before.before.before in
     let s = v.before.before.before.before.before.before.before.before.before in
-    at-relation-told s.requires.1.0 s.requires.1.3 s.requires.1.1 s.requires.1.2 _ _ v.before.word.ensures.0 u.before.word2.ensures.0 v.expr.ensures u.before.before.before.before.if1.false u.expr2.ensures _ c.before.before.before.word3.ensures.0 c.before.before.relation.ensures
+    at_relation_told s.requires.1.0 s.requires.1.3 s.requires.1.1 s.requires.1.2 _ _ v.before.word.ensures.0 u.before.word2.ensures.0 v.expr.ensures u.before.before.before.before.if1.false u.expr2.ensures _ c.before.before.before.word3.ensures.0 c.before.before.relation.ensures
 
 pub rel-closed : {M : Type 1} (t : ℕ) → rel-lts.Closed (rel-calls t) (rel-at t) rel.Post M
 rel-closed t =

@@ -2,9 +2,9 @@ use lib.ListN.{get_or}
 use mathlib.Core.Path.{◌≡◌, refl, ◌∙◌}
 use native.Mathlib.Omega.{arith}
 use Rattle.reader_rules.specs.Kinds.{expressions}
-use Rattle.evaluator_nodes.proofs.NodeLaws.{ready-lower, apply-operands, apply-told}
-use Rattle.evaluator_scope.proofs.BlockLaws.{scoped-same}
-use Rattle.evaluator_operations.proofs.ToldLaws.{halt-told, second-told, both_told}
+use Rattle.evaluator_nodes.proofs.NodeLaws.{ready_lower, apply_operands, apply_told}
+use Rattle.evaluator_scope.proofs.BlockLaws.{scoped_same}
+use Rattle.evaluator_operations.proofs.ToldLaws.{halt_told, second_told, both_told}
 -- The answers of `apply`.
 use Prim.Native.Nat.{◌+◌, ◌*◌, ◌-◌}
 use borrow.Author.Rules.{rules}
@@ -19,24 +19,24 @@ apply-expr-requires : (t : ℕ) → apply-lts.Need-expr-requires (apply-calls t)
 apply-expr-requires t c κs =
     let s = c.before.before.before.before.before.before in
     let h = s.requires.1.0 in
-    let o = apply-operands h _ (get_or s.args.w.now 2 0) c.word.ensures.0 refl s.requires.1.1 in
+    let o = apply_operands h _ (get_or s.args.w.now 2 0) c.word.ensures.0 refl s.requires.1.1 in
     let x = o.0.below in
-    (omega arith, ready-lower _ expressions _ refl h.ready o.0)
+    (omega arith, ready_lower _ expressions _ refl h.ready o.0)
 
 apply-returns : (t : ℕ) → apply-lts.Need-returns (apply-calls t) (apply_at t) apply.Post
 apply-returns t c =
     let e = c.before.before.before.before.expr.ensures in
     let s = c.before.before.before.before.before.before.before.before.before.before.before in
     let h = s.requires.1.0 in
-    record { kept = e.kept; told = λ scope sc. apply-told h _ (get_or s.args.w.now 2 0) c.before.before.before.before.before.word.ensures.0 refl s.requires.1.1 scope (halt-told _ (e.told scope sc) c.if1.true) }
+    record { kept = e.kept; told = λ scope sc. apply_told h _ (get_or s.args.w.now 2 0) c.before.before.before.before.before.word.ensures.0 refl s.requires.1.1 scope (halt_told _ (e.told scope sc) c.if1.true) }
 
 apply-expr-requires-2 : (t : ℕ) → apply-lts.Need-expr-requires-2 (apply-calls t) (apply_at t) apply.Post
 apply-expr-requires-2 t c κs =
     let s = c.before.before.before.before.before.before.before.before.before.before.before.before.before in
     let h = s.requires.1.0 in
-    let o = apply-operands h _ _ c.before.before.before.before.before.before.before.word.ensures.0 c.word2.ensures.0 s.requires.1.1 in
+    let o = apply_operands h _ _ c.before.before.before.before.before.before.before.word.ensures.0 c.word2.ensures.0 s.requires.1.1 in
     let x = o.1.below in
-    (omega arith, ready-lower _ expressions _ c.before.before.before.before.before.before.expr.auto.1.1.0 h.ready o.1)
+    (omega arith, ready_lower _ expressions _ c.before.before.before.before.before.before.expr.auto.1.1.0 h.ready o.1)
 
 apply-returns-2 : (t : ℕ) → apply-lts.Need-returns-2 (apply-calls t) (apply_at t) apply.Post
 apply-returns-2 t c =
@@ -44,7 +44,7 @@ apply-returns-2 t c =
     let g = c.before.before.before.before.expr2.ensures in
     let s = c.before.before.before.before.before.before.before.before.before.before.before.before.before.before.before.before.before.before in
     let h = s.requires.1.0 in
-    record { kept = g.kept ∙ e.kept; told = λ scope sc. apply-told h _ _ c.before.before.before.before.before.before.before.before.before.before.before.before.word.ensures.0 c.before.before.before.before.before.word2.ensures.0 s.requires.1.1 scope (second-told (e.told scope sc) c.before.before.before.before.before.before.before.if1.false (g.told scope (scoped-same _ _ _ _ e.kept sc)) _ c.if2.true) }
+    record { kept = g.kept ∙ e.kept; told = λ scope sc. apply_told h _ _ c.before.before.before.before.before.before.before.before.before.before.before.before.word.ensures.0 c.before.before.before.before.before.word2.ensures.0 s.requires.1.1 scope (second_told (e.told scope sc) c.before.before.before.before.before.before.before.if1.false (g.told scope (scoped_same _ _ _ _ e.kept sc)) _ c.if2.true) }
 
 apply-returns-3 : (t : ℕ) → apply-lts.Need-returns-3 (apply-calls t) (apply_at t) apply.Post
 apply-returns-3 t c =
@@ -52,7 +52,7 @@ apply-returns-3 t c =
     let g = c.before.before.before.before.before.before.before.expr2.ensures in
     let s = c.before.before.before.before.before.before.before.before.before.before.before.before.before.before.before.before.before.before.before.before.before in
     let h = s.requires.1.0 in
-    record { kept = g.kept ∙ e.kept; told = λ scope sc. apply-told h _ _ c.before.before.before.before.before.before.before.before.before.before.before.before.before.before.before.word.ensures.0 c.before.before.before.before.before.before.before.before.word2.ensures.0 s.requires.1.1 scope (both_told (e.told scope sc) c.before.before.before.before.before.before.before.before.before.before.if1.false (g.told scope (scoped-same _ _ _ _ e.kept sc)) c.before.before.before.if2.false (λ u v a b. c.applied.ensures u v a.held b.held)) }
+    record { kept = g.kept ∙ e.kept; told = λ scope sc. apply_told h _ _ c.before.before.before.before.before.before.before.before.before.before.before.before.before.before.before.word.ensures.0 c.before.before.before.before.before.before.before.before.word2.ensures.0 s.requires.1.1 scope (both_told (e.told scope sc) c.before.before.before.before.before.before.before.before.before.before.if1.false (g.told scope (scoped_same _ _ _ _ e.kept sc)) c.before.before.before.if2.false (λ u v a b. c.applied.ensures u v a.held b.held)) }
 
 pub apply-closed : {M : Type 1} (t : ℕ) → apply-lts.Closed (apply-calls t) (apply_at t) apply.Post M
 apply-closed t =

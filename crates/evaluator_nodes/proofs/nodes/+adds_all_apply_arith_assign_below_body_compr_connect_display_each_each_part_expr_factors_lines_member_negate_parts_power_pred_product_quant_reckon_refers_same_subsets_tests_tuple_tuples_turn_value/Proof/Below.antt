@@ -2,9 +2,9 @@ use lib.ListN.{get_or}
 use mathlib.Core.Path.{◌≡◌, refl, ◌∙◌}
 use native.Mathlib.Omega.{arith}
 use Rattle.reader_rules.specs.Kinds.{expressions}
-use Rattle.evaluator_nodes.proofs.NodeLaws.{ready-lower, relation-operands, below-told}
-use Rattle.evaluator_scope.proofs.BlockLaws.{scoped-same}
-use Rattle.evaluator_operations.proofs.ToldLaws.{halt-told, second-told, both_told}
+use Rattle.evaluator_nodes.proofs.NodeLaws.{ready_lower, relation_operands, below_told}
+use Rattle.evaluator_scope.proofs.BlockLaws.{scoped_same}
+use Rattle.evaluator_operations.proofs.ToldLaws.{halt_told, second_told, both_told}
 -- The answers of `below`.
 use Prim.Native.Nat.{◌+◌, ◌*◌, ◌-◌}
 use borrow.Author.Rules.{rules}
@@ -19,24 +19,24 @@ below-reckon-requires : (t : ℕ) → below-lts.Need-reckon-requires (below-call
 below-reckon-requires t c κs =
     let s = c.before.before.before.before.before.before in
     let h = s.requires.1.0 in
-    let o = relation-operands h 23 s.requires.1.1 (omega arith) (omega arith) _ (get_or s.args.w.now 2 0) c.word.ensures.0 refl in
+    let o = relation_operands h 23 s.requires.1.1 (omega arith) (omega arith) _ (get_or s.args.w.now 2 0) c.word.ensures.0 refl in
     let x = o.0.below in
-    (omega arith, ready-lower _ expressions _ refl h.ready o.0)
+    (omega arith, ready_lower _ expressions _ refl h.ready o.0)
 
 below-returns : (t : ℕ) → below-lts.Need-returns (below-calls t) (below_at t) below.Post
 below-returns t c =
     let e = c.before.before.before.before.before.reckon.ensures in
     let s = c.before.before.before.before.before.before.before.before.before.before.before.before in
     let h = s.requires.1.0 in
-    record { kept = e.kept; told = λ scope sc. below-told h _ (get_or s.args.w.now 2 0) c.before.before.before.before.before.before.word.ensures.0 refl scope s.requires.1.1 (halt-told _ (e.told scope sc) c.if1.true) }
+    record { kept = e.kept; told = λ scope sc. below_told h _ (get_or s.args.w.now 2 0) c.before.before.before.before.before.before.word.ensures.0 refl scope s.requires.1.1 (halt_told _ (e.told scope sc) c.if1.true) }
 
 below-reckon-requires-2 : (t : ℕ) → below-lts.Need-reckon-requires-2 (below-calls t) (below_at t) below.Post
 below-reckon-requires-2 t c κs =
     let s = c.before.before.before.before.before.before.before.before.before.before.before.before.before.before in
     let h = s.requires.1.0 in
-    let o = relation-operands h 23 s.requires.1.1 (omega arith) (omega arith) _ _ c.before.before.before.before.before.before.before.before.word.ensures.0 c.word2.ensures.0 in
+    let o = relation_operands h 23 s.requires.1.1 (omega arith) (omega arith) _ _ c.before.before.before.before.before.before.before.before.word.ensures.0 c.word2.ensures.0 in
     let x = o.1.below in
-    (omega arith, ready-lower _ expressions _ c.before.before.before.before.before.before.before.reckon.auto.1.1.0 h.ready o.1)
+    (omega arith, ready_lower _ expressions _ c.before.before.before.before.before.before.before.reckon.auto.1.1.0 h.ready o.1)
 
 below-returns-2 : (t : ℕ) → below-lts.Need-returns-2 (below-calls t) (below_at t) below.Post
 below-returns-2 t c =
@@ -44,7 +44,7 @@ below-returns-2 t c =
     let g = c.before.before.before.before.before.reckon2.ensures in
     let s = c.before.before.before.before.before.before.before.before.before.before.before.before.before.before.before.before.before.before.before.before in
     let h = s.requires.1.0 in
-    record { kept = g.kept ∙ e.kept; told = λ scope sc. below-told h _ _ c.before.before.before.before.before.before.before.before.before.before.before.before.before.before.word.ensures.0 c.before.before.before.before.before.before.word2.ensures.0 scope s.requires.1.1 (second-told (e.told scope sc) c.before.before.before.before.before.before.before.before.if1.false (g.told scope (scoped-same _ _ _ _ e.kept sc)) _ c.if2.true) }
+    record { kept = g.kept ∙ e.kept; told = λ scope sc. below_told h _ _ c.before.before.before.before.before.before.before.before.before.before.before.before.before.before.word.ensures.0 c.before.before.before.before.before.before.word2.ensures.0 scope s.requires.1.1 (second_told (e.told scope sc) c.before.before.before.before.before.before.before.before.if1.false (g.told scope (scoped_same _ _ _ _ e.kept sc)) _ c.if2.true) }
 
 below-returns-3 : (t : ℕ) → below-lts.Need-returns-3 (below-calls t) (below_at t) below.Post
 below-returns-3 t c =
@@ -52,7 +52,7 @@ below-returns-3 t c =
     let g = c.before.before.before.before.before.before.reckon2.ensures in
     let s = c.before.before.before.before.before.before.before.before.before.before.before.before.before.before.before.before.before.before.before.before.before in
     let h = s.requires.1.0 in
-    record { kept = g.kept ∙ e.kept; told = λ scope sc. below-told h _ _ c.before.before.before.before.before.before.before.before.before.before.before.before.before.before.before.word.ensures.0 c.before.before.before.before.before.before.before.word2.ensures.0 scope s.requires.1.1 (both_told (e.told scope sc) c.before.before.before.before.before.before.before.before.before.if1.false (g.told scope (scoped-same _ _ _ _ e.kept sc)) c.before.if2.false (λ u v a b. c.at_most.ensures u v a.held b.held)) }
+    record { kept = g.kept ∙ e.kept; told = λ scope sc. below_told h _ _ c.before.before.before.before.before.before.before.before.before.before.before.before.before.before.before.word.ensures.0 c.before.before.before.before.before.before.before.word2.ensures.0 scope s.requires.1.1 (both_told (e.told scope sc) c.before.before.before.before.before.before.before.before.before.if1.false (g.told scope (scoped_same _ _ _ _ e.kept sc)) c.before.if2.false (λ u v a b. c.at_most.ensures u v a.held b.held)) }
 
 pub below-closed : {M : Type 1} (t : ℕ) → below-lts.Closed (below-calls t) (below_at t) below.Post M
 below-closed t =

@@ -3,8 +3,8 @@ use Prim.Native.Nat.{ℕ, ◌+◌, ◌*◌, ◌≤◌, ◌<◌}
 use native.Mathlib.Omega.{arith}
 use lib.ListN.{length, drop}
 use Rattle.values.specs.Span.{span}
-use Rattle.evaluator_nodes.proofs.AssignLaws.{scoping-same, scoping-shift}
-use Rattle.evaluator_nodes.proofs.EachLaws.{EachLeft, left-all, each-end, each-past, left-stop, left-halt, left-more}
+use Rattle.evaluator_nodes.proofs.AssignLaws.{scoping_same, scoping_shift}
+use Rattle.evaluator_nodes.proofs.EachLaws.{EachLeft, left_all, each_end, each_past, left_stop, left_halt, left_more}
 -- The answers of `each`.
 use Prim.Native.Nat.{◌+◌, ◌*◌, ◌-◌}
 use borrow.Author.Rules.{rules}
@@ -23,13 +23,13 @@ abbrev each-μ-loop : each-lts.decreases-loop
 each-μ-loop doc state work₀ n m k c s₀ at₀ left₀ work s at left = left
 
 each-loop-holds : (t : ℕ) → each-lts.Need-loop-init (each-calls t) (each_at t) each.Post each-Inv-loop each-μ-loop
-each-loop-holds t c = let a = c.before.before.before.before.args in (refl, refl, omega arith, omega arith, left-all a.doc.now a.state.now a.n a.m a.k a.c a.work.now a.s.now)
+each-loop-holds t c = let a = c.before.before.before.before.args in (refl, refl, omega arith, omega arith, left_all a.doc.now a.state.now a.n a.m a.k a.c a.work.now a.s.now)
 
 each-returns : (t : ℕ) → each-lts.Need-returns (each-calls t) (each_at t) each.Post each-Inv-loop each-μ-loop
 each-returns t c =
     let a = c.before.before.before.before.before.before.before.before.args in
     let l = c.before.before.before.loop in
-    l.invariant.4.each _ _ _ (each-past a.doc.now a.state.now _ a.n a.m a.k l.at l.left l.s _ c.before.if1.true)
+    l.invariant.4.each _ _ _ (each_past a.doc.now a.state.now _ a.n a.m a.k l.at l.left l.s _ c.before.if1.true)
 
 each-put-head-requires : (t : ℕ) → each-lts.Need-put-head-requires (each-calls t) (each_at t) each.Post each-Inv-loop each-μ-loop
 each-put-head-requires t c κs =
@@ -45,7 +45,7 @@ each-assign-requires t c κs =
     let s = c.before.before.before.before.before.before.before.before.before.before.before.before.before.before.before.before.before.before in
     let t = s.requires.0 in
     let f = s.requires.1.0.few in
-    (omega arith, scoping-shift (scoping-same s.requires.1.0 _ (c.before.before.before.before.put-head.auto.0 ∙ c.before.before.before.before.before.before.before.before.before.before.before.before.before.loop.invariant.0)) _ _ (omega arith) (omega arith))
+    (omega arith, scoping_shift (scoping_same s.requires.1.0 _ (c.before.before.before.before.put-head.auto.0 ∙ c.before.before.before.before.before.before.before.before.before.before.before.before.before.loop.invariant.0)) _ _ (omega arith) (omega arith))
 
 each-returns-2 : (t : ℕ) → each-lts.Need-returns-2 (each-calls t) (each_at t) each.Post each-Inv-loop each-μ-loop
 each-returns-2 t c =
@@ -58,7 +58,7 @@ each-returns-2 t c =
     let t = c.before.before.before.before.before.before.before.before.before.before.before.before.before.before.before.before.before.before.before.loop-test.true in
     let el = c.before.before.before.before.before.before.before.before.before.before.before.before.before.before.before.span.ensures.0 ∙ ap span c.before.before.before.before.before.before.before.before.before.before.before.before.before.before.before.before.from.ensures in
     let e1 = rw c.before.before.before.before.before.before.before.before.before.before.before.before.word.ensures.0 at c.before.before.before.before.before.before.before.before.before.before.before.put-head.ensures in
-    left-stop a.doc.now a.state.now _ _ _ a.n a.m a.k l.at l.left _ _ l.s _ _ refl el e1 (omega arith) c.before.before.before.before.before.before.assign.ensures (λ y. omega arith) a.c a.work.now a.s.now l.invariant.4 c.if2.true
+    left_stop a.doc.now a.state.now _ _ _ a.n a.m a.k l.at l.left _ _ l.s _ _ refl el e1 (omega arith) c.before.before.before.before.before.before.assign.ensures (λ y. omega arith) a.c a.work.now a.s.now l.invariant.4 c.if2.true
 
 each-returns-3 : (t : ℕ) → each-lts.Need-returns-3 (each-calls t) (each_at t) each.Post each-Inv-loop each-μ-loop
 each-returns-3 t c =
@@ -71,7 +71,7 @@ each-returns-3 t c =
     let t = c.before.before.before.before.before.before.before.before.before.before.before.before.before.before.before.before.before.before.before.before.loop-test.true in
     let el = c.before.before.before.before.before.before.before.before.before.before.before.before.before.before.before.before.span.ensures.0 ∙ ap span c.before.before.before.before.before.before.before.before.before.before.before.before.before.before.before.before.before.from.ensures in
     let e1 = rw c.before.before.before.before.before.before.before.before.before.before.before.before.before.word.ensures.0 at c.before.before.before.before.before.before.before.before.before.before.before.before.put-head.ensures in
-    left-halt a.doc.now a.state.now _ _ _ a.n a.m a.k l.at l.left _ _ l.s _ _ refl el e1 (omega arith) c.before.before.before.before.before.before.before.assign.ensures (λ y. omega arith) a.c a.work.now a.s.now l.invariant.4 c.before.if2.false c.if3.true
+    left_halt a.doc.now a.state.now _ _ _ a.n a.m a.k l.at l.left _ _ l.s _ _ refl el e1 (omega arith) c.before.before.before.before.before.before.before.assign.ensures (λ y. omega arith) a.c a.work.now a.s.now l.invariant.4 c.before.if2.false c.if3.true
 
 each-loop-again : (t : ℕ) → each-lts.Need-loop-preserved (each-calls t) (each_at t) each.Post each-Inv-loop each-μ-loop
 each-loop-again t c =
@@ -87,13 +87,13 @@ each-loop-again t c =
     let k = c.before.before.before.before.before.before.before.assign.auto in
     let q = c.before.before.before.before.before.before.before.before.before.before.before.before.before.before.before.before.before.before.before.if1.false in
     let d = c.before.before.before.before.before.before.before.before.before.before.before.before.before.before.before.before.span.ensures.1 in
-    (k.1.1.0 ∙ c.before.before.before.before.before.before.before.before.before.before.before.before.put-head.auto.0 ∙ z, k.1.1.1.1.1.1.0 ∙ l.invariant.1, omega arith, omega arith, left-more a.doc.now a.state.now _ _ _ a.n a.m a.k l.at l.left _ _ l.s _ _ refl el e1 (omega arith) c.before.before.before.before.before.before.before.assign.ensures (λ y. omega arith) a.c a.work.now a.s.now l.invariant.4 c.before.if2.false c.if3.false)
+    (k.1.1.0 ∙ c.before.before.before.before.before.before.before.before.before.before.before.before.put-head.auto.0 ∙ z, k.1.1.1.1.1.1.0 ∙ l.invariant.1, omega arith, omega arith, left_more a.doc.now a.state.now _ _ _ a.n a.m a.k l.at l.left _ _ l.s _ _ refl el e1 (omega arith) c.before.before.before.before.before.before.before.assign.ensures (λ y. omega arith) a.c a.work.now a.s.now l.invariant.4 c.before.if2.false c.if3.false)
 
 each-returns-4 : (t : ℕ) → each-lts.Need-returns-4 (each-calls t) (each_at t) each.Post each-Inv-loop each-μ-loop
 each-returns-4 t c =
     let a = c.before.before.before.before.before.before.before.args in
     let l = c.before.before.loop in
-    l.invariant.4.each _ _ _ (each-end a.doc.now a.state.now _ a.n a.m a.k l.at l.left l.s _ (omega (arith, c.before.loop-test.false)) c.judge2.ensures.0 c.judge2.ensures.1)
+    l.invariant.4.each _ _ _ (each_end a.doc.now a.state.now _ a.n a.m a.k l.at l.left l.s _ (omega (arith, c.before.loop-test.false)) c.judge2.ensures.0 c.judge2.ensures.1)
 
 pub each-closed : {M : Type 1} (t : ℕ) → each-lts.Closed (each-calls t) (each_at t) each.Post M
 each-closed t =

@@ -237,11 +237,11 @@ adds-at t = and 5 adds-kinds.ps (is 5 adds-kinds.ps μ-adds t) adds.Pre
 abbrev pub adds-below : ℕ → In 5 adds-kinds.ps
 adds-below t = and 5 adds-kinds.ps (falls 5 adds-kinds.ps ◌<◌ μ-adds t) adds.Pre
 
-abbrev pub all-at : ℕ → In 3 all_kinds.ps
-all-at t = and 3 all_kinds.ps (is 3 all_kinds.ps μ-all t) all.Pre
+abbrev pub all_at : ℕ → In 3 all_kinds.ps
+all_at t = and 3 all_kinds.ps (is 3 all_kinds.ps μ-all t) all.Pre
 
-abbrev pub all-below : ℕ → In 3 all_kinds.ps
-all-below t = and 3 all_kinds.ps (falls 3 all_kinds.ps ◌<◌ μ-all t) all.Pre
+abbrev pub all_below_lem : ℕ → In 3 all_kinds.ps
+all_below_lem t = and 3 all_kinds.ps (falls 3 all_kinds.ps ◌<◌ μ-all t) all.Pre
 
 abbrev pub apply_at : ℕ → In 4 apply-kinds.ps
 apply_at t = and 4 apply-kinds.ps (is 4 apply-kinds.ps μ-apply t) apply.Pre
@@ -422,7 +422,7 @@ abbrev pub adds-calls : ℕ → adds-lts.Claims
 adds-calls t = (judge-reads.Asked, judge-reads.Learnt, word-reads.Asked, word-reads.Learnt, expr-below t, expr.Post, gather-reads.Asked, gather-reads.Learnt, adds-below t, adds.Post)
 
 abbrev pub all-calls : ℕ → all-lts.Claims
-all-calls t = (judge-reads.Asked, judge-reads.Learnt, length-at-reads.Asked, length-at-reads.Learnt, member-at-reads.Asked, member-at-reads.Learnt, tests_below t, tests.Post, all-below t, all.Post)
+all-calls t = (judge-reads.Asked, judge-reads.Learnt, length-at-reads.Asked, length-at-reads.Learnt, member-at-reads.Asked, member-at-reads.Learnt, tests_below t, tests.Post, all_below_lem t, all.Post)
 
 abbrev pub apply-calls : ℕ → apply-lts.Claims
 apply-calls t = (word-reads.Asked, word-reads.Learnt, expr-below t, expr.Post, applied-reads.Asked, applied-reads.Learnt)
@@ -473,7 +473,7 @@ abbrev pub parts-calls : ℕ → parts-lts.Claims
 parts-calls t = (go-reads.Asked, go-reads.Learnt, word-reads.Asked, word-reads.Learnt, expr-below t, expr.Post, joined-reads.Asked, joined-reads.Learnt, parts_below t, parts.Post)
 
 abbrev pub power-calls : ℕ → power-lts.Claims
-power-calls t = (tag-of-reads.Asked, tag-of-reads.Learnt, refuse-reads.Asked, refuse-reads.Learnt, word-reads.Asked, word-reads.Learnt, count-of-reads.Asked, count-of-reads.Learnt, all-below t, all.Post)
+power-calls t = (tag-of-reads.Asked, tag-of-reads.Learnt, refuse-reads.Asked, refuse-reads.Learnt, word-reads.Asked, word-reads.Learnt, count-of-reads.Asked, count-of-reads.Learnt, all_below_lem t, all.Post)
 
 abbrev pub pred-calls : ℕ → pred-lts.Claims
 pred-calls t = (part-reads.Asked, part-reads.Learnt, word-reads.Asked, word-reads.Learnt, same-below t, same.Post, member_below t, member.Post, below-below t, below.Post, negate-below t, negate.Post, connect-below t, connect.Post, quant-below t, quant.Post, judge-reads.Asked, judge-reads.Learnt)

@@ -7,8 +7,8 @@ use lib.ListN.{get_or}
 use Rattle.reader_rules.specs.Kinds.{expressions}
 use Rattle.reader_rules.specs.Nodes.{kind_at}
 use Rattle.reader_rules.proofs.TreeWords.{number_word}
-use Rattle.evaluator_nodes.proofs.NodeLaws.{handed-of, in_words}
-use Rattle.evaluator_nodes.proofs.KindLaws.{Unrun, unrun-told, number-told}
+use Rattle.evaluator_nodes.proofs.NodeLaws.{handed_of, in_words}
+use Rattle.evaluator_nodes.proofs.KindLaws.{Unrun, unrun_told, number_told}
 -- The answers of `expr`.
 use Prim.Native.Nat.{◌+◌, ◌*◌, ◌-◌}
 use borrow.Author.Rules.{rules}
@@ -20,37 +20,37 @@ use Rattle.evaluator_nodes.proofs.nodes.+adds_all_apply_arith_assign_below_body_
 use Rattle.evaluator_nodes.proofs.nodes.+adds_all_apply_arith_assign_below_body_compr_connect_display_each_each_part_expr_factors_lines_member_negate_parts_power_pred_product_quant_reckon_refers_same_subsets_tests_tuple_tuples_turn_value.Proof.Env.{expr-at, expr-calls}
 
 expr-refers-requires : (t : ℕ) → expr-lts.Need-refers-requires (expr-calls t) (expr-at t) expr.Post
-expr-refers-requires t c κs = let s = c.before.before.before.before.before.before.before in (omega arith, (handed-of s.requires.1 c.before.before.before.part.ensures, sym (ap (λ (l : List ℕ). get_or l 0 0) c.before.before.before.part.ensures) ∙ sym c.before.before.word.ensures.0 ∙ c.before.match.keys1))
+expr-refers-requires t c κs = let s = c.before.before.before.before.before.before.before in (omega arith, (handed_of s.requires.1 c.before.before.before.part.ensures, sym (ap (λ (l : List ℕ). get_or l 0 0) c.before.before.before.part.ensures) ∙ sym c.before.before.word.ensures.0 ∙ c.before.match.keys1))
 
 expr-number-value-requires : (t : ℕ) → expr-lts.Need-number-value-requires (expr-calls t) (expr-at t) expr.Post
 expr-number-value-requires t c κs =
     let s = c.before.before.before.before.before.before.before in
-    let h = handed-of s.requires.1 c.before.before.before.part.ensures in
+    let h = handed_of s.requires.1 c.before.before.before.part.ensures in
     subst (λ (z : ℕ). z ≤ 2147483647) (sym (in_words h 1 _ c.word2.ensures.0)) (number_word _ expressions _ s.requires.1.at (sym (ap (λ (l : List ℕ). get_or l 0 0) c.before.before.before.part.ensures) ∙ sym c.before.before.word.ensures.0 ∙ c.before.match.keys2))
 
 expr-display-requires : (t : ℕ) → expr-lts.Need-display-requires (expr-calls t) (expr-at t) expr.Post
-expr-display-requires t c κs = let s = c.before.before.before.before.before.before.before in (omega arith, (handed-of s.requires.1 c.before.before.before.part.ensures, sym (ap (λ (l : List ℕ). get_or l 0 0) c.before.before.before.part.ensures) ∙ sym c.before.before.word.ensures.0 ∙ c.before.match.keys3))
+expr-display-requires t c κs = let s = c.before.before.before.before.before.before.before in (omega arith, (handed_of s.requires.1 c.before.before.before.part.ensures, sym (ap (λ (l : List ℕ). get_or l 0 0) c.before.before.before.part.ensures) ∙ sym c.before.before.word.ensures.0 ∙ c.before.match.keys3))
 
 expr-tuple-requires : (t : ℕ) → expr-lts.Need-tuple-requires (expr-calls t) (expr-at t) expr.Post
-expr-tuple-requires t c κs = let s = c.before.before.before.before.before.before.before in (omega arith, (handed-of s.requires.1 c.before.before.before.part.ensures, sym (ap (λ (l : List ℕ). get_or l 0 0) c.before.before.before.part.ensures) ∙ sym c.before.before.word.ensures.0 ∙ c.before.match.keys4))
+expr-tuple-requires t c κs = let s = c.before.before.before.before.before.before.before in (omega arith, (handed_of s.requires.1 c.before.before.before.part.ensures, sym (ap (λ (l : List ℕ). get_or l 0 0) c.before.before.before.part.ensures) ∙ sym c.before.before.word.ensures.0 ∙ c.before.match.keys4))
 
 expr-tuples-requires : (t : ℕ) → expr-lts.Need-tuples-requires (expr-calls t) (expr-at t) expr.Post
-expr-tuples-requires t c κs = let s = c.before.before.before.before.before.before.before in (omega arith, (handed-of s.requires.1 c.before.before.before.part.ensures, sym (ap (λ (l : List ℕ). get_or l 0 0) c.before.before.before.part.ensures) ∙ sym c.before.before.word.ensures.0 ∙ c.before.match.keys5))
+expr-tuples-requires t c κs = let s = c.before.before.before.before.before.before.before in (omega arith, (handed_of s.requires.1 c.before.before.before.part.ensures, sym (ap (λ (l : List ℕ). get_or l 0 0) c.before.before.before.part.ensures) ∙ sym c.before.before.word.ensures.0 ∙ c.before.match.keys5))
 
 expr-subsets-requires : (t : ℕ) → expr-lts.Need-subsets-requires (expr-calls t) (expr-at t) expr.Post
-expr-subsets-requires t c κs = let s = c.before.before.before.before.before.before.before in (omega arith, (handed-of s.requires.1 c.before.before.before.part.ensures, sym (ap (λ (l : List ℕ). get_or l 0 0) c.before.before.before.part.ensures) ∙ sym c.before.before.word.ensures.0 ∙ c.before.match.keys6))
+expr-subsets-requires t c κs = let s = c.before.before.before.before.before.before.before in (omega arith, (handed_of s.requires.1 c.before.before.before.part.ensures, sym (ap (λ (l : List ℕ). get_or l 0 0) c.before.before.before.part.ensures) ∙ sym c.before.before.word.ensures.0 ∙ c.before.match.keys6))
 
 expr-apply-requires : (t : ℕ) → expr-lts.Need-apply-requires (expr-calls t) (expr-at t) expr.Post
-expr-apply-requires t c κs = let s = c.before.before.before.before.before.before.before in (omega arith, (handed-of s.requires.1 c.before.before.before.part.ensures, sym (ap (λ (l : List ℕ). get_or l 0 0) c.before.before.before.part.ensures) ∙ sym c.before.before.word.ensures.0 ∙ c.before.match.keys7))
+expr-apply-requires t c κs = let s = c.before.before.before.before.before.before.before in (omega arith, (handed_of s.requires.1 c.before.before.before.part.ensures, sym (ap (λ (l : List ℕ). get_or l 0 0) c.before.before.before.part.ensures) ∙ sym c.before.before.word.ensures.0 ∙ c.before.match.keys7))
 
 expr-compr-requires : (t : ℕ) → expr-lts.Need-compr-requires (expr-calls t) (expr-at t) expr.Post
-expr-compr-requires t c κs = let s = c.before.before.before.before.before.before.before in (omega arith, (handed-of s.requires.1 c.before.before.before.part.ensures, sym (ap (λ (l : List ℕ). get_or l 0 0) c.before.before.before.part.ensures) ∙ sym c.before.before.word.ensures.0 ∙ c.before.match.keys8))
+expr-compr-requires t c κs = let s = c.before.before.before.before.before.before.before in (omega arith, (handed_of s.requires.1 c.before.before.before.part.ensures, sym (ap (λ (l : List ℕ). get_or l 0 0) c.before.before.before.part.ensures) ∙ sym c.before.before.word.ensures.0 ∙ c.before.match.keys8))
 
 expr-arith-requires : (t : ℕ) → expr-lts.Need-arith-requires (expr-calls t) (expr-at t) expr.Post
 expr-arith-requires t c κs =
     let s = c.before.before.before.before.before.before.before.before.before in
     let q : c.before.before.before.before.word.result ≡ kind_at s.args.doc.now s.args.k = c.before.before.before.before.word.ensures.0 ∙ ap (λ (l : List ℕ). get_or l 0 0) c.before.before.before.before.before.part.ensures in
-    (omega arith, (handed-of s.requires.1 c.before.before.before.before.before.part.ensures, omega arith, omega arith))
+    (omega arith, (handed_of s.requires.1 c.before.before.before.before.before.part.ensures, omega arith, omega arith))
 
 expr-returns : (t : ℕ) → expr-lts.Need-returns (expr-calls t) (expr-at t) expr.Post
 expr-returns t c = c.before.before.refers.ensures
@@ -58,8 +58,8 @@ expr-returns t c = c.before.before.refers.ensures
 expr-returns-2 : (t : ℕ) → expr-lts.Need-returns-2 (expr-calls t) (expr-at t) expr.Post
 expr-returns-2 t c =
     let s = c.before.before.before.before.before.before.before.before in
-    let h = handed-of s.requires.1 c.before.before.before.before.part.ensures in
-    record { kept = refl; told = λ scope sc. number-told _ _ s.requires.1.at (sym (ap (λ (l : List ℕ). get_or l 0 0) c.before.before.before.before.part.ensures) ∙ sym c.before.before.before.word.ensures.0 ∙ c.before.before.match.keys2) _ (in_words h 1 _ c.before.word2.ensures.0) scope c.number-value.ensures.0 c.number-value.ensures.1 }
+    let h = handed_of s.requires.1 c.before.before.before.before.part.ensures in
+    record { kept = refl; told = λ scope sc. number_told _ _ s.requires.1.at (sym (ap (λ (l : List ℕ). get_or l 0 0) c.before.before.before.before.part.ensures) ∙ sym c.before.before.before.word.ensures.0 ∙ c.before.before.match.keys2) _ (in_words h 1 _ c.before.word2.ensures.0) scope c.number_value.ensures.0 c.number_value.ensures.1 }
 
 expr-returns-3 : (t : ℕ) → expr-lts.Need-returns-3 (expr-calls t) (expr-at t) expr.Post
 expr-returns-3 t c = c.before.before.display.ensures
@@ -88,7 +88,7 @@ expr-returns-10 t c =
     let q = c.before.before.before.word.ensures.0 ∙ ap (λ (l : List ℕ). get_or l 0 0) c.before.before.before.before.part.ensures in
     let r = c.before.before.match.rest in
     let u : Unrun (kind_at s.args.doc.now s.args.k) = record { a = λ e. r.0.0.0.0.0.0.0.1 (q ∙ e); b = λ e. r.0.0.0.0.0.0.1 (q ∙ e); c = λ e. r.0.0.0.0.0.1 (q ∙ e); d = λ e. r.0.0.0.0.1 (q ∙ e); e = λ e. r.0.0.0.1 (q ∙ e); f = λ e. r.0.0.1 (q ∙ e); g = λ e. r.0.1 (q ∙ e); h = λ e. r.1 (q ∙ e); i = λ x y. ⊎_elim (λ t. let v = t.taken in omega (arith, q)) (λ p. let v = p.1.left in omega (arith, q)) c.before.if1.branch } in
-    record { kept = refl; told = λ scope sc. unrun-told _ _ s.requires.1.at u scope c.stop.ensures }
+    record { kept = refl; told = λ scope sc. unrun_told _ _ s.requires.1.at u scope c.stop.ensures }
 
 pub expr-closed : {M : Type 1} (t : ℕ) → expr-lts.Closed (expr-calls t) (expr-at t) expr.Post M
 expr-closed t =

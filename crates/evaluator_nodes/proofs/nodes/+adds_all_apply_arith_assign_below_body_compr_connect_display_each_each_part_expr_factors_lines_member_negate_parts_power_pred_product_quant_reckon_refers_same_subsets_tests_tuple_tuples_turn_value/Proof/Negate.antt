@@ -2,7 +2,7 @@ use mathlib.Core.Path.{◌≡◌, refl, ◌∙◌}
 use mathlib.Core.Bool.{true, false}
 use native.Mathlib.Omega.{arith}
 use Rattle.reader_rules.specs.Kinds.{predicates}
-use Rattle.evaluator_nodes.proofs.NodeLaws.{ready-lower, not-operand, not-stop, not-go}
+use Rattle.evaluator_nodes.proofs.NodeLaws.{ready_lower, not_operand, not_stop, not_go}
 -- The answers of `negate`.
 use Prim.Native.Nat.{◌+◌, ◌*◌, ◌-◌}
 use borrow.Author.Rules.{rules}
@@ -17,27 +17,27 @@ negate-pred-requires : (t : ℕ) → negate-lts.Need-pred-requires (negate-calls
 negate-pred-requires t c κs =
     let s = c.before.before.before.before.before.before in
     let h = s.requires.1.0 in
-    let o = not-operand h s.requires.1.1 _ c.word.ensures.0 in
+    let o = not_operand h s.requires.1.1 _ c.word.ensures.0 in
     let x = o.below in
-    (omega arith, ready-lower _ predicates _ refl h.ready o)
+    (omega arith, ready_lower _ predicates _ refl h.ready o)
 
 negate-returns : (t : ℕ) → negate-lts.Need-returns (negate-calls t) (negate-at t) negate.Post
 negate-returns t c =
     let e = c.before.before.before.before.pred.ensures in
     let s = c.before.before.before.before.before.before.before.before.before.before.before in
-    record { kept = e.kept; told = λ scope sc. not-stop s.requires.1.0 s.requires.1.1 _ c.before.before.before.before.before.word.ensures.0 scope (e.told scope sc) c.if1.true }
+    record { kept = e.kept; told = λ scope sc. not_stop s.requires.1.0 s.requires.1.1 _ c.before.before.before.before.before.word.ensures.0 scope (e.told scope sc) c.if1.true }
 
 negate-returns-2 : (t : ℕ) → negate-lts.Need-returns-2 (negate-calls t) (negate-at t) negate.Post
 negate-returns-2 t c =
     let e = c.before.before.before.before.before.before.pred.ensures in
     let s = c.before.before.before.before.before.before.before.before.before.before.before.before.before in
-    record { kept = e.kept; told = λ scope sc. not-go s.requires.1.0 s.requires.1.1 _ c.before.before.before.before.before.before.before.word.ensures.0 scope true (e.told scope sc) c.before.before.if1.false c.before.if2.true c.judge.ensures.0 c.judge.ensures.1 }
+    record { kept = e.kept; told = λ scope sc. not_go s.requires.1.0 s.requires.1.1 _ c.before.before.before.before.before.before.before.word.ensures.0 scope true (e.told scope sc) c.before.before.if1.false c.before.if2.true c.judge.ensures.0 c.judge.ensures.1 }
 
 negate-returns-3 : (t : ℕ) → negate-lts.Need-returns-3 (negate-calls t) (negate-at t) negate.Post
 negate-returns-3 t c =
     let e = c.before.before.before.before.before.before.pred.ensures in
     let s = c.before.before.before.before.before.before.before.before.before.before.before.before.before in
-    record { kept = e.kept; told = λ scope sc. not-go s.requires.1.0 s.requires.1.1 _ c.before.before.before.before.before.before.before.word.ensures.0 scope false (e.told scope sc) c.before.before.if1.false c.before.if2.false c.judge2.ensures.0 c.judge2.ensures.1 }
+    record { kept = e.kept; told = λ scope sc. not_go s.requires.1.0 s.requires.1.1 _ c.before.before.before.before.before.before.before.word.ensures.0 scope false (e.told scope sc) c.before.before.if1.false c.before.if2.false c.judge2.ensures.0 c.judge2.ensures.1 }
 
 pub negate-closed : {M : Type 1} (t : ℕ) → negate-lts.Closed (negate-calls t) (negate-at t) negate.Post M
 negate-closed t =

@@ -1,14 +1,14 @@
 use mathlib.Core.Path.{◌≡◌, refl, sym, ap, subst, ◌∙◌}
 use Prim.Native.Nat.{ℕ, ◌+◌}
 use native.Mathlib.Omega.{arith}
-use Rattle.reader_rules.specs.Decode.{quantifierOf}
-use Rattle.evaluator_operations.specs.Steps.{verdictOf}
+use Rattle.reader_rules.specs.Decode.{quantifier_of}
+use Rattle.evaluator_operations.specs.Steps.{verdict_of}
 use Rattle.evaluator_rules.specs.Environment.{empty}
 use Rattle.evaluator_scope.specs.Blocks.{Scoped}
 use Rattle.evaluator_scope.specs.Blocks as Blocks
 use Rattle.evaluator_rules.specs.Assignments.{no_more}
 use Rattle.evaluator_nodes.proofs.NodeLaws.{in_words}
-use Rattle.evaluator_nodes.proofs.AssignLaws.{quant-scoping, quant-stop, quant-go, lines_start}
+use Rattle.evaluator_nodes.proofs.AssignLaws.{quant_scoping, quant_stop, quant_go, lines_start}
 -- The answers of `quant`.
 use Prim.Native.Nat.{◌+◌, ◌*◌, ◌-◌}
 use borrow.Author.Rules.{rules}
@@ -24,7 +24,7 @@ quant-lines-requires t c κs =
     let s = c.before.before.before.before.before.before.before.before in
     let h = s.requires.1.0 in
     let x = c.before.before.before.word.ensures.0 in
-    (omega arith, lines_start (quant-scoping empty _ x h s.requires.1.1 s.requires.1.2) _ _ (in_words h 1 _ x) c.before.part.ensures)
+    (omega arith, lines_start (quant_scoping empty _ x h s.requires.1.1 s.requires.1.2) _ _ (in_words h 1 _ x) c.before.part.ensures)
 
 quant-returns : (t : ℕ) → quant-lts.Need-returns (quant-calls t) (quant-at t) quant.Post
 quant-returns t c =
@@ -32,7 +32,7 @@ quant-returns t c =
     let e = c.before.before.before.before.before.lines.ensures in
     let h = s.requires.1.0 in
     let z : s.args.n ≡ s.args.n + 0 = omega arith in
-    record { kept = e.kept; told = λ scope sc. quant-stop scope _ c.before.before.before.before.before.before.before.before.before.word.ensures.0 h s.requires.1.1 s.requires.1.2 (rw c.before.before.before.before.before.before.before.part.ensures at (e.told scope sc (subst (λ (j : ℕ). Scoped s.args.state.now s.args.work.now j scope) z sc) no_more Blocks.none (record { gathers = λ q. absurd (omega (arith, s.requires.1.2)) }))) c.if1.true }
+    record { kept = e.kept; told = λ scope sc. quant_stop scope _ c.before.before.before.before.before.before.before.before.before.word.ensures.0 h s.requires.1.1 s.requires.1.2 (rw c.before.before.before.before.before.before.before.part.ensures at (e.told scope sc (subst (λ (j : ℕ). Scoped s.args.state.now s.args.work.now j scope) z sc) no_more Blocks.none (record { gathers = λ q. absurd (omega (arith, s.requires.1.2)) }))) c.if1.true }
 
 quant-returns-2 : (t : ℕ) → quant-lts.Need-returns-2 (quant-calls t) (quant-at t) quant.Post
 quant-returns-2 t c =
@@ -40,7 +40,7 @@ quant-returns-2 t c =
     let e = c.before.before.before.before.before.before.before.before.lines.ensures in
     let h = s.requires.1.0 in
     let z : s.args.n ≡ s.args.n + 0 = omega arith in
-    record { kept = e.kept; told = λ scope sc. quant-go scope _ c.before.before.before.before.before.before.before.before.before.before.before.before.word.ensures.0 h s.requires.1.1 s.requires.1.2 (rw c.before.before.before.before.before.before.before.before.before.before.part.ensures at (e.told scope sc (subst (λ (j : ℕ). Scoped s.args.state.now s.args.work.now j scope) z sc) no_more Blocks.none (record { gathers = λ q. absurd (omega (arith, s.requires.1.2)) }))) c.before.before.before.if1.false c.judge.ensures.0 (c.judge.ensures.1 ∙ c.before.verdict.ensures ∙ ap (λ (j : ℕ). verdictOf (quantifierOf j) c.before.before.before.before.before.before.before.before.lines.result.flag) (in_words h 0 _ c.before.before.word2.ensures.0)) }
+    record { kept = e.kept; told = λ scope sc. quant_go scope _ c.before.before.before.before.before.before.before.before.before.before.before.before.word.ensures.0 h s.requires.1.1 s.requires.1.2 (rw c.before.before.before.before.before.before.before.before.before.before.part.ensures at (e.told scope sc (subst (λ (j : ℕ). Scoped s.args.state.now s.args.work.now j scope) z sc) no_more Blocks.none (record { gathers = λ q. absurd (omega (arith, s.requires.1.2)) }))) c.before.before.before.if1.false c.judge.ensures.0 (c.judge.ensures.1 ∙ c.before.verdict.ensures ∙ ap (λ (j : ℕ). verdict_of (quantifier_of j) c.before.before.before.before.before.before.before.before.lines.result.flag) (in_words h 0 _ c.before.before.word2.ensures.0)) }
 
 pub quant-closed : {M : Type 1} (t : ℕ) → quant-lts.Closed (quant-calls t) (quant-at t) quant.Post M
 quant-closed t =

@@ -2,9 +2,9 @@ use lib.ListN.{get_or}
 use mathlib.Core.Path.{◌≡◌, refl, ◌∙◌}
 use native.Mathlib.Omega.{arith}
 use Rattle.reader_rules.specs.Kinds.{expressions}
-use Rattle.evaluator_nodes.proofs.NodeLaws.{ready-lower, relation-operands, equal-told}
-use Rattle.evaluator_scope.proofs.BlockLaws.{scoped-same}
-use Rattle.evaluator_operations.proofs.ToldLaws.{halt-told, second-told, both_told}
+use Rattle.evaluator_nodes.proofs.NodeLaws.{ready_lower, relation_operands, equal_told}
+use Rattle.evaluator_scope.proofs.BlockLaws.{scoped_same}
+use Rattle.evaluator_operations.proofs.ToldLaws.{halt_told, second_told, both_told}
 -- The answers of `same`.
 use Prim.Native.Nat.{◌+◌, ◌*◌, ◌-◌}
 use borrow.Author.Rules.{rules}
@@ -19,24 +19,24 @@ same-expr-requires : (t : ℕ) → same-lts.Need-expr-requires (same-calls t) (s
 same-expr-requires t c κs =
     let s = c.before.before.before.before.before.before in
     let h = s.requires.1.0 in
-    let o = relation-operands h 21 s.requires.1.1 (omega arith) (omega arith) _ (get_or s.args.w.now 2 0) c.word.ensures.0 refl in
+    let o = relation_operands h 21 s.requires.1.1 (omega arith) (omega arith) _ (get_or s.args.w.now 2 0) c.word.ensures.0 refl in
     let x = o.0.below in
-    (omega arith, ready-lower _ expressions _ refl h.ready o.0)
+    (omega arith, ready_lower _ expressions _ refl h.ready o.0)
 
 same-returns : (t : ℕ) → same-lts.Need-returns (same-calls t) (same_at t) same.Post
 same-returns t c =
     let e = c.before.before.before.before.before.expr.ensures in
     let s = c.before.before.before.before.before.before.before.before.before.before.before.before in
     let h = s.requires.1.0 in
-    record { kept = e.kept; told = λ scope sc. equal-told h _ (get_or s.args.w.now 2 0) c.before.before.before.before.before.before.word.ensures.0 refl scope s.requires.1.1 (halt-told _ (e.told scope sc) c.if1.true) }
+    record { kept = e.kept; told = λ scope sc. equal_told h _ (get_or s.args.w.now 2 0) c.before.before.before.before.before.before.word.ensures.0 refl scope s.requires.1.1 (halt_told _ (e.told scope sc) c.if1.true) }
 
 same-expr-requires-2 : (t : ℕ) → same-lts.Need-expr-requires-2 (same-calls t) (same_at t) same.Post
 same-expr-requires-2 t c κs =
     let s = c.before.before.before.before.before.before.before.before.before.before.before.before.before.before in
     let h = s.requires.1.0 in
-    let o = relation-operands h 21 s.requires.1.1 (omega arith) (omega arith) _ _ c.before.before.before.before.before.before.before.before.word.ensures.0 c.word2.ensures.0 in
+    let o = relation_operands h 21 s.requires.1.1 (omega arith) (omega arith) _ _ c.before.before.before.before.before.before.before.before.word.ensures.0 c.word2.ensures.0 in
     let x = o.1.below in
-    (omega arith, ready-lower _ expressions _ c.before.before.before.before.before.before.before.expr.auto.1.1.0 h.ready o.1)
+    (omega arith, ready_lower _ expressions _ c.before.before.before.before.before.before.before.expr.auto.1.1.0 h.ready o.1)
 
 same-returns-2 : (t : ℕ) → same-lts.Need-returns-2 (same-calls t) (same_at t) same.Post
 same-returns-2 t c =
@@ -44,7 +44,7 @@ same-returns-2 t c =
     let g = c.before.before.before.before.before.expr2.ensures in
     let s = c.before.before.before.before.before.before.before.before.before.before.before.before.before.before.before.before.before.before.before.before in
     let h = s.requires.1.0 in
-    record { kept = g.kept ∙ e.kept; told = λ scope sc. equal-told h _ _ c.before.before.before.before.before.before.before.before.before.before.before.before.before.before.word.ensures.0 c.before.before.before.before.before.before.word2.ensures.0 scope s.requires.1.1 (second-told (e.told scope sc) c.before.before.before.before.before.before.before.before.if1.false (g.told scope (scoped-same _ _ _ _ e.kept sc)) _ c.if2.true) }
+    record { kept = g.kept ∙ e.kept; told = λ scope sc. equal_told h _ _ c.before.before.before.before.before.before.before.before.before.before.before.before.before.before.word.ensures.0 c.before.before.before.before.before.before.word2.ensures.0 scope s.requires.1.1 (second_told (e.told scope sc) c.before.before.before.before.before.before.before.before.if1.false (g.told scope (scoped_same _ _ _ _ e.kept sc)) _ c.if2.true) }
 
 same-returns-3 : (t : ℕ) → same-lts.Need-returns-3 (same-calls t) (same_at t) same.Post
 same-returns-3 t c =
@@ -52,7 +52,7 @@ same-returns-3 t c =
     let g = c.before.before.before.before.before.before.before.before.expr2.ensures in
     let s = c.before.before.before.before.before.before.before.before.before.before.before.before.before.before.before.before.before.before.before.before.before.before.before in
     let h = s.requires.1.0 in
-    record { kept = g.kept ∙ e.kept; told = λ scope sc. equal-told h _ _ c.before.before.before.before.before.before.before.before.before.before.before.before.before.before.before.before.before.word.ensures.0 c.before.before.before.before.before.before.before.before.before.word2.ensures.0 scope s.requires.1.1 (both_told (e.told scope sc) c.before.before.before.before.before.before.before.before.before.before.before.if1.false (g.told scope (scoped-same _ _ _ _ e.kept sc)) c.before.before.before.if2.false (λ u v a b. c.equal.ensures u v a.held b.held)) }
+    record { kept = g.kept ∙ e.kept; told = λ scope sc. equal_told h _ _ c.before.before.before.before.before.before.before.before.before.before.before.before.before.before.before.before.before.word.ensures.0 c.before.before.before.before.before.before.before.before.before.word2.ensures.0 scope s.requires.1.1 (both_told (e.told scope sc) c.before.before.before.before.before.before.before.before.before.before.before.if1.false (g.told scope (scoped_same _ _ _ _ e.kept sc)) c.before.before.before.if2.false (λ u v a b. c.equal.ensures u v a.held b.held)) }
 
 pub same-closed : {M : Type 1} (t : ℕ) → same-lts.Closed (same-calls t) (same_at t) same.Post M
 same-closed t =

@@ -1,8 +1,8 @@
 use mathlib.Core.Path.{◌≡◌, refl, ◌∙◌}
 use native.Mathlib.Omega.{arith}
 use Rattle.reader_rules.specs.Kinds.{expressions}
-use Rattle.evaluator_nodes.proofs.NodeLaws.{ready-lower, power-operand}
-use Rattle.evaluator_nodes.proofs.FactorLaws.{power-stop, power-go}
+use Rattle.evaluator_nodes.proofs.NodeLaws.{ready_lower, power_operand}
+use Rattle.evaluator_nodes.proofs.FactorLaws.{power_stop, power_go}
 -- The answers of `subsets`.
 use Prim.Native.Nat.{◌+◌, ◌*◌, ◌-◌}
 use borrow.Author.Rules.{rules}
@@ -17,21 +17,21 @@ subsets-expr-requires : (t : ℕ) → subsets-lts.Need-expr-requires (subsets-ca
 subsets-expr-requires t c κs =
     let s = c.before.before.before.before.before.before in
     let h = s.requires.1.0 in
-    let o = power-operand h s.requires.1.1 _ c.word.ensures.0 in
+    let o = power_operand h s.requires.1.1 _ c.word.ensures.0 in
     let x = o.below in
-    (omega arith, ready-lower _ expressions _ refl h.ready o)
+    (omega arith, ready_lower _ expressions _ refl h.ready o)
 
 subsets-returns : (t : ℕ) → subsets-lts.Need-returns (subsets-calls t) (subsets-at t) subsets.Post
 subsets-returns t c =
     let e = c.before.before.before.before.expr.ensures in
     let s = c.before.before.before.before.before.before.before.before.before.before.before in
-    record { kept = e.kept; told = λ scope sc. power-stop s.requires.1.0 s.requires.1.1 _ c.before.before.before.before.before.word.ensures.0 scope (e.told scope sc) c.if1.true }
+    record { kept = e.kept; told = λ scope sc. power_stop s.requires.1.0 s.requires.1.1 _ c.before.before.before.before.before.word.ensures.0 scope (e.told scope sc) c.if1.true }
 
 subsets-returns-2 : (t : ℕ) → subsets-lts.Need-returns-2 (subsets-calls t) (subsets-at t) subsets.Post
 subsets-returns-2 t c =
     let e = c.before.before.before.before.before.before.expr.ensures in
     let s = c.before.before.before.before.before.before.before.before.before.before.before.before.before in
-    record { kept = e.kept; told = λ scope sc. power-go s.requires.1.0 s.requires.1.1 _ c.before.before.before.before.before.before.before.word.ensures.0 scope (e.told scope sc) c.before.before.if1.false c.powered.ensures }
+    record { kept = e.kept; told = λ scope sc. power_go s.requires.1.0 s.requires.1.1 _ c.before.before.before.before.before.before.before.word.ensures.0 scope (e.told scope sc) c.before.before.if1.false c.powered.ensures }
 
 pub subsets-closed : {M : Type 1} (t : ℕ) → subsets-lts.Closed (subsets-calls t) (subsets-at t) subsets.Post M
 subsets-closed t =

@@ -4,8 +4,8 @@ use mathlib.Core.List.{List}
 use Prim.Native.Nat.{ℕ}
 use lib.ListN.{get_or, length}
 use Rattle.reader_rules.specs.Kinds.{expressions}
-use Rattle.evaluator_nodes.proofs.NodeLaws.{few_words, handed-of}
-use Rattle.evaluator_nodes.proofs.TestLaws.{integers-test}
+use Rattle.evaluator_nodes.proofs.NodeLaws.{few_words, handed_of}
+use Rattle.evaluator_nodes.proofs.TestLaws.{integers_test}
 -- The answers of `tests`.
 use Prim.Native.Nat.{◌+◌, ◌*◌, ◌-◌}
 use borrow.Author.Rules.{rules}
@@ -17,10 +17,10 @@ use Rattle.evaluator_nodes.proofs.nodes.+adds_all_apply_arith_assign_below_body_
 use Rattle.evaluator_nodes.proofs.nodes.+adds_all_apply_arith_assign_below_body_compr_connect_display_each_each_part_expr_factors_lines_member_negate_parts_power_pred_product_quant_reckon_refers_same_subsets_tests_tuple_tuples_turn_value.Proof.Env.{tests-at, tests-calls}
 
 tests-product-requires : (t : ℕ) → tests-lts.Need-product-requires (tests-calls t) (tests-at t) tests.Post
-tests-product-requires t c κs = let s = c.before.before.before.before.before.before.before in (omega arith, (handed-of s.requires.1 c.before.before.before.part.ensures, sym (ap (λ (l : List ℕ). get_or l 0 0) c.before.before.before.part.ensures) ∙ sym c.before.before.word.ensures.0 ∙ c.before.match.keys2))
+tests-product-requires t c κs = let s = c.before.before.before.before.before.before.before in (omega arith, (handed_of s.requires.1 c.before.before.before.part.ensures, sym (ap (λ (l : List ℕ). get_or l 0 0) c.before.before.before.part.ensures) ∙ sym c.before.before.word.ensures.0 ∙ c.before.match.keys2))
 
 tests-power-requires : (t : ℕ) → tests-lts.Need-power-requires (tests-calls t) (tests-at t) tests.Post
-tests-power-requires t c κs = let s = c.before.before.before.before.before.before.before in (omega arith, (handed-of s.requires.1 c.before.before.before.part.ensures, sym (ap (λ (l : List ℕ). get_or l 0 0) c.before.before.before.part.ensures) ∙ sym c.before.before.word.ensures.0 ∙ c.before.match.keys3))
+tests-power-requires t c κs = let s = c.before.before.before.before.before.before.before in (omega arith, (handed_of s.requires.1 c.before.before.before.part.ensures, sym (ap (λ (l : List ℕ). get_or l 0 0) c.before.before.before.part.ensures) ∙ sym c.before.before.word.ensures.0 ∙ c.before.match.keys3))
 
 tests-value-requires : (t : ℕ) → tests-lts.Need-value-requires (tests-calls t) (tests-at t) tests.Post
 tests-value-requires t c κs =
@@ -32,7 +32,7 @@ tests-value-requires t c κs =
 tests-returns : (t : ℕ) → tests-lts.Need-returns (tests-calls t) (tests-at t) tests.Post
 tests-returns t c =
     let s = c.before.before.before.before.before.before.before in
-    record { kept = refl; told = λ x h scope sc. integers-test s.requires.1 (sym (ap (λ (l : List ℕ). get_or l 0 0) c.before.before.before.part.ensures) ∙ sym c.before.before.word.ensures.0 ∙ c.before.match.keys1) x scope (c.is-integer.ensures x h) }
+    record { kept = refl; told = λ x h scope sc. integers_test s.requires.1 (sym (ap (λ (l : List ℕ). get_or l 0 0) c.before.before.before.part.ensures) ∙ sym c.before.before.word.ensures.0 ∙ c.before.match.keys1) x scope (c.is-integer.ensures x h) }
 
 tests-returns-2 : (t : ℕ) → tests-lts.Need-returns-2 (tests-calls t) (tests-at t) tests.Post
 tests-returns-2 t c = c.before.before.product.ensures

@@ -6,8 +6,8 @@ use native.Mathlib.Omega.{arith}
 use Rattle.reader_rules.specs.Nodes.{operand_at}
 use Rattle.reader_rules.specs.Kinds.{predicates}
 use Rattle.evaluator_nodes.specs.Ready.{Ready}
-use Rattle.evaluator_scope.proofs.BlockLaws.{scoped-same}
-use Rattle.evaluator_nodes.proofs.AssignLaws.{scoping-same, text-pred, turn-stop, turn-true, turn-false}
+use Rattle.evaluator_scope.proofs.BlockLaws.{scoped_same}
+use Rattle.evaluator_nodes.proofs.AssignLaws.{scoping_same, text_pred, turn_stop, turn_true, turn_false}
 -- The answers of `turn`.
 use Prim.Native.Nat.{◌+◌, ◌*◌, ◌-◌}
 use borrow.Author.Rules.{rules}
@@ -23,7 +23,7 @@ turn-pred-requires t c κs =
     let s = c.before.before.before.before.before.before.before.before.before in
     let x = c.before.before.before.word.ensures.0 ∙ ap (λ (l : List ℕ). get_or l 1 0) c.before.before.before.before.part.ensures in
     let y = c.word2.ensures.0 ∙ ap (λ (l : List ℕ). get_or l 1 0) c.before.part2.ensures in
-    let p = text-pred s.requires.1 _ _ x y in
+    let p = text_pred s.requires.1 _ _ x y in
     let l = p.0 in
     let z : s.args.n + 0 ≡ s.args.n = omega arith in
     (omega arith, subst (λ (j : ℕ). Ready s.args.doc.now s.args.work.now predicates j c.word2.result) z p.1)
@@ -34,10 +34,10 @@ turn-returns t c =
     let e = c.before.before.before.before.pred.ensures in
     let x = c.before.before.before.before.before.before.before.before.word.ensures.0 ∙ ap (λ (l : List ℕ). get_or l 1 0) c.before.before.before.before.before.before.before.before.before.part.ensures in
     let y = c.before.before.before.before.before.word2.ensures.0 ∙ ap (λ (l : List ℕ). get_or l 1 0) c.before.before.before.before.before.before.part2.ensures ∙ ap (λ (j : ℕ). operand_at s.args.doc.now j 1) x in
-    record { kept = e.kept; told = λ scope sc vs h. turn-stop s.args.doc.now s.args.k _ y scope vs (e.told scope sc) c.if1.true }
+    record { kept = e.kept; told = λ scope sc vs h. turn_stop s.args.doc.now s.args.k _ y scope vs (e.told scope sc) c.if1.true }
 
 turn-body-requires : (t : ℕ) → turn-lts.Need-body-requires (turn-calls t) (turn_at t) turn.Post
-turn-body-requires t c κs = let s = c.before.before.before.before.before.before.before.before.before.before.before.before.before.before.before.before.before.before in (omega arith, (scoping-same s.requires.1 _ c.before.before.before.before.before.before.before.before.pred.auto.1.1.0, c.part3.ensures))
+turn-body-requires t c κs = let s = c.before.before.before.before.before.before.before.before.before.before.before.before.before.before.before.before.before.before in (omega arith, (scoping_same s.requires.1 _ c.before.before.before.before.before.before.before.before.pred.auto.1.1.0, c.part3.ensures))
 
 turn-returns-2 : (t : ℕ) → turn-lts.Need-returns-2 (turn-calls t) (turn_at t) turn.Post
 turn-returns-2 t c =
@@ -46,7 +46,7 @@ turn-returns-2 t c =
     let g = c.before.before.before.before.body.ensures in
     let x = c.before.before.before.before.before.before.before.before.before.before.before.before.before.before.before.before.before.word.ensures.0 ∙ ap (λ (l : List ℕ). get_or l 1 0) c.before.before.before.before.before.before.before.before.before.before.before.before.before.before.before.before.before.before.part.ensures in
     let y = c.before.before.before.before.before.before.before.before.before.before.before.before.before.before.word2.ensures.0 ∙ ap (λ (l : List ℕ). get_or l 1 0) c.before.before.before.before.before.before.before.before.before.before.before.before.before.before.before.part2.ensures ∙ ap (λ (j : ℕ). operand_at s.args.doc.now j 1) x in
-    record { kept = g.kept ∙ e.kept; told = λ scope sc vs h. turn-true s.args.doc.now s.args.k _ y scope vs (e.told scope sc) c.before.before.before.before.before.before.before.before.before.if1.false c.before.before.before.before.before.before.before.before.if2.true (g.told scope (scoped-same _ _ _ _ e.kept sc) vs h) }
+    record { kept = g.kept ∙ e.kept; told = λ scope sc vs h. turn_true s.args.doc.now s.args.k _ y scope vs (e.told scope sc) c.before.before.before.before.before.before.before.before.before.if1.false c.before.before.before.before.before.before.before.before.if2.true (g.told scope (scoped_same _ _ _ _ e.kept sc) vs h) }
 
 turn-returns-3 : (t : ℕ) → turn-lts.Need-returns-3 (turn-calls t) (turn_at t) turn.Post
 turn-returns-3 t c =
@@ -54,7 +54,7 @@ turn-returns-3 t c =
     let e = c.before.before.before.before.before.before.pred.ensures in
     let x = c.before.before.before.before.before.before.before.before.before.before.word.ensures.0 ∙ ap (λ (l : List ℕ). get_or l 1 0) c.before.before.before.before.before.before.before.before.before.before.before.part.ensures in
     let y = c.before.before.before.before.before.before.before.word2.ensures.0 ∙ ap (λ (l : List ℕ). get_or l 1 0) c.before.before.before.before.before.before.before.before.part2.ensures ∙ ap (λ (j : ℕ). operand_at s.args.doc.now j 1) x in
-    record { kept = e.kept; told = λ scope sc vs h. turn-false s.args.doc.now s.args.k _ y scope vs (e.told scope sc) c.before.before.if1.false c.before.if2.false c.judge.ensures.0 c.judge.ensures.1 h }
+    record { kept = e.kept; told = λ scope sc vs h. turn_false s.args.doc.now s.args.k _ y scope vs (e.told scope sc) c.before.before.if1.false c.before.if2.false c.judge.ensures.0 c.judge.ensures.1 h }
 
 pub turn-closed : {M : Type 1} (t : ℕ) → turn-lts.Closed (turn-calls t) (turn_at t) turn.Post M
 turn-closed t =

@@ -1,6 +1,6 @@
 use mathlib.Core.Path.{◌≡◌, refl, ◌∙◌}
 use native.Mathlib.Omega.{arith}
-use Rattle.evaluator_nodes.proofs.TestLaws.{value-stop, value-go}
+use Rattle.evaluator_nodes.proofs.TestLaws.{value_stop, value_go}
 -- The answers of `value`.
 use Prim.Native.Nat.{◌+◌, ◌*◌, ◌-◌}
 use borrow.Author.Rules.{rules}
@@ -18,13 +18,13 @@ value-returns : (t : ℕ) → value-lts.Need-returns (value-calls t) (value-at t
 value-returns t c =
     let e = c.before.before.before.before.before.expr.ensures in
     let p = c.before.before.before.before.before.before.before.before.before.before.requires.1 in
-    record { kept = e.kept; told = λ x h scope sc. value-stop p.0 p.1 p.2 p.3 x scope (e.told scope sc) c.if1.true }
+    record { kept = e.kept; told = λ x h scope sc. value_stop p.0 p.1 p.2 p.3 x scope (e.told scope sc) c.if1.true }
 
 value-returns-2 : (t : ℕ) → value-lts.Need-returns-2 (value-calls t) (value-at t) value.Post
 value-returns-2 t c =
     let e = c.before.before.before.before.before.before.before.expr.ensures in
     let p = c.before.before.before.before.before.before.before.before.before.before.before.before.requires.1 in
-    record { kept = e.kept; told = λ x h scope sc. value-go p.0 p.1 p.2 p.3 x scope (e.told scope sc) c.before.before.if1.false (λ y g. c.among.ensures x y h g) }
+    record { kept = e.kept; told = λ x h scope sc. value_go p.0 p.1 p.2 p.3 x scope (e.told scope sc) c.before.before.if1.false (λ y g. c.among.ensures x y h g) }
 
 pub value-closed : {M : Type 1} (t : ℕ) → value-lts.Closed (value-calls t) (value-at t) value.Post M
 value-closed t =
