@@ -1,4 +1,6 @@
 // Each call from a Rattle program, on a few documents: stdout holds the findings. The table of vectors is tests/compare/vectors.
+#![tactic(auto)]
+
 use codes::limits;
 use libc::STDOUT_FILENO;
 use words::word;

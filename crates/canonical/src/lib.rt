@@ -1,4 +1,6 @@
 // The one coding of a document (document 02, ask 3): a readable document written again, operands before their node, in operand order, depth first.
+#![tactic(auto)]
+
 use codes::findings;
 use codes::limits::NODES;
 use reader_rules::Reading;

@@ -1,4 +1,6 @@
 // The calls for C and Rust. Each gives its finding as one number.
+#![tactic(auto)]
+
 ghost use Rattle.std.specs.Prelude.{◌≡◌, length};
 ghost use Rattle.reader_rules.specs.Reading.{read_of};
 ghost use Rattle.states_rules.specs.States.{state_check_of};

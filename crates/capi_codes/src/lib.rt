@@ -1,4 +1,6 @@
 // A finding as one number for C and Rust, and back.
+#![tactic(auto)]
+
 ghost use Rattle.std.specs.Prelude.{◌≡◌};
 ghost use Rattle.capi_codes.specs.Code.{code_of, code_finding, check_code, run_code};
 

@@ -1,4 +1,6 @@
 // The check call: a document's finding, and the dictionary of an accepted one. The definitions are in the crate `checker_rules`, specs/Areas and specs/Check.
+#![tactic(auto)]
+
 ghost use Rattle.std.specs.Prelude.{◌≡◌, ◌≤◌, ◌<◌, length};
 ghost use Rattle.layout.specs.Layout.{count};
 ghost use Rattle.reader_rules.specs.Decode.{tree_of, paragraphs_from};

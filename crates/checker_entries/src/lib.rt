@@ -1,4 +1,6 @@
 // The entries of a paragraph, written into the work area, where they wait for its end: each after its length. specs/Entries.antt.
+#![tactic(auto)]
+
 pub mod parameters;
 
 ghost use Rattle.std.specs.Prelude.{◌≡◌, List, [], ◌∷◌, ℕ, ◌+◌, ◌*◌, ◌-◌, ◌≤◌, ◌<◌, ◌^◌, length, drop};

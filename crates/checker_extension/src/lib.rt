@@ -1,4 +1,6 @@
 // The dictionary extended by one paragraph of the Document: its finding, then 22, else its entries.
+#![tactic(auto)]
+
 ghost use Rattle.std.specs.Prelude.{◌≡◌, List, ◌≤◌, ◌^◌, length};
 ghost use Rattle.reader_rules.specs.Decode.{paragraph_at};
 ghost use Rattle.checker_rules.specs.Dictionary.{Entry, Dictionary, dictionary_length};

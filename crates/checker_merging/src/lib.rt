@@ -1,4 +1,6 @@
 // Finding 36: the signatures of lines, and of a Conjunction's two sides, beside each other. specs/Merging.antt says what is asked and told.
+#![tactic(auto)]
+
 ghost use Rattle.std.specs.Prelude.{length, drop, ◌+◌, ◌*◌, ◌≤◌};
 ghost use Rattle.checker_signatures.specs.Rows.{rows, identifiers_of};
 ghost use Rattle.checker_merging.specs.Merging.{DeclaredAsk, OneTold, DeclaredTold, RowsAsk, RowsTold, NewTold};

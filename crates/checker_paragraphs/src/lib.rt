@@ -1,4 +1,6 @@
 // Schema expressions and paragraphs, above the functions over nodes.
+#![tactic(auto)]
+
 pub mod abbreviations;
 pub mod paragraphs;
 pub mod schemas;

@@ -1,5 +1,6 @@
 // Closed pieces on the solver's store: the solutions of the store are the typings that meet the items visited so far. specs/Piece.antt has the
 // invariant, specs/Stage.antt what functions ask and promise, proofs/ the laws: one for each thing that a typing rule does.
+#![tactic(auto)]
 
 pub mod closing;
 pub mod formers;

@@ -1,5 +1,7 @@
 // The run call. The definitions are in the crate `evaluator_rules`, the paragraphs in `evaluator_paragraphs`; nothing here looks at the checker.
 // Document 01, forms: "the run rests on the reader's promise and on nothing inside the checker".
+#![tactic(auto)]
+
 ghost use Rattle.std.specs.Prelude.{◌≡◌, ◌≤◌, length};
 ghost use Rattle.reader_rules.specs.Reading.{read_of};
 ghost use Rattle.reader_rules.specs.Decode.{tree_of};

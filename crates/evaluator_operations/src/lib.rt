@@ -1,4 +1,6 @@
 // What the operations of a run do with values. The definitions are in the crate `evaluator_rules`.
+#![tactic(auto)]
+
 pub mod collections;
 pub mod enumerations;
 pub mod gathering;

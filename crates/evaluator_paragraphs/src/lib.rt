@@ -1,4 +1,6 @@
 // The paragraphs of a run, in Document order. n is the number of blocks in the work area: the global names so far.
+#![tactic(auto)]
+
 ghost use Rattle.std.specs.Prelude.{◌≡◌, true, false, ◌+◌, ◌-◌, ◌≤◌, ◌<◌, length, get_or, drop};
 ghost use Rattle.layout.specs.Layout.{count, part};
 ghost use Rattle.reader_rules.specs.Kinds.{expressions, predicates, texts, paragraphs};

@@ -1,4 +1,6 @@
 // The names in scope, as blocks in the work area, the newest last (specs/Blocks.antt).
+#![tactic(auto)]
+
 mod classes;
 pub mod named;
 

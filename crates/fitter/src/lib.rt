@@ -1,4 +1,6 @@
 // The fit call: the check, then a state against its dictionary, 41 and 42. The definitions are in the crate `fitter_rules`.
+#![tactic(auto)]
+
 ghost use Rattle.std.specs.Prelude.{◌≡◌, length};
 ghost use Rattle.reader_rules.specs.Reading.{read_of};
 ghost use Rattle.reader_rules.specs.Decode.{tree_of};

@@ -1,1 +1,2 @@
 // The fit call, defined; the code is in `fitter`.
+#![tactic(auto)]

@@ -1,4 +1,6 @@
 // Finding 42: the values of a state against the types that the dictionary records.
+#![tactic(auto)]
+
 use crate::names::{Role, name_of};
 use checker_dictionary::lookup::{entry_of_name, type_place};
 use codes::findings;

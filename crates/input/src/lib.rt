@@ -1,4 +1,6 @@
 // The words of a program's input: four bytes a word, low byte first.
+#![tactic(auto)]
+
 ghost use Rattle.std.specs.Prelude.{◌≡◌, ◌++◌, ◌+◌, ◌*◌, ◌≤◌, ◌<◌, ◌^◌, length, get_or, drop};
 ghost use Rattle.input.specs.Input.{word_at, first_words, are_words, words_after};
 

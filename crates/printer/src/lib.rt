@@ -1,4 +1,6 @@
 // The printed finding: lines of bytes for a check's finding and its dictionary. The definitions are in the crate `printer_rules`.
+#![tactic(auto)]
+
 mod buffer;
 mod lines;
 mod numbers;

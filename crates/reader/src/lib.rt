@@ -1,4 +1,6 @@
 // The reader of coded documents: findings 11 to 17 for any words (document 01, "The coded document", "Finding numbers").
+#![tactic(auto)]
+
 use codes::findings;
 use codes::limits::{DOCUMENT_WORDS, NODES};
 use layout::Form;

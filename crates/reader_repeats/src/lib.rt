@@ -1,4 +1,6 @@
 // Finding 16: identifiers and schema names written twice, by the table of parents.
+#![tactic(auto)]
+
 use crate::marks::{BITS, are_distinct, mark_new, share};
 use crate::written::{declared_at, globals_at, parameters_at, schemas_at};
 use codes::{findings, identifiers, kinds};

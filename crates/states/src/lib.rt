@@ -1,4 +1,6 @@
 // States on words: how many names of a document a state gives values to, and finding 41 with its place. The definitions are in the crate `states_rules`.
+#![tactic(auto)]
+
 use codes::{findings, limits};
 use layout::Form;
 use reader_rules::Reading;

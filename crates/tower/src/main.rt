@@ -1,5 +1,7 @@
 // The tower f (f (.. (f 1))) of applications of a generic f : ℙ (X × T), where T has 24 copies of X in a size of 32: nine levels, as deep as a document may be.
 // The tree of its type has more than 24⁹ parts, over 10¹²; the store has 100 cells. stdout holds the outcomes: one level, nine, and nine tied to their own number.
+#![tactic(auto)]
+
 ghost use Rattle.std.specs.Prelude.{◌<◌};
 ghost use Rattle.tower.specs.Ready.{Rowing, Rowed, TowerRoom, Built, Forming, Applying, Applied, Towering, Towered, Asked};
 

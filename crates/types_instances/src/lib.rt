@@ -1,4 +1,6 @@
 // Settled types and stores moved between areas: types with actuals for their parameters written out, words copied, a store saved and restored.
+#![tactic(auto)]
+
 ghost use Rattle.std.specs.Prelude.{◌≡◌, ℕ, ◌+◌, ◌*◌, ◌-◌, ◌<◌, ◌≤◌, ◌^◌, length, get_or, replicate};
 ghost use Rattle.std.proofs.lemmas.List.Edits.{sets};
 ghost use Rattle.types_cells.specs.Layout.{max_cells, first_run, frozen_size, area_size};

@@ -1,4 +1,6 @@
 // The solver over cells: what is asked of a store, and types that enter it.
+#![tactic(auto)]
+
 pub mod acyclicity;
 pub mod components;
 pub mod entering;

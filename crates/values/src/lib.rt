@@ -1,4 +1,6 @@
 // Values of a run on words: integers, elements of givens, sets and tuples, as states and work areas hold them.
+#![tactic(auto)]
+
 pub mod building;
 pub mod held;
 pub mod lookup;

@@ -1,5 +1,7 @@
 // The program of document 01, "The printed finding": a document from standard input, its finding to standard output.
 // No contract can say which bytes C's read and write move; `report` says what is written for the bytes that were read.
+#![tactic(auto)]
+
 ghost use Rattle.std.specs.Prelude.{◌≡◌, [], length};
 ghost use Rattle.checker_rules.specs.declared.Finding.TheVariants.{Refused};
 ghost use Rattle.printer_rules.specs.Print.{printed_of, print_of};

@@ -1,6 +1,8 @@
 // zrun DOCUMENT STATE: checks the document of a file, fits the state of another, and runs it. Prints `holds`, `fails at 12` or `refused 42 at 3`
 // to standard output, or to standard error why a file cannot be read. A file whose bytes are no words, or more than 16,384, counts as one of none:
 // a document of no words is 11 at 0, a state 41 at 0.
+#![tactic(auto)]
+
 ghost use Rattle.std.specs.Prelude.{◌≡◌, ◌≤◌, length};
 ghost use Rattle.fitter_rules.specs.Fit.{fit_of};
 ghost use Rattle.evaluator_rules.specs.Run.{run_of};
