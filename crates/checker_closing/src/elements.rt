@@ -9,7 +9,7 @@ use checker_pieces::powers::is_power;
 use codes::findings;
 
 // Number 33 or 39: the set's type is no power; 34: its piece has several solutions. Otherwise 0, the size of the elements' type, at most 33, and where its words end.
-#[derive(Drop)]
+#[derive(Clone, Copy)]
 pub struct Element {
     pub number: u32,
     pub size: usize,

@@ -16,7 +16,7 @@ use words::word;
 pub const FIRST_ACTUAL: usize = 4;
 
 // The finding of looking a schema up, 0 for none; where its type stands in the dictionary.
-#[derive(Drop)]
+#[derive(Clone, Copy)]
 pub struct Schema {
     pub number: u32,
     pub at: usize,

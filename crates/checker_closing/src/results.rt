@@ -3,7 +3,7 @@ ghost use Rattle.std.specs.Prelude.{◌≡◌, ◌<◌, ◌^◌};
 ghost use Rattle.checker_closing.specs.Nodes.{VisitAt, VerdictAt, LinedAt};
 
 // An expression: the cell of its type, the number of cells, where their runs end, and from where on the pool is clean.
-#[derive(Drop)]
+#[derive(Clone, Copy)]
 pub struct Visit {
     pub number: u32,
     pub place: u32,
@@ -14,14 +14,14 @@ pub struct Visit {
 }
 
 // A predicate.
-#[derive(Drop)]
+#[derive(Clone, Copy)]
 pub struct Verdict {
     pub number: u32,
     pub place: u32,
 }
 
 // A Text, lines, an Include: the number of rows of its signature, and from where on the pool is clean.
-#[derive(Drop)]
+#[derive(Clone, Copy)]
 pub struct Lined {
     pub number: u32,
     pub place: u32,

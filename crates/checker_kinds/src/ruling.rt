@@ -1,7 +1,7 @@
 // What a rule returns. Number 0: the node's items pass; otherwise it is the number of the finding at the node.
 
 // The rule of an expression: the cell of its type, the number of cells, and where their runs end.
-#[derive(Drop)]
+#[derive(Clone, Copy)]
 pub struct Ruling {
     pub number: u32,
     pub cell: usize,
@@ -10,7 +10,7 @@ pub struct Ruling {
 }
 
 // The rule of a relation, after which its piece is closed: the number of cells.
-#[derive(Drop)]
+#[derive(Clone, Copy)]
 pub struct Relation {
     pub number: u32,
     pub cells: usize,

@@ -13,7 +13,7 @@ use types_solver::entering::Grown;
 use words::word;
 
 // A node's rule: number 0, and the cell has the node's type; or a finding at the node. The number of cells, and where their runs end.
-#[derive(Drop)]
+#[derive(Clone, Copy)]
 pub struct LookupRuling {
     pub number: u32,
     pub cell: usize,

@@ -128,7 +128,7 @@ pub fn wrong_old(work: &[u32], base: usize, m: usize, part: &[u32], first: usize
 }
 
 // Whether the names are wrong, 37, and otherwise the number of rows that the Include brings.
-#[derive(Drop)]
+#[derive(Clone, Copy)]
 pub struct Brought {
     pub wrong: bool,
     pub count: usize,

@@ -6,7 +6,7 @@ ghost use Rattle.evaluator_operations.specs.Steps.{decision_of, verdict_of};
 use codes::kinds;
 
 // What the left side says of and, or, implies, kinds 25 to 27.
-#[derive(Drop)]
+#[derive(Clone, Copy)]
 pub enum Decision {
     Known(bool),
     Right,

@@ -6,7 +6,7 @@ use values::held::{Held, empty};
 use values::numbers::Number;
 
 // A truth value; a number other than 0 is a finding that stops the run, at a node.
-#[derive(Drop)]
+#[derive(Clone, Copy)]
 pub struct Judgement {
     pub flag: bool,
     pub number: u32,
@@ -14,14 +14,14 @@ pub struct Judgement {
 }
 
 // A value, where the judgement has the number 0.
-#[derive(Drop)]
+#[derive(Clone, Copy)]
 pub struct Worked {
     pub held: Held,
     pub judgement: Judgement,
 }
 
 // The integer that a value is, or that it is none, where the judgement has the number 0.
-#[derive(Drop)]
+#[derive(Clone, Copy)]
 pub struct Operand {
     pub integer: Number,
     pub judgement: Judgement,

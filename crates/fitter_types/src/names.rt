@@ -17,7 +17,7 @@ use states::names::{line_count, paragraph_count};
 use words::word;
 
 // What an entry is: a given's size, or the value of an identifier.
-#[derive(Drop)]
+#[derive(Clone, Copy)]
 pub enum Role {
     Given,
     Declared { identifier: usize },

@@ -2,7 +2,7 @@
 #![tactic(auto)]
 
 // The finding of reading a document. The numbers are document 01's, 11 to 17; a place is a node, or 0 for the layout.
-#[derive(Drop)]
+#[derive(Clone, Copy)]
 pub enum Reading {
     Readable,
     Refused { number: u32, place: u32 },

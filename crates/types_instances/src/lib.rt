@@ -47,7 +47,7 @@ fn actual_size(a: &[u32], d: &[u32], row: &[u32], i: usize) -> usize
 }
 
 // The size of a type, at most 33, and where its words end.
-#[derive(Drop)]
+#[derive(Clone, Copy)]
 pub struct Sized {
     pub size: usize,
     pub end: usize,

@@ -7,7 +7,7 @@ use types_cells::growth::{add_word, new_cell};
 use types_cells::type_words::{lead_words, name_words, parts_of, skip, type_word};
 
 // A cell, the number of cells, and where their runs end.
-#[derive(Drop)]
+#[derive(Clone, Copy)]
 pub struct Grown {
     pub cell: usize,
     pub cells: usize,

@@ -14,7 +14,7 @@ use types_cells::area::{
 use types_cells::links::{find, set_link};
 use words::{store, word};
 
-#[derive(Drop)]
+#[derive(Clone, Copy)]
 pub struct Step {
     pub fine: bool,
     pub left: usize,

@@ -8,7 +8,7 @@ use words::copy;
 // The length of a value that is not held.
 pub const OVER: usize = limits::VALUE + 1;
 
-#[derive(Drop)]
+#[derive(Clone, Copy)]
 pub struct Held {
     pub words: [u32; limits::VALUE],
     pub len: usize,

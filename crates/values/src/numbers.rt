@@ -13,7 +13,7 @@ use words::word;
 const INTEGER: u32 = value_tags::INTEGER as u32;
 
 // What a value is as an integer. `numberFinding` of specs/Numbers.antt has each case's number.
-#[derive(Drop)]
+#[derive(Clone, Copy)]
 pub enum Number {
     Integer(i32),
     Misfit,

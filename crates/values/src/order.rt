@@ -4,7 +4,7 @@ ghost use Rattle.values.specs.Order.{compare_word, compare, is_same, is_less, sa
 
 use values_integers::integer::signed;
 
-#[derive(Drop)]
+#[derive(Clone, Copy)]
 pub enum Order {
     Less,
     Same,

@@ -14,14 +14,14 @@ use words::{from, word};
 const SET: u32 = value_tags::SET as u32;
 
 // Where a member goes in a set: before the word at a place, or it is there already.
-#[derive(Drop)]
+#[derive(Clone, Copy)]
 pub enum Place {
     At(usize),
     Already,
 }
 
 // What Apply finds: the place and the number of words of a value. `applyFinding` of specs/Sets.antt has each case's number.
-#[derive(Drop)]
+#[derive(Clone, Copy)]
 pub enum Applied {
     Found { at: usize, len: usize },
     Misfit,

@@ -1,7 +1,7 @@
 // What the words of values and types begin with, as the definitions of specs/ tell it apart and the crate `values_forms` computes it.
 
 // What begins somewhere: a value without parts, with its words, or a set or a tuple, with its count.
-#[derive(Drop)]
+#[derive(Clone, Copy)]
 pub enum Shape {
     Broken,
     Leaf(usize),
@@ -10,7 +10,7 @@ pub enum Shape {
 }
 
 // A former of types without types, with its words; or the words before its types, those before each of them, and how many types follow.
-#[derive(Drop)]
+#[derive(Clone, Copy)]
 pub enum Former {
     Plain(usize),
     Group { start: usize, skip: usize, n: usize },
@@ -18,7 +18,7 @@ pub enum Former {
 
 // What is to be asked of a value against a type: nothing more, or its n members or parts against the types from a place of the
 // type's words on, each against its own or all against one.
-#[derive(Drop)]
+#[derive(Clone, Copy)]
 pub enum Test {
     Fails,
     Passes,

@@ -11,7 +11,7 @@ const SMALLEST: i64 = i32::MIN as i64;
 const LARGEST: i64 = i32::MAX as i64;
 
 // What arithmetic gives. `integerFinding` of specs/Integer.antt has each case's number.
-#[derive(Drop)]
+#[derive(Clone, Copy)]
 pub enum Integer {
     Whole(i32),
     Undefined,
