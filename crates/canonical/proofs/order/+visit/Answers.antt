@@ -1,0 +1,61 @@
+use mathlib.Core.Path.{◌≡◌, refl, ap, ◌∙◌, subst}
+use mathlib.Core.Bool.{true, false}
+use mathlib.Core.Logic.{⊎_elim}
+use native.Mathlib.Omega.{arith}
+use Prim.Native.Nat.{◌-◌}
+use lib.Dec.{ltb}
+use lib.ListN.{length}
+use borrow.Author.Tests.{lt-ltb, le-ltb}
+use Rattle.canonical.proofs.VisitLaws.{left_start, left_plain, left_node, left_end, visit_small, visit_length, operand_visit, visited}
+use Rattle.canonical.proofs.order.+visit.Goals as goal
+
+pub loop-i-init : goal.loop-i-init
+loop-i-init t c = (omega arith, omega arith, refl, left_start _ _ _ _ _)
+
+pub visit-end-requires : goal.visit-end-requires
+visit-end-requires t c =
+    let l = c.loop-i in
+    let v =
+    operand_visit c.args.doc.now c.args.k c.args.at c.requires.1 _ c.part-w.ensures _ c.operand_count-n.ensures l.i l.end _ l.order _ l.invariant.0
+    c.loop-i-test.true l.invariant.3 refl c.word.result (subst (λ x. ltb 5 x ≡ true) c.sort_at.ensures (lt-ltb _ _ c.if-sort_at-gt-LAST_PLAIN.true)) c.word.ensures.0
+    in
+    let m = c.requires.0 in
+    let b = v.0 in
+    (omega (arith, m, b), v.1)
+
+pub loop-i-preserved : goal.loop-i-preserved
+loop-i-preserved t c =
+    let l = c.loop-i in
+    let t = c.loop-i-test.true in
+    let q = c.sort_at.ensures in (
+      omega arith,
+      omega arith,
+      ⊎_elim (λ p. ap length p.6 ∙ p.3.kept.1.1.0 ∙ l.invariant.2) (λ p. ap length p.1 ∙ l.invariant.2) c.if-sort_at-gt-LAST_PLAIN.branch,
+      ⊎_elim
+          (λ p. rw (p.6, p.7) (left_node _ _ _ _ _ _ _ _ t l.invariant.3 p.1.result (subst (λ x. ltb 5 x ≡ true) q (lt-ltb _ _ p.0.taken)) p.1.ensures.0 _ _ p.3.ensures.0 p.3.ensures.1))
+          (λ p. rw (p.1, p.2) (left_plain _ _ _ _ _ _ _ _ t l.invariant.3 (subst (λ x. ltb 5 x ≡ false) q (le-ltb _ _ p.0.left))))
+          c.if-sort_at-gt-LAST_PLAIN.branch,
+    )
+
+pub overflow_cast-k : goal.overflow_cast-k
+overflow_cast-k t c =
+    let b = visit_small c.args.doc.now c.args.k c.args.at c.requires.1 in
+    omega (arith, b)
+
+pub overflow_add-result : goal.overflow_add-result
+overflow_add-result t c =
+    let l = c.loop-i in
+    let e = (left_end _ _ _ _ _ _ _ _ (omega arith) l.invariant.3).1 in
+    let v = visit_length c.args.doc.now c.args.k c.args.at c.requires.1 _ c.part-w.ensures _ c.operand_count-n.ensures in
+    let r = c.requires.1.room in
+    omega (arith, e, v, r)
+
+pub shape_of-order : goal.shape_of-order
+shape_of-order t c = c.store.auto.u ∙ c.loop-i.invariant.2
+
+pub returns : goal.returns
+returns t c =
+    let l = c.loop-i in
+    let e = left_end _ _ _ _ _ _ _ _ (omega arith) l.invariant.3 in
+    let v = visited c.args.doc.now c.args.k c.args.at c.requires.1 _ c.part-w.ensures _ c.operand_count-n.ensures _ l.order l.end e.0 e.1 in
+    (c.store.ensures ∙ v.0, v.1)

@@ -1,0 +1,37 @@
+use mathlib.Core.Path.{refl, sym, ap, ◌∙◌, subst}
+use native.Mathlib.Omega.{arith}
+use Prim.Native.Nat.{◌+◌, ◌-◌}
+use lib.ListN.{length, length-set}
+use Rattle.canonical.proofs.NumberLaws.{NumbersTo, numbers_next, numbers_all}
+use Rattle.canonical.proofs.order.number.Goals as goal
+
+pub loop-i-init : goal.loop-i-init
+loop-i-init c = (omega arith, refl, λ j l. absurd (omega arith))
+
+pub overflow_add-i : goal.overflow_add-i
+overflow_add-i c = let f = c.requires.few in omega arith
+
+pub overflow_cast-i : goal.overflow_cast-i
+overflow_cast-i c = let f = c.requires.few in omega arith
+
+pub overflow_add-i-in-loop-i : goal.overflow_add-i-in-loop-i
+overflow_add-i-in-loop-i c = let f = c.requires.few in omega arith
+
+pub loop-i-preserved : goal.loop-i-preserved
+loop-i-preserved c =
+    let s = c.args in
+    let p = c.requires in
+    let l = c.loop-i in
+    let t = c.loop-i-test.true in
+    let v = c.word in (
+      omega arith,
+      ap length c.store.ensures ∙ length-set l.numbers v.result _ ∙ l.invariant.1,
+      subst (λ u. NumbersTo s.nodes.now (l.i + 1) u) (sym c.store.ensures)
+          (numbers_next s.nodes.now l.numbers l.i v.result p.distinct (omega arith) (sym v.ensures.0)
+          (let b = p.inside l.i (omega arith) in let e = v.ensures.0 in let q = l.invariant.1 in omega (arith, b, e, q)) l.invariant.2),
+    )
+
+pub returns : goal.returns
+returns c =
+    let l = c.loop-i in
+    numbers_all c.args.nodes.now l.numbers l.i (omega arith) l.invariant.2

@@ -1,0 +1,14 @@
+use mathlib.Core.Path.{◌≡◌}
+use mathlib.Core.List.{map}
+use Prim.Native.Nat.{◌-◌, ◌≤◌}
+use lib.ListN.{length}
+use lib.Seq.{sets}
+use Rattle.layout.specs.Rows.{row_words}
+use Rattle.canonical.proofs.RowLaws.{WordsLeft}
+use Rattle.canonical.proofs.rows.put_rows.Given as goal
+
+abbrev pub invariant-loop-i : goal.invariant-loop-i
+invariant-loop-i l = (l.i ≤ l.n) × (length l.output ≡ length l.initial.output) × WordsLeft (row_by l.doc l.numbers) l.nodes l.i l.at l.output (sets l.initial.output l.initial.at (row_words (map (row_by l.doc l.numbers) l.nodes)))
+
+abbrev pub decreases-loop-i : goal.decreases-loop-i
+decreases-loop-i l = l.n - l.i

@@ -1,0 +1,7 @@
+use mathlib.Core.Path.{ap, ◌∙◌}
+use Rattle.capi.proofs.z_canonical.Goals as goal
+
+pub returns : goal.returns
+returns c =
+    let e = c.canonical.ensures in
+    record { finding = c.code_of.ensures ∙ ap code_of e.finding; written = e.written }

@@ -1,0 +1,7 @@
+use mathlib.Core.Path.{ap, ◌∙◌}
+use Rattle.capi.proofs.z_check.Goals as goal
+
+pub returns : goal.returns
+returns c =
+    let e = c.check.ensures in
+    record { finding = c.check_code.ensures ∙ ap check_code e.finding; recorded = e.recorded; cleared = e.cleared }

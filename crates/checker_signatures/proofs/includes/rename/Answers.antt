@@ -1,0 +1,63 @@
+use mathlib.Core.Path.{◌≡◌, refl, sym, ap, subst, ◌∙◌}
+use mathlib.Core.List.{List}
+use Prim.Native.Nat.{ℕ, ◌+◌, ◌-◌, ◌*◌, ◌≤◌, ◌<◌}
+use native.Mathlib.Omega.{arith}
+use lib.ListN.{get_or}
+use Rattle.checker_rules.specs.Signatures.{renamed}
+use Rattle.checker_signatures.specs.Rows.{rows, renames, rename_rows}
+use Rattle.checker_signatures.specs.Tables.{Table}
+use Rattle.checker_signatures.proofs.TableLaws.{table_none, table_word, table_insert, table_count, table_length}
+use Rattle.checker_signatures.proofs.MergeLaws.{rename_start, rename_go, rename_end}
+use Rattle.checker_signatures.proofs.includes.rename.Goals as goal
+
+pub loop-j-init : goal.loop-j-init
+loop-j-init c =
+    let a = c.args in
+    let w = a.work.now in
+    let ps = renames a.part.now a.first in
+    (omega arith, omega arith, refl, table_none w a.base (rename_rows ps (rows w (a.source + 2 * a.m) (a.m - a.m))) (rename_start ps w a.source a.m))
+
+pub insert-n-requires : goal.insert-n-requires
+insert-n-requires c =
+    let l = c.loop-j in
+    let p = c.requires.0.room in
+    (omega (arith, l.invariant.1, l.invariant.2, c.loop-j-test.true), c.renamed-id.ensures.1, c.word-place.ensures.1)
+
+pub loop-j-preserved : goal.loop-j-preserved
+loop-j-preserved c =
+    let a = c.args in
+    let w = a.work.now in
+    let ps = renames a.part.now a.first in
+    let l = c.loop-j in
+    let h : 0 < l.j = c.loop-j-test.true in
+    let x = c.word-old in
+    let y = c.word-place in
+    let i = c.renamed-id in
+    let t = c.insert-n in
+    let rs = rename_rows ps (rows w (a.source + 2 * l.j) (a.m - l.j)) in
+    let p = c.requires.0.room in
+    let kept : (at : ℕ) → a.source ≤ at → at < a.source + 2 * a.m → get_or l.work at 0 ≡ get_or w at 0 =
+    λ at q r. table_word w a.base l.work rs l.n l.invariant.3 a.m a.source a.m at (omega (arith, l.invariant.1)) c.requires.0.apart q r in
+    let e = i.ensures.0 ∙ ap (renamed ps) (x.ensures.0 ∙ kept (a.source + 2 * (l.j - 1)) (omega arith) (omega (arith, l.invariant.0))) in
+    let f = y.ensures.0 ∙ kept (a.source + 2 * (l.j - 1) + 1) (omega arith) (omega (arith, l.invariant.0)) in
+    let g = table_insert w a.base l.work rs l.n l.invariant.3 t.new.0 i.result y.result t.result (omega (arith, l.invariant.1)) t.ensures in
+    let n = (table_count w a.base l.work rs l.n l.invariant.3 t.new.0 i.result y.result t.result t.ensures).1 in (
+      omega (arith, l.invariant.0),
+      omega (arith, n, h, l.invariant.1),
+      table_length w a.base t.new.0 _ t.result g,
+      subst (λ (z : List (ℕ × ℕ)). Table w t.new.0 a.base z t.result)
+          (sym (rename_go ps w a.source a.m l.j h l.invariant.0 i.result y.result e f)) g,
+    )
+
+pub shape_of-work : goal.shape_of-work
+shape_of-work c = c.loop-j.invariant.2
+
+pub returns : goal.returns
+returns c =
+    let a = c.args in
+    let w = a.work.now in
+    let ps = renames a.part.now a.first in
+    let l = c.loop-j in
+    let z : l.j ≡ 0 = omega arith in
+    subst (λ (rs : List (ℕ × ℕ)). Table w l.work a.base rs l.n)
+    (ap (λ (j : ℕ). rename_rows ps (rows w (a.source + 2 * j) (a.m - j))) z ∙ rename_end ps w a.source a.m) l.invariant.3

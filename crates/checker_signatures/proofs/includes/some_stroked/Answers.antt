@@ -1,0 +1,29 @@
+use borrow.Author.Tests.{not-true, not-false}
+use mathlib.Core.Path.{sym, ◌∙◌}
+use Prim.Native.Nat.{◌-◌}
+use native.Mathlib.Omega.{arith}
+use Rattle.checker_signatures.proofs.IncludeLaws.{stroked_start, stroked_on, stroked_go, stroked_end}
+use Rattle.checker_signatures.proofs.includes.some_stroked.Goals as goal
+
+pub loop-j-init : goal.loop-j-init
+loop-j-init c = let a = c.args in (omega arith, stroked_start a.work.now a.base a.m a.k)
+
+pub returns-then-not-takes : goal.returns-then-not-takes
+returns-then-not-takes c =
+    let a = c.args in
+    let l = c.loop-j in
+    let t = c.takes in
+    sym (l.invariant.1 ∙ stroked_on a.work.now a.base a.m a.k l.j c.loop-j-test.true c.word.result c.word.ensures.0 (sym t.ensures ∙ not-true t.result c.if-not-takes.true))
+
+pub loop-j-preserved : goal.loop-j-preserved
+loop-j-preserved c =
+    let a = c.args in
+    let l = c.loop-j in
+    let t = c.takes in
+    (omega arith, l.invariant.1 ∙ stroked_go a.work.now a.base a.m a.k l.j c.loop-j-test.true c.word.result c.word.ensures.0 (sym t.ensures ∙ not-false t.result c.if-not-takes.false))
+
+pub returns : goal.returns
+returns c =
+    let a = c.args in
+    let l = c.loop-j in
+    sym (l.invariant.1 ∙ stroked_end a.work.now a.base a.m a.k l.j (omega arith))

@@ -1,0 +1,45 @@
+use Rattle.checker_rules.specs.Strokes.{takes}
+use mathlib.Core.Path.{refl, sym, ap, ◌∙◌}
+use Prim.Native.Nat.{◌+◌, ◌-◌}
+use native.Mathlib.Omega.{arith}
+use Rattle.checker_signatures.proofs.IncludeLaws.{stroke_fits, stroked_start, stroked_first, stroked_rest, stroking_start, stroking_go, stroking_end}
+use Rattle.checker_signatures.proofs.includes.stroke.Goals as goal
+
+pub loop-j-init : goal.loop-j-init
+loop-j-init c =
+    let a = c.args in
+    (omega arith, refl, sym (stroked_start a.work.now a.base a.m a.k) ∙ c.requires.2, stroking_start a.work.now a.base a.m a.k)
+
+pub overflow_add-id : goal.overflow_add-id
+overflow_add-id c = omega (arith, c.word-id.ensures.1)
+
+pub put_row-requires : goal.put_row-requires
+put_row-requires c =
+    let a = c.args in
+    let l = c.loop-j in
+    let x = c.word-id in
+    let t = ap (takes a.k) x.ensures.0 ∙ stroked_first l.work a.base a.m a.k l.j c.loop-j-test.true l.invariant.2 in
+    (omega arith, stroke_fits a.k x.result c.requires.1 x.ensures.1 t, c.word-place.ensures.1)
+
+pub loop-j-preserved : goal.loop-j-preserved
+loop-j-preserved c =
+    let a = c.args in
+    let l = c.loop-j in
+    let x = c.word-id in
+    let y = c.word-place in
+    let t = c.put_row in
+    let h = c.loop-j-test.true in (
+      omega arith,
+      t.auto.0 ∙ l.invariant.1,
+      stroked_rest l.work a.base a.m a.k l.j h l.invariant.2 t.new.0 (x.result + a.k) y.result t.ensures,
+      l.invariant.3 ∙ stroking_go l.work a.base a.m a.k l.j h t.new.0 x.result y.result x.ensures.0 y.ensures.0 t.ensures,
+    )
+
+pub shape_of-work : goal.shape_of-work
+shape_of-work c = c.loop-j.invariant.1
+
+pub returns : goal.returns
+returns c =
+    let a = c.args in
+    let l = c.loop-j in
+    sym (l.invariant.3 ∙ stroking_end l.work a.base a.m a.k l.j (omega arith))

@@ -1,0 +1,44 @@
+use mathlib.Core.Path.{refl, sym, subst, ◌∙◌}
+use mathlib.Core.List.{List}
+use Prim.Native.Nat.{ℕ, ◌-◌, ◌<◌}
+use native.Mathlib.Omega.{arith}
+use lib.ListN.{length}
+use Rattle.checker_signatures.specs.Rows.{rows}
+use Rattle.checker_signatures.specs.Tables.{Table}
+use Rattle.checker_signatures.proofs.TableLaws.{table_self, turned}
+use Rattle.checker_signatures.proofs.MergeLaws.{declare_go, declare_end}
+use Rattle.checker_signatures.proofs.tables.declare.Goals as goal
+
+pub loop-i-init : goal.loop-i-init
+loop-i-init c =
+    let a = c.args in
+    (omega arith, omega arith, refl, table_self a.work.now a.base a.m, refl)
+
+pub insert-n-requires : goal.insert-n-requires
+insert-n-requires c = (omega arith, c.word-id.ensures.1, c.requires.1)
+
+pub loop-i-preserved : goal.loop-i-preserved
+loop-i-preserved c =
+    let a = c.args in
+    let l = c.loop-i in
+    let x = c.word-id in
+    let t = c.insert-n in
+    let h : l.i < length a.part.now = c.loop-i-test.true in
+    let p = c.requires.0 in
+    let g = turned a.work.now l.work t.new.0 a.base l.n x.result a.place t.result l.invariant.3 (omega arith) t.ensures in (
+      omega arith,
+      omega (arith, g.more, l.invariant.1),
+      g.same,
+      g.table,
+      l.invariant.4 ∙ declare_go a.part.now a.place l.i (rows l.work a.base l.n) h x.result x.ensures.0 (rows t.new.0 a.base t.result) g.new,
+    )
+
+pub shape_of-work : goal.shape_of-work
+shape_of-work c = c.loop-i.invariant.2
+
+pub returns : goal.returns
+returns c =
+    let a = c.args in
+    let l = c.loop-i in
+    subst (λ (z : List (ℕ × ℕ)). Table a.work.now l.work a.base z l.n)
+    (sym (l.invariant.4 ∙ declare_end a.part.now a.place l.i (rows l.work a.base l.n) (omega arith))) l.invariant.3

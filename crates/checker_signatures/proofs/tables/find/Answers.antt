@@ -1,0 +1,36 @@
+use mathlib.Core.Path.{refl, sym, ◌∙◌}
+use Prim.Native.Nat.{◌<◌}
+use native.Mathlib.Omega.{arith}
+use Rattle.checker_signatures.proofs.InsertLaws.{find_hit, find_miss, find_none}
+use Rattle.checker_signatures.proofs.tables.find.Goals as goal
+
+pub loop-j-init : goal.loop-j-init
+loop-j-init c = (omega arith, refl)
+
+pub returns-then-word-id : goal.returns-then-word-id
+returns-then-word-id c =
+    let l = c.loop-j in
+    let h : 0 < l.j = c.loop-j-test.true in
+    let e = sym c.word.ensures.0 ∙ c.if-word-id.true in
+    record {
+      most = omega arith;
+      there = λ q. l.invariant.1 ∙ find_hit c.args.work.now c.args.base c.args.id l.j h e;
+      present = λ q. e;
+      absent = λ q. absurd (omega arith);
+    }
+
+pub loop-j-preserved : goal.loop-j-preserved
+loop-j-preserved c =
+    let l = c.loop-j in
+    let h : 0 < l.j = c.loop-j-test.true in
+    (omega arith, l.invariant.1 ∙ find_miss c.args.work.now c.args.base c.args.id l.j h (λ q. c.if-word-id.false (c.word.ensures.0 ∙ q)))
+
+pub returns : goal.returns
+returns c =
+    let l = c.loop-j in
+    record {
+      most = omega arith;
+      there = λ q. absurd (omega arith);
+      present = λ q. absurd (omega arith);
+      absent = λ q. l.invariant.1 ∙ find_none c.args.work.now c.args.base c.args.id l.j c.loop-j-test.false;
+    }

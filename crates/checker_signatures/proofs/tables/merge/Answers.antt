@@ -1,0 +1,47 @@
+use lib.ListN.{get_or}
+use mathlib.Core.Path.{◌≡◌, refl, sym, subst, ◌∙◌}
+use mathlib.Core.List.{List}
+use Prim.Native.Nat.{ℕ, ◌+◌, ◌-◌, ◌*◌, ◌≤◌, ◌<◌}
+use native.Mathlib.Omega.{arith}
+use Rattle.checker_signatures.specs.Rows.{rows}
+use Rattle.checker_signatures.specs.Tables.{Table}
+use Rattle.checker_signatures.proofs.TableLaws.{table_self, table_word, turned}
+use Rattle.checker_signatures.proofs.MergeLaws.{merge_start, merge_go, merge_end}
+use Rattle.checker_signatures.proofs.tables.merge.Goals as goal
+
+pub loop-j-init : goal.loop-j-init
+loop-j-init c =
+    let a = c.args in
+    (omega arith, omega arith, refl, table_self a.work.now a.base a.m, merge_start a.work.now a.source a.k (rows a.work.now a.base a.m))
+
+pub loop-j-preserved : goal.loop-j-preserved
+loop-j-preserved c =
+    let a = c.args in
+    let w = a.work.now in
+    let l = c.loop-j in
+    let x = c.word-id in
+    let y = c.word-place in
+    let t = c.insert-n in
+    let h : l.j < a.k = c.loop-j-test.true in
+    let p = c.requires.room in
+    let g = turned w l.work t.new.0 a.base l.n x.result y.result t.result l.invariant.3 (omega arith) t.ensures in
+    let kept : (at : ℕ) → a.source ≤ at → at < a.source + 2 * a.k → get_or l.work at 0 ≡ get_or w at 0 =
+    λ at q r. table_word w a.base l.work (rows l.work a.base l.n) l.n l.invariant.3 (a.m + a.k) a.source a.k at (omega arith) c.requires.apart q r in
+    let e = x.ensures.0 ∙ kept (a.source + 2 * l.j) (omega arith) (omega arith) in
+    let f = y.ensures.0 ∙ kept (a.source + 2 * l.j + 1) (omega arith) (omega arith) in (
+      omega arith,
+      omega (arith, g.more, l.invariant.1),
+      g.same,
+      g.table,
+      l.invariant.4 ∙ merge_go w a.source a.k l.j h x.result y.result e f (rows l.work a.base l.n) (rows t.new.0 a.base t.result) g.new,
+    )
+
+pub shape_of-work : goal.shape_of-work
+shape_of-work c = c.loop-j.invariant.2
+
+pub returns : goal.returns
+returns c =
+    let a = c.args in
+    let l = c.loop-j in
+    subst (λ (z : List (ℕ × ℕ)). Table a.work.now l.work a.base z l.n)
+    (sym (l.invariant.4 ∙ merge_end a.work.now a.source a.k l.j (omega arith) (rows l.work a.base l.n))) l.invariant.3

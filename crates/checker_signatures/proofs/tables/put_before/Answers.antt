@@ -1,0 +1,34 @@
+use mathlib.Core.Path.{refl, sym, ◌∙◌}
+use Prim.Native.Nat.{◌-◌}
+use native.Mathlib.Omega.{arith}
+use Rattle.checker_signatures.proofs.InsertLaws.{shift_start, shift_go, shift_end}
+use Rattle.checker_signatures.proofs.tables.put_before.Goals as goal
+
+pub loop-j-init : goal.loop-j-init
+loop-j-init c =
+    let a = c.args in
+    (omega arith, c.requires.1, c.requires.2, refl, shift_start a.work.now a.at a.k a.id a.place)
+
+pub loop-j-preserved : goal.loop-j-preserved
+loop-j-preserved c =
+    let a = c.args in
+    let l = c.loop-j in
+    let x = c.word-x in
+    let y = c.word-y in
+    let t = c.put_row in (
+      omega arith,
+      x.ensures.1,
+      y.ensures.1,
+      t.auto.0 ∙ l.invariant.3,
+      l.invariant.4 ∙ shift_go l.work a.at a.k l.j l.i l.p c.loop-j-test.true t.new.0 t.ensures x.result y.result x.ensures.0 y.ensures.0,
+    )
+
+pub shape_of-work : goal.shape_of-work
+shape_of-work c = c.put_row-2.auto.work ∙ c.loop-j.invariant.3
+
+pub returns : goal.returns
+returns c =
+    let a = c.args in
+    let l = c.loop-j in
+    let t = c.put_row-2 in
+    t.ensures ∙ sym (l.invariant.4 ∙ shift_end l.work a.at a.k l.j l.i l.p (omega arith))

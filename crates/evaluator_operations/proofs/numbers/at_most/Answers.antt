@@ -1,0 +1,20 @@
+use mathlib.Core.Path.{sym, ◌∙◌}
+use mir.Syntax.{w32}
+use mir.Val.{SFits}
+use mir.ValLaws.{to_z-of_z}
+use Rattle.evaluator_operations.proofs.OperationLaws.{at_most_left, at_most_right, at_most_both}
+use Rattle.evaluator_operations.proofs.numbers.at_most.Goals as goal
+
+pub returns-in-Misfit : goal.returns-in-Misfit
+returns-in-Misfit c = λ x y hx hy. at_most_left _ 0 x y _ (sym c.enum_told-1.given.1 ∙ hx.integer) c.refuse.ensures
+
+pub returns-in-Misfit-b : goal.returns-in-Misfit-b
+returns-in-Misfit-b c = λ x y hx hy. at_most_right _ 0 x y _ hx.narrow _ (sym c.a-1.given.1 ∙ hx.integer) (sym c.enum_told-in-Misfit-b-1.given.1 ∙ hy.integer) c.refuse-in-Misfit-b.ensures
+
+pub returns-in-Integer-b : goal.returns-in-Integer-b
+returns-in-Integer-b c =
+    λ x y hx hy.
+    let fi : SFits w32 c.a-1.given.0.0 = record { sfits = c.known_told-1.given.0.1 } in
+    let fj : SFits w32 c.b-1.given.0.0 = record { sfits = c.known_told-in-Integer-1.given.0.1 } in
+    at_most_both _ 0 x y _ hx.narrow hy.narrow _ _ (sym c.a-1.given.1 ∙ hx.integer) (sym c.b-1.given.1 ∙ hy.integer) c.judge.ensures.0
+    (rw (to_z-of_z w32 _ fi, to_z-of_z w32 _ fj) at c.judge.ensures.1)

@@ -1,0 +1,92 @@
+use lib.ListN.{get_or}
+use Rattle.reader_rules.specs.Decode.{tree_of, expr_at}
+use Rattle.states_rules.specs.Names.{document_names}
+use Rattle.evaluator_rules.specs.Rules.{test}
+use Rattle.evaluator_nodes.specs.Ready.{Ready}
+use Rattle.evaluator_scope.specs.Named.{Among, said}
+use Rattle.evaluator_scope.proofs.BlockLaws.{scoped_same}
+use Rattle.evaluator_paragraphs.proofs.StepLaws.{names_end, names_stop, names_go, names_failed}
+use Rattle.evaluator_scope.proofs.NamedLaws.{declares_here, declares_later}
+use mathlib.Core.Path.{refl, sym, subst, ◌∙◌}
+use mathlib.Core.Bool.{true, false}
+use native.Mathlib.Omega.{arith}
+use Prim.Native.Nat.{ℕ, ◌-◌}
+use Rattle.evaluator_paragraphs.proofs.+test_names.Goals as goal
+
+pub returns-then-x-j : goal.returns-then-x-j
+returns-then-x-j t c =
+    let d = c.args.doc.now in
+    let st = c.args.state.now in
+    let tb = c.args.table.now in
+    let x = c.args.x.now in
+    let j = c.args.j in
+    let v = c.args.v in
+    record { kept = refl; told = λ scope g. names_end v (test (expr_at d (get_or x 1 0)) scope) x j (said d st) c.if-x-j.true c.judge.ensures.0 c.judge.ensures.1 }
+
+pub held_name-requires : goal.held_name-requires
+held_name-requires t c =
+    let d = c.args.doc.now in
+    let st = c.args.state.now in
+    let tb = c.args.table.now in
+    let x = c.args.x.now in
+    let j = c.args.j in
+    let v = c.args.v in
+    (c.requires.1.0, subst (λ (n : ℕ). Among n (document_names (tree_of d))) (sym c.word-2.ensures.0) (declares_here x j (omega arith) c.requires.1.2))
+
+pub tests-y-requires : goal.tests-y-requires
+tests-y-requires t c =
+    let d = c.args.doc.now in
+    let st = c.args.state.now in
+    let tb = c.args.table.now in
+    let x = c.args.x.now in
+    let j = c.args.j in
+    let v = c.args.v in
+    subst (λ (n : ℕ). Ready d c.args.work.now expressions c.args.n n) (sym c.word.ensures.0) c.requires.1.1
+
+pub returns-then-y-ne0 : goal.returns-then-y-ne0
+returns-then-y-ne0 t c =
+    let d = c.args.doc.now in
+    let st = c.args.state.now in
+    let tb = c.args.table.now in
+    let x = c.args.x.now in
+    let j = c.args.j in
+    let v = c.args.v in
+    record { kept = c.tests-y.ensures.kept; told = λ scope g. names_stop v (test (expr_at d (get_or x 1 0)) scope) x j (said d st) c.if-x-j.false (rw (c.word.ensures.0, c.word-2.ensures.0) at (c.tests-y.ensures.told (said d st c.word-2.result) c.held_name.ensures scope g)) c.if-y-ne0.true }
+
+pub overflow_add-j : goal.overflow_add-j
+overflow_add-j t c = omega (arith, c.if-x-j.false, c.requires.1.4)
+
+pub test_names-requires : goal.test_names-requires
+test_names-requires t c =
+    let d = c.args.doc.now in
+    let st = c.args.state.now in
+    let tb = c.args.table.now in
+    let x = c.args.x.now in
+    let j = c.args.j in
+    let v = c.args.v in
+    let r = c.requires.1.1 in
+    let w = r.wide in
+    (omega (arith, c.if-x-j.false, c.requires.0), (c.requires.1.0, record { at = r.at; room = r.room; wide = omega (arith, w, c.tests-y.auto.work.1.1.0) }, declares_later x j c.if-x-j.false c.requires.1.2, c.requires.1.3, c.requires.1.4))
+
+pub returns-then-y : goal.returns-then-y
+returns-then-y t c =
+    let d = c.args.doc.now in
+    let st = c.args.state.now in
+    let tb = c.args.table.now in
+    let x = c.args.x.now in
+    let j = c.args.j in
+    let v = c.args.v in
+    record { kept = c.test_names.ensures.kept ∙ c.tests-y.ensures.kept; told = λ scope g. names_go v (test (expr_at d (get_or x 1 0)) scope) x j (said d st) c.if-x-j.false (rw (c.word.ensures.0, c.word-2.ensures.0) at (c.tests-y.ensures.told (said d st c.word-2.result) c.held_name.ensures scope g)) c.if-y-ne0.false c.if-y.true (c.test_names.ensures.told scope (scoped_same st _ _ c.args.n c.tests-y.ensures.kept g)) }
+
+pub fail-requires : goal.fail-requires
+fail-requires t c = c.requires.1.3
+
+pub returns : goal.returns
+returns t c =
+    let d = c.args.doc.now in
+    let st = c.args.state.now in
+    let tb = c.args.table.now in
+    let x = c.args.x.now in
+    let j = c.args.j in
+    let v = c.args.v in
+    record { kept = c.tests-y.ensures.kept; told = λ scope g. names_failed v (test (expr_at d (get_or x 1 0)) scope) x j (said d st) c.if-x-j.false (rw (c.word.ensures.0, c.word-2.ensures.0) at (c.tests-y.ensures.told (said d st c.word-2.result) c.held_name.ensures scope g)) c.if-y-ne0.false c.if-y.false c.fail.ensures }

@@ -1,0 +1,112 @@
+use Prim.Native.Nat.{ℕ, ◌-◌}
+use lib.ListN.{get_or}
+use Rattle.reader_rules.specs.Nodes.{operand_at}
+use Rattle.evaluator_scope.specs.Named.{said}
+use Rattle.evaluator_scope.proofs.BlockLaws.{scoped_same}
+use Rattle.evaluator_paragraphs.proofs.StepLaws.{axiom_text, axiom_names, axiom_globals, axiom_pred, axiom_stops_lem, axiom_goes, axiom_fails_lem, names_counted}
+use mathlib.Core.Path.{◌≡◌, ap, ◌∙◌}
+use mathlib.Core.Bool.{true, false}
+use mathlib.Core.List.{List}
+use native.Mathlib.Omega.{arith}
+use Rattle.evaluator_paragraphs.proofs.axiom.Goals as goal
+
+pub test_lines-y-requires : goal.test_lines-y-requires
+test_lines-y-requires c =
+    let d = c.args.doc.now in
+    let st = c.args.state.now in
+    let k = c.args.k in
+    let e : c.word-t.result ≡ operand_at d k 1 = c.word-t.ensures.0 ∙ ap (λ (y : List ℕ). get_or y 1 0) c.requires.5 in
+    let h = c.requires.1 in
+    let q = c.requires.2 in
+    let a = c.word-t.result in
+    let eu = c.part-u.ensures in
+    let r = c.requires.3 in
+    let f = r.few in
+    (c.requires.0, axiom_text d k h q a e (said d st), eu, omega arith, omega arith, record { few = omega arith; wide = r.wide }, rw eu (rw (axiom_names d k h q a e (said d st)) at c.requires.4))
+
+pub returns-then-y-ne0 : goal.returns-then-y-ne0
+returns-then-y-ne0 c =
+    let d = c.args.doc.now in
+    let st = c.args.state.now in
+    let k = c.args.k in
+    let e : c.word-t.result ≡ operand_at d k 1 = c.word-t.ensures.0 ∙ ap (λ (y : List ℕ). get_or y 1 0) c.requires.5 in
+    let h = c.requires.1 in
+    let q = c.requires.2 in
+    let a = c.word-t.result in
+    let eu = c.part-u.ensures in
+    λ scope g. axiom_stops_lem d k h q a e (said d st) scope (rw eu at (c.test_lines-y.ensures.told scope g)) c.if-y-ne0.true
+
+pub put_lines-requires : goal.put_lines-requires
+put_lines-requires c =
+    let d = c.args.doc.now in
+    let st = c.args.state.now in
+    let k = c.args.k in
+    let e : c.word-t.result ≡ operand_at d k 1 = c.word-t.ensures.0 ∙ ap (λ (y : List ℕ). get_or y 1 0) c.requires.5 in
+    let h = c.requires.1 in
+    let q = c.requires.2 in
+    let a = c.word-t.result in
+    let eu = c.part-u.ensures in
+    let r = c.requires.3 in
+    let f = r.few in
+    let w = r.wide in
+    (c.requires.0, axiom_text d k h q a e (said d st), eu, omega arith, omega arith, record { few = rw eu (omega (arith, f, axiom_globals d k h q a e (said d st))); wide = omega arith }, rw eu (rw (axiom_names d k h q a e (said d st)) at c.requires.4))
+
+pub text_count-requires : goal.text_count-requires
+text_count-requires c =
+    let d = c.args.doc.now in
+    let st = c.args.state.now in
+    let k = c.args.k in
+    let e : c.word-t.result ≡ operand_at d k 1 = c.word-t.ensures.0 ∙ ap (λ (y : List ℕ). get_or y 1 0) c.requires.5 in
+    let h = c.requires.1 in
+    let q = c.requires.2 in
+    let a = c.word-t.result in
+    let eu = c.part-u.ensures in
+    axiom_text d k h q a e (said d st)
+
+pub overflow_add-n : goal.overflow_add-n
+overflow_add-n c =
+    let r = c.requires.3 in
+    let f = r.few in
+    omega (arith, f, c.text_count.ensures.1)
+
+pub demand-requires : goal.demand-requires
+demand-requires c =
+    let d = c.args.doc.now in
+    let st = c.args.state.now in
+    let k = c.args.k in
+    let e : c.word-t.result ≡ operand_at d k 1 = c.word-t.ensures.0 ∙ ap (λ (y : List ℕ). get_or y 1 0) c.requires.5 in
+    let h = c.requires.1 in
+    let q = c.requires.2 in
+    let a = c.word-t.result in
+    let eu = c.part-u.ensures in
+    let r = c.requires.3 in
+    let f = r.few in
+    let w = r.wide in
+    let o = axiom_pred d k h q a e (said d st) in
+    (rw (c.word.ensures.0, eu) (record { at = o.at; room = omega (arith, f, c.text_count.ensures.1); wide = omega arith }), h.small)
+
+pub returns-then-y : goal.returns-then-y
+returns-then-y c =
+    let d = c.args.doc.now in
+    let st = c.args.state.now in
+    let k = c.args.k in
+    let e : c.word-t.result ≡ operand_at d k 1 = c.word-t.ensures.0 ∙ ap (λ (y : List ℕ). get_or y 1 0) c.requires.5 in
+    let h = c.requires.1 in
+    let q = c.requires.2 in
+    let a = c.word-t.result in
+    let eu = c.part-u.ensures in
+    let z = axiom_globals d k h q a e (said d st) in
+    let m = c.text_count.ensures.0 ∙ names_counted _ in
+    λ scope g. rw z (axiom_goes d k h q a e (said d st) scope (rw eu at (c.test_lines-y.ensures.told scope g)) c.if-y-ne0.false c.if-y.true (rw (c.word.ensures.0, eu, m) at (c.demand.ensures _ (rw (eu, ← m) at (c.put_lines.ensures scope (scoped_same st _ _ c.args.n c.test_lines-y.ensures.kept g))))))
+
+pub returns : goal.returns
+returns c =
+    let d = c.args.doc.now in
+    let st = c.args.state.now in
+    let k = c.args.k in
+    let e : c.word-t.result ≡ operand_at d k 1 = c.word-t.ensures.0 ∙ ap (λ (y : List ℕ). get_or y 1 0) c.requires.5 in
+    let h = c.requires.1 in
+    let q = c.requires.2 in
+    let a = c.word-t.result in
+    let eu = c.part-u.ensures in
+    λ scope g. axiom_fails_lem d k h q a e (said d st) scope (rw eu at (c.test_lines-y.ensures.told scope g)) c.if-y-ne0.false c.if-y.false

@@ -1,0 +1,67 @@
+use Prim.Native.Nat.{ℕ, ◌-◌}
+use lib.ListN.{get_or}
+use Rattle.reader_rules.specs.Nodes.{operand_at}
+use Rattle.evaluator_scope.specs.Named.{said}
+use Rattle.reader_rules.proofs.TreeParagraph.{paragraph_constraint}
+use Rattle.evaluator_paragraphs.proofs.StepLaws.{abbreviation_globals, constraint_steps, schema_steps, schema_kind}
+use mathlib.Core.Path.{refl, sym, ap, ◌∙◌}
+use mathlib.Core.List.{List}
+use native.Mathlib.Omega.{arith}
+use Rattle.evaluator_paragraphs.proofs.paragraph.Goals as goal
+
+pub given-requires : goal.given-requires
+given-requires c = (c.requires.0, c.requires.1, ((sym (c.word-q.ensures.0 ∙ ap (λ (y : List ℕ). get_or y 0 0) c.part-w.ensures)) ∙ c.in_default.keys1), c.requires.2, c.requires.3, c.part-w.ensures)
+
+pub axiom-requires : goal.axiom-requires
+axiom-requires c = (c.requires.0, c.requires.1, ((sym (c.word-q.ensures.0 ∙ ap (λ (y : List ℕ). get_or y 0 0) c.part-w.ensures)) ∙ c.in_default.keys2), c.requires.2, c.requires.3, c.part-w.ensures)
+
+pub abbreviation-requires : goal.abbreviation-requires
+abbreviation-requires c =
+    let d = c.args.doc.now in
+    let st = c.args.state.now in
+    let k = c.args.k in
+    let q = ((sym (c.word-q.ensures.0 ∙ ap (λ (y : List ℕ). get_or y 0 0) c.part-w.ensures)) ∙ c.in_default.keys3) in
+    let r = c.requires.2 in
+    let f = r.few in
+    (c.requires.1, q, record { few = omega (arith, f, abbreviation_globals d k c.requires.1 (said d st) st st st 0 q); wide = r.wide }, c.part-w.ensures)
+
+pub demand-requires : goal.demand-requires
+demand-requires c =
+    let d = c.args.doc.now in
+    let st = c.args.state.now in
+    let k = c.args.k in
+    let q = ((sym (c.word-q.ensures.0 ∙ ap (λ (y : List ℕ). get_or y 0 0) c.part-w.ensures)) ∙ c.in_default.keys4) in
+    let r = c.requires.2 in
+    let f = r.few in
+    let o = (paragraph_constraint d k c.requires.1 q (operand_at d k 1) refl).first in
+    (rw (c.word.ensures.0, c.part-w.ensures) (record { at = o.at; room = omega arith; wide = r.wide }), c.requires.1.small)
+
+pub returns-in-2 : goal.returns-in-2
+returns-in-2 c = c.given.ensures
+
+pub returns-in-3 : goal.returns-in-3
+returns-in-3 c = c.«axiom».ensures
+
+pub returns-in-5 : goal.returns-in-5
+returns-in-5 c =
+    let d = c.args.doc.now in
+    let st = c.args.state.now in
+    let k = c.args.k in
+    let q = ((sym (c.word-q.ensures.0 ∙ ap (λ (y : List ℕ). get_or y 0 0) c.part-w.ensures)) ∙ c.in_default.keys3) in
+    rw (abbreviation_globals d k c.requires.1 (said d st) st st st 0 q) (c.abbreviation.ensures (said d st))
+
+pub returns-in-6 : goal.returns-in-6
+returns-in-6 c =
+    let d = c.args.doc.now in
+    let st = c.args.state.now in
+    let k = c.args.k in
+    constraint_steps d k c.requires.1 (said d st) st _ _ c.args.n _ (c.word.ensures.0 ∙ ap (λ (y : List ℕ). get_or y 1 0) c.part-w.ensures) ((sym (c.word-q.ensures.0 ∙ ap (λ (y : List ℕ). get_or y 0 0) c.part-w.ensures)) ∙ c.in_default.keys4) c.demand.ensures
+
+pub returns-in_default : goal.returns-in_default
+returns-in_default c =
+    let d = c.args.doc.now in
+    let st = c.args.state.now in
+    let k = c.args.k in
+    let e = c.word-q.ensures.0 ∙ ap (λ (y : List ℕ). get_or y 0 0) c.part-w.ensures in
+    let r = c.in_default.rest in
+    schema_steps d k c.requires.1 (said d st) st _ st c.args.n (schema_kind d k c.requires.1 (λ z. r.0.0.0.1 (e ∙ z)) (λ z. r.0.0.1 (e ∙ z)) (λ z. r.0.1 (e ∙ z)) (λ z. r.1 (e ∙ z))) c.judge.ensures.0 c.judge.ensures.1

@@ -1,0 +1,32 @@
+use mathlib.Core.Path.{◌≡◌, refl, ap, ◌∙◌}
+use mathlib.Core.List.{List, ◌++◌}
+use Prim.Native.Nat.{ℕ, ◌-◌}
+use native.Mathlib.Omega.{arith}
+use lib.ListN.{set, drop}
+use Rattle.words.specs.Loops.{joined}
+use Rattle.input.specs.Input.{word_at, first_words}
+use Rattle.input.proofs.Laws.{store_next}
+use Rattle.input.proofs.copy_words.Goals as goal
+
+pub loop-i-init : goal.loop-i-init
+unfolding first_words joined
+loop-i-init c = (omega arith, refl, refl)
+
+pub loop-i-preserved : goal.loop-i-preserved
+loop-i-preserved c =
+    let l = c.loop-i in
+    let w = c.word_at.ensures in
+    let next = store_next c.args.bytes.now c.args.words.now l.i (omega arith) in (
+      omega arith,
+      c.store.auto.u ∙ l.invariant.1,
+      c.store.ensures ∙ ap (λ (z : List ℕ). set z l.i c.word_at.result) l.invariant.2 ∙ ap (set (first_words c.args.bytes.now l.i ++ drop l.i c.args.words.now) l.i) w ∙ next,
+    )
+
+pub shape_of-words : goal.shape_of-words
+shape_of-words c = c.loop-i.invariant.1
+
+pub returns : goal.returns
+returns c =
+    let l = c.loop-i in
+    let e : l.i ≡ c.args.n = omega arith in
+    l.invariant.2 ∙ ap (λ (k : ℕ). first_words c.args.bytes.now k ++ drop k c.args.words.now) e

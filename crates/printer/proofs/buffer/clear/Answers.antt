@@ -1,0 +1,26 @@
+use native.Mathlib.Nat.{le_refl}
+use mathlib.Core.Path.{◌≡◌, refl, ap, ◌∙◌}
+use mathlib.Core.List.{List, append-nil}
+use Prim.Native.Nat.{ℕ, ◌-◌}
+use lib.ListN.{length, set, length-set, drop_of_length-le}
+use borrow.Author.Fill.{fill_more}
+use native.Mathlib.Omega.{arith}
+use Rattle.printer.proofs.buffer.clear.Goals as goal
+
+pub loop-i-init : goal.loop-i-init
+loop-i-init c = (omega arith, refl, refl)
+
+pub loop-i-preserved : goal.loop-i-preserved
+loop-i-preserved c =
+    let i = c.loop-i.i in
+    (omega arith, ap (λ (s : List ℕ). set s i 0) c.loop-i.invariant.1 ∙ fill_more i 0 c.args.out.now c.loop-i-test.true, length-set c.loop-i.out i 0 ∙ c.loop-i.invariant.2)
+
+pub shape_of-out : goal.shape_of-out
+shape_of-out c = c.loop-i.invariant.2
+
+pub returns : goal.returns
+returns c =
+    let l = c.loop-i in
+    let u = c.args.out.now in
+    let e : l.i ≡ length u = omega arith in
+    l.invariant.1 ∙ rw (e, drop_of_length-le u (le_refl (length u)), append-nil)

@@ -1,0 +1,40 @@
+use mathlib.Core.Path.{◌≡◌, ap, ◌∙◌}
+use Prim.Native.Nat.{◌+◌, ◌-◌}
+use native.Mathlib.Omega.{arith}
+use Rattle.words.specs.Loops.{joined}
+use Rattle.layout.specs.Layout.{count}
+use Rattle.printer_rules.specs.Lines.{entry_line}
+use Rattle.printer_rules.proofs.LineLaws.{lines_before, lines_next, lines_rest, lines_end_lem}
+use Rattle.printer.proofs.PutLaws.{put_none, put_length, put_then, put_full, put_text}
+use Rattle.printer.proofs.lines.put_entries.Goals as goal
+
+pub loop-k-init : goal.loop-k-init
+unfolding joined
+loop-k-init c = (omega arith, omega arith, put_none c.within-end.ensures)
+
+pub shape_of-out-then-end-out : goal.shape_of-out-then-end-out
+shape_of-out-then-end-out c = put_length c.loop-k.invariant.2
+
+pub returns-then-end-out : goal.returns-then-end-out
+returns-then-end-out c =
+    let l = c.loop-k in
+    let dict = c.args.dict.now in
+    let few = c.word-n.ensures.0 in
+    put_text (lines_rest dict l.k l.invariant.0 (omega (arith, few))) (put_full _ l.invariant.2 c.if-end-out.true)
+
+pub loop-k-preserved : goal.loop-k-preserved
+loop-k-preserved c =
+    let l = c.loop-k in
+    let dict = c.args.dict.now in
+    let line = put_text (ap entry_line c.part.ensures) c.put_entry-end.ensures in
+    (omega arith, omega arith, put_text (lines_next dict l.k l.invariant.0) (put_then l.invariant.2 line))
+
+pub shape_of-out : goal.shape_of-out
+shape_of-out c = put_length c.loop-k.invariant.2
+
+pub returns : goal.returns
+returns c =
+    let l = c.loop-k in
+    let dict = c.args.dict.now in
+    let e : l.k ≡ count dict + 1 = omega (arith, c.word-n.ensures.0) in
+    put_text (ap (lines_before dict) e ∙ lines_end_lem dict) l.invariant.2

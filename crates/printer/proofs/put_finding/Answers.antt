@@ -1,0 +1,10 @@
+use Rattle.printer_rules.specs.Print.{print_of}
+use Rattle.printer.proofs.put_finding.Goals as goal
+
+pub returns-in-Accepted : goal.returns-in-Accepted
+unfolding print_of
+returns-in-Accepted c = rw c.enum_told-1.given.1 c.put_accepted.ensures
+
+pub returns-in-Refused : goal.returns-in-Refused
+unfolding print_of
+returns-in-Refused c = rw c.finding-1.given.1 c.Put-refused.ensures

@@ -1,0 +1,25 @@
+use Rattle.words.proofs.Loops.{run_go, run_end}
+use native.Mathlib.Omega.{arith}
+use native.Mathlib.Nat.{add-sub_cancel}
+use Prim.Native.Nat.{◌-◌}
+use mathlib.Core.Path.{refl, sym, ◌∙◌}
+use Rattle.reader.proofs.links.link_nodes.Goals as goal
+
+pub loop-k-init : goal.loop-k-init
+loop-k-init c = (omega arith, omega arith, refl, refl, rw (add-sub_cancel, c.word-n.ensures.0), rw (add-sub_cancel, c.word-n.ensures.0))
+
+pub loop-k-preserved : goal.loop-k-preserved
+loop-k-preserved c =
+    let l = c.loop-k in
+    let t = c.link_node in
+    let p = c.part.ensures in
+    (omega arith, omega arith, t.auto.1.1.0 ∙ l.invariant.2, t.auto.1.1.1.0 ∙ l.invariant.3, l.invariant.4 ∙ run_go _ _ _ _ (omega arith) ∙ rw (← p, ← t.ensures.0), l.invariant.5 ∙ run_go _ _ _ _ (omega arith) ∙ rw (← p, ← t.ensures.1))
+
+pub shape_of-used : goal.shape_of-used
+shape_of-used c = c.loop-k.invariant.2
+
+pub shape_of-up : goal.shape_of-up
+shape_of-up c = c.loop-k.invariant.3
+
+pub returns : goal.returns
+returns c = (sym (c.loop-k.invariant.4 ∙ run_end _ _ _ _ (omega arith)), sym (c.loop-k.invariant.5 ∙ run_end _ _ _ _ (omega arith)))

@@ -1,0 +1,5 @@
+use Rattle.reader_nodes.proofs.ChoiceLaws.{limit_cell}
+use Rattle.reader_nodes.proofs.counts.is_listed.Goals as goal
+
+pub returns : goal.returns
+returns c = rw (c.Counts-of.ensures, limit_cell c.args.q)

@@ -1,0 +1,23 @@
+use mathlib.Core.Logic.{inl, inr, ⊎_elim}
+use Rattle.words.proofs.Loops.{tests}
+use Rattle.reader_nodes.specs.Choices.{by_ranges, chosen_sort, other_sort}
+use Rattle.reader_nodes.proofs.RangeLaws.{Outside, outside}
+use Rattle.reader_nodes.proofs.kinds.sort_of.Goals as goal
+
+pub returns-in-2-to-6 : goal.returns-in-2-to-6
+unfolding chosen_sort by_ranges
+returns-in-2-to-6 c = search tests
+
+pub returns-in-20-to-29 : goal.returns-in-20-to-29
+unfolding chosen_sort by_ranges
+returns-in-20-to-29 c = search tests
+
+pub returns-in-30-to-46 : goal.returns-in-30-to-46
+unfolding chosen_sort by_ranges
+returns-in-30-to-46 c = search tests
+
+pub returns-in_default : goal.returns-in_default
+unfolding chosen_sort
+returns-in_default c =
+    let o : Outside c.args.q = ⊎_elim (λ t. inl t.taken) (⊎_elim (λ p. inr (inl (p.1.left, p.2.taken))) (λ p. inr (inr p.4.left))) c.in_default.branch in
+    rw (← (outside _ _ _ other_sort c.args.q o)) c.other.ensures

@@ -1,0 +1,59 @@
+use mathlib.Core.Path.{refl, sym, ap, ◌∙◌}
+use mathlib.Core.List.{List}
+use Prim.Native.Nat.{ℕ, ◌+◌, ◌-◌, ◌<◌}
+use native.Mathlib.Omega.{arith}
+use lib.ListN.{length}
+use Rattle.layout.specs.Layout.{count, part}
+use Rattle.reader_rules.specs.Nodes.{operand_at}
+use Rattle.states.specs.Table.{put_names}
+use Rattle.states_rules.specs.Names.{Name}
+use Rattle.states.proofs.NameLaws.{document_words_lem, document_names_lem, document_paragraph, document_count, document_put, document_end}
+use Rattle.states.proofs.names.put_names.Goals as goal
+
+pub loop-i-init : goal.loop-i-init
+loop-i-init c =
+    let d = c.args.doc.now in
+    let w = c.word-d.ensures.0 in
+    let e = ap length c.part-e.ensures ∙ ap (λ (x : ℕ). length (part d x)) w in
+    (omega arith, omega (arith, e, (document_words_lem d c.requires).0), e, w, omega arith, refl, omega (arith, ap length (document_names_lem d c.requires)), ap (λ (ns : List Name). put_names ns c.args.state.now 1 c.args.table.now) (document_names_lem d c.requires))
+
+pub put_paragraph-n-requires : goal.put_paragraph-n-requires
+put_paragraph-n-requires c =
+    let d = c.args.doc.now in
+    let l = c.loop-i in
+    let x = c.operand.ensures.0 ∙ ap (λ (k : ℕ). operand_at d k l.i) l.invariant.3 in
+    (document_paragraph d c.requires l.i l.invariant.0 (omega (arith, l.invariant.2)) _ x, omega (arith, l.invariant.1, l.invariant.2, l.invariant.4, (document_words_lem d c.requires).1))
+
+pub overflow_add-i : goal.overflow_add-i
+overflow_add-i c =
+    let l = c.loop-i in
+    omega (arith, l.invariant.1, l.invariant.2, (document_words_lem c.args.doc.now c.requires).1)
+
+pub loop-i-preserved : goal.loop-i-preserved
+loop-i-preserved c =
+    let d = c.args.doc.now in
+    let l = c.loop-i in
+    let t = c.put_paragraph-n in
+    let v = c.operand.result in
+    let x = c.operand.ensures.0 ∙ ap (λ (k : ℕ). operand_at d k l.i) l.invariant.3 in
+    let q : l.i < length (part d (count d)) = omega (arith, l.invariant.2, c.loop-i-test.true) in (
+      omega arith,
+      omega arith,
+      l.invariant.2,
+      l.invariant.3,
+      omega (arith, l.invariant.4, t.ensures.2),
+      t.auto.1.1.1.1.0 ∙ l.invariant.5,
+      omega (arith, l.invariant.6, t.ensures.0, document_count d c.requires l.i l.invariant.0 q v x),
+      l.invariant.7 ∙ document_put d c.requires l.i l.invariant.0 q v x c.args.state.now l.n t.result l.table t.ensures.0 ∙ rw (← t.ensures.1),
+    )
+
+pub shape_of-table : goal.shape_of-table
+shape_of-table c = c.loop-i.invariant.5
+
+pub returns : goal.returns
+unfolding put_names
+returns c =
+    let d = c.args.doc.now in
+    let l = c.loop-i in
+    let z = document_end d c.requires l.i (length (part d (count d))) (omega (arith, l.invariant.2, c.loop-i-test.false)) in
+    (omega (arith, l.invariant.6, ap length z), sym (l.invariant.7 ∙ ap (λ (ns : List Name). put_names ns c.args.state.now (l.n + 1) l.table) z))

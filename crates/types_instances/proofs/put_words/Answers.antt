@@ -1,0 +1,41 @@
+use mathlib.Core.Path.{refl, sym, ap, subst, ◌∙◌}
+use native.Mathlib.Omega.{arith}
+use Prim.Native.Nat.{◌+◌, ◌-◌}
+use lib.ListN.{length, length-set}
+use Rattle.types_cells.specs.Store.{run}
+use Rattle.types_cells.specs.Settled.{heap}
+use Rattle.types_cells.proofs.Words.{run_length}
+use Rattle.types_instances.proofs.Copying.{Copied, copied_start, copied_step, copied_end}
+use Rattle.types_instances.proofs.put_words.Goals as goal
+
+pub loop-j-init : goal.loop-j-init
+loop-j-init c = let s = c.args in (omega arith, refl, copied_start s.out.now s.at (run (heap s.a.now s.d.now) s.p s.k))
+
+pub loop-j-smaller : goal.loop-j-smaller
+loop-j-smaller c = let l = c.loop-j-test.true in omega arith
+
+pub loop-j-preserved : goal.loop-j-preserved
+loop-j-preserved c =
+    let s = c.args in
+    let P = c.requires in
+    let L = c.loop-j in
+    let l = c.loop-j-test.true in
+    let E = c.store.ensures in (
+      omega arith,
+      ap length E ∙ length-set L.out (s.at + L.j) c.type_word.result ∙ L.invariant.1,
+      subst (λ z. Copied s.out.now z s.at (run (heap s.a.now s.d.now) s.p s.k) (L.j + 1)) (sym E)
+          (copied_step s.out.now L.out s.at (heap s.a.now s.d.now) s.p s.k L.j c.type_word.result P.1 l c.type_word.ensures.0 L.invariant.2),
+    )
+
+pub shape_of-out : goal.shape_of-out
+shape_of-out c = c.loop-j.invariant.1
+
+pub returns : goal.returns
+returns c =
+    let s = c.args in
+    let P = c.requires in
+    let L = c.loop-j in
+    record {
+      area = sym (copied_end s.out.now L.out s.at (heap s.a.now s.d.now) s.p s.k L.j P.1 c.loop-j-test.false L.invariant.2);
+      end = ap (λ z. s.at + z) (sym (run_length (heap s.a.now s.d.now) s.p s.k P.1));
+    }

@@ -1,0 +1,13 @@
+use mathlib.Core.Path.{◌≡◌}
+use Prim.Native.Nat.{◌-◌, ◌≤◌}
+use lib.ListN.{length}
+use Rattle.types_cells.specs.Store.{run}
+use Rattle.types_cells.specs.Settled.{heap}
+use Rattle.types_instances.proofs.Copying.{Copied}
+use Rattle.types_instances.proofs.put_words.Given as goal
+
+abbrev pub invariant-loop-j : goal.invariant-loop-j
+invariant-loop-j l = (l.j ≤ l.k) × (length l.out ≡ length l.initial.out) × Copied l.initial.out l.out l.at (run (heap l.a l.d) l.p l.k) l.j
+
+abbrev pub decreases-loop-j : goal.decreases-loop-j
+decreases-loop-j l = l.k - l.j

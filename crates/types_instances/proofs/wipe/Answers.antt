@@ -1,0 +1,24 @@
+use mathlib.Core.Path.{refl, sym, ap, subst, ◌∙◌}
+use Prim.Native.Nat.{◌+◌, ◌-◌}
+use lib.ListN.{length, length-set}
+use Rattle.types_instances.proofs.Copying.{Wiped, wiped_step, wiped_end}
+use Rattle.types_instances.proofs.wipe.Goals as goal
+
+pub loop-i-init : goal.loop-i-init
+loop-i-init c = (refl, refl)
+
+pub loop-i-preserved : goal.loop-i-preserved
+loop-i-preserved c =
+    let s = c.args in
+    let L = c.loop-i in
+    let E = c.store.ensures in (
+      ap length E ∙ length-set L.a L.i 0 ∙ L.invariant.0,
+      subst (λ z. Wiped s.a.now z s.from s.to (L.i + 1)) (sym E)
+          (wiped_step s.a.now L.a s.from s.to L.i c.loop-i-test.true L.invariant.1),
+    )
+
+pub returns : goal.returns
+returns c =
+    let s = c.args in
+    let L = c.loop-i in
+    sym (wiped_end s.a.now L.a s.from s.to L.i c.loop-i-test.false L.invariant.1)

@@ -1,0 +1,50 @@
+use Rattle.std.proofs.Common.{◌≡◌, ◌-◌, true, drop, sym, ap, ◌∙◌, ⊎_elim, arith, eq-eqb, ne_eqb}
+use native.Mathlib.Nat.{sub-zero}
+use Rattle.values.specs.Sets.{is_pair, apply}
+use Rattle.values.specs.Span.{span}
+use Rattle.values.proofs.Members.{apply_from, seen, apply_misfit, apply_hit, apply_go, apply_one, apply_none}
+use Rattle.values.proofs.sets.apply.Goals as goal
+
+pub returns-then-word-ne-SET : goal.returns-then-word-ne-SET
+unfolding apply
+returns-then-word-ne-SET c = rw (← c.word.ensures.0, ne_eqb _ 3 c.if-word-ne-SET.true)
+
+pub loop-i-init : goal.loop-i-init
+unfolding apply apply_from seen
+loop-i-init c = (omega arith, omega arith, omega arith, omega arith, rw (← c.word.ensures.0, eq-eqb _ 3 c.if-word-ne-SET.false, sub-zero, c.word-n.ensures.0))
+
+pub loop-i-preserved : goal.loop-i-preserved
+loop-i-preserved c =
+    let s = c.args in
+    let l = c.loop-i in
+    let j = c.if-same in
+    let w = c.from-w.ensures in
+    let e : is_pair (drop l.at s.f.now) ≡ true = rw (← w) (sym c.is_pair.ensures ∙ c.if-is_pair.true) in
+    let k = c.span-at.ensures.0 ∙ ap span w in (
+      omega arith,
+      omega arith,
+      ⊎_elim (λ p. omega (arith, p.1)) (λ p. omega (arith, p.1)) j.branch,
+      ⊎_elim (λ p. omega (arith, p.2)) (λ p. omega (arith, p.2)) j.branch,
+      l.invariant.4 ∙ ⊎_elim
+          (λ p. rw (p.1, p.2) (apply_hit s.f.now s.a.now _ l.i l.at l.hits l.hit (omega arith) e c.span-at.result k
+          (rw (← w, ← c.from.ensures, ← c.first.ensures) (sym c.same.ensures ∙ p.0.taken))))
+          (λ p. rw (p.1, p.2) (apply_go s.f.now s.a.now _ l.i l.at l.hits l.hit (omega arith) e c.span-at.result k
+          (rw (← w, ← c.from.ensures, ← c.first.ensures) (sym c.same.ensures ∙ p.0.left))))
+          j.branch,
+    )
+
+pub returns-else-is_pair : goal.returns-else-is_pair
+returns-else-is_pair c =
+    let l = c.loop-i in
+    apply_misfit c.args.f.now c.args.a.now c.word-n.result l.i l.at l.hits l.hit (omega arith)
+    (rw (← c.from-w.ensures) (sym c.is_pair.ensures ∙ c.if-is_pair.false)) ∙ sym l.invariant.4
+
+pub returns-then-hits-eq1 : goal.returns-then-hits-eq1
+returns-then-hits-eq1 c =
+    let l = c.loop-i in
+    c.second.ensures ∙ apply_one c.args.f.now c.args.a.now c.word-n.result l.i l.at l.hits l.hit (omega arith) c.if-hits-eq1.true ∙ sym l.invariant.4
+
+pub returns : goal.returns
+returns c =
+    let l = c.loop-i in
+    apply_none c.args.f.now c.args.a.now c.word-n.result l.i l.at l.hits l.hit (omega arith) c.if-hits-eq1.false ∙ sym l.invariant.4

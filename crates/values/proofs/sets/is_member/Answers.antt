@@ -1,0 +1,34 @@
+use Rattle.std.proofs.Common.{◌-◌, sym, ap, ◌∙◌, arith}
+use native.Mathlib.Nat.{sub-zero}
+use Rattle.values.specs.Span.{span}
+use Rattle.values.specs.Sets.{is_member}
+use Rattle.values.proofs.Members.{among_hit, among_go, among_end}
+use Rattle.values.proofs.sets.is_member.Goals as goal
+
+pub loop-i-init : goal.loop-i-init
+unfolding is_member
+loop-i-init c = (omega arith, omega arith, rw (sub-zero, c.word-n.ensures.0))
+
+pub returns-then-same : goal.returns-then-same
+returns-then-same c =
+    let s = c.args in
+    let l = c.loop-i in
+    among_hit s.s.now s.m.now c.word-n.result l.i l.at (omega arith)
+    (rw (← c.from-w.ensures, ← c.first.ensures) (sym c.same.ensures ∙ c.if-same.true)) ∙ sym l.invariant.2
+
+pub loop-i-preserved : goal.loop-i-preserved
+loop-i-preserved c =
+    let s = c.args in
+    let l = c.loop-i in (
+      omega arith,
+      omega arith,
+      l.invariant.2 ∙ among_go s.s.now s.m.now c.word-n.result l.i l.at (omega arith)
+          (rw (← c.from-w.ensures, ← c.first.ensures) (sym c.same.ensures ∙ c.if-same.false))
+          c.span-at.result (c.span-at.ensures.0 ∙ ap span c.from-w.ensures),
+    )
+
+pub returns : goal.returns
+returns c =
+    let s = c.args in
+    let l = c.loop-i in
+    among_end s.s.now s.m.now c.word-n.result l.i l.at (omega arith) ∙ sym l.invariant.2

@@ -1,0 +1,104 @@
+use mathlib.Core.Path.{sym, ◌∙◌}
+use Prim.Native.Nat.{◌-◌, ◌≤◌}
+use native.Mathlib.Omega.{arith}
+use native.Mathlib.Nat.{sub-zero}
+use lib.ListN.{length, take, drop, length-drop}
+use Rattle.values.specs.Givens.{size_of}
+use Rattle.values.specs.Form.{follows, group_end, by_shape, value_length}
+use Rattle.values_forms.proofs.Forms.{shape_within, length_none, length_level, group_none, group_stop, group_go, group_done}
+use Rattle.values_forms.proofs.form.+group_end_value_length.Goals as goal
+
+pub group_end-loop-i-init : goal.group_end-loop-i-init
+group_end-loop-i-init t c = (omega arith, omega arith, c.requires.1, rw sub-zero)
+
+pub group_end-value_length-k-requires : goal.group_end-value_length-k-requires
+group_end-value_length-k-requires t c = (omega (arith, c.requires.0), tt)
+
+pub group_end-returns-then-k-eq0 : goal.group_end-returns-then-k-eq0
+group_end-returns-then-k-eq0 t c =
+    let s = c.args in
+    let l = c.loop-i in
+    let v = c.value_length-k in (
+      group_none (value_length (size_of s.givens.now) s.depth) s.ascending s.w.now s.n l.i l.last l.at c.loop-i-test.true
+          (rw (← c.from.ensures) (sym v.ensures.0 ∙ c.if-k-eq0.true)) ∙ sym l.invariant.3,
+      omega arith,
+    )
+
+pub group_end-loop-i-preserved : goal.group_end-loop-i-preserved
+group_end-loop-i-preserved t c =
+    let s = c.args in
+    let l = c.loop-i in
+    let v = c.value_length-k in
+    let f = c.from.ensures in
+    let k : v.result ≤ length (drop l.at s.w.now) = rw f at v.ensures.1 in
+    let d = length-drop l.at s.w.now in (
+      omega arith,
+      omega arith,
+      omega arith,
+      l.invariant.3 ∙ group_go (value_length (size_of s.givens.now) s.depth) s.ascending s.w.now s.n l.i l.last l.at c.loop-i-test.true
+          v.result (rw f at v.ensures.0) c.if-k-eq0.false
+          (rw (← c.span.ensures, ← c.span-in-loop-i.ensures) (sym c.follows.ensures ∙ c.if-follows.true)),
+    )
+
+pub group_end-returns-else-follows : goal.group_end-returns-else-follows
+group_end-returns-else-follows t c =
+    let s = c.args in
+    let l = c.loop-i in
+    let v = c.value_length-k in
+    let f = c.from.ensures in (
+      group_stop (value_length (size_of s.givens.now) s.depth) s.ascending s.w.now s.n l.i l.last l.at c.loop-i-test.true
+          v.result (rw f at v.ensures.0) c.if-k-eq0.false
+          (rw (← c.span.ensures, ← c.span-in-loop-i.ensures) (sym c.follows.ensures ∙ c.if-follows.false)) ∙ sym l.invariant.3,
+      omega arith,
+    )
+
+pub group_end-returns : goal.group_end-returns
+group_end-returns t c =
+    let s = c.args in
+    let l = c.loop-i in
+    (group_done (value_length (size_of s.givens.now) s.depth) s.ascending (take (l.at - l.last) (drop l.last s.w.now)) (drop l.at s.w.now) s.n l.i l.at c.loop-i-test.false ∙ sym l.invariant.3, omega arith)
+
+pub value_length-returns-then-depth-eq0 : goal.value_length-returns-then-depth-eq0
+value_length-returns-then-depth-eq0 t c =
+    let s = c.args in
+    (length_none (size_of s.givens.now) s.depth s.w.now c.if-depth-eq0.true, omega arith)
+
+pub value_length-group_end-requires : goal.value_length-group_end-requires
+value_length-group_end-requires t c =
+    let s = c.args in
+    (omega (arith, c.requires.0), rw (← c.shape_of-s.ensures, c.s-in-Set-1.given.1) at (shape_within (size_of s.givens.now) s.w.now))
+
+pub value_length-group_end-requires-in-Tuple : goal.value_length-group_end-requires-in-Tuple
+value_length-group_end-requires-in-Tuple t c =
+    let s = c.args in
+    (omega (arith, c.requires.0), rw (← c.shape_of-s.ensures, c.s-in-Tuple-1.given.1) at (shape_within (size_of s.givens.now) s.w.now))
+
+pub value_length-returns-in-Broken : goal.value_length-returns-in-Broken
+unfolding by_shape
+value_length-returns-in-Broken t c =
+    let s = c.args in
+    let h = c.shape_of-s in
+    (sym (length_level (size_of s.givens.now) s.depth s.w.now c.if-depth-eq0.false h.result h.ensures ∙ rw c.enum_told-1.given.1), omega arith)
+
+pub value_length-returns-in-Leaf : goal.value_length-returns-in-Leaf
+unfolding by_shape
+value_length-returns-in-Leaf t c =
+    let s = c.args in
+    let h = c.shape_of-s in (
+      sym (length_level (size_of s.givens.now) s.depth s.w.now c.if-depth-eq0.false h.result h.ensures ∙ rw c.s-1.given.1),
+      rw (← h.ensures, c.s-1.given.1) at (shape_within (size_of s.givens.now) s.w.now),
+    )
+
+pub value_length-returns-in-Set : goal.value_length-returns-in-Set
+unfolding by_shape
+value_length-returns-in-Set t c =
+    let s = c.args in
+    let h = c.shape_of-s in
+    (sym (length_level (size_of s.givens.now) s.depth s.w.now c.if-depth-eq0.false h.result h.ensures ∙ rw c.s-in-Set-1.given.1 (sym c.group_end.ensures.0)), c.group_end.ensures.1)
+
+pub value_length-returns-in-Tuple : goal.value_length-returns-in-Tuple
+unfolding by_shape
+value_length-returns-in-Tuple t c =
+    let s = c.args in
+    let h = c.shape_of-s in
+    (sym (length_level (size_of s.givens.now) s.depth s.w.now c.if-depth-eq0.false h.result h.ensures ∙ rw c.s-in-Tuple-1.given.1 (sym c.group_end-in-Tuple.ensures.0)), c.group_end-in-Tuple.ensures.1)

@@ -1,0 +1,29 @@
+use mathlib.Core.Path.{◌≡◌, sym, ◌∙◌, ap}
+use mathlib.Core.List.{◌∷◌}
+use Prim.Native.Nat.{ℕ, ◌-◌}
+use native.Mathlib.Omega.{arith}
+use Rattle.values.specs.Held.{keep}
+use Rattle.values.specs.Value.{encodes}
+use Rattle.values.specs.Givens.{elements_from}
+use Rattle.values_forms.proofs.Elements.{elements_words, elements_over, elements_more}
+use Rattle.values_forms.proofs.givens.given_set.Goals as goal
+
+pub returns-then-n-gt-ELEMENTS : goal.returns-then-n-gt-ELEMENTS
+returns-then-n-gt-ELEMENTS c = c.over.ensures ∙ elements_over _ _ c.if-n-gt-ELEMENTS.true
+
+pub loop-k-init : goal.loop-k-init
+unfolding elements_from encodes
+loop-k-init c = (omega arith, c.hold-v.ensures)
+
+pub loop-k-preserved : goal.loop-k-preserved
+loop-k-preserved c =
+    let a = c.args in
+    let l = c.loop-k in
+    (omega arith, c.append-v.ensures _ l.invariant.1 ∙ ap keep (elements_more a.g a.n l.k))
+
+pub returns : goal.returns
+returns c =
+    let a = c.args in
+    let l = c.loop-k in
+    let e : l.k ≡ a.n = omega arith in
+    l.invariant.1 ∙ ap (λ (x : ℕ). keep (3 ∷ a.n ∷ encodes (elements_from a.g 0 x))) e ∙ ap keep (sym (elements_words a.g a.n))

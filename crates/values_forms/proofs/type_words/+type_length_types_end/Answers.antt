@@ -1,0 +1,65 @@
+use mathlib.Core.Path.{sym, ◌∙◌}
+use Prim.Native.Nat.{◌+◌, ◌-◌, ◌≤◌}
+use native.Mathlib.Omega.{arith}
+use native.Mathlib.Nat.{sub-zero}
+use lib.ListN.{length, drop, length-drop}
+use Rattle.values.specs.TypeWords.{types_end, by_former, type_length, clip}
+use Rattle.values_forms.proofs.TypeSpans.{former_bounded, type_none, type_level, types_go, types_done}
+use Rattle.values_forms.proofs.type_words.+type_length_types_end.Goals as goal
+
+pub type_length-returns-then-depth-eq0 : goal.type_length-returns-then-depth-eq0
+type_length-returns-then-depth-eq0 t c =
+    let s = c.args in
+    (type_none s.depth s.w.now c.if-depth-eq0.true, omega arith)
+
+pub type_length-types_end-requires : goal.type_length-types_end-requires
+type_length-types_end-requires t c =
+    let s = c.args in
+    (omega (arith, c.requires.0), rw (← c.former_of-f.ensures, c.f-in-Group-1.given.1) at (former_bounded s.w.now))
+
+pub type_length-returns-in-Plain : goal.type_length-returns-in-Plain
+unfolding by_former
+type_length-returns-in-Plain t c =
+    let s = c.args in
+    let h = c.former_of-f in
+    (sym (type_level s.depth s.w.now c.if-depth-eq0.false h.result h.ensures ∙ rw c.f-1.given.1 (sym c.clip.ensures.0)), c.clip.ensures.1)
+
+pub type_length-returns-in-Group : goal.type_length-returns-in-Group
+unfolding by_former
+type_length-returns-in-Group t c =
+    let s = c.args in
+    let h = c.former_of-f in
+    (sym (type_level s.depth s.w.now c.if-depth-eq0.false h.result h.ensures ∙ rw (c.f-in-Group-1.given.1, ← c.types_end.ensures) (sym c.clip-in-Group.ensures.0)), c.clip-in-Group.ensures.1)
+
+pub types_end-loop-i-init : goal.types_end-loop-i-init
+types_end-loop-i-init t c = (omega arith, omega (arith, c.requires.1), rw sub-zero)
+
+pub types_end-overflow_add-at : goal.types_end-overflow_add-at
+types_end-overflow_add-at t c = omega (arith, c.requires.1, c.well-formed.0)
+
+pub types_end-type_length-at-requires : goal.types_end-type_length-at-requires
+types_end-type_length-at-requires t c = (omega (arith, c.requires.0), tt)
+
+pub types_end-overflow_add-at-in-loop-i : goal.types_end-overflow_add-at-in-loop-i
+types_end-overflow_add-at-in-loop-i t c =
+    let s = c.args in
+    let l = c.loop-i in
+    let k : c.type_length-at.result ≤ length (drop (l.at + s.skip) s.w.now) = rw c.from.ensures at c.type_length-at.ensures.1 in
+    omega (arith, length-drop (l.at + s.skip) s.w.now, c.requires.1, c.well-formed.0)
+
+pub types_end-loop-i-preserved : goal.types_end-loop-i-preserved
+types_end-loop-i-preserved t c =
+    let s = c.args in
+    let l = c.loop-i in
+    let f = c.from.ensures in
+    let k : c.type_length-at.result ≤ length (drop (l.at + s.skip) s.w.now) = rw f at c.type_length-at.ensures.1 in (
+      omega arith,
+      omega (arith, length-drop (l.at + s.skip) s.w.now, c.requires.1),
+      l.invariant.2 ∙ types_go (type_length s.depth) s.skip s.w.now s.n l.i l.at c.loop-i-test.true c.type_length-at.result (rw f at c.type_length-at.ensures.0),
+    )
+
+pub types_end-returns : goal.types_end-returns
+types_end-returns t c =
+    let s = c.args in
+    let l = c.loop-i in
+    types_done (type_length s.depth) s.skip s.w.now s.n l.i l.at c.loop-i-test.false ∙ sym l.invariant.2

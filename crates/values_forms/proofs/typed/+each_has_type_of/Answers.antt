@@ -1,0 +1,80 @@
+use mathlib.Core.Path.{sym, ◌∙◌}
+use Prim.Native.Nat.{◌-◌, ◌≤◌}
+use native.Mathlib.Omega.{arith}
+use native.Mathlib.Nat.{sub-zero}
+use lib.ListN.{length, drop, length-drop}
+use Rattle.values.specs.Typed.{by_test, has_type}
+use Rattle.values_forms.proofs.Testing.{test_counted, typed_none, typed_level, each_stop, each_go, each_done}
+use Rattle.values_forms.proofs.typed.+each_has_type_of.Goals as goal
+
+pub each_has-loop-i-init : goal.each_has-loop-i-init
+each_has-loop-i-init t c = (omega arith, omega arith, omega arith, rw sub-zero)
+
+pub each_has-type_of-requires : goal.each_has-type_of-requires
+each_has-type_of-requires t c = (omega (arith, c.requires.0), tt)
+
+pub each_has-overflow_add-here : goal.each_has-overflow_add-here
+each_has-overflow_add-here t c =
+    let s = c.args in
+    let l = c.loop-i in
+    let k : c.type_step-here.result ≤ length (drop l.here s.t.now) = rw c.from-u.ensures at c.type_step-here.ensures.1 in
+    omega (arith, length-drop l.here s.t.now, c.well-formed.0)
+
+pub each_has-loop-i-preserved : goal.each_has-loop-i-preserved
+each_has-loop-i-preserved t c =
+    let s = c.args in
+    let l = c.loop-i in
+    let e = c.from-u.ensures in
+    let f = c.from-v.ensures in
+    let k : c.type_step-here.result ≤ length (drop l.here s.t.now) = rw e at c.type_step-here.ensures.1 in (
+      omega arith,
+      omega (arith, length-drop l.here s.t.now),
+      omega arith,
+      l.invariant.3 ∙ each_go (has_type s.depth) s.own s.t.now s.w.now s.n l.i l.here l.at c.loop-i-test.true
+          (rw (← e, ← f) (sym c.type_of.ensures ∙ c.if-type_of.true)) c.type_step-here.result c.span-at.result (rw e at c.type_step-here.ensures.0) (rw f at c.span-at.ensures.0),
+    )
+
+pub each_has-returns-else-type_of : goal.each_has-returns-else-type_of
+each_has-returns-else-type_of t c =
+    let s = c.args in
+    let l = c.loop-i in
+    each_stop (has_type s.depth) s.own s.t.now s.w.now s.n l.i l.here l.at c.loop-i-test.true
+    (rw (← c.from-u.ensures, ← c.from-v.ensures) (sym c.type_of.ensures ∙ c.if-type_of.false)) ∙ sym l.invariant.3
+
+pub each_has-returns : goal.each_has-returns
+each_has-returns t c =
+    let s = c.args in
+    let l = c.loop-i in
+    each_done (has_type s.depth) s.own s.t.now s.w.now s.n l.i l.here l.at c.loop-i-test.false ∙ sym l.invariant.3
+
+pub type_of-returns-then-depth-eq0 : goal.type_of-returns-then-depth-eq0
+type_of-returns-then-depth-eq0 t c =
+    let s = c.args in
+    typed_none s.depth s.t.now s.w.now c.if-depth-eq0.true
+
+pub type_of-each_has-requires : goal.type_of-each_has-requires
+type_of-each_has-requires t c =
+    let s = c.args in
+    let n = rw (← c.test_of-q.ensures, c.q-1.given.1) at (test_counted s.t.now s.w.now) in
+    (omega (arith, c.requires.0), omega (arith, n, c.type_inv.w 1))
+
+pub type_of-returns-in-Fails : goal.type_of-returns-in-Fails
+unfolding by_test
+type_of-returns-in-Fails t c =
+    let s = c.args in
+    let h = c.test_of-q in
+    sym (typed_level s.depth s.t.now s.w.now c.if-depth-eq0.false h.result h.ensures ∙ rw c.enum_told-1.given.1)
+
+pub type_of-returns-in-Passes : goal.type_of-returns-in-Passes
+unfolding by_test
+type_of-returns-in-Passes t c =
+    let s = c.args in
+    let h = c.test_of-q in
+    sym (typed_level s.depth s.t.now s.w.now c.if-depth-eq0.false h.result h.ensures ∙ rw c.enum_told-in-Passes-1.given.1)
+
+pub type_of-returns-in-Each : goal.type_of-returns-in-Each
+unfolding by_test
+type_of-returns-in-Each t c =
+    let s = c.args in
+    let h = c.test_of-q in
+    sym (typed_level s.depth s.t.now s.w.now c.if-depth-eq0.false h.result h.ensures ∙ rw (c.q-1.given.1, ← c.from.ensures) (sym c.each_has.ensures))
