@@ -7,7 +7,7 @@ use Rattle.canonical.proofs.canonical.Goals as goal
 pub write_where_room-requires : goal.write_where_room-requires
 write_where_room-requires c =
     let z = c.clear in
-    (sym c.read-first.ensures ∙ c.enum_told-1.given.1, z.ensures ∙ ap (λ n. replicate n 0) (sym z.auto.0))
+    (sym c.read-first.ensures ∙ c.in-Readable.is, z.ensures ∙ ap (λ n. replicate n 0) (sym z.auto.0))
 
 pub returns-in-Readable : goal.returns-in-Readable
 returns-in-Readable c =
@@ -16,4 +16,4 @@ returns-in-Readable c =
     subst (λ m. CanonicalCall c.args.doc.now m w.result w.new.1.0) z.auto.0 w.ensures
 
 pub returns-in-Refused : goal.returns-in-Refused
-returns-in-Refused c = call_refused c.args.doc.now _ _ _ _ (sym c.read-first.ensures ∙ c.first-1.given.1) c.clear.ensures
+returns-in-Refused c = call_refused c.args.doc.now _ _ _ _ (sym c.read-first.ensures ∙ c.in-Refused.is) c.clear.ensures

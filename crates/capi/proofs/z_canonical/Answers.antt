@@ -1,4 +1,5 @@
 use mathlib.Core.Path.{ap, ◌∙◌}
+use Rattle.capi_codes.specs.Code.{code_of}
 use Rattle.capi.proofs.z_canonical.Goals as goal
 
 pub returns : goal.returns

@@ -1,4 +1,5 @@
 use mathlib.Core.Path.{ap, ◌∙◌}
+use Rattle.capi_codes.specs.Code.{check_code}
 use Rattle.capi.proofs.z_check.Goals as goal
 
 pub returns : goal.returns

@@ -1,4 +1,5 @@
 use borrow.Author.Tests.{eq-eqb, ne_eqb}
+use Rattle.capi_codes.specs.Code.{code_finding}
 use Rattle.capi_codes.proofs.finding_of.Goals as goal
 
 pub returns-then-code-eq0 : goal.returns-then-code-eq0

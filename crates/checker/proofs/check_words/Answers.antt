@@ -3,10 +3,10 @@ use mathlib.Core.Path.{sym, ◌∙◌}
 use Rattle.checker.proofs.check_words.Goals as goal
 
 pub check_tree-requires : goal.check_tree-requires
-check_tree-requires c = sym c.read-reading.ensures ∙ c.enum_told-1.given.1
+check_tree-requires c = sym c.read-reading.ensures ∙ c.in-Readable.is
 
 pub returns-in-Readable : goal.returns-in-Readable
-returns-in-Readable c = words_tree _ _ _ _ _ (sym c.read-reading.ensures ∙ c.enum_told-1.given.1) c.check_tree.ensures
+returns-in-Readable c = words_tree _ _ _ _ _ (sym c.read-reading.ensures ∙ c.in-Readable.is) c.check_tree.ensures
 
 pub returns-in-Refused : goal.returns-in-Refused
-returns-in-Refused c = words_unread _ _ _ _ _ _ (sym c.read-reading.ensures ∙ c.reading-1.given.1)
+returns-in-Refused c = words_unread _ _ _ _ _ _ (sym c.read-reading.ensures ∙ c.in-Refused.is)

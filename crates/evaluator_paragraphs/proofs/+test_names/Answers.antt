@@ -1,4 +1,5 @@
 use lib.ListN.{get_or}
+use Rattle.reader_rules.specs.Kinds.{expressions}
 use Rattle.reader_rules.specs.Decode.{tree_of, expr_at}
 use Rattle.states_rules.specs.Names.{document_names}
 use Rattle.evaluator_rules.specs.Rules.{test}

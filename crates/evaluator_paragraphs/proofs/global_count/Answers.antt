@@ -10,26 +10,26 @@ use native.Mathlib.Omega.{arith}
 use Rattle.evaluator_paragraphs.proofs.global_count.Goals as goal
 
 pub overflow_sub-result : goal.overflow_sub-result
-overflow_sub-result c = omega (arith, ap length c.part-w.ensures, (given_words c.args.doc.now c.args.k c.requires ((sym (c.word-q.ensures.0 ∙ ap (λ (y : List ℕ). get_or y 0 0) c.part-w.ensures)) ∙ c.in_default.keys1)).0)
+overflow_sub-result c = omega (arith, ap length c.part-w.ensures, (given_words c.args.doc.now c.args.k c.requires ((sym (c.word-q.ensures.0 ∙ ap (λ (y : List ℕ). get_or y 0 0) c.part-w.ensures)) ∙ c.in-2.is)).0)
 
 pub text_count-requires : goal.text_count-requires
 text_count-requires c =
     let e = c.word.ensures.0 ∙ ap (λ (y : List ℕ). get_or y 1 0) c.part-w.ensures in
-    axiom_text c.args.doc.now c.args.k c.requires ((sym (c.word-q.ensures.0 ∙ ap (λ (y : List ℕ). get_or y 0 0) c.part-w.ensures)) ∙ c.in_default.keys2) _ e (λ i. Value.int (pos 0))
+    axiom_text c.args.doc.now c.args.k c.requires ((sym (c.word-q.ensures.0 ∙ ap (λ (y : List ℕ). get_or y 0 0) c.part-w.ensures)) ∙ c.in-3.is) _ e (λ i. Value.int (pos 0))
 
 pub returns-in-2 : goal.returns-in-2
-returns-in-2 c = ap (λ (n : ℕ). n - 1) (ap length c.part-w.ensures) ∙ sym (given_globals c.args.doc.now c.args.k c.requires (λ i. Value.int (pos 0)) c.args.doc.now c.args.doc.now c.args.doc.now 0 ((sym (c.word-q.ensures.0 ∙ ap (λ (y : List ℕ). get_or y 0 0) c.part-w.ensures)) ∙ c.in_default.keys1))
+returns-in-2 c = ap (λ (n : ℕ). n - 1) (ap length c.part-w.ensures) ∙ sym (given_globals c.args.doc.now c.args.k c.requires (λ i. Value.int (pos 0)) c.args.doc.now c.args.doc.now c.args.doc.now 0 ((sym (c.word-q.ensures.0 ∙ ap (λ (y : List ℕ). get_or y 0 0) c.part-w.ensures)) ∙ c.in-2.is))
 
 pub returns-in-3 : goal.returns-in-3
 returns-in-3 c =
     let e = c.word.ensures.0 ∙ ap (λ (y : List ℕ). get_or y 1 0) c.part-w.ensures in
-    c.text_count.ensures.0 ∙ names_counted _ ∙ sym (axiom_globals c.args.doc.now c.args.k c.requires ((sym (c.word-q.ensures.0 ∙ ap (λ (y : List ℕ). get_or y 0 0) c.part-w.ensures)) ∙ c.in_default.keys2) _ e (λ i. Value.int (pos 0)))
+    c.text_count.ensures.0 ∙ names_counted _ ∙ sym (axiom_globals c.args.doc.now c.args.k c.requires ((sym (c.word-q.ensures.0 ∙ ap (λ (y : List ℕ). get_or y 0 0) c.part-w.ensures)) ∙ c.in-3.is) _ e (λ i. Value.int (pos 0)))
 
 pub returns-in-5 : goal.returns-in-5
-returns-in-5 c = sym (abbreviation_globals c.args.doc.now c.args.k c.requires (λ i. Value.int (pos 0)) c.args.doc.now c.args.doc.now c.args.doc.now 0 ((sym (c.word-q.ensures.0 ∙ ap (λ (y : List ℕ). get_or y 0 0) c.part-w.ensures)) ∙ c.in_default.keys3))
+returns-in-5 c = sym (abbreviation_globals c.args.doc.now c.args.k c.requires (λ i. Value.int (pos 0)) c.args.doc.now c.args.doc.now c.args.doc.now 0 ((sym (c.word-q.ensures.0 ∙ ap (λ (y : List ℕ). get_or y 0 0) c.part-w.ensures)) ∙ c.in-5.is))
 
 pub returns-in_default : goal.returns-in_default
 returns-in_default c =
     let e = c.word-q.ensures.0 ∙ ap (λ (y : List ℕ). get_or y 0 0) c.part-w.ensures in
-    let r = c.in_default.rest in
+    let r = c.in_default.in_default-own.rest in
     sym (other_globals c.args.doc.now c.args.k c.requires (λ z. r.0.0.1 (e ∙ z)) (λ z. r.0.1 (e ∙ z)) (λ z. r.1 (e ∙ z)))

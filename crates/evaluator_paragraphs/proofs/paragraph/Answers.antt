@@ -10,17 +10,17 @@ use native.Mathlib.Omega.{arith}
 use Rattle.evaluator_paragraphs.proofs.paragraph.Goals as goal
 
 pub given-requires : goal.given-requires
-given-requires c = (c.requires.0, c.requires.1, ((sym (c.word-q.ensures.0 ∙ ap (λ (y : List ℕ). get_or y 0 0) c.part-w.ensures)) ∙ c.in_default.keys1), c.requires.2, c.requires.3, c.part-w.ensures)
+given-requires c = (c.requires.0, c.requires.1, ((sym (c.word-q.ensures.0 ∙ ap (λ (y : List ℕ). get_or y 0 0) c.part-w.ensures)) ∙ c.in-2.is), c.requires.2, c.requires.3, c.part-w.ensures)
 
 pub axiom-requires : goal.axiom-requires
-axiom-requires c = (c.requires.0, c.requires.1, ((sym (c.word-q.ensures.0 ∙ ap (λ (y : List ℕ). get_or y 0 0) c.part-w.ensures)) ∙ c.in_default.keys2), c.requires.2, c.requires.3, c.part-w.ensures)
+axiom-requires c = (c.requires.0, c.requires.1, ((sym (c.word-q.ensures.0 ∙ ap (λ (y : List ℕ). get_or y 0 0) c.part-w.ensures)) ∙ c.in-3.is), c.requires.2, c.requires.3, c.part-w.ensures)
 
 pub abbreviation-requires : goal.abbreviation-requires
 abbreviation-requires c =
     let d = c.args.doc.now in
     let st = c.args.state.now in
     let k = c.args.k in
-    let q = ((sym (c.word-q.ensures.0 ∙ ap (λ (y : List ℕ). get_or y 0 0) c.part-w.ensures)) ∙ c.in_default.keys3) in
+    let q = ((sym (c.word-q.ensures.0 ∙ ap (λ (y : List ℕ). get_or y 0 0) c.part-w.ensures)) ∙ c.in-5.is) in
     let r = c.requires.2 in
     let f = r.few in
     (c.requires.1, q, record { few = omega (arith, f, abbreviation_globals d k c.requires.1 (said d st) st st st 0 q); wide = r.wide }, c.part-w.ensures)
@@ -30,7 +30,7 @@ demand-requires c =
     let d = c.args.doc.now in
     let st = c.args.state.now in
     let k = c.args.k in
-    let q = ((sym (c.word-q.ensures.0 ∙ ap (λ (y : List ℕ). get_or y 0 0) c.part-w.ensures)) ∙ c.in_default.keys4) in
+    let q = ((sym (c.word-q.ensures.0 ∙ ap (λ (y : List ℕ). get_or y 0 0) c.part-w.ensures)) ∙ c.in-6.is) in
     let r = c.requires.2 in
     let f = r.few in
     let o = (paragraph_constraint d k c.requires.1 q (operand_at d k 1) refl).first in
@@ -47,7 +47,7 @@ returns-in-5 c =
     let d = c.args.doc.now in
     let st = c.args.state.now in
     let k = c.args.k in
-    let q = ((sym (c.word-q.ensures.0 ∙ ap (λ (y : List ℕ). get_or y 0 0) c.part-w.ensures)) ∙ c.in_default.keys3) in
+    let q = ((sym (c.word-q.ensures.0 ∙ ap (λ (y : List ℕ). get_or y 0 0) c.part-w.ensures)) ∙ c.in-5.is) in
     rw (abbreviation_globals d k c.requires.1 (said d st) st st st 0 q) (c.abbreviation.ensures (said d st))
 
 pub returns-in-6 : goal.returns-in-6
@@ -55,7 +55,7 @@ returns-in-6 c =
     let d = c.args.doc.now in
     let st = c.args.state.now in
     let k = c.args.k in
-    constraint_steps d k c.requires.1 (said d st) st _ _ c.args.n _ (c.word.ensures.0 ∙ ap (λ (y : List ℕ). get_or y 1 0) c.part-w.ensures) ((sym (c.word-q.ensures.0 ∙ ap (λ (y : List ℕ). get_or y 0 0) c.part-w.ensures)) ∙ c.in_default.keys4) c.demand.ensures
+    constraint_steps d k c.requires.1 (said d st) st _ _ c.args.n _ (c.word.ensures.0 ∙ ap (λ (y : List ℕ). get_or y 1 0) c.part-w.ensures) ((sym (c.word-q.ensures.0 ∙ ap (λ (y : List ℕ). get_or y 0 0) c.part-w.ensures)) ∙ c.in-6.is) c.demand.ensures
 
 pub returns-in_default : goal.returns-in_default
 returns-in_default c =
@@ -63,5 +63,5 @@ returns-in_default c =
     let st = c.args.state.now in
     let k = c.args.k in
     let e = c.word-q.ensures.0 ∙ ap (λ (y : List ℕ). get_or y 0 0) c.part-w.ensures in
-    let r = c.in_default.rest in
+    let r = c.in_default.in_default-own.rest in
     schema_steps d k c.requires.1 (said d st) st _ st c.args.n (schema_kind d k c.requires.1 (λ z. r.0.0.0.1 (e ∙ z)) (λ z. r.0.0.1 (e ∙ z)) (λ z. r.0.1 (e ∙ z)) (λ z. r.1 (e ∙ z))) c.judge.ensures.0 c.judge.ensures.1

@@ -10,13 +10,13 @@ pub returns-then-bytes-ne0 : goal.returns-then-bytes-ne0
 returns-then-bytes-ne0 c =
     let a = c.args in
     let e = broken_word a.bytes.now (length a.words.now) c.if-bytes-ne0.true in
-    (e, none_written a.bytes.now a.words.now e)
+    record { value = e; words_after = none_written a.bytes.now a.words.now e }
 
 pub returns-then-words-n : goal.returns-then-words-n
 returns-then-words-n c =
     let a = c.args in
     let e = too_many_lem a.bytes.now (length a.words.now) c.if-bytes-ne0.false c.if-words-n.true in
-    (e, none_written a.bytes.now a.words.now e)
+    record { value = e; words_after = none_written a.bytes.now a.words.now e }
 
 pub copy_words-requires : goal.copy_words-requires
 copy_words-requires c = let t = div-add-mod' (length c.args.bytes.now) 4 in (omega arith, omega arith)
@@ -26,4 +26,4 @@ unfolding words_of
 returns c =
     let a = c.args in
     let e = all_words_lem a.bytes.now (length a.words.now) c.if-bytes-ne0.false c.if-words-n.false in
-    (e, c.copy_words.ensures ∙ all_written a.bytes.now a.words.now e)
+    record { value = e; words_after = c.copy_words.ensures ∙ all_written a.bytes.now a.words.now e }

@@ -3,8 +3,8 @@ use Rattle.printer.proofs.put_finding.Goals as goal
 
 pub returns-in-Accepted : goal.returns-in-Accepted
 unfolding print_of
-returns-in-Accepted c = rw c.enum_told-1.given.1 c.put_accepted.ensures
+returns-in-Accepted c = rw c.in-Accepted.is c.put_accepted.ensures
 
 pub returns-in-Refused : goal.returns-in-Refused
 unfolding print_of
-returns-in-Refused c = rw c.finding-1.given.1 c.Put-refused.ensures
+returns-in-Refused c = rw c.in-Refused.is c.Put-refused.ensures

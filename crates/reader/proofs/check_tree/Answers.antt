@@ -1,7 +1,7 @@
 use Rattle.reader.proofs.check_tree.Goals as goal
 
 pub returns-in-Readable : goal.returns-in-Readable
-returns-in-Readable c = rw (← c.first_repeat-first.ensures, c.enum_told-1.given.1) c.first_past_limit.ensures
+returns-in-Readable c = rw (← c.first_repeat-first.ensures, c.in-Readable.is) c.first_past_limit.ensures
 
 pub returns-in-Refused : goal.returns-in-Refused
-returns-in-Refused c = rw (← c.first_repeat-first.ensures, c.first-1.given.1)
+returns-in-Refused c = rw (← c.first_repeat-first.ensures, c.in-Refused.is)

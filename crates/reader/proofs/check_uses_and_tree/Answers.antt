@@ -17,12 +17,12 @@ check_tree-requires c =
     record {
       laid = c.requires.0;
       nodes = c.requires.1;
-      uses = sym c.first_misused-first.ensures ∙ c.enum_told-1.given.1;
+      uses = sym c.first_misused-first.ensures ∙ c.in-Readable.is;
       parents = rw c.link_nodes.ensures.1 (linked d (omega (arith, (laid document_form d c.requires.0).few)));
     }
 
 pub returns-in-Readable : goal.returns-in-Readable
-returns-in-Readable c = rw (← c.first_misused-first.ensures, c.enum_told-1.given.1) c.check_tree.ensures
+returns-in-Readable c = rw (← c.first_misused-first.ensures, c.in-Readable.is) c.check_tree.ensures
 
 pub returns-in-Refused : goal.returns-in-Refused
-returns-in-Refused c = rw (← c.first_misused-first.ensures, c.first-1.given.1)
+returns-in-Refused c = rw (← c.first_misused-first.ensures, c.in-Refused.is)

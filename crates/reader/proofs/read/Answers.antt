@@ -3,15 +3,15 @@ use mathlib.Core.Path.{sym, ◌∙◌}
 use Rattle.reader.proofs.read.Goals as goal
 
 pub check_uses_and_tree-requires : goal.check_uses_and_tree-requires
-check_uses_and_tree-requires c = (sym c.laid_out.ensures ∙ c.if-laid_out.true, sym c.check_nodes-first.ensures ∙ c.enum_told-1.given.1)
+check_uses_and_tree-requires c = (sym c.laid_out.ensures ∙ c.if-laid_out.true, sym c.check_nodes-first.ensures ∙ c.in-Readable.is)
 
 pub returns-in-Readable : goal.returns-in-Readable
 unfolding read_of
-returns-in-Readable c = rw (← c.laid_out.ensures, c.if-laid_out.true, ← c.check_nodes-first.ensures, c.enum_told-1.given.1) c.check_uses_and_tree.ensures
+returns-in-Readable c = rw (← c.laid_out.ensures, c.if-laid_out.true, ← c.check_nodes-first.ensures, c.in-Readable.is) c.check_uses_and_tree.ensures
 
 pub returns-in-Refused : goal.returns-in-Refused
 unfolding read_of
-returns-in-Refused c = rw (← c.laid_out.ensures, c.if-laid_out.true, ← c.check_nodes-first.ensures, c.first-1.given.1)
+returns-in-Refused c = rw (← c.laid_out.ensures, c.if-laid_out.true, ← c.check_nodes-first.ensures, c.in-Refused.is)
 
 pub returns : goal.returns
 unfolding read_of

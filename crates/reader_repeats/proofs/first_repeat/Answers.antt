@@ -16,7 +16,7 @@ pub slice_bounds-repeat_number-end-in-loop-k : goal.slice_bounds-repeat_number-e
 slice_bounds-repeat_number-end-in-loop-k c = omega (arith, c.loop-k.invariant.3.schemas.size)
 
 pub repeat_number-number-requires : goal.repeat_number-number-requires
-repeat_number-number-requires c = ((c.requires, omega arith, omega (arith, c.word-n.ensures.0)), c.loop-k.invariant.3)
+repeat_number-number-requires c = record { linked = (c.requires, omega arith, omega (arith, c.word-n.ensures.0)); written = c.loop-k.invariant.3 }
 
 pub returns-then-number-ne0 : goal.returns-then-number-ne0
 returns-then-number-ne0 c = rw c.repeat_number-number.ensures.0 (scan_hit _ _ _ (omega arith) (omega (arith, c.repeat_number-number.ensures.0)) ∙ sym c.loop-k.invariant.2)

@@ -30,11 +30,11 @@ loop-i-preserved t c =
     let q = c.sort_at.ensures in (
       omega arith,
       omega arith,
-      ⊎_elim (λ p. ap length p.6 ∙ p.3.kept.1.1.0 ∙ l.invariant.2) (λ p. ap length p.1 ∙ l.invariant.2) c.if-sort_at-gt-LAST_PLAIN.branch,
+      ⊎_elim (λ p. ap length p.6 ∙ p.3.kept.1.1.0 ∙ l.invariant.2) (λ p. ap length p.1 ∙ l.invariant.2) c.if-sort_at-gt-LAST_PLAIN.branch-raw,
       ⊎_elim
-          (λ p. rw (p.6, p.7) (left_node _ _ _ _ _ _ _ _ t l.invariant.3 p.1.result (subst (λ x. ltb 5 x ≡ true) q (lt-ltb _ _ p.0.taken)) p.1.ensures.0 _ _ p.3.ensures.0 p.3.ensures.1))
-          (λ p. rw (p.1, p.2) (left_plain _ _ _ _ _ _ _ _ t l.invariant.3 (subst (λ x. ltb 5 x ≡ false) q (le-ltb _ _ p.0.left))))
-          c.if-sort_at-gt-LAST_PLAIN.branch,
+          (λ p. rw (p.6, p.7) (left_node _ _ _ _ _ _ _ _ t l.invariant.3 p.1.result (subst (λ x. ltb 5 x ≡ true) q (lt-ltb _ _ p.0.true)) p.1.ensures.0 _ _ p.3.ensures.0 p.3.ensures.1))
+          (λ p. rw (p.1, p.2) (left_plain _ _ _ _ _ _ _ _ t l.invariant.3 (subst (λ x. ltb 5 x ≡ false) q (le-ltb _ _ p.0.false))))
+          c.if-sort_at-gt-LAST_PLAIN.branch-raw,
     )
 
 pub overflow_cast-k : goal.overflow_cast-k

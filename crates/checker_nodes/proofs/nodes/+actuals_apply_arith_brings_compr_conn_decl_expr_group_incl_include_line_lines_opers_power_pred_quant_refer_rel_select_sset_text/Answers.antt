@@ -34,6 +34,7 @@ use Rattle.checker_nodes.proofs.NodeWords.{node_of}
 use mathlib.Core.Path.{refl}
 use Rattle.checker_nodes.proofs.LineNodes.{lines_few, line_lower, node_lines_none, node_line_ask, node_line_refused, node_lines_ask, node_lines_then}
 use mathlib.Core.Path.{sym, subst}
+use Rattle.reader_rules.specs.Kinds.{expressions}
 use Rattle.reader_rules.specs.Promise.{Lower}
 use Rattle.checker_nodes.proofs.ListNodes.{few_words, opers_space, opers_none, opers_start, opers_stop, opers_cell, opers_next, opers_end}
 use Rattle.checker_kinds.specs.Formers.{power_rule_items}
@@ -260,55 +261,55 @@ pub decl-returns : goal.decl-returns
 decl-returns t c = node_decl_told c.requires.1.0 c.requires.1.1 _ c.word.ensures.0 c.requires.1.2 c.args.global c.expr-x.ensures _ c.declared.ensures
 
 pub expr-refer-requires : goal.expr-refer-requires
-expr-refer-requires t c = let y = c.requires.0 in let N = handed_node c.requires.1.0 c.part-p.ensures in let K = c.requires.1.1 in let w = node_kind N _ c.word-q.ensures.0 in (omega arith, (N, w ∙ c.in_default-1.keys1, K))
+expr-refer-requires t c = let y = c.requires.0 in let N = handed_node c.requires.1.0 c.part-p.ensures in let K = c.requires.1.1 in let w = node_kind N _ c.word-q.ensures.0 in (omega arith, (N, w ∙ c.in-30.is, K))
 
 pub expr-number_rule-r-requires : goal.expr-number_rule-r-requires
-expr-number_rule-r-requires t c = let y = c.requires.0 in let N = handed_node c.requires.1.0 c.part-p.ensures in let K = c.requires.1.1 in let w = node_kind N _ c.word-q.ensures.0 in number_rule c.requires.1.0 K (w ∙ c.in_default-1.keys2) 1 (omega arith)
+expr-number_rule-r-requires t c = let y = c.requires.0 in let N = handed_node c.requires.1.0 c.part-p.ensures in let K = c.requires.1.1 in let w = node_kind N _ c.word-q.ensures.0 in number_rule c.requires.1.0 K (w ∙ c.in-31.is) 1 (omega arith)
 
 pub expr-visit_at-requires : goal.expr-visit_at-requires
 expr-visit_at-requires t c = let z = c.requires.1.0.small in omega arith
 
 pub expr-integers_rule-r-requires : goal.expr-integers_rule-r-requires
-expr-integers_rule-r-requires t c = let y = c.requires.0 in let N = handed_node c.requires.1.0 c.part-p.ensures in let K = c.requires.1.1 in let w = node_kind N _ c.word-q.ensures.0 in integers_rule c.requires.1.0 K (w ∙ c.in_default-1.keys3) 2 (omega arith)
+expr-integers_rule-r-requires t c = let y = c.requires.0 in let N = handed_node c.requires.1.0 c.part-p.ensures in let K = c.requires.1.1 in let w = node_kind N _ c.word-q.ensures.0 in integers_rule c.requires.1.0 K (w ∙ c.in-32.is) 2 (omega arith)
 
 pub expr-visit_at-requires-in-32 : goal.expr-visit_at-requires-in-32
 expr-visit_at-requires-in-32 t c = let z = c.requires.1.0.small in omega arith
 
 pub expr-power-requires : goal.expr-power-requires
-expr-power-requires t c = let y = c.requires.0 in let N = handed_node c.requires.1.0 c.part-p.ensures in let K = c.requires.1.1 in let w = node_kind N _ c.word-q.ensures.0 in (omega arith, (N, w ∙ c.in_default-1.keys4, K))
+expr-power-requires t c = let y = c.requires.0 in let N = handed_node c.requires.1.0 c.part-p.ensures in let K = c.requires.1.1 in let w = node_kind N _ c.word-q.ensures.0 in (omega arith, (N, w ∙ c.in-36.is, K))
 
 pub expr-apply-requires : goal.expr-apply-requires
-expr-apply-requires t c = let y = c.requires.0 in let N = handed_node c.requires.1.0 c.part-p.ensures in let K = c.requires.1.1 in let w = node_kind N _ c.word-q.ensures.0 in (omega arith, (N, w ∙ c.in_default-1.keys5, K))
+expr-apply-requires t c = let y = c.requires.0 in let N = handed_node c.requires.1.0 c.part-p.ensures in let K = c.requires.1.1 in let w = node_kind N _ c.word-q.ensures.0 in (omega arith, (N, w ∙ c.in-37.is, K))
 
 pub expr-select-requires : goal.expr-select-requires
-expr-select-requires t c = let y = c.requires.0 in let N = handed_node c.requires.1.0 c.part-p.ensures in let K = c.requires.1.1 in let w = node_kind N _ c.word-q.ensures.0 in (omega arith, (N, w ∙ c.in_default-1.keys6, K))
+expr-select-requires t c = let y = c.requires.0 in let N = handed_node c.requires.1.0 c.part-p.ensures in let K = c.requires.1.1 in let w = node_kind N _ c.word-q.ensures.0 in (omega arith, (N, w ∙ c.in-38.is, K))
 
 pub expr-theta_rule-r-requires : goal.expr-theta_rule-r-requires
-expr-theta_rule-r-requires t c = let y = c.requires.0 in let N = handed_node c.requires.1.0 c.part-p.ensures in let K = c.requires.1.1 in let w = node_kind N _ c.word-q.ensures.0 in let i = node_word N 1 _ c.word.ensures.0 in let j = node_word N 2 _ c.word-in-39.ensures.0 in theta_asked c.requires.1.0 K (w ∙ c.in_default-1.keys7) _ _ i j
+expr-theta_rule-r-requires t c = let y = c.requires.0 in let N = handed_node c.requires.1.0 c.part-p.ensures in let K = c.requires.1.1 in let w = node_kind N _ c.word-q.ensures.0 in let i = node_word N 1 _ c.word.ensures.0 in let j = node_word N 2 _ c.word-in-39.ensures.0 in theta_asked c.requires.1.0 K (w ∙ c.in-39.is) _ _ i j
 
 pub expr-visit_at-requires-in-39 : goal.expr-visit_at-requires-in-39
 expr-visit_at-requires-in-39 t c = let z = c.requires.1.0.small in omega arith
 
 pub expr-sset-requires : goal.expr-sset-requires
-expr-sset-requires t c = let y = c.requires.0 in let N = handed_node c.requires.1.0 c.part-p.ensures in let K = c.requires.1.1 in let w = node_kind N _ c.word-q.ensures.0 in (omega arith, (N, w ∙ c.in_default-1.keys8, K))
+expr-sset-requires t c = let y = c.requires.0 in let N = handed_node c.requires.1.0 c.part-p.ensures in let K = c.requires.1.1 in let w = node_kind N _ c.word-q.ensures.0 in (omega arith, (N, w ∙ c.in-40.is, K))
 
 pub expr-group-requires : goal.expr-group-requires
-expr-group-requires t c = let y = c.requires.0 in let N = handed_node c.requires.1.0 c.part-p.ensures in let K = c.requires.1.1 in let w = node_kind N _ c.word-q.ensures.0 in let a = past _ 32 (past _ 31 (past _ 30 c.in_default.false c.in_default-1.rest.0.0.0.0.0.0.0.1) c.in_default-1.rest.0.0.0.0.0.0.1) c.in_default-1.rest.0.0.0.0.0.1 in let b = c.if-q-lt36.true in (omega arith, (N, omega arith, omega arith, K))
+expr-group-requires t c = let y = c.requires.0 in let N = handed_node c.requires.1.0 c.part-p.ensures in let K = c.requires.1.1 in let w = node_kind N _ c.word-q.ensures.0 in let a = past _ 32 (past _ 31 (past _ 30 c.in-33-to-35.if-q-lt30-own.false c.in-33-to-35.in_default-own.rest.0.0.0.0.0.0.0.1) c.in-33-to-35.in_default-own.rest.0.0.0.0.0.0.1) c.in-33-to-35.in_default-own.rest.0.0.0.0.0.1 in let b = c.in-33-to-35.if-q-lt36-own.true in (omega arith, (N, omega arith, omega arith, K))
 
 pub expr-arith-requires : goal.expr-arith-requires
-expr-arith-requires t c = let y = c.requires.0 in let N = handed_node c.requires.1.0 c.part-p.ensures in let K = c.requires.1.1 in let w = node_kind N _ c.word-q.ensures.0 in let a = past _ 40 (past _ 39 (past _ 38 (past _ 37 (past _ 36 c.if-q-lt36.false c.in_default-1.rest.0.0.0.0.1) c.in_default-1.rest.0.0.0.1) c.in_default-1.rest.0.0.1) c.in_default-1.rest.0.1) c.in_default-1.rest.1 in let b = c.if-q-lt46.true in (omega arith, (N, omega arith, omega arith, K))
+expr-arith-requires t c = let y = c.requires.0 in let N = handed_node c.requires.1.0 c.part-p.ensures in let K = c.requires.1.1 in let w = node_kind N _ c.word-q.ensures.0 in let a = past _ 40 (past _ 39 (past _ 38 (past _ 37 (past _ 36 c.in-41-to-45.if-q-lt36-own.false c.in-41-to-45.in_default-own.rest.0.0.0.0.1) c.in-41-to-45.in_default-own.rest.0.0.0.1) c.in-41-to-45.in_default-own.rest.0.0.1) c.in-41-to-45.in_default-own.rest.0.1) c.in-41-to-45.in_default-own.rest.1 in let b = c.in-41-to-45.if-q-lt46-own.true in (omega arith, (N, omega arith, omega arith, K))
 
 pub expr-compr-requires : goal.expr-compr-requires
-expr-compr-requires t c = let y = c.requires.0 in let N = handed_node c.requires.1.0 c.part-p.ensures in let K = c.requires.1.1 in let w = node_kind N _ c.word-q.ensures.0 in let r = expr_range _ _ c.requires.1.0 in let k = ⊎_elim (λ z. let u = z.taken in last_kind_low r.0 w u) (λ z. last_kind r.1 w z.2.left) c.in_default.branch in (omega arith, (N, k, K))
+expr-compr-requires t c = let y = c.requires.0 in let N = handed_node c.requires.1.0 c.part-p.ensures in let K = c.requires.1.1 in let w = node_kind N _ c.word-q.ensures.0 in let r = expr_range _ _ c.requires.1.0 in let k = ⊎_elim (λ z. let u = z.true in last_kind_low r.0 w u) (λ z. last_kind r.1 w z.2.false) c.in_default.branch-raw in (omega arith, (N, k, K))
 
 pub expr-returns-in-30 : goal.expr-returns-in-30
 expr-returns-in-30 t c = c.refer.ensures
 
 pub expr-returns-in-31 : goal.expr-returns-in-31
-expr-returns-in-31 t c = let y = c.requires.0 in let N = handed_node c.requires.1.0 c.part-p.ensures in let K = c.requires.1.1 in let w = node_kind N _ c.word-q.ensures.0 in number_end c.requires.1.0 K (w ∙ c.in_default-1.keys2) (omega arith) c.number_rule-r.auto.a (c.number_rule-r.ensures _) c.visit_at.ensures
+expr-returns-in-31 t c = let y = c.requires.0 in let N = handed_node c.requires.1.0 c.part-p.ensures in let K = c.requires.1.1 in let w = node_kind N _ c.word-q.ensures.0 in number_end c.requires.1.0 K (w ∙ c.in-31.is) (omega arith) c.number_rule-r.auto.a (c.number_rule-r.ensures _) c.visit_at.ensures
 
 pub expr-returns-in-32 : goal.expr-returns-in-32
-expr-returns-in-32 t c = let y = c.requires.0 in let N = handed_node c.requires.1.0 c.part-p.ensures in let K = c.requires.1.1 in let w = node_kind N _ c.word-q.ensures.0 in integers_end c.requires.1.0 K (w ∙ c.in_default-1.keys3) (omega arith) c.integers_rule-r.auto.a (c.integers_rule-r.ensures _) c.visit_at-in-32.ensures
+expr-returns-in-32 t c = let y = c.requires.0 in let N = handed_node c.requires.1.0 c.part-p.ensures in let K = c.requires.1.1 in let w = node_kind N _ c.word-q.ensures.0 in integers_end c.requires.1.0 K (w ∙ c.in-32.is) (omega arith) c.integers_rule-r.auto.a (c.integers_rule-r.ensures _) c.visit_at-in-32.ensures
 
 pub expr-returns-in-36 : goal.expr-returns-in-36
 expr-returns-in-36 t c = c.power.ensures
@@ -320,7 +321,7 @@ pub expr-returns-in-38 : goal.expr-returns-in-38
 expr-returns-in-38 t c = c.select.ensures
 
 pub expr-returns-in-39 : goal.expr-returns-in-39
-expr-returns-in-39 t c = let y = c.requires.0 in let N = handed_node c.requires.1.0 c.part-p.ensures in let K = c.requires.1.1 in let w = node_kind N _ c.word-q.ensures.0 in let i = node_word N 1 _ c.word.ensures.0 in let j = node_word N 2 _ c.word-in-39.ensures.0 in theta_end c.requires.1.0 K (w ∙ c.in_default-1.keys7) _ _ i j c.theta_rule-r.auto.a c.theta_rule-r.auto.w.1.0 c.theta_rule-r.ensures c.visit_at-in-39.ensures
+expr-returns-in-39 t c = let y = c.requires.0 in let N = handed_node c.requires.1.0 c.part-p.ensures in let K = c.requires.1.1 in let w = node_kind N _ c.word-q.ensures.0 in let i = node_word N 1 _ c.word.ensures.0 in let j = node_word N 2 _ c.word-in-39.ensures.0 in theta_end c.requires.1.0 K (w ∙ c.in-39.is) _ _ i j c.theta_rule-r.auto.a c.theta_rule-r.auto.w.1.0 c.theta_rule-r.ensures c.visit_at-in-39.ensures
 
 pub expr-returns-in-40 : goal.expr-returns-in-40
 expr-returns-in-40 t c = c.sset.ensures
@@ -505,7 +506,7 @@ pub opers-overflow_add-i : goal.opers-overflow_add-i
 opers-overflow_add-i t c = let z = c.requires.1.1 in omega arith
 
 pub opers-overflow_add-j : goal.opers-overflow_add-j
-opers-overflow_add-j t c = let N = c.requires.1.0 in let K = c.requires.1.3 in let h = c.if-p-i.false in let e = c.word.ensures.0 in let z = opers_space N K h in let v = c.well-formed.1.1.1.1.1.1.1.1.1.1.1.1.0.0 in omega arith
+opers-overflow_add-j t c = let N = c.requires.1.0 in let K = c.requires.1.3 in let h = c.if-p-i.false in let e = c.word.ensures.0 in let z = opers_space N K h in let v = c.well_formed.1.1.1.1.1.1.1.1.1.1.1.1.0.0 in omega arith
 
 pub opers-opers-requires : goal.opers-opers-requires
 opers-opers-requires t c = let N = c.requires.1.0 in let K = c.requires.1.3 in let h = c.if-p-i.false in let e = c.word.ensures.0 in let m = few_words N in let y = c.requires.0 in (omega arith, (N, omega arith, λ q a b. c.requires.1.2 q (omega arith) b, opers_next N K _ e h c.expr-x.ensures c.if-x-ne0.false c.store.ensures))
@@ -536,7 +537,7 @@ pred-verdict_at-requires t c =
 pub pred-pred-requires : goal.pred-pred-requires
 pred-pred-requires t c =
     let B = node_of c.requires.1.0 c.part-p.ensures in
-    let o = at_not_ask B c.requires.1.1 (kind_at_lem B _ c.word-q.ensures.0 ∙ c.in_default-1.keys2) _ c.word.ensures.0 in
+    let o = at_not_ask B c.requires.1.1 (kind_at_lem B _ c.word-q.ensures.0 ∙ c.in-24.is) _ c.word.ensures.0 in
     let x = o.0.below in
     let m = c.requires.0 in
     (omega arith, (o.0.at, o.1))
@@ -545,8 +546,8 @@ pub pred-rel-requires : goal.pred-rel-requires
 pred-rel-requires t c =
     let B = node_of c.requires.1.0 c.part-p.ensures in
     let q = kind_at_lem B _ c.word-q.ensures.0 in
-    let l = beyond _ 20 c.in_default.false c.in_default-1.rest.0.1 in
-    let u = c.if-q-lt24.true in
+    let l = beyond _ 20 c.in-21-to-23.if-q-lt20-own.false c.in-21-to-23.in_default-own.rest.0.1 in
+    let u = c.in-21-to-23.if-q-lt24-own.true in
     let m = c.requires.0 in
     (omega arith, (B, omega arith, omega arith, c.requires.1.1))
 
@@ -554,8 +555,8 @@ pub pred-conn-requires : goal.pred-conn-requires
 pred-conn-requires t c =
     let B = node_of c.requires.1.0 c.part-p.ensures in
     let q = kind_at_lem B _ c.word-q.ensures.0 in
-    let l = beyond _ 24 c.if-q-lt24.false c.in_default-1.rest.1 in
-    let u = c.if-q-lt28.true in
+    let l = beyond _ 24 c.in-25-to-27.if-q-lt24-own.false c.in-25-to-27.in_default-own.rest.1 in
+    let u = c.in-25-to-27.if-q-lt28-own.true in
     let m = c.requires.0 in
     (omega arith, (B, omega arith, omega arith, c.requires.1.1))
 
@@ -566,19 +567,19 @@ pred-quant-requires t c =
     let g = pred_range _ _ c.requires.1.0 in
     let x = g.0 in
     let y = g.1 in
-    let z : 28 ≤ kind_at c.args.doc.now c.args.k = ⊎_elim (λ t. let v = t.taken in absurd (omega arith)) (λ p. let v = p.2.left in omega arith) c.in_default.branch in
+    let z : 28 ≤ kind_at c.args.doc.now c.args.k = ⊎_elim (λ t. let v = t.true in absurd (omega arith)) (λ p. let v = p.2.false in omega arith) c.in_default.branch-raw in
     let m = c.requires.0 in
     (omega arith, (B, z, y, c.requires.1.1))
 
 pub pred-returns-in-20 : goal.pred-returns-in-20
 pred-returns-in-20 t c =
     let B = node_of c.requires.1.0 c.part-p.ensures in
-    at_truth B (kind_at_lem B _ c.word-q.ensures.0 ∙ c.in_default-1.keys1) _ c.verdict_at.ensures
+    at_truth B (kind_at_lem B _ c.word-q.ensures.0 ∙ c.in-20.is) _ c.verdict_at.ensures
 
 pub pred-returns-in-24 : goal.pred-returns-in-24
 pred-returns-in-24 t c =
     let B = node_of c.requires.1.0 c.part-p.ensures in
-    at_not B c.requires.1.1 (kind_at_lem B _ c.word-q.ensures.0 ∙ c.in_default-1.keys2) _ c.word.ensures.0 c.pred.ensures
+    at_not B c.requires.1.1 (kind_at_lem B _ c.word-q.ensures.0 ∙ c.in-24.is) _ c.word.ensures.0 c.pred.ensures
 
 pub pred-returns-in-21-to-23 : goal.pred-returns-in-21-to-23
 pred-returns-in-21-to-23 t c = c.rel.ensures

@@ -4,6 +4,7 @@ use mathlib.Core.List.{List}
 use Prim.Native.Nat.{◌≤◌}
 use lib.ListN.{length, get_or}
 use native.Mathlib.Omega.{arith}
+use Rattle.reader_rules.specs.Kinds.{expressions}
 use Rattle.reader_rules.specs.Promise.{Lower}
 use Rattle.evaluator_scope.proofs.BlockLaws.{scoped_same}
 use Rattle.evaluator_nodes.proofs.NodeLaws.{ready_lower, handed_same, in_words, adds_end, adds_stop, adds_over, adds_go}
@@ -24,6 +25,7 @@ use Prim.Native.Nat.{ℕ, ◌+◌, ◌-◌}
 use Rattle.evaluator_nodes.proofs.AssignLaws.{scoping_shift, assigns_none, assigns_some}
 use Rattle.evaluator_nodes.proofs.NodeLaws.{ready_lower, relation_operands, below_told}
 use Prim.Native.Nat.{ℕ, ◌+◌}
+use Rattle.reader_rules.specs.Kinds.{expressions, predicates}
 use Rattle.reader_rules.specs.Decode.{quantifier_of}
 use Rattle.evaluator_operations.specs.Steps.{verdict_of}
 use Rattle.evaluator_nodes.specs.Ready.{Ready}
@@ -46,6 +48,7 @@ use Rattle.evaluator_operations.specs.declared.worked.Judgement.{Judgement}
 use Rattle.evaluator_operations.specs.Worked.{Told, Valued}
 use Rattle.evaluator_nodes.specs.Ready.{SoFar}
 use mathlib.Core.Path.{◌≡◌, refl, sym, ap, ◌∙◌}
+use Rattle.reader_rules.specs.Kinds.{predicates}
 use Rattle.reader_rules.specs.Decode.{connective_of}
 use Rattle.evaluator_operations.specs.Steps.{decision_of}
 use Rattle.evaluator_nodes.proofs.NodeLaws.{ready_lower, in_words, connected_operands, connected_stop, connected_known, connected_right}
@@ -70,6 +73,7 @@ use Rattle.evaluator_nodes.proofs.NodeLaws.{ready_lower, handed_same, in_words, 
 use Rattle.evaluator_nodes.proofs.FactorLaws.{factors_end, factors_go}
 use Prim.Native.Nat.{ℕ, ◌+◌, ◌*◌, ◌-◌, ◌≤◌}
 use Rattle.layout.specs.Layout.{part}
+use Rattle.reader_rules.specs.Kinds.{lines}
 use Rattle.evaluator_scope.proofs.BlockLaws.{same_less}
 use Rattle.evaluator_nodes.proofs.NodeLaws.{few_words}
 use Rattle.evaluator_nodes.proofs.LineLaws.{lines_done, include_told, decl_operand, decl_count, decl_stop, decl_other, decl_go, line_ready, line_at_lem}
@@ -405,14 +409,14 @@ pub connect-returns-in-Known : goal.connect-returns-in-Known
 connect-returns-in-Known t c =
     let e = c.pred-x.ensures in
     let q = c.decides-d.ensures ∙ ap (λ (j : ℕ). decision_of (connective_of j) c.pred-x.result.flag) (in_words c.requires.1.0 0 _ c.word-2.ensures.0) in
-    record { kept = e.kept; told = λ scope sc. connected_known c.requires.1.0 c.requires.1.1 c.requires.1.2 _ (get_or c.args.w.now 2 0) c.word.ensures.0 refl scope _ (e.told scope sc) c.if-x-ne0.false (sym c.d-1.given.1 ∙ q) c.judge.ensures.0 c.judge.ensures.1 }
+    record { kept = e.kept; told = λ scope sc. connected_known c.requires.1.0 c.requires.1.1 c.requires.1.2 _ (get_or c.args.w.now 2 0) c.word.ensures.0 refl scope _ (e.told scope sc) c.if-x-ne0.false (sym c.in-Known.is ∙ q) c.judge.ensures.0 c.judge.ensures.1 }
 
 pub connect-returns-in-Right : goal.connect-returns-in-Right
 connect-returns-in-Right t c =
     let e = c.pred-x.ensures in
     let g = c.pred.ensures in
     let q = c.decides-d.ensures ∙ ap (λ (j : ℕ). decision_of (connective_of j) c.pred-x.result.flag) (in_words c.requires.1.0 0 _ c.word-2.ensures.0) in
-    record { kept = g.kept ∙ e.kept; told = λ scope sc. connected_right c.requires.1.0 c.requires.1.1 c.requires.1.2 _ _ c.word.ensures.0 c.word-in-Right.ensures.0 scope (e.told scope sc) c.if-x-ne0.false (sym c.enum_told-1.given.1 ∙ q) (g.told scope (scoped_same _ _ _ _ e.kept sc)) }
+    record { kept = g.kept ∙ e.kept; told = λ scope sc. connected_right c.requires.1.0 c.requires.1.1 c.requires.1.2 _ _ c.word.ensures.0 c.word-in-Right.ensures.0 scope (e.told scope sc) c.if-x-ne0.false (sym c.in-Right.is ∙ q) (g.told scope (scoped_same _ _ _ _ e.kept sc)) }
 
 pub display-put_set-requires : goal.display-put_set-requires
 display-put_set-requires t c = let h = c.empty_set.ensures in omega (arith, held_len _ _ h.words h.short, h.short)
@@ -549,30 +553,30 @@ each_part-returns t c =
     record { kept = e.kept; told = λ vs g scope sc. product_false a.doc.now a.k (length a.w.now) a.i scope a.v a.at (omega (arith, c.if-w-i.false)) _ _ c.length_at-len.ensures.0 c.member_at.ensures _ (in_words c.requires.1.0 a.i _ c.word.ensures.0) vs g (λ y h. e.told y h scope sc) c.if-x-ne0.false c.if-x.false }
 
 pub expr-refers-requires : goal.expr-refers-requires
-expr-refers-requires t c = (omega arith, (handed_of c.requires.1 c.part-w.ensures, sym (ap (λ (l : List ℕ). get_or l 0 0) c.part-w.ensures) ∙ sym c.word-q.ensures.0 ∙ c.in_default-1.keys1))
+expr-refers-requires t c = (omega arith, (handed_of c.requires.1 c.part-w.ensures, sym (ap (λ (l : List ℕ). get_or l 0 0) c.part-w.ensures) ∙ sym c.word-q.ensures.0 ∙ c.in-30.is))
 
 pub expr-number_value-requires : goal.expr-number_value-requires
 expr-number_value-requires t c =
     let h = handed_of c.requires.1 c.part-w.ensures in
-    subst (λ (z : ℕ). z ≤ 2147483647) (sym (in_words h 1 _ c.word.ensures.0)) (number_word _ expressions _ c.requires.1.at (sym (ap (λ (l : List ℕ). get_or l 0 0) c.part-w.ensures) ∙ sym c.word-q.ensures.0 ∙ c.in_default-1.keys2))
+    subst (λ (z : ℕ). z ≤ 2147483647) (sym (in_words h 1 _ c.word.ensures.0)) (number_word _ expressions _ c.requires.1.at (sym (ap (λ (l : List ℕ). get_or l 0 0) c.part-w.ensures) ∙ sym c.word-q.ensures.0 ∙ c.in-31.is))
 
 pub expr-display-requires : goal.expr-display-requires
-expr-display-requires t c = (omega arith, (handed_of c.requires.1 c.part-w.ensures, sym (ap (λ (l : List ℕ). get_or l 0 0) c.part-w.ensures) ∙ sym c.word-q.ensures.0 ∙ c.in_default-1.keys3))
+expr-display-requires t c = (omega arith, (handed_of c.requires.1 c.part-w.ensures, sym (ap (λ (l : List ℕ). get_or l 0 0) c.part-w.ensures) ∙ sym c.word-q.ensures.0 ∙ c.in-33.is))
 
 pub expr-tuple-requires : goal.expr-tuple-requires
-expr-tuple-requires t c = (omega arith, (handed_of c.requires.1 c.part-w.ensures, sym (ap (λ (l : List ℕ). get_or l 0 0) c.part-w.ensures) ∙ sym c.word-q.ensures.0 ∙ c.in_default-1.keys4))
+expr-tuple-requires t c = (omega arith, (handed_of c.requires.1 c.part-w.ensures, sym (ap (λ (l : List ℕ). get_or l 0 0) c.part-w.ensures) ∙ sym c.word-q.ensures.0 ∙ c.in-34.is))
 
 pub expr-tuples-requires : goal.expr-tuples-requires
-expr-tuples-requires t c = (omega arith, (handed_of c.requires.1 c.part-w.ensures, sym (ap (λ (l : List ℕ). get_or l 0 0) c.part-w.ensures) ∙ sym c.word-q.ensures.0 ∙ c.in_default-1.keys5))
+expr-tuples-requires t c = (omega arith, (handed_of c.requires.1 c.part-w.ensures, sym (ap (λ (l : List ℕ). get_or l 0 0) c.part-w.ensures) ∙ sym c.word-q.ensures.0 ∙ c.in-35.is))
 
 pub expr-subsets-requires : goal.expr-subsets-requires
-expr-subsets-requires t c = (omega arith, (handed_of c.requires.1 c.part-w.ensures, sym (ap (λ (l : List ℕ). get_or l 0 0) c.part-w.ensures) ∙ sym c.word-q.ensures.0 ∙ c.in_default-1.keys6))
+expr-subsets-requires t c = (omega arith, (handed_of c.requires.1 c.part-w.ensures, sym (ap (λ (l : List ℕ). get_or l 0 0) c.part-w.ensures) ∙ sym c.word-q.ensures.0 ∙ c.in-36.is))
 
 pub expr-apply-requires : goal.expr-apply-requires
-expr-apply-requires t c = (omega arith, (handed_of c.requires.1 c.part-w.ensures, sym (ap (λ (l : List ℕ). get_or l 0 0) c.part-w.ensures) ∙ sym c.word-q.ensures.0 ∙ c.in_default-1.keys7))
+expr-apply-requires t c = (omega arith, (handed_of c.requires.1 c.part-w.ensures, sym (ap (λ (l : List ℕ). get_or l 0 0) c.part-w.ensures) ∙ sym c.word-q.ensures.0 ∙ c.in-37.is))
 
 pub expr-compr-requires : goal.expr-compr-requires
-expr-compr-requires t c = (omega arith, (handed_of c.requires.1 c.part-w.ensures, sym (ap (λ (l : List ℕ). get_or l 0 0) c.part-w.ensures) ∙ sym c.word-q.ensures.0 ∙ c.in_default-1.keys8))
+expr-compr-requires t c = (omega arith, (handed_of c.requires.1 c.part-w.ensures, sym (ap (λ (l : List ℕ). get_or l 0 0) c.part-w.ensures) ∙ sym c.word-q.ensures.0 ∙ c.in-46.is))
 
 pub expr-arith-requires : goal.expr-arith-requires
 expr-arith-requires t c =
@@ -585,7 +589,7 @@ expr-returns-in-30 t c = c.refers.ensures
 pub expr-returns-in-31 : goal.expr-returns-in-31
 expr-returns-in-31 t c =
     let h = handed_of c.requires.1 c.part-w.ensures in
-    record { kept = refl; told = λ scope sc. number_told _ _ c.requires.1.at (sym (ap (λ (l : List ℕ). get_or l 0 0) c.part-w.ensures) ∙ sym c.word-q.ensures.0 ∙ c.in_default-1.keys2) _ (in_words h 1 _ c.word.ensures.0) scope c.number_value.ensures.0 c.number_value.ensures.1 }
+    record { kept = refl; told = λ scope sc. number_told _ _ c.requires.1.at (sym (ap (λ (l : List ℕ). get_or l 0 0) c.part-w.ensures) ∙ sym c.word-q.ensures.0 ∙ c.in-31.is) _ (in_words h 1 _ c.word.ensures.0) scope c.number_value.ensures.0 c.number_value.ensures.1 }
 
 pub expr-returns-in-33 : goal.expr-returns-in-33
 expr-returns-in-33 t c = c.display.ensures
@@ -612,7 +616,7 @@ pub expr-returns-in_default : goal.expr-returns-in_default
 expr-returns-in_default t c =
     let q = c.word-q.ensures.0 ∙ ap (λ (l : List ℕ). get_or l 0 0) c.part-w.ensures in
     let r = c.in_default-1.rest in
-    let u : Unrun (kind_at c.args.doc.now c.args.k) = record { a = λ e. r.0.0.0.0.0.0.0.1 (q ∙ e); b = λ e. r.0.0.0.0.0.0.1 (q ∙ e); c = λ e. r.0.0.0.0.0.1 (q ∙ e); d = λ e. r.0.0.0.0.1 (q ∙ e); e = λ e. r.0.0.0.1 (q ∙ e); f = λ e. r.0.0.1 (q ∙ e); g = λ e. r.0.1 (q ∙ e); h = λ e. r.1 (q ∙ e); i = λ x y. ⊎_elim (λ t. let v = t.taken in omega (arith, q)) (λ p. let v = p.1.left in omega (arith, q)) c.in_default.branch } in
+    let u : Unrun (kind_at c.args.doc.now c.args.k) = record { a = λ e. r.0.0.0.0.0.0.0.1 (q ∙ e); b = λ e. r.0.0.0.0.0.0.1 (q ∙ e); c = λ e. r.0.0.0.0.0.1 (q ∙ e); d = λ e. r.0.0.0.0.1 (q ∙ e); e = λ e. r.0.0.0.1 (q ∙ e); f = λ e. r.0.0.1 (q ∙ e); g = λ e. r.0.1 (q ∙ e); h = λ e. r.1 (q ∙ e); i = λ x y. ⊎_elim (λ t. let v = t.true in omega (arith, q)) (λ p. let v = p.1.false in omega (arith, q)) c.in_default.branch-raw } in
     record { kept = refl; told = λ scope sc. unrun_told _ _ c.requires.1.at u scope c.stop.ensures }
 
 pub factors-returns-then-w-i : goal.factors-returns-then-w-i
@@ -818,22 +822,22 @@ power-returns t c =
     record { kept = e.kept; told = λ x h scope sc. power_told c.requires.1.0 _ x h scope c.requires.1.1 (sym c.tag_of.ensures ∙ c.if-tag_of-ne-SET.false) _ c.word.ensures.0 (λ vs g. e.told vs (subst (λ (j : ℕ). Rest c.args.v 2 j vs) (sym c.count_of.ensures.0) g) scope sc) }
 
 pub pred-same-requires : goal.pred-same-requires
-pred-same-requires t c = (omega arith, (handed_of c.requires.1 c.part-w.ensures, sym (ap (λ (l : List ℕ). get_or l 0 0) c.part-w.ensures) ∙ sym c.word-q.ensures.0 ∙ c.in_default-1.keys1))
+pred-same-requires t c = (omega arith, (handed_of c.requires.1 c.part-w.ensures, sym (ap (λ (l : List ℕ). get_or l 0 0) c.part-w.ensures) ∙ sym c.word-q.ensures.0 ∙ c.in-21.is))
 
 pub pred-member-requires : goal.pred-member-requires
-pred-member-requires t c = (omega arith, (handed_of c.requires.1 c.part-w.ensures, sym (ap (λ (l : List ℕ). get_or l 0 0) c.part-w.ensures) ∙ sym c.word-q.ensures.0 ∙ c.in_default-1.keys2))
+pred-member-requires t c = (omega arith, (handed_of c.requires.1 c.part-w.ensures, sym (ap (λ (l : List ℕ). get_or l 0 0) c.part-w.ensures) ∙ sym c.word-q.ensures.0 ∙ c.in-22.is))
 
 pub pred-below-requires : goal.pred-below-requires
-pred-below-requires t c = (omega arith, (handed_of c.requires.1 c.part-w.ensures, sym (ap (λ (l : List ℕ). get_or l 0 0) c.part-w.ensures) ∙ sym c.word-q.ensures.0 ∙ c.in_default-1.keys3))
+pred-below-requires t c = (omega arith, (handed_of c.requires.1 c.part-w.ensures, sym (ap (λ (l : List ℕ). get_or l 0 0) c.part-w.ensures) ∙ sym c.word-q.ensures.0 ∙ c.in-23.is))
 
 pub pred-negate-requires : goal.pred-negate-requires
-pred-negate-requires t c = (omega arith, (handed_of c.requires.1 c.part-w.ensures, sym (ap (λ (l : List ℕ). get_or l 0 0) c.part-w.ensures) ∙ sym c.word-q.ensures.0 ∙ c.in_default-1.keys4))
+pred-negate-requires t c = (omega arith, (handed_of c.requires.1 c.part-w.ensures, sym (ap (λ (l : List ℕ). get_or l 0 0) c.part-w.ensures) ∙ sym c.word-q.ensures.0 ∙ c.in-24.is))
 
 pub pred-connect-requires : goal.pred-connect-requires
 pred-connect-requires t c =
     let q : c.word-q.result ≡ kind_at c.args.doc.now c.args.k = c.word-q.ensures.0 ∙ ap (λ (l : List ℕ). get_or l 0 0) c.part-w.ensures in
-    let r = c.in_default-1.rest in
-    let z = from_25 _ c.in_default.false r.0.0.0.1 r.0.0.1 r.0.1 r.1 in
+    let r = c.in-25-to-27.in_default-own.rest in
+    let z = from_25 _ c.in-25-to-27.if-q-lt21-own.false r.0.0.0.1 r.0.0.1 r.0.1 r.1 in
     (omega arith, (handed_of c.requires.1 c.part-w.ensures, omega arith, omega arith))
 
 pub pred-quant-requires : goal.pred-quant-requires
@@ -847,7 +851,7 @@ pred-returns-in_default t c =
     let g = pred_range _ _ c.requires.1.at in
     let x = g.0 in
     let y = g.1 in
-    let k : kind_at c.args.doc.now c.args.k ≡ 20 = ⊎_elim (λ t. let v = t.taken in omega arith) (λ p. let v = p.2.left in omega arith) c.in_default.branch in
+    let k : kind_at c.args.doc.now c.args.k ≡ 20 = ⊎_elim (λ t. let v = t.true in omega arith) (λ p. let v = p.2.false in omega arith) c.in_default.branch-raw in
     record { kept = refl; told = λ scope sc. truth_told _ _ c.requires.1.at k scope c.judge.ensures.0 c.judge.ensures.1 }
 
 pub pred-returns-in-21 : goal.pred-returns-in-21
@@ -911,12 +915,12 @@ reckon-refer_integer-requires t c = (omega (arith, c.requires.1.room), c.require
 pub reckon-returns-then-w-le2 : goal.reckon-returns-then-w-le2
 reckon-returns-then-w-le2 t c =
     let h = handed_of c.requires.1 c.part-w.ensures in
-    let q = sym (ap (λ (l : List ℕ). get_or l 0 0) c.part-w.ensures) ∙ sym c.word-q.ensures.0 ∙ c.in_default-1.keys1 in
+    let q = sym (ap (λ (l : List ℕ). get_or l 0 0) c.part-w.ensures) ∙ sym c.word-q.ensures.0 ∙ c.in-30.is in
     let l = c.if-w-le2.true in
     record { kept = refl; told = λ scope sc. reference_plain h q scope l (rw (← c.word.ensures.0) (c.refer_integer.ensures scope sc _ (no_actuals h q scope l))) }
 
 pub reckon-refers-requires : goal.reckon-refers-requires
-reckon-refers-requires t c = (omega arith, (handed_of c.requires.1 c.part-w.ensures, sym (ap (λ (l : List ℕ). get_or l 0 0) c.part-w.ensures) ∙ sym c.word-q.ensures.0 ∙ c.in_default-1.keys1))
+reckon-refers-requires t c = (omega arith, (handed_of c.requires.1 c.part-w.ensures, sym (ap (λ (l : List ℕ). get_or l 0 0) c.part-w.ensures) ∙ sym c.word-q.ensures.0 ∙ c.in-30.is))
 
 pub reckon-returns-else-w-le2 : goal.reckon-returns-else-w-le2
 reckon-returns-else-w-le2 t c = let g = c.refers.ensures in record { kept = g.kept; told = λ scope sc. c.integer_of.ensures _ (g.told scope sc) }
@@ -924,12 +928,12 @@ reckon-returns-else-w-le2 t c = let g = c.refers.ensures in record { kept = g.ke
 pub reckon-number_operand-requires : goal.reckon-number_operand-requires
 reckon-number_operand-requires t c =
     let h = handed_of c.requires.1 c.part-w.ensures in
-    subst (λ (z : ℕ). z ≤ 2147483647) (sym (in_words h 1 _ c.word-in-31.ensures.0)) (number_word _ expressions _ c.requires.1.at (sym (ap (λ (l : List ℕ). get_or l 0 0) c.part-w.ensures) ∙ sym c.word-q.ensures.0 ∙ c.in_default-1.keys2))
+    subst (λ (z : ℕ). z ≤ 2147483647) (sym (in_words h 1 _ c.word-in-31.ensures.0)) (number_word _ expressions _ c.requires.1.at (sym (ap (λ (l : List ℕ). get_or l 0 0) c.part-w.ensures) ∙ sym c.word-q.ensures.0 ∙ c.in-31.is))
 
 pub reckon-returns-in-31 : goal.reckon-returns-in-31
 reckon-returns-in-31 t c =
     let h = handed_of c.requires.1 c.part-w.ensures in
-    record { kept = refl; told = λ scope sc. counted_integral (number_told _ _ c.requires.1.at (sym (ap (λ (l : List ℕ). get_or l 0 0) c.part-w.ensures) ∙ sym c.word-q.ensures.0 ∙ c.in_default-1.keys2) _ (in_words h 1 _ c.word-in-31.ensures.0) scope c.number_operand.ensures.0 c.number_operand.ensures.1) }
+    record { kept = refl; told = λ scope sc. counted_integral (number_told _ _ c.requires.1.at (sym (ap (λ (l : List ℕ). get_or l 0 0) c.part-w.ensures) ∙ sym c.word-q.ensures.0 ∙ c.in-31.is) _ (in_words h 1 _ c.word-in-31.ensures.0) scope c.number_operand.ensures.0 c.number_operand.ensures.1) }
 
 pub reckon-arith-requires : goal.reckon-arith-requires
 reckon-arith-requires t c =
@@ -1023,19 +1027,19 @@ subsets-returns t c =
     record { kept = e.kept; told = λ scope sc. power_go c.requires.1.0 c.requires.1.1 _ c.word.ensures.0 scope (e.told scope sc) c.if-x-ne0.false c.powered.ensures }
 
 pub tests-product-requires : goal.tests-product-requires
-tests-product-requires t c = (omega arith, (handed_of c.requires.1 c.part-w.ensures, sym (ap (λ (l : List ℕ). get_or l 0 0) c.part-w.ensures) ∙ sym c.word-q.ensures.0 ∙ c.in_default.keys2))
+tests-product-requires t c = (omega arith, (handed_of c.requires.1 c.part-w.ensures, sym (ap (λ (l : List ℕ). get_or l 0 0) c.part-w.ensures) ∙ sym c.word-q.ensures.0 ∙ c.in-35.is))
 
 pub tests-power-requires : goal.tests-power-requires
-tests-power-requires t c = (omega arith, (handed_of c.requires.1 c.part-w.ensures, sym (ap (λ (l : List ℕ). get_or l 0 0) c.part-w.ensures) ∙ sym c.word-q.ensures.0 ∙ c.in_default.keys3))
+tests-power-requires t c = (omega arith, (handed_of c.requires.1 c.part-w.ensures, sym (ap (λ (l : List ℕ). get_or l 0 0) c.part-w.ensures) ∙ sym c.word-q.ensures.0 ∙ c.in-36.is))
 
 pub tests-value-requires : goal.tests-value-requires
 tests-value-requires t c =
     let q = c.word-q.ensures.0 ∙ ap (λ (l : List ℕ). get_or l 0 0) c.part-w.ensures in
-    let r = c.in_default.rest in
+    let r = c.in_default.in_default-own.rest in
     (omega arith, (c.requires.1, λ e. r.0.0.1 (q ∙ e), λ e. r.0.1 (q ∙ e), λ e. r.1 (q ∙ e)))
 
 pub tests-returns-in-32 : goal.tests-returns-in-32
-tests-returns-in-32 t c = record { kept = refl; told = λ x h scope sc. integers_test c.requires.1 (sym (ap (λ (l : List ℕ). get_or l 0 0) c.part-w.ensures) ∙ sym c.word-q.ensures.0 ∙ c.in_default.keys1) x scope (c.is_integer.ensures x h) }
+tests-returns-in-32 t c = record { kept = refl; told = λ x h scope sc. integers_test c.requires.1 (sym (ap (λ (l : List ℕ). get_or l 0 0) c.part-w.ensures) ∙ sym c.word-q.ensures.0 ∙ c.in-32.is) x scope (c.is_integer.ensures x h) }
 
 pub tests-returns-in-35 : goal.tests-returns-in-35
 tests-returns-in-35 t c = c.product.ensures

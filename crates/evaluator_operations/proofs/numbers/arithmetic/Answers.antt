@@ -9,16 +9,16 @@ use Rattle.evaluator_operations.proofs.OperationLaws.{arithmetic_left, arithmeti
 use Rattle.evaluator_operations.proofs.numbers.arithmetic.Goals as goal
 
 pub returns-in-Misfit : goal.returns-in-Misfit
-returns-in-Misfit c = λ x y hx hy. arithmetic_left _ _ x y _ (sym c.enum_told-1.given.1 ∙ hx.integer) c.no_Operand.ensures
+returns-in-Misfit c = λ x y hx hy. arithmetic_left _ _ x y _ (sym c.in-Misfit.is ∙ hx.integer) c.no_Operand.ensures
 
 pub returns-in-Misfit-b : goal.returns-in-Misfit-b
-returns-in-Misfit-b c = λ x y hx hy. arithmetic_right _ _ x y _ hx.narrow _ (sym c.a-1.given.1 ∙ hx.integer) (sym c.enum_told-in-Misfit-b-1.given.1 ∙ hy.integer) c.no_operand-in-Misfit-b.ensures
+returns-in-Misfit-b c = λ x y hx hy. arithmetic_right _ _ x y _ hx.narrow _ (sym c.in-Integer.is ∙ hx.integer) (sym c.in-Misfit-b.is ∙ hy.integer) c.no_operand-in-Misfit-b.ensures
 
 pub returns-in-Integer-b : goal.returns-in-Integer-b
 returns-in-Integer-b c =
     λ x y hx hy.
-    let fi : SFits w32 c.a-1.given.0.0 = record { sfits = c.known_told-1.given.0.1 } in
-    let fj : SFits w32 c.b-1.given.0.0 = record { sfits = c.known_told-in-Integer-1.given.0.1 } in
+    let fi : SFits w32 c.in-Integer.i = record { sfits = c.in-Integer.known_told-1-own.given.0.1 } in
+    let fj : SFits w32 c.in-Integer-b.j = record { sfits = c.in-Integer-b.known_told-in-Integer-1-own.given.0.1 } in
     let e = rw (to_z-of_z w32 _ fi, to_z-of_z w32 _ fj) at c.calculate.ensures in
-    arithmetic_both _ _ x y _ hx.narrow hy.narrow _ _ (sym c.a-1.given.1 ∙ hx.integer) (sym c.b-1.given.1 ∙ hy.integer)
+    arithmetic_both _ _ x y _ hx.narrow hy.narrow _ _ (sym c.in-Integer.is ∙ hx.integer) (sym c.in-Integer-b.is ∙ hy.integer)
     (subst (λ (z : Integer). Told (Counted c.kept_integer.result.integer) c.kept_integer.result.judgement (keep_integer c.args.k z)) e c.kept_integer.ensures)

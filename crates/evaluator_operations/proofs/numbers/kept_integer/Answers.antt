@@ -13,14 +13,14 @@ use Rattle.evaluator_operations.proofs.numbers.kept_integer.Goals as goal
 pub returns-in-Whole : goal.returns-in-Whole
 unfolding keep_integer
 returns-in-Whole c =
-    let f : SFits w32 c.z-1.given.0.0 = record { sfits = c.known_told-1.given.0.1 } in
+    let f : SFits w32 c.in-Whole.i = record { sfits = c.in-Whole.known_told-1-own.given.0.1 } in
     let e = rw (to_z-of_z w32 _ f) at c.found.ensures in
-    rw c.z-1.given.1 (counted_kept _ _ _ _ e.0 (lt-ltb (mag c.z-1.given.0.0) (2 ^ 31) f.sfits) e.1)
+    rw c.in-Whole.is (counted_kept _ _ _ _ e.0 (lt-ltb (mag c.in-Whole.i) (2 ^ 31) f.sfits) e.1)
 
 pub returns-in-Undefined : goal.returns-in-Undefined
 unfolding keep_integer
-returns-in-Undefined c = rw c.enum_told-1.given.1 (stop_told c.no_Operand.ensures (λ z. omega arith))
+returns-in-Undefined c = rw c.in-Undefined.is (stop_told c.no_Operand.ensures (λ z. omega arith))
 
 pub returns-in-Outside : goal.returns-in-Outside
 unfolding keep_integer
-returns-in-Outside c = rw c.enum_told-in-Outside-1.given.1 (stop_told c.no_operand-in-Outside.ensures (λ z. omega arith))
+returns-in-Outside c = rw c.in-Outside.is (stop_told c.no_operand-in-Outside.ensures (λ z. omega arith))

@@ -14,9 +14,9 @@ returns-then-j-ne0 c = λ o t. subst (λ (j : Judgement). Told (Valued c.halted.
 pub returns-in-Integer : goal.returns-in-Integer
 returns-in-Integer c =
     λ o t.
-    let f : SFits w32 c.z-1.given.0.0 = record { sfits = c.known_told-1.given.0.1 } in
+    let f : SFits w32 c.in-Integer.i = record { sfits = c.in-Integer.known_told-1-own.given.0.1 } in
     let e = rw (to_z-of_z w32 _ f) at c.whole.ensures in
-    counted_valued _ t c.if-j-ne0.false c.z-1.given.1 e.0 e.1
+    counted_valued _ t c.if-j-ne0.false c.in-Integer.is e.0 e.1
 
 pub returns-in-Misfit : goal.returns-in-Misfit
-returns-in-Misfit c = λ o t. absurd (counted_some t c.if-j-ne0.false c.enum_told-1.given.1)
+returns-in-Misfit c = λ o t. absurd (counted_some t c.if-j-ne0.false c.in-Misfit.is)

@@ -1,3 +1,4 @@
+use Rattle.reader_rules.specs.Kinds.{count_by}
 use Rattle.words.proofs.Loops.{tests}
 use Rattle.reader_nodes.proofs.counts.count_by.Goals as goal
 

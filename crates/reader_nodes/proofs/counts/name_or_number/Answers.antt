@@ -7,11 +7,11 @@ use Rattle.reader_nodes.proofs.counts.name_or_number.Goals as goal
 
 pub returns-in-30 : goal.returns-in-30
 unfolding expression_counts
-returns-in-30 c = rw c.in_default.keys1 c.from_below.ensures
+returns-in-30 c = rw c.in-30.is c.from_below.ensures
 
 pub returns-in-31 : goal.returns-in-31
 unfolding expression_counts
-returns-in-31 c = rw c.in_default.keys2 c.from_below-in-31.ensures
+returns-in-31 c = rw c.in-31.is c.from_below-in-31.ensures
 
 pub returns-in_default : goal.returns-in_default
 unfolding counts_number expression_counts every

@@ -6,11 +6,11 @@ use Rattle.reader_nodes.proofs.counts.other.Goals as goal
 
 pub returns-in-1 : goal.returns-in-1
 unfolding other_counts by_kind
-returns-in-1 c = rw c.in_default-1.keys1 c.from_below.ensures
+returns-in-1 c = rw c.in-1.is c.from_below.ensures
 
 pub returns-in-15 : goal.returns-in-15
 unfolding other_counts by_kind
-returns-in-15 c = rw c.in_default-1.keys2 c.from_below-in-15.ensures
+returns-in-15 c = rw c.in-15.is c.from_below-in-15.ensures
 
 pub returns-in-10-to-12 : goal.returns-in-10-to-12
 returns-in-10-to-12 c = c.text.ensures
@@ -19,8 +19,8 @@ pub returns-in_default : goal.returns-in_default
 unfolding counts_number other_counts
 returns-in_default c =
     let q = c.args.q in
-    let r = c.in_default-1.rest in
-    let v = c.if-q-lt10.true in
+    let r = c.in_default.in_default-own.rest in
+    let v = c.in_default.if-q-lt10-own.true in
     let e : from_below 0 0 ≡ other_counts q = unlisted _ _ _ _ _ _ q (λ x. absurd (r.0.1 x)) (λ x. omega arith) (λ x. omega arith) (λ x. omega arith) r.1 in
     ap counts_number e
 
@@ -28,7 +28,7 @@ pub returns-in_default-2 : goal.returns-in_default-2
 unfolding counts_number other_counts
 returns-in_default-2 c =
     let q = c.args.q in
-    let r = c.in_default-1.rest in
-    let v = c.if-q-lt13.false in
+    let r = c.in_default.in_default-own.rest in
+    let v = c.in_default.if-q-lt13-own.false in
     let e : from_below 0 0 ≡ other_counts q = unlisted _ _ _ _ _ _ q (λ x. absurd (r.0.1 x)) (λ x. omega arith) (λ x. omega arith) (λ x. omega arith) r.1 in
     ap counts_number e

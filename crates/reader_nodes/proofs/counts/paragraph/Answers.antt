@@ -7,12 +7,12 @@ use Rattle.reader_nodes.proofs.counts.paragraph.Goals as goal
 
 pub returns-in-2 : goal.returns-in-2
 unfolding paragraph_counts
-returns-in-2 c = rw c.in_default-1.keys1 c.from_below.ensures
+returns-in-2 c = rw c.in-2.is c.from_below.ensures
 
 pub returns-in-4-to-5 : goal.returns-in-4-to-5
 unfolding paragraph_counts
 returns-in-4-to-5 c =
-    let r = c.in_default-1.rest in
+    let r = c.in-4-to-5.in_default-own.rest in
     rw (ne_eqb c.args.q 2 r.1) (search tests)
 
 pub returns-in_default : goal.returns-in_default
@@ -20,4 +20,4 @@ unfolding paragraph_counts
 returns-in_default c =
     let s = c.args in
     let r = c.in_default-1.rest in
-    rw (ne_eqb s.q 2 r.1, ⊎_elim (λ t. under 4 s.q 5 t.taken) (λ p. over 4 s.q 5 p.1.left) c.in_default.branch) c.from_below-in_default.ensures
+    rw (ne_eqb s.q 2 r.1, ⊎_elim (λ t. under 4 s.q 5 t.true) (λ p. over 4 s.q 5 p.1.false) c.in_default.branch-raw) c.from_below-in_default.ensures

@@ -7,11 +7,11 @@ use Rattle.reader_nodes.proofs.counts.text.Goals as goal
 
 pub returns-in-10 : goal.returns-in-10
 unfolding other_counts by_kind
-returns-in-10 c = rw c.in_default.keys1 c.from_below.ensures
+returns-in-10 c = rw c.in-10.is c.from_below.ensures
 
 pub returns-in-11 : goal.returns-in-11
 unfolding other_counts by_kind
-returns-in-11 c = rw c.in_default.keys2 c.from_below-in-11.ensures
+returns-in-11 c = rw c.in-11.is c.from_below-in-11.ensures
 
 pub returns-in_default : goal.returns-in_default
 unfolding counts_number other_counts every by_kind

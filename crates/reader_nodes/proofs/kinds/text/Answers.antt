@@ -7,11 +7,11 @@ use Rattle.reader_nodes.proofs.kinds.text.Goals as goal
 
 pub returns-in-10 : goal.returns-in-10
 unfolding other_sort by_kind
-returns-in-10 c = rw c.in_default.keys1
+returns-in-10 c = rw c.in-10.is
 
 pub returns-in-11 : goal.returns-in-11
 unfolding other_sort by_kind
-returns-in-11 c = rw c.in_default.keys2
+returns-in-11 c = rw c.in-11.is
 
 pub returns-in_default : goal.returns-in_default
 unfolding other_sort every by_kind

@@ -7,11 +7,11 @@ use Rattle.reader_nodes.proofs.operands.binding.Goals as goal
 
 pub returns-in-38 : goal.returns-in-38
 unfolding expression_sorts
-returns-in-38 c = rw c.in_default.keys1 c.two.ensures
+returns-in-38 c = rw c.in-38.is c.two.ensures
 
 pub returns-in-39 : goal.returns-in-39
 unfolding expression_sorts
-returns-in-39 c = rw c.in_default.keys2 c.two-in-39.ensures
+returns-in-39 c = rw c.in-39.is c.two-in-39.ensures
 
 pub returns-in_default : goal.returns-in_default
 unfolding sorts_number expression_sorts every

@@ -9,11 +9,11 @@ use Rattle.reader_nodes.proofs.operands.expression.Goals as goal
 
 pub returns-in-36 : goal.returns-in-36
 unfolding expression_sorts
-returns-in-36 c = rw c.in_default-1.keys1 c.one.ensures
+returns-in-36 c = rw c.in-36.is c.one.ensures
 
 pub returns-in-46 : goal.returns-in-46
 unfolding expression_sorts
-returns-in-46 c = rw c.in_default-1.keys2 c.two.ensures
+returns-in-46 c = rw c.in-46.is c.two.ensures
 
 pub returns-in-30-to-32 : goal.returns-in-30-to-32
 returns-in-30-to-32 c = c.name_or_number.ensures
@@ -30,8 +30,8 @@ unfolding sorts_number expression_sorts every
 returns-in_default c =
     let r = c.in_default-1.rest in
     ⊎_elim
-    (λ t. let v = t.taken in absurd (omega arith))
+    (λ t. let v = t.true in absurd (omega arith))
     (⊎_elim
-    (λ p. let v = p.3.taken in let w = p.2.left in along (λ n. sorts_number (expression_sorts n)) 37 1 c.two-in_default.ensures refl c.args.q (omega arith) (omega arith))
-    (λ p. let v = p.4.left in along (λ n. sorts_number (expression_sorts n)) 41 5 c.two-in_default.ensures refl c.args.q (omega arith) (omega arith)))
-    c.in_default.branch
+    (λ p. let v = p.3.true in let w = p.2.false in along (λ n. sorts_number (expression_sorts n)) 37 1 c.two-in_default.ensures refl c.args.q (omega arith) (omega arith))
+    (λ p. let v = p.4.false in along (λ n. sorts_number (expression_sorts n)) 41 5 c.two-in_default.ensures refl c.args.q (omega arith) (omega arith)))
+    c.in_default.branch-raw

@@ -7,11 +7,11 @@ use Rattle.reader_nodes.proofs.operands.name_or_number.Goals as goal
 
 pub returns-in-30 : goal.returns-in-30
 unfolding expression_sorts
-returns-in-30 c = rw c.in_default.keys1 c.by_place.ensures
+returns-in-30 c = rw c.in-30.is c.by_place.ensures
 
 pub returns-in-31 : goal.returns-in-31
 unfolding expression_sorts
-returns-in-31 c = rw c.in_default.keys2 c.one.ensures
+returns-in-31 c = rw c.in-31.is c.one.ensures
 
 pub returns-in_default : goal.returns-in_default
 unfolding sorts_number expression_sorts every

@@ -10,11 +10,11 @@ use Rattle.reader_nodes.proofs.operands.predicate.Goals as goal
 
 pub returns-in-20 : goal.returns-in-20
 unfolding sorts_number predicate_sorts
-returns-in-20 c = rw c.in_default-1.keys1
+returns-in-20 c = rw c.in-20.is
 
 pub returns-in-24 : goal.returns-in-24
 unfolding predicate_sorts
-returns-in-24 c = rw c.in_default-1.keys2 c.one.ensures
+returns-in-24 c = rw c.in-24.is c.one.ensures
 
 pub returns-in-21-to-23 : goal.returns-in-21-to-23
 unfolding sorts_number predicate_sorts every
@@ -27,5 +27,5 @@ returns-in-25-to-27 c = along (λ n. sorts_number (predicate_sorts n)) 25 3 c.tw
 pub returns-in_default : goal.returns-in_default
 unfolding sorts_number predicate_sorts every
 returns-in_default c =
-    let z : 28 ≤ c.args.q = ⊎_elim (λ t. let v = t.taken in absurd (omega arith)) (λ p. let v = p.2.left in omega arith) c.in_default.branch in
+    let z : 28 ≤ c.args.q = ⊎_elim (λ t. let v = t.true in absurd (omega arith)) (λ p. let v = p.2.false in omega arith) c.in_default.branch-raw in
     along (λ n. sorts_number (predicate_sorts n)) 28 2 c.two-in_default.ensures refl c.args.q z (search rules)

@@ -1,3 +1,4 @@
+use Rattle.reader_rules.specs.Kinds.{sort_in}
 use Rattle.words.proofs.Loops.{tests}
 use Rattle.reader_nodes.proofs.operands.sort_in.Goals as goal
 

@@ -7,11 +7,11 @@ use Rattle.reader_nodes.proofs.operands.text.Goals as goal
 
 pub returns-in-10 : goal.returns-in-10
 unfolding other_sorts by_kind
-returns-in-10 c = rw c.in_default.keys1 c.by_place.ensures
+returns-in-10 c = rw c.in-10.is c.by_place.ensures
 
 pub returns-in-11 : goal.returns-in-11
 unfolding other_sorts by_kind
-returns-in-11 c = rw c.in_default.keys2 c.by_place-in-11.ensures
+returns-in-11 c = rw c.in-11.is c.by_place-in-11.ensures
 
 pub returns-in_default : goal.returns-in_default
 unfolding sorts_number other_sorts every by_kind

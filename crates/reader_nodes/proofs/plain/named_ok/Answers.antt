@@ -1,5 +1,6 @@
 use native.Mathlib.Omega.{arith}
 use mathlib.Core.Path.{◌≡◌}
+use Rattle.reader_rules.specs.Kinds.{plain_ok}
 use Rattle.reader_nodes.proofs.plain.named_ok.Goals as goal
 
 pub returns-then-s-eq-IDENTIFIERS : goal.returns-then-s-eq-IDENTIFIERS

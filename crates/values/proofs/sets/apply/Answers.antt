@@ -27,9 +27,9 @@ loop-i-preserved c =
       ⊎_elim (λ p. omega (arith, p.2)) (λ p. omega (arith, p.2)) j.branch,
       l.invariant.4 ∙ ⊎_elim
           (λ p. rw (p.1, p.2) (apply_hit s.f.now s.a.now _ l.i l.at l.hits l.hit (omega arith) e c.span-at.result k
-          (rw (← w, ← c.from.ensures, ← c.first.ensures) (sym c.same.ensures ∙ p.0.taken))))
+          (rw (← w, ← c.from.ensures, ← c.first.ensures) (sym c.same.ensures ∙ p.0.true))))
           (λ p. rw (p.1, p.2) (apply_go s.f.now s.a.now _ l.i l.at l.hits l.hit (omega arith) e c.span-at.result k
-          (rw (← w, ← c.from.ensures, ← c.first.ensures) (sym c.same.ensures ∙ p.0.left))))
+          (rw (← w, ← c.from.ensures, ← c.first.ensures) (sym c.same.ensures ∙ p.0.false))))
           j.branch,
     )
 

@@ -3,8 +3,8 @@ use Rattle.values.proofs.sets.insert.Goals as goal
 
 pub returns-in-Already : goal.returns-in-Already
 unfolding insert insert_at
-returns-in-Already c = rw (← c.place_of-p.ensures, c.enum_told-1.given.1) c.hold.ensures
+returns-in-Already c = rw (← c.place_of-p.ensures, c.in-Already.is) c.hold.ensures
 
 pub returns-in-At : goal.returns-in-At
 unfolding insert
-returns-in-At c = rw (← c.place_of-p.ensures, c.p-1.given.1) c.insert_at.ensures
+returns-in-At c = rw (← c.place_of-p.ensures, c.in-At.is) c.insert_at.ensures

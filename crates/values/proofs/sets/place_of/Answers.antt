@@ -14,14 +14,14 @@ returns-in-Less c =
     let s = c.args in
     let l = c.loop-i in
     place_less s.s.now s.m.now c.word-n.result l.i l.at (omega arith)
-    (rw (← c.from-w.ensures, ← c.first.ensures) (sym c.compare-o.ensures ∙ c.enum_told-1.given.1)) ∙ sym l.invariant.2
+    (rw (← c.from-w.ensures, ← c.first.ensures) (sym c.compare-o.ensures ∙ c.in-Less.is)) ∙ sym l.invariant.2
 
 pub returns-in-Same : goal.returns-in-Same
 returns-in-Same c =
     let s = c.args in
     let l = c.loop-i in
     place_same s.s.now s.m.now c.word-n.result l.i l.at (omega arith)
-    (rw (← c.from-w.ensures, ← c.first.ensures) (sym c.compare-o.ensures ∙ c.enum_told-in-Same-1.given.1)) ∙ sym l.invariant.2
+    (rw (← c.from-w.ensures, ← c.first.ensures) (sym c.compare-o.ensures ∙ c.in-Same.is)) ∙ sym l.invariant.2
 
 pub loop-i-preserved : goal.loop-i-preserved
 loop-i-preserved c =
@@ -30,7 +30,7 @@ loop-i-preserved c =
       omega arith,
       omega arith,
       l.invariant.2 ∙ place_go s.s.now s.m.now c.word-n.result l.i l.at (omega arith)
-          (rw (← c.from-w.ensures, ← c.first.ensures) (sym c.compare-o.ensures ∙ c.enum_told-in-Greater-1.given.1))
+          (rw (← c.from-w.ensures, ← c.first.ensures) (sym c.compare-o.ensures ∙ c.in-Greater.is))
           c.span-at.result (c.span-at.ensures.0 ∙ ap span c.from-w.ensures),
     )
 

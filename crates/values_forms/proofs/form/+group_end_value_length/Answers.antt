@@ -66,27 +66,27 @@ value_length-returns-then-depth-eq0 t c =
 pub value_length-group_end-requires : goal.value_length-group_end-requires
 value_length-group_end-requires t c =
     let s = c.args in
-    (omega (arith, c.requires.0), rw (← c.shape_of-s.ensures, c.s-in-Set-1.given.1) at (shape_within (size_of s.givens.now) s.w.now))
+    (omega (arith, c.requires.0), rw (← c.shape_of-s.ensures, c.in-Set.is) at (shape_within (size_of s.givens.now) s.w.now))
 
 pub value_length-group_end-requires-in-Tuple : goal.value_length-group_end-requires-in-Tuple
 value_length-group_end-requires-in-Tuple t c =
     let s = c.args in
-    (omega (arith, c.requires.0), rw (← c.shape_of-s.ensures, c.s-in-Tuple-1.given.1) at (shape_within (size_of s.givens.now) s.w.now))
+    (omega (arith, c.requires.0), rw (← c.shape_of-s.ensures, c.in-Tuple.is) at (shape_within (size_of s.givens.now) s.w.now))
 
 pub value_length-returns-in-Broken : goal.value_length-returns-in-Broken
 unfolding by_shape
 value_length-returns-in-Broken t c =
     let s = c.args in
     let h = c.shape_of-s in
-    (sym (length_level (size_of s.givens.now) s.depth s.w.now c.if-depth-eq0.false h.result h.ensures ∙ rw c.enum_told-1.given.1), omega arith)
+    (sym (length_level (size_of s.givens.now) s.depth s.w.now c.if-depth-eq0.false h.result h.ensures ∙ rw c.in-Broken.is), omega arith)
 
 pub value_length-returns-in-Leaf : goal.value_length-returns-in-Leaf
 unfolding by_shape
 value_length-returns-in-Leaf t c =
     let s = c.args in
     let h = c.shape_of-s in (
-      sym (length_level (size_of s.givens.now) s.depth s.w.now c.if-depth-eq0.false h.result h.ensures ∙ rw c.s-1.given.1),
-      rw (← h.ensures, c.s-1.given.1) at (shape_within (size_of s.givens.now) s.w.now),
+      sym (length_level (size_of s.givens.now) s.depth s.w.now c.if-depth-eq0.false h.result h.ensures ∙ rw c.in-Leaf.is),
+      rw (← h.ensures, c.in-Leaf.is) at (shape_within (size_of s.givens.now) s.w.now),
     )
 
 pub value_length-returns-in-Set : goal.value_length-returns-in-Set
@@ -94,11 +94,11 @@ unfolding by_shape
 value_length-returns-in-Set t c =
     let s = c.args in
     let h = c.shape_of-s in
-    (sym (length_level (size_of s.givens.now) s.depth s.w.now c.if-depth-eq0.false h.result h.ensures ∙ rw c.s-in-Set-1.given.1 (sym c.group_end.ensures.0)), c.group_end.ensures.1)
+    (sym (length_level (size_of s.givens.now) s.depth s.w.now c.if-depth-eq0.false h.result h.ensures ∙ rw c.in-Set.is (sym c.group_end.ensures.0)), c.group_end.ensures.1)
 
 pub value_length-returns-in-Tuple : goal.value_length-returns-in-Tuple
 unfolding by_shape
 value_length-returns-in-Tuple t c =
     let s = c.args in
     let h = c.shape_of-s in
-    (sym (length_level (size_of s.givens.now) s.depth s.w.now c.if-depth-eq0.false h.result h.ensures ∙ rw c.s-in-Tuple-1.given.1 (sym c.group_end-in-Tuple.ensures.0)), c.group_end-in-Tuple.ensures.1)
+    (sym (length_level (size_of s.givens.now) s.depth s.w.now c.if-depth-eq0.false h.result h.ensures ∙ rw c.in-Tuple.is (sym c.group_end-in-Tuple.ensures.0)), c.group_end-in-Tuple.ensures.1)

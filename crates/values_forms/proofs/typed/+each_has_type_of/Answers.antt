@@ -18,7 +18,7 @@ each_has-overflow_add-here t c =
     let s = c.args in
     let l = c.loop-i in
     let k : c.type_step-here.result ≤ length (drop l.here s.t.now) = rw c.from-u.ensures at c.type_step-here.ensures.1 in
-    omega (arith, length-drop l.here s.t.now, c.well-formed.0)
+    omega (arith, length-drop l.here s.t.now, c.well_formed.0)
 
 pub each_has-loop-i-preserved : goal.each_has-loop-i-preserved
 each_has-loop-i-preserved t c =
@@ -55,7 +55,7 @@ type_of-returns-then-depth-eq0 t c =
 pub type_of-each_has-requires : goal.type_of-each_has-requires
 type_of-each_has-requires t c =
     let s = c.args in
-    let n = rw (← c.test_of-q.ensures, c.q-1.given.1) at (test_counted s.t.now s.w.now) in
+    let n = rw (← c.test_of-q.ensures, c.in-Each.is) at (test_counted s.t.now s.w.now) in
     (omega (arith, c.requires.0), omega (arith, n, c.type_inv.w 1))
 
 pub type_of-returns-in-Fails : goal.type_of-returns-in-Fails
@@ -63,18 +63,18 @@ unfolding by_test
 type_of-returns-in-Fails t c =
     let s = c.args in
     let h = c.test_of-q in
-    sym (typed_level s.depth s.t.now s.w.now c.if-depth-eq0.false h.result h.ensures ∙ rw c.enum_told-1.given.1)
+    sym (typed_level s.depth s.t.now s.w.now c.if-depth-eq0.false h.result h.ensures ∙ rw c.in-Fails.is)
 
 pub type_of-returns-in-Passes : goal.type_of-returns-in-Passes
 unfolding by_test
 type_of-returns-in-Passes t c =
     let s = c.args in
     let h = c.test_of-q in
-    sym (typed_level s.depth s.t.now s.w.now c.if-depth-eq0.false h.result h.ensures ∙ rw c.enum_told-in-Passes-1.given.1)
+    sym (typed_level s.depth s.t.now s.w.now c.if-depth-eq0.false h.result h.ensures ∙ rw c.in-Passes.is)
 
 pub type_of-returns-in-Each : goal.type_of-returns-in-Each
 unfolding by_test
 type_of-returns-in-Each t c =
     let s = c.args in
     let h = c.test_of-q in
-    sym (typed_level s.depth s.t.now s.w.now c.if-depth-eq0.false h.result h.ensures ∙ rw (c.q-1.given.1, ← c.from.ensures) (sym c.each_has.ensures))
+    sym (typed_level s.depth s.t.now s.w.now c.if-depth-eq0.false h.result h.ensures ∙ rw (c.in-Each.is, ← c.from.ensures) (sym c.each_has.ensures))
