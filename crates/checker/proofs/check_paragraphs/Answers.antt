@@ -17,14 +17,11 @@ slice_bounds-paragraphs_from-end c = sym (length-replicate {A = ℕ} area_size 0
 
 pub paragraphs_from-requires : goal.paragraphs_from-requires
 paragraphs_from-requires c =
-    let i = c.begin-2 in
-    let e = i.auto.0 in
+    let e = c.begin-2.auto.w in
     let v = c.requires.1 in
-    first_ask _ c.requires.0 _ c.word-n.ensures.0 _ c.part.ensures _ _ (omega arith) (c.begin.ensures c.requires.2) (i.ensures _)
+    first_ask _ c.requires.0 _ c.word-n.ensures.0 _ c.part.ensures _ _ (omega arith) (c.begin.ensures c.requires.2) (c.begin-2.ensures _)
 
 pub returns : goal.returns
 returns c =
-    let d = c.begin in
-    let i = c.begin-2 in
-    first_answered _ c.requires.0 _ c.word-n.ensures.0 _ c.part.ensures c.args.dict.now d.new.0 _ _ d.auto.0
-    (c.paragraphs_from.ensures _ (blank_recorded _ _ (d.ensures c.requires.2) (i.ensures _)))
+    first_answered _ c.requires.0 _ c.word-n.ensures.0 _ c.part.ensures c.args.dict.now c.begin.new.d _ _ c.begin.auto.d
+    (c.paragraphs_from.ensures _ (blank_recorded _ _ (c.begin.ensures c.requires.2) (c.begin-2.ensures _)))

@@ -8,10 +8,10 @@ pub returns-then-part-j : goal.returns-then-part-j
 returns-then-part-j t c = declared_none _ _ _ _ _ _ _ (drop_done _ _ c.if-part-j.true)
 
 pub agrees-requires : goal.agrees-requires
-agrees-requires t c = c.requires.1
+agrees-requires t c = c.requires
 
 pub declared_agree-requires : goal.declared_agree-requires
-declared_agree-requires t c = (omega (arith, c.requires.0, c.if-part-j.false), c.requires.1)
+declared_agree-requires t c = (omega (arith, c.decreases, c.if-part-j.false), c.requires)
 
 pub returns-then-agrees : goal.returns-then-agrees
 returns-then-agrees t c = declared_go _ _ _ _ _ _ _ _ _ c.if-part-j.false c.word.ensures.0 _ c.agrees.ensures c.if-agrees.true _ c.declared_agree.ensures

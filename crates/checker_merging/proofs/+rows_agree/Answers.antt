@@ -6,10 +6,10 @@ pub returns-then-k-eq0 : goal.returns-then-k-eq0
 returns-then-k-eq0 t c = rows_none _ _ _ _ _ _ _ c.if-k-eq0.true
 
 pub agrees-requires : goal.agrees-requires
-agrees-requires t c = rows_asked _ _ _ _ _ _ _ c.if-k-eq0.false c.requires.1 _ c.word-2.ensures.0
+agrees-requires t c = rows_asked _ _ _ _ _ _ _ c.if-k-eq0.false c.requires _ c.word-2.ensures.0
 
 pub rows_agree-requires : goal.rows_agree-requires
-rows_agree-requires t c = (omega (arith, c.requires.0, c.if-k-eq0.false), rows_fewer _ _ _ _ _ _ _ c.if-k-eq0.false c.requires.1)
+rows_agree-requires t c = (omega (arith, c.decreases, c.if-k-eq0.false), rows_fewer _ _ _ _ _ _ _ c.if-k-eq0.false c.requires)
 
 pub returns-then-agrees : goal.returns-then-agrees
 returns-then-agrees t c = rows_go _ _ _ _ _ _ _ c.if-k-eq0.false _ _ c.word.ensures.0 c.word-2.ensures.0 _ c.agrees.ensures c.if-agrees.true _ c.rows_agree.ensures

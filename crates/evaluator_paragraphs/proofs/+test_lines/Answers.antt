@@ -20,7 +20,7 @@ returns-then-u-i t c =
     let ti = c.args.t in
     let u = c.args.u.now in
     let i = c.args.i in
-    let eu = c.requires.1.2 in
+    let eu = c.requires.2 in
     let l : length u ≡ length (part d ti) = ap length eu in
     record { kept = refl; told = λ scope g. lines_over d ti (said d st) scope i (length u) c.if-u-i.true c.judge.ensures.0 c.judge.ensures.1 }
 
@@ -32,12 +32,12 @@ refuse-requires t c =
     let ti = c.args.t in
     let u = c.args.u.now in
     let i = c.args.i in
-    let eu = c.requires.1.2 in
+    let eu = c.requires.2 in
     let l : length u ≡ length (part d ti) = ap length eu in
     let v = c.word-v.result in
     let xv : v ≡ operand_at d ti i = c.word-v.ensures.0 ∙ ap (λ (z : List ℕ). get_or z i 0) eu in
     let q : i < length (part d ti) = omega (arith, l, c.if-u-i.false) in
-    let a = this_line d ti (said d st) c.requires.1.1 i c.requires.1.3 q v xv in
+    let a = this_line d ti (said d st) c.requires.1 i c.requires.3 q v xv in
     a.small
 
 pub returns-then-word-eq-INCLUDE : goal.returns-then-word-eq-INCLUDE
@@ -48,12 +48,12 @@ returns-then-word-eq-INCLUDE t c =
     let ti = c.args.t in
     let u = c.args.u.now in
     let i = c.args.i in
-    let eu = c.requires.1.2 in
+    let eu = c.requires.2 in
     let l : length u ≡ length (part d ti) = ap length eu in
     let v = c.word-v.result in
     let xv : v ≡ operand_at d ti i = c.word-v.ensures.0 ∙ ap (λ (z : List ℕ). get_or z i 0) eu in
     let q : i < length (part d ti) = omega (arith, l, c.if-u-i.false) in
-    record { kept = refl; told = λ scope g. rw l (include_stop d ti (said d st) c.requires.1.1 i c.requires.1.3 q v xv scope (sym (c.word.ensures.0 ∙ ap (λ (y : List ℕ). get_or y 0 0) c.part-x.ensures) ∙ c.if-word-eq-INCLUDE.true) c.refuse.ensures) }
+    record { kept = refl; told = λ scope g. rw l (include_stop d ti (said d st) c.requires.1 i c.requires.3 q v xv scope (sym (c.word.ensures.0 ∙ ap (λ (y : List ℕ). get_or y 0 0) c.part-x.ensures) ∙ c.if-word-eq-INCLUDE.true) c.refuse.ensures) }
 
 pub test_names-y-requires : goal.test_names-y-requires
 test_names-y-requires t c =
@@ -63,18 +63,18 @@ test_names-y-requires t c =
     let ti = c.args.t in
     let u = c.args.u.now in
     let i = c.args.i in
-    let eu = c.requires.1.2 in
+    let eu = c.requires.2 in
     let l : length u ≡ length (part d ti) = ap length eu in
     let v = c.word-v.result in
     let xv : v ≡ operand_at d ti i = c.word-v.ensures.0 ∙ ap (λ (z : List ℕ). get_or z i 0) eu in
     let q : i < length (part d ti) = omega (arith, l, c.if-u-i.false) in
     let ep = c.part-x.ensures in
-    let k11 = line_kind d ti (said d st) c.requires.1.1 i c.requires.1.3 q v xv (λ (z : kind_at d v ≡ 12). c.if-word-eq-INCLUDE.false (c.word.ensures.0 ∙ ap (λ (y : List ℕ). get_or y 0 0) ep ∙ z)) in
-    let a = this_line d ti (said d st) c.requires.1.1 i c.requires.1.3 q v xv in
-    let o = line_lower d ti (said d st) c.requires.1.1 i c.requires.1.3 q v xv k11 in
-    let w = c.requires.1.5.wide in
-    let fw = c.requires.1.5.few in
-    (c.requires.1.0, rw ep (record { at = o.at; room = omega arith; wide = w }), rw ep (declares_own d ti (said d st) c.requires.1.1 i c.requires.1.3 q v xv k11 (rw l at c.requires.1.6)), a.small, rw ep (few_line d v a k11))
+    let k11 = line_kind d ti (said d st) c.requires.1 i c.requires.3 q v xv (λ (z : kind_at d v ≡ 12). c.if-word-eq-INCLUDE.false (c.word.ensures.0 ∙ ap (λ (y : List ℕ). get_or y 0 0) ep ∙ z)) in
+    let a = this_line d ti (said d st) c.requires.1 i c.requires.3 q v xv in
+    let o = line_lower d ti (said d st) c.requires.1 i c.requires.3 q v xv k11 in
+    let w = c.requires.5.wide in
+    let fw = c.requires.5.few in
+    (c.requires.0, rw ep (record { at = o.at; room = omega arith; wide = w }), rw ep (declares_own d ti (said d st) c.requires.1 i c.requires.3 q v xv k11 (rw l at c.requires.6)), a.small, rw ep (few_line d v a k11))
 
 pub returns-then-y-ne0 : goal.returns-then-y-ne0
 returns-then-y-ne0 t c =
@@ -84,14 +84,14 @@ returns-then-y-ne0 t c =
     let ti = c.args.t in
     let u = c.args.u.now in
     let i = c.args.i in
-    let eu = c.requires.1.2 in
+    let eu = c.requires.2 in
     let l : length u ≡ length (part d ti) = ap length eu in
     let v = c.word-v.result in
     let xv : v ≡ operand_at d ti i = c.word-v.ensures.0 ∙ ap (λ (z : List ℕ). get_or z i 0) eu in
     let q : i < length (part d ti) = omega (arith, l, c.if-u-i.false) in
     let ep = c.part-x.ensures in
-    let k11 = line_kind d ti (said d st) c.requires.1.1 i c.requires.1.3 q v xv (λ (z : kind_at d v ≡ 12). c.if-word-eq-INCLUDE.false (c.word.ensures.0 ∙ ap (λ (y : List ℕ). get_or y 0 0) ep ∙ z)) in
-    record { kept = c.test_names-y.ensures.kept; told = λ scope g. rw l (decl_stop d ti (said d st) c.requires.1.1 i c.requires.1.3 q v xv k11 scope (rw ep at (c.test_names-y.ensures.told scope g)) c.if-y-ne0.true) }
+    let k11 = line_kind d ti (said d st) c.requires.1 i c.requires.3 q v xv (λ (z : kind_at d v ≡ 12). c.if-word-eq-INCLUDE.false (c.word.ensures.0 ∙ ap (λ (y : List ℕ). get_or y 0 0) ep ∙ z)) in
+    record { kept = c.test_names-y.ensures.kept; told = λ scope g. rw l (decl_stop d ti (said d st) c.requires.1 i c.requires.3 q v xv k11 scope (rw ep at (c.test_names-y.ensures.told scope g)) c.if-y-ne0.true) }
 
 pub overflow_add-i : goal.overflow_add-i
 overflow_add-i t c =
@@ -101,9 +101,9 @@ overflow_add-i t c =
     let ti = c.args.t in
     let u = c.args.u.now in
     let i = c.args.i in
-    let eu = c.requires.1.2 in
+    let eu = c.requires.2 in
     let l : length u ≡ length (part d ti) = ap length eu in
-    omega (arith, l, c.if-u-i.false, (text_words d ti c.requires.1.1).1)
+    omega (arith, l, c.if-u-i.false, (text_words d ti c.requires.1).1)
 
 pub test_lines-requires : goal.test_lines-requires
 test_lines-requires t c =
@@ -113,16 +113,16 @@ test_lines-requires t c =
     let ti = c.args.t in
     let u = c.args.u.now in
     let i = c.args.i in
-    let eu = c.requires.1.2 in
+    let eu = c.requires.2 in
     let l : length u ≡ length (part d ti) = ap length eu in
     let v = c.word-v.result in
     let xv : v ≡ operand_at d ti i = c.word-v.ensures.0 ∙ ap (λ (z : List ℕ). get_or z i 0) eu in
     let q : i < length (part d ti) = omega (arith, l, c.if-u-i.false) in
     let ep = c.part-x.ensures in
-    let k11 = line_kind d ti (said d st) c.requires.1.1 i c.requires.1.3 q v xv (λ (z : kind_at d v ≡ 12). c.if-word-eq-INCLUDE.false (c.word.ensures.0 ∙ ap (λ (y : List ℕ). get_or y 0 0) ep ∙ z)) in
-    let r = c.requires.1.5 in
+    let k11 = line_kind d ti (said d st) c.requires.1 i c.requires.3 q v xv (λ (z : kind_at d v ≡ 12). c.if-word-eq-INCLUDE.false (c.word.ensures.0 ∙ ap (λ (y : List ℕ). get_or y 0 0) ep ∙ z)) in
+    let r = c.requires.5 in
     let w = r.wide in
-    (omega (arith, c.if-u-i.false), (c.requires.1.0, c.requires.1.1, eu, omega (arith, c.requires.1.3), omega (arith, l, q, (text_words d ti c.requires.1.1).1), record { few = r.few; wide = omega arith }, rw l (declares_rest d ti (said d st) c.requires.1.1 i c.requires.1.3 q v xv k11 (rw l at c.requires.1.6))))
+    (omega (arith, c.if-u-i.false), (c.requires.0, c.requires.1, eu, omega (arith, c.requires.3), omega (arith, l, q, (text_words d ti c.requires.1).1), record { few = r.few; wide = omega arith }, rw l (declares_rest d ti (said d st) c.requires.1 i c.requires.3 q v xv k11 (rw l at c.requires.6))))
 
 pub returns-then-y : goal.returns-then-y
 returns-then-y t c =
@@ -132,14 +132,14 @@ returns-then-y t c =
     let ti = c.args.t in
     let u = c.args.u.now in
     let i = c.args.i in
-    let eu = c.requires.1.2 in
+    let eu = c.requires.2 in
     let l : length u ≡ length (part d ti) = ap length eu in
     let v = c.word-v.result in
     let xv : v ≡ operand_at d ti i = c.word-v.ensures.0 ∙ ap (λ (z : List ℕ). get_or z i 0) eu in
     let q : i < length (part d ti) = omega (arith, l, c.if-u-i.false) in
     let ep = c.part-x.ensures in
-    let k11 = line_kind d ti (said d st) c.requires.1.1 i c.requires.1.3 q v xv (λ (z : kind_at d v ≡ 12). c.if-word-eq-INCLUDE.false (c.word.ensures.0 ∙ ap (λ (y : List ℕ). get_or y 0 0) ep ∙ z)) in
-    record { kept = c.test_lines.ensures.kept ∙ c.test_names-y.ensures.kept; told = λ scope g. rw l (decl_go d ti (said d st) c.requires.1.1 i c.requires.1.3 q v xv k11 scope (rw ep at (c.test_names-y.ensures.told scope g)) c.if-y-ne0.false c.if-y.true (rw l at (c.test_lines.ensures.told scope (scoped_same st _ _ c.args.n c.test_names-y.ensures.kept g)))) }
+    let k11 = line_kind d ti (said d st) c.requires.1 i c.requires.3 q v xv (λ (z : kind_at d v ≡ 12). c.if-word-eq-INCLUDE.false (c.word.ensures.0 ∙ ap (λ (y : List ℕ). get_or y 0 0) ep ∙ z)) in
+    record { kept = c.test_lines.ensures.kept ∙ c.test_names-y.ensures.kept; told = λ scope g. rw l (decl_go d ti (said d st) c.requires.1 i c.requires.3 q v xv k11 scope (rw ep at (c.test_names-y.ensures.told scope g)) c.if-y-ne0.false c.if-y.true (rw l at (c.test_lines.ensures.told scope (scoped_same st _ _ c.args.n c.test_names-y.ensures.kept g)))) }
 
 pub returns : goal.returns
 returns t c =
@@ -149,11 +149,11 @@ returns t c =
     let ti = c.args.t in
     let u = c.args.u.now in
     let i = c.args.i in
-    let eu = c.requires.1.2 in
+    let eu = c.requires.2 in
     let l : length u ≡ length (part d ti) = ap length eu in
     let v = c.word-v.result in
     let xv : v ≡ operand_at d ti i = c.word-v.ensures.0 ∙ ap (λ (z : List ℕ). get_or z i 0) eu in
     let q : i < length (part d ti) = omega (arith, l, c.if-u-i.false) in
     let ep = c.part-x.ensures in
-    let k11 = line_kind d ti (said d st) c.requires.1.1 i c.requires.1.3 q v xv (λ (z : kind_at d v ≡ 12). c.if-word-eq-INCLUDE.false (c.word.ensures.0 ∙ ap (λ (y : List ℕ). get_or y 0 0) ep ∙ z)) in
-    record { kept = c.test_names-y.ensures.kept; told = λ scope g. rw l (decl_failed d ti (said d st) c.requires.1.1 i c.requires.1.3 q v xv k11 scope (rw ep at (c.test_names-y.ensures.told scope g)) c.if-y-ne0.false c.if-y.false) }
+    let k11 = line_kind d ti (said d st) c.requires.1 i c.requires.3 q v xv (λ (z : kind_at d v ≡ 12). c.if-word-eq-INCLUDE.false (c.word.ensures.0 ∙ ap (λ (y : List ℕ). get_or y 0 0) ep ∙ z)) in
+    record { kept = c.test_names-y.ensures.kept; told = λ scope g. rw l (decl_failed d ti (said d st) c.requires.1 i c.requires.3 q v xv k11 scope (rw ep at (c.test_names-y.ensures.told scope g)) c.if-y-ne0.false c.if-y.false) }

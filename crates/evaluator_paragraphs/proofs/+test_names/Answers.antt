@@ -32,7 +32,7 @@ held_name-requires t c =
     let x = c.args.x.now in
     let j = c.args.j in
     let v = c.args.v in
-    (c.requires.1.0, subst (λ (n : ℕ). Among n (document_names (tree_of d))) (sym c.word-2.ensures.0) (declares_here x j (omega arith) c.requires.1.2))
+    (c.requires.0, subst (λ (n : ℕ). Among n (document_names (tree_of d))) (sym c.word-2.ensures.0) (declares_here x j (omega arith) c.requires.2))
 
 pub tests-y-requires : goal.tests-y-requires
 tests-y-requires t c =
@@ -42,7 +42,7 @@ tests-y-requires t c =
     let x = c.args.x.now in
     let j = c.args.j in
     let v = c.args.v in
-    subst (λ (n : ℕ). Ready d c.args.work.now expressions c.args.n n) (sym c.word.ensures.0) c.requires.1.1
+    subst (λ (n : ℕ). Ready d c.args.work.now expressions c.args.n n) (sym c.word.ensures.0) c.requires.1
 
 pub returns-then-y-ne0 : goal.returns-then-y-ne0
 returns-then-y-ne0 t c =
@@ -55,7 +55,7 @@ returns-then-y-ne0 t c =
     record { kept = c.tests-y.ensures.kept; told = λ scope g. names_stop v (test (expr_at d (get_or x 1 0)) scope) x j (said d st) c.if-x-j.false (rw (c.word.ensures.0, c.word-2.ensures.0) at (c.tests-y.ensures.told (said d st c.word-2.result) c.held_name.ensures scope g)) c.if-y-ne0.true }
 
 pub overflow_add-j : goal.overflow_add-j
-overflow_add-j t c = omega (arith, c.if-x-j.false, c.requires.1.4)
+overflow_add-j t c = omega (arith, c.if-x-j.false, c.requires.4)
 
 pub test_names-requires : goal.test_names-requires
 test_names-requires t c =
@@ -65,9 +65,9 @@ test_names-requires t c =
     let x = c.args.x.now in
     let j = c.args.j in
     let v = c.args.v in
-    let r = c.requires.1.1 in
+    let r = c.requires.1 in
     let w = r.wide in
-    (omega (arith, c.if-x-j.false, c.requires.0), (c.requires.1.0, record { at = r.at; room = r.room; wide = omega (arith, w, c.tests-y.auto.work.1.1.0) }, declares_later x j c.if-x-j.false c.requires.1.2, c.requires.1.3, c.requires.1.4))
+    (omega (arith, c.if-x-j.false, c.decreases), (c.requires.0, record { at = r.at; room = r.room; wide = omega (arith, w, c.tests-y.auto.work.1.1.0) }, declares_later x j c.if-x-j.false c.requires.2, c.requires.3, c.requires.4))
 
 pub returns-then-y : goal.returns-then-y
 returns-then-y t c =
@@ -80,7 +80,7 @@ returns-then-y t c =
     record { kept = c.test_names.ensures.kept ∙ c.tests-y.ensures.kept; told = λ scope g. names_go v (test (expr_at d (get_or x 1 0)) scope) x j (said d st) c.if-x-j.false (rw (c.word.ensures.0, c.word-2.ensures.0) at (c.tests-y.ensures.told (said d st c.word-2.result) c.held_name.ensures scope g)) c.if-y-ne0.false c.if-y.true (c.test_names.ensures.told scope (scoped_same st _ _ c.args.n c.tests-y.ensures.kept g)) }
 
 pub fail-requires : goal.fail-requires
-fail-requires t c = c.requires.1.3
+fail-requires t c = c.requires.3
 
 pub returns : goal.returns
 returns t c =

@@ -12,6 +12,6 @@ put_domains-requires t c = (omega arith, (omega arith, omega arith, omega arith)
 pub returns : goal.returns
 returns t c =
     let a = c.args in
-    let v = c.requires.1.1 in
-    let l = c.requires.1.0 in
+    let v = c.requires.1 in
+    let l = c.requires.0 in
     pushed_more a.work.now c.put_head.new.work c.put_value.new.work c.put_domains.new.work a.x.now a.b a.j a.v (rw c.word.ensures.0 at c.put_head.ensures) c.put_value.ensures (omega (arith, c.if-x-j.false)) (omega (arith, c.if-x-j.false)) c.put_domains.ensures

@@ -13,19 +13,19 @@ use Rattle.types_instances.proofs.FillSizes.{total_start, total_step, total_end,
 use Rattle.types_instances.proofs.+filled_size.Goals as goal
 
 pub type_word-t-requires : goal.type_word-t-requires
-type_word-t-requires t c = c.requires.1.actuals.areas.size
+type_word-t-requires t c = c.requires.actuals.areas.size
 
 pub overflow_add-p : goal.overflow_add-p
-overflow_add-p t c = let P = c.requires.1 in let f = place_few _ _ _ _ P.actuals.areas P.reads in omega arith
+overflow_add-p t c = let P = c.requires in let f = place_few _ _ _ _ P.actuals.areas P.reads in omega arith
 
 pub type_word-requires : goal.type_word-requires
-type_word-requires t c = c.requires.1.actuals.areas.size
+type_word-requires t c = c.requires.actuals.areas.size
 
 pub actual_size-becomes-requires : goal.actual_size-becomes-requires
-actual_size-becomes-requires t c = c.requires.1.actuals
+actual_size-becomes-requires t c = c.requires.actuals
 
 pub overflow_add-past : goal.overflow_add-past
-overflow_add-past t c = let P = c.requires.1 in let f = place_few _ _ _ _ P.actuals.areas P.reads in omega arith
+overflow_add-past t c = let P = c.requires in let f = place_few _ _ _ _ P.actuals.areas P.reads in omega arith
 
 pub returns-then-t-eq-PARAMETER : goal.returns-then-t-eq-PARAMETER
 returns-then-t-eq-PARAMETER t c =
@@ -41,10 +41,10 @@ returns-then-t-eq-PARAMETER t c =
     )
 
 pub parts_of-n-requires : goal.parts_of-n-requires
-parts_of-n-requires t c = let P = c.requires.1 in let f = place_few _ _ _ _ P.actuals.areas P.reads in (P.actuals.areas.size, omega arith)
+parts_of-n-requires t c = let P = c.requires in let f = place_few _ _ _ _ P.actuals.areas P.reads in (P.actuals.areas.size, omega arith)
 
 pub overflow_add-at : goal.overflow_add-at
-overflow_add-at t c = let P = c.requires.1 in let f = place_few _ _ _ _ P.actuals.areas P.reads in let z = c.lead_words.ensures.1 in omega arith
+overflow_add-at t c = let P = c.requires in let f = place_few _ _ _ _ P.actuals.areas P.reads in let z = c.lead_words.ensures.1 in omega arith
 
 pub loop-j-init : goal.loop-j-init
 loop-j-init t c =
@@ -56,7 +56,7 @@ loop-j-init t c =
 
 pub overflow_add-q : goal.overflow_add-q
 overflow_add-q t c =
-    let P = c.requires.1 in
+    let P = c.requires in
     let s = c.args in
     let hl = heap_length s.a.now s.d.now P.actuals.areas.size in
     let f = P.actuals.areas.few in
@@ -65,10 +65,10 @@ overflow_add-q t c =
 
 pub filled_size-part-requires : goal.filled_size-part-requires
 filled_size-part-requires t c =
-    let P = c.requires.1 in
+    let P = c.requires in
     let S = total_step _ _ _ _ _ _ _ _ _ (c.loop-j.invariant.2 P.type P.actuals.types P.reads P.actuals.stand) c.loop-j-test.true in
     let q = S.low in
-    let m = c.requires.0 in
+    let m = c.decreases in
     let o = c.loop-j.invariant.0 in
     (omega arith, record { actuals = P.actuals; type = S.part; reads = S.reads })
 
@@ -83,7 +83,7 @@ loop-j-smaller t c = let q = c.loop-j-test.true in omega arith
 
 pub loop-j-preserved : goal.loop-j-preserved
 loop-j-preserved t c =
-    let P = c.requires.1 in
+    let P = c.requires in
     let o = c.loop-j.invariant.0 in
     let T = total_step _ _ _ _ _ _ _ _ _ (c.loop-j.invariant.2 P.type P.actuals.types P.reads P.actuals.stand) c.loop-j-test.true in
     let e = c.filled_size-part.ensures.1.is T.part T.reads in
@@ -98,7 +98,7 @@ loop-j-preserved t c =
 
 pub returns : goal.returns
 returns t c =
-    let A = c.requires.1.actuals in
+    let A = c.requires.actuals in
     let i = c.loop-j.invariant in (
       record { is = λ g hs R S. total_end _ _ _ _ _ _ _ _ _ (i.2 g hs R S) c.loop-j-test.false i.1; few = i.1 },
       record { is = λ g R. total_stop _ _ _ _ _ _ _ _ _ (i.2 g A.types R A.stand) c.loop-j-test.false },

@@ -10,24 +10,24 @@ use Rattle.types_instances.proofs.FillWords.{body, fill_words, lead_inside, emit
 use Rattle.types_instances.proofs.+write_filled.Goals as goal
 
 pub type_word-t-requires : goal.type_word-t-requires
-type_word-t-requires t c = c.requires.1.filling.actuals.areas.size
+type_word-t-requires t c = c.requires.filling.actuals.areas.size
 
 pub write_actual-requires : goal.write_actual-requires
-write_actual-requires t c = (c.requires.1, sym c.type_word-t.ensures.0 ∙ c.if-t-eq-PARAMETER.true)
+write_actual-requires t c = (c.requires, sym c.type_word-t.ensures.0 ∙ c.if-t-eq-PARAMETER.true)
 
 pub returns-then-t-eq-PARAMETER : goal.returns-then-t-eq-PARAMETER
 returns-then-t-eq-PARAMETER t c = c.write_actual.ensures
 
 pub parts_of-n-requires : goal.parts_of-n-requires
-parts_of-n-requires t c = let P = c.requires.1.filling in let f = place_few _ _ _ _ P.actuals.areas P.reads in (P.actuals.areas.size, omega arith)
+parts_of-n-requires t c = let P = c.requires.filling in let f = place_few _ _ _ _ P.actuals.areas P.reads in (P.actuals.areas.size, omega arith)
 
 pub overflow_add-q : goal.overflow_add-q
-overflow_add-q t c = let P = c.requires.1.filling in let f = place_few _ _ _ _ P.actuals.areas P.reads in let z = c.lead_words-k.ensures.1 in omega arith
+overflow_add-q t c = let P = c.requires.filling in let f = place_few _ _ _ _ P.actuals.areas P.reads in let z = c.lead_words-k.ensures.1 in omega arith
 
 pub put_words-e-requires : goal.put_words-e-requires
 put_words-e-requires t c =
-    let P = c.requires.1.filling in
-    let r = c.requires.1.room in
+    let P = c.requires.filling in
+    let r = c.requires.room in
     let f = place_few _ _ _ _ P.actuals.areas P.reads in
     let z = c.lead_words-k.ensures.1 in
     let e = c.lead_words-k.ensures.0 in
@@ -45,8 +45,8 @@ loop-j-init t c =
 pub put_words-e-requires-in-loop-j : goal.put_words-e-requires-in-loop-j
 put_words-e-requires-in-loop-j t c =
     let s = c.args in
-    let P = c.requires.1.filling in
-    let r = c.requires.1.room in
+    let P = c.requires.filling in
+    let r = c.requires.room in
     let hl = heap_length s.a.now s.d.now P.actuals.areas.size in
     let f = P.actuals.areas.few in
     let S = emit_step _ _ _ _ _ _ _ _ _ _ (c.loop-j.invariant.2 P.type P.actuals.types P.reads P.actuals.stand) c.loop-j-test.true in
@@ -59,7 +59,7 @@ put_words-e-requires-in-loop-j t c =
 pub overflow_add-q-in-loop-j : goal.overflow_add-q-in-loop-j
 overflow_add-q-in-loop-j t c =
     let s = c.args in
-    let P = c.requires.1.filling in
+    let P = c.requires.filling in
     let hl = heap_length s.a.now s.d.now P.actuals.areas.size in
     let f = P.actuals.areas.few in
     let S = emit_step _ _ _ _ _ _ _ _ _ _ (c.loop-j.invariant.2 P.type P.actuals.types P.reads P.actuals.stand) c.loop-j-test.true in
@@ -68,8 +68,8 @@ overflow_add-q-in-loop-j t c =
 pub write_filled-e-requires : goal.write_filled-e-requires
 write_filled-e-requires t c =
     let s = c.args in
-    let P = c.requires.1.filling in
-    let r = c.requires.1.room in
+    let P = c.requires.filling in
+    let r = c.requires.room in
     let S = emit_step _ _ _ _ _ _ _ _ _ _ (c.loop-j.invariant.2 P.type P.actuals.types P.reads P.actuals.stand) c.loop-j-test.true in
     let fw = ap length (fill_words _ _ P.type P.actuals.types P.reads _ _ c.type_word-t.ensures.0 c.if-t-eq-PARAMETER.false c.lead_words-k.ensures.0) ∙ length-append (run (heap s.a.now s.d.now) s.p c.lead_words-k.result) (body P.actuals.types P.type) in
     let pe = c.put_words-e.ensures.end in
@@ -77,13 +77,13 @@ write_filled-e-requires t c =
     let low = S.low in
     let rm = S.room in
     let rl = run_length (heap s.a.now s.d.now) c.loop-j.q c.name_words-w.result (omega arith) in
-    let m = c.requires.0 in
+    let m = c.decreases in
     let o = c.loop-j.invariant.0 in
     (omega arith, record { filling = record { actuals = P.actuals; type = S.part; reads = S.reads }; room = omega arith })
 
 pub skip-q-requires : goal.skip-q-requires
 skip-q-requires t c =
-    let P = c.requires.1.filling in
+    let P = c.requires.filling in
     let S = emit_step _ _ _ _ _ _ _ _ _ _ (c.loop-j.invariant.2 P.type P.actuals.types P.reads P.actuals.stand) c.loop-j-test.true in
     record { areas = P.actuals.areas; readable = record { type = S.part; reads = S.reads } }
 
@@ -95,7 +95,7 @@ loop-j-smaller t c = let q = c.loop-j-test.true in omega arith
 
 pub loop-j-preserved : goal.loop-j-preserved
 loop-j-preserved t c =
-    let P = c.requires.1.filling in
+    let P = c.requires.filling in
     let L = c.loop-j in
     let l = c.loop-j-test.true in
     let o = L.invariant.0 in

@@ -16,10 +16,10 @@ pub visit-end-requires : goal.visit-end-requires
 visit-end-requires t c =
     let l = c.loop-i in
     let v =
-    operand_visit c.args.doc.now c.args.k c.args.at c.requires.1 _ c.part-w.ensures _ c.operand_count-n.ensures l.i l.end _ l.order _ l.invariant.0
+    operand_visit c.args.doc.now c.args.k c.args.at c.requires _ c.part-w.ensures _ c.operand_count-n.ensures l.i l.end _ l.order _ l.invariant.0
     c.loop-i-test.true l.invariant.3 refl c.word.result (subst (λ x. ltb 5 x ≡ true) c.sort_at.ensures (lt-ltb _ _ c.if-sort_at-gt-LAST_PLAIN.true)) c.word.ensures.0
     in
-    let m = c.requires.0 in
+    let m = c.decreases in
     let b = v.0 in
     (omega (arith, m, b), v.1)
 
@@ -39,15 +39,15 @@ loop-i-preserved t c =
 
 pub overflow_cast-k : goal.overflow_cast-k
 overflow_cast-k t c =
-    let b = visit_small c.args.doc.now c.args.k c.args.at c.requires.1 in
+    let b = visit_small c.args.doc.now c.args.k c.args.at c.requires in
     omega (arith, b)
 
 pub overflow_add-result : goal.overflow_add-result
 overflow_add-result t c =
     let l = c.loop-i in
     let e = (left_end _ _ _ _ _ _ _ _ (omega arith) l.invariant.3).1 in
-    let v = visit_length c.args.doc.now c.args.k c.args.at c.requires.1 _ c.part-w.ensures _ c.operand_count-n.ensures in
-    let r = c.requires.1.room in
+    let v = visit_length c.args.doc.now c.args.k c.args.at c.requires _ c.part-w.ensures _ c.operand_count-n.ensures in
+    let r = c.requires.room in
     omega (arith, e, v, r)
 
 pub shape_of-order : goal.shape_of-order
@@ -57,5 +57,5 @@ pub returns : goal.returns
 returns t c =
     let l = c.loop-i in
     let e = left_end _ _ _ _ _ _ _ _ (omega arith) l.invariant.3 in
-    let v = visited c.args.doc.now c.args.k c.args.at c.requires.1 _ c.part-w.ensures _ c.operand_count-n.ensures _ l.order l.end e.0 e.1 in
+    let v = visited c.args.doc.now c.args.k c.args.at c.requires _ c.part-w.ensures _ c.operand_count-n.ensures _ l.order l.end e.0 e.1 in
     (c.store.ensures ∙ v.0, v.1)

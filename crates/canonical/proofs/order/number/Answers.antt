@@ -22,13 +22,12 @@ loop-i-preserved c =
     let s = c.args in
     let p = c.requires in
     let l = c.loop-i in
-    let t = c.loop-i-test.true in
-    let v = c.word in (
+    let t = c.loop-i-test.true in (
       omega arith,
-      ap length c.store.ensures ∙ length-set l.numbers v.result _ ∙ l.invariant.1,
+      ap length c.store.ensures ∙ length-set l.numbers c.word.result _ ∙ l.invariant.1,
       subst (λ u. NumbersTo s.nodes.now (l.i + 1) u) (sym c.store.ensures)
-          (numbers_next s.nodes.now l.numbers l.i v.result p.distinct (omega arith) (sym v.ensures.0)
-          (let b = p.inside l.i (omega arith) in let e = v.ensures.0 in let q = l.invariant.1 in omega (arith, b, e, q)) l.invariant.2),
+          (numbers_next s.nodes.now l.numbers l.i c.word.result p.distinct (omega arith) (sym c.word.ensures.0)
+          (let b = p.inside l.i (omega arith) in let e = c.word.ensures.0 in let q = l.invariant.1 in omega (arith, b, e, q)) l.invariant.2),
     )
 
 pub returns : goal.returns

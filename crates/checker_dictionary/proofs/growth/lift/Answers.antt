@@ -8,8 +8,7 @@ loop-i-init c = (omega arith, refl, refl)
 pub loop-i-preserved : goal.loop-i-preserved
 loop-i-preserved c =
     let l = c.loop-i in
-    let s = c.store in
-    (omega arith, s.auto.0 ∙ l.invariant.1, l.invariant.2 ∙ lifted_go _ _ _ (omega arith) ∙ rw (← c.word-moved.ensures.0, ← s.ensures))
+    (omega arith, c.store.auto.u ∙ l.invariant.1, l.invariant.2 ∙ lifted_go _ _ _ (omega arith) ∙ rw (← c.word-moved.ensures.0, ← c.store.ensures))
 
 pub shape_of-d : goal.shape_of-d
 shape_of-d c = c.loop-i.invariant.1

@@ -10,8 +10,7 @@ pub loop-k-preserved : goal.loop-k-preserved
 unfolding offset_raised
 loop-k-preserved c =
     let l = c.loop-k in
-    let t = c.raise in
-    (omega arith, omega arith, t.auto.0 ∙ l.invariant.2, l.invariant.3 ∙ run_go _ _ _ _ (omega arith) ∙ rw (← t.ensures))
+    (omega arith, omega arith, c.raise.auto.d ∙ l.invariant.2, l.invariant.3 ∙ run_go _ _ _ _ (omega arith) ∙ rw (← c.raise.ensures))
 
 pub shape_of-d : goal.shape_of-d
 shape_of-d c = c.loop-k.invariant.2

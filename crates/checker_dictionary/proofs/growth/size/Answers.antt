@@ -7,6 +7,5 @@ returns-then-n-eq0 c = (sym (size_none _ (sym c.word-n.ensures.0 ∙ c.if-n-eq0.
 
 pub returns : goal.returns
 returns c =
-    let w = c.word-n in
-    let s = size_some c.args.d.now w.result (sym w.ensures.0) c.if-n-eq0.false in
+    let s = size_some c.args.d.now c.word-n.result (sym c.word-n.ensures.0) c.if-n-eq0.false in
     (sym (s ∙ rw (← c.word.ensures.0, ← c.word-2.ensures.0)), omega arith)

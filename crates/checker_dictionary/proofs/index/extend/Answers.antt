@@ -12,8 +12,7 @@ add-requires c = let l = c.loop-k.invariant in let p = c.requires in let b = c.w
 pub loop-k-preserved : goal.loop-k-preserved
 loop-k-preserved c =
     let l = c.loop-k in
-    let t = c.add in
-    (t.auto.1.0 ∙ l.invariant.0, l.invariant.1, omega arith, λ h. (omega arith, λ I. t.ensures (subst (IndexedTo _ _) (let e : l.k ≡ l.k + 1 - 1 = omega arith in e) ((l.invariant.3 h).1 I))))
+    (c.add.auto.w.1.0 ∙ l.invariant.0, l.invariant.1, omega arith, λ h. (omega arith, λ I. c.add.ensures (subst (IndexedTo _ _) (let e : l.k ≡ l.k + 1 - 1 = omega arith in e) ((l.invariant.3 h).1 I))))
 
 pub shape_of-w : goal.shape_of-w
 shape_of-w c = c.loop-k.invariant.0

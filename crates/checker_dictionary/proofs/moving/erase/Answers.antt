@@ -9,9 +9,8 @@ loop-i-init c = let a = c.args in (omega arith, omega arith, refl, erase_start a
 pub loop-i-preserved : goal.loop-i-preserved
 loop-i-preserved c =
     let l = c.loop-i in
-    let s = c.store in
     let a = c.args in
-    (omega arith, omega arith, s.auto.0 ∙ l.invariant.2, s.ensures ∙ rw l.invariant.3 (erase_step a.d.now a.at l.i l.invariant.0))
+    (omega arith, omega arith, c.store.auto.u ∙ l.invariant.2, c.store.ensures ∙ rw l.invariant.3 (erase_step a.d.now a.at l.i l.invariant.0))
 
 pub shape_of-d : goal.shape_of-d
 shape_of-d c = c.loop-i.invariant.2

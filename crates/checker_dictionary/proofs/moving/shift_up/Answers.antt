@@ -15,8 +15,7 @@ pub loop-i-preserved : goal.loop-i-preserved
 loop-i-preserved c =
     let l = c.loop-i.invariant in
     let p = c.requires in
-    let s = c.store in
-    (omega arith, s.auto.0 ∙ l.1, s.ensures ∙ rw c.word-moved.ensures.0 (rw l.2 (up_step _ _ _ _ _ p.0 p.1 l.0 c.loop-i-test.true)))
+    (omega arith, c.store.auto.u ∙ l.1, c.store.ensures ∙ rw c.word-moved.ensures.0 (rw l.2 (up_step _ _ _ _ _ p.0 p.1 l.0 c.loop-i-test.true)))
 
 pub shape_of-d : goal.shape_of-d
 shape_of-d c = c.loop-i.invariant.1

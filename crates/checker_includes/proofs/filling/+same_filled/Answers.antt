@@ -9,17 +9,17 @@ use borrow.Author.Tests.{not-true, not-false}
 use Rattle.checker_includes.proofs.filling.+same_filled.Goals as goal
 
 pub type_word-t-requires : goal.type_word-t-requires
-type_word-t-requires t c = c.requires.1.actuals.areas.size
+type_word-t-requires t c = c.requires.actuals.areas.size
 
 pub same_actual-requires : goal.same_actual-requires
-same_actual-requires t c = (c.requires.1, sym c.type_word-t.ensures.0 ∙ c.if-t-eq-PARAMETER.true)
+same_actual-requires t c = (c.requires, sym c.type_word-t.ensures.0 ∙ c.if-t-eq-PARAMETER.true)
 
 pub returns-then-t-eq-PARAMETER : goal.returns-then-t-eq-PARAMETER
 returns-then-t-eq-PARAMETER t c = c.same_actual.ensures
 
 pub same_words-requires : goal.same_words-requires
 same_words-requires t c =
-    let P = c.requires.1 in
+    let P = c.requires in
     let f = place_few _ _ _ _ P.actuals.areas P.left.reads in
     let g = place_few _ _ _ _ P.actuals.areas P.right.reads in
     let z = c.lead_words-k.ensures.1 in
@@ -36,19 +36,19 @@ returns-then-not-same_words t c =
 
 pub parts_of-n-requires : goal.parts_of-n-requires
 parts_of-n-requires t c =
-    let P = c.requires.1 in
+    let P = c.requires in
     let f = place_few _ _ _ _ P.actuals.areas P.left.reads in
     (P.actuals.areas.size, omega arith)
 
 pub overflow_add-at : goal.overflow_add-at
 overflow_add-at t c =
-    let P = c.requires.1 in
+    let P = c.requires in
     let f = place_few _ _ _ _ P.actuals.areas P.left.reads in
     let z = c.lead_words-k.ensures.1 in omega arith
 
 pub overflow_add-to : goal.overflow_add-to
 overflow_add-to t c =
-    let P = c.requires.1 in
+    let P = c.requires in
     let f = place_few _ _ _ _ P.actuals.areas P.right.reads in
     let z = c.lead_words-k.ensures.1 in omega arith
 
@@ -61,7 +61,7 @@ loop-j-init t c =
 
 pub same_words-requires-in-loop-j : goal.same_words-requires-in-loop-j
 same_words-requires-in-loop-j t c =
-    let P = c.requires.1 in
+    let P = c.requires in
     let s = c.args in
     let hl = heap_length s.a.now s.d.now P.actuals.areas.size in
     let f = P.actuals.areas.few in
@@ -81,7 +81,7 @@ returns-then-not-same_words-2 t c =
 
 pub overflow_add-x : goal.overflow_add-x
 overflow_add-x t c =
-    let P = c.requires.1 in
+    let P = c.requires in
     let s = c.args in
     let hl = heap_length s.a.now s.d.now P.actuals.areas.size in
     let f = P.actuals.areas.few in
@@ -90,7 +90,7 @@ overflow_add-x t c =
 
 pub overflow_add-y : goal.overflow_add-y
 overflow_add-y t c =
-    let P = c.requires.1 in
+    let P = c.requires in
     let s = c.args in
     let hl = heap_length s.a.now s.d.now P.actuals.areas.size in
     let f = P.actuals.areas.few in
@@ -99,10 +99,10 @@ overflow_add-y t c =
 
 pub same_filled-requires : goal.same_filled-requires
 same_filled-requires t c =
-    let P = c.requires.1 in
+    let P = c.requires in
     let M = match_step _ _ _ _ _ _ _ _ _ (c.loop-j.invariant.1 _ _ _ P.left.reads P.right.reads P.actuals.stand) c.loop-j-test.true in
     let x = M.low in
-    let m = c.requires.0 in
+    let m = c.decreases in
     let o = c.loop-j.invariant.0 in
     (omega arith, record { actuals = P.actuals; left = record { type = M.part; reads = M.reads }; right = record { type = M.other; reads = M.there } })
 
@@ -119,13 +119,13 @@ returns-then-not-same_filled t c =
 
 pub skip-at-requires : goal.skip-at-requires
 skip-at-requires t c =
-    let P = c.requires.1 in
+    let P = c.requires in
     let M = match_step _ _ _ _ _ _ _ _ _ (c.loop-j.invariant.1 _ _ _ P.left.reads P.right.reads P.actuals.stand) c.loop-j-test.true in
     record { areas = P.actuals.areas; readable = record { type = M.part; reads = M.reads } }
 
 pub skip-to-requires : goal.skip-to-requires
 skip-to-requires t c =
-    let P = c.requires.1 in
+    let P = c.requires in
     let M = match_step _ _ _ _ _ _ _ _ _ (c.loop-j.invariant.1 _ _ _ P.left.reads P.right.reads P.actuals.stand) c.loop-j-test.true in
     record { areas = P.actuals.areas; readable = record { type = M.other; reads = M.there } }
 
@@ -137,7 +137,7 @@ loop-j-smaller t c = let q = c.loop-j-test.true in omega arith
 
 pub loop-j-preserved : goal.loop-j-preserved
 loop-j-preserved t c =
-    let P = c.requires.1 in
+    let P = c.requires in
     let o = c.loop-j.invariant.0 in
     let M = match_step _ _ _ _ _ _ _ _ _ (c.loop-j.invariant.1 _ _ _ P.left.reads P.right.reads P.actuals.stand) c.loop-j-test.true in
     let e = c.skip-at.ensures.is M.part M.reads in (

@@ -11,7 +11,7 @@ pub returns-then-find-m : goal.returns-then-find-m
 returns-then-find-m t c = overlap_stop _ _ _ _ _ _ c.if-part-j.false c.word.ensures.0 _ c.find.ensures c.if-find-m.true
 
 pub none_declared-requires : goal.none_declared-requires
-none_declared-requires t c = (omega (arith, c.requires.0, c.if-part-j.false), c.requires.1)
+none_declared-requires t c = (omega (arith, c.decreases, c.if-part-j.false), c.requires)
 
 pub returns : goal.returns
 returns t c = overlap_go _ _ _ _ _ _ c.if-part-j.false c.word.ensures.0 _ c.find.ensures c.if-find-m.false _ c.none_declared.ensures

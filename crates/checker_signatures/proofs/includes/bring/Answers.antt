@@ -15,9 +15,8 @@ stroke-requires c = (c.requires.0.inside, c.requires.1, sym c.some_stroked.ensur
 pub returns-then-wrong_old : goal.returns-then-wrong_old
 returns-then-wrong_old c =
     let a = c.args in
-    let t = c.stroke in
-    brings_old a.work.now a.source a.m a.base a.k (renames a.part.now a.first) t.new.0 c.requires.0.inside
-    (sym c.some_stroked.ensures ∙ c.if-some_stroked.false) t.ensures 0 (sym c.wrong_old.ensures ∙ c.if-wrong_old.true)
+    brings_old a.work.now a.source a.m a.base a.k (renames a.part.now a.first) c.stroke.new.work c.requires.0.inside
+    (sym c.some_stroked.ensures ∙ c.if-some_stroked.false) c.stroke.ensures 0 (sym c.wrong_old.ensures ∙ c.if-wrong_old.true)
 
 pub rename-n-requires : goal.rename-n-requires
 rename-n-requires c =
@@ -29,7 +28,6 @@ rename-n-requires c =
 pub returns : goal.returns
 returns c =
     let a = c.args in
-    let t = c.stroke in
-    brings a.work.now a.source a.m a.base a.k (renames a.part.now a.first) t.new.0 c.requires.0.inside
-    (sym c.some_stroked.ensures ∙ c.if-some_stroked.false) t.ensures c.rename-n.new.work c.rename-n.result
+    brings a.work.now a.source a.m a.base a.k (renames a.part.now a.first) c.stroke.new.work c.requires.0.inside
+    (sym c.some_stroked.ensures ∙ c.if-some_stroked.false) c.stroke.ensures c.rename-n.new.work c.rename-n.result
     (sym c.wrong_old.ensures ∙ c.if-wrong_old.false) c.rename-n.ensures

@@ -30,23 +30,19 @@ loop-j-preserved c =
     let ps = renames a.part.now a.first in
     let l = c.loop-j in
     let h : 0 < l.j = c.loop-j-test.true in
-    let x = c.word-old in
-    let y = c.word-place in
-    let i = c.renamed-id in
-    let t = c.insert-n in
     let rs = rename_rows ps (rows w (a.source + 2 * l.j) (a.m - l.j)) in
     let p = c.requires.0.room in
     let kept : (at : ℕ) → a.source ≤ at → at < a.source + 2 * a.m → get_or l.work at 0 ≡ get_or w at 0 =
     λ at q r. table_word w a.base l.work rs l.n l.invariant.3 a.m a.source a.m at (omega (arith, l.invariant.1)) c.requires.0.apart q r in
-    let e = i.ensures.0 ∙ ap (renamed ps) (x.ensures.0 ∙ kept (a.source + 2 * (l.j - 1)) (omega arith) (omega (arith, l.invariant.0))) in
-    let f = y.ensures.0 ∙ kept (a.source + 2 * (l.j - 1) + 1) (omega arith) (omega (arith, l.invariant.0)) in
-    let g = table_insert w a.base l.work rs l.n l.invariant.3 t.new.0 i.result y.result t.result (omega (arith, l.invariant.1)) t.ensures in
-    let n = (table_count w a.base l.work rs l.n l.invariant.3 t.new.0 i.result y.result t.result t.ensures).1 in (
+    let e = c.renamed-id.ensures.0 ∙ ap (renamed ps) (c.word-old.ensures.0 ∙ kept (a.source + 2 * (l.j - 1)) (omega arith) (omega (arith, l.invariant.0))) in
+    let f = c.word-place.ensures.0 ∙ kept (a.source + 2 * (l.j - 1) + 1) (omega arith) (omega (arith, l.invariant.0)) in
+    let g = table_insert w a.base l.work rs l.n l.invariant.3 c.insert-n.new.work c.renamed-id.result c.word-place.result c.insert-n.result (omega (arith, l.invariant.1)) c.insert-n.ensures in
+    let n = (table_count w a.base l.work rs l.n l.invariant.3 c.insert-n.new.work c.renamed-id.result c.word-place.result c.insert-n.result c.insert-n.ensures).1 in (
       omega (arith, l.invariant.0),
       omega (arith, n, h, l.invariant.1),
-      table_length w a.base t.new.0 _ t.result g,
-      subst (λ (z : List (ℕ × ℕ)). Table w t.new.0 a.base z t.result)
-          (sym (rename_go ps w a.source a.m l.j h l.invariant.0 i.result y.result e f)) g,
+      table_length w a.base c.insert-n.new.work _ c.insert-n.result g,
+      subst (λ (z : List (ℕ × ℕ)). Table w c.insert-n.new.work a.base z c.insert-n.result)
+          (sym (rename_go ps w a.source a.m l.j h l.invariant.0 c.renamed-id.result c.word-place.result e f)) g,
     )
 
 pub shape_of-work : goal.shape_of-work

@@ -12,15 +12,13 @@ pub returns-then-not-takes : goal.returns-then-not-takes
 returns-then-not-takes c =
     let a = c.args in
     let l = c.loop-j in
-    let t = c.takes in
-    sym (l.invariant.1 ∙ stroked_on a.work.now a.base a.m a.k l.j c.loop-j-test.true c.word.result c.word.ensures.0 (sym t.ensures ∙ not-true t.result c.if-not-takes.true))
+    sym (l.invariant.1 ∙ stroked_on a.work.now a.base a.m a.k l.j c.loop-j-test.true c.word.result c.word.ensures.0 (sym c.takes.ensures ∙ not-true c.takes.result c.if-not-takes.true))
 
 pub loop-j-preserved : goal.loop-j-preserved
 loop-j-preserved c =
     let a = c.args in
     let l = c.loop-j in
-    let t = c.takes in
-    (omega arith, l.invariant.1 ∙ stroked_go a.work.now a.base a.m a.k l.j c.loop-j-test.true c.word.result c.word.ensures.0 (sym t.ensures ∙ not-false t.result c.if-not-takes.false))
+    (omega arith, l.invariant.1 ∙ stroked_go a.work.now a.base a.m a.k l.j c.loop-j-test.true c.word.result c.word.ensures.0 (sym c.takes.ensures ∙ not-false c.takes.result c.if-not-takes.false))
 
 pub returns : goal.returns
 returns c =

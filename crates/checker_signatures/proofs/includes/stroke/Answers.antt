@@ -17,22 +17,18 @@ pub put_row-requires : goal.put_row-requires
 put_row-requires c =
     let a = c.args in
     let l = c.loop-j in
-    let x = c.word-id in
-    let t = ap (takes a.k) x.ensures.0 ∙ stroked_first l.work a.base a.m a.k l.j c.loop-j-test.true l.invariant.2 in
-    (omega arith, stroke_fits a.k x.result c.requires.1 x.ensures.1 t, c.word-place.ensures.1)
+    let t = ap (takes a.k) c.word-id.ensures.0 ∙ stroked_first l.work a.base a.m a.k l.j c.loop-j-test.true l.invariant.2 in
+    (omega arith, stroke_fits a.k c.word-id.result c.requires.1 c.word-id.ensures.1 t, c.word-place.ensures.1)
 
 pub loop-j-preserved : goal.loop-j-preserved
 loop-j-preserved c =
     let a = c.args in
     let l = c.loop-j in
-    let x = c.word-id in
-    let y = c.word-place in
-    let t = c.put_row in
     let h = c.loop-j-test.true in (
       omega arith,
-      t.auto.0 ∙ l.invariant.1,
-      stroked_rest l.work a.base a.m a.k l.j h l.invariant.2 t.new.0 (x.result + a.k) y.result t.ensures,
-      l.invariant.3 ∙ stroking_go l.work a.base a.m a.k l.j h t.new.0 x.result y.result x.ensures.0 y.ensures.0 t.ensures,
+      c.put_row.auto.work ∙ l.invariant.1,
+      stroked_rest l.work a.base a.m a.k l.j h l.invariant.2 c.put_row.new.work (c.word-id.result + a.k) c.word-place.result c.put_row.ensures,
+      l.invariant.3 ∙ stroking_go l.work a.base a.m a.k l.j h c.put_row.new.work c.word-id.result c.word-place.result c.word-id.ensures.0 c.word-place.ensures.0 c.put_row.ensures,
     )
 
 pub shape_of-work : goal.shape_of-work

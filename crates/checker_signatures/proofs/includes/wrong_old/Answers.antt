@@ -16,8 +16,7 @@ returns-then-find-m c =
     let l = c.loop-i in
     let rs = rows a.work.now a.base a.m in
     let f = c.find.ensures in
-    let x = c.word-old in
-    sym (l.invariant.1 ∙ wrong_absent a.part.now l.i rs c.loop-i-test.true x.result x.ensures.0 (has_none x.result rs (f.absent (omega arith))))
+    sym (l.invariant.1 ∙ wrong_absent a.part.now l.i rs c.loop-i-test.true c.word-old.result c.word-old.ensures.0 (has_none c.word-old.result rs (f.absent (omega arith))))
 
 pub returns-then-has_old : goal.returns-then-has_old
 returns-then-has_old c =
@@ -25,11 +24,10 @@ returns-then-has_old c =
     let l = c.loop-i in
     let rs = rows a.work.now a.base a.m in
     let f = c.find.ensures in
-    let x = c.word-old in
-    let o : has_old x.result (renames a.part.now (l.i + 2)) ≡ true = sym c.has_old.ensures ∙ c.if-has_old.true in
+    let o : has_old c.word-old.result (renames a.part.now (l.i + 2)) ≡ true = sym c.has_old.ensures ∙ c.if-has_old.true in
     sym
     (l.invariant.1
-    ∙ wrong_next a.part.now l.i rs c.loop-i-test.true x.result x.ensures.0 (has_found x.result _ rs (f.there (omega arith)))
+    ∙ wrong_next a.part.now l.i rs c.loop-i-test.true c.word-old.result c.word-old.ensures.0 (has_found c.word-old.result _ rs (f.there (omega arith)))
     ∙ ap (λ (b : Bool). b || wrong_old_rows (renames a.part.now (l.i + 2)) rs) o)
 
 pub loop-i-preserved : goal.loop-i-preserved
@@ -38,11 +36,10 @@ loop-i-preserved c =
     let l = c.loop-i in
     let rs = rows a.work.now a.base a.m in
     let f = c.find.ensures in
-    let x = c.word-old in
-    let o : has_old x.result (renames a.part.now (l.i + 2)) ≡ false = sym c.has_old.ensures ∙ c.if-has_old.false in (
+    let o : has_old c.word-old.result (renames a.part.now (l.i + 2)) ≡ false = sym c.has_old.ensures ∙ c.if-has_old.false in (
       omega arith,
       l.invariant.1
-          ∙ wrong_next a.part.now l.i rs c.loop-i-test.true x.result x.ensures.0 (has_found x.result _ rs (f.there (omega arith)))
+          ∙ wrong_next a.part.now l.i rs c.loop-i-test.true c.word-old.result c.word-old.ensures.0 (has_found c.word-old.result _ rs (f.there (omega arith)))
           ∙ ap (λ (b : Bool). b || wrong_old_rows (renames a.part.now (l.i + 2)) rs) o,
     )
 

@@ -21,16 +21,14 @@ pub loop-i-preserved : goal.loop-i-preserved
 loop-i-preserved c =
     let a = c.args in
     let l = c.loop-i in
-    let x = c.word-id in
-    let t = c.insert-n in
     let h : l.i < length a.part.now = c.loop-i-test.true in
     let p = c.requires.0 in
-    let g = turned a.work.now l.work t.new.0 a.base l.n x.result a.place t.result l.invariant.3 (omega arith) t.ensures in (
+    let g = turned a.work.now l.work c.insert-n.new.work a.base l.n c.word-id.result a.place c.insert-n.result l.invariant.3 (omega arith) c.insert-n.ensures in (
       omega arith,
       omega (arith, g.more, l.invariant.1),
       g.same,
       g.table,
-      l.invariant.4 ∙ declare_go a.part.now a.place l.i (rows l.work a.base l.n) h x.result x.ensures.0 (rows t.new.0 a.base t.result) g.new,
+      l.invariant.4 ∙ declare_go a.part.now a.place l.i (rows l.work a.base l.n) h c.word-id.result c.word-id.ensures.0 (rows c.insert-n.new.work a.base c.insert-n.result) g.new,
     )
 
 pub shape_of-work : goal.shape_of-work

@@ -19,21 +19,18 @@ loop-j-preserved c =
     let a = c.args in
     let w = a.work.now in
     let l = c.loop-j in
-    let x = c.word-id in
-    let y = c.word-place in
-    let t = c.insert-n in
     let h : l.j < a.k = c.loop-j-test.true in
     let p = c.requires.room in
-    let g = turned w l.work t.new.0 a.base l.n x.result y.result t.result l.invariant.3 (omega arith) t.ensures in
+    let g = turned w l.work c.insert-n.new.work a.base l.n c.word-id.result c.word-place.result c.insert-n.result l.invariant.3 (omega arith) c.insert-n.ensures in
     let kept : (at : ℕ) → a.source ≤ at → at < a.source + 2 * a.k → get_or l.work at 0 ≡ get_or w at 0 =
     λ at q r. table_word w a.base l.work (rows l.work a.base l.n) l.n l.invariant.3 (a.m + a.k) a.source a.k at (omega arith) c.requires.apart q r in
-    let e = x.ensures.0 ∙ kept (a.source + 2 * l.j) (omega arith) (omega arith) in
-    let f = y.ensures.0 ∙ kept (a.source + 2 * l.j + 1) (omega arith) (omega arith) in (
+    let e = c.word-id.ensures.0 ∙ kept (a.source + 2 * l.j) (omega arith) (omega arith) in
+    let f = c.word-place.ensures.0 ∙ kept (a.source + 2 * l.j + 1) (omega arith) (omega arith) in (
       omega arith,
       omega (arith, g.more, l.invariant.1),
       g.same,
       g.table,
-      l.invariant.4 ∙ merge_go w a.source a.k l.j h x.result y.result e f (rows l.work a.base l.n) (rows t.new.0 a.base t.result) g.new,
+      l.invariant.4 ∙ merge_go w a.source a.k l.j h c.word-id.result c.word-place.result e f (rows l.work a.base l.n) (rows c.insert-n.new.work a.base c.insert-n.result) g.new,
     )
 
 pub shape_of-work : goal.shape_of-work

@@ -12,15 +12,12 @@ loop-j-init c =
 pub loop-j-preserved : goal.loop-j-preserved
 loop-j-preserved c =
     let a = c.args in
-    let l = c.loop-j in
-    let x = c.word-x in
-    let y = c.word-y in
-    let t = c.put_row in (
+    let l = c.loop-j in (
       omega arith,
-      x.ensures.1,
-      y.ensures.1,
-      t.auto.0 ∙ l.invariant.3,
-      l.invariant.4 ∙ shift_go l.work a.at a.k l.j l.i l.p c.loop-j-test.true t.new.0 t.ensures x.result y.result x.ensures.0 y.ensures.0,
+      c.word-x.ensures.1,
+      c.word-y.ensures.1,
+      c.put_row.auto.work ∙ l.invariant.3,
+      l.invariant.4 ∙ shift_go l.work a.at a.k l.j l.i l.p c.loop-j-test.true c.put_row.new.work c.put_row.ensures c.word-x.result c.word-y.result c.word-x.ensures.0 c.word-y.ensures.0,
     )
 
 pub shape_of-work : goal.shape_of-work
@@ -30,5 +27,4 @@ pub returns : goal.returns
 returns c =
     let a = c.args in
     let l = c.loop-j in
-    let t = c.put_row-2 in
-    t.ensures ∙ sym (l.invariant.4 ∙ shift_end l.work a.at a.k l.j l.i l.p (omega arith))
+    c.put_row-2.ensures ∙ sym (l.invariant.4 ∙ shift_end l.work a.at a.k l.j l.i l.p (omega arith))

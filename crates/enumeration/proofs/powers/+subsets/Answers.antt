@@ -10,7 +10,7 @@ pub returns-then-m-e : goal.returns-then-m-e
 returns-then-m-e t c =
     λ ws b.
     let p = c.subsets.ensures _ (c.subset-a.ensures ws b) in
-    subst (Building _ _) (sets_take _ _ _ ws _ c.if-j-ge8.false c.requires.1.1 c.if-m-e.true) p
+    subst (Building _ _) (sets_take _ _ _ ws _ c.if-j-ge8.false c.requires.1 c.if-m-e.true) p
 
 pub returns : goal.returns
-returns t c = λ ws b. subst (Building _ _) (sets_skip _ _ _ ws _ c.if-j-ge8.false c.requires.1.1 c.if-m-e.false) (c.subsets-2.ensures _ b)
+returns t c = λ ws b. subst (Building _ _) (sets_skip _ _ _ ws _ c.if-j-ge8.false c.requires.1 c.if-m-e.false) (c.subsets-2.ensures _ b)

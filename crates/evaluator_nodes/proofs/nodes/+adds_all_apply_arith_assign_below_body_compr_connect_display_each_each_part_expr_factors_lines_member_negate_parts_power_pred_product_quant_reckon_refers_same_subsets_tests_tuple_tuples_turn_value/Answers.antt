@@ -124,41 +124,41 @@ adds-returns-then-w-i t c =
 
 pub adds-expr-x-requires : goal.adds-expr-x-requires
 adds-expr-x-requires t c =
-    let o : Lower c.args.doc.now c.args.k expressions c.word.result = subst (Lower c.args.doc.now c.args.k expressions) (sym c.word.ensures.0) (c.requires.1.1.each c.args.i (omega arith) (omega arith)) in
+    let o : Lower c.args.doc.now c.args.k expressions c.word.result = subst (Lower c.args.doc.now c.args.k expressions) (sym c.word.ensures.0) (c.requires.1.each c.args.i (omega arith) (omega arith)) in
     let b = o.below in
-    (omega arith, ready_lower _ expressions _ refl c.requires.1.0.ready o)
+    (omega arith, ready_lower _ expressions _ refl c.requires.0.ready o)
 
 pub adds-returns-then-j-ne0 : goal.adds-returns-then-j-ne0
 adds-returns-then-j-ne0 t c =
     let e = c.expr-x.ensures in
     let a = c.args in
-    record { kept = e.kept; told = λ vs x scope sc. adds_stop a.doc.now a.k (length a.w.now) a.i scope vs _ (in_words c.requires.1.0 a.i _ c.word.ensures.0) (omega arith) (e.told scope sc) c.if-j-ne0.true }
+    record { kept = e.kept; told = λ vs x scope sc. adds_stop a.doc.now a.k (length a.w.now) a.i scope vs _ (in_words c.requires.0 a.i _ c.word.ensures.0) (omega arith) (e.told scope sc) c.if-j-ne0.true }
 
 pub adds-returns-then-t-ne0 : goal.adds-returns-then-t-ne0
 adds-returns-then-t-ne0 t c =
     let e = c.expr-x.ensures in
     let a = c.args in
-    record { kept = e.kept; told = λ vs x scope sc. adds_over a.doc.now a.k (length a.w.now) a.i scope vs _ (in_words c.requires.1.0 a.i _ c.word.ensures.0) (omega (arith, c.if-w-i.false)) (e.told scope sc) c.if-j-ne0.false (λ v h. c.gather-t.ensures vs v x h) c.if-t-ne0.true }
+    record { kept = e.kept; told = λ vs x scope sc. adds_over a.doc.now a.k (length a.w.now) a.i scope vs _ (in_words c.requires.0 a.i _ c.word.ensures.0) (omega (arith, c.if-w-i.false)) (e.told scope sc) c.if-j-ne0.false (λ v h. c.gather-t.ensures vs v x h) c.if-t-ne0.true }
 
 pub adds-adds-requires : goal.adds-adds-requires
 adds-adds-requires t c =
-    let f = c.requires.1.0.few in
+    let f = c.requires.0.few in
     let l = c.if-w-i.false in
-    let m = c.requires.0 in
-    (omega arith, (handed_same _ c.expr-x.auto.work.1.1.0 c.requires.1.0, record { each = λ j p q. c.requires.1.1.each j (omega arith) q }, omega arith))
+    let m = c.decreases in
+    (omega arith, (handed_same _ c.expr-x.auto.work.1.1.0 c.requires.0, record { each = λ j p q. c.requires.1.each j (omega arith) q }, omega arith))
 
 pub adds-returns : goal.adds-returns
 adds-returns t c =
     let e = c.expr-x.ensures in
     let g = c.adds.ensures in
     let a = c.args in
-    record { kept = g.kept ∙ e.kept; told = λ vs x scope sc. adds_go a.doc.now a.k (length a.w.now) a.i scope vs _ (in_words c.requires.1.0 a.i _ c.word.ensures.0) (omega (arith, c.if-w-i.false)) (e.told scope sc) c.if-j-ne0.false (λ v h. c.gather-t.ensures vs v x h) c.if-t-ne0.false (λ us h. g.told us h scope (scoped_same _ _ _ _ e.kept sc)) }
+    record { kept = g.kept ∙ e.kept; told = λ vs x scope sc. adds_go a.doc.now a.k (length a.w.now) a.i scope vs _ (in_words c.requires.0 a.i _ c.word.ensures.0) (omega (arith, c.if-w-i.false)) (e.told scope sc) c.if-j-ne0.false (λ v h. c.gather-t.ensures vs v x h) c.if-t-ne0.false (λ us h. g.told us h scope (scoped_same _ _ _ _ e.kept sc)) }
 
 pub all-returns-then-c-eq0 : goal.all-returns-then-c-eq0
 all-returns-then-c-eq0 t c = record { kept = refl; told = λ vs g scope sc. all_end c.args.v c.args.at c.args.c _ vs g c.if-c-eq0.true c.judge.ensures.0 c.judge.ensures.1 }
 
 pub all-tests-x-requires : goal.all-tests-x-requires
-all-tests-x-requires t c = (omega arith, c.requires.1.0)
+all-tests-x-requires t c = (omega arith, c.requires.0)
 
 pub all-returns-then-x-ne0 : goal.all-returns-then-x-ne0
 all-returns-then-x-ne0 t c =
@@ -169,10 +169,10 @@ pub all-all-requires : goal.all-all-requires
 all-all-requires t c =
     let z = c.if-c-eq0.false in
     let l = c.length_at-len.ensures.1 in
-    let m = c.requires.1.1 in
-    let u = c.requires.1.2 in
-    let t = c.requires.0 in
-    (omega arith, (ready_same _ c.tests-x.auto.work.1.1.0 c.requires.1.0, omega arith, omega arith))
+    let m = c.requires.1 in
+    let u = c.requires.2 in
+    let t = c.decreases in
+    (omega arith, (ready_same _ c.tests-x.auto.work.1.1.0 c.requires.0, omega arith, omega arith))
 
 pub all-returns-then-x : goal.all-returns-then-x
 all-returns-then-x t c =
@@ -187,21 +187,21 @@ all-returns t c =
 
 pub apply-expr-x-requires : goal.apply-expr-x-requires
 apply-expr-x-requires t c =
-    let h = c.requires.1.0 in
-    let o = apply_operands h _ (get_or c.args.w.now 2 0) c.word.ensures.0 refl c.requires.1.1 in
+    let h = c.requires.0 in
+    let o = apply_operands h _ (get_or c.args.w.now 2 0) c.word.ensures.0 refl c.requires.1 in
     let x = o.0.below in
     (omega arith, ready_lower _ expressions _ refl h.ready o.0)
 
 pub apply-returns-then-x-ne0 : goal.apply-returns-then-x-ne0
 apply-returns-then-x-ne0 t c =
     let e = c.expr-x.ensures in
-    let h = c.requires.1.0 in
-    record { kept = e.kept; told = λ scope sc. apply_told h _ (get_or c.args.w.now 2 0) c.word.ensures.0 refl c.requires.1.1 scope (halt_told _ (e.told scope sc) c.if-x-ne0.true) }
+    let h = c.requires.0 in
+    record { kept = e.kept; told = λ scope sc. apply_told h _ (get_or c.args.w.now 2 0) c.word.ensures.0 refl c.requires.1 scope (halt_told _ (e.told scope sc) c.if-x-ne0.true) }
 
 pub apply-expr-y-requires : goal.apply-expr-y-requires
 apply-expr-y-requires t c =
-    let h = c.requires.1.0 in
-    let o = apply_operands h _ _ c.word.ensures.0 c.word-2.ensures.0 c.requires.1.1 in
+    let h = c.requires.0 in
+    let o = apply_operands h _ _ c.word.ensures.0 c.word-2.ensures.0 c.requires.1 in
     let x = o.1.below in
     (omega arith, ready_lower _ expressions _ c.expr-x.auto.work.1.1.0 h.ready o.1)
 
@@ -209,33 +209,33 @@ pub apply-returns-then-y-ne0 : goal.apply-returns-then-y-ne0
 apply-returns-then-y-ne0 t c =
     let e = c.expr-x.ensures in
     let g = c.expr-y.ensures in
-    let h = c.requires.1.0 in
-    record { kept = g.kept ∙ e.kept; told = λ scope sc. apply_told h _ _ c.word.ensures.0 c.word-2.ensures.0 c.requires.1.1 scope (second_told (e.told scope sc) c.if-x-ne0.false (g.told scope (scoped_same _ _ _ _ e.kept sc)) _ c.if-y-ne0.true) }
+    let h = c.requires.0 in
+    record { kept = g.kept ∙ e.kept; told = λ scope sc. apply_told h _ _ c.word.ensures.0 c.word-2.ensures.0 c.requires.1 scope (second_told (e.told scope sc) c.if-x-ne0.false (g.told scope (scoped_same _ _ _ _ e.kept sc)) _ c.if-y-ne0.true) }
 
 pub apply-returns : goal.apply-returns
 apply-returns t c =
     let e = c.expr-x.ensures in
     let g = c.expr-y.ensures in
-    let h = c.requires.1.0 in
-    record { kept = g.kept ∙ e.kept; told = λ scope sc. apply_told h _ _ c.word.ensures.0 c.word-2.ensures.0 c.requires.1.1 scope (both_told (e.told scope sc) c.if-x-ne0.false (g.told scope (scoped_same _ _ _ _ e.kept sc)) c.if-y-ne0.false (λ u v a b. c.applied.ensures u v a.held b.held)) }
+    let h = c.requires.0 in
+    record { kept = g.kept ∙ e.kept; told = λ scope sc. apply_told h _ _ c.word.ensures.0 c.word-2.ensures.0 c.requires.1 scope (both_told (e.told scope sc) c.if-x-ne0.false (g.told scope (scoped_same _ _ _ _ e.kept sc)) c.if-y-ne0.false (λ u v a b. c.applied.ensures u v a.held b.held)) }
 
 pub arith-reckon-x-requires : goal.arith-reckon-x-requires
 arith-reckon-x-requires t c =
-    let h = c.requires.1.0 in
-    let o = arith_operands h _ (get_or c.args.w.now 2 0) c.word.ensures.0 refl c.requires.1.1 c.requires.1.2 in
+    let h = c.requires.0 in
+    let o = arith_operands h _ (get_or c.args.w.now 2 0) c.word.ensures.0 refl c.requires.1 c.requires.2 in
     let x = o.0.below in
     (omega arith, ready_lower _ expressions _ refl h.ready o.0)
 
 pub arith-returns-then-x-ne0 : goal.arith-returns-then-x-ne0
 arith-returns-then-x-ne0 t c =
     let e = c.reckon-x.ensures in
-    let h = c.requires.1.0 in
-    record { kept = e.kept; told = λ scope sc. arith_told h _ (get_or c.args.w.now 2 0) c.word.ensures.0 refl c.requires.1.1 c.requires.1.2 scope (halt_told _ (e.told scope sc) c.if-x-ne0.true) }
+    let h = c.requires.0 in
+    record { kept = e.kept; told = λ scope sc. arith_told h _ (get_or c.args.w.now 2 0) c.word.ensures.0 refl c.requires.1 c.requires.2 scope (halt_told _ (e.told scope sc) c.if-x-ne0.true) }
 
 pub arith-reckon-y-requires : goal.arith-reckon-y-requires
 arith-reckon-y-requires t c =
-    let h = c.requires.1.0 in
-    let o = arith_operands h _ _ c.word.ensures.0 c.word-2.ensures.0 c.requires.1.1 c.requires.1.2 in
+    let h = c.requires.0 in
+    let o = arith_operands h _ _ c.word.ensures.0 c.word-2.ensures.0 c.requires.1 c.requires.2 in
     let x = o.1.below in
     (omega arith, ready_lower _ expressions _ c.reckon-x.auto.work.1.1.0 h.ready o.1)
 
@@ -243,49 +243,49 @@ pub arith-returns-then-y-ne0 : goal.arith-returns-then-y-ne0
 arith-returns-then-y-ne0 t c =
     let e = c.reckon-x.ensures in
     let g = c.reckon-y.ensures in
-    let h = c.requires.1.0 in
-    record { kept = g.kept ∙ e.kept; told = λ scope sc. arith_told h _ _ c.word.ensures.0 c.word-2.ensures.0 c.requires.1.1 c.requires.1.2 scope (second_told (e.told scope sc) c.if-x-ne0.false (g.told scope (scoped_same _ _ _ _ e.kept sc)) _ c.if-y-ne0.true) }
+    let h = c.requires.0 in
+    record { kept = g.kept ∙ e.kept; told = λ scope sc. arith_told h _ _ c.word.ensures.0 c.word-2.ensures.0 c.requires.1 c.requires.2 scope (second_told (e.told scope sc) c.if-x-ne0.false (g.told scope (scoped_same _ _ _ _ e.kept sc)) _ c.if-y-ne0.true) }
 
 pub arith-returns : goal.arith-returns
 arith-returns t c =
     let e = c.reckon-x.ensures in
     let g = c.reckon-y.ensures in
-    let h = c.requires.1.0 in
-    record { kept = g.kept ∙ e.kept; told = λ scope sc. arith_told h _ _ c.word.ensures.0 c.word-2.ensures.0 c.requires.1.1 c.requires.1.2 scope (both_told (e.told scope sc) c.if-x-ne0.false (g.told scope (scoped_same _ _ _ _ e.kept sc)) c.if-y-ne0.false (λ u v a b. subst (λ (q : ℕ). Told (Counted c.arithmetic.result.integer) c.arithmetic.result.judgement (arithmetic_of c.args.k q u v)) (in_words h 0 _ c.word-3.ensures.0) (c.arithmetic.ensures u v a.held b.held))) }
+    let h = c.requires.0 in
+    record { kept = g.kept ∙ e.kept; told = λ scope sc. arith_told h _ _ c.word.ensures.0 c.word-2.ensures.0 c.requires.1 c.requires.2 scope (both_told (e.told scope sc) c.if-x-ne0.false (g.told scope (scoped_same _ _ _ _ e.kept sc)) c.if-y-ne0.false (λ u v a b. subst (λ (q : ℕ). Told (Counted c.arithmetic.result.integer) c.arithmetic.result.judgement (arithmetic_of c.args.k q u v)) (in_words h 0 _ c.word-3.ensures.0) (c.arithmetic.ensures u v a.held b.held))) }
 
 pub assign-turn-requires : goal.assign-turn-requires
-assign-turn-requires t c = let e = c.if-m-eq0.true in (omega arith, scoping_shift c.requires.1 _ 0 (omega arith) (omega arith))
+assign-turn-requires t c = let e = c.if-m-eq0.true in (omega arith, scoping_shift c.requires _ 0 (omega arith) (omega arith))
 
 pub assign-returns-then-m-eq0 : goal.assign-returns-then-m-eq0
 assign-returns-then-m-eq0 t c = assigns_none c.args.doc.now c.args.state.now _ _ c.args.n c.args.m c.args.k c.args.s.now _ _ c.if-m-eq0.true c.turn.ensures
 
 pub assign-each-requires : goal.assign-each-requires
 assign-each-requires t c =
-    let f = c.requires.1.few in
+    let f = c.requires.few in
     let e = c.if-m-eq0.false in
     let w = c.word-c.ensures.1 in
-    (omega arith, (scoping_shift c.requires.1 _ _ (omega arith) (omega arith), w))
+    (omega arith, (scoping_shift c.requires _ _ (omega arith) (omega arith), w))
 
 pub assign-returns : goal.assign-returns
 assign-returns t c = assigns_some c.args.doc.now c.args.state.now _ _ c.args.n c.args.m c.args.k _ c.args.s.now _ _ c.if-m-eq0.false c.word-c.ensures.0 c.each.ensures
 
 pub below-reckon-x-requires : goal.below-reckon-x-requires
 below-reckon-x-requires t c =
-    let h = c.requires.1.0 in
-    let o = relation_operands h 23 c.requires.1.1 (omega arith) (omega arith) _ (get_or c.args.w.now 2 0) c.word.ensures.0 refl in
+    let h = c.requires.0 in
+    let o = relation_operands h 23 c.requires.1 (omega arith) (omega arith) _ (get_or c.args.w.now 2 0) c.word.ensures.0 refl in
     let x = o.0.below in
     (omega arith, ready_lower _ expressions _ refl h.ready o.0)
 
 pub below-returns-then-i-ne0 : goal.below-returns-then-i-ne0
 below-returns-then-i-ne0 t c =
     let e = c.reckon-x.ensures in
-    let h = c.requires.1.0 in
-    record { kept = e.kept; told = λ scope sc. below_told h _ (get_or c.args.w.now 2 0) c.word.ensures.0 refl scope c.requires.1.1 (halt_told _ (e.told scope sc) c.if-i-ne0.true) }
+    let h = c.requires.0 in
+    record { kept = e.kept; told = λ scope sc. below_told h _ (get_or c.args.w.now 2 0) c.word.ensures.0 refl scope c.requires.1 (halt_told _ (e.told scope sc) c.if-i-ne0.true) }
 
 pub below-reckon-y-requires : goal.below-reckon-y-requires
 below-reckon-y-requires t c =
-    let h = c.requires.1.0 in
-    let o = relation_operands h 23 c.requires.1.1 (omega arith) (omega arith) _ _ c.word.ensures.0 c.word-2.ensures.0 in
+    let h = c.requires.0 in
+    let o = relation_operands h 23 c.requires.1 (omega arith) (omega arith) _ _ c.word.ensures.0 c.word-2.ensures.0 in
     let x = o.1.below in
     (omega arith, ready_lower _ expressions _ c.reckon-x.auto.work.1.1.0 h.ready o.1)
 
@@ -293,56 +293,56 @@ pub below-returns-then-j-ne0 : goal.below-returns-then-j-ne0
 below-returns-then-j-ne0 t c =
     let e = c.reckon-x.ensures in
     let g = c.reckon-y.ensures in
-    let h = c.requires.1.0 in
-    record { kept = g.kept ∙ e.kept; told = λ scope sc. below_told h _ _ c.word.ensures.0 c.word-2.ensures.0 scope c.requires.1.1 (second_told (e.told scope sc) c.if-i-ne0.false (g.told scope (scoped_same _ _ _ _ e.kept sc)) _ c.if-j-ne0.true) }
+    let h = c.requires.0 in
+    record { kept = g.kept ∙ e.kept; told = λ scope sc. below_told h _ _ c.word.ensures.0 c.word-2.ensures.0 scope c.requires.1 (second_told (e.told scope sc) c.if-i-ne0.false (g.told scope (scoped_same _ _ _ _ e.kept sc)) _ c.if-j-ne0.true) }
 
 pub below-returns : goal.below-returns
 below-returns t c =
     let e = c.reckon-x.ensures in
     let g = c.reckon-y.ensures in
-    let h = c.requires.1.0 in
-    record { kept = g.kept ∙ e.kept; told = λ scope sc. below_told h _ _ c.word.ensures.0 c.word-2.ensures.0 scope c.requires.1.1 (both_told (e.told scope sc) c.if-i-ne0.false (g.told scope (scoped_same _ _ _ _ e.kept sc)) c.if-j-ne0.false (λ u v a b. c.at_most.ensures u v a.held b.held)) }
+    let h = c.requires.0 in
+    record { kept = g.kept ∙ e.kept; told = λ scope sc. below_told h _ _ c.word.ensures.0 c.word-2.ensures.0 scope c.requires.1 (both_told (e.told scope sc) c.if-i-ne0.false (g.told scope (scoped_same _ _ _ _ e.kept sc)) c.if-j-ne0.false (λ u v a b. c.at_most.ensures u v a.held b.held)) }
 
 pub body-expr-x-requires : goal.body-expr-x-requires
 body-expr-x-requires t c =
-    let w = c.requires.1.1 in
+    let w = c.requires.1 in
     let q = sym (ap (λ (l : List ℕ). get_or l 0 0) w) ∙ sym c.word.ensures.0 ∙ c.if-word-eq-COMPREHENSION.true in
-    let o = body_expr c.requires.1.0 q _ (c.word-b.ensures.0 ∙ ap (λ (l : List ℕ). get_or l 2 0) w) in
+    let o = body_expr c.requires.0 q _ (c.word-b.ensures.0 ∙ ap (λ (l : List ℕ). get_or l 2 0) w) in
     let b = o.below in
     let z : c.args.n + 0 ≡ c.args.n = omega arith in
-    (omega arith, subst (λ (j : ℕ). Ready c.args.doc.now c.args.work.now expressions j c.word-b.result) z (body_ready c.requires.1.0 expressions _ o))
+    (omega arith, subst (λ (j : ℕ). Ready c.args.doc.now c.args.work.now expressions j c.word-b.result) z (body_ready c.requires.0 expressions _ o))
 
 pub body-returns-then-j-ne0 : goal.body-returns-then-j-ne0
 body-returns-then-j-ne0 t c =
-    let w = c.requires.1.1 in
+    let w = c.requires.1 in
     let e = c.expr-x.ensures in
     let q = sym (ap (λ (l : List ℕ). get_or l 0 0) w) ∙ sym c.word.ensures.0 ∙ c.if-word-eq-COMPREHENSION.true in
     record { kept = e.kept; told = λ scope sc vs h. gather_stop c.args.doc.now c.args.k _ (c.word-b.ensures.0 ∙ ap (λ (l : List ℕ). get_or l 2 0) w) scope vs q (e.told scope sc) c.if-j-ne0.true }
 
 pub body-returns-then-word-eq-COMPREHENSION : goal.body-returns-then-word-eq-COMPREHENSION
 body-returns-then-word-eq-COMPREHENSION t c =
-    let w = c.requires.1.1 in
+    let w = c.requires.1 in
     let e = c.expr-x.ensures in
     let q = sym (ap (λ (l : List ℕ). get_or l 0 0) w) ∙ sym c.word.ensures.0 ∙ c.if-word-eq-COMPREHENSION.true in
     record { kept = e.kept; told = λ scope sc vs h. gather_go c.args.doc.now c.args.k _ (c.word-b.ensures.0 ∙ ap (λ (l : List ℕ). get_or l 2 0) w) scope vs q (e.told scope sc) c.if-j-ne0.false (λ v g. c.gather.ensures vs v (h.gathers q) g) }
 
 pub body-pred-y-requires : goal.body-pred-y-requires
 body-pred-y-requires t c =
-    let w = c.requires.1.1 in
-    let o = body_pred c.requires.1.0 (λ q. c.if-word-eq-COMPREHENSION.false (c.word.ensures.0 ∙ ap (λ (l : List ℕ). get_or l 0 0) w ∙ q)) _ (c.word-b.ensures.0 ∙ ap (λ (l : List ℕ). get_or l 2 0) w) in
+    let w = c.requires.1 in
+    let o = body_pred c.requires.0 (λ q. c.if-word-eq-COMPREHENSION.false (c.word.ensures.0 ∙ ap (λ (l : List ℕ). get_or l 0 0) w ∙ q)) _ (c.word-b.ensures.0 ∙ ap (λ (l : List ℕ). get_or l 2 0) w) in
     let b = o.below in
     let z : c.args.n + 0 ≡ c.args.n = omega arith in
-    (omega arith, subst (λ (j : ℕ). Ready c.args.doc.now c.args.work.now predicates j c.word-b.result) z (body_ready c.requires.1.0 predicates _ o))
+    (omega arith, subst (λ (j : ℕ). Ready c.args.doc.now c.args.work.now predicates j c.word-b.result) z (body_ready c.requires.0 predicates _ o))
 
 pub body-returns-then-y-ne0 : goal.body-returns-then-y-ne0
 body-returns-then-y-ne0 t c =
-    let w = c.requires.1.1 in
+    let w = c.requires.1 in
     let e = c.pred-y.ensures in
     record { kept = e.kept; told = λ scope sc vs h. decide_stop c.args.doc.now c.args.k _ (c.word-b.ensures.0 ∙ ap (λ (l : List ℕ). get_or l 2 0) w) scope vs (λ q. c.if-word-eq-COMPREHENSION.false (c.word.ensures.0 ∙ ap (λ (l : List ℕ). get_or l 0 0) w ∙ q)) (e.told scope sc) c.if-y-ne0.true }
 
 pub body-returns : goal.body-returns
 body-returns t c =
-    let w = c.requires.1.1 in
+    let w = c.requires.1 in
     let e = c.pred-y.ensures in
     let k = c.word-2.ensures.0 ∙ ap (λ (l : List ℕ). get_or l 0 0) w in
     record { kept = e.kept; told = λ scope sc vs h. decide_go c.args.doc.now c.args.k _ (c.word-b.ensures.0 ∙ ap (λ (l : List ℕ). get_or l 2 0) w) scope vs (λ q. c.if-word-eq-COMPREHENSION.false (c.word.ensures.0 ∙ ap (λ (l : List ℕ). get_or l 0 0) w ∙ q)) (e.told scope sc) c.if-y-ne0.false c.judge.ensures.0 (c.judge.ensures.1 ∙ c.verdict.ensures ∙ ap (λ (j : ℕ). verdict_of (quantifier_of j) c.pred-y.result.flag) k) }
@@ -352,98 +352,98 @@ compr-put_set-requires t c = let h = c.empty_set.ensures in omega (arith, held_l
 
 pub compr-lines-x-requires : goal.compr-lines-x-requires
 compr-lines-x-requires t c =
-    let h = c.requires.1.0 in
+    let h = c.requires.0 in
     let x = c.word-t.ensures.0 in
-    (omega arith, lines_start (compr_scoping empty _ x h c.requires.1.1) _ _ (in_words h 1 _ x) c.part.ensures)
+    (omega arith, lines_start (compr_scoping empty _ x h c.requires.1) _ _ (in_words h 1 _ x) c.part.ensures)
 
 pub compr-returns-then-x-ne0 : goal.compr-returns-then-x-ne0
 compr-returns-then-x-ne0 t c =
     let e = c.lines-x.ensures in
-    let h = c.requires.1.0 in
+    let h = c.requires.0 in
     let z : c.args.n ≡ c.args.n + 0 = omega arith in
     let g : SoFar c.args.doc.now c.args.k _ Value.nil = record { gathers = λ q. c.put_set.ensures Value.nil (omega arith) c.empty_set.ensures } in
     record {
       kept = e.kept;
       told = λ scope sc.
           subst (λ (j : Judgement). Told (Valued c.halted.result.held) j (eval_expr (expr_at c.args.doc.now c.args.k) scope)) (sym c.halted.ensures)
-          (compr_stop scope _ c.word-t.ensures.0 h c.requires.1.1 (rw c.part.ensures at (c.lines-x.ensures.told scope sc (subst (λ (j : ℕ). Scoped c.args.state.now c.args.work.now j scope) z sc) no_more Blocks.none g)) c.if-x-ne0.true);
+          (compr_stop scope _ c.word-t.ensures.0 h c.requires.1 (rw c.part.ensures at (c.lines-x.ensures.told scope sc (subst (λ (j : ℕ). Scoped c.args.state.now c.args.work.now j scope) z sc) no_more Blocks.none g)) c.if-x-ne0.true);
     }
 
 pub compr-returns-then-x : goal.compr-returns-then-x
 compr-returns-then-x t c =
     let e = c.lines-x.ensures in
-    let h = c.requires.1.0 in
+    let h = c.requires.0 in
     let z : c.args.n ≡ c.args.n + 0 = omega arith in
     let g : SoFar c.args.doc.now c.args.k _ Value.nil = record { gathers = λ q. c.put_set.ensures Value.nil (omega arith) c.empty_set.ensures } in
-    record { kept = e.kept; told = λ scope sc. compr_go scope _ c.word-t.ensures.0 h c.requires.1.1 (rw c.part.ensures at (c.lines-x.ensures.told scope sc (subst (λ (j : ℕ). Scoped c.args.state.now c.args.work.now j scope) z sc) no_more Blocks.none g)) c.if-x-ne0.false c.go.ensures.number (λ q. subst (λ (u : Held). Holds u (Value.set Value.nil)) (sym c.go.ensures.held) c.empty_set-then-x.ensures) (λ q. absurd (true≢false (sym c.if-x.true ∙ q))) }
+    record { kept = e.kept; told = λ scope sc. compr_go scope _ c.word-t.ensures.0 h c.requires.1 (rw c.part.ensures at (c.lines-x.ensures.told scope sc (subst (λ (j : ℕ). Scoped c.args.state.now c.args.work.now j scope) z sc) no_more Blocks.none g)) c.if-x-ne0.false c.go.ensures.number (λ q. subst (λ (u : Held). Holds u (Value.set Value.nil)) (sym c.go.ensures.held) c.empty_set-then-x.ensures) (λ q. absurd (true≢false (sym c.if-x.true ∙ q))) }
 
 pub compr-returns : goal.compr-returns
 compr-returns t c =
     let e = c.lines-x.ensures in
-    let h = c.requires.1.0 in
+    let h = c.requires.0 in
     let z : c.args.n ≡ c.args.n + 0 = omega arith in
     let g : SoFar c.args.doc.now c.args.k _ Value.nil = record { gathers = λ q. c.put_set.ensures Value.nil (omega arith) c.empty_set.ensures } in
-    record { kept = e.kept; told = λ scope sc. compr_go scope _ c.word-t.ensures.0 h c.requires.1.1 (rw c.part.ensures at (c.lines-x.ensures.told scope sc (subst (λ (j : ℕ). Scoped c.args.state.now c.args.work.now j scope) z sc) no_more Blocks.none g)) c.if-x-ne0.false c.go-2.ensures.number (λ q. absurd (true≢false (sym q ∙ c.if-x.false))) (λ q vs d. subst (λ (u : Held). Holds u (Value.set vs)) (sym c.go-2.ensures.held) (c.gathered.ensures vs d)) }
+    record { kept = e.kept; told = λ scope sc. compr_go scope _ c.word-t.ensures.0 h c.requires.1 (rw c.part.ensures at (c.lines-x.ensures.told scope sc (subst (λ (j : ℕ). Scoped c.args.state.now c.args.work.now j scope) z sc) no_more Blocks.none g)) c.if-x-ne0.false c.go-2.ensures.number (λ q. absurd (true≢false (sym q ∙ c.if-x.false))) (λ q vs d. subst (λ (u : Held). Holds u (Value.set vs)) (sym c.go-2.ensures.held) (c.gathered.ensures vs d)) }
 
 pub connect-pred-x-requires : goal.connect-pred-x-requires
 connect-pred-x-requires t c =
-    let h = c.requires.1.0 in
-    let o = connected_operands h c.requires.1.1 c.requires.1.2 _ (get_or c.args.w.now 2 0) c.word.ensures.0 refl in
+    let h = c.requires.0 in
+    let o = connected_operands h c.requires.1 c.requires.2 _ (get_or c.args.w.now 2 0) c.word.ensures.0 refl in
     let x = o.0.below in
     (omega arith, ready_lower _ predicates _ refl h.ready o.0)
 
 pub connect-returns-then-x-ne0 : goal.connect-returns-then-x-ne0
 connect-returns-then-x-ne0 t c =
     let e = c.pred-x.ensures in
-    record { kept = e.kept; told = λ scope sc. connected_stop c.requires.1.0 c.requires.1.1 c.requires.1.2 _ (get_or c.args.w.now 2 0) c.word.ensures.0 refl scope (e.told scope sc) c.if-x-ne0.true }
+    record { kept = e.kept; told = λ scope sc. connected_stop c.requires.0 c.requires.1 c.requires.2 _ (get_or c.args.w.now 2 0) c.word.ensures.0 refl scope (e.told scope sc) c.if-x-ne0.true }
 
 pub connect-pred-requires : goal.connect-pred-requires
 connect-pred-requires t c =
-    let h = c.requires.1.0 in
-    let o = connected_operands h c.requires.1.1 c.requires.1.2 _ _ c.word.ensures.0 c.word-in-Right.ensures.0 in
+    let h = c.requires.0 in
+    let o = connected_operands h c.requires.1 c.requires.2 _ _ c.word.ensures.0 c.word-in-Right.ensures.0 in
     let x = o.1.below in
-    let m = c.requires.0 in
+    let m = c.decreases in
     (omega arith, ready_lower _ predicates _ c.pred-x.auto.work.1.1.0 h.ready o.1)
 
 pub connect-returns-in-Known : goal.connect-returns-in-Known
 connect-returns-in-Known t c =
     let e = c.pred-x.ensures in
-    let q = c.decides-d.ensures ∙ ap (λ (j : ℕ). decision_of (connective_of j) c.pred-x.result.flag) (in_words c.requires.1.0 0 _ c.word-2.ensures.0) in
-    record { kept = e.kept; told = λ scope sc. connected_known c.requires.1.0 c.requires.1.1 c.requires.1.2 _ (get_or c.args.w.now 2 0) c.word.ensures.0 refl scope _ (e.told scope sc) c.if-x-ne0.false (sym c.in-Known.is ∙ q) c.judge.ensures.0 c.judge.ensures.1 }
+    let q = c.decides-d.ensures ∙ ap (λ (j : ℕ). decision_of (connective_of j) c.pred-x.result.flag) (in_words c.requires.0 0 _ c.word-2.ensures.0) in
+    record { kept = e.kept; told = λ scope sc. connected_known c.requires.0 c.requires.1 c.requires.2 _ (get_or c.args.w.now 2 0) c.word.ensures.0 refl scope _ (e.told scope sc) c.if-x-ne0.false (sym c.in-Known.is ∙ q) c.judge.ensures.0 c.judge.ensures.1 }
 
 pub connect-returns-in-Right : goal.connect-returns-in-Right
 connect-returns-in-Right t c =
     let e = c.pred-x.ensures in
     let g = c.pred.ensures in
-    let q = c.decides-d.ensures ∙ ap (λ (j : ℕ). decision_of (connective_of j) c.pred-x.result.flag) (in_words c.requires.1.0 0 _ c.word-2.ensures.0) in
-    record { kept = g.kept ∙ e.kept; told = λ scope sc. connected_right c.requires.1.0 c.requires.1.1 c.requires.1.2 _ _ c.word.ensures.0 c.word-in-Right.ensures.0 scope (e.told scope sc) c.if-x-ne0.false (sym c.in-Right.is ∙ q) (g.told scope (scoped_same _ _ _ _ e.kept sc)) }
+    let q = c.decides-d.ensures ∙ ap (λ (j : ℕ). decision_of (connective_of j) c.pred-x.result.flag) (in_words c.requires.0 0 _ c.word-2.ensures.0) in
+    record { kept = g.kept ∙ e.kept; told = λ scope sc. connected_right c.requires.0 c.requires.1 c.requires.2 _ _ c.word.ensures.0 c.word-in-Right.ensures.0 scope (e.told scope sc) c.if-x-ne0.false (sym c.in-Right.is ∙ q) (g.told scope (scoped_same _ _ _ _ e.kept sc)) }
 
 pub display-put_set-requires : goal.display-put_set-requires
 display-put_set-requires t c = let h = c.empty_set.ensures in omega (arith, held_len _ _ h.words h.short, h.short)
 
 pub display-adds-x-requires : goal.display-adds-x-requires
 display-adds-x-requires t c =
-    let h = c.requires.1.0 in
-    (omega arith, (h, member_operands h 33 c.requires.1.1 (omega arith) (omega arith), omega arith))
+    let h = c.requires.0 in
+    (omega arith, (h, member_operands h 33 c.requires.1 (omega arith) (omega arith), omega arith))
 
 pub display-returns-then-x-ne0 : goal.display-returns-then-x-ne0
 display-returns-then-x-ne0 t c =
     let e = c.adds-x.ensures in
-    let h = c.requires.1.0 in
+    let h = c.requires.0 in
     let g = c.put_set.ensures nil (omega arith) c.empty_set.ensures in
     record {
       kept = e.kept;
       told = λ scope sc.
           subst (λ (j : Judgement). Told (Valued c.halted.result.held) j (eval_expr (expr_at c.args.doc.now c.args.k) scope)) (sym c.halted.ensures)
-          (set_stop h c.requires.1.1 scope (e.told nil g scope sc) c.if-x-ne0.true);
+          (set_stop h c.requires.1 scope (e.told nil g scope sc) c.if-x-ne0.true);
     }
 
 pub display-returns : goal.display-returns
 display-returns t c =
     let e = c.adds-x.ensures in
-    let h = c.requires.1.0 in
+    let h = c.requires.0 in
     let g = c.put_set.ensures nil (omega arith) c.empty_set.ensures in
-    record { kept = e.kept; told = λ scope sc. set_go h c.requires.1.1 scope (e.told nil g scope sc) c.if-x-ne0.false c.go.ensures.number (λ vs d. subst (λ (u : Held). Holds u (Value.set vs)) (sym c.go.ensures.held) (c.gathered.ensures vs d)) }
+    record { kept = e.kept; told = λ scope sc. set_go h c.requires.1 scope (e.told nil g scope sc) c.if-x-ne0.false c.go.ensures.number (λ vs d. subst (λ (u : Held). Holds u (Value.set vs)) (sym c.go.ensures.held) (c.gathered.ensures vs d)) }
 
 pub each-loop-left-init : goal.each-loop-left-init
 each-loop-left-init t c = let a = c.args in (refl, refl, omega arith, omega arith, left_all a.doc.now a.state.now a.n a.m a.k a.c a.work.now a.s.now)
@@ -456,7 +456,7 @@ each-returns-then-at-gt-VALUE t c =
 
 pub each-put_head-requires : goal.each-put_head-requires
 each-put_head-requires t c =
-    let r = c.requires.1.0.room in
+    let r = c.requires.0.room in
     let l = c.span-len.ensures.1 in
     let w = c.word.ensures.1 in
     let z = c.if-at-gt-VALUE.false in
@@ -464,16 +464,16 @@ each-put_head-requires t c =
 
 pub each-assign-x-requires : goal.each-assign-x-requires
 each-assign-x-requires t c =
-    let t = c.requires.0 in
-    let f = c.requires.1.0.few in
-    (omega arith, scoping_shift (scoping_same c.requires.1.0 _ (c.put_head.auto.work ∙ c.loop-left.invariant.0)) _ _ (omega arith) (omega arith))
+    let t = c.decreases in
+    let f = c.requires.0.few in
+    (omega arith, scoping_shift (scoping_same c.requires.0 _ (c.put_head.auto.work ∙ c.loop-left.invariant.0)) _ _ (omega arith) (omega arith))
 
 pub each-returns-then-x-ne0 : goal.each-returns-then-x-ne0
 each-returns-then-x-ne0 t c =
     let a = c.args in
     let l = c.loop-left in
-    let r = c.requires.1.0.room in
-    let v = c.requires.1.0.wide in
+    let r = c.requires.0.room in
+    let v = c.requires.0.wide in
     let z = l.invariant.0 in
     let t = c.loop-left-test.true in
     let el = c.span-len.ensures.0 ∙ ap span c.from.ensures in
@@ -484,8 +484,8 @@ pub each-returns-then-x : goal.each-returns-then-x
 each-returns-then-x t c =
     let a = c.args in
     let l = c.loop-left in
-    let r = c.requires.1.0.room in
-    let v = c.requires.1.0.wide in
+    let r = c.requires.0.room in
+    let v = c.requires.0.wide in
     let z = l.invariant.0 in
     let t = c.loop-left-test.true in
     let el = c.span-len.ensures.0 ∙ ap span c.from.ensures in
@@ -496,8 +496,8 @@ pub each-loop-left-preserved : goal.each-loop-left-preserved
 each-loop-left-preserved t c =
     let a = c.args in
     let l = c.loop-left in
-    let r = c.requires.1.0.room in
-    let v = c.requires.1.0.wide in
+    let r = c.requires.0.room in
+    let v = c.requires.0.wide in
     let z = l.invariant.0 in
     let t = c.loop-left-test.true in
     let el = c.span-len.ensures.0 ∙ ap span c.from.ensures in
@@ -520,76 +520,76 @@ each_part-returns-then-w-i t c =
 
 pub each_part-tests-x-requires : goal.each_part-tests-x-requires
 each_part-tests-x-requires t c =
-    let o : Lower c.args.doc.now c.args.k expressions c.word.result = subst (Lower c.args.doc.now c.args.k expressions) (sym c.word.ensures.0) (c.requires.1.1.each c.args.i (omega arith) (omega (arith, c.if-w-i.false))) in
+    let o : Lower c.args.doc.now c.args.k expressions c.word.result = subst (Lower c.args.doc.now c.args.k expressions) (sym c.word.ensures.0) (c.requires.1.each c.args.i (omega arith) (omega (arith, c.if-w-i.false))) in
     let b = o.below in
-    (omega arith, ready_lower _ expressions _ refl c.requires.1.0.ready o)
+    (omega arith, ready_lower _ expressions _ refl c.requires.0.ready o)
 
 pub each_part-returns-then-x-ne0 : goal.each_part-returns-then-x-ne0
 each_part-returns-then-x-ne0 t c =
     let a = c.args in
     let e = c.tests-x.ensures in
-    record { kept = e.kept; told = λ vs g scope sc. product_stop a.doc.now a.k (length a.w.now) a.i scope a.v a.at (omega (arith, c.if-w-i.false)) _ _ c.length_at-len.ensures.0 c.member_at.ensures _ (in_words c.requires.1.0 a.i _ c.word.ensures.0) vs g (λ y h. e.told y h scope sc) c.if-x-ne0.true }
+    record { kept = e.kept; told = λ vs g scope sc. product_stop a.doc.now a.k (length a.w.now) a.i scope a.v a.at (omega (arith, c.if-w-i.false)) _ _ c.length_at-len.ensures.0 c.member_at.ensures _ (in_words c.requires.0 a.i _ c.word.ensures.0) vs g (λ y h. e.told y h scope sc) c.if-x-ne0.true }
 
 pub each_part-each_part-requires : goal.each_part-each_part-requires
 each_part-each_part-requires t c =
     let l = c.if-w-i.false in
-    let f = c.requires.1.0.few in
+    let f = c.requires.0.few in
     let m = c.length_at-len.ensures.1 in
-    let a = c.requires.1.3 in
-    let t = c.requires.0 in
-    (omega arith, (handed_same _ c.tests-x.auto.work.1.1.0 c.requires.1.0, record { each = λ j p q. c.requires.1.1.each j (omega arith) q }, omega arith, omega arith))
+    let a = c.requires.3 in
+    let t = c.decreases in
+    (omega arith, (handed_same _ c.tests-x.auto.work.1.1.0 c.requires.0, record { each = λ j p q. c.requires.1.each j (omega arith) q }, omega arith, omega arith))
 
 pub each_part-returns-then-x : goal.each_part-returns-then-x
 each_part-returns-then-x t c =
     let a = c.args in
     let e = c.tests-x.ensures in
     let k = c.each_part.ensures in
-    record { kept = k.kept ∙ e.kept; told = λ vs g scope sc. product_go a.doc.now a.k (length a.w.now) a.i scope a.v a.at (omega (arith, c.if-w-i.false)) _ _ c.length_at-len.ensures.0 c.member_at.ensures _ (in_words c.requires.1.0 a.i _ c.word.ensures.0) vs g (λ y h. e.told y h scope sc) c.if-x-ne0.false c.if-x.true (λ us r. k.told us r scope (scoped_same _ _ _ _ e.kept sc)) }
+    record { kept = k.kept ∙ e.kept; told = λ vs g scope sc. product_go a.doc.now a.k (length a.w.now) a.i scope a.v a.at (omega (arith, c.if-w-i.false)) _ _ c.length_at-len.ensures.0 c.member_at.ensures _ (in_words c.requires.0 a.i _ c.word.ensures.0) vs g (λ y h. e.told y h scope sc) c.if-x-ne0.false c.if-x.true (λ us r. k.told us r scope (scoped_same _ _ _ _ e.kept sc)) }
 
 pub each_part-returns : goal.each_part-returns
 each_part-returns t c =
     let a = c.args in
     let e = c.tests-x.ensures in
-    record { kept = e.kept; told = λ vs g scope sc. product_false a.doc.now a.k (length a.w.now) a.i scope a.v a.at (omega (arith, c.if-w-i.false)) _ _ c.length_at-len.ensures.0 c.member_at.ensures _ (in_words c.requires.1.0 a.i _ c.word.ensures.0) vs g (λ y h. e.told y h scope sc) c.if-x-ne0.false c.if-x.false }
+    record { kept = e.kept; told = λ vs g scope sc. product_false a.doc.now a.k (length a.w.now) a.i scope a.v a.at (omega (arith, c.if-w-i.false)) _ _ c.length_at-len.ensures.0 c.member_at.ensures _ (in_words c.requires.0 a.i _ c.word.ensures.0) vs g (λ y h. e.told y h scope sc) c.if-x-ne0.false c.if-x.false }
 
 pub expr-refers-requires : goal.expr-refers-requires
-expr-refers-requires t c = (omega arith, (handed_of c.requires.1 c.part-w.ensures, sym (ap (λ (l : List ℕ). get_or l 0 0) c.part-w.ensures) ∙ sym c.word-q.ensures.0 ∙ c.in-30.is))
+expr-refers-requires t c = (omega arith, (handed_of c.requires c.part-w.ensures, sym (ap (λ (l : List ℕ). get_or l 0 0) c.part-w.ensures) ∙ sym c.word-q.ensures.0 ∙ c.in-30.is))
 
 pub expr-number_value-requires : goal.expr-number_value-requires
 expr-number_value-requires t c =
-    let h = handed_of c.requires.1 c.part-w.ensures in
-    subst (λ (z : ℕ). z ≤ 2147483647) (sym (in_words h 1 _ c.word.ensures.0)) (number_word _ expressions _ c.requires.1.at (sym (ap (λ (l : List ℕ). get_or l 0 0) c.part-w.ensures) ∙ sym c.word-q.ensures.0 ∙ c.in-31.is))
+    let h = handed_of c.requires c.part-w.ensures in
+    subst (λ (z : ℕ). z ≤ 2147483647) (sym (in_words h 1 _ c.word.ensures.0)) (number_word _ expressions _ c.requires.at (sym (ap (λ (l : List ℕ). get_or l 0 0) c.part-w.ensures) ∙ sym c.word-q.ensures.0 ∙ c.in-31.is))
 
 pub expr-display-requires : goal.expr-display-requires
-expr-display-requires t c = (omega arith, (handed_of c.requires.1 c.part-w.ensures, sym (ap (λ (l : List ℕ). get_or l 0 0) c.part-w.ensures) ∙ sym c.word-q.ensures.0 ∙ c.in-33.is))
+expr-display-requires t c = (omega arith, (handed_of c.requires c.part-w.ensures, sym (ap (λ (l : List ℕ). get_or l 0 0) c.part-w.ensures) ∙ sym c.word-q.ensures.0 ∙ c.in-33.is))
 
 pub expr-tuple-requires : goal.expr-tuple-requires
-expr-tuple-requires t c = (omega arith, (handed_of c.requires.1 c.part-w.ensures, sym (ap (λ (l : List ℕ). get_or l 0 0) c.part-w.ensures) ∙ sym c.word-q.ensures.0 ∙ c.in-34.is))
+expr-tuple-requires t c = (omega arith, (handed_of c.requires c.part-w.ensures, sym (ap (λ (l : List ℕ). get_or l 0 0) c.part-w.ensures) ∙ sym c.word-q.ensures.0 ∙ c.in-34.is))
 
 pub expr-tuples-requires : goal.expr-tuples-requires
-expr-tuples-requires t c = (omega arith, (handed_of c.requires.1 c.part-w.ensures, sym (ap (λ (l : List ℕ). get_or l 0 0) c.part-w.ensures) ∙ sym c.word-q.ensures.0 ∙ c.in-35.is))
+expr-tuples-requires t c = (omega arith, (handed_of c.requires c.part-w.ensures, sym (ap (λ (l : List ℕ). get_or l 0 0) c.part-w.ensures) ∙ sym c.word-q.ensures.0 ∙ c.in-35.is))
 
 pub expr-subsets-requires : goal.expr-subsets-requires
-expr-subsets-requires t c = (omega arith, (handed_of c.requires.1 c.part-w.ensures, sym (ap (λ (l : List ℕ). get_or l 0 0) c.part-w.ensures) ∙ sym c.word-q.ensures.0 ∙ c.in-36.is))
+expr-subsets-requires t c = (omega arith, (handed_of c.requires c.part-w.ensures, sym (ap (λ (l : List ℕ). get_or l 0 0) c.part-w.ensures) ∙ sym c.word-q.ensures.0 ∙ c.in-36.is))
 
 pub expr-apply-requires : goal.expr-apply-requires
-expr-apply-requires t c = (omega arith, (handed_of c.requires.1 c.part-w.ensures, sym (ap (λ (l : List ℕ). get_or l 0 0) c.part-w.ensures) ∙ sym c.word-q.ensures.0 ∙ c.in-37.is))
+expr-apply-requires t c = (omega arith, (handed_of c.requires c.part-w.ensures, sym (ap (λ (l : List ℕ). get_or l 0 0) c.part-w.ensures) ∙ sym c.word-q.ensures.0 ∙ c.in-37.is))
 
 pub expr-compr-requires : goal.expr-compr-requires
-expr-compr-requires t c = (omega arith, (handed_of c.requires.1 c.part-w.ensures, sym (ap (λ (l : List ℕ). get_or l 0 0) c.part-w.ensures) ∙ sym c.word-q.ensures.0 ∙ c.in-46.is))
+expr-compr-requires t c = (omega arith, (handed_of c.requires c.part-w.ensures, sym (ap (λ (l : List ℕ). get_or l 0 0) c.part-w.ensures) ∙ sym c.word-q.ensures.0 ∙ c.in-46.is))
 
 pub expr-arith-requires : goal.expr-arith-requires
 expr-arith-requires t c =
     let q : c.word-q.result ≡ kind_at c.args.doc.now c.args.k = c.word-q.ensures.0 ∙ ap (λ (l : List ℕ). get_or l 0 0) c.part-w.ensures in
-    (omega arith, (handed_of c.requires.1 c.part-w.ensures, omega arith, omega arith))
+    (omega arith, (handed_of c.requires c.part-w.ensures, omega arith, omega arith))
 
 pub expr-returns-in-30 : goal.expr-returns-in-30
 expr-returns-in-30 t c = c.refers.ensures
 
 pub expr-returns-in-31 : goal.expr-returns-in-31
 expr-returns-in-31 t c =
-    let h = handed_of c.requires.1 c.part-w.ensures in
-    record { kept = refl; told = λ scope sc. number_told _ _ c.requires.1.at (sym (ap (λ (l : List ℕ). get_or l 0 0) c.part-w.ensures) ∙ sym c.word-q.ensures.0 ∙ c.in-31.is) _ (in_words h 1 _ c.word.ensures.0) scope c.number_value.ensures.0 c.number_value.ensures.1 }
+    let h = handed_of c.requires c.part-w.ensures in
+    record { kept = refl; told = λ scope sc. number_told _ _ c.requires.at (sym (ap (λ (l : List ℕ). get_or l 0 0) c.part-w.ensures) ∙ sym c.word-q.ensures.0 ∙ c.in-31.is) _ (in_words h 1 _ c.word.ensures.0) scope c.number_value.ensures.0 c.number_value.ensures.1 }
 
 pub expr-returns-in-33 : goal.expr-returns-in-33
 expr-returns-in-33 t c = c.display.ensures
@@ -617,7 +617,7 @@ expr-returns-in_default t c =
     let q = c.word-q.ensures.0 ∙ ap (λ (l : List ℕ). get_or l 0 0) c.part-w.ensures in
     let r = c.in_default-1.rest in
     let u : Unrun (kind_at c.args.doc.now c.args.k) = record { a = λ e. r.0.0.0.0.0.0.0.1 (q ∙ e); b = λ e. r.0.0.0.0.0.0.1 (q ∙ e); c = λ e. r.0.0.0.0.0.1 (q ∙ e); d = λ e. r.0.0.0.0.1 (q ∙ e); e = λ e. r.0.0.0.1 (q ∙ e); f = λ e. r.0.0.1 (q ∙ e); g = λ e. r.0.1 (q ∙ e); h = λ e. r.1 (q ∙ e); i = λ x y. ⊎_elim (λ t. let v = t.true in omega (arith, q)) (λ p. let v = p.1.false in omega (arith, q)) c.in_default.branch-raw } in
-    record { kept = refl; told = λ scope sc. unrun_told _ _ c.requires.1.at u scope c.stop.ensures }
+    record { kept = refl; told = λ scope sc. unrun_told _ _ c.requires.at u scope c.stop.ensures }
 
 pub factors-returns-then-w-i : goal.factors-returns-then-w-i
 factors-returns-then-w-i t c =
@@ -626,38 +626,38 @@ factors-returns-then-w-i t c =
 
 pub factors-expr-x-requires : goal.factors-expr-x-requires
 factors-expr-x-requires t c =
-    let o : Lower c.args.doc.now c.args.k expressions c.word.result = subst (Lower c.args.doc.now c.args.k expressions) (sym c.word.ensures.0) (c.requires.1.1.each c.args.i (omega arith) (omega arith)) in
+    let o : Lower c.args.doc.now c.args.k expressions c.word.result = subst (Lower c.args.doc.now c.args.k expressions) (sym c.word.ensures.0) (c.requires.1.each c.args.i (omega arith) (omega arith)) in
     let b = o.below in
-    (omega arith, ready_lower _ expressions _ refl c.requires.1.0.ready o)
+    (omega arith, ready_lower _ expressions _ refl c.requires.0.ready o)
 
 pub factors-returns-then-x-ne0 : goal.factors-returns-then-x-ne0
 factors-returns-then-x-ne0 t c =
     let e = c.expr-x.ensures in
     let a = c.args in
-    record { kept = e.kept; told = λ rs u scope sc. exprs_stop a.doc.now a.k (length a.w.now) a.i scope _ (in_words c.requires.1.0 a.i _ c.word.ensures.0) (omega arith) (e.told scope sc) c.if-x-ne0.true }
+    record { kept = e.kept; told = λ rs u scope sc. exprs_stop a.doc.now a.k (length a.w.now) a.i scope _ (in_words c.requires.0 a.i _ c.word.ensures.0) (omega arith) (e.told scope sc) c.if-x-ne0.true }
 
 pub factors-overflow_add-i : goal.factors-overflow_add-i
-factors-overflow_add-i t c = record { fits = omega (arith, c.requires.1.2) }
+factors-overflow_add-i t c = record { fits = omega (arith, c.requires.2) }
 
 pub factors-factors-requires : goal.factors-factors-requires
 factors-factors-requires t c =
-    let f = c.requires.1.0.few in
+    let f = c.requires.0.few in
     let l = c.if-w-i.false in
-    let m = c.requires.0 in
-    (omega arith, (handed_same _ c.expr-x.auto.work.1.1.0 c.requires.1.0, record { each = λ j p q. c.requires.1.1.each j (omega arith) q }, omega arith))
+    let m = c.decreases in
+    (omega arith, (handed_same _ c.expr-x.auto.work.1.1.0 c.requires.0, record { each = λ j p q. c.requires.1.each j (omega arith) q }, omega arith))
 
 pub factors-returns : goal.factors-returns
 factors-returns t c =
     let e = c.expr-x.ensures in
     let g = c.factors.ensures in
     let a = c.args in
-    record { kept = g.kept ∙ e.kept; told = λ rs u scope sc. factors_go a.misfit rs a.doc.now a.k (length a.w.now) a.i scope _ (in_words c.requires.1.0 a.i _ c.word.ensures.0) (omega (arith, c.if-w-i.false)) (e.told scope sc) c.if-x-ne0.false (λ v h. c.crossed-t.ensures rs v u h) (λ qs y. g.told qs y scope (scoped_same _ _ _ _ e.kept sc)) }
+    record { kept = g.kept ∙ e.kept; told = λ rs u scope sc. factors_go a.misfit rs a.doc.now a.k (length a.w.now) a.i scope _ (in_words c.requires.0 a.i _ c.word.ensures.0) (omega (arith, c.if-w-i.false)) (e.told scope sc) c.if-x-ne0.false (λ v h. c.crossed-t.ensures rs v u h) (λ qs y. g.told qs y scope (scoped_same _ _ _ _ e.kept sc)) }
 
 pub lines-assign-requires : goal.lines-assign-requires
 lines-assign-requires t c =
-    let f = c.requires.1.5 in
-    let t = c.requires.0 in
-    (omega arith, scoping_shift c.requires.1.0 _ _ (omega arith) (omega arith))
+    let f = c.requires.5 in
+    let t = c.decreases in
+    (omega arith, scoping_shift c.requires.0 _ _ (omega arith) (omega arith))
 
 pub lines-returns-then-u-i : goal.lines-returns-then-u-i
 lines-returns-then-u-i t c =
@@ -667,43 +667,43 @@ lines-returns-then-u-i t c =
 pub lines-returns-then-word-eq-INCLUDE : goal.lines-returns-then-word-eq-INCLUDE
 lines-returns-then-word-eq-INCLUDE t c =
     let a = c.args in
-    let o = line_at_lem c.requires.1.0 a.t c.requires.1.1 a.u.now c.requires.1.2 a.i _ c.requires.1.3 (omega (arith, c.if-u-i.false)) c.word-v.ensures.0 in
+    let o = line_at_lem c.requires.0 a.t c.requires.1 a.u.now c.requires.2 a.i _ c.requires.3 (omega (arith, c.if-u-i.false)) c.word-v.ensures.0 in
     let q = sym (ap (λ (l : List ℕ). get_or l 0 0) c.part-x.ensures) ∙ sym c.word.ensures.0 ∙ c.if-word-eq-INCLUDE.true in
     record { kept = refl; told = include_told a.doc.now a.k a.t (length a.u.now) a.i a.state.now a.work.now a.n a.m a.s.now a.s.now (omega (arith, c.if-u-i.false)) _ o.1 o.0.at q _ c.refuse.ensures }
 
 pub lines-expr-y-requires : goal.lines-expr-y-requires
 lines-expr-y-requires t c =
     let a = c.args in
-    let o = line_at_lem c.requires.1.0 a.t c.requires.1.1 a.u.now c.requires.1.2 a.i _ c.requires.1.3 (omega (arith, c.if-u-i.false)) c.word-v.ensures.0 in
+    let o = line_at_lem c.requires.0 a.t c.requires.1 a.u.now c.requires.2 a.i _ c.requires.3 (omega (arith, c.if-u-i.false)) c.word-v.ensures.0 in
     let d = decl_operand a.doc.now a.k a.t (length a.u.now) a.i a.state.now a.work.now a.n a.m a.s.now a.s.now (omega (arith, c.if-u-i.false)) _ o.1 o.0.at (λ z. c.if-word-eq-INCLUDE.false (c.word.ensures.0 ∙ ap (λ (l : List ℕ). get_or l 0 0) c.part-x.ensures ∙ z)) _ (c.word-2.ensures.0 ∙ ap (λ (l : List ℕ). get_or l 1 0) c.part-x.ensures) in
-    let f = c.requires.1.5 in
-    let r = line_ready c.requires.1.0 a.m a.t _ _ (omega arith) c.requires.1.1 o.0 d in
+    let f = c.requires.5 in
+    let r = line_ready c.requires.0 a.m a.t _ _ (omega arith) c.requires.1 o.0 d in
     let b = r.0 in
     (omega arith, r.1)
 
 pub lines-returns-then-j-ne0 : goal.lines-returns-then-j-ne0
 lines-returns-then-j-ne0 t c =
     let a = c.args in
-    let o = line_at_lem c.requires.1.0 a.t c.requires.1.1 a.u.now c.requires.1.2 a.i _ c.requires.1.3 (omega (arith, c.if-u-i.false)) c.word-v.ensures.0 in
+    let o = line_at_lem c.requires.0 a.t c.requires.1 a.u.now c.requires.2 a.i _ c.requires.3 (omega (arith, c.if-u-i.false)) c.word-v.ensures.0 in
     let e = c.expr-y.ensures in
     record { kept = same_less (block_words * (a.n + a.m)) _ _ e.kept (block_words * a.n) (omega arith); told = decl_stop a.doc.now a.k a.t (length a.u.now) a.i a.state.now a.work.now a.n a.m a.s.now a.s.now (omega (arith, c.if-u-i.false)) _ o.1 o.0.at (λ z. c.if-word-eq-INCLUDE.false (c.word.ensures.0 ∙ ap (λ (l : List ℕ). get_or l 0 0) c.part-x.ensures ∙ z)) _ (c.word-2.ensures.0 ∙ ap (λ (l : List ℕ). get_or l 1 0) c.part-x.ensures) _ e.told c.if-j-ne0.true }
 
 pub lines-returns-then-tag_of-ne-SET : goal.lines-returns-then-tag_of-ne-SET
 lines-returns-then-tag_of-ne-SET t c =
     let a = c.args in
-    let o = line_at_lem c.requires.1.0 a.t c.requires.1.1 a.u.now c.requires.1.2 a.i _ c.requires.1.3 (omega (arith, c.if-u-i.false)) c.word-v.ensures.0 in
+    let o = line_at_lem c.requires.0 a.t c.requires.1 a.u.now c.requires.2 a.i _ c.requires.3 (omega (arith, c.if-u-i.false)) c.word-v.ensures.0 in
     let e = c.expr-y.ensures in
     record { kept = same_less (block_words * (a.n + a.m)) _ _ e.kept (block_words * a.n) (omega arith); told = decl_other a.doc.now a.k a.t (length a.u.now) a.i a.state.now a.work.now a.n a.m a.s.now a.s.now (omega (arith, c.if-u-i.false)) _ o.1 o.0.at (λ z. c.if-word-eq-INCLUDE.false (c.word.ensures.0 ∙ ap (λ (l : List ℕ). get_or l 0 0) c.part-x.ensures ∙ z)) _ (c.word-2.ensures.0 ∙ ap (λ (l : List ℕ). get_or l 1 0) c.part-x.ensures) _ _ e.told c.if-j-ne0.false (λ z. c.if-tag_of-ne-SET.true (c.tag_of.ensures ∙ z)) c.refuse-then-tag_of-ne-SET.ensures }
 
 pub lines-put_domains-requires : goal.lines-put_domains-requires
 lines-put_domains-requires t c =
     let a = c.args in
-    let o = line_at_lem c.requires.1.0 a.t c.requires.1.1 a.u.now c.requires.1.2 a.i _ c.requires.1.3 (omega (arith, c.if-u-i.false)) c.word-v.ensures.0 in
+    let o = line_at_lem c.requires.0 a.t c.requires.1 a.u.now c.requires.2 a.i _ c.requires.3 (omega (arith, c.if-u-i.false)) c.word-v.ensures.0 in
     let k = decl_count a.doc.now a.k a.t (length a.u.now) a.i a.state.now a.work.now a.n a.m a.s.now a.s.now (omega (arith, c.if-u-i.false)) _ o.1 o.0.at (λ z. c.if-word-eq-INCLUDE.false (c.word.ensures.0 ∙ ap (λ (l : List ℕ). get_or l 0 0) c.part-x.ensures ∙ z)) in
     let p = ap length c.part-x.ensures in
-    let f = c.requires.1.5 in
-    let r = c.requires.1.0.room in
-    let w = c.requires.1.0.wide in
+    let f = c.requires.5 in
+    let r = c.requires.0.room in
+    let w = c.requires.0.wide in
     let v = few_words a.doc.now lines _ o.0.at in
     let z = c.expr-y.auto.work.1.1.0 in
     (omega arith, omega arith, omega arith)
@@ -711,20 +711,20 @@ lines-put_domains-requires t c =
 pub lines-lines-requires : goal.lines-lines-requires
 lines-lines-requires t c =
     let a = c.args in
-    let o = line_at_lem c.requires.1.0 a.t c.requires.1.1 a.u.now c.requires.1.2 a.i _ c.requires.1.3 (omega (arith, c.if-u-i.false)) c.word-v.ensures.0 in
+    let o = line_at_lem c.requires.0 a.t c.requires.1 a.u.now c.requires.2 a.i _ c.requires.3 (omega (arith, c.if-u-i.false)) c.word-v.ensures.0 in
     let k = decl_count a.doc.now a.k a.t (length a.u.now) a.i a.state.now a.work.now a.n a.m a.s.now a.s.now (omega (arith, c.if-u-i.false)) _ o.1 o.0.at (λ z. c.if-word-eq-INCLUDE.false (c.word.ensures.0 ∙ ap (λ (l : List ℕ). get_or l 0 0) c.part-x.ensures ∙ z)) in
     let p = ap length c.part-x.ensures in
-    let f = c.requires.1.5 in
-    let u = c.requires.1.4 in
-    let g = c.requires.1.3 in
-    let m = c.requires.0 in
+    let f = c.requires.5 in
+    let u = c.requires.4 in
+    let g = c.requires.3 in
+    let m = c.decreases in
     let y = c.if-u-i.false in
-    (omega arith, (scoping_same c.requires.1.0 _ (c.put_domains.auto.work ∙ c.expr-y.auto.work.1.1.0), c.requires.1.1, c.requires.1.2, omega arith, u, omega arith))
+    (omega arith, (scoping_same c.requires.0 _ (c.put_domains.auto.work ∙ c.expr-y.auto.work.1.1.0), c.requires.1, c.requires.2, omega arith, u, omega arith))
 
 pub lines-returns : goal.lines-returns
 lines-returns t c =
     let a = c.args in
-    let o = line_at_lem c.requires.1.0 a.t c.requires.1.1 a.u.now c.requires.1.2 a.i _ c.requires.1.3 (omega (arith, c.if-u-i.false)) c.word-v.ensures.0 in
+    let o = line_at_lem c.requires.0 a.t c.requires.1 a.u.now c.requires.2 a.i _ c.requires.3 (omega (arith, c.if-u-i.false)) c.word-v.ensures.0 in
     let e = c.expr-y.ensures in
     let d = rw c.part-x.ensures at c.put_domains.ensures in
     let g = rw c.part-x.ensures at c.lines.ensures in
@@ -733,51 +733,51 @@ lines-returns t c =
 
 pub member-expr-x-requires : goal.member-expr-x-requires
 member-expr-x-requires t c =
-    let h = c.requires.1.0 in
-    let o = relation_operands h 22 c.requires.1.1 (omega arith) (omega arith) _ (get_or c.args.w.now 2 0) c.word.ensures.0 refl in
+    let h = c.requires.0 in
+    let o = relation_operands h 22 c.requires.1 (omega arith) (omega arith) _ (get_or c.args.w.now 2 0) c.word.ensures.0 refl in
     let x = o.0.below in
     (omega arith, ready_lower _ expressions _ refl h.ready o.0)
 
 pub member-returns-then-j-ne0 : goal.member-returns-then-j-ne0
 member-returns-then-j-ne0 t c =
     let e = c.expr-x.ensures in
-    record { kept = e.kept; told = λ scope sc. member_stop c.requires.1.0 _ (get_or c.args.w.now 2 0) c.word.ensures.0 refl scope c.requires.1.1 (e.told scope sc) c.if-j-ne0.true }
+    record { kept = e.kept; told = λ scope sc. member_stop c.requires.0 _ (get_or c.args.w.now 2 0) c.word.ensures.0 refl scope c.requires.1 (e.told scope sc) c.if-j-ne0.true }
 
 pub member-tests-requires : goal.member-tests-requires
 member-tests-requires t c =
-    let h = c.requires.1.0 in
-    let o = relation_operands h 22 c.requires.1.1 (omega arith) (omega arith) _ _ c.word.ensures.0 c.word-2.ensures.0 in
+    let h = c.requires.0 in
+    let o = relation_operands h 22 c.requires.1 (omega arith) (omega arith) _ _ c.word.ensures.0 c.word-2.ensures.0 in
     let x = o.1.below in
-    let m = c.requires.0 in
+    let m = c.decreases in
     (omega arith, ready_lower _ expressions _ c.expr-x.auto.work.1.1.0 h.ready o.1)
 
 pub member-returns : goal.member-returns
 member-returns t c =
     let e = c.expr-x.ensures in
     let g = c.tests.ensures in
-    record { kept = g.kept ∙ e.kept; told = λ scope sc. member_go c.requires.1.0 _ _ c.word.ensures.0 c.word-2.ensures.0 scope c.requires.1.1 (e.told scope sc) c.if-j-ne0.false (λ v h. g.told v h scope (scoped_same _ _ _ _ e.kept sc)) }
+    record { kept = g.kept ∙ e.kept; told = λ scope sc. member_go c.requires.0 _ _ c.word.ensures.0 c.word-2.ensures.0 scope c.requires.1 (e.told scope sc) c.if-j-ne0.false (λ v h. g.told v h scope (scoped_same _ _ _ _ e.kept sc)) }
 
 pub negate-pred-x-requires : goal.negate-pred-x-requires
 negate-pred-x-requires t c =
-    let h = c.requires.1.0 in
-    let o = not_operand h c.requires.1.1 _ c.word.ensures.0 in
+    let h = c.requires.0 in
+    let o = not_operand h c.requires.1 _ c.word.ensures.0 in
     let x = o.below in
     (omega arith, ready_lower _ predicates _ refl h.ready o)
 
 pub negate-returns-then-x-ne0 : goal.negate-returns-then-x-ne0
 negate-returns-then-x-ne0 t c =
     let e = c.pred-x.ensures in
-    record { kept = e.kept; told = λ scope sc. not_stop c.requires.1.0 c.requires.1.1 _ c.word.ensures.0 scope (e.told scope sc) c.if-x-ne0.true }
+    record { kept = e.kept; told = λ scope sc. not_stop c.requires.0 c.requires.1 _ c.word.ensures.0 scope (e.told scope sc) c.if-x-ne0.true }
 
 pub negate-returns-then-x : goal.negate-returns-then-x
 negate-returns-then-x t c =
     let e = c.pred-x.ensures in
-    record { kept = e.kept; told = λ scope sc. not_go c.requires.1.0 c.requires.1.1 _ c.word.ensures.0 scope true (e.told scope sc) c.if-x-ne0.false c.if-x.true c.judge.ensures.0 c.judge.ensures.1 }
+    record { kept = e.kept; told = λ scope sc. not_go c.requires.0 c.requires.1 _ c.word.ensures.0 scope true (e.told scope sc) c.if-x-ne0.false c.if-x.true c.judge.ensures.0 c.judge.ensures.1 }
 
 pub negate-returns : goal.negate-returns
 negate-returns t c =
     let e = c.pred-x.ensures in
-    record { kept = e.kept; told = λ scope sc. not_go c.requires.1.0 c.requires.1.1 _ c.word.ensures.0 scope false (e.told scope sc) c.if-x-ne0.false c.if-x.false c.judge-2.ensures.0 c.judge-2.ensures.1 }
+    record { kept = e.kept; told = λ scope sc. not_go c.requires.0 c.requires.1 _ c.word.ensures.0 scope false (e.told scope sc) c.if-x-ne0.false c.if-x.false c.judge-2.ensures.0 c.judge-2.ensures.1 }
 
 pub parts-returns-then-w-i : goal.parts-returns-then-w-i
 parts-returns-then-w-i t c =
@@ -786,73 +786,73 @@ parts-returns-then-w-i t c =
 
 pub parts-expr-x-requires : goal.parts-expr-x-requires
 parts-expr-x-requires t c =
-    let o : Lower c.args.doc.now c.args.k expressions c.word.result = subst (Lower c.args.doc.now c.args.k expressions) (sym c.word.ensures.0) (c.requires.1.1.each c.args.i (omega arith) (omega arith)) in
+    let o : Lower c.args.doc.now c.args.k expressions c.word.result = subst (Lower c.args.doc.now c.args.k expressions) (sym c.word.ensures.0) (c.requires.1.each c.args.i (omega arith) (omega arith)) in
     let b = o.below in
-    (omega arith, ready_lower _ expressions _ refl c.requires.1.0.ready o)
+    (omega arith, ready_lower _ expressions _ refl c.requires.0.ready o)
 
 pub parts-returns-then-x-ne0 : goal.parts-returns-then-x-ne0
 parts-returns-then-x-ne0 t c =
     let e = c.expr-x.ensures in
     let a = c.args in
-    record { kept = e.kept; told = λ ws x scope sc. exprs_stop a.doc.now a.k (length a.w.now) a.i scope _ (in_words c.requires.1.0 a.i _ c.word.ensures.0) (omega arith) (e.told scope sc) c.if-x-ne0.true }
+    record { kept = e.kept; told = λ ws x scope sc. exprs_stop a.doc.now a.k (length a.w.now) a.i scope _ (in_words c.requires.0 a.i _ c.word.ensures.0) (omega arith) (e.told scope sc) c.if-x-ne0.true }
 
 pub parts-parts-requires : goal.parts-parts-requires
-parts-parts-requires t c = (omega arith, (handed_same _ c.expr-x.auto.work.1.1.0 c.requires.1.0, record { each = λ j p q. c.requires.1.1.each j (omega arith) q }, omega arith))
+parts-parts-requires t c = (omega arith, (handed_same _ c.expr-x.auto.work.1.1.0 c.requires.0, record { each = λ j p q. c.requires.1.each j (omega arith) q }, omega arith))
 
 pub parts-returns : goal.parts-returns
 parts-returns t c =
     let e = c.expr-x.ensures in
     let g = c.parts.ensures in
     let a = c.args in
-    record { kept = g.kept ∙ e.kept; told = λ ws x scope sc. parts_go a.doc.now a.k (length a.w.now) a.i scope ws _ (in_words c.requires.1.0 a.i _ c.word.ensures.0) (omega (arith, c.if-w-i.false)) (e.told scope sc) c.if-x-ne0.false (λ v h. g.told (ws ++ encode v) (c.joined.ensures ws v x h) scope (scoped_same _ _ _ _ e.kept sc)) }
+    record { kept = g.kept ∙ e.kept; told = λ ws x scope sc. parts_go a.doc.now a.k (length a.w.now) a.i scope ws _ (in_words c.requires.0 a.i _ c.word.ensures.0) (omega (arith, c.if-w-i.false)) (e.told scope sc) c.if-x-ne0.false (λ v h. g.told (ws ++ encode v) (c.joined.ensures ws v x h) scope (scoped_same _ _ _ _ e.kept sc)) }
 
 pub power-returns-then-tag_of-ne-SET : goal.power-returns-then-tag_of-ne-SET
-power-returns-then-tag_of-ne-SET t c = record { kept = refl; told = λ x h scope sc. power_other c.requires.1.0 _ x h scope c.requires.1.1 (λ e. c.if-tag_of-ne-SET.true (c.tag_of.ensures ∙ e)) c.refuse.ensures }
+power-returns-then-tag_of-ne-SET t c = record { kept = refl; told = λ x h scope sc. power_other c.requires.0 _ x h scope c.requires.1 (λ e. c.if-tag_of-ne-SET.true (c.tag_of.ensures ∙ e)) c.refuse.ensures }
 
 pub power-all-requires : goal.power-all-requires
 power-all-requires t c =
-    let o = power_operand c.requires.1.0 c.requires.1.1 _ c.word.ensures.0 in
+    let o = power_operand c.requires.0 c.requires.1 _ c.word.ensures.0 in
     let b = o.below in
     let m = c.count_of.ensures.1 in
-    (omega arith, (ready_lower _ expressions _ refl c.requires.1.0.ready o, omega arith, m))
+    (omega arith, (ready_lower _ expressions _ refl c.requires.0.ready o, omega arith, m))
 
 pub power-returns : goal.power-returns
 power-returns t c =
     let e = c.all.ensures in
-    record { kept = e.kept; told = λ x h scope sc. power_told c.requires.1.0 _ x h scope c.requires.1.1 (sym c.tag_of.ensures ∙ c.if-tag_of-ne-SET.false) _ c.word.ensures.0 (λ vs g. e.told vs (subst (λ (j : ℕ). Rest c.args.v 2 j vs) (sym c.count_of.ensures.0) g) scope sc) }
+    record { kept = e.kept; told = λ x h scope sc. power_told c.requires.0 _ x h scope c.requires.1 (sym c.tag_of.ensures ∙ c.if-tag_of-ne-SET.false) _ c.word.ensures.0 (λ vs g. e.told vs (subst (λ (j : ℕ). Rest c.args.v 2 j vs) (sym c.count_of.ensures.0) g) scope sc) }
 
 pub pred-same-requires : goal.pred-same-requires
-pred-same-requires t c = (omega arith, (handed_of c.requires.1 c.part-w.ensures, sym (ap (λ (l : List ℕ). get_or l 0 0) c.part-w.ensures) ∙ sym c.word-q.ensures.0 ∙ c.in-21.is))
+pred-same-requires t c = (omega arith, (handed_of c.requires c.part-w.ensures, sym (ap (λ (l : List ℕ). get_or l 0 0) c.part-w.ensures) ∙ sym c.word-q.ensures.0 ∙ c.in-21.is))
 
 pub pred-member-requires : goal.pred-member-requires
-pred-member-requires t c = (omega arith, (handed_of c.requires.1 c.part-w.ensures, sym (ap (λ (l : List ℕ). get_or l 0 0) c.part-w.ensures) ∙ sym c.word-q.ensures.0 ∙ c.in-22.is))
+pred-member-requires t c = (omega arith, (handed_of c.requires c.part-w.ensures, sym (ap (λ (l : List ℕ). get_or l 0 0) c.part-w.ensures) ∙ sym c.word-q.ensures.0 ∙ c.in-22.is))
 
 pub pred-below-requires : goal.pred-below-requires
-pred-below-requires t c = (omega arith, (handed_of c.requires.1 c.part-w.ensures, sym (ap (λ (l : List ℕ). get_or l 0 0) c.part-w.ensures) ∙ sym c.word-q.ensures.0 ∙ c.in-23.is))
+pred-below-requires t c = (omega arith, (handed_of c.requires c.part-w.ensures, sym (ap (λ (l : List ℕ). get_or l 0 0) c.part-w.ensures) ∙ sym c.word-q.ensures.0 ∙ c.in-23.is))
 
 pub pred-negate-requires : goal.pred-negate-requires
-pred-negate-requires t c = (omega arith, (handed_of c.requires.1 c.part-w.ensures, sym (ap (λ (l : List ℕ). get_or l 0 0) c.part-w.ensures) ∙ sym c.word-q.ensures.0 ∙ c.in-24.is))
+pred-negate-requires t c = (omega arith, (handed_of c.requires c.part-w.ensures, sym (ap (λ (l : List ℕ). get_or l 0 0) c.part-w.ensures) ∙ sym c.word-q.ensures.0 ∙ c.in-24.is))
 
 pub pred-connect-requires : goal.pred-connect-requires
 pred-connect-requires t c =
     let q : c.word-q.result ≡ kind_at c.args.doc.now c.args.k = c.word-q.ensures.0 ∙ ap (λ (l : List ℕ). get_or l 0 0) c.part-w.ensures in
     let r = c.in-25-to-27.in_default-own.rest in
     let z = from_25 _ c.in-25-to-27.if-q-lt21-own.false r.0.0.0.1 r.0.0.1 r.0.1 r.1 in
-    (omega arith, (handed_of c.requires.1 c.part-w.ensures, omega arith, omega arith))
+    (omega arith, (handed_of c.requires c.part-w.ensures, omega arith, omega arith))
 
 pub pred-quant-requires : goal.pred-quant-requires
 pred-quant-requires t c =
     let q : c.word-q.result ≡ kind_at c.args.doc.now c.args.k = c.word-q.ensures.0 ∙ ap (λ (l : List ℕ). get_or l 0 0) c.part-w.ensures in
-    (omega arith, (handed_of c.requires.1 c.part-w.ensures, omega arith, omega arith))
+    (omega arith, (handed_of c.requires c.part-w.ensures, omega arith, omega arith))
 
 pub pred-returns-in_default : goal.pred-returns-in_default
 pred-returns-in_default t c =
     let q : c.word-q.result ≡ kind_at c.args.doc.now c.args.k = c.word-q.ensures.0 ∙ ap (λ (l : List ℕ). get_or l 0 0) c.part-w.ensures in
-    let g = pred_range _ _ c.requires.1.at in
+    let g = pred_range _ _ c.requires.at in
     let x = g.0 in
     let y = g.1 in
     let k : kind_at c.args.doc.now c.args.k ≡ 20 = ⊎_elim (λ t. let v = t.true in omega arith) (λ p. let v = p.2.false in omega arith) c.in_default.branch-raw in
-    record { kept = refl; told = λ scope sc. truth_told _ _ c.requires.1.at k scope c.judge.ensures.0 c.judge.ensures.1 }
+    record { kept = refl; told = λ scope sc. truth_told _ _ c.requires.at k scope c.judge.ensures.0 c.judge.ensures.1 }
 
 pub pred-returns-in-21 : goal.pred-returns-in-21
 pred-returns-in-21 t c = c.same.ensures
@@ -873,125 +873,125 @@ pub pred-returns-in-28-to-29 : goal.pred-returns-in-28-to-29
 pred-returns-in-28-to-29 t c = c.quant.ensures
 
 pub product-returns-then-tag_of-ne-TUPLE : goal.product-returns-then-tag_of-ne-TUPLE
-product-returns-then-tag_of-ne-TUPLE t c = record { kept = refl; told = λ x h scope sc. product_other c.requires.1.0 _ x h scope c.requires.1.1 (λ e. c.if-tag_of-ne-TUPLE.true (c.tag_of.ensures ∙ e)) c.refuse.ensures }
+product-returns-then-tag_of-ne-TUPLE t c = record { kept = refl; told = λ x h scope sc. product_other c.requires.0 _ x h scope c.requires.1 (λ e. c.if-tag_of-ne-TUPLE.true (c.tag_of.ensures ∙ e)) c.refuse.ensures }
 
 pub product-returns-then-count_of-w : goal.product-returns-then-count_of-w
 product-returns-then-count_of-w t c =
     let n = c.count_of.ensures.0 in
-    record { kept = refl; told = λ x h scope sc. product_uneven c.requires.1.0 _ x h scope c.requires.1.1 (sym c.tag_of.ensures ∙ c.if-tag_of-ne-TUPLE.false) (λ e. c.if-count_of-w.true (omega (arith, e, n))) (node_words c.requires.1.0) c.refuse-then-count_of-w.ensures }
+    record { kept = refl; told = λ x h scope sc. product_uneven c.requires.0 _ x h scope c.requires.1 (sym c.tag_of.ensures ∙ c.if-tag_of-ne-TUPLE.false) (λ e. c.if-count_of-w.true (omega (arith, e, n))) (node_words c.requires.0) c.refuse-then-count_of-w.ensures }
 
 pub product-each_part-requires : goal.product-each_part-requires
-product-each_part-requires t c = (omega arith, (c.requires.1.0, member_operands c.requires.1.0 35 c.requires.1.1 (omega arith) (omega arith), omega arith, omega arith))
+product-each_part-requires t c = (omega arith, (c.requires.0, member_operands c.requires.0 35 c.requires.1 (omega arith) (omega arith), omega arith, omega arith))
 
 pub product-returns : goal.product-returns
 product-returns t c =
     let e = c.each_part.ensures in
     let n = c.count_of.ensures.0 in
-    record { kept = e.kept; told = λ x h scope sc. product_told c.requires.1.0 _ x h scope c.requires.1.1 (sym c.tag_of.ensures ∙ c.if-tag_of-ne-TUPLE.false) (omega (arith, n, c.if-count_of-w.false)) (λ vs g. e.told vs g scope sc) }
+    record { kept = e.kept; told = λ x h scope sc. product_told c.requires.0 _ x h scope c.requires.1 (sym c.tag_of.ensures ∙ c.if-tag_of-ne-TUPLE.false) (omega (arith, n, c.if-count_of-w.false)) (λ vs g. e.told vs g scope sc) }
 
 pub quant-lines-x-requires : goal.quant-lines-x-requires
 quant-lines-x-requires t c =
-    let h = c.requires.1.0 in
+    let h = c.requires.0 in
     let x = c.word-t.ensures.0 in
-    (omega arith, lines_start (quant_scoping empty _ x h c.requires.1.1 c.requires.1.2) _ _ (in_words h 1 _ x) c.part.ensures)
+    (omega arith, lines_start (quant_scoping empty _ x h c.requires.1 c.requires.2) _ _ (in_words h 1 _ x) c.part.ensures)
 
 pub quant-returns-then-x-ne0 : goal.quant-returns-then-x-ne0
 quant-returns-then-x-ne0 t c =
     let e = c.lines-x.ensures in
-    let h = c.requires.1.0 in
+    let h = c.requires.0 in
     let z : c.args.n ≡ c.args.n + 0 = omega arith in
-    record { kept = e.kept; told = λ scope sc. quant_stop scope _ c.word-t.ensures.0 h c.requires.1.1 c.requires.1.2 (rw c.part.ensures at (e.told scope sc (subst (λ (j : ℕ). Scoped c.args.state.now c.args.work.now j scope) z sc) no_more Blocks.none (record { gathers = λ q. absurd (omega (arith, c.requires.1.2)) }))) c.if-x-ne0.true }
+    record { kept = e.kept; told = λ scope sc. quant_stop scope _ c.word-t.ensures.0 h c.requires.1 c.requires.2 (rw c.part.ensures at (e.told scope sc (subst (λ (j : ℕ). Scoped c.args.state.now c.args.work.now j scope) z sc) no_more Blocks.none (record { gathers = λ q. absurd (omega (arith, c.requires.2)) }))) c.if-x-ne0.true }
 
 pub quant-returns : goal.quant-returns
 quant-returns t c =
     let e = c.lines-x.ensures in
-    let h = c.requires.1.0 in
+    let h = c.requires.0 in
     let z : c.args.n ≡ c.args.n + 0 = omega arith in
-    record { kept = e.kept; told = λ scope sc. quant_go scope _ c.word-t.ensures.0 h c.requires.1.1 c.requires.1.2 (rw c.part.ensures at (e.told scope sc (subst (λ (j : ℕ). Scoped c.args.state.now c.args.work.now j scope) z sc) no_more Blocks.none (record { gathers = λ q. absurd (omega (arith, c.requires.1.2)) }))) c.if-x-ne0.false c.judge.ensures.0 (c.judge.ensures.1 ∙ c.verdict.ensures ∙ ap (λ (j : ℕ). verdict_of (quantifier_of j) c.lines-x.result.flag) (in_words h 0 _ c.word.ensures.0)) }
+    record { kept = e.kept; told = λ scope sc. quant_go scope _ c.word-t.ensures.0 h c.requires.1 c.requires.2 (rw c.part.ensures at (e.told scope sc (subst (λ (j : ℕ). Scoped c.args.state.now c.args.work.now j scope) z sc) no_more Blocks.none (record { gathers = λ q. absurd (omega (arith, c.requires.2)) }))) c.if-x-ne0.false c.judge.ensures.0 (c.judge.ensures.1 ∙ c.verdict.ensures ∙ ap (λ (j : ℕ). verdict_of (quantifier_of j) c.lines-x.result.flag) (in_words h 0 _ c.word.ensures.0)) }
 
 pub reckon-refer_integer-requires : goal.reckon-refer_integer-requires
-reckon-refer_integer-requires t c = (omega (arith, c.requires.1.room), c.requires.1.at.small)
+reckon-refer_integer-requires t c = (omega (arith, c.requires.room), c.requires.at.small)
 
 pub reckon-returns-then-w-le2 : goal.reckon-returns-then-w-le2
 reckon-returns-then-w-le2 t c =
-    let h = handed_of c.requires.1 c.part-w.ensures in
+    let h = handed_of c.requires c.part-w.ensures in
     let q = sym (ap (λ (l : List ℕ). get_or l 0 0) c.part-w.ensures) ∙ sym c.word-q.ensures.0 ∙ c.in-30.is in
     let l = c.if-w-le2.true in
     record { kept = refl; told = λ scope sc. reference_plain h q scope l (rw (← c.word.ensures.0) (c.refer_integer.ensures scope sc _ (no_actuals h q scope l))) }
 
 pub reckon-refers-requires : goal.reckon-refers-requires
-reckon-refers-requires t c = (omega arith, (handed_of c.requires.1 c.part-w.ensures, sym (ap (λ (l : List ℕ). get_or l 0 0) c.part-w.ensures) ∙ sym c.word-q.ensures.0 ∙ c.in-30.is))
+reckon-refers-requires t c = (omega arith, (handed_of c.requires c.part-w.ensures, sym (ap (λ (l : List ℕ). get_or l 0 0) c.part-w.ensures) ∙ sym c.word-q.ensures.0 ∙ c.in-30.is))
 
 pub reckon-returns-else-w-le2 : goal.reckon-returns-else-w-le2
 reckon-returns-else-w-le2 t c = let g = c.refers.ensures in record { kept = g.kept; told = λ scope sc. c.integer_of.ensures _ (g.told scope sc) }
 
 pub reckon-number_operand-requires : goal.reckon-number_operand-requires
 reckon-number_operand-requires t c =
-    let h = handed_of c.requires.1 c.part-w.ensures in
-    subst (λ (z : ℕ). z ≤ 2147483647) (sym (in_words h 1 _ c.word-in-31.ensures.0)) (number_word _ expressions _ c.requires.1.at (sym (ap (λ (l : List ℕ). get_or l 0 0) c.part-w.ensures) ∙ sym c.word-q.ensures.0 ∙ c.in-31.is))
+    let h = handed_of c.requires c.part-w.ensures in
+    subst (λ (z : ℕ). z ≤ 2147483647) (sym (in_words h 1 _ c.word-in-31.ensures.0)) (number_word _ expressions _ c.requires.at (sym (ap (λ (l : List ℕ). get_or l 0 0) c.part-w.ensures) ∙ sym c.word-q.ensures.0 ∙ c.in-31.is))
 
 pub reckon-returns-in-31 : goal.reckon-returns-in-31
 reckon-returns-in-31 t c =
-    let h = handed_of c.requires.1 c.part-w.ensures in
-    record { kept = refl; told = λ scope sc. counted_integral (number_told _ _ c.requires.1.at (sym (ap (λ (l : List ℕ). get_or l 0 0) c.part-w.ensures) ∙ sym c.word-q.ensures.0 ∙ c.in-31.is) _ (in_words h 1 _ c.word-in-31.ensures.0) scope c.number_operand.ensures.0 c.number_operand.ensures.1) }
+    let h = handed_of c.requires c.part-w.ensures in
+    record { kept = refl; told = λ scope sc. counted_integral (number_told _ _ c.requires.at (sym (ap (λ (l : List ℕ). get_or l 0 0) c.part-w.ensures) ∙ sym c.word-q.ensures.0 ∙ c.in-31.is) _ (in_words h 1 _ c.word-in-31.ensures.0) scope c.number_operand.ensures.0 c.number_operand.ensures.1) }
 
 pub reckon-arith-requires : goal.reckon-arith-requires
 reckon-arith-requires t c =
     let q : c.word-q.result ≡ kind_at c.args.doc.now c.args.k = c.word-q.ensures.0 ∙ ap (λ (l : List ℕ). get_or l 0 0) c.part-w.ensures in
-    (omega arith, (handed_of c.requires.1 c.part-w.ensures, omega arith, omega arith))
+    (omega arith, (handed_of c.requires c.part-w.ensures, omega arith, omega arith))
 
 pub reckon-returns-in-41-to-45 : goal.reckon-returns-in-41-to-45
 reckon-returns-in-41-to-45 t c = let g = c.arith.ensures in record { kept = g.kept; told = λ scope sc. counted_integral (g.told scope sc) }
 
 pub reckon-expr-requires : goal.reckon-expr-requires
-reckon-expr-requires t c = (omega arith, c.requires.1)
+reckon-expr-requires t c = (omega arith, c.requires)
 
 pub reckon-returns-in_default : goal.reckon-returns-in_default
 reckon-returns-in_default t c = let g = c.expr.ensures in record { kept = g.kept; told = λ scope sc. c.integer_of-in_default.ensures _ (g.told scope sc) }
 
 pub refers-refer-requires : goal.refers-refer-requires
-refers-refer-requires t c = let r = c.requires.1.0.ready.room in let m = c.requires.1.0.ready.at.small in (omega arith, m)
+refers-refer-requires t c = let r = c.requires.0.ready.room in let m = c.requires.0.ready.at.small in (omega arith, m)
 
 pub refers-returns-then-w-le2 : goal.refers-returns-then-w-le2
 refers-returns-then-w-le2 t c =
-    let h = c.requires.1.0 in
+    let h = c.requires.0 in
     let l = c.if-w-le2.true in
-    record { kept = refl; told = λ scope sc. reference_plain h c.requires.1.1 scope l (rw (← c.word.ensures.0) (c.refer.ensures scope sc _ (no_actuals h c.requires.1.1 scope l))) }
+    record { kept = refl; told = λ scope sc. reference_plain h c.requires.1 scope l (rw (← c.word.ensures.0) (c.refer.ensures scope sc _ (no_actuals h c.requires.1 scope l))) }
 
 pub refers-parts-x-requires : goal.refers-parts-x-requires
-refers-parts-x-requires t c = (omega arith, (c.requires.1.0, reference_operands c.requires.1.0 c.requires.1.1, omega arith))
+refers-parts-x-requires t c = (omega arith, (c.requires.0, reference_operands c.requires.0 c.requires.1, omega arith))
 
 pub refers-returns-then-x-ne0 : goal.refers-returns-then-x-ne0
 refers-returns-then-x-ne0 t c =
     let e = c.parts-x.ensures in
-    record { kept = e.kept; told = λ scope sc. reference_stop c.requires.1.0 c.requires.1.1 scope (e.told [] c.empty.ensures scope sc) c.if-x-ne0.true }
+    record { kept = e.kept; told = λ scope sc. reference_stop c.requires.0 c.requires.1 scope (e.told [] c.empty.ensures scope sc) c.if-x-ne0.true }
 
 pub refers-refer-requires-2 : goal.refers-refer-requires-2
-refers-refer-requires-2 t c = let r = c.requires.1.0.ready.room in let m = c.requires.1.0.ready.at.small in (omega arith, m)
+refers-refer-requires-2 t c = let r = c.requires.0.ready.room in let m = c.requires.0.ready.at.small in (omega arith, m)
 
 pub refers-returns : goal.refers-returns
 refers-returns t c =
     let e = c.parts-x.ensures in
-    let h = c.requires.1.0 in
-    record { kept = e.kept; told = λ scope sc. reference_go h c.requires.1.1 scope (e.told [] c.empty.ensures scope sc) c.if-x-ne0.false (rw (← c.word-2.ensures.0) (c.refer-2.ensures scope (scoped_same _ _ _ _ e.kept sc) _ (has_actuals_lem h c.requires.1.1 c.if-w-le2.false))) }
+    let h = c.requires.0 in
+    record { kept = e.kept; told = λ scope sc. reference_go h c.requires.1 scope (e.told [] c.empty.ensures scope sc) c.if-x-ne0.false (rw (← c.word-2.ensures.0) (c.refer-2.ensures scope (scoped_same _ _ _ _ e.kept sc) _ (has_actuals_lem h c.requires.1 c.if-w-le2.false))) }
 
 pub same-expr-x-requires : goal.same-expr-x-requires
 same-expr-x-requires t c =
-    let h = c.requires.1.0 in
-    let o = relation_operands h 21 c.requires.1.1 (omega arith) (omega arith) _ (get_or c.args.w.now 2 0) c.word.ensures.0 refl in
+    let h = c.requires.0 in
+    let o = relation_operands h 21 c.requires.1 (omega arith) (omega arith) _ (get_or c.args.w.now 2 0) c.word.ensures.0 refl in
     let x = o.0.below in
     (omega arith, ready_lower _ expressions _ refl h.ready o.0)
 
 pub same-returns-then-i-ne0 : goal.same-returns-then-i-ne0
 same-returns-then-i-ne0 t c =
     let e = c.expr-x.ensures in
-    let h = c.requires.1.0 in
-    record { kept = e.kept; told = λ scope sc. equal_told h _ (get_or c.args.w.now 2 0) c.word.ensures.0 refl scope c.requires.1.1 (halt_told _ (e.told scope sc) c.if-i-ne0.true) }
+    let h = c.requires.0 in
+    record { kept = e.kept; told = λ scope sc. equal_told h _ (get_or c.args.w.now 2 0) c.word.ensures.0 refl scope c.requires.1 (halt_told _ (e.told scope sc) c.if-i-ne0.true) }
 
 pub same-expr-y-requires : goal.same-expr-y-requires
 same-expr-y-requires t c =
-    let h = c.requires.1.0 in
-    let o = relation_operands h 21 c.requires.1.1 (omega arith) (omega arith) _ _ c.word.ensures.0 c.word-2.ensures.0 in
+    let h = c.requires.0 in
+    let o = relation_operands h 21 c.requires.1 (omega arith) (omega arith) _ _ c.word.ensures.0 c.word-2.ensures.0 in
     let x = o.1.below in
     (omega arith, ready_lower _ expressions _ c.expr-x.auto.work.1.1.0 h.ready o.1)
 
@@ -999,47 +999,47 @@ pub same-returns-then-j-ne0 : goal.same-returns-then-j-ne0
 same-returns-then-j-ne0 t c =
     let e = c.expr-x.ensures in
     let g = c.expr-y.ensures in
-    let h = c.requires.1.0 in
-    record { kept = g.kept ∙ e.kept; told = λ scope sc. equal_told h _ _ c.word.ensures.0 c.word-2.ensures.0 scope c.requires.1.1 (second_told (e.told scope sc) c.if-i-ne0.false (g.told scope (scoped_same _ _ _ _ e.kept sc)) _ c.if-j-ne0.true) }
+    let h = c.requires.0 in
+    record { kept = g.kept ∙ e.kept; told = λ scope sc. equal_told h _ _ c.word.ensures.0 c.word-2.ensures.0 scope c.requires.1 (second_told (e.told scope sc) c.if-i-ne0.false (g.told scope (scoped_same _ _ _ _ e.kept sc)) _ c.if-j-ne0.true) }
 
 pub same-returns : goal.same-returns
 same-returns t c =
     let e = c.expr-x.ensures in
     let g = c.expr-y.ensures in
-    let h = c.requires.1.0 in
-    record { kept = g.kept ∙ e.kept; told = λ scope sc. equal_told h _ _ c.word.ensures.0 c.word-2.ensures.0 scope c.requires.1.1 (both_told (e.told scope sc) c.if-i-ne0.false (g.told scope (scoped_same _ _ _ _ e.kept sc)) c.if-j-ne0.false (λ u v a b. c.equal.ensures u v a.held b.held)) }
+    let h = c.requires.0 in
+    record { kept = g.kept ∙ e.kept; told = λ scope sc. equal_told h _ _ c.word.ensures.0 c.word-2.ensures.0 scope c.requires.1 (both_told (e.told scope sc) c.if-i-ne0.false (g.told scope (scoped_same _ _ _ _ e.kept sc)) c.if-j-ne0.false (λ u v a b. c.equal.ensures u v a.held b.held)) }
 
 pub subsets-expr-x-requires : goal.subsets-expr-x-requires
 subsets-expr-x-requires t c =
-    let h = c.requires.1.0 in
-    let o = power_operand h c.requires.1.1 _ c.word.ensures.0 in
+    let h = c.requires.0 in
+    let o = power_operand h c.requires.1 _ c.word.ensures.0 in
     let x = o.below in
     (omega arith, ready_lower _ expressions _ refl h.ready o)
 
 pub subsets-returns-then-x-ne0 : goal.subsets-returns-then-x-ne0
 subsets-returns-then-x-ne0 t c =
     let e = c.expr-x.ensures in
-    record { kept = e.kept; told = λ scope sc. power_stop c.requires.1.0 c.requires.1.1 _ c.word.ensures.0 scope (e.told scope sc) c.if-x-ne0.true }
+    record { kept = e.kept; told = λ scope sc. power_stop c.requires.0 c.requires.1 _ c.word.ensures.0 scope (e.told scope sc) c.if-x-ne0.true }
 
 pub subsets-returns : goal.subsets-returns
 subsets-returns t c =
     let e = c.expr-x.ensures in
-    record { kept = e.kept; told = λ scope sc. power_go c.requires.1.0 c.requires.1.1 _ c.word.ensures.0 scope (e.told scope sc) c.if-x-ne0.false c.powered.ensures }
+    record { kept = e.kept; told = λ scope sc. power_go c.requires.0 c.requires.1 _ c.word.ensures.0 scope (e.told scope sc) c.if-x-ne0.false c.powered.ensures }
 
 pub tests-product-requires : goal.tests-product-requires
-tests-product-requires t c = (omega arith, (handed_of c.requires.1 c.part-w.ensures, sym (ap (λ (l : List ℕ). get_or l 0 0) c.part-w.ensures) ∙ sym c.word-q.ensures.0 ∙ c.in-35.is))
+tests-product-requires t c = (omega arith, (handed_of c.requires c.part-w.ensures, sym (ap (λ (l : List ℕ). get_or l 0 0) c.part-w.ensures) ∙ sym c.word-q.ensures.0 ∙ c.in-35.is))
 
 pub tests-power-requires : goal.tests-power-requires
-tests-power-requires t c = (omega arith, (handed_of c.requires.1 c.part-w.ensures, sym (ap (λ (l : List ℕ). get_or l 0 0) c.part-w.ensures) ∙ sym c.word-q.ensures.0 ∙ c.in-36.is))
+tests-power-requires t c = (omega arith, (handed_of c.requires c.part-w.ensures, sym (ap (λ (l : List ℕ). get_or l 0 0) c.part-w.ensures) ∙ sym c.word-q.ensures.0 ∙ c.in-36.is))
 
 pub tests-value-requires : goal.tests-value-requires
 tests-value-requires t c =
     let q = c.word-q.ensures.0 ∙ ap (λ (l : List ℕ). get_or l 0 0) c.part-w.ensures in
     let r = c.in_default.in_default-own.rest in
-    (omega arith, (c.requires.1, λ e. r.0.0.1 (q ∙ e), λ e. r.0.1 (q ∙ e), λ e. r.1 (q ∙ e)))
+    (omega arith, (c.requires, λ e. r.0.0.1 (q ∙ e), λ e. r.0.1 (q ∙ e), λ e. r.1 (q ∙ e)))
 
 pub tests-returns-in-32 : goal.tests-returns-in-32
-tests-returns-in-32 t c = record { kept = refl; told = λ x h scope sc. integers_test c.requires.1 (sym (ap (λ (l : List ℕ). get_or l 0 0) c.part-w.ensures) ∙ sym c.word-q.ensures.0 ∙ c.in-32.is) x scope (c.is_integer.ensures x h) }
+tests-returns-in-32 t c = record { kept = refl; told = λ x h scope sc. integers_test c.requires (sym (ap (λ (l : List ℕ). get_or l 0 0) c.part-w.ensures) ∙ sym c.word-q.ensures.0 ∙ c.in-32.is) x scope (c.is_integer.ensures x h) }
 
 pub tests-returns-in-35 : goal.tests-returns-in-35
 tests-returns-in-35 t c = c.product.ensures
@@ -1051,39 +1051,39 @@ pub tests-returns-in_default : goal.tests-returns-in_default
 tests-returns-in_default t c = c.value.ensures
 
 pub tuple-tuple_head-requires : goal.tuple-tuple_head-requires
-tuple-tuple_head-requires t c = let f = c.requires.1.0.few in (node_words c.requires.1.0, f)
+tuple-tuple_head-requires t c = let f = c.requires.0.few in (node_words c.requires.0, f)
 
 pub tuple-parts-x-requires : goal.tuple-parts-x-requires
-tuple-parts-x-requires t c = (omega arith, (c.requires.1.0, member_operands c.requires.1.0 34 c.requires.1.1 (omega arith) (omega arith), omega arith))
+tuple-parts-x-requires t c = (omega arith, (c.requires.0, member_operands c.requires.0 34 c.requires.1 (omega arith) (omega arith), omega arith))
 
 pub tuple-returns-then-x-ne0 : goal.tuple-returns-then-x-ne0
 tuple-returns-then-x-ne0 t c =
     let e = c.parts-x.ensures in
-    record { kept = e.kept; told = λ scope sc. tuple_stop c.requires.1.0 c.requires.1.1 scope (e.told (4 ∷ (length c.args.w.now - 1) ∷ []) c.tuple_head.ensures scope sc) c.if-x-ne0.true }
+    record { kept = e.kept; told = λ scope sc. tuple_stop c.requires.0 c.requires.1 scope (e.told (4 ∷ (length c.args.w.now - 1) ∷ []) c.tuple_head.ensures scope sc) c.if-x-ne0.true }
 
 pub tuple-returns : goal.tuple-returns
 tuple-returns t c =
     let e = c.parts-x.ensures in
-    record { kept = e.kept; told = λ scope sc. tuple_go c.requires.1.0 c.requires.1.1 scope (e.told (4 ∷ (length c.args.w.now - 1) ∷ []) c.tuple_head.ensures scope sc) c.if-x-ne0.false c.kept.ensures }
+    record { kept = e.kept; told = λ scope sc. tuple_go c.requires.0 c.requires.1 scope (e.told (4 ∷ (length c.args.w.now - 1) ∷ []) c.tuple_head.ensures scope sc) c.if-x-ne0.false c.kept.ensures }
 
 pub tuples-factors-x-requires : goal.tuples-factors-x-requires
-tuples-factors-x-requires t c = (omega arith, (c.requires.1.0, member_operands c.requires.1.0 35 c.requires.1.1 (omega arith) (omega arith), omega arith))
+tuples-factors-x-requires t c = (omega arith, (c.requires.0, member_operands c.requires.0 35 c.requires.1 (omega arith) (omega arith), omega arith))
 
 pub tuples-returns-then-x-ne0 : goal.tuples-returns-then-x-ne0
 tuples-returns-then-x-ne0 t c =
     let e = c.factors-x.ensures in
-    record { kept = e.kept; told = λ scope sc. product_stop c.requires.1.0 c.requires.1.1 scope (e.told no_parts (record { words = λ f. c.unit.ensures }) scope sc) c.if-x-ne0.true }
+    record { kept = e.kept; told = λ scope sc. product_stop c.requires.0 c.requires.1 scope (e.told no_parts (record { words = λ f. c.unit.ensures }) scope sc) c.if-x-ne0.true }
 
 pub tuples-returns : goal.tuples-returns
 tuples-returns t c =
     let e = c.factors-x.ensures in
-    record { kept = e.kept; told = λ scope sc. product_go c.requires.1.0 c.requires.1.1 scope (e.told no_parts (record { words = λ f. c.unit.ensures }) scope sc) c.if-x-ne0.false c.multiplied.ensures }
+    record { kept = e.kept; told = λ scope sc. product_go c.requires.0 c.requires.1 scope (e.told no_parts (record { words = λ f. c.unit.ensures }) scope sc) c.if-x-ne0.false c.multiplied.ensures }
 
 pub turn-pred-x-requires : goal.turn-pred-x-requires
 turn-pred-x-requires t c =
     let x = c.word-t.ensures.0 ∙ ap (λ (l : List ℕ). get_or l 1 0) c.part.ensures in
     let y = c.word.ensures.0 ∙ ap (λ (l : List ℕ). get_or l 1 0) c.part-2.ensures in
-    let p = text_pred c.requires.1 _ _ x y in
+    let p = text_pred c.requires _ _ x y in
     let l = p.0 in
     let z : c.args.n + 0 ≡ c.args.n = omega arith in
     (omega arith, subst (λ (j : ℕ). Ready c.args.doc.now c.args.work.now predicates j c.word.result) z p.1)
@@ -1096,7 +1096,7 @@ turn-returns-then-x-ne0 t c =
     record { kept = e.kept; told = λ scope sc vs h. turn_stop c.args.doc.now c.args.k _ y scope vs (e.told scope sc) c.if-x-ne0.true }
 
 pub turn-body-requires : goal.turn-body-requires
-turn-body-requires t c = (omega arith, (scoping_same c.requires.1 _ c.pred-x.auto.work.1.1.0, c.part-then-x.ensures))
+turn-body-requires t c = (omega arith, (scoping_same c.requires _ c.pred-x.auto.work.1.1.0, c.part-then-x.ensures))
 
 pub turn-returns-then-x : goal.turn-returns-then-x
 turn-returns-then-x t c =
@@ -1114,16 +1114,16 @@ turn-returns t c =
     record { kept = e.kept; told = λ scope sc vs h. turn_false c.args.doc.now c.args.k _ y scope vs (e.told scope sc) c.if-x-ne0.false c.if-x.false c.judge.ensures.0 c.judge.ensures.1 h }
 
 pub value-expr-x-requires : goal.value-expr-x-requires
-value-expr-x-requires t c = (omega arith, c.requires.1.0)
+value-expr-x-requires t c = (omega arith, c.requires.0)
 
 pub value-returns-then-j-ne0 : goal.value-returns-then-j-ne0
 value-returns-then-j-ne0 t c =
     let e = c.expr-x.ensures in
-    let p = c.requires.1 in
+    let p = c.requires in
     record { kept = e.kept; told = λ x h scope sc. value_stop p.0 p.1 p.2 p.3 x scope (e.told scope sc) c.if-j-ne0.true }
 
 pub value-returns : goal.value-returns
 value-returns t c =
     let e = c.expr-x.ensures in
-    let p = c.requires.1 in
+    let p = c.requires in
     record { kept = e.kept; told = λ x h scope sc. value_go p.0 p.1 p.2 p.3 x scope (e.told scope sc) c.if-j-ne0.false (λ y g. c.among.ensures x y h g) }

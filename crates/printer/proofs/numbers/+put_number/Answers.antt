@@ -12,7 +12,7 @@ returns-then-n-lt10 t c = put_text (sym (decimal_one _ c.if-n-lt10.true)) c.put_
 pub put_number-end-requires : goal.put_number-end-requires
 put_number-end-requires t c =
     let e = div-add-mod' c.args.n 10 in
-    (omega (arith, e, c.requires.0), search rules)
+    (omega (arith, e, c.decreases), search rules)
 
 pub returns : goal.returns
 returns t c =

@@ -17,8 +17,7 @@ returns-then-n-gt-DECLARED c =
     let p = c.requires.0.parents in
     let h : k < places = omega (arith, p.few, c.requires.2) in
     let q : kind_at d k ≡ 11 = sym c.kind_at-q.ensures.0 ∙ c.if-q-eq-DECL.true in
-    let t = c.word-t in
-    let w = wide_count d k c.requires.1 c.args.declared.now c.requires.3 q t.result (table_parent d _ p k t.result h t.ensures.0) (table_place d _ p k t.result h t.ensures.0) in
+    let w = wide_count d k c.requires.1 c.args.declared.now c.requires.3 q c.word-t.result (table_parent d _ p k c.word-t.result h c.word-t.ensures.0) (table_place d _ p k c.word-t.result h c.word-t.ensures.0) in
     (rw (eq-eqb (kind_at d k) 11 q, ← w, ← c.word.ensures.0, ← c.declared_at-ids.ensures, lt-ltb _ _ c.if-n-gt-DECLARED.true), λ z. absurd (false≢true (sym z)))
 
 pub returns-then-q-eq-DECL : goal.returns-then-q-eq-DECL
@@ -29,12 +28,11 @@ returns-then-q-eq-DECL c =
     let p = c.requires.0.parents in
     let h : k < places = omega (arith, p.few, c.requires.2) in
     let q : kind_at d k ≡ 11 = sym c.kind_at-q.ensures.0 ∙ c.if-q-eq-DECL.true in
-    let t = c.word-t in
-    let e = table_parent d _ p k t.result h t.ensures.0 in
-    let m = table_place d _ p k t.result h t.ensures.0 in
-    let w = wide_count d k c.requires.1 u c.requires.3 q t.result e m in
-    let x : c.word.result + length c.declared_at-ids.result.now ≡ get_or u t.result 0 + length (declared d k) = rw (c.word.ensures.0, c.declared_at-ids.ensures) in
-    (rw (eq-eqb (kind_at d k) 11 q, ← w, ← c.word.ensures.0, ← c.declared_at-ids.ensures, le-ltb _ _ c.if-n-gt-DECLARED.false), λ z. rw c.store.ensures (declared_on d k c.requires.1 u c.requires.3 q t.result e m _ x))
+    let e = table_parent d _ p k c.word-t.result h c.word-t.ensures.0 in
+    let m = table_place d _ p k c.word-t.result h c.word-t.ensures.0 in
+    let w = wide_count d k c.requires.1 u c.requires.3 q c.word-t.result e m in
+    let x : c.word.result + length c.declared_at-ids.result.now ≡ get_or u c.word-t.result 0 + length (declared d k) = rw (c.word.ensures.0, c.declared_at-ids.ensures) in
+    (rw (eq-eqb (kind_at d k) 11 q, ← w, ← c.word.ensures.0, ← c.declared_at-ids.ensures, le-ltb _ _ c.if-n-gt-DECLARED.false), λ z. rw c.store.ensures (declared_on d k c.requires.1 u c.requires.3 q c.word-t.result e m _ x))
 
 pub returns : goal.returns
 returns c =

@@ -11,8 +11,7 @@ loop-i-init c = (omega arith, refl, refl)
 pub loop-i-preserved : goal.loop-i-preserved
 loop-i-preserved c =
     let l = c.loop-i in
-    let t = c.put_pair in
-    (omega arith, t.auto.1.1.1.1.0 ∙ l.invariant.1, l.invariant.2 ∙ put_go c.args.w.now c.args.state.now c.args.n l.i l.table (omega arith) ∙ rw (← t.ensures))
+    (omega arith, c.put_pair.auto.table.1.1.1.1.0 ∙ l.invariant.1, l.invariant.2 ∙ put_go c.args.w.now c.args.state.now c.args.n l.i l.table (omega arith) ∙ rw (← c.put_pair.ensures))
 
 pub shape_of-table : goal.shape_of-table
 shape_of-table c = c.loop-i.invariant.1

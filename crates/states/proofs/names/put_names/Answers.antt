@@ -33,7 +33,6 @@ pub loop-i-preserved : goal.loop-i-preserved
 loop-i-preserved c =
     let d = c.args.doc.now in
     let l = c.loop-i in
-    let t = c.put_paragraph-n in
     let v = c.operand.result in
     let x = c.operand.ensures.0 ∙ ap (λ (k : ℕ). operand_at d k l.i) l.invariant.3 in
     let q : l.i < length (part d (count d)) = omega (arith, l.invariant.2, c.loop-i-test.true) in (
@@ -41,10 +40,10 @@ loop-i-preserved c =
       omega arith,
       l.invariant.2,
       l.invariant.3,
-      omega (arith, l.invariant.4, t.ensures.2),
-      t.auto.1.1.1.1.0 ∙ l.invariant.5,
-      omega (arith, l.invariant.6, t.ensures.0, document_count d c.requires l.i l.invariant.0 q v x),
-      l.invariant.7 ∙ document_put d c.requires l.i l.invariant.0 q v x c.args.state.now l.n t.result l.table t.ensures.0 ∙ rw (← t.ensures.1),
+      omega (arith, l.invariant.4, c.put_paragraph-n.ensures.2),
+      c.put_paragraph-n.auto.table.1.1.1.1.0 ∙ l.invariant.5,
+      omega (arith, l.invariant.6, c.put_paragraph-n.ensures.0, document_count d c.requires l.i l.invariant.0 q v x),
+      l.invariant.7 ∙ document_put d c.requires l.i l.invariant.0 q v x c.args.state.now l.n c.put_paragraph-n.result l.table c.put_paragraph-n.ensures.0 ∙ rw (← c.put_paragraph-n.ensures.1),
     )
 
 pub shape_of-table : goal.shape_of-table

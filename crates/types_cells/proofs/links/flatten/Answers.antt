@@ -20,8 +20,7 @@ pub loop-i-preserved : goal.loop-i-preserved
 loop-i-preserved c =
     let i = c.loop-i.invariant in
     let t = c.loop-i-test.true in
-    let S = c.shorten in
-    (omega arith, S.auto.0 ∙ i.1, S.ensures.still ∙ i.2, kept_on _ _ _ _ _ i.3 S.ensures t, direct_next _ _ _ _ S.ensures i.4, refers_on _ _ _ i.5 S.ensures.refers)
+    (omega arith, c.shorten.auto.a ∙ i.1, c.shorten.ensures.still ∙ i.2, kept_on _ _ _ _ _ i.3 c.shorten.ensures t, direct_next _ _ _ _ c.shorten.ensures i.4, refers_on _ _ _ i.5 c.shorten.ensures.refers)
 
 pub shape_of-a : goal.shape_of-a
 shape_of-a c = c.loop-i.invariant.1

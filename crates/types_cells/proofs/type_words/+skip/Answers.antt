@@ -6,11 +6,11 @@ use Rattle.types_cells.proofs.Reading.{heap_length, place_low, scan_start, scan_
 use Rattle.types_cells.proofs.type_words.+skip.Goals as goal
 
 pub type_word-t-requires : goal.type_word-t-requires
-type_word-t-requires t c = c.requires.1.areas.size
+type_word-t-requires t c = c.requires.areas.size
 
 pub parts_of-n-requires : goal.parts_of-n-requires
 parts_of-n-requires t c =
-    let P = c.requires.1 in
+    let P = c.requires in
     let s = c.args in
     let hl = heap_length s.a.now s.d.now P.areas.size in
     let f = P.areas.few in
@@ -19,7 +19,7 @@ parts_of-n-requires t c =
 
 pub overflow_add-at : goal.overflow_add-at
 overflow_add-at t c =
-    let P = c.requires.1 in
+    let P = c.requires in
     let s = c.args in
     let hl = heap_length s.a.now s.d.now P.areas.size in
     let f = P.areas.few in
@@ -33,7 +33,7 @@ loop-j-init t c =
 
 pub overflow_add-at-in-loop-j : goal.overflow_add-at-in-loop-j
 overflow_add-at-in-loop-j t c =
-    let P = c.requires.1 in
+    let P = c.requires in
     let s = c.args in
     let hl = heap_length s.a.now s.d.now P.areas.size in
     let f = P.areas.few in
@@ -44,7 +44,7 @@ overflow_add-at-in-loop-j t c =
 
 pub skip-at-requires : goal.skip-at-requires
 skip-at-requires t c =
-    let P = c.requires.1 in
+    let P = c.requires in
     let s = c.args in
     let hl = heap_length s.a.now s.d.now P.areas.size in
     let f = P.areas.few in
@@ -52,7 +52,7 @@ skip-at-requires t c =
     let g = P.readable.type in
     let S = scan_step _ _ _ _ _ _ (c.loop-j.invariant.1 g P.readable.reads) c.loop-j-test.true in
     let q = S.low in
-    let m = c.requires.0 in
+    let m = c.decreases in
     let o = c.loop-j.invariant.0 in
     (omega arith, record { areas = P.areas; readable = record { type = S.part; reads = S.reads } })
 
@@ -67,7 +67,7 @@ loop-j-smaller t c = let q = c.loop-j-test.true in omega arith
 
 pub loop-j-preserved : goal.loop-j-preserved
 loop-j-preserved t c =
-    let P = c.requires.1 in
+    let P = c.requires in
     let o = c.loop-j.invariant.0 in
     let S₀ = scan_step _ _ _ _ _ _ (c.loop-j.invariant.1 P.readable.type P.readable.reads) c.loop-j-test.true in
     let e₀ = c.skip-at.ensures.is S₀.part S₀.reads in (

@@ -14,7 +14,7 @@ use Prim.Native.Nat.{◌<◌}
 use Rattle.types_solver.proofs.sizes.+cell_size.Goals as goal
 
 pub overflow_add-i : goal.overflow_add-i
-overflow_add-i t c = let P = c.requires.1 in let f = P.marked.held.few in let l = P.made in omega arith
+overflow_add-i t c = let P = c.requires in let f = P.marked.held.few in let l = P.made in omega arith
 
 pub returns-then-word-gt-SIZE : goal.returns-then-word-gt-SIZE
 unfolding mark_at
@@ -24,19 +24,19 @@ returns-then-word-gt-SIZE t c =
     measured_high _ _ _ (omega arith)
 
 pub find-r-requires : goal.find-r-requires
-find-r-requires t c = let P = c.requires.1 in record { n = P.n; L = P.L; held = P.marked.held; made = P.made }
+find-r-requires t c = let P = c.requires in record { n = P.n; L = P.L; held = P.marked.held; made = P.made }
 
 pub field-requires : goal.field-requires
-field-requires t c = let P = c.requires.1 in let l = r_few _ _ _ c.find-r.ensures _ _ P.marked P.made in (omega arith, omega arith)
+field-requires t c = let P = c.requires in let l = r_few _ _ _ c.find-r.ensures _ _ P.marked P.made in (omega arith, omega arith)
 
 pub unknown_size-requires : goal.unknown_size-requires
-unknown_size-requires t c = looking_root _ _ _ _ (looking_of _ _ _ c.requires.1) c.find-r.ensures
+unknown_size-requires t c = looking_root _ _ _ _ (looking_of _ _ _ c.requires) c.find-r.ensures
 
 pub returns-then-field-eq-UNKNOWN : goal.returns-then-field-eq-UNKNOWN
 returns-then-field-eq-UNKNOWN t c = measured_unknown _ _ _ _ _ c.find-r.ensures (sym c.field.ensures.0 ∙ c.if-field-eq-UNKNOWN.true) c.unknown_size.ensures
 
 pub field-k-requires : goal.field-k-requires
-field-k-requires t c = let P = c.requires.1 in let l = r_few _ _ _ c.find-r.ensures _ _ P.marked P.made in (omega arith, omega arith)
+field-k-requires t c = let P = c.requires in let l = r_few _ _ _ c.find-r.ensures _ _ P.marked P.made in (omega arith, omega arith)
 
 pub loop-j-init : goal.loop-j-init
 loop-j-init t c =
@@ -45,7 +45,7 @@ loop-j-init t c =
 
 pub part-requires : goal.part-requires
 part-requires t c =
-    let P = c.requires.1 in
+    let P = c.requires in
     let l = r_few _ _ _ c.find-r.ensures _ _ P.marked P.made in
     let f = c.field-k.ensures.1 in
     let t = c.loop-j-test.true in
@@ -54,12 +54,12 @@ part-requires t c =
 pub cell_size-requires : goal.cell_size-requires
 unfolding mark_at
 cell_size-requires t c =
-    let P = c.requires.1 in
+    let P = c.requires in
     let p : 0 < tag_at (frozen c.args.a.now) c.find-r.result = ⊎_elim (λ z. absurd (c.if-field-eq-UNKNOWN.false (c.field.ensures.0 ∙ z))) (λ p. p) (eq-zero-or-pos _) in
     let e = c.word.ensures.0 in
     let q = c.if-word-gt-SIZE.false in
     let b = r_part _ _ _ c.find-r.ensures _ _ P.marked P.made p (omega arith) _ c.field-k.ensures.0 c.loop-j.j c.loop-j-test.true c.part.result c.part.ensures.0 in
-    let m = c.requires.0 in
+    let m = c.decreases in
     (omega (arith, b.1), record { n = P.n; L = P.L; marked = P.marked; pinned = P.pinned; made = b.0; few = P.few })
 
 pub overflow_add-sum : goal.overflow_add-sum
@@ -74,7 +74,7 @@ loop-j-smaller t c = let t = c.loop-j-test.true in omega arith
 pub loop-j-preserved : goal.loop-j-preserved
 unfolding mark_at
 loop-j-preserved t c =
-    let P = c.requires.1 in
+    let P = c.requires in
     let p : 0 < tag_at (frozen c.args.a.now) c.find-r.result = ⊎_elim (λ z. absurd (c.if-field-eq-UNKNOWN.false (c.field.ensures.0 ∙ z))) (λ p. p) (eq-zero-or-pos _) in
     let e = c.word.ensures.0 in
     let q = c.if-word-gt-SIZE.false in

@@ -10,11 +10,11 @@ use Rattle.types_solver.proofs.Summing.{sum_start, sum_step, sum_end}
 use Rattle.types_solver.proofs.sizes.+type_size.Goals as goal
 
 pub type_word-t-requires : goal.type_word-t-requires
-type_word-t-requires t c = c.requires.1.areas.size
+type_word-t-requires t c = c.requires.areas.size
 
 pub parts_of-n-requires : goal.parts_of-n-requires
 parts_of-n-requires t c =
-    let P = c.requires.1 in
+    let P = c.requires in
     let s = c.args in
     let hl = heap_length s.a.now s.d.now P.areas.size in
     let f = P.areas.few in
@@ -23,7 +23,7 @@ parts_of-n-requires t c =
 
 pub overflow_add-at : goal.overflow_add-at
 overflow_add-at t c =
-    let P = c.requires.1 in
+    let P = c.requires in
     let s = c.args in
     let hl = heap_length s.a.now s.d.now P.areas.size in
     let f = P.areas.few in
@@ -37,7 +37,7 @@ loop-j-init t c =
 
 pub overflow_add-q : goal.overflow_add-q
 overflow_add-q t c =
-    let P = c.requires.1 in
+    let P = c.requires in
     let s = c.args in
     let hl = heap_length s.a.now s.d.now P.areas.size in
     let f = P.areas.few in
@@ -46,11 +46,11 @@ overflow_add-q t c =
 
 pub type_size-requires : goal.type_size-requires
 type_size-requires t c =
-    let P = c.requires.1 in
+    let P = c.requires in
     let s = c.args in
     let S = sum_step _ _ _ _ _ _ _ (c.loop-j.invariant.2 P.readable.type P.readable.reads) c.loop-j-test.true in
     let q = S.low in
-    let m = c.requires.0 in
+    let m = c.decreases in
     let o = c.loop-j.invariant.0 in
     (omega arith, record { areas = P.areas; readable = record { type = S.part; reads = S.reads } })
 
@@ -59,7 +59,7 @@ overflow_add-sum t c = let a = c.type_size.ensures.few in let b = c.loop-j.invar
 
 pub skip-at-requires : goal.skip-at-requires
 skip-at-requires t c =
-    let P = c.requires.1 in
+    let P = c.requires in
     let S = sum_step _ _ _ _ _ _ _ (c.loop-j.invariant.2 P.readable.type P.readable.reads) c.loop-j-test.true in
     record { areas = P.areas; readable = record { type = S.part; reads = S.reads } }
 
@@ -74,7 +74,7 @@ loop-j-smaller t c = let q = c.loop-j-test.true in omega arith
 
 pub loop-j-preserved : goal.loop-j-preserved
 loop-j-preserved t c =
-    let P = c.requires.1 in
+    let P = c.requires in
     let o = c.loop-j.invariant.0 in
     let S₀ = sum_step _ _ _ _ _ _ _ (c.loop-j.invariant.2 P.readable.type P.readable.reads) c.loop-j-test.true in
     let e₀ = c.skip-at.ensures.is S₀.part S₀.reads in

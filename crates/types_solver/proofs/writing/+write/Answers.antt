@@ -16,18 +16,18 @@ use Prim.Native.Nat.{◌<◌}
 use Rattle.types_solver.proofs.writing.+write.Goals as goal
 
 pub find-r-requires : goal.find-r-requires
-find-r-requires t c = let P = c.requires.1 in record { n = P.n; L = P.L; held = P.model.marked.held; made = P.made }
+find-r-requires t c = let P = c.requires in record { n = P.n; L = P.L; held = P.model.marked.held; made = P.made }
 
 pub field-requires : goal.field-requires
-field-requires t c = let P = c.requires.1 in let l = r_few _ _ _ c.find-r.ensures _ _ P.model.marked P.made in (omega arith, omega arith)
+field-requires t c = let P = c.requires in let l = r_few _ _ _ c.find-r.ensures _ _ P.model.marked P.made in (omega arith, omega arith)
 
 pub overflow_add-r : goal.overflow_add-r
-overflow_add-r t c = let P = c.requires.1 in let l = r_few _ _ _ c.find-r.ensures _ _ P.model.marked P.made in omega arith
+overflow_add-r t c = let P = c.requires in let l = r_few _ _ _ c.find-r.ensures _ _ P.model.marked P.made in omega arith
 
 pub overflow_sub-word : goal.overflow_sub-word
 unfolding word_at
 overflow_sub-word t c =
-    let P = c.requires.1 in
+    let P = c.requires in
     let t = sym c.field.ensures.0 ∙ c.if-field-eq-UNKNOWN.true in
     let v = r_settled _ _ _ c.find-r.ensures P.n P.L P.model.marked P.made P.resolved t in
     let e = c.word.ensures.0 in omega arith
@@ -35,7 +35,7 @@ overflow_sub-word t c =
 pub put_type-requires : goal.put_type-requires
 unfolding word_at
 put_type-requires t c =
-    let P = c.requires.1 in
+    let P = c.requires in
     let t = sym c.field.ensures.0 ∙ c.if-field-eq-UNKNOWN.true in
     let v = r_settled _ _ _ c.find-r.ensures P.n P.L P.model.marked P.made P.resolved t in
     let e = c.word.ensures.0 in
@@ -59,11 +59,11 @@ returns-then-field-eq-UNKNOWN t c =
     subst (λ g. Wrote c.args.out.now c.put_type.new.out.1.1.0 c.args.at c.put_type.result (words g)) (sym (m_settled _ _ _ _ c.find-r.ensures n L σ M l v D.type D.reads)) (c.put_type.ensures.is D.type Rd)
 
 pub field-k-requires : goal.field-k-requires
-field-k-requires t c = let P = c.requires.1 in let l = r_few _ _ _ c.find-r.ensures _ _ P.model.marked P.made in (omega arith, omega arith)
+field-k-requires t c = let P = c.requires in let l = r_few _ _ _ c.find-r.ensures _ _ P.model.marked P.made in (omega arith, omega arith)
 
 pub put_lead-m-requires : goal.put_lead-m-requires
 put_lead-m-requires t c =
-    let P = c.requires.1 in
+    let P = c.requires in
     let Q = c.find-r.ensures in
     let q = P.room in
     record {
@@ -89,7 +89,7 @@ loop-j-init t c =
 
 pub put_name-m-requires : goal.put_name-m-requires
 put_name-m-requires t c =
-    let P = c.requires.1 in
+    let P = c.requires in
     let Q = c.find-r.ensures in
     let e = c.field-k.ensures.0 in
     let f = c.field-k.ensures.1 in
@@ -103,7 +103,7 @@ put_name-m-requires t c =
 
 pub part-requires : goal.part-requires
 part-requires t c =
-    let P = c.requires.1 in
+    let P = c.requires in
     let f = c.field-k.ensures.1 in
     let t = c.loop-j-test.true in
     let l = r_few _ _ _ c.find-r.ensures _ _ P.model.marked P.made in
@@ -111,7 +111,7 @@ part-requires t c =
 
 pub write-m-requires : goal.write-m-requires
 write-m-requires t c =
-    let P = c.requires.1 in
+    let P = c.requires in
     let Q = c.find-r.ensures in
     let e = c.field-k.ensures.0 in
     let p : 0 < tag_at (frozen c.args.a.now) c.find-r.result = ⊎_elim (λ z. absurd (c.if-field-eq-UNKNOWN.false (c.field.ensures.0 ∙ z))) (λ p. p) (eq-zero-or-pos _) in
@@ -127,7 +127,7 @@ write-m-requires t c =
     let z = split_length P.σ w c.find-r.result c.field-k.result j tk in
     let v = ap (λ u. length (words (P.σ u))) pe in
     let q = P.room in
-    let m = c.requires.0 in
+    let m = c.decreases in
     let small = P.small in
     (omega (arith, b.1), record { n = P.n; L = P.L; σ = P.σ; model = P.model; resolved = P.resolved; made = b.0; few = P.few; small = omega (arith, b.1); room = omega arith })
 
@@ -139,7 +139,7 @@ loop-j-smaller t c = let tk = c.loop-j-test.true in omega arith
 
 pub loop-j-preserved : goal.loop-j-preserved
 loop-j-preserved t c =
-    let P = c.requires.1 in
+    let P = c.requires in
     let Q = c.find-r.ensures in
     let e = c.field-k.ensures.0 in
     let p : 0 < tag_at (frozen c.args.a.now) c.find-r.result = ⊎_elim (λ z. absurd (c.if-field-eq-UNKNOWN.false (c.field.ensures.0 ∙ z))) (λ p. p) (eq-zero-or-pos _) in

@@ -15,19 +15,19 @@ use Rattle.types_unifier.proofs.settling.+pin.Goals as goal
 
 pub find-r-requires : goal.find-r-requires
 find-r-requires t c =
-    let P = c.requires.1 in
+    let P = c.requires in
     let K : Known c.args.a.now c.args.c = record { n = P.n; L = P.L; held = P.held; made = P.made } in
     K
 
 pub field-t-requires : goal.field-t-requires
 field-t-requires t c =
-    let P = c.requires.1 in
+    let P = c.requires in
     let K : Known c.args.a.now c.args.c = record { n = P.n; L = P.L; held = P.held; made = P.made } in
     let l = few_cell _ _ (known_root _ _ _ K c.find-r.ensures) in (omega arith, omega arith)
 
 pub settle-requires : goal.settle-requires
 settle-requires t c =
-    let P = c.requires.1 in
+    let P = c.requires in
     let K : Known c.args.a.now c.args.c = record { n = P.n; L = P.L; held = P.held; made = P.made } in
     let rb = root_below _ _ _ P.n P.L c.find-r.ensures P.held P.made in
     record {
@@ -41,7 +41,7 @@ returns-then-t-eq-UNKNOWN t c = pin_root _ _ _ _ _ _ _ c.find-r.ensures c.settle
 
 pub same_former-requires : goal.same_former-requires
 same_former-requires t c =
-    let P = c.requires.1 in
+    let P = c.requires in
     let K : Known c.args.a.now c.args.c = record { n = P.n; L = P.L; held = P.held; made = P.made } in
     let R = known_root _ _ _ K c.find-r.ensures in
     let rb = root_below _ _ _ P.n P.L c.find-r.ensures P.held P.made in
@@ -56,13 +56,13 @@ same_former-requires t c =
 
 pub field-n-requires : goal.field-n-requires
 field-n-requires t c =
-    let P = c.requires.1 in
+    let P = c.requires in
     let K : Known c.args.a.now c.args.c = record { n = P.n; L = P.L; held = P.held; made = P.made } in
     let l = few_cell _ _ (known_root _ _ _ K c.find-r.ensures) in (omega arith, omega arith)
 
 pub overflow_add-at : goal.overflow_add-at
 overflow_add-at t c =
-    let P = c.requires.1 in
+    let P = c.requires in
     let l = place_low _ _ _ P.readable.reads in
     let h = heap_length c.args.a.now c.args.d.now P.held.size in
     let f = P.few in
@@ -70,7 +70,7 @@ overflow_add-at t c =
 
 pub loop-j-init : goal.loop-j-init
 loop-j-init t c =
-    let P = c.requires.1 in
+    let P = c.requires in
     let K : Known c.args.a.now c.args.c = record { n = P.n; L = P.L; held = P.held; made = P.made } in
     let R = known_root _ _ _ K c.find-r.ensures in
     let rb = root_below _ _ _ P.n P.L c.find-r.ensures P.held P.made in
@@ -87,7 +87,7 @@ loop-j-init t c =
 
 pub overflow_add-q : goal.overflow_add-q
 overflow_add-q t c =
-    let P = c.requires.1 in
+    let P = c.requires in
     let Q = c.find-r.ensures in
     let ek = c.field-n.ensures.0 in
     let tx = pos c.field-t.ensures.0 c.if-t-eq-UNKNOWN.false in
@@ -100,7 +100,7 @@ overflow_add-q t c =
 
 pub part-requires : goal.part-requires
 part-requires t c =
-    let P = c.requires.1 in
+    let P = c.requires in
     let Q = c.find-r.ensures in
     let ek = c.field-n.ensures.0 in
     let tx = pos c.field-t.ensures.0 c.if-t-eq-UNKNOWN.false in
@@ -114,7 +114,7 @@ part-requires t c =
 
 pub pin-requires : goal.pin-requires
 pin-requires t c =
-    let P = c.requires.1 in
+    let P = c.requires in
     let Q = c.find-r.ensures in
     let ek = c.field-n.ensures.0 in
     let tx = pos c.field-t.ensures.0 c.if-t-eq-UNKNOWN.false in
@@ -126,7 +126,7 @@ pin-requires t c =
     let A = pin_ahead _ _ _ _ _ _ Q ek tx _ _ _ _ I X lt P in
     let y = A.low in
     let o = I.later in
-    let m = c.requires.0 in
+    let m = c.decreases in
     let hk = heap_kept c.args.a.now c.loop-j.a c.args.d.now I.kept.low in
     let hl = ap length hk in
     let pb = part_below _ c.args.d.now _ _ _ c.args.p Q ek tx P.n P.L P.held P.made c.loop-j.j lt in
@@ -145,7 +145,7 @@ pin-requires t c =
 
 pub skip-at-requires : goal.skip-at-requires
 skip-at-requires t c =
-    let P = c.requires.1 in
+    let P = c.requires in
     let Q = c.find-r.ensures in
     let ek = c.field-n.ensures.0 in
     let tx = pos c.field-t.ensures.0 c.if-t-eq-UNKNOWN.false in
@@ -168,7 +168,7 @@ loop-j-smaller t c = let q = c.loop-j-test.true in omega arith
 
 pub loop-j-preserved : goal.loop-j-preserved
 loop-j-preserved t c =
-    let P = c.requires.1 in
+    let P = c.requires in
     let Q = c.find-r.ensures in
     let ek = c.field-n.ensures.0 in
     let tx = pos c.field-t.ensures.0 c.if-t-eq-UNKNOWN.false in
@@ -188,7 +188,7 @@ shape_of-a-else-pin t c = c.pin.ensures.kept.size ∙ c.loop-j.invariant.kept.si
 
 pub returns-else-pin : goal.returns-else-pin
 returns-else-pin t c =
-    let P = c.requires.1 in
+    let P = c.requires in
     let Q = c.find-r.ensures in
     let ek = c.field-n.ensures.0 in
     let tx = pos c.field-t.ensures.0 c.if-t-eq-UNKNOWN.false in
@@ -204,7 +204,7 @@ shape_of-a-then-same_former t c = c.loop-j.invariant.kept.size
 
 pub returns-then-same_former : goal.returns-then-same_former
 returns-then-same_former t c =
-    let P = c.requires.1 in
+    let P = c.requires in
     let Q = c.find-r.ensures in
     let ek = c.field-n.ensures.0 in
     let tx = pos c.field-t.ensures.0 c.if-t-eq-UNKNOWN.false in

@@ -38,10 +38,9 @@ push_parts-left-requires c =
 pub returns-then-same_head : goal.returns-then-same_head
 returns-then-same_head c =
     let e = c.set_link.ensures in
-    let q = c.push_parts-left in
     both_turned _ _ _ _ _ c.requires (pos c.field.ensures.0 c.if-field-eq-UNKNOWN.false) (pos c.field-2.ensures.0 c.if-field-eq-UNKNOWN-2.false) (c.same_head.ensures.holds c.if-same_head.true)
-    q.new.0 q.result (q.auto.0 ∙ ap length e)
-    (subst (λ z. Pushed z q.new.0 c.args.k c.args.x c.args.y q.result) e q.ensures)
+    c.push_parts-left.new.a c.push_parts-left.result (c.push_parts-left.auto.a ∙ ap length e)
+    (subst (λ z. Pushed z c.push_parts-left.new.a c.args.k c.args.x c.args.y c.push_parts-left.result) e c.push_parts-left.ensures)
 
 pub returns : goal.returns
 returns c = apart_turned _ _ _ _ _ c.requires (pos c.field.ensures.0 c.if-field-eq-UNKNOWN.false) (pos c.field-2.ensures.0 c.if-field-eq-UNKNOWN-2.false) (c.same_head.ensures.fails c.if-same_head.false)

@@ -15,15 +15,13 @@ pub loop-i-preserved : goal.loop-i-preserved
 loop-i-preserved c =
     let l = c.loop-i in
     let s = c.args in
-    let o = c.compare_word-o in
-    (omega arith, l.invariant.1 ∙ compare_go s.a.now s.b.now l.i (omega arith) (omega arith) o.result o.ensures (sym c.is_same.ensures ∙ c.if-is_same.true))
+    (omega arith, l.invariant.1 ∙ compare_go s.a.now s.b.now l.i (omega arith) (omega arith) c.compare_word-o.result c.compare_word-o.ensures (sym c.is_same.ensures ∙ c.if-is_same.true))
 
 pub returns-else-is_same : goal.returns-else-is_same
 returns-else-is_same c =
     let l = c.loop-i in
     let s = c.args in
-    let o = c.compare_word-o in
-    compare_stop s.a.now s.b.now l.i (omega arith) (omega arith) o.result o.ensures (sym c.is_same.ensures ∙ c.if-is_same.false) ∙ sym l.invariant.1
+    compare_stop s.a.now s.b.now l.i (omega arith) (omega arith) c.compare_word-o.result c.compare_word-o.ensures (sym c.is_same.ensures ∙ c.if-is_same.false) ∙ sym l.invariant.1
 
 pub returns-then-i-b : goal.returns-then-i-b
 returns-then-i-b c =

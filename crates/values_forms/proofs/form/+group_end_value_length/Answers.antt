@@ -9,18 +9,17 @@ use Rattle.values_forms.proofs.Forms.{shape_within, length_none, length_level, g
 use Rattle.values_forms.proofs.form.+group_end_value_length.Goals as goal
 
 pub group_end-loop-i-init : goal.group_end-loop-i-init
-group_end-loop-i-init t c = (omega arith, omega arith, c.requires.1, rw sub-zero)
+group_end-loop-i-init t c = (omega arith, omega arith, c.requires, rw sub-zero)
 
 pub group_end-value_length-k-requires : goal.group_end-value_length-k-requires
-group_end-value_length-k-requires t c = (omega (arith, c.requires.0), tt)
+group_end-value_length-k-requires t c = (omega (arith, c.decreases), tt)
 
 pub group_end-returns-then-k-eq0 : goal.group_end-returns-then-k-eq0
 group_end-returns-then-k-eq0 t c =
     let s = c.args in
-    let l = c.loop-i in
-    let v = c.value_length-k in (
+    let l = c.loop-i in (
       group_none (value_length (size_of s.givens.now) s.depth) s.ascending s.w.now s.n l.i l.last l.at c.loop-i-test.true
-          (rw (← c.from.ensures) (sym v.ensures.0 ∙ c.if-k-eq0.true)) ∙ sym l.invariant.3,
+          (rw (← c.from.ensures) (sym c.value_length-k.ensures.0 ∙ c.if-k-eq0.true)) ∙ sym l.invariant.3,
       omega arith,
     )
 
@@ -28,15 +27,14 @@ pub group_end-loop-i-preserved : goal.group_end-loop-i-preserved
 group_end-loop-i-preserved t c =
     let s = c.args in
     let l = c.loop-i in
-    let v = c.value_length-k in
     let f = c.from.ensures in
-    let k : v.result ≤ length (drop l.at s.w.now) = rw f at v.ensures.1 in
+    let k : c.value_length-k.result ≤ length (drop l.at s.w.now) = rw f at c.value_length-k.ensures.1 in
     let d = length-drop l.at s.w.now in (
       omega arith,
       omega arith,
       omega arith,
       l.invariant.3 ∙ group_go (value_length (size_of s.givens.now) s.depth) s.ascending s.w.now s.n l.i l.last l.at c.loop-i-test.true
-          v.result (rw f at v.ensures.0) c.if-k-eq0.false
+          c.value_length-k.result (rw f at c.value_length-k.ensures.0) c.if-k-eq0.false
           (rw (← c.span.ensures, ← c.span-in-loop-i.ensures) (sym c.follows.ensures ∙ c.if-follows.true)),
     )
 
@@ -44,10 +42,9 @@ pub group_end-returns-else-follows : goal.group_end-returns-else-follows
 group_end-returns-else-follows t c =
     let s = c.args in
     let l = c.loop-i in
-    let v = c.value_length-k in
     let f = c.from.ensures in (
       group_stop (value_length (size_of s.givens.now) s.depth) s.ascending s.w.now s.n l.i l.last l.at c.loop-i-test.true
-          v.result (rw f at v.ensures.0) c.if-k-eq0.false
+          c.value_length-k.result (rw f at c.value_length-k.ensures.0) c.if-k-eq0.false
           (rw (← c.span.ensures, ← c.span-in-loop-i.ensures) (sym c.follows.ensures ∙ c.if-follows.false)) ∙ sym l.invariant.3,
       omega arith,
     )
@@ -66,39 +63,35 @@ value_length-returns-then-depth-eq0 t c =
 pub value_length-group_end-requires : goal.value_length-group_end-requires
 value_length-group_end-requires t c =
     let s = c.args in
-    (omega (arith, c.requires.0), rw (← c.shape_of-s.ensures, c.in-Set.is) at (shape_within (size_of s.givens.now) s.w.now))
+    (omega (arith, c.decreases), rw (← c.shape_of-s.ensures, c.in-Set.is) at (shape_within (size_of s.givens.now) s.w.now))
 
 pub value_length-group_end-requires-in-Tuple : goal.value_length-group_end-requires-in-Tuple
 value_length-group_end-requires-in-Tuple t c =
     let s = c.args in
-    (omega (arith, c.requires.0), rw (← c.shape_of-s.ensures, c.in-Tuple.is) at (shape_within (size_of s.givens.now) s.w.now))
+    (omega (arith, c.decreases), rw (← c.shape_of-s.ensures, c.in-Tuple.is) at (shape_within (size_of s.givens.now) s.w.now))
 
 pub value_length-returns-in-Broken : goal.value_length-returns-in-Broken
 unfolding by_shape
 value_length-returns-in-Broken t c =
     let s = c.args in
-    let h = c.shape_of-s in
-    (sym (length_level (size_of s.givens.now) s.depth s.w.now c.if-depth-eq0.false h.result h.ensures ∙ rw c.in-Broken.is), omega arith)
+    (sym (length_level (size_of s.givens.now) s.depth s.w.now c.if-depth-eq0.false c.shape_of-s.result c.shape_of-s.ensures ∙ rw c.in-Broken.is), omega arith)
 
 pub value_length-returns-in-Leaf : goal.value_length-returns-in-Leaf
 unfolding by_shape
 value_length-returns-in-Leaf t c =
-    let s = c.args in
-    let h = c.shape_of-s in (
-      sym (length_level (size_of s.givens.now) s.depth s.w.now c.if-depth-eq0.false h.result h.ensures ∙ rw c.in-Leaf.is),
-      rw (← h.ensures, c.in-Leaf.is) at (shape_within (size_of s.givens.now) s.w.now),
+    let s = c.args in (
+      sym (length_level (size_of s.givens.now) s.depth s.w.now c.if-depth-eq0.false c.shape_of-s.result c.shape_of-s.ensures ∙ rw c.in-Leaf.is),
+      rw (← c.shape_of-s.ensures, c.in-Leaf.is) at (shape_within (size_of s.givens.now) s.w.now),
     )
 
 pub value_length-returns-in-Set : goal.value_length-returns-in-Set
 unfolding by_shape
 value_length-returns-in-Set t c =
     let s = c.args in
-    let h = c.shape_of-s in
-    (sym (length_level (size_of s.givens.now) s.depth s.w.now c.if-depth-eq0.false h.result h.ensures ∙ rw c.in-Set.is (sym c.group_end.ensures.0)), c.group_end.ensures.1)
+    (sym (length_level (size_of s.givens.now) s.depth s.w.now c.if-depth-eq0.false c.shape_of-s.result c.shape_of-s.ensures ∙ rw c.in-Set.is (sym c.group_end.ensures.0)), c.group_end.ensures.1)
 
 pub value_length-returns-in-Tuple : goal.value_length-returns-in-Tuple
 unfolding by_shape
 value_length-returns-in-Tuple t c =
     let s = c.args in
-    let h = c.shape_of-s in
-    (sym (length_level (size_of s.givens.now) s.depth s.w.now c.if-depth-eq0.false h.result h.ensures ∙ rw c.in-Tuple.is (sym c.group_end-in-Tuple.ensures.0)), c.group_end-in-Tuple.ensures.1)
+    (sym (length_level (size_of s.givens.now) s.depth s.w.now c.if-depth-eq0.false c.shape_of-s.result c.shape_of-s.ensures ∙ rw c.in-Tuple.is (sym c.group_end-in-Tuple.ensures.0)), c.group_end-in-Tuple.ensures.1)

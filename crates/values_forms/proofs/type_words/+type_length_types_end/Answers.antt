@@ -15,37 +15,35 @@ type_length-returns-then-depth-eq0 t c =
 pub type_length-types_end-requires : goal.type_length-types_end-requires
 type_length-types_end-requires t c =
     let s = c.args in
-    (omega (arith, c.requires.0), rw (← c.former_of-f.ensures, c.in-Group.is) at (former_bounded s.w.now))
+    (omega (arith, c.decreases), rw (← c.former_of-f.ensures, c.in-Group.is) at (former_bounded s.w.now))
 
 pub type_length-returns-in-Plain : goal.type_length-returns-in-Plain
 unfolding by_former
 type_length-returns-in-Plain t c =
     let s = c.args in
-    let h = c.former_of-f in
-    (sym (type_level s.depth s.w.now c.if-depth-eq0.false h.result h.ensures ∙ rw c.in-Plain.is (sym c.clip.ensures.0)), c.clip.ensures.1)
+    (sym (type_level s.depth s.w.now c.if-depth-eq0.false c.former_of-f.result c.former_of-f.ensures ∙ rw c.in-Plain.is (sym c.clip.ensures.0)), c.clip.ensures.1)
 
 pub type_length-returns-in-Group : goal.type_length-returns-in-Group
 unfolding by_former
 type_length-returns-in-Group t c =
     let s = c.args in
-    let h = c.former_of-f in
-    (sym (type_level s.depth s.w.now c.if-depth-eq0.false h.result h.ensures ∙ rw (c.in-Group.is, ← c.types_end.ensures) (sym c.clip-in-Group.ensures.0)), c.clip-in-Group.ensures.1)
+    (sym (type_level s.depth s.w.now c.if-depth-eq0.false c.former_of-f.result c.former_of-f.ensures ∙ rw (c.in-Group.is, ← c.types_end.ensures) (sym c.clip-in-Group.ensures.0)), c.clip-in-Group.ensures.1)
 
 pub types_end-loop-i-init : goal.types_end-loop-i-init
-types_end-loop-i-init t c = (omega arith, omega (arith, c.requires.1), rw sub-zero)
+types_end-loop-i-init t c = (omega arith, omega (arith, c.requires), rw sub-zero)
 
 pub types_end-overflow_add-at : goal.types_end-overflow_add-at
-types_end-overflow_add-at t c = omega (arith, c.requires.1, c.well_formed.0)
+types_end-overflow_add-at t c = omega (arith, c.requires, c.well_formed.0)
 
 pub types_end-type_length-at-requires : goal.types_end-type_length-at-requires
-types_end-type_length-at-requires t c = (omega (arith, c.requires.0), tt)
+types_end-type_length-at-requires t c = (omega (arith, c.decreases), tt)
 
 pub types_end-overflow_add-at-in-loop-i : goal.types_end-overflow_add-at-in-loop-i
 types_end-overflow_add-at-in-loop-i t c =
     let s = c.args in
     let l = c.loop-i in
     let k : c.type_length-at.result ≤ length (drop (l.at + s.skip) s.w.now) = rw c.from.ensures at c.type_length-at.ensures.1 in
-    omega (arith, length-drop (l.at + s.skip) s.w.now, c.requires.1, c.well_formed.0)
+    omega (arith, length-drop (l.at + s.skip) s.w.now, c.requires, c.well_formed.0)
 
 pub types_end-loop-i-preserved : goal.types_end-loop-i-preserved
 types_end-loop-i-preserved t c =
@@ -54,7 +52,7 @@ types_end-loop-i-preserved t c =
     let f = c.from.ensures in
     let k : c.type_length-at.result ≤ length (drop (l.at + s.skip) s.w.now) = rw f at c.type_length-at.ensures.1 in (
       omega arith,
-      omega (arith, length-drop (l.at + s.skip) s.w.now, c.requires.1),
+      omega (arith, length-drop (l.at + s.skip) s.w.now, c.requires),
       l.invariant.2 ∙ types_go (type_length s.depth) s.skip s.w.now s.n l.i l.at c.loop-i-test.true c.type_length-at.result (rw f at c.type_length-at.ensures.0),
     )
 

@@ -11,7 +11,7 @@ pub each_has-loop-i-init : goal.each_has-loop-i-init
 each_has-loop-i-init t c = (omega arith, omega arith, omega arith, rw sub-zero)
 
 pub each_has-type_of-requires : goal.each_has-type_of-requires
-each_has-type_of-requires t c = (omega (arith, c.requires.0), tt)
+each_has-type_of-requires t c = (omega (arith, c.decreases), tt)
 
 pub each_has-overflow_add-here : goal.each_has-overflow_add-here
 each_has-overflow_add-here t c =
@@ -56,25 +56,22 @@ pub type_of-each_has-requires : goal.type_of-each_has-requires
 type_of-each_has-requires t c =
     let s = c.args in
     let n = rw (← c.test_of-q.ensures, c.in-Each.is) at (test_counted s.t.now s.w.now) in
-    (omega (arith, c.requires.0), omega (arith, n, c.type_inv.w 1))
+    (omega (arith, c.decreases), omega (arith, n, c.type_inv.w 1))
 
 pub type_of-returns-in-Fails : goal.type_of-returns-in-Fails
 unfolding by_test
 type_of-returns-in-Fails t c =
     let s = c.args in
-    let h = c.test_of-q in
-    sym (typed_level s.depth s.t.now s.w.now c.if-depth-eq0.false h.result h.ensures ∙ rw c.in-Fails.is)
+    sym (typed_level s.depth s.t.now s.w.now c.if-depth-eq0.false c.test_of-q.result c.test_of-q.ensures ∙ rw c.in-Fails.is)
 
 pub type_of-returns-in-Passes : goal.type_of-returns-in-Passes
 unfolding by_test
 type_of-returns-in-Passes t c =
     let s = c.args in
-    let h = c.test_of-q in
-    sym (typed_level s.depth s.t.now s.w.now c.if-depth-eq0.false h.result h.ensures ∙ rw c.in-Passes.is)
+    sym (typed_level s.depth s.t.now s.w.now c.if-depth-eq0.false c.test_of-q.result c.test_of-q.ensures ∙ rw c.in-Passes.is)
 
 pub type_of-returns-in-Each : goal.type_of-returns-in-Each
 unfolding by_test
 type_of-returns-in-Each t c =
     let s = c.args in
-    let h = c.test_of-q in
-    sym (typed_level s.depth s.t.now s.w.now c.if-depth-eq0.false h.result h.ensures ∙ rw (c.in-Each.is, ← c.from.ensures) (sym c.each_has.ensures))
+    sym (typed_level s.depth s.t.now s.w.now c.if-depth-eq0.false c.test_of-q.result c.test_of-q.ensures ∙ rw (c.in-Each.is, ← c.from.ensures) (sym c.each_has.ensures))
