@@ -4,4 +4,4 @@ use Rattle.checker_dictionary.proofs.growth.raise.Goals as goal
 
 pub returns : goal.returns
 unfolding raised
-returns c = c.store.ensures ∙ rw (c.wrapping_add_u32.ensures, c.word-x.ensures.0)
+returns c = c.store.ensures ∙ rw (c.wrapping_add_u32.ensures.value, c.word-x.ensures.0)

@@ -12,7 +12,7 @@ pub loop-k-preserved : goal.loop-k-preserved
 loop-k-preserved c =
     let l = c.loop-k in
     let w = c.word-len.ensures.0 in
-    (omega arith, omega arith, c.store.auto.u ∙ l.invariant.2, l.invariant.3 ∙ placed_go _ _ _ _ c.loop-k-test.true ∙ rw (← c.store.ensures, ← w, ← c.wrapping_add_u32-o.ensures))
+    (omega arith, omega arith, c.store.auto.u ∙ l.invariant.2, l.invariant.3 ∙ placed_go _ _ _ _ c.loop-k-test.true ∙ rw (← c.store.ensures, ← w, ← c.wrapping_add_u32-o.ensures.value))
 
 pub shape_of-d : goal.shape_of-d
 shape_of-d c = c.loop-k.invariant.2

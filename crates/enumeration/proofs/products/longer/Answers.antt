@@ -7,4 +7,4 @@ pub returns : goal.returns
 returns c =
     λ ws b.
     let p = c.put.ensures _ (c.put-b.ensures _ (c.put-a.ensures ws b)) in
-    subst (Building _ _) (rw (c.wrapping_add_u32.ensures, c.word.ensures.0, c.from.ensures) (longer_joined ws _ _)) p
+    subst (Building _ _) (rw (c.wrapping_add_u32.ensures.value, c.word.ensures.0, c.from.ensures) (longer_joined ws _ _)) p
