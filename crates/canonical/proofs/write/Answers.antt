@@ -29,5 +29,5 @@ put_rows-requires c =
 pub returns : goal.returns
 returns c =
     let e = nodes_first c.args.doc.now c.requires _ _ _ _ c.word.ensures.0 c.visit-n.ensures.0 c.visit-n.ensures.1 c.span-nodes.ensures in
-    written c.args.doc.now c.requires _ e c.number.new.numbers.1.0 c.number.ensures _ _ c.word.ensures.0 c.visit-n.ensures.1 c.args.output.now _ _ _ c.store.ensures c.put_pairs.ensures
+    written c.args.doc.now c.requires _ e c.number.new.numbers c.number.ensures _ _ c.word.ensures.0 c.visit-n.ensures.1 c.args.output.now _ _ _ c.store.ensures c.put_pairs.ensures
     c.put_rows.ensures

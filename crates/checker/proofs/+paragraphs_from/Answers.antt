@@ -12,10 +12,10 @@ pub overflow_add-i : goal.overflow_add-i
 overflow_add-i t c = let h = from_small _ _ _ _ _ _ c.requires c.if-m-eq0.false in omega arith
 
 pub paragraphs_from-requires : goal.paragraphs_from-requires
-paragraphs_from-requires t c = (omega (arith, c.decreases, c.if-m-eq0.false), from_ask _ _ _ _ _ _ c.requires c.if-m-eq0.false _ _ _ _ _ c.enter-entered.ensures c.in-Accepted.is c.enter-entered.auto.dict.0 c.enter-entered.auto.dict.1.1.0)
+paragraphs_from-requires t c = (omega (arith, c.decreases, c.if-m-eq0.false), from_ask _ _ _ _ _ _ c.requires c.if-m-eq0.false _ _ _ _ _ c.enter-entered.ensures c.in-Accepted.is c.enter-entered.auto.a c.enter-entered.auto.work)
 
 pub returns-in-Accepted : goal.returns-in-Accepted
-returns-in-Accepted t c = λ D R. from_goes _ _ _ c.if-m-eq0.false _ (node_at_lem _ _ _ _ c.word-n.ensures.0 c.operand-k.ensures.0) _ _ _ _ _ _ _ c.enter-entered.ensures c.in-Accepted.is c.enter-entered.auto.dict.1.0 _ _ c.paragraphs_from.ensures D R
+returns-in-Accepted t c = λ D R. from_goes _ _ _ c.if-m-eq0.false _ (node_at_lem _ _ _ _ c.word-n.ensures.0 c.operand-k.ensures.0) _ _ _ _ _ _ _ c.enter-entered.ensures c.in-Accepted.is c.enter-entered.auto.dict _ _ c.paragraphs_from.ensures D R
 
 pub returns-in-Refused : goal.returns-in-Refused
 returns-in-Refused t c = λ D R. from_stops _ _ _ c.if-m-eq0.false _ (node_at_lem _ _ _ _ c.word-n.ensures.0 c.operand-k.ensures.0) _ _ _ _ _ _ _ c.enter-entered.ensures _ _ c.in-Refused.is D R

@@ -16,7 +16,7 @@ pub extend-requires : goal.extend-requires
 extend-requires c =
     let n = c.word-n.ensures in
     let w = c.requires.1.wide in
-    let l = c.visit-p.auto.work.1.1.0 in
+    let l = c.visit-p.auto.work in
     (n.1, omega arith)
 
 pub returns-then-append : goal.returns-then-append

@@ -4,4 +4,4 @@ use mathlib.Core.Path.{ap, ◌∙◌}
 use Rattle.evaluator.proofs.run.Goals as goal
 
 pub returns : goal.returns
-returns c = record { finding = c.run_read-found.ensures; cleared = c.clear.ensures ∙ ap (λ (n : ℕ). replicate n 0) c.run_read-found.auto.work.1.1.0 }
+returns c = record { finding = c.run_read-found.ensures; cleared = c.clear.ensures ∙ ap (λ (n : ℕ). replicate n 0) c.run_read-found.auto.work }

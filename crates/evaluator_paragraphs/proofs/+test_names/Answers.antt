@@ -67,7 +67,7 @@ test_names-requires t c =
     let v = c.args.v in
     let r = c.requires.1 in
     let w = r.wide in
-    (omega (arith, c.if-x-j.false, c.decreases), (c.requires.0, record { at = r.at; room = r.room; wide = omega (arith, w, c.tests-y.auto.work.1.1.0) }, declares_later x j c.if-x-j.false c.requires.2, c.requires.3, c.requires.4))
+    (omega (arith, c.if-x-j.false, c.decreases), (c.requires.0, record { at = r.at; room = r.room; wide = omega (arith, w, c.tests-y.auto.work) }, declares_later x j c.if-x-j.false c.requires.2, c.requires.3, c.requires.4))
 
 pub returns-then-y : goal.returns-then-y
 returns-then-y t c =

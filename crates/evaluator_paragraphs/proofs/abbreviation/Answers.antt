@@ -34,7 +34,7 @@ put_name-requires c =
     let r = c.requires.2 in
     let f = r.few in
     let w = r.wide in
-    (omega (arith, f, w, c.expr-y.auto.work.1.1.0), omega (arith, f), c.word-then-word-eq0-2.ensures.1, omega (arith, c.bounded.ensures.0))
+    (omega (arith, f, w, c.expr-y.auto.work), omega (arith, f), c.word-then-word-eq0-2.ensures.1, omega (arith, c.bounded.ensures.0))
 
 pub returns-then-word-eq0 : goal.returns-then-word-eq0
 returns-then-word-eq0 c =

@@ -20,69 +20,62 @@ pub paragraph-y-requires : goal.paragraph-y-requires
 paragraph-y-requires c =
     let d = c.args.doc.now in
     let f = said d c.args.state.now in
-    let l = c.loop-j in
     let lw = ap length c.requires.1 in
-    let x : c.word-k.result ≡ operand_at d (count d) l.j = c.word-k.ensures.0 ∙ ap (λ (z : List ℕ). get_or z l.j 0) c.requires.1 in
-    let q : l.j < length (part d (count d)) = omega (arith, lw, c.loop-j-test.true) in
-    let r = l.invariant.3 in
-    (c.requires.0, this_paragraph_lem d f l.j c.requires.0.read l.invariant.1 q _ x, record { few = omega (arith, r.few, global_sum d f l.j c.requires.0.read l.invariant.1 q _ x); wide = r.wide }, declares_this d f l.j c.requires.0.read l.invariant.1 q _ x l.invariant.4)
+    let x : c.word-k.result ≡ operand_at d (count d) c.loop-j.j = c.word-k.ensures.0 ∙ ap (λ (z : List ℕ). get_or z c.loop-j.j 0) c.requires.1 in
+    let q : c.loop-j.j < length (part d (count d)) = omega (arith, lw, c.loop-j-test.true) in
+    let r = c.loop-j.invariant.3 in
+    (c.requires.0, this_paragraph_lem d f c.loop-j.j c.requires.0.read c.loop-j.invariant.1 q _ x, record { few = omega (arith, r.few, global_sum d f c.loop-j.j c.requires.0.read c.loop-j.invariant.1 q _ x); wide = r.wide }, declares_this d f c.loop-j.j c.requires.0.read c.loop-j.invariant.1 q _ x c.loop-j.invariant.4)
 
 pub returns-then-y-ne0 : goal.returns-then-y-ne0
 returns-then-y-ne0 c =
     let d = c.args.doc.now in
     let f = said d c.args.state.now in
-    let l = c.loop-j in
     let lw = ap length c.requires.1 in
-    let x : c.word-k.result ≡ operand_at d (count d) l.j = c.word-k.ensures.0 ∙ ap (λ (z : List ℕ). get_or z l.j 0) c.requires.1 in
-    let q : l.j < length (part d (count d)) = omega (arith, lw, c.loop-j-test.true) in
-    λ scope g. rw lw (l.invariant.5.run _ (λ own h. run_stops d f l.j c.requires.0.read l.invariant.1 q _ x own (c.paragraph-y.ensures own h) c.if-y-ne0.true) scope g)
+    let x : c.word-k.result ≡ operand_at d (count d) c.loop-j.j = c.word-k.ensures.0 ∙ ap (λ (z : List ℕ). get_or z c.loop-j.j 0) c.requires.1 in
+    let q : c.loop-j.j < length (part d (count d)) = omega (arith, lw, c.loop-j-test.true) in
+    λ scope g. rw lw (c.loop-j.invariant.5.run _ (λ own h. run_stops d f c.loop-j.j c.requires.0.read c.loop-j.invariant.1 q _ x own (c.paragraph-y.ensures own h) c.if-y-ne0.true) scope g)
 
 pub global_count-b-requires : goal.global_count-b-requires
 global_count-b-requires c =
     let d = c.args.doc.now in
     let f = said d c.args.state.now in
-    let l = c.loop-j in
     let lw = ap length c.requires.1 in
-    let x : c.word-k.result ≡ operand_at d (count d) l.j = c.word-k.ensures.0 ∙ ap (λ (z : List ℕ). get_or z l.j 0) c.requires.1 in
-    let q : l.j < length (part d (count d)) = omega (arith, lw, c.loop-j-test.true) in
-    this_paragraph_lem d f l.j c.requires.0.read l.invariant.1 q _ x
+    let x : c.word-k.result ≡ operand_at d (count d) c.loop-j.j = c.word-k.ensures.0 ∙ ap (λ (z : List ℕ). get_or z c.loop-j.j 0) c.requires.1 in
+    let q : c.loop-j.j < length (part d (count d)) = omega (arith, lw, c.loop-j-test.true) in
+    this_paragraph_lem d f c.loop-j.j c.requires.0.read c.loop-j.invariant.1 q _ x
 
 pub overflow_add-b : goal.overflow_add-b
 overflow_add-b c =
     let d = c.args.doc.now in
     let f = said d c.args.state.now in
-    let l = c.loop-j in
     let lw = ap length c.requires.1 in
-    let x : c.word-k.result ≡ operand_at d (count d) l.j = c.word-k.ensures.0 ∙ ap (λ (z : List ℕ). get_or z l.j 0) c.requires.1 in
-    let q : l.j < length (part d (count d)) = omega (arith, lw, c.loop-j-test.true) in
-    omega (arith, l.invariant.3.few, c.global_count-b.ensures, global_sum d f l.j c.requires.0.read l.invariant.1 q _ x)
+    let x : c.word-k.result ≡ operand_at d (count d) c.loop-j.j = c.word-k.ensures.0 ∙ ap (λ (z : List ℕ). get_or z c.loop-j.j 0) c.requires.1 in
+    let q : c.loop-j.j < length (part d (count d)) = omega (arith, lw, c.loop-j-test.true) in
+    omega (arith, c.loop-j.invariant.3.few, c.global_count-b.ensures, global_sum d f c.loop-j.j c.requires.0.read c.loop-j.invariant.1 q _ x)
 
 pub loop-j-preserved : goal.loop-j-preserved
 loop-j-preserved c =
     let d = c.args.doc.now in
     let f = said d c.args.state.now in
-    let l = c.loop-j in
     let lw = ap length c.requires.1 in
-    let x : c.word-k.result ≡ operand_at d (count d) l.j = c.word-k.ensures.0 ∙ ap (λ (z : List ℕ). get_or z l.j 0) c.requires.1 in
-    let q : l.j < length (part d (count d)) = omega (arith, lw, c.loop-j-test.true) in
-    let r = l.invariant.3 in
-    let k = c.paragraph-y.auto.work.1.1.1.0 in
-    (k ∙ l.invariant.0, omega arith, omega (arith, (document_words_lem d c.requires.0.read).1), record { few = omega (arith, r.few, c.global_count-b.ensures, global_sum d f l.j c.requires.0.read l.invariant.1 q _ x); wide = omega (arith, r.wide, k) }, declares_others d f l.j c.requires.0.read l.invariant.1 q _ x l.invariant.4, record { run = λ r' h. l.invariant.5.run r' (λ own g. run_goes d f l.j c.requires.0.read l.invariant.1 q _ x own (c.paragraph-y.ensures own g) c.if-y-ne0.false c.if-y.true (λ own' g'. h own' (rw c.global_count-b.ensures g'))) })
+    let x : c.word-k.result ≡ operand_at d (count d) c.loop-j.j = c.word-k.ensures.0 ∙ ap (λ (z : List ℕ). get_or z c.loop-j.j 0) c.requires.1 in
+    let q : c.loop-j.j < length (part d (count d)) = omega (arith, lw, c.loop-j-test.true) in
+    let r = c.loop-j.invariant.3 in
+    let k = c.paragraph-y.auto.work in
+    (k ∙ c.loop-j.invariant.0, omega arith, omega (arith, (document_words_lem d c.requires.0.read).1), record { few = omega (arith, r.few, c.global_count-b.ensures, global_sum d f c.loop-j.j c.requires.0.read c.loop-j.invariant.1 q _ x); wide = omega (arith, r.wide, k) }, declares_others d f c.loop-j.j c.requires.0.read c.loop-j.invariant.1 q _ x c.loop-j.invariant.4, record { run = λ r' h. c.loop-j.invariant.5.run r' (λ own g. run_goes d f c.loop-j.j c.requires.0.read c.loop-j.invariant.1 q _ x own (c.paragraph-y.ensures own g) c.if-y-ne0.false c.if-y.true (λ own' g'. h own' (rw c.global_count-b.ensures g'))) })
 
 pub returns-else-y : goal.returns-else-y
 returns-else-y c =
     let d = c.args.doc.now in
     let f = said d c.args.state.now in
-    let l = c.loop-j in
     let lw = ap length c.requires.1 in
-    let x : c.word-k.result ≡ operand_at d (count d) l.j = c.word-k.ensures.0 ∙ ap (λ (z : List ℕ). get_or z l.j 0) c.requires.1 in
-    let q : l.j < length (part d (count d)) = omega (arith, lw, c.loop-j-test.true) in
-    λ scope g. rw lw (l.invariant.5.run _ (λ own h. run_fails d f l.j c.requires.0.read l.invariant.1 q _ x own (c.paragraph-y.ensures own h) c.if-y-ne0.false c.if-y.false) scope g)
+    let x : c.word-k.result ≡ operand_at d (count d) c.loop-j.j = c.word-k.ensures.0 ∙ ap (λ (z : List ℕ). get_or z c.loop-j.j 0) c.requires.1 in
+    let q : c.loop-j.j < length (part d (count d)) = omega (arith, lw, c.loop-j-test.true) in
+    λ scope g. rw lw (c.loop-j.invariant.5.run _ (λ own h. run_fails d f c.loop-j.j c.requires.0.read c.loop-j.invariant.1 q _ x own (c.paragraph-y.ensures own h) c.if-y-ne0.false c.if-y.false) scope g)
 
 pub returns : goal.returns
 returns c =
     let d = c.args.doc.now in
     let f = said d c.args.state.now in
-    let l = c.loop-j in
     let lw = ap length c.requires.1 in
-    λ scope g. rw lw (l.invariant.5.run _ (λ own h. run_over d f l.j own (omega (arith, lw, c.loop-j-test.false)) c.judge.ensures.0 c.judge.ensures.1) scope g)
+    λ scope g. rw lw (c.loop-j.invariant.5.run _ (λ own h. run_over d f c.loop-j.j own (omega (arith, lw, c.loop-j-test.false)) c.judge.ensures.0 c.judge.ensures.1) scope g)

@@ -14,12 +14,11 @@ loop-i-init c = (omega arith, refl, refl)
 
 pub loop-i-preserved : goal.loop-i-preserved
 loop-i-preserved c =
-    let l = c.loop-i in
     let w = c.word_at.ensures in
-    let next = store_next c.args.bytes.now c.args.words.now l.i (omega arith) in (
+    let next = store_next c.args.bytes.now c.args.words.now c.loop-i.i (omega arith) in (
       omega arith,
-      c.store.auto.u ∙ l.invariant.1,
-      c.store.ensures ∙ ap (λ (z : List ℕ). set z l.i c.word_at.result) l.invariant.2 ∙ ap (set (first_words c.args.bytes.now l.i ++ drop l.i c.args.words.now) l.i) w ∙ next,
+      c.store.auto.u ∙ c.loop-i.invariant.1,
+      c.store.ensures ∙ ap (λ (z : List ℕ). set z c.loop-i.i c.word_at.result) c.loop-i.invariant.2 ∙ ap (set (first_words c.args.bytes.now c.loop-i.i ++ drop c.loop-i.i c.args.words.now) c.loop-i.i) w ∙ next,
     )
 
 pub shape_of-words : goal.shape_of-words
@@ -27,6 +26,5 @@ shape_of-words c = c.loop-i.invariant.1
 
 pub returns : goal.returns
 returns c =
-    let l = c.loop-i in
-    let e : l.i ≡ c.args.n = omega arith in
-    l.invariant.2 ∙ ap (λ (k : ℕ). first_words c.args.bytes.now k ++ drop k c.args.words.now) e
+    let e : c.loop-i.i ≡ c.args.n = omega arith in
+    c.loop-i.invariant.2 ∙ ap (λ (k : ℕ). first_words c.args.bytes.now k ++ drop k c.args.words.now) e

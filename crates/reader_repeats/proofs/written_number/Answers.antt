@@ -19,10 +19,10 @@ returns-then-mark_new-2 c =
     let e = repeat_eq d a.up.now c.requires.linked.0 a.k c.requires.linked.1 c.requires.linked.2 a.seen.now a.names.now c.requires.written in
     let o = written_on d a.up.now c.requires.linked.0 a.k c.requires.linked.1 c.requires.linked.2 a.seen.now a.names.now c.requires.written in
     let g : c.mark_new.result ≡ unmarked (globals d a.k) a.seen.now = rw c.globals_at.ensures at c.mark_new.ensures.0 in
-    let h : c.mark_new.new.seen.1.0 ≡ marked (globals d a.k) a.seen.now = rw c.globals_at.ensures at (c.mark_new.ensures.1 c.if-mark_new.true) in
+    let h : c.mark_new.new.seen ≡ marked (globals d a.k) a.seen.now = rw c.globals_at.ensures at (c.mark_new.ensures.1 c.if-mark_new.true) in
     let x : c.are_distinct.result ≡ distinct (parameters d a.k) = rw c.parameters_at.ensures at c.are_distinct.ensures in
     let m : c.mark_new-then-are_distinct.result ≡ unmarked (schemas d a.k) a.names.now = rw c.schemas_at.ensures at c.mark_new-then-are_distinct.ensures.0 in
-    let n : c.mark_new-then-are_distinct.new.seen.1.0 ≡ marked (schemas d a.k) a.names.now = rw c.schemas_at.ensures at (c.mark_new-then-are_distinct.ensures.1 c.if-mark_new-2.true) in
+    let n : c.mark_new-then-are_distinct.new.seen ≡ marked (schemas d a.k) a.names.now = rw c.schemas_at.ensures at (c.mark_new-then-are_distinct.ensures.1 c.if-mark_new-2.true) in
     (rw (e, ← g, c.if-mark_new.true, ← c.repeats_in_text.ensures, c.if-repeats_in_text.false, ← x, c.if-are_distinct.true, ← m, c.if-mark_new-2.true), λ z. rw (h, n) o)
 
 pub returns-then-are_distinct : goal.returns-then-are_distinct

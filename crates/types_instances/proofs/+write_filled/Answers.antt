@@ -96,20 +96,19 @@ loop-j-smaller t c = let q = c.loop-j-test.true in omega arith
 pub loop-j-preserved : goal.loop-j-preserved
 loop-j-preserved t c =
     let P = c.requires.filling in
-    let L = c.loop-j in
     let l = c.loop-j-test.true in
-    let o = L.invariant.0 in
-    let T = emit_step _ _ _ _ _ _ _ _ _ _ (L.invariant.2 P.type P.actuals.types P.reads P.actuals.stand) l in
+    let o = c.loop-j.invariant.0 in
+    let T = emit_step _ _ _ _ _ _ _ _ _ _ (c.loop-j.invariant.2 P.type P.actuals.types P.reads P.actuals.stand) l in
     let e = c.skip-q.ensures.is T.part T.reads in (
       omega arith,
-      c.write_filled-e.auto.out.1.1.1.1.0 ∙ c.put_words-e-in-loop-j.auto.out.1.1.1.1.0 ∙ L.invariant.1,
+      c.write_filled-e.auto.out ∙ c.put_words-e-in-loop-j.auto.out ∙ c.loop-j.invariant.1,
       λ g hs R S.
-          let U = emit_step _ _ _ _ _ _ _ _ _ _ (L.invariant.2 g hs R S) l in
+          let U = emit_step _ _ _ _ _ _ _ _ _ _ (c.loop-j.invariant.2 g hs R S) l in
           U.next _ _ _ _ _ c.put_words-e-in-loop-j.ensures (c.write_filled-e.ensures.is U.part hs U.reads S) (c.skip-q.ensures.is U.part U.reads),
     )
 
 pub shape_of-out : goal.shape_of-out
-shape_of-out t c = c.loop-j.invariant.1 ∙ c.put_words-e.auto.out.1.1.1.1.0
+shape_of-out t c = c.loop-j.invariant.1 ∙ c.put_words-e.auto.out
 
 pub returns : goal.returns
 returns t c =

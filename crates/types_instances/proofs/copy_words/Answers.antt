@@ -16,13 +16,12 @@ pub loop-j-preserved : goal.loop-j-preserved
 loop-j-preserved c =
     let s = c.args in
     let P = c.requires in
-    let L = c.loop-j in
     let l = c.loop-j-test.true in
     let E = c.store.ensures in (
       omega arith,
-      ap length E ∙ length-set L.a (s.at + L.j) c.word.result ∙ L.invariant.1,
-      subst (λ z. Copied s.a.now z s.at (run s.from.now s.first s.k) (L.j + 1)) (sym E)
-          (copied_step s.a.now L.a s.at s.from.now s.first s.k L.j c.word.result P.0 l c.word.ensures.0 L.invariant.2),
+      ap length E ∙ length-set c.loop-j.a (s.at + c.loop-j.j) c.word.result ∙ c.loop-j.invariant.1,
+      subst (λ z. Copied s.a.now z s.at (run s.from.now s.first s.k) (c.loop-j.j + 1)) (sym E)
+          (copied_step s.a.now c.loop-j.a s.at s.from.now s.first s.k c.loop-j.j c.word.result P.0 l c.word.ensures.0 c.loop-j.invariant.2),
     )
 
 pub shape_of-a : goal.shape_of-a
@@ -31,5 +30,4 @@ shape_of-a c = c.loop-j.invariant.1
 pub returns : goal.returns
 returns c =
     let s = c.args in
-    let L = c.loop-j in
-    sym (copied_end s.a.now L.a s.at s.from.now s.first s.k L.j c.requires.0 c.loop-j-test.false L.invariant.2)
+    sym (copied_end s.a.now c.loop-j.a s.at s.from.now s.first s.k c.loop-j.j c.requires.0 c.loop-j-test.false c.loop-j.invariant.2)

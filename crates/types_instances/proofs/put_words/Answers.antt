@@ -18,13 +18,12 @@ pub loop-j-preserved : goal.loop-j-preserved
 loop-j-preserved c =
     let s = c.args in
     let P = c.requires in
-    let L = c.loop-j in
     let l = c.loop-j-test.true in
     let E = c.store.ensures in (
       omega arith,
-      ap length E ∙ length-set L.out (s.at + L.j) c.type_word.result ∙ L.invariant.1,
-      subst (λ z. Copied s.out.now z s.at (run (heap s.a.now s.d.now) s.p s.k) (L.j + 1)) (sym E)
-          (copied_step s.out.now L.out s.at (heap s.a.now s.d.now) s.p s.k L.j c.type_word.result P.1 l c.type_word.ensures.0 L.invariant.2),
+      ap length E ∙ length-set c.loop-j.out (s.at + c.loop-j.j) c.type_word.result ∙ c.loop-j.invariant.1,
+      subst (λ z. Copied s.out.now z s.at (run (heap s.a.now s.d.now) s.p s.k) (c.loop-j.j + 1)) (sym E)
+          (copied_step s.out.now c.loop-j.out s.at (heap s.a.now s.d.now) s.p s.k c.loop-j.j c.type_word.result P.1 l c.type_word.ensures.0 c.loop-j.invariant.2),
     )
 
 pub shape_of-out : goal.shape_of-out
@@ -34,8 +33,7 @@ pub returns : goal.returns
 returns c =
     let s = c.args in
     let P = c.requires in
-    let L = c.loop-j in
     record {
-      area = sym (copied_end s.out.now L.out s.at (heap s.a.now s.d.now) s.p s.k L.j P.1 c.loop-j-test.false L.invariant.2);
+      area = sym (copied_end s.out.now c.loop-j.out s.at (heap s.a.now s.d.now) s.p s.k c.loop-j.j P.1 c.loop-j-test.false c.loop-j.invariant.2);
       end = ap (λ z. s.at + z) (sym (run_length (heap s.a.now s.d.now) s.p s.k P.1));
     }

@@ -10,15 +10,13 @@ loop-i-init c = (refl, refl)
 pub loop-i-preserved : goal.loop-i-preserved
 loop-i-preserved c =
     let s = c.args in
-    let L = c.loop-i in
     let E = c.store.ensures in (
-      ap length E ∙ length-set L.a L.i 0 ∙ L.invariant.0,
-      subst (λ z. Wiped s.a.now z s.from s.to (L.i + 1)) (sym E)
-          (wiped_step s.a.now L.a s.from s.to L.i c.loop-i-test.true L.invariant.1),
+      ap length E ∙ length-set c.loop-i.a c.loop-i.i 0 ∙ c.loop-i.invariant.0,
+      subst (λ z. Wiped s.a.now z s.from s.to (c.loop-i.i + 1)) (sym E)
+          (wiped_step s.a.now c.loop-i.a s.from s.to c.loop-i.i c.loop-i-test.true c.loop-i.invariant.1),
     )
 
 pub returns : goal.returns
 returns c =
     let s = c.args in
-    let L = c.loop-i in
-    sym (wiped_end s.a.now L.a s.from s.to L.i c.loop-i-test.false L.invariant.1)
+    sym (wiped_end s.a.now c.loop-i.a s.from s.to c.loop-i.i c.loop-i-test.false c.loop-i.invariant.1)

@@ -44,7 +44,7 @@ returns-then-q-eq0 c =
           let n = actual_none H s.row.now hs v S (ap (place_of s.row.now) (sym c.type_word.ensures.0) ∙ sym c.actual-q.ensures ∙ c.if-q-eq0.true) in
           let e : run H s.p 2 ≡ words (fill hs g) =
           run_words_lem H s.p (6 ∷ v ∷ []) R.after 2 refl (subst (λ z. drop s.p H ≡ z ++ R.after) q.1 R.words_at) ∙ sym (ap words (q.0 ∙ n) ∙ parameter_words v) in
-          subst (λ z. Wrote s.out.now c.put_words.new.out.1.1.1.1.0 s.at c.put_words.result z) e c.put_words.ensures;
+          subst (λ z. Wrote s.out.now c.put_words.new.out s.at c.put_words.result z) e c.put_words.ensures;
     }
 
 pub put_type-requires : goal.put_type-requires
@@ -70,5 +70,5 @@ returns c =
           let G = row_some H s.row.now hs v (q - 1) S (sym c.actual-q.ensures ∙ (let z : q ≡ suc (q - 1) = omega arith in z)) in
           let f = parameter_fill H s.p g hs R c.requires.1 in
           let e : G.type ≡ fill hs g = sym (f.0 ∙ ap (λ z. actual_type (nth_type hs z) z tnil) (sym c.type_word.ensures.0) ∙ actual_some H hs v (q - 1) G) in
-          subst (λ z. Wrote s.out.now c.put_type.new.out.1.1.0 s.at c.put_type.result (words z)) e (c.put_type.ensures.is G.type G.reads);
+          subst (λ z. Wrote s.out.now c.put_type.new.out s.at c.put_type.result (words z)) e (c.put_type.ensures.is G.type G.reads);
     }

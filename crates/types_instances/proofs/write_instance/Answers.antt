@@ -17,7 +17,7 @@ returns-then-row-eq0 c =
     let s = c.args in
     record {
       is = λ g hs R S.
-          subst (λ z. Wrote s.out.now c.put_type.new.out.1.1.0 s.at c.put_type.result (words z))
+          subst (λ z. Wrote s.out.now c.put_type.new.out s.at c.put_type.result (words z))
           (sym (none_stays (heap s.a.now s.d.now) s.row.now hs g c.if-row-eq0.true S))
           (c.put_type.ensures.is g R);
     }

@@ -12,8 +12,7 @@ loop-i-init c = (omega arith, refl, rw add-zero)
 pub loop-i-preserved : goal.loop-i-preserved
 loop-i-preserved c =
     let a = c.args in
-    let l = c.loop-i in
-    (omega arith, length-set l.u (a.at + l.i) _ ∙ l.invariant.1, l.invariant.2 ∙ sets_go a.w.now l.u a.at l.i (omega arith))
+    (omega arith, length-set c.loop-i.u (a.at + c.loop-i.i) _ ∙ c.loop-i.invariant.1, c.loop-i.invariant.2 ∙ sets_go a.w.now c.loop-i.u a.at c.loop-i.i (omega arith))
 
 pub shape_of-u : goal.shape_of-u
 shape_of-u c = c.loop-i.invariant.1
@@ -21,5 +20,4 @@ shape_of-u c = c.loop-i.invariant.1
 pub returns : goal.returns
 returns c =
     let a = c.args in
-    let l = c.loop-i in
-    sym (l.invariant.2 ∙ sets_end a.w.now l.u a.at l.i (omega arith))
+    sym (c.loop-i.invariant.2 ∙ sets_end a.w.now c.loop-i.u a.at c.loop-i.i (omega arith))

@@ -14,10 +14,9 @@ loop-i-init t c = (omega arith, omega arith, refl, left_start _ _ _ _ _)
 
 pub visit-end-requires : goal.visit-end-requires
 visit-end-requires t c =
-    let l = c.loop-i in
     let v =
-    operand_visit c.args.doc.now c.args.k c.args.at c.requires _ c.part-w.ensures _ c.operand_count-n.ensures l.i l.end _ l.order _ l.invariant.0
-    c.loop-i-test.true l.invariant.3 refl c.word.result (subst (λ x. ltb 5 x ≡ true) c.sort_at.ensures (lt-ltb _ _ c.if-sort_at-gt-LAST_PLAIN.true)) c.word.ensures.0
+    operand_visit c.args.doc.now c.args.k c.args.at c.requires _ c.part-w.ensures _ c.operand_count-n.ensures c.loop-i.i c.loop-i.end _ c.loop-i.order _ c.loop-i.invariant.0
+    c.loop-i-test.true c.loop-i.invariant.3 refl c.word.result (subst (λ x. ltb 5 x ≡ true) c.sort_at.ensures (lt-ltb _ _ c.if-sort_at-gt-LAST_PLAIN.true)) c.word.ensures.0
     in
     let m = c.decreases in
     let b = v.0 in
@@ -25,15 +24,14 @@ visit-end-requires t c =
 
 pub loop-i-preserved : goal.loop-i-preserved
 loop-i-preserved t c =
-    let l = c.loop-i in
     let t = c.loop-i-test.true in
     let q = c.sort_at.ensures in (
       omega arith,
       omega arith,
-      ⊎_elim (λ p. ap length p.6 ∙ p.3.kept.1.1.0 ∙ l.invariant.2) (λ p. ap length p.1 ∙ l.invariant.2) c.if-sort_at-gt-LAST_PLAIN.branch-raw,
+      ⊎_elim (λ p. ap length p.6 ∙ p.3.kept.1.1.0 ∙ c.loop-i.invariant.2) (λ p. ap length p.1 ∙ c.loop-i.invariant.2) c.if-sort_at-gt-LAST_PLAIN.branch-raw,
       ⊎_elim
-          (λ p. rw (p.6, p.7) (left_node _ _ _ _ _ _ _ _ t l.invariant.3 p.1.result (subst (λ x. ltb 5 x ≡ true) q (lt-ltb _ _ p.0.true)) p.1.ensures.0 _ _ p.3.ensures.0 p.3.ensures.1))
-          (λ p. rw (p.1, p.2) (left_plain _ _ _ _ _ _ _ _ t l.invariant.3 (subst (λ x. ltb 5 x ≡ false) q (le-ltb _ _ p.0.false))))
+          (λ p. rw (p.6, p.7) (left_node _ _ _ _ _ _ _ _ t c.loop-i.invariant.3 p.1.result (subst (λ x. ltb 5 x ≡ true) q (lt-ltb _ _ p.0.true)) p.1.ensures.0 _ _ p.3.ensures.0 p.3.ensures.1))
+          (λ p. rw (p.1, p.2) (left_plain _ _ _ _ _ _ _ _ t c.loop-i.invariant.3 (subst (λ x. ltb 5 x ≡ false) q (le-ltb _ _ p.0.false))))
           c.if-sort_at-gt-LAST_PLAIN.branch-raw,
     )
 
@@ -44,8 +42,7 @@ overflow_cast-k t c =
 
 pub overflow_add-result : goal.overflow_add-result
 overflow_add-result t c =
-    let l = c.loop-i in
-    let e = (left_end _ _ _ _ _ _ _ _ (omega arith) l.invariant.3).1 in
+    let e = (left_end _ _ _ _ _ _ _ _ (omega arith) c.loop-i.invariant.3).1 in
     let v = visit_length c.args.doc.now c.args.k c.args.at c.requires _ c.part-w.ensures _ c.operand_count-n.ensures in
     let r = c.requires.room in
     omega (arith, e, v, r)
@@ -55,7 +52,6 @@ shape_of-order t c = c.store.auto.u ∙ c.loop-i.invariant.2
 
 pub returns : goal.returns
 returns t c =
-    let l = c.loop-i in
-    let e = left_end _ _ _ _ _ _ _ _ (omega arith) l.invariant.3 in
-    let v = visited c.args.doc.now c.args.k c.args.at c.requires _ c.part-w.ensures _ c.operand_count-n.ensures _ l.order l.end e.0 e.1 in
+    let e = left_end _ _ _ _ _ _ _ _ (omega arith) c.loop-i.invariant.3 in
+    let v = visited c.args.doc.now c.args.k c.args.at c.requires _ c.part-w.ensures _ c.operand_count-n.ensures _ c.loop-i.order c.loop-i.end e.0 e.1 in
     (c.store.ensures ∙ v.0, v.1)

@@ -21,16 +21,13 @@ pub loop-i-preserved : goal.loop-i-preserved
 loop-i-preserved c =
     let s = c.args in
     let p = c.requires in
-    let l = c.loop-i in
     let t = c.loop-i-test.true in (
       omega arith,
-      ap length c.store.ensures ∙ length-set l.numbers c.word.result _ ∙ l.invariant.1,
-      subst (λ u. NumbersTo s.nodes.now (l.i + 1) u) (sym c.store.ensures)
-          (numbers_next s.nodes.now l.numbers l.i c.word.result p.distinct (omega arith) (sym c.word.ensures.0)
-          (let b = p.inside l.i (omega arith) in let e = c.word.ensures.0 in let q = l.invariant.1 in omega (arith, b, e, q)) l.invariant.2),
+      ap length c.store.ensures ∙ length-set c.loop-i.numbers c.word.result _ ∙ c.loop-i.invariant.1,
+      subst (λ u. NumbersTo s.nodes.now (c.loop-i.i + 1) u) (sym c.store.ensures)
+          (numbers_next s.nodes.now c.loop-i.numbers c.loop-i.i c.word.result p.distinct (omega arith) (sym c.word.ensures.0)
+          (let b = p.inside c.loop-i.i (omega arith) in let e = c.word.ensures.0 in let q = c.loop-i.invariant.1 in omega (arith, b, e, q)) c.loop-i.invariant.2),
     )
 
 pub returns : goal.returns
-returns c =
-    let l = c.loop-i in
-    numbers_all c.args.nodes.now l.numbers l.i (omega arith) l.invariant.2
+returns c = numbers_all c.args.nodes.now c.loop-i.numbers c.loop-i.i (omega arith) c.loop-i.invariant.2

@@ -32,15 +32,13 @@ overflow_add-i-in-loop-i c = let r = c.requires.room in let t = c.loop-i-test.tr
 pub overflow_cast-len : goal.overflow_cast-len
 overflow_cast-len c =
     let s = c.args in
-    let l = c.loop-i in
-    let r = row_room (part s.doc.now) s.nodes.now l.i _ _ c.loop-i-test.true c.word.ensures.0 c.part-w.ensures l.at l.invariant.2.room in
+    let r = row_room (part s.doc.now) s.nodes.now c.loop-i.i _ _ c.loop-i-test.true c.word.ensures.0 c.part-w.ensures c.loop-i.at c.loop-i.invariant.2.room in
     omega (arith, r)
 
 pub overflow_add-at-in-loop-i : goal.overflow_add-at-in-loop-i
 overflow_add-at-in-loop-i c =
     let s = c.args in
-    let l = c.loop-i in
-    let r = row_room (part s.doc.now) s.nodes.now l.i _ _ c.loop-i-test.true c.word.ensures.0 c.part-w.ensures l.at l.invariant.2.room in
+    let r = row_room (part s.doc.now) s.nodes.now c.loop-i.i _ _ c.loop-i-test.true c.word.ensures.0 c.part-w.ensures c.loop-i.at c.loop-i.invariant.2.room in
     omega (arith, r)
 
 pub overflow_add-i-in-loop-i-2 : goal.overflow_add-i-in-loop-i-2
@@ -49,16 +47,14 @@ overflow_add-i-in-loop-i-2 c = let r = c.requires.room in let t = c.loop-i-test.
 pub loop-i-preserved : goal.loop-i-preserved
 loop-i-preserved c =
     let s = c.args in
-    let l = c.loop-i in
     let t = c.loop-i-test.true in (
       omega arith,
-      c.store-in-loop-i.auto.u ∙ c.store.auto.u ∙ l.invariant.1,
-      pairs_next (part s.doc.now) s.nodes.now l.i _ _ t c.word.ensures.0 c.part-w.ensures l.at l.output _ _ _ c.store.ensures c.store-in-loop-i.ensures
-          l.invariant.2,
+      c.store-in-loop-i.auto.u ∙ c.store.auto.u ∙ c.loop-i.invariant.1,
+      pairs_next (part s.doc.now) s.nodes.now c.loop-i.i _ _ t c.word.ensures.0 c.part-w.ensures c.loop-i.at c.loop-i.output _ _ _ c.store.ensures c.store-in-loop-i.ensures
+          c.loop-i.invariant.2,
     )
 
 pub returns : goal.returns
 returns c =
     let s = c.args in
-    let l = c.loop-i in
-    pairs_done (part s.doc.now) s.nodes.now l.i l.at l.output _ (omega arith) l.invariant.2
+    pairs_done (part s.doc.now) s.nodes.now c.loop-i.i c.loop-i.at c.loop-i.output _ (omega arith) c.loop-i.invariant.2

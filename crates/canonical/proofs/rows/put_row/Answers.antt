@@ -17,19 +17,17 @@ overflow_add-i c = let p = c.requires.1 in omega arith
 pub loop-i-preserved : goal.loop-i-preserved
 loop-i-preserved c =
     let s = c.args in
-    let l = c.loop-i in
     let t = c.loop-i-test.true in
     let e = c.store-in-loop-i.ensures in (
       omega arith,
       omega arith,
-      ap length e ∙ length-set l.output (s.at + l.i) _ ∙ l.invariant.2,
-      l.invariant.3 ∙ row_next s.w.now s.numbers.now l.output s.at l.i l.invariant.0 (omega arith) _ _ c.new_operand.ensures.0 e,
+      ap length e ∙ length-set c.loop-i.output (s.at + c.loop-i.i) _ ∙ c.loop-i.invariant.2,
+      c.loop-i.invariant.3 ∙ row_next s.w.now s.numbers.now c.loop-i.output s.at c.loop-i.i c.loop-i.invariant.0 (omega arith) _ _ c.new_operand.ensures.0 e,
     )
 
 pub returns : goal.returns
 returns c =
     let s = c.args in
-    let l = c.loop-i in
     sym (row_start s.w.now s.numbers.now _ s.at c.requires.0 _ c.word.ensures.0 _ c.store.ensures
-    ∙ l.invariant.3
-    ∙ row_end s.w.now s.numbers.now l.output s.at l.i (omega arith))
+    ∙ c.loop-i.invariant.3
+    ∙ row_end s.w.now s.numbers.now c.loop-i.output s.at c.loop-i.i (omega arith))

@@ -29,23 +29,21 @@ loop-i-init c =
 pub put_row-requires : goal.put_row-requires
 put_row-requires c =
     let s = c.args in
-    let l = c.loop-i in
     let t = c.loop-i-test.true in
     let f = table_at s.numbers.now in
     let e = c.part-w.ensures in
     let v = c.word.ensures.0 in
     let n = row_length f c.part-w.result.now in
-    let r = row_room (row_by s.doc.now s.numbers.now) s.nodes.now l.i _ _ t v (ap (map_row f) e) l.at l.invariant.2.room in
-    (subst (λ x. 1 ≤ length x) (sym (e ∙ ap (part s.doc.now) v)) (c.requires.some l.i t), omega (arith, r, n))
+    let r = row_room (row_by s.doc.now s.numbers.now) s.nodes.now c.loop-i.i _ _ t v (ap (map_row f) e) c.loop-i.at c.loop-i.invariant.2.room in
+    (subst (λ x. 1 ≤ length x) (sym (e ∙ ap (part s.doc.now) v)) (c.requires.some c.loop-i.i t), omega (arith, r, n))
 
 pub overflow_add-at-in-loop-i : goal.overflow_add-at-in-loop-i
 overflow_add-at-in-loop-i c =
     let s = c.args in
-    let l = c.loop-i in
     let f = table_at s.numbers.now in
     let n = row_length f c.part-w.result.now in
     let r =
-    row_room (row_by s.doc.now s.numbers.now) s.nodes.now l.i _ _ c.loop-i-test.true c.word.ensures.0 (ap (map_row f) c.part-w.ensures) l.at l.invariant.2.room
+    row_room (row_by s.doc.now s.numbers.now) s.nodes.now c.loop-i.i _ _ c.loop-i-test.true c.word.ensures.0 (ap (map_row f) c.part-w.ensures) c.loop-i.at c.loop-i.invariant.2.room
     in
     omega (arith, r, n)
 
@@ -55,18 +53,16 @@ overflow_add-i c = let r = c.requires.room in let t = c.loop-i-test.true in omeg
 pub loop-i-preserved : goal.loop-i-preserved
 loop-i-preserved c =
     let s = c.args in
-    let l = c.loop-i in
     let t = c.loop-i-test.true in
     let f = table_at s.numbers.now in
     let n = row_length f c.part-w.result.now in (
       omega arith,
-      c.put_row.auto.output.1.1.0 ∙ l.invariant.1,
-      words_next (row_by s.doc.now s.numbers.now) s.nodes.now l.i _ _ t c.word.ensures.0 (ap (map_row f) c.part-w.ensures) l.at _ l.output _ _
-          c.put_row.ensures (ap (λ j. l.at + j) (sym n)) l.invariant.2,
+      c.put_row.auto.output ∙ c.loop-i.invariant.1,
+      words_next (row_by s.doc.now s.numbers.now) s.nodes.now c.loop-i.i _ _ t c.word.ensures.0 (ap (map_row f) c.part-w.ensures) c.loop-i.at _ c.loop-i.output _ _
+          c.put_row.ensures (ap (λ j. c.loop-i.at + j) (sym n)) c.loop-i.invariant.2,
     )
 
 pub returns : goal.returns
 returns c =
     let s = c.args in
-    let l = c.loop-i in
-    words_done (row_by s.doc.now s.numbers.now) s.nodes.now l.i l.at l.output _ (omega arith) l.invariant.2
+    words_done (row_by s.doc.now s.numbers.now) s.nodes.now c.loop-i.i c.loop-i.at c.loop-i.output _ (omega arith) c.loop-i.invariant.2

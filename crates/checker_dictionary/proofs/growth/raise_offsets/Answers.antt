@@ -8,9 +8,7 @@ loop-k-init c = (omega arith, omega arith, refl, rw add-sub_cancel)
 
 pub loop-k-preserved : goal.loop-k-preserved
 unfolding offset_raised
-loop-k-preserved c =
-    let l = c.loop-k in
-    (omega arith, omega arith, c.raise.auto.d ∙ l.invariant.2, l.invariant.3 ∙ run_go _ _ _ _ (omega arith) ∙ rw (← c.raise.ensures))
+loop-k-preserved c = (omega arith, omega arith, c.raise.auto.d ∙ c.loop-k.invariant.2, c.loop-k.invariant.3 ∙ run_go _ _ _ _ (omega arith) ∙ rw (← c.raise.ensures))
 
 pub shape_of-d : goal.shape_of-d
 shape_of-d c = c.loop-k.invariant.2

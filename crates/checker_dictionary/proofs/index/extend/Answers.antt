@@ -10,9 +10,7 @@ pub add-requires : goal.add-requires
 add-requires c = let l = c.loop-k.invariant in let p = c.requires in let b = c.word-e.ensures.1 in (omega arith, omega arith, omega arith)
 
 pub loop-k-preserved : goal.loop-k-preserved
-loop-k-preserved c =
-    let l = c.loop-k in
-    (c.add.auto.w.1.0 ∙ l.invariant.0, l.invariant.1, omega arith, λ h. (omega arith, λ I. c.add.ensures (subst (IndexedTo _ _) (let e : l.k ≡ l.k + 1 - 1 = omega arith in e) ((l.invariant.3 h).1 I))))
+loop-k-preserved c = (c.add.auto.w ∙ c.loop-k.invariant.0, c.loop-k.invariant.1, omega arith, λ h. (omega arith, λ I. c.add.ensures (subst (IndexedTo _ _) (let e : c.loop-k.k ≡ c.loop-k.k + 1 - 1 = omega arith in e) ((c.loop-k.invariant.3 h).1 I))))
 
 pub shape_of-w : goal.shape_of-w
 shape_of-w c = c.loop-k.invariant.0
@@ -20,8 +18,7 @@ shape_of-w c = c.loop-k.invariant.0
 pub returns : goal.returns
 returns c =
     λ few I.
-    let l = c.loop-k in
-    let e = l.invariant.1 in
-    let X = l.invariant.3 (omega (arith, e, few)) in
-    let h : l.k ≡ count c.args.d.now = let m = X.0 in omega arith in
+    let e = c.loop-k.invariant.1 in
+    let X = c.loop-k.invariant.3 (omega (arith, e, few)) in
+    let h : c.loop-k.k ≡ count c.args.d.now = let m = X.0 in omega arith in
     subst (IndexedTo _ _) h (X.1 I)

@@ -17,7 +17,6 @@ shape_of-d c = c.loop-i.invariant.1
 
 pub returns : goal.returns
 returns c =
-    let l = c.loop-i in
-    let e : l.i ≡ c.args.m = let h = l.invariant.0 in let k = c.loop-i-test.false in omega arith in
+    let e : c.loop-i.i ≡ c.args.m = let h = c.loop-i.invariant.0 in let k = c.loop-i-test.false in omega arith in
     let a = c.args in
-    l.invariant.2 ∙ ap (λ n. sets a.d.now a.to (take n (drop a.from a.d.now))) e
+    c.loop-i.invariant.2 ∙ ap (λ n. sets a.d.now a.to (take n (drop a.from a.d.now))) e

@@ -10,9 +10,8 @@ overflow_sub-k c = let l = c.loop-k.invariant.0 in omega arith
 
 pub loop-k-preserved : goal.loop-k-preserved
 loop-k-preserved c =
-    let l = c.loop-k in
     let w = c.word-len.ensures.0 in
-    (omega arith, omega arith, c.store.auto.u ∙ l.invariant.2, l.invariant.3 ∙ placed_go _ _ _ _ c.loop-k-test.true ∙ rw (← c.store.ensures, ← w, ← c.wrapping_add_u32-o.ensures.value))
+    (omega arith, omega arith, c.store.auto.u ∙ c.loop-k.invariant.2, c.loop-k.invariant.3 ∙ placed_go _ _ _ _ c.loop-k-test.true ∙ rw (← c.store.ensures, ← w, ← c.wrapping_add_u32-o.ensures.value))
 
 pub shape_of-d : goal.shape_of-d
 shape_of-d c = c.loop-k.invariant.2

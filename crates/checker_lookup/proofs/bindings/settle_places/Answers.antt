@@ -18,4 +18,4 @@ pub shape_of-a : goal.shape_of-a
 shape_of-a c = c.loop-j.invariant.1
 
 pub returns : goal.returns
-returns c = let a = c.args in let l = c.loop-j in let z : l.j ≡ a.m = omega arith in subst (λ (j : ℕ). PlacesSettled a.a.now l.a a.d.now a.w.now a.base j a.n) z l.invariant.2
+returns c = let a = c.args in let z : c.loop-j.j ≡ a.m = omega arith in subst (λ (j : ℕ). PlacesSettled a.a.now c.loop-j.a a.d.now a.w.now a.base j a.n) z c.loop-j.invariant.2

@@ -35,11 +35,11 @@ loop-j-smaller c = let l = c.loop-j-test.true in omega arith
 
 pub loop-j-preserved : goal.loop-j-preserved
 loop-j-preserved c =
-    let lt = c.loop-j-test.true in let l = c.loop-j in (
+    let lt = c.loop-j-test.true in (
       omega arith,
-      c.put_row.auto.work ∙ l.invariant.1,
+      c.put_row.auto.work ∙ c.loop-j.invariant.1,
       λ ids gs R.
-          let N = writing_next _ _ _ _ _ _ _ _ ids gs lt (l.invariant.2 ids gs R) in
+          let N = writing_next _ _ _ _ _ _ _ _ ids gs lt (c.loop-j.invariant.2 ids gs R) in
           N.then c.put_row.new.work _ _ c.type_word-id.ensures.0 c.put_row.ensures (c.skip-at.ensures.is N.type N.reads),
     )
 

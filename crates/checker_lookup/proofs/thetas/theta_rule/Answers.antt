@@ -14,7 +14,7 @@ pub returns-then-number-ne0 : goal.returns-then-number-ne0
 returns-then-number-ne0 c = theta_refused _ _ _ _ _ _ _ _ _ c.requires _ c.find_schema-e.ensures c.if-e-eq0.false _ c.type_place.ensures.0 _ _ c.component_rows-m.ensures _ c.parameters_of.ensures.0 _ _ c.checks-number.ensures c.if-number-ne0.true
 
 pub binding-g-requires : goal.binding-g-requires
-binding-g-requires c = theta_binding _ _ _ _ _ _ _ _ _ c.requires _ c.find_schema-e.ensures c.if-e-eq0.false _ c.type_place.ensures.0 _ _ c.component_rows-m.ensures _ c.parameters_of.ensures.0 _ _ c.checks-number.ensures c.if-number-ne0.false c.checks-number.auto.w.1.0
+binding-g-requires c = theta_binding _ _ _ _ _ _ _ _ _ c.requires _ c.find_schema-e.ensures c.if-e-eq0.false _ c.type_place.ensures.0 _ _ c.component_rows-m.ensures _ c.parameters_of.ensures.0 _ _ c.checks-number.ensures c.if-number-ne0.false c.checks-number.auto.w
 
 pub returns : goal.returns
 returns c = theta_typed _ _ _ _ _ _ _ _ _ c.requires _ c.find_schema-e.ensures c.if-e-eq0.false _ c.type_place.ensures.0 _ _ c.component_rows-m.ensures _ c.parameters_of.ensures.0 _ _ c.checks-number.ensures c.if-number-ne0.false _ _ _ _ c.binding-g.ensures

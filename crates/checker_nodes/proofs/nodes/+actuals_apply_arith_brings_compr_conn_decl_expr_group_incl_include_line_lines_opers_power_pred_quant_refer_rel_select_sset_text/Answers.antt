@@ -103,10 +103,10 @@ actuals-actuals-requires t c =
     (omega arith, (c.requires.0, c.requires.1, c.requires.2, node_actuals_next c.args.j c.args.q c.requires.0 c.requires.3 _ c.word.ensures.0 l (actual_lower c.args.doc.now c.args.p.now c.args.k c.args.j c.args.q c.requires.2 c.word.ensures.0 l) c.expr-x.ensures _ c.actual-r.ensures c.if-r-ne0.false))
 
 pub actuals-shape_of-a : goal.actuals-shape_of-a
-actuals-shape_of-a t c = c.actuals.auto.w.0 ∙ c.actual-r.auto.a ∙ c.expr-x.auto.w.0
+actuals-shape_of-a t c = c.actuals.auto.a ∙ c.actual-r.auto.a ∙ c.expr-x.auto.a
 
 pub actuals-shape_of-w : goal.actuals-shape_of-w
-actuals-shape_of-w t c = c.actuals.auto.w.1.1.0 ∙ c.actual-r.auto.w.1.0 ∙ c.expr-x.auto.w.1.1.0
+actuals-shape_of-w t c = c.actuals.auto.w ∙ c.actual-r.auto.w ∙ c.expr-x.auto.w
 
 pub actuals-returns : goal.actuals-returns
 actuals-returns t c =
@@ -133,10 +133,10 @@ pub apply-visit_at-requires : goal.apply-visit_at-requires
 apply-visit_at-requires t c = let z = c.requires.0.at.small in omega arith
 
 pub apply-shape_of-a : goal.apply-shape_of-a
-apply-shape_of-a t c = c.apply_rule-r.auto.a ∙ c.expr-y.auto.w.0 ∙ c.expr-x.auto.w.0
+apply-shape_of-a t c = c.apply_rule-r.auto.a ∙ c.expr-y.auto.a ∙ c.expr-x.auto.a
 
 pub apply-shape_of-w : goal.apply-shape_of-w
-apply-shape_of-w t c = c.expr-y.auto.w.1.1.0 ∙ c.expr-x.auto.w.1.1.0
+apply-shape_of-w t c = c.expr-y.auto.w ∙ c.expr-x.auto.w
 
 pub apply-returns : goal.apply-returns
 apply-returns t c = let K = c.requires.2 in let O = apply_node c.requires.0 _ c.word.ensures.0 _ c.word-2.ensures.0 c.requires.1 in joining_end apply_items O K c.expr-x.ensures c.if-x-ne0.false c.expr-y.ensures c.if-y-ne0.false (omega arith) c.apply_rule-r.auto.a c.apply_rule-r.ensures c.visit_at.ensures
@@ -160,10 +160,10 @@ pub arith-visit_at-requires : goal.arith-visit_at-requires
 arith-visit_at-requires t c = let z = c.requires.0.at.small in omega arith
 
 pub arith-shape_of-a : goal.arith-shape_of-a
-arith-shape_of-a t c = c.arithmetic_rule-r.auto.a ∙ c.expr-y.auto.w.0 ∙ c.expr-x.auto.w.0
+arith-shape_of-a t c = c.arithmetic_rule-r.auto.a ∙ c.expr-y.auto.a ∙ c.expr-x.auto.a
 
 pub arith-shape_of-w : goal.arith-shape_of-w
-arith-shape_of-w t c = c.expr-y.auto.w.1.1.0 ∙ c.expr-x.auto.w.1.1.0
+arith-shape_of-w t c = c.expr-y.auto.w ∙ c.expr-x.auto.w
 
 pub arith-returns : goal.arith-returns
 arith-returns t c = let K = c.requires.3 in let O = arithmetic_node c.requires.0 _ c.word.ensures.0 _ c.word-2.ensures.0 c.requires.1 c.requires.2 in joining_end arithmetic_items O K c.expr-x.ensures c.if-x-ne0.false c.expr-y.ensures c.if-y-ne0.false (omega arith) c.arithmetic_rule-r.auto.a c.arithmetic_rule-r.ensures c.visit_at.ensures
@@ -204,10 +204,10 @@ pub compr-expr-x-requires : goal.compr-expr-x-requires
 compr-expr-x-requires t c = let N = c.requires.0 in let K = c.requires.2 in let O = compr_node N c.requires.1 _ c.word.ensures.0 _ c.word-2.ensures.0 in let x = O.body.below in let y = c.decreases in (omega arith, (O.body.at, compr_body O K c.save-e.ensures c.text-t.ensures c.if-t-ne0.false c.restore.ensures))
 
 pub compr-shape_of-a-then-x-ne0 : goal.compr-shape_of-a-then-x-ne0
-compr-shape_of-a-then-x-ne0 t c = c.expr-x.auto.w.0 ∙ c.restore.auto.a ∙ c.text-t.auto.w.0
+compr-shape_of-a-then-x-ne0 t c = c.expr-x.auto.a ∙ c.restore.auto.a ∙ c.text-t.auto.a
 
 pub compr-shape_of-w-then-x-ne0 : goal.compr-shape_of-w-then-x-ne0
-compr-shape_of-w-then-x-ne0 t c = c.expr-x.auto.w.1.1.0 ∙ c.text-t.auto.w.1.1.0 ∙ c.save-e.auto.out.1.1.1.0
+compr-shape_of-w-then-x-ne0 t c = c.expr-x.auto.w ∙ c.text-t.auto.w ∙ c.save-e.auto.out
 
 pub compr-returns-then-x-ne0 : goal.compr-returns-then-x-ne0
 compr-returns-then-x-ne0 t c = let N = c.requires.0 in let K = c.requires.2 in let O = compr_node N c.requires.1 _ c.word.ensures.0 _ c.word-2.ensures.0 in compr_then_stop O K c.save-e.ensures c.text-t.ensures c.if-t-ne0.false c.restore.ensures c.expr-x.ensures c.if-x-ne0.true
@@ -219,10 +219,10 @@ pub compr-visit_at-requires : goal.compr-visit_at-requires
 compr-visit_at-requires t c = let z = c.requires.0.at.small in omega arith
 
 pub compr-shape_of-a : goal.compr-shape_of-a
-compr-shape_of-a t c = c.comprehension_rule-r.auto.a ∙ c.expr-x.auto.w.0 ∙ c.restore.auto.a ∙ c.text-t.auto.w.0
+compr-shape_of-a t c = c.comprehension_rule-r.auto.a ∙ c.expr-x.auto.a ∙ c.restore.auto.a ∙ c.text-t.auto.a
 
 pub compr-shape_of-w : goal.compr-shape_of-w
-compr-shape_of-w t c = c.expr-x.auto.w.1.1.0 ∙ c.text-t.auto.w.1.1.0 ∙ c.save-e.auto.out.1.1.1.0
+compr-shape_of-w t c = c.expr-x.auto.w ∙ c.text-t.auto.w ∙ c.save-e.auto.out
 
 pub compr-returns : goal.compr-returns
 compr-returns t c = let N = c.requires.0 in let K = c.requires.2 in let O = compr_node N c.requires.1 _ c.word.ensures.0 _ c.word-2.ensures.0 in compr_end O K c.save-e.ensures c.text-t.ensures c.if-t-ne0.false c.restore.ensures c.expr-x.ensures c.if-x-ne0.false (omega arith) c.comprehension_rule-r.auto.a (c.comprehension_rule-r.ensures _) c.visit_at.ensures
@@ -239,7 +239,7 @@ conn-returns-then-x-ne0 t c = at_first_stopped c.requires.0 c.requires.3 c.requi
 
 pub conn-pred-requires : goal.conn-pred-requires
 conn-pred-requires t c =
-    let o = at_second c.requires.0 c.requires.3 c.requires.1 c.requires.2 _ _ c.word.ensures.0 c.word-2.ensures.0 c.pred-x.ensures c.if-x-ne0.false c.pred-x.auto.w.0 in
+    let o = at_second c.requires.0 c.requires.3 c.requires.1 c.requires.2 _ _ c.word.ensures.0 c.word-2.ensures.0 c.pred-x.ensures c.if-x-ne0.false c.pred-x.auto.a in
     let x = o.0.below in
     let m = c.decreases in
     (omega arith, (o.0.at, o.1))
@@ -321,7 +321,7 @@ pub expr-returns-in-38 : goal.expr-returns-in-38
 expr-returns-in-38 t c = c.select.ensures
 
 pub expr-returns-in-39 : goal.expr-returns-in-39
-expr-returns-in-39 t c = let y = c.decreases in let N = handed_node c.requires.0 c.part-p.ensures in let K = c.requires.1 in let w = node_kind N _ c.word-q.ensures.0 in let i = node_word N 1 _ c.word.ensures.0 in let j = node_word N 2 _ c.word-in-39.ensures.0 in theta_end c.requires.0 K (w ∙ c.in-39.is) _ _ i j c.theta_rule-r.auto.a c.theta_rule-r.auto.w.1.0 c.theta_rule-r.ensures c.visit_at-in-39.ensures
+expr-returns-in-39 t c = let y = c.decreases in let N = handed_node c.requires.0 c.part-p.ensures in let K = c.requires.1 in let w = node_kind N _ c.word-q.ensures.0 in let i = node_word N 1 _ c.word.ensures.0 in let j = node_word N 2 _ c.word-in-39.ensures.0 in theta_end c.requires.0 K (w ∙ c.in-39.is) _ _ i j c.theta_rule-r.auto.a c.theta_rule-r.auto.w c.theta_rule-r.ensures c.visit_at-in-39.ensures
 
 pub expr-returns-in-40 : goal.expr-returns-in-40
 expr-returns-in-40 t c = c.sset.ensures
@@ -629,7 +629,7 @@ quant-wipe-requires t c =
 pub quant-returns : goal.quant-returns
 quant-returns t c =
     at_quantified c.requires.0 c.requires.3 c.requires.1 c.requires.2 _ _ c.word.ensures.0 c.word-2.ensures.0 c.text-t.ensures c.if-t-ne0.false c.pred-x.ensures c.if-x-ne0.false
-    c.pred-x.auto.w.0 c.wipe.ensures
+    c.pred-x.auto.a c.wipe.ensures
 
 pub refer-slice_bounds-opers-end : goal.refer-slice_bounds-opers-end
 refer-slice_bounds-opers-end t c = refl
@@ -714,7 +714,7 @@ pub sset-visit_at-requires : goal.sset-visit_at-requires
 sset-visit_at-requires t c = let z = c.requires.0.at.small in omega arith
 
 pub sset-shape_of-w : goal.sset-shape_of-w
-sset-shape_of-w t c = c.brings-i.auto.w.1.1.0 ∙ c.save-e.auto.out.1.1.1.0
+sset-shape_of-w t c = c.brings-i.auto.w ∙ c.save-e.auto.out
 
 pub sset-returns : goal.sset-returns
 sset-returns t c = let N = c.requires.0 in let K = c.requires.2 in let O = sset_node N c.requires.1 _ c.word.ensures.0 in sset_end O K c.save-e.ensures c.brings-i.ensures c.if-i-ne0.false c.restore.ensures c.schema_set-g.auto.a c.schema_set-g.ensures c.visit_at.ensures
@@ -754,7 +754,7 @@ text-pred-x-requires t c =
     (omega arith, (o.0.at, o.1))
 
 pub text-shape_of-a-then-x-ne0 : goal.text-shape_of-a-then-x-ne0
-text-shape_of-a-then-x-ne0 t c = c.pred-x.auto.w.0 ∙ c.lines-r.auto.w.0
+text-shape_of-a-then-x-ne0 t c = c.pred-x.auto.a ∙ c.lines-r.auto.a
 
 pub text-returns-then-x-ne0 : goal.text-returns-then-x-ne0
 text-returns-then-x-ne0 t c =
@@ -762,4 +762,4 @@ text-returns-then-x-ne0 t c =
     (at_text_refused c.requires.0 c.requires.1 _ c.part-p.ensures _ c.word.ensures.0 _ c.lines-r.ensures c.if-r-ne0.false c.push.ensures c.pred-x.ensures c.if-x-ne0.true 0 0)
 
 pub text-returns : goal.text-returns
-text-returns t c = at_text_done c.requires.0 c.requires.1 _ c.part-p.ensures _ c.word.ensures.0 _ c.lines-r.ensures c.if-r-ne0.false c.push.ensures c.pred-x.ensures c.if-x-ne0.false c.pred-x.auto.w.0
+text-returns t c = at_text_done c.requires.0 c.requires.1 _ c.part-p.ensures _ c.word.ensures.0 _ c.lines-r.ensures c.if-r-ne0.false c.push.ensures c.pred-x.ensures c.if-x-ne0.false c.pred-x.auto.a

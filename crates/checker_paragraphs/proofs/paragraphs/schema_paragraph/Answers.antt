@@ -23,10 +23,10 @@ pub lined_at-requires : goal.lined_at-requires
 lined_at-requires c = node_small c.requires.0
 
 pub shape_of-a : goal.shape_of-a
-shape_of-a c = omega (arith, c.wipe.auto.a, c.schema-t.auto.w.0, c.push_parameters-at.auto.a)
+shape_of-a c = omega (arith, c.wipe.auto.a, c.schema-t.auto.a, c.push_parameters-at.auto.a)
 
 pub shape_of-w : goal.shape_of-w
-shape_of-w c = omega (arith, c.schema_entry.auto.w.1.1.0, c.schema-t.auto.w.1.1.0, c.push_parameters-at.auto.w.0)
+shape_of-w c = omega (arith, c.schema_entry.auto.w, c.schema-t.auto.w, c.push_parameters-at.auto.w)
 
 pub returns : goal.returns
 returns c = schema_told c.requires.0 c.requires.2 c.word-n.ensures.0 c.requires.1 c.word.ensures.0 c.word-2.ensures.0 (all_parameters c.args.p.now c.push_parameters-at.ensures) c.schema-t.ensures c.if-t-ne0.false c.schema_entry.ensures c.wipe.ensures c.lined_at.ensures

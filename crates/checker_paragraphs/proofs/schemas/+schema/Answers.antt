@@ -33,7 +33,7 @@ pub conjoin-requires : goal.conjoin-requires
 conjoin-requires t c = (let z = c.requires.0.small in omega arith, rows_asked _ _ _ _ c.requires.0 c.part-p.ensures c.word-q.ensures.0 _ _ _ _ _ _ c.requires.1 c.if-q-eq-TEXT.false c.if-q-eq-INCLUDE.false _ c.word.ensures.0 _ _ _ _ _ _ c.schema-x.ensures c.if-x-ne0.false _ c.word-2.ensures.0 _ _ _ _ _ _ c.schema-y.ensures c.if-y-ne0.false)
 
 pub shape_of-a : goal.shape_of-a
-shape_of-a t c = omega (arith, c.conjoin.auto.a, c.schema-y.auto.w.0, c.schema-x.auto.w.0)
+shape_of-a t c = omega (arith, c.conjoin.auto.a, c.schema-y.auto.a, c.schema-x.auto.a)
 
 pub returns : goal.returns
 returns t c = rows_joined _ _ _ _ c.requires.0 c.part-p.ensures c.word-q.ensures.0 _ _ _ _ _ _ c.requires.1 c.if-q-eq-TEXT.false c.if-q-eq-INCLUDE.false _ c.word.ensures.0 _ _ _ _ _ _ c.schema-x.ensures c.if-x-ne0.false _ c.word-2.ensures.0 _ _ _ _ _ _ c.schema-y.ensures c.if-y-ne0.false _ _ _ _ _ _ c.conjoin.ensures

@@ -10,17 +10,14 @@ loop-p-init c = (omega arith, refl)
 pub returns-then-word-id : goal.returns-then-word-id
 returns-then-word-id c =
     let a = c.args in
-    let l = c.loop-p in
-    sym (l.invariant.1 ∙ old_hit a.part.now l.p a.id c.loop-p-test.true (sym c.word.ensures.0 ∙ c.if-word-id.true))
+    sym (c.loop-p.invariant.1 ∙ old_hit a.part.now c.loop-p.p a.id c.loop-p-test.true (sym c.word.ensures.0 ∙ c.if-word-id.true))
 
 pub loop-p-preserved : goal.loop-p-preserved
 loop-p-preserved c =
     let a = c.args in
-    let l = c.loop-p in
-    (omega arith, l.invariant.1 ∙ old_go a.part.now l.p a.id c.loop-p-test.true (λ q. c.if-word-id.false (c.word.ensures.0 ∙ q)))
+    (omega arith, c.loop-p.invariant.1 ∙ old_go a.part.now c.loop-p.p a.id c.loop-p-test.true (λ q. c.if-word-id.false (c.word.ensures.0 ∙ q)))
 
 pub returns : goal.returns
 returns c =
     let a = c.args in
-    let l = c.loop-p in
-    sym (l.invariant.1 ∙ old_end a.part.now l.p a.id c.loop-p-test.false)
+    sym (c.loop-p.invariant.1 ∙ old_end a.part.now c.loop-p.p a.id c.loop-p-test.false)

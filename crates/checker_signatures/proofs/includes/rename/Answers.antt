@@ -19,30 +19,28 @@ loop-j-init c =
 
 pub insert-n-requires : goal.insert-n-requires
 insert-n-requires c =
-    let l = c.loop-j in
     let p = c.requires.0.room in
-    (omega (arith, l.invariant.1, l.invariant.2, c.loop-j-test.true), c.renamed-id.ensures.1, c.word-place.ensures.1)
+    (omega (arith, c.loop-j.invariant.1, c.loop-j.invariant.2, c.loop-j-test.true), c.renamed-id.ensures.1, c.word-place.ensures.1)
 
 pub loop-j-preserved : goal.loop-j-preserved
 loop-j-preserved c =
     let a = c.args in
     let w = a.work.now in
     let ps = renames a.part.now a.first in
-    let l = c.loop-j in
-    let h : 0 < l.j = c.loop-j-test.true in
-    let rs = rename_rows ps (rows w (a.source + 2 * l.j) (a.m - l.j)) in
+    let h : 0 < c.loop-j.j = c.loop-j-test.true in
+    let rs = rename_rows ps (rows w (a.source + 2 * c.loop-j.j) (a.m - c.loop-j.j)) in
     let p = c.requires.0.room in
-    let kept : (at : ℕ) → a.source ≤ at → at < a.source + 2 * a.m → get_or l.work at 0 ≡ get_or w at 0 =
-    λ at q r. table_word w a.base l.work rs l.n l.invariant.3 a.m a.source a.m at (omega (arith, l.invariant.1)) c.requires.0.apart q r in
-    let e = c.renamed-id.ensures.0 ∙ ap (renamed ps) (c.word-old.ensures.0 ∙ kept (a.source + 2 * (l.j - 1)) (omega arith) (omega (arith, l.invariant.0))) in
-    let f = c.word-place.ensures.0 ∙ kept (a.source + 2 * (l.j - 1) + 1) (omega arith) (omega (arith, l.invariant.0)) in
-    let g = table_insert w a.base l.work rs l.n l.invariant.3 c.insert-n.new.work c.renamed-id.result c.word-place.result c.insert-n.result (omega (arith, l.invariant.1)) c.insert-n.ensures in
-    let n = (table_count w a.base l.work rs l.n l.invariant.3 c.insert-n.new.work c.renamed-id.result c.word-place.result c.insert-n.result c.insert-n.ensures).1 in (
-      omega (arith, l.invariant.0),
-      omega (arith, n, h, l.invariant.1),
+    let kept : (at : ℕ) → a.source ≤ at → at < a.source + 2 * a.m → get_or c.loop-j.work at 0 ≡ get_or w at 0 =
+    λ at q r. table_word w a.base c.loop-j.work rs c.loop-j.n c.loop-j.invariant.3 a.m a.source a.m at (omega (arith, c.loop-j.invariant.1)) c.requires.0.apart q r in
+    let e = c.renamed-id.ensures.0 ∙ ap (renamed ps) (c.word-old.ensures.0 ∙ kept (a.source + 2 * (c.loop-j.j - 1)) (omega arith) (omega (arith, c.loop-j.invariant.0))) in
+    let f = c.word-place.ensures.0 ∙ kept (a.source + 2 * (c.loop-j.j - 1) + 1) (omega arith) (omega (arith, c.loop-j.invariant.0)) in
+    let g = table_insert w a.base c.loop-j.work rs c.loop-j.n c.loop-j.invariant.3 c.insert-n.new.work c.renamed-id.result c.word-place.result c.insert-n.result (omega (arith, c.loop-j.invariant.1)) c.insert-n.ensures in
+    let n = (table_count w a.base c.loop-j.work rs c.loop-j.n c.loop-j.invariant.3 c.insert-n.new.work c.renamed-id.result c.word-place.result c.insert-n.result c.insert-n.ensures).1 in (
+      omega (arith, c.loop-j.invariant.0),
+      omega (arith, n, h, c.loop-j.invariant.1),
       table_length w a.base c.insert-n.new.work _ c.insert-n.result g,
       subst (λ (z : List (ℕ × ℕ)). Table w c.insert-n.new.work a.base z c.insert-n.result)
-          (sym (rename_go ps w a.source a.m l.j h l.invariant.0 c.renamed-id.result c.word-place.result e f)) g,
+          (sym (rename_go ps w a.source a.m c.loop-j.j h c.loop-j.invariant.0 c.renamed-id.result c.word-place.result e f)) g,
     )
 
 pub shape_of-work : goal.shape_of-work
@@ -53,7 +51,6 @@ returns c =
     let a = c.args in
     let w = a.work.now in
     let ps = renames a.part.now a.first in
-    let l = c.loop-j in
-    let z : l.j ≡ 0 = omega arith in
-    subst (λ (rs : List (ℕ × ℕ)). Table w l.work a.base rs l.n)
-    (ap (λ (j : ℕ). rename_rows ps (rows w (a.source + 2 * j) (a.m - j))) z ∙ rename_end ps w a.source a.m) l.invariant.3
+    let z : c.loop-j.j ≡ 0 = omega arith in
+    subst (λ (rs : List (ℕ × ℕ)). Table w c.loop-j.work a.base rs c.loop-j.n)
+    (ap (λ (j : ℕ). rename_rows ps (rows w (a.source + 2 * j) (a.m - j))) z ∙ rename_end ps w a.source a.m) c.loop-j.invariant.3

@@ -10,17 +10,13 @@ loop-i-init c = (omega arith, refl)
 pub returns-then-word-id : goal.returns-then-word-id
 returns-then-word-id c =
     let a = c.args in
-    let l = c.loop-i in
     let x = sym c.word.ensures.0 ∙ c.if-word-id.true in
-    (c.word-then-word-id.ensures.0 ∙ sym (l.invariant.1 ∙ renamed_hit a.part.now l.i a.id c.loop-i-test.true x), c.word-then-word-id.ensures.1)
+    (c.word-then-word-id.ensures.0 ∙ sym (c.loop-i.invariant.1 ∙ renamed_hit a.part.now c.loop-i.i a.id c.loop-i-test.true x), c.word-then-word-id.ensures.1)
 
 pub loop-i-preserved : goal.loop-i-preserved
 loop-i-preserved c =
     let a = c.args in
-    let l = c.loop-i in
-    (omega arith, l.invariant.1 ∙ renamed_go a.part.now l.i a.id c.loop-i-test.true (λ q. c.if-word-id.false (c.word.ensures.0 ∙ q)))
+    (omega arith, c.loop-i.invariant.1 ∙ renamed_go a.part.now c.loop-i.i a.id c.loop-i-test.true (λ q. c.if-word-id.false (c.word.ensures.0 ∙ q)))
 
 pub returns : goal.returns
-returns c =
-    let l = c.loop-i in
-    (sym (l.invariant.1 ∙ renamed_end c.args.part.now l.i c.args.id c.loop-i-test.false), c.requires.1)
+returns c = (sym (c.loop-i.invariant.1 ∙ renamed_end c.args.part.now c.loop-i.i c.args.id c.loop-i-test.false), c.requires.1)

@@ -11,17 +11,14 @@ loop-j-init c = let a = c.args in (omega arith, stroked_start a.work.now a.base 
 pub returns-then-not-takes : goal.returns-then-not-takes
 returns-then-not-takes c =
     let a = c.args in
-    let l = c.loop-j in
-    sym (l.invariant.1 ∙ stroked_on a.work.now a.base a.m a.k l.j c.loop-j-test.true c.word.result c.word.ensures.0 (sym c.takes.ensures ∙ not-true c.takes.result c.if-not-takes.true))
+    sym (c.loop-j.invariant.1 ∙ stroked_on a.work.now a.base a.m a.k c.loop-j.j c.loop-j-test.true c.word.result c.word.ensures.0 (sym c.takes.ensures ∙ not-true c.takes.result c.if-not-takes.true))
 
 pub loop-j-preserved : goal.loop-j-preserved
 loop-j-preserved c =
     let a = c.args in
-    let l = c.loop-j in
-    (omega arith, l.invariant.1 ∙ stroked_go a.work.now a.base a.m a.k l.j c.loop-j-test.true c.word.result c.word.ensures.0 (sym c.takes.ensures ∙ not-false c.takes.result c.if-not-takes.false))
+    (omega arith, c.loop-j.invariant.1 ∙ stroked_go a.work.now a.base a.m a.k c.loop-j.j c.loop-j-test.true c.word.result c.word.ensures.0 (sym c.takes.ensures ∙ not-false c.takes.result c.if-not-takes.false))
 
 pub returns : goal.returns
 returns c =
     let a = c.args in
-    let l = c.loop-j in
-    sym (l.invariant.1 ∙ stroked_end a.work.now a.base a.m a.k l.j (omega arith))
+    sym (c.loop-j.invariant.1 ∙ stroked_end a.work.now a.base a.m a.k c.loop-j.j (omega arith))

@@ -16,19 +16,17 @@ overflow_add-id c = omega (arith, c.word-id.ensures.1)
 pub put_row-requires : goal.put_row-requires
 put_row-requires c =
     let a = c.args in
-    let l = c.loop-j in
-    let t = ap (takes a.k) c.word-id.ensures.0 ∙ stroked_first l.work a.base a.m a.k l.j c.loop-j-test.true l.invariant.2 in
+    let t = ap (takes a.k) c.word-id.ensures.0 ∙ stroked_first c.loop-j.work a.base a.m a.k c.loop-j.j c.loop-j-test.true c.loop-j.invariant.2 in
     (omega arith, stroke_fits a.k c.word-id.result c.requires.1 c.word-id.ensures.1 t, c.word-place.ensures.1)
 
 pub loop-j-preserved : goal.loop-j-preserved
 loop-j-preserved c =
     let a = c.args in
-    let l = c.loop-j in
     let h = c.loop-j-test.true in (
       omega arith,
-      c.put_row.auto.work ∙ l.invariant.1,
-      stroked_rest l.work a.base a.m a.k l.j h l.invariant.2 c.put_row.new.work (c.word-id.result + a.k) c.word-place.result c.put_row.ensures,
-      l.invariant.3 ∙ stroking_go l.work a.base a.m a.k l.j h c.put_row.new.work c.word-id.result c.word-place.result c.word-id.ensures.0 c.word-place.ensures.0 c.put_row.ensures,
+      c.put_row.auto.work ∙ c.loop-j.invariant.1,
+      stroked_rest c.loop-j.work a.base a.m a.k c.loop-j.j h c.loop-j.invariant.2 c.put_row.new.work (c.word-id.result + a.k) c.word-place.result c.put_row.ensures,
+      c.loop-j.invariant.3 ∙ stroking_go c.loop-j.work a.base a.m a.k c.loop-j.j h c.put_row.new.work c.word-id.result c.word-place.result c.word-id.ensures.0 c.word-place.ensures.0 c.put_row.ensures,
     )
 
 pub shape_of-work : goal.shape_of-work
@@ -37,5 +35,4 @@ shape_of-work c = c.loop-j.invariant.1
 pub returns : goal.returns
 returns c =
     let a = c.args in
-    let l = c.loop-j in
-    sym (l.invariant.3 ∙ stroking_end l.work a.base a.m a.k l.j (omega arith))
+    sym (c.loop-j.invariant.3 ∙ stroking_end c.loop-j.work a.base a.m a.k c.loop-j.j (omega arith))

@@ -13,38 +13,34 @@ loop-i-init c = (omega arith, refl)
 pub returns-then-find-m : goal.returns-then-find-m
 returns-then-find-m c =
     let a = c.args in
-    let l = c.loop-i in
     let rs = rows a.work.now a.base a.m in
     let f = c.find.ensures in
-    sym (l.invariant.1 ∙ wrong_absent a.part.now l.i rs c.loop-i-test.true c.word-old.result c.word-old.ensures.0 (has_none c.word-old.result rs (f.absent (omega arith))))
+    sym (c.loop-i.invariant.1 ∙ wrong_absent a.part.now c.loop-i.i rs c.loop-i-test.true c.word-old.result c.word-old.ensures.0 (has_none c.word-old.result rs (f.absent (omega arith))))
 
 pub returns-then-has_old : goal.returns-then-has_old
 returns-then-has_old c =
     let a = c.args in
-    let l = c.loop-i in
     let rs = rows a.work.now a.base a.m in
     let f = c.find.ensures in
-    let o : has_old c.word-old.result (renames a.part.now (l.i + 2)) ≡ true = sym c.has_old.ensures ∙ c.if-has_old.true in
+    let o : has_old c.word-old.result (renames a.part.now (c.loop-i.i + 2)) ≡ true = sym c.has_old.ensures ∙ c.if-has_old.true in
     sym
-    (l.invariant.1
-    ∙ wrong_next a.part.now l.i rs c.loop-i-test.true c.word-old.result c.word-old.ensures.0 (has_found c.word-old.result _ rs (f.there (omega arith)))
-    ∙ ap (λ (b : Bool). b || wrong_old_rows (renames a.part.now (l.i + 2)) rs) o)
+    (c.loop-i.invariant.1
+    ∙ wrong_next a.part.now c.loop-i.i rs c.loop-i-test.true c.word-old.result c.word-old.ensures.0 (has_found c.word-old.result _ rs (f.there (omega arith)))
+    ∙ ap (λ (b : Bool). b || wrong_old_rows (renames a.part.now (c.loop-i.i + 2)) rs) o)
 
 pub loop-i-preserved : goal.loop-i-preserved
 loop-i-preserved c =
     let a = c.args in
-    let l = c.loop-i in
     let rs = rows a.work.now a.base a.m in
     let f = c.find.ensures in
-    let o : has_old c.word-old.result (renames a.part.now (l.i + 2)) ≡ false = sym c.has_old.ensures ∙ c.if-has_old.false in (
+    let o : has_old c.word-old.result (renames a.part.now (c.loop-i.i + 2)) ≡ false = sym c.has_old.ensures ∙ c.if-has_old.false in (
       omega arith,
-      l.invariant.1
-          ∙ wrong_next a.part.now l.i rs c.loop-i-test.true c.word-old.result c.word-old.ensures.0 (has_found c.word-old.result _ rs (f.there (omega arith)))
-          ∙ ap (λ (b : Bool). b || wrong_old_rows (renames a.part.now (l.i + 2)) rs) o,
+      c.loop-i.invariant.1
+          ∙ wrong_next a.part.now c.loop-i.i rs c.loop-i-test.true c.word-old.result c.word-old.ensures.0 (has_found c.word-old.result _ rs (f.there (omega arith)))
+          ∙ ap (λ (b : Bool). b || wrong_old_rows (renames a.part.now (c.loop-i.i + 2)) rs) o,
     )
 
 pub returns : goal.returns
 returns c =
     let a = c.args in
-    let l = c.loop-i in
-    sym (l.invariant.1 ∙ wrong_end a.part.now l.i (rows a.work.now a.base a.m) c.loop-i-test.false)
+    sym (c.loop-i.invariant.1 ∙ wrong_end a.part.now c.loop-i.i (rows a.work.now a.base a.m) c.loop-i-test.false)

@@ -20,15 +20,14 @@ insert-n-requires c = (omega arith, c.word-id.ensures.1, c.requires.1)
 pub loop-i-preserved : goal.loop-i-preserved
 loop-i-preserved c =
     let a = c.args in
-    let l = c.loop-i in
-    let h : l.i < length a.part.now = c.loop-i-test.true in
+    let h : c.loop-i.i < length a.part.now = c.loop-i-test.true in
     let p = c.requires.0 in
-    let g = turned a.work.now l.work c.insert-n.new.work a.base l.n c.word-id.result a.place c.insert-n.result l.invariant.3 (omega arith) c.insert-n.ensures in (
+    let g = turned a.work.now c.loop-i.work c.insert-n.new.work a.base c.loop-i.n c.word-id.result a.place c.insert-n.result c.loop-i.invariant.3 (omega arith) c.insert-n.ensures in (
       omega arith,
-      omega (arith, g.more, l.invariant.1),
+      omega (arith, g.more, c.loop-i.invariant.1),
       g.same,
       g.table,
-      l.invariant.4 ∙ declare_go a.part.now a.place l.i (rows l.work a.base l.n) h c.word-id.result c.word-id.ensures.0 (rows c.insert-n.new.work a.base c.insert-n.result) g.new,
+      c.loop-i.invariant.4 ∙ declare_go a.part.now a.place c.loop-i.i (rows c.loop-i.work a.base c.loop-i.n) h c.word-id.result c.word-id.ensures.0 (rows c.insert-n.new.work a.base c.insert-n.result) g.new,
     )
 
 pub shape_of-work : goal.shape_of-work
@@ -37,6 +36,5 @@ shape_of-work c = c.loop-i.invariant.2
 pub returns : goal.returns
 returns c =
     let a = c.args in
-    let l = c.loop-i in
-    subst (λ (z : List (ℕ × ℕ)). Table a.work.now l.work a.base z l.n)
-    (sym (l.invariant.4 ∙ declare_end a.part.now a.place l.i (rows l.work a.base l.n) (omega arith))) l.invariant.3
+    subst (λ (z : List (ℕ × ℕ)). Table a.work.now c.loop-i.work a.base z c.loop-i.n)
+    (sym (c.loop-i.invariant.4 ∙ declare_end a.part.now a.place c.loop-i.i (rows c.loop-i.work a.base c.loop-i.n) (omega arith))) c.loop-i.invariant.3

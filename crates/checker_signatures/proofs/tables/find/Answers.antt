@@ -9,28 +9,25 @@ loop-j-init c = (omega arith, refl)
 
 pub returns-then-word-id : goal.returns-then-word-id
 returns-then-word-id c =
-    let l = c.loop-j in
-    let h : 0 < l.j = c.loop-j-test.true in
+    let h : 0 < c.loop-j.j = c.loop-j-test.true in
     let e = sym c.word.ensures.0 ∙ c.if-word-id.true in
     record {
       most = omega arith;
-      there = λ q. l.invariant.1 ∙ find_hit c.args.work.now c.args.base c.args.id l.j h e;
+      there = λ q. c.loop-j.invariant.1 ∙ find_hit c.args.work.now c.args.base c.args.id c.loop-j.j h e;
       present = λ q. e;
       absent = λ q. absurd (omega arith);
     }
 
 pub loop-j-preserved : goal.loop-j-preserved
 loop-j-preserved c =
-    let l = c.loop-j in
-    let h : 0 < l.j = c.loop-j-test.true in
-    (omega arith, l.invariant.1 ∙ find_miss c.args.work.now c.args.base c.args.id l.j h (λ q. c.if-word-id.false (c.word.ensures.0 ∙ q)))
+    let h : 0 < c.loop-j.j = c.loop-j-test.true in
+    (omega arith, c.loop-j.invariant.1 ∙ find_miss c.args.work.now c.args.base c.args.id c.loop-j.j h (λ q. c.if-word-id.false (c.word.ensures.0 ∙ q)))
 
 pub returns : goal.returns
 returns c =
-    let l = c.loop-j in
     record {
       most = omega arith;
       there = λ q. absurd (omega arith);
       present = λ q. absurd (omega arith);
-      absent = λ q. l.invariant.1 ∙ find_none c.args.work.now c.args.base c.args.id l.j c.loop-j-test.false;
+      absent = λ q. c.loop-j.invariant.1 ∙ find_none c.args.work.now c.args.base c.args.id c.loop-j.j c.loop-j-test.false;
     }

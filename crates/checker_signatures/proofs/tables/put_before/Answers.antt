@@ -11,13 +11,12 @@ loop-j-init c =
 
 pub loop-j-preserved : goal.loop-j-preserved
 loop-j-preserved c =
-    let a = c.args in
-    let l = c.loop-j in (
+    let a = c.args in (
       omega arith,
       c.word-x.ensures.1,
       c.word-y.ensures.1,
-      c.put_row.auto.work ∙ l.invariant.3,
-      l.invariant.4 ∙ shift_go l.work a.at a.k l.j l.i l.p c.loop-j-test.true c.put_row.new.work c.put_row.ensures c.word-x.result c.word-y.result c.word-x.ensures.0 c.word-y.ensures.0,
+      c.put_row.auto.work ∙ c.loop-j.invariant.3,
+      c.loop-j.invariant.4 ∙ shift_go c.loop-j.work a.at a.k c.loop-j.j c.loop-j.i c.loop-j.p c.loop-j-test.true c.put_row.new.work c.put_row.ensures c.word-x.result c.word-y.result c.word-x.ensures.0 c.word-y.ensures.0,
     )
 
 pub shape_of-work : goal.shape_of-work
@@ -26,5 +25,4 @@ shape_of-work c = c.put_row-2.auto.work ∙ c.loop-j.invariant.3
 pub returns : goal.returns
 returns c =
     let a = c.args in
-    let l = c.loop-j in
-    c.put_row-2.ensures ∙ sym (l.invariant.4 ∙ shift_end l.work a.at a.k l.j l.i l.p (omega arith))
+    c.put_row-2.ensures ∙ sym (c.loop-j.invariant.4 ∙ shift_end c.loop-j.work a.at a.k c.loop-j.j c.loop-j.i c.loop-j.p (omega arith))

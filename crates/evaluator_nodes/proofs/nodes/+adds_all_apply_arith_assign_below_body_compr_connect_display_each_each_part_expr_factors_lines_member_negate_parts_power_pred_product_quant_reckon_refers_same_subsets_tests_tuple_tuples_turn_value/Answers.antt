@@ -145,7 +145,7 @@ adds-adds-requires t c =
     let f = c.requires.0.few in
     let l = c.if-w-i.false in
     let m = c.decreases in
-    (omega arith, (handed_same _ c.expr-x.auto.work.1.1.0 c.requires.0, record { each = λ j p q. c.requires.1.each j (omega arith) q }, omega arith))
+    (omega arith, (handed_same _ c.expr-x.auto.work c.requires.0, record { each = λ j p q. c.requires.1.each j (omega arith) q }, omega arith))
 
 pub adds-returns : goal.adds-returns
 adds-returns t c =
@@ -172,7 +172,7 @@ all-all-requires t c =
     let m = c.requires.1 in
     let u = c.requires.2 in
     let t = c.decreases in
-    (omega arith, (ready_same _ c.tests-x.auto.work.1.1.0 c.requires.0, omega arith, omega arith))
+    (omega arith, (ready_same _ c.tests-x.auto.work c.requires.0, omega arith, omega arith))
 
 pub all-returns-then-x : goal.all-returns-then-x
 all-returns-then-x t c =
@@ -203,7 +203,7 @@ apply-expr-y-requires t c =
     let h = c.requires.0 in
     let o = apply_operands h _ _ c.word.ensures.0 c.word-2.ensures.0 c.requires.1 in
     let x = o.1.below in
-    (omega arith, ready_lower _ expressions _ c.expr-x.auto.work.1.1.0 h.ready o.1)
+    (omega arith, ready_lower _ expressions _ c.expr-x.auto.work h.ready o.1)
 
 pub apply-returns-then-y-ne0 : goal.apply-returns-then-y-ne0
 apply-returns-then-y-ne0 t c =
@@ -237,7 +237,7 @@ arith-reckon-y-requires t c =
     let h = c.requires.0 in
     let o = arith_operands h _ _ c.word.ensures.0 c.word-2.ensures.0 c.requires.1 c.requires.2 in
     let x = o.1.below in
-    (omega arith, ready_lower _ expressions _ c.reckon-x.auto.work.1.1.0 h.ready o.1)
+    (omega arith, ready_lower _ expressions _ c.reckon-x.auto.work h.ready o.1)
 
 pub arith-returns-then-y-ne0 : goal.arith-returns-then-y-ne0
 arith-returns-then-y-ne0 t c =
@@ -287,7 +287,7 @@ below-reckon-y-requires t c =
     let h = c.requires.0 in
     let o = relation_operands h 23 c.requires.1 (omega arith) (omega arith) _ _ c.word.ensures.0 c.word-2.ensures.0 in
     let x = o.1.below in
-    (omega arith, ready_lower _ expressions _ c.reckon-x.auto.work.1.1.0 h.ready o.1)
+    (omega arith, ready_lower _ expressions _ c.reckon-x.auto.work h.ready o.1)
 
 pub below-returns-then-j-ne0 : goal.below-returns-then-j-ne0
 below-returns-then-j-ne0 t c =
@@ -403,7 +403,7 @@ connect-pred-requires t c =
     let o = connected_operands h c.requires.1 c.requires.2 _ _ c.word.ensures.0 c.word-in-Right.ensures.0 in
     let x = o.1.below in
     let m = c.decreases in
-    (omega arith, ready_lower _ predicates _ c.pred-x.auto.work.1.1.0 h.ready o.1)
+    (omega arith, ready_lower _ predicates _ c.pred-x.auto.work h.ready o.1)
 
 pub connect-returns-in-Known : goal.connect-returns-in-Known
 connect-returns-in-Known t c =
@@ -451,8 +451,7 @@ each-loop-left-init t c = let a = c.args in (refl, refl, omega arith, omega arit
 pub each-returns-then-at-gt-VALUE : goal.each-returns-then-at-gt-VALUE
 each-returns-then-at-gt-VALUE t c =
     let a = c.args in
-    let l = c.loop-left in
-    l.invariant.4.each _ _ _ (each_past a.doc.now a.state.now _ a.n a.m a.k l.at l.left l.s _ c.if-at-gt-VALUE.true)
+    c.loop-left.invariant.4.each _ _ _ (each_past a.doc.now a.state.now _ a.n a.m a.k c.loop-left.at c.loop-left.left c.loop-left.s _ c.if-at-gt-VALUE.true)
 
 pub each-put_head-requires : goal.each-put_head-requires
 each-put_head-requires t c =
@@ -471,47 +470,43 @@ each-assign-x-requires t c =
 pub each-returns-then-x-ne0 : goal.each-returns-then-x-ne0
 each-returns-then-x-ne0 t c =
     let a = c.args in
-    let l = c.loop-left in
     let r = c.requires.0.room in
     let v = c.requires.0.wide in
-    let z = l.invariant.0 in
+    let z = c.loop-left.invariant.0 in
     let t = c.loop-left-test.true in
     let el = c.span-len.ensures.0 ∙ ap span c.from.ensures in
     let e1 = rw c.word.ensures.0 at c.put_head.ensures in
-    left_stop a.doc.now a.state.now _ _ _ a.n a.m a.k l.at l.left _ _ l.s _ _ refl el e1 (omega arith) c.assign-x.ensures (λ y. omega arith) a.c a.work.now a.s.now l.invariant.4 c.if-x-ne0.true
+    left_stop a.doc.now a.state.now _ _ _ a.n a.m a.k c.loop-left.at c.loop-left.left _ _ c.loop-left.s _ _ refl el e1 (omega arith) c.assign-x.ensures (λ y. omega arith) a.c a.work.now a.s.now c.loop-left.invariant.4 c.if-x-ne0.true
 
 pub each-returns-then-x : goal.each-returns-then-x
 each-returns-then-x t c =
     let a = c.args in
-    let l = c.loop-left in
     let r = c.requires.0.room in
     let v = c.requires.0.wide in
-    let z = l.invariant.0 in
+    let z = c.loop-left.invariant.0 in
     let t = c.loop-left-test.true in
     let el = c.span-len.ensures.0 ∙ ap span c.from.ensures in
     let e1 = rw c.word.ensures.0 at c.put_head.ensures in
-    left_halt a.doc.now a.state.now _ _ _ a.n a.m a.k l.at l.left _ _ l.s _ _ refl el e1 (omega arith) c.assign-x.ensures (λ y. omega arith) a.c a.work.now a.s.now l.invariant.4 c.if-x-ne0.false c.if-x.true
+    left_halt a.doc.now a.state.now _ _ _ a.n a.m a.k c.loop-left.at c.loop-left.left _ _ c.loop-left.s _ _ refl el e1 (omega arith) c.assign-x.ensures (λ y. omega arith) a.c a.work.now a.s.now c.loop-left.invariant.4 c.if-x-ne0.false c.if-x.true
 
 pub each-loop-left-preserved : goal.each-loop-left-preserved
 each-loop-left-preserved t c =
     let a = c.args in
-    let l = c.loop-left in
     let r = c.requires.0.room in
     let v = c.requires.0.wide in
-    let z = l.invariant.0 in
+    let z = c.loop-left.invariant.0 in
     let t = c.loop-left-test.true in
     let el = c.span-len.ensures.0 ∙ ap span c.from.ensures in
     let e1 = rw c.word.ensures.0 at c.put_head.ensures in
     let k = c.assign-x.auto in
     let q = c.if-at-gt-VALUE.false in
     let d = c.span-len.ensures.1 in
-    (k.1.1.0 ∙ c.put_head.auto.work ∙ z, k.1.1.1.1.1.1.0 ∙ l.invariant.1, omega arith, omega arith, left_more a.doc.now a.state.now _ _ _ a.n a.m a.k l.at l.left _ _ l.s _ _ refl el e1 (omega arith) c.assign-x.ensures (λ y. omega arith) a.c a.work.now a.s.now l.invariant.4 c.if-x-ne0.false c.if-x.false)
+    (k.1.1.0 ∙ c.put_head.auto.work ∙ z, k.1.1.1.1.1.1.0 ∙ c.loop-left.invariant.1, omega arith, omega arith, left_more a.doc.now a.state.now _ _ _ a.n a.m a.k c.loop-left.at c.loop-left.left _ _ c.loop-left.s _ _ refl el e1 (omega arith) c.assign-x.ensures (λ y. omega arith) a.c a.work.now a.s.now c.loop-left.invariant.4 c.if-x-ne0.false c.if-x.false)
 
 pub each-returns : goal.each-returns
 each-returns t c =
     let a = c.args in
-    let l = c.loop-left in
-    l.invariant.4.each _ _ _ (each_end a.doc.now a.state.now _ a.n a.m a.k l.at l.left l.s _ (omega (arith, c.loop-left-test.false)) c.judge-2.ensures.0 c.judge-2.ensures.1)
+    c.loop-left.invariant.4.each _ _ _ (each_end a.doc.now a.state.now _ a.n a.m a.k c.loop-left.at c.loop-left.left c.loop-left.s _ (omega (arith, c.loop-left-test.false)) c.judge-2.ensures.0 c.judge-2.ensures.1)
 
 pub each_part-returns-then-w-i : goal.each_part-returns-then-w-i
 each_part-returns-then-w-i t c =
@@ -537,7 +532,7 @@ each_part-each_part-requires t c =
     let m = c.length_at-len.ensures.1 in
     let a = c.requires.3 in
     let t = c.decreases in
-    (omega arith, (handed_same _ c.tests-x.auto.work.1.1.0 c.requires.0, record { each = λ j p q. c.requires.1.each j (omega arith) q }, omega arith, omega arith))
+    (omega arith, (handed_same _ c.tests-x.auto.work c.requires.0, record { each = λ j p q. c.requires.1.each j (omega arith) q }, omega arith, omega arith))
 
 pub each_part-returns-then-x : goal.each_part-returns-then-x
 each_part-returns-then-x t c =
@@ -644,7 +639,7 @@ factors-factors-requires t c =
     let f = c.requires.0.few in
     let l = c.if-w-i.false in
     let m = c.decreases in
-    (omega arith, (handed_same _ c.expr-x.auto.work.1.1.0 c.requires.0, record { each = λ j p q. c.requires.1.each j (omega arith) q }, omega arith))
+    (omega arith, (handed_same _ c.expr-x.auto.work c.requires.0, record { each = λ j p q. c.requires.1.each j (omega arith) q }, omega arith))
 
 pub factors-returns : goal.factors-returns
 factors-returns t c =
@@ -705,7 +700,7 @@ lines-put_domains-requires t c =
     let r = c.requires.0.room in
     let w = c.requires.0.wide in
     let v = few_words a.doc.now lines _ o.0.at in
-    let z = c.expr-y.auto.work.1.1.0 in
+    let z = c.expr-y.auto.work in
     (omega arith, omega arith, omega arith)
 
 pub lines-lines-requires : goal.lines-lines-requires
@@ -719,7 +714,7 @@ lines-lines-requires t c =
     let g = c.requires.3 in
     let m = c.decreases in
     let y = c.if-u-i.false in
-    (omega arith, (scoping_same c.requires.0 _ (c.put_domains.auto.work ∙ c.expr-y.auto.work.1.1.0), c.requires.1, c.requires.2, omega arith, u, omega arith))
+    (omega arith, (scoping_same c.requires.0 _ (c.put_domains.auto.work ∙ c.expr-y.auto.work), c.requires.1, c.requires.2, omega arith, u, omega arith))
 
 pub lines-returns : goal.lines-returns
 lines-returns t c =
@@ -749,7 +744,7 @@ member-tests-requires t c =
     let o = relation_operands h 22 c.requires.1 (omega arith) (omega arith) _ _ c.word.ensures.0 c.word-2.ensures.0 in
     let x = o.1.below in
     let m = c.decreases in
-    (omega arith, ready_lower _ expressions _ c.expr-x.auto.work.1.1.0 h.ready o.1)
+    (omega arith, ready_lower _ expressions _ c.expr-x.auto.work h.ready o.1)
 
 pub member-returns : goal.member-returns
 member-returns t c =
@@ -797,7 +792,7 @@ parts-returns-then-x-ne0 t c =
     record { kept = e.kept; told = λ ws x scope sc. exprs_stop a.doc.now a.k (length a.w.now) a.i scope _ (in_words c.requires.0 a.i _ c.word.ensures.0) (omega arith) (e.told scope sc) c.if-x-ne0.true }
 
 pub parts-parts-requires : goal.parts-parts-requires
-parts-parts-requires t c = (omega arith, (handed_same _ c.expr-x.auto.work.1.1.0 c.requires.0, record { each = λ j p q. c.requires.1.each j (omega arith) q }, omega arith))
+parts-parts-requires t c = (omega arith, (handed_same _ c.expr-x.auto.work c.requires.0, record { each = λ j p q. c.requires.1.each j (omega arith) q }, omega arith))
 
 pub parts-returns : goal.parts-returns
 parts-returns t c =
@@ -993,7 +988,7 @@ same-expr-y-requires t c =
     let h = c.requires.0 in
     let o = relation_operands h 21 c.requires.1 (omega arith) (omega arith) _ _ c.word.ensures.0 c.word-2.ensures.0 in
     let x = o.1.below in
-    (omega arith, ready_lower _ expressions _ c.expr-x.auto.work.1.1.0 h.ready o.1)
+    (omega arith, ready_lower _ expressions _ c.expr-x.auto.work h.ready o.1)
 
 pub same-returns-then-j-ne0 : goal.same-returns-then-j-ne0
 same-returns-then-j-ne0 t c =
@@ -1096,7 +1091,7 @@ turn-returns-then-x-ne0 t c =
     record { kept = e.kept; told = λ scope sc vs h. turn_stop c.args.doc.now c.args.k _ y scope vs (e.told scope sc) c.if-x-ne0.true }
 
 pub turn-body-requires : goal.turn-body-requires
-turn-body-requires t c = (omega arith, (scoping_same c.requires _ c.pred-x.auto.work.1.1.0, c.part-then-x.ensures))
+turn-body-requires t c = (omega arith, (scoping_same c.requires _ c.pred-x.auto.work, c.part-then-x.ensures))
 
 pub turn-returns-then-x : goal.turn-returns-then-x
 turn-returns-then-x t c =

@@ -24,20 +24,17 @@ loop-i-init c =
 pub paragraph_count-n-requires : goal.paragraph_count-n-requires
 paragraph_count-n-requires c =
     let d = c.args.doc.now in
-    let l = c.loop-i in
-    document_paragraph d c.requires.0 l.i l.invariant.0 (omega (arith, l.invariant.2)) _ (c.operand-p.ensures.0 ∙ ap (λ (m : ℕ). operand_at d m l.i) l.invariant.3)
+    document_paragraph d c.requires.0 c.loop-i.i c.loop-i.invariant.0 (omega (arith, c.loop-i.invariant.2)) _ (c.operand-p.ensures.0 ∙ ap (λ (m : ℕ). operand_at d m c.loop-i.i) c.loop-i.invariant.3)
 
 pub name_in_paragraph-requires : goal.name_in_paragraph-requires
 name_in_paragraph-requires c =
     let d = c.args.doc.now in
-    let l = c.loop-i in
-    (document_paragraph d c.requires.0 l.i l.invariant.0 (omega (arith, l.invariant.2)) _ (c.operand-p.ensures.0 ∙ ap (λ (m : ℕ). operand_at d m l.i) l.invariant.3), omega (arith, c.paragraph_count-n.ensures.0))
+    (document_paragraph d c.requires.0 c.loop-i.i c.loop-i.invariant.0 (omega (arith, c.loop-i.invariant.2)) _ (c.operand-p.ensures.0 ∙ ap (λ (m : ℕ). operand_at d m c.loop-i.i) c.loop-i.invariant.3), omega (arith, c.paragraph_count-n.ensures.0))
 
 pub returns-then-at-n : goal.returns-then-at-n
 returns-then-at-n c =
     let d = c.args.doc.now in
-    let l = c.loop-i in
-    c.name_in_paragraph.ensures ∙ ap role_of (sym (l.invariant.4 ∙ document_here d c.requires.0 l.i l.invariant.0 (omega (arith, l.invariant.2)) c.operand-p.result (c.operand-p.ensures.0 ∙ ap (λ (m : ℕ). operand_at d m l.i) l.invariant.3) c.paragraph_count-n.result c.paragraph_count-n.ensures.0 l.at (omega arith)))
+    c.name_in_paragraph.ensures ∙ ap role_of (sym (c.loop-i.invariant.4 ∙ document_here d c.requires.0 c.loop-i.i c.loop-i.invariant.0 (omega (arith, c.loop-i.invariant.2)) c.operand-p.result (c.operand-p.ensures.0 ∙ ap (λ (m : ℕ). operand_at d m c.loop-i.i) c.loop-i.invariant.3) c.paragraph_count-n.result c.paragraph_count-n.ensures.0 c.loop-i.at (omega arith)))
 
 pub overflow_add-i : goal.overflow_add-i
 overflow_add-i c = omega (arith, c.loop-i.invariant.1, c.loop-i.invariant.2, (document_words_lem c.args.doc.now c.requires.0).1)
@@ -45,12 +42,10 @@ overflow_add-i c = omega (arith, c.loop-i.invariant.1, c.loop-i.invariant.2, (do
 pub loop-i-preserved : goal.loop-i-preserved
 loop-i-preserved c =
     let d = c.args.doc.now in
-    let l = c.loop-i in
-    (omega arith, omega arith, l.invariant.2, l.invariant.3, l.invariant.4 ∙ document_past d c.requires.0 l.i l.invariant.0 (omega (arith, l.invariant.2)) c.operand-p.result (c.operand-p.ensures.0 ∙ ap (λ (m : ℕ). operand_at d m l.i) l.invariant.3) c.paragraph_count-n.result c.paragraph_count-n.ensures.0 l.at (omega arith))
+    (omega arith, omega arith, c.loop-i.invariant.2, c.loop-i.invariant.3, c.loop-i.invariant.4 ∙ document_past d c.requires.0 c.loop-i.i c.loop-i.invariant.0 (omega (arith, c.loop-i.invariant.2)) c.operand-p.result (c.operand-p.ensures.0 ∙ ap (λ (m : ℕ). operand_at d m c.loop-i.i) c.loop-i.invariant.3) c.paragraph_count-n.result c.paragraph_count-n.ensures.0 c.loop-i.at (omega arith))
 
 pub returns : goal.returns
 unfolding role_of
 returns c =
     let d = c.args.doc.now in
-    let l = c.loop-i in
-    rw (l.invariant.4, document_over d c.requires.0 l.i (length (part d (count d))) l.at (omega (arith, l.invariant.2))) refl
+    rw (c.loop-i.invariant.4, document_over d c.requires.0 c.loop-i.i (length (part d (count d))) c.loop-i.at (omega (arith, c.loop-i.invariant.2))) refl

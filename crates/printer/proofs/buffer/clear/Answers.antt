@@ -20,7 +20,6 @@ shape_of-out c = c.loop-i.invariant.2
 
 pub returns : goal.returns
 returns c =
-    let l = c.loop-i in
     let u = c.args.out.now in
-    let e : l.i ≡ length u = omega arith in
-    l.invariant.1 ∙ rw (e, drop_of_length-le u (le_refl (length u)), append-nil)
+    let e : c.loop-i.i ≡ length u = omega arith in
+    c.loop-i.invariant.1 ∙ rw (e, drop_of_length-le u (le_refl (length u)), append-nil)

@@ -20,6 +20,4 @@ pub shape_of-out : goal.shape_of-out
 shape_of-out c = put_length c.loop-i.invariant.1
 
 pub returns : goal.returns
-returns c =
-    let l = c.loop-i in
-    put_text (take_all l.i c.args.text.now (omega arith)) l.invariant.1
+returns c = put_text (take_all c.loop-i.i c.args.text.now (omega arith)) c.loop-i.invariant.1

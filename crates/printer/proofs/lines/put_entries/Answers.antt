@@ -17,24 +17,21 @@ shape_of-out-then-end-out c = put_length c.loop-k.invariant.2
 
 pub returns-then-end-out : goal.returns-then-end-out
 returns-then-end-out c =
-    let l = c.loop-k in
     let dict = c.args.dict.now in
     let few = c.word-n.ensures.0 in
-    put_text (lines_rest dict l.k l.invariant.0 (omega (arith, few))) (put_full _ l.invariant.2 c.if-end-out.true)
+    put_text (lines_rest dict c.loop-k.k c.loop-k.invariant.0 (omega (arith, few))) (put_full _ c.loop-k.invariant.2 c.if-end-out.true)
 
 pub loop-k-preserved : goal.loop-k-preserved
 loop-k-preserved c =
-    let l = c.loop-k in
     let dict = c.args.dict.now in
     let line = put_text (ap entry_line c.part.ensures) c.put_entry-end.ensures in
-    (omega arith, omega arith, put_text (lines_next dict l.k l.invariant.0) (put_then l.invariant.2 line))
+    (omega arith, omega arith, put_text (lines_next dict c.loop-k.k c.loop-k.invariant.0) (put_then c.loop-k.invariant.2 line))
 
 pub shape_of-out : goal.shape_of-out
 shape_of-out c = put_length c.loop-k.invariant.2
 
 pub returns : goal.returns
 returns c =
-    let l = c.loop-k in
     let dict = c.args.dict.now in
-    let e : l.k ≡ count dict + 1 = omega (arith, c.word-n.ensures.0) in
-    put_text (ap (lines_before dict) e ∙ lines_end_lem dict) l.invariant.2
+    let e : c.loop-k.k ≡ count dict + 1 = omega (arith, c.word-n.ensures.0) in
+    put_text (ap (lines_before dict) e ∙ lines_end_lem dict) c.loop-k.invariant.2

@@ -27,33 +27,29 @@ limit_at-requires c = (c.requires, omega arith, omega (arith, c.word-n.ensures.0
 pub returns-then-limit_at : goal.returns-then-limit_at
 returns-then-limit_at c =
     let d = c.args.doc.now in
-    let l = c.loop-k in
-    let e : limit_number d l.k ≡ 17 = limit_eq d l.k ∙ rw (← c.limit_at.ensures.0, c.if-limit_at.true) in
-    ap (λ (v : ℕ). Refused v l.k) (sym e) ∙ scan_hit _ _ _ (omega arith) (omega (arith, e)) ∙ sym l.invariant.2
+    let e : limit_number d c.loop-k.k ≡ 17 = limit_eq d c.loop-k.k ∙ rw (← c.limit_at.ensures.0, c.if-limit_at.true) in
+    ap (λ (v : ℕ). Refused v c.loop-k.k) (sym e) ∙ scan_hit _ _ _ (omega arith) (omega (arith, e)) ∙ sym c.loop-k.invariant.2
 
 pub overflow_add-globals : goal.overflow_add-globals
 overflow_add-globals c =
     let d = c.args.doc.now in
-    let l = c.loop-k in
-    omega (arith, globals_few d _ c.requires l.k l.invariant.0 (omega (arith, c.word-n.ensures.0)), ap length c.globals_at-ids.ensures)
+    omega (arith, globals_few d _ c.requires c.loop-k.k c.loop-k.invariant.0 (omega (arith, c.word-n.ensures.0)), ap length c.globals_at-ids.ensures)
 
 pub returns-then-globals-gt-GLOBALS : goal.returns-then-globals-gt-GLOBALS
 returns-then-globals-gt-GLOBALS c =
     let d = c.args.doc.now in
-    let l = c.loop-k in
-    let g : 64 < globals_up_to d l.k = omega (arith, globals_next d l.k l.invariant.0, l.invariant.4, ap length c.globals_at-ids.ensures) in
-    let e : limit_number d l.k ≡ 17 = limit_eq d l.k ∙ rw (← c.limit_at.ensures.0, c.if-limit_at.false, lt-ltb 64 (globals_up_to d l.k) g) in
-    ap (λ (v : ℕ). Refused v l.k) (sym e) ∙ scan_hit _ _ _ (omega arith) (omega (arith, e)) ∙ sym l.invariant.2
+    let g : 64 < globals_up_to d c.loop-k.k = omega (arith, globals_next d c.loop-k.k c.loop-k.invariant.0, c.loop-k.invariant.4, ap length c.globals_at-ids.ensures) in
+    let e : limit_number d c.loop-k.k ≡ 17 = limit_eq d c.loop-k.k ∙ rw (← c.limit_at.ensures.0, c.if-limit_at.false, lt-ltb 64 (globals_up_to d c.loop-k.k) g) in
+    ap (λ (v : ℕ). Refused v c.loop-k.k) (sym e) ∙ scan_hit _ _ _ (omega arith) (omega (arith, e)) ∙ sym c.loop-k.invariant.2
 
 pub loop-k-preserved : goal.loop-k-preserved
 loop-k-preserved c =
     let d = c.args.doc.now in
-    let l = c.loop-k in
-    let g = globals_next d l.k l.invariant.0 in
+    let g = globals_next d c.loop-k.k c.loop-k.invariant.0 in
     let h = ap length c.globals_at-ids.ensures in
-    let m : globals_up_to d l.k ≤ 64 = omega (arith, g, l.invariant.4, h) in
-    let e : limit_number d l.k ≡ 0 = limit_eq d l.k ∙ rw (← c.limit_at.ensures.0, c.if-limit_at.false, le-ltb 64 (globals_up_to d l.k) m) in
-    (omega arith, omega arith, l.invariant.2 ∙ scan_go _ _ _ (omega arith) e, rw add-sub_cancel (c.limit_at.ensures.1 c.if-limit_at.false), rw add-sub_cancel (omega (arith, g, l.invariant.4, h)), omega arith)
+    let m : globals_up_to d c.loop-k.k ≤ 64 = omega (arith, g, c.loop-k.invariant.4, h) in
+    let e : limit_number d c.loop-k.k ≡ 0 = limit_eq d c.loop-k.k ∙ rw (← c.limit_at.ensures.0, c.if-limit_at.false, le-ltb 64 (globals_up_to d c.loop-k.k) m) in
+    (omega arith, omega arith, c.loop-k.invariant.2 ∙ scan_go _ _ _ (omega arith) e, rw add-sub_cancel (c.limit_at.ensures.1 c.if-limit_at.false), rw add-sub_cancel (omega (arith, g, c.loop-k.invariant.4, h)), omega arith)
 
 pub returns : goal.returns
 returns c = scan_end _ _ _ (omega arith) ∙ sym c.loop-k.invariant.2

@@ -10,9 +10,8 @@ loop-k-init c = (omega arith, omega arith, refl, refl, rw (add-sub_cancel, c.wor
 
 pub loop-k-preserved : goal.loop-k-preserved
 loop-k-preserved c =
-    let l = c.loop-k in
     let p = c.part.ensures in
-    (omega arith, omega arith, c.link_node.auto.up.1.0 ∙ l.invariant.2, c.link_node.auto.up.1.1.0 ∙ l.invariant.3, l.invariant.4 ∙ run_go _ _ _ _ (omega arith) ∙ rw (← p, ← c.link_node.ensures.0), l.invariant.5 ∙ run_go _ _ _ _ (omega arith) ∙ rw (← p, ← c.link_node.ensures.1))
+    (omega arith, omega arith, c.link_node.auto.used ∙ c.loop-k.invariant.2, c.link_node.auto.up ∙ c.loop-k.invariant.3, c.loop-k.invariant.4 ∙ run_go _ _ _ _ (omega arith) ∙ rw (← p, ← c.link_node.ensures.0), c.loop-k.invariant.5 ∙ run_go _ _ _ _ (omega arith) ∙ rw (← p, ← c.link_node.ensures.1))
 
 pub shape_of-used : goal.shape_of-used
 shape_of-used c = c.loop-k.invariant.2

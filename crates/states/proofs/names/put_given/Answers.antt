@@ -9,14 +9,10 @@ pub loop-i-init : goal.loop-i-init
 loop-i-init c = (omega arith, refl, refl)
 
 pub loop-i-preserved : goal.loop-i-preserved
-loop-i-preserved c =
-    let l = c.loop-i in
-    (omega arith, c.put_pair.auto.table.1.1.1.1.0 ∙ l.invariant.1, l.invariant.2 ∙ put_go c.args.w.now c.args.state.now c.args.n l.i l.table (omega arith) ∙ rw (← c.put_pair.ensures))
+loop-i-preserved c = (omega arith, c.put_pair.auto.table ∙ c.loop-i.invariant.1, c.loop-i.invariant.2 ∙ put_go c.args.w.now c.args.state.now c.args.n c.loop-i.i c.loop-i.table (omega arith) ∙ rw (← c.put_pair.ensures))
 
 pub shape_of-table : goal.shape_of-table
 shape_of-table c = c.loop-i.invariant.1
 
 pub returns : goal.returns
-returns c =
-    let l = c.loop-i in
-    sym (l.invariant.2 ∙ put_end c.args.w.now c.args.state.now c.args.n l.i l.table (omega arith))
+returns c = sym (c.loop-i.invariant.2 ∙ put_end c.args.w.now c.args.state.now c.args.n c.loop-i.i c.loop-i.table (omega arith))

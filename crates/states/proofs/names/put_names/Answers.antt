@@ -20,30 +20,26 @@ loop-i-init c =
 pub put_paragraph-n-requires : goal.put_paragraph-n-requires
 put_paragraph-n-requires c =
     let d = c.args.doc.now in
-    let l = c.loop-i in
-    let x = c.operand.ensures.0 ∙ ap (λ (k : ℕ). operand_at d k l.i) l.invariant.3 in
-    (document_paragraph d c.requires l.i l.invariant.0 (omega (arith, l.invariant.2)) _ x, omega (arith, l.invariant.1, l.invariant.2, l.invariant.4, (document_words_lem d c.requires).1))
+    let x = c.operand.ensures.0 ∙ ap (λ (k : ℕ). operand_at d k c.loop-i.i) c.loop-i.invariant.3 in
+    (document_paragraph d c.requires c.loop-i.i c.loop-i.invariant.0 (omega (arith, c.loop-i.invariant.2)) _ x, omega (arith, c.loop-i.invariant.1, c.loop-i.invariant.2, c.loop-i.invariant.4, (document_words_lem d c.requires).1))
 
 pub overflow_add-i : goal.overflow_add-i
-overflow_add-i c =
-    let l = c.loop-i in
-    omega (arith, l.invariant.1, l.invariant.2, (document_words_lem c.args.doc.now c.requires).1)
+overflow_add-i c = omega (arith, c.loop-i.invariant.1, c.loop-i.invariant.2, (document_words_lem c.args.doc.now c.requires).1)
 
 pub loop-i-preserved : goal.loop-i-preserved
 loop-i-preserved c =
     let d = c.args.doc.now in
-    let l = c.loop-i in
     let v = c.operand.result in
-    let x = c.operand.ensures.0 ∙ ap (λ (k : ℕ). operand_at d k l.i) l.invariant.3 in
-    let q : l.i < length (part d (count d)) = omega (arith, l.invariant.2, c.loop-i-test.true) in (
+    let x = c.operand.ensures.0 ∙ ap (λ (k : ℕ). operand_at d k c.loop-i.i) c.loop-i.invariant.3 in
+    let q : c.loop-i.i < length (part d (count d)) = omega (arith, c.loop-i.invariant.2, c.loop-i-test.true) in (
       omega arith,
       omega arith,
-      l.invariant.2,
-      l.invariant.3,
-      omega (arith, l.invariant.4, c.put_paragraph-n.ensures.2),
-      c.put_paragraph-n.auto.table.1.1.1.1.0 ∙ l.invariant.5,
-      omega (arith, l.invariant.6, c.put_paragraph-n.ensures.0, document_count d c.requires l.i l.invariant.0 q v x),
-      l.invariant.7 ∙ document_put d c.requires l.i l.invariant.0 q v x c.args.state.now l.n c.put_paragraph-n.result l.table c.put_paragraph-n.ensures.0 ∙ rw (← c.put_paragraph-n.ensures.1),
+      c.loop-i.invariant.2,
+      c.loop-i.invariant.3,
+      omega (arith, c.loop-i.invariant.4, c.put_paragraph-n.ensures.2),
+      c.put_paragraph-n.auto.table ∙ c.loop-i.invariant.5,
+      omega (arith, c.loop-i.invariant.6, c.put_paragraph-n.ensures.0, document_count d c.requires c.loop-i.i c.loop-i.invariant.0 q v x),
+      c.loop-i.invariant.7 ∙ document_put d c.requires c.loop-i.i c.loop-i.invariant.0 q v x c.args.state.now c.loop-i.n c.put_paragraph-n.result c.loop-i.table c.put_paragraph-n.ensures.0 ∙ rw (← c.put_paragraph-n.ensures.1),
     )
 
 pub shape_of-table : goal.shape_of-table
@@ -53,6 +49,5 @@ pub returns : goal.returns
 unfolding put_names
 returns c =
     let d = c.args.doc.now in
-    let l = c.loop-i in
-    let z = document_end d c.requires l.i (length (part d (count d))) (omega (arith, l.invariant.2, c.loop-i-test.false)) in
-    (omega (arith, l.invariant.6, ap length z), sym (l.invariant.7 ∙ ap (λ (ns : List Name). put_names ns c.args.state.now (l.n + 1) l.table) z))
+    let z = document_end d c.requires c.loop-i.i (length (part d (count d))) (omega (arith, c.loop-i.invariant.2, c.loop-i-test.false)) in
+    (omega (arith, c.loop-i.invariant.6, ap length z), sym (c.loop-i.invariant.7 ∙ ap (λ (ns : List Name). put_names ns c.args.state.now (c.loop-i.n + 1) c.loop-i.table) z))

@@ -9,9 +9,7 @@ pub loop-i-init : goal.loop-i-init
 loop-i-init c = (omega arith, omega arith, refl)
 
 pub returns-then-word-name : goal.returns-then-word-name
-returns-then-word-name c =
-    let l = c.loop-i in
-    entry_here c.args.w.now c.args.name l.i l.at (omega arith) (sym c.word.ensures.0 ∙ c.if-word-name.true) ∙ sym l.invariant.2
+returns-then-word-name c = entry_here c.args.w.now c.args.name c.loop-i.i c.loop-i.at (omega arith) (sym c.word.ensures.0 ∙ c.if-word-name.true) ∙ sym c.loop-i.invariant.2
 
 pub overflow_add-i : goal.overflow_add-i
 overflow_add-i c = omega (arith, c.requires.1)
@@ -20,11 +18,7 @@ pub overflow_add-at : goal.overflow_add-at
 overflow_add-at c = omega (arith, c.requires.0, c.requires.1, c.loop-i.invariant.1)
 
 pub loop-i-preserved : goal.loop-i-preserved
-loop-i-preserved c =
-    let l = c.loop-i in
-    (omega arith, omega (arith, l.invariant.1), l.invariant.2 ∙ entry_go c.args.w.now c.args.name l.i l.at (omega arith) (λ x. c.if-word-name.false (c.word.ensures.0 ∙ x)))
+loop-i-preserved c = (omega arith, omega (arith, c.loop-i.invariant.1), c.loop-i.invariant.2 ∙ entry_go c.args.w.now c.args.name c.loop-i.i c.loop-i.at (omega arith) (λ x. c.if-word-name.false (c.word.ensures.0 ∙ x)))
 
 pub returns : goal.returns
-returns c =
-    let l = c.loop-i in
-    sym (l.invariant.2 ∙ entry_end c.args.w.now c.args.name l.i l.at (omega arith))
+returns c = sym (c.loop-i.invariant.2 ∙ entry_end c.args.w.now c.args.name c.loop-i.i c.loop-i.at (omega arith))

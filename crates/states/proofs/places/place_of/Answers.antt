@@ -21,50 +21,41 @@ loop-i-init c =
 pub place_in_paragraph-r-requires : goal.place_in_paragraph-r-requires
 place_in_paragraph-r-requires c =
     let d = c.args.doc.now in
-    let l = c.loop-i in
-    let x = c.operand-p.ensures.0 ∙ ap (λ (k : ℕ). operand_at d k l.i) l.invariant.3 in
-    (document_paragraph d c.requires l.i l.invariant.0 (omega (arith, l.invariant.2)) _ x, l.invariant.4, omega (arith, l.invariant.1, l.invariant.2, l.invariant.5, (document_words_lem d c.requires).1))
+    let x = c.operand-p.ensures.0 ∙ ap (λ (k : ℕ). operand_at d k c.loop-i.i) c.loop-i.invariant.3 in
+    (document_paragraph d c.requires c.loop-i.i c.loop-i.invariant.0 (omega (arith, c.loop-i.invariant.2)) _ x, c.loop-i.invariant.4, omega (arith, c.loop-i.invariant.1, c.loop-i.invariant.2, c.loop-i.invariant.5, (document_words_lem d c.requires).1))
 
 pub returns-then-r-ne0 : goal.returns-then-r-ne0
 returns-then-r-ne0 c =
     let d = c.args.doc.now in
-    let l = c.loop-i in
-    let x = c.operand-p.ensures.0 ∙ ap (λ (k : ℕ). operand_at d k l.i) l.invariant.3 in
-    document_hit d c.requires l.i l.invariant.0 (omega (arith, l.invariant.2)) c.operand-p.result x c.args.name l.at l.invariant.4 c.place_in_paragraph-r.result c.place_in_paragraph-r.ensures c.if-r-ne0.true ∙ sym l.invariant.6
+    let x = c.operand-p.ensures.0 ∙ ap (λ (k : ℕ). operand_at d k c.loop-i.i) c.loop-i.invariant.3 in
+    document_hit d c.requires c.loop-i.i c.loop-i.invariant.0 (omega (arith, c.loop-i.invariant.2)) c.operand-p.result x c.args.name c.loop-i.at c.loop-i.invariant.4 c.place_in_paragraph-r.result c.place_in_paragraph-r.ensures c.if-r-ne0.true ∙ sym c.loop-i.invariant.6
 
 pub paragraph_count-at-requires : goal.paragraph_count-at-requires
 paragraph_count-at-requires c =
     let d = c.args.doc.now in
-    let l = c.loop-i in
-    let x = c.operand-p.ensures.0 ∙ ap (λ (k : ℕ). operand_at d k l.i) l.invariant.3 in
-    document_paragraph d c.requires l.i l.invariant.0 (omega (arith, l.invariant.2)) _ x
+    let x = c.operand-p.ensures.0 ∙ ap (λ (k : ℕ). operand_at d k c.loop-i.i) c.loop-i.invariant.3 in
+    document_paragraph d c.requires c.loop-i.i c.loop-i.invariant.0 (omega (arith, c.loop-i.invariant.2)) _ x
 
 pub overflow_add-at : goal.overflow_add-at
-overflow_add-at c =
-    let l = c.loop-i in
-    omega (arith, l.invariant.1, l.invariant.2, l.invariant.5, (document_words_lem c.args.doc.now c.requires).1, c.paragraph_count-at.ensures.1)
+overflow_add-at c = omega (arith, c.loop-i.invariant.1, c.loop-i.invariant.2, c.loop-i.invariant.5, (document_words_lem c.args.doc.now c.requires).1, c.paragraph_count-at.ensures.1)
 
 pub overflow_add-i : goal.overflow_add-i
-overflow_add-i c =
-    let l = c.loop-i in
-    omega (arith, l.invariant.1, l.invariant.2, (document_words_lem c.args.doc.now c.requires).1)
+overflow_add-i c = omega (arith, c.loop-i.invariant.1, c.loop-i.invariant.2, (document_words_lem c.args.doc.now c.requires).1)
 
 pub loop-i-preserved : goal.loop-i-preserved
 loop-i-preserved c =
     let d = c.args.doc.now in
-    let l = c.loop-i in
-    let x = c.operand-p.ensures.0 ∙ ap (λ (k : ℕ). operand_at d k l.i) l.invariant.3 in (
+    let x = c.operand-p.ensures.0 ∙ ap (λ (k : ℕ). operand_at d k c.loop-i.i) c.loop-i.invariant.3 in (
       omega arith,
       omega arith,
-      l.invariant.2,
-      l.invariant.3,
-      omega (arith, l.invariant.4),
-      omega (arith, l.invariant.5, c.paragraph_count-at.ensures.1),
-      l.invariant.6 ∙ document_miss d c.requires l.i l.invariant.0 (omega (arith, l.invariant.2)) c.operand-p.result x c.args.name l.at l.invariant.4 (sym c.place_in_paragraph-r.ensures ∙ c.if-r-ne0.false) c.paragraph_count-at.result c.paragraph_count-at.ensures.0,
+      c.loop-i.invariant.2,
+      c.loop-i.invariant.3,
+      omega (arith, c.loop-i.invariant.4),
+      omega (arith, c.loop-i.invariant.5, c.paragraph_count-at.ensures.1),
+      c.loop-i.invariant.6 ∙ document_miss d c.requires c.loop-i.i c.loop-i.invariant.0 (omega (arith, c.loop-i.invariant.2)) c.operand-p.result x c.args.name c.loop-i.at c.loop-i.invariant.4 (sym c.place_in_paragraph-r.ensures ∙ c.if-r-ne0.false) c.paragraph_count-at.result c.paragraph_count-at.ensures.0,
     )
 
 pub returns : goal.returns
 returns c =
     let d = c.args.doc.now in
-    let l = c.loop-i in
-    sym (l.invariant.6 ∙ document_none d c.requires l.i (length (part d (count d))) c.args.name l.at (omega (arith, l.invariant.2)))
+    sym (c.loop-i.invariant.6 ∙ document_none d c.requires c.loop-i.i (length (part d (count d))) c.args.name c.loop-i.at (omega (arith, c.loop-i.invariant.2)))

@@ -56,7 +56,7 @@ returns-then-field-eq-UNKNOWN t c =
     let v = r_settled _ _ _ c.find-r.ensures n L M.marked l R t in
     let D = m_readable _ _ _ _ c.find-r.ensures n L σ M l v in
     let Rd = subst (λ z. Reads (heap c.args.a.now c.args.d.now) (z - settled_from) D.type) (sym e) D.reads in
-    subst (λ g. Wrote c.args.out.now c.put_type.new.out.1.1.0 c.args.at c.put_type.result (words g)) (sym (m_settled _ _ _ _ c.find-r.ensures n L σ M l v D.type D.reads)) (c.put_type.ensures.is D.type Rd)
+    subst (λ g. Wrote c.args.out.now c.put_type.new.out c.args.at c.put_type.result (words g)) (sym (m_settled _ _ _ _ c.find-r.ensures n L σ M l v D.type D.reads)) (c.put_type.ensures.is D.type Rd)
 
 pub field-k-requires : goal.field-k-requires
 field-k-requires t c = let P = c.requires in let l = r_few _ _ _ c.find-r.ensures _ _ P.model.marked P.made in (omega arith, omega arith)
@@ -82,7 +82,7 @@ loop-j-init t c =
       omega arith,
       refl,
       λ n L σ M R l. (
-        ap (λ z. sets c.put_lead-m.new.out.1.0 c.put_lead-m.result (rest σ (frozen a) r 0 z)) e,
+        ap (λ z. sets c.put_lead-m.new.out c.put_lead-m.result (rest σ (frozen a) r 0 z)) e,
         ap (λ z. c.put_lead-m.result + length (rest σ (frozen a) r 0 z)) e,
       ),
     )
@@ -149,17 +149,17 @@ loop-j-preserved t c =
     let w = frozen c.args.a.now in
     let pe = c.part.ensures.0 in (
       omega arith,
-      c.write-m.auto.out.1.1.0 ∙ c.put_name-m.auto.out.1.0 ∙ i.1,
+      c.write-m.auto.out ∙ c.put_name-m.auto.out ∙ i.1,
       λ n L σ M R l.
           let b = r_part _ _ _ Q n L M.marked l p P.small _ e j tk c.part.result pe in
-          let D = subst (λ z. Wrote c.put_name-m.new.out.1.0 c.write-m.new.out.1.1.0 c.put_name-m.result c.write-m.result (words (σ z))) pe (c.write-m.ensures n L σ M R b.0) in (
+          let D = subst (λ z. Wrote c.put_name-m.new.out c.write-m.new.out c.put_name-m.result c.write-m.result (words (σ z))) pe (c.write-m.ensures n L σ M R b.0) in (
             (i.2 n L σ M R l).0 ∙ step_area σ w c.find-r.result c.field-k.result j tk _ _ _ _ _ _ c.put_name-m.ensures D,
             (i.2 n L σ M R l).1 ∙ step_end σ w c.find-r.result c.field-k.result j tk _ _ _ _ _ _ c.put_name-m.ensures D,
           ),
     )
 
 pub shape_of-out : goal.shape_of-out
-shape_of-out t c = c.loop-j.invariant.1 ∙ c.put_lead-m.auto.out.1.0
+shape_of-out t c = c.loop-j.invariant.1 ∙ c.put_lead-m.auto.out
 
 pub returns : goal.returns
 returns t c =

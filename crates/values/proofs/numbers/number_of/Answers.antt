@@ -5,7 +5,7 @@ use Rattle.values.proofs.numbers.number_of.Goals as goal
 
 pub returns-then-word-eq-INTEGER : goal.returns-then-word-eq-INTEGER
 unfolding number_of
-returns-then-word-eq-INTEGER c = rw (← c.word.ensures.0, eq-eqb _ 1 c.if-word-eq-INTEGER.true, ← c.word-then-word-eq-INTEGER.ensures.0, ← c.signed.ensures, to_z-of_z w32 c.signed.result (record { sfits = c.signed.type-inv }))
+returns-then-word-eq-INTEGER c = rw (← c.word.ensures.0, eq-eqb _ 1 c.if-word-eq-INTEGER.true, ← c.word-then-word-eq-INTEGER.ensures.0, ← c.signed.ensures, to_z-of_z w32 c.signed.result (record { sfits = c.signed.type_inv }))
 
 pub returns : goal.returns
 unfolding number_of

@@ -16,35 +16,28 @@ loop-i-init c = (omega arith, omega arith, omega arith, omega arith, rw (← c.w
 pub loop-i-preserved : goal.loop-i-preserved
 loop-i-preserved c =
     let s = c.args in
-    let l = c.loop-i in
-    let j = c.if-same in
     let w = c.from-w.ensures in
-    let e : is_pair (drop l.at s.f.now) ≡ true = rw (← w) (sym c.is_pair.ensures ∙ c.if-is_pair.true) in
+    let e : is_pair (drop c.loop-i.at s.f.now) ≡ true = rw (← w) (sym c.is_pair.ensures ∙ c.if-is_pair.true) in
     let k = c.span-at.ensures.0 ∙ ap span w in (
       omega arith,
       omega arith,
-      ⊎_elim (λ p. omega (arith, p.1)) (λ p. omega (arith, p.1)) j.branch,
-      ⊎_elim (λ p. omega (arith, p.2)) (λ p. omega (arith, p.2)) j.branch,
-      l.invariant.4 ∙ ⊎_elim
-          (λ p. rw (p.1, p.2) (apply_hit s.f.now s.a.now _ l.i l.at l.hits l.hit (omega arith) e c.span-at.result k
+      ⊎_elim (λ p. omega (arith, p.1)) (λ p. omega (arith, p.1)) c.if-same.branch-raw,
+      ⊎_elim (λ p. omega (arith, p.2)) (λ p. omega (arith, p.2)) c.if-same.branch-raw,
+      c.loop-i.invariant.4 ∙ ⊎_elim
+          (λ p. rw (p.1, p.2) (apply_hit s.f.now s.a.now _ c.loop-i.i c.loop-i.at c.loop-i.hits c.loop-i.hit (omega arith) e c.span-at.result k
           (rw (← w, ← c.from.ensures, ← c.first.ensures) (sym c.same.ensures ∙ p.0.true))))
-          (λ p. rw (p.1, p.2) (apply_go s.f.now s.a.now _ l.i l.at l.hits l.hit (omega arith) e c.span-at.result k
+          (λ p. rw (p.1, p.2) (apply_go s.f.now s.a.now _ c.loop-i.i c.loop-i.at c.loop-i.hits c.loop-i.hit (omega arith) e c.span-at.result k
           (rw (← w, ← c.from.ensures, ← c.first.ensures) (sym c.same.ensures ∙ p.0.false))))
-          j.branch,
+          c.if-same.branch-raw,
     )
 
 pub returns-else-is_pair : goal.returns-else-is_pair
 returns-else-is_pair c =
-    let l = c.loop-i in
-    apply_misfit c.args.f.now c.args.a.now c.word-n.result l.i l.at l.hits l.hit (omega arith)
-    (rw (← c.from-w.ensures) (sym c.is_pair.ensures ∙ c.if-is_pair.false)) ∙ sym l.invariant.4
+    apply_misfit c.args.f.now c.args.a.now c.word-n.result c.loop-i.i c.loop-i.at c.loop-i.hits c.loop-i.hit (omega arith)
+    (rw (← c.from-w.ensures) (sym c.is_pair.ensures ∙ c.if-is_pair.false)) ∙ sym c.loop-i.invariant.4
 
 pub returns-then-hits-eq1 : goal.returns-then-hits-eq1
-returns-then-hits-eq1 c =
-    let l = c.loop-i in
-    c.second.ensures ∙ apply_one c.args.f.now c.args.a.now c.word-n.result l.i l.at l.hits l.hit (omega arith) c.if-hits-eq1.true ∙ sym l.invariant.4
+returns-then-hits-eq1 c = c.second.ensures ∙ apply_one c.args.f.now c.args.a.now c.word-n.result c.loop-i.i c.loop-i.at c.loop-i.hits c.loop-i.hit (omega arith) c.if-hits-eq1.true ∙ sym c.loop-i.invariant.4
 
 pub returns : goal.returns
-returns c =
-    let l = c.loop-i in
-    apply_none c.args.f.now c.args.a.now c.word-n.result l.i l.at l.hits l.hit (omega arith) c.if-hits-eq1.false ∙ sym l.invariant.4
+returns c = apply_none c.args.f.now c.args.a.now c.word-n.result c.loop-i.i c.loop-i.at c.loop-i.hits c.loop-i.hit (omega arith) c.if-hits-eq1.false ∙ sym c.loop-i.invariant.4

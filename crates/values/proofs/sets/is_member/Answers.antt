@@ -12,17 +12,15 @@ loop-i-init c = (omega arith, omega arith, rw (sub-zero, c.word-n.ensures.0))
 pub returns-then-same : goal.returns-then-same
 returns-then-same c =
     let s = c.args in
-    let l = c.loop-i in
-    among_hit s.s.now s.m.now c.word-n.result l.i l.at (omega arith)
-    (rw (← c.from-w.ensures, ← c.first.ensures) (sym c.same.ensures ∙ c.if-same.true)) ∙ sym l.invariant.2
+    among_hit s.s.now s.m.now c.word-n.result c.loop-i.i c.loop-i.at (omega arith)
+    (rw (← c.from-w.ensures, ← c.first.ensures) (sym c.same.ensures ∙ c.if-same.true)) ∙ sym c.loop-i.invariant.2
 
 pub loop-i-preserved : goal.loop-i-preserved
 loop-i-preserved c =
-    let s = c.args in
-    let l = c.loop-i in (
+    let s = c.args in (
       omega arith,
       omega arith,
-      l.invariant.2 ∙ among_go s.s.now s.m.now c.word-n.result l.i l.at (omega arith)
+      c.loop-i.invariant.2 ∙ among_go s.s.now s.m.now c.word-n.result c.loop-i.i c.loop-i.at (omega arith)
           (rw (← c.from-w.ensures, ← c.first.ensures) (sym c.same.ensures ∙ c.if-same.false))
           c.span-at.result (c.span-at.ensures.0 ∙ ap span c.from-w.ensures),
     )
@@ -30,5 +28,4 @@ loop-i-preserved c =
 pub returns : goal.returns
 returns c =
     let s = c.args in
-    let l = c.loop-i in
-    among_end s.s.now s.m.now c.word-n.result l.i l.at (omega arith) ∙ sym l.invariant.2
+    among_end s.s.now s.m.now c.word-n.result c.loop-i.i c.loop-i.at (omega arith) ∙ sym c.loop-i.invariant.2

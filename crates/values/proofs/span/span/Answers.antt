@@ -9,18 +9,15 @@ loop-i-init c = (omega arith, omega arith, omega arith, sym (zero-add _))
 
 pub returns-then-left-eq0 : goal.returns-then-left-eq0
 returns-then-left-eq0 c =
-    let l = c.loop-i in
     let s = c.args in
-    (sym (l.invariant.3 ∙ spans_stop s.w.now l.at l.left l.i (omega arith)), omega arith)
+    (sym (c.loop-i.invariant.3 ∙ spans_stop s.w.now c.loop-i.at c.loop-i.left c.loop-i.i (omega arith)), omega arith)
 
 pub loop-i-preserved : goal.loop-i-preserved
 loop-i-preserved c =
-    let l = c.loop-i in
     let s = c.args in
-    (omega arith, omega arith, omega arith, l.invariant.3 ∙ spans_go s.w.now l.at l.left l.i (omega arith) (omega arith) _ _ c.head-h.ensures.0 c.parts.ensures.0)
+    (omega arith, omega arith, omega arith, c.loop-i.invariant.3 ∙ spans_go s.w.now c.loop-i.at c.loop-i.left c.loop-i.i (omega arith) (omega arith) _ _ c.head-h.ensures.0 c.parts.ensures.0)
 
 pub returns : goal.returns
 returns c =
-    let l = c.loop-i in
     let s = c.args in
-    (sym (l.invariant.3 ∙ spans_end s.w.now l.at l.left l.i (omega arith)), omega arith)
+    (sym (c.loop-i.invariant.3 ∙ spans_end s.w.now c.loop-i.at c.loop-i.left c.loop-i.i (omega arith)), omega arith)

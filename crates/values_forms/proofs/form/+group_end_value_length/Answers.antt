@@ -16,24 +16,22 @@ group_end-value_length-k-requires t c = (omega (arith, c.decreases), tt)
 
 pub group_end-returns-then-k-eq0 : goal.group_end-returns-then-k-eq0
 group_end-returns-then-k-eq0 t c =
-    let s = c.args in
-    let l = c.loop-i in (
-      group_none (value_length (size_of s.givens.now) s.depth) s.ascending s.w.now s.n l.i l.last l.at c.loop-i-test.true
-          (rw (← c.from.ensures) (sym c.value_length-k.ensures.0 ∙ c.if-k-eq0.true)) ∙ sym l.invariant.3,
+    let s = c.args in (
+      group_none (value_length (size_of s.givens.now) s.depth) s.ascending s.w.now s.n c.loop-i.i c.loop-i.last c.loop-i.at c.loop-i-test.true
+          (rw (← c.from.ensures) (sym c.value_length-k.ensures.0 ∙ c.if-k-eq0.true)) ∙ sym c.loop-i.invariant.3,
       omega arith,
     )
 
 pub group_end-loop-i-preserved : goal.group_end-loop-i-preserved
 group_end-loop-i-preserved t c =
     let s = c.args in
-    let l = c.loop-i in
     let f = c.from.ensures in
-    let k : c.value_length-k.result ≤ length (drop l.at s.w.now) = rw f at c.value_length-k.ensures.1 in
-    let d = length-drop l.at s.w.now in (
+    let k : c.value_length-k.result ≤ length (drop c.loop-i.at s.w.now) = rw f at c.value_length-k.ensures.1 in
+    let d = length-drop c.loop-i.at s.w.now in (
       omega arith,
       omega arith,
       omega arith,
-      l.invariant.3 ∙ group_go (value_length (size_of s.givens.now) s.depth) s.ascending s.w.now s.n l.i l.last l.at c.loop-i-test.true
+      c.loop-i.invariant.3 ∙ group_go (value_length (size_of s.givens.now) s.depth) s.ascending s.w.now s.n c.loop-i.i c.loop-i.last c.loop-i.at c.loop-i-test.true
           c.value_length-k.result (rw f at c.value_length-k.ensures.0) c.if-k-eq0.false
           (rw (← c.span.ensures, ← c.span-in-loop-i.ensures) (sym c.follows.ensures ∙ c.if-follows.true)),
     )
@@ -41,19 +39,17 @@ group_end-loop-i-preserved t c =
 pub group_end-returns-else-follows : goal.group_end-returns-else-follows
 group_end-returns-else-follows t c =
     let s = c.args in
-    let l = c.loop-i in
     let f = c.from.ensures in (
-      group_stop (value_length (size_of s.givens.now) s.depth) s.ascending s.w.now s.n l.i l.last l.at c.loop-i-test.true
+      group_stop (value_length (size_of s.givens.now) s.depth) s.ascending s.w.now s.n c.loop-i.i c.loop-i.last c.loop-i.at c.loop-i-test.true
           c.value_length-k.result (rw f at c.value_length-k.ensures.0) c.if-k-eq0.false
-          (rw (← c.span.ensures, ← c.span-in-loop-i.ensures) (sym c.follows.ensures ∙ c.if-follows.false)) ∙ sym l.invariant.3,
+          (rw (← c.span.ensures, ← c.span-in-loop-i.ensures) (sym c.follows.ensures ∙ c.if-follows.false)) ∙ sym c.loop-i.invariant.3,
       omega arith,
     )
 
 pub group_end-returns : goal.group_end-returns
 group_end-returns t c =
     let s = c.args in
-    let l = c.loop-i in
-    (group_done (value_length (size_of s.givens.now) s.depth) s.ascending (take (l.at - l.last) (drop l.last s.w.now)) (drop l.at s.w.now) s.n l.i l.at c.loop-i-test.false ∙ sym l.invariant.3, omega arith)
+    (group_done (value_length (size_of s.givens.now) s.depth) s.ascending (take (c.loop-i.at - c.loop-i.last) (drop c.loop-i.last s.w.now)) (drop c.loop-i.at s.w.now) s.n c.loop-i.i c.loop-i.at c.loop-i-test.false ∙ sym c.loop-i.invariant.3, omega arith)
 
 pub value_length-returns-then-depth-eq0 : goal.value_length-returns-then-depth-eq0
 value_length-returns-then-depth-eq0 t c =

@@ -18,12 +18,10 @@ loop-k-init c = (omega arith, c.hold-v.ensures)
 pub loop-k-preserved : goal.loop-k-preserved
 loop-k-preserved c =
     let a = c.args in
-    let l = c.loop-k in
-    (omega arith, c.append-v.ensures _ l.invariant.1 ∙ ap keep (elements_more a.g a.n l.k))
+    (omega arith, c.append-v.ensures _ c.loop-k.invariant.1 ∙ ap keep (elements_more a.g a.n c.loop-k.k))
 
 pub returns : goal.returns
 returns c =
     let a = c.args in
-    let l = c.loop-k in
-    let e : l.k ≡ a.n = omega arith in
-    l.invariant.1 ∙ ap (λ (x : ℕ). keep (3 ∷ a.n ∷ encodes (elements_from a.g 0 x))) e ∙ ap keep (sym (elements_words a.g a.n))
+    let e : c.loop-k.k ≡ a.n = omega arith in
+    c.loop-k.invariant.1 ∙ ap (λ (x : ℕ). keep (3 ∷ a.n ∷ encodes (elements_from a.g 0 x))) e ∙ ap keep (sym (elements_words a.g a.n))

@@ -13,18 +13,15 @@ loop-i-init c = (omega arith, rw sub-zero)
 pub returns-then-word-g : goal.returns-then-word-g
 returns-then-word-g c =
     let s = c.args in
-    let l = c.loop-i in
     let w = c.word.ensures.0 in
-    c.small_size.ensures.0 ∙ ap small_size c.word-then-word-g.ensures.0 ∙ size_hit s.givens.now s.g _ l.i c.loop-i-test.true (sym w ∙ c.if-word-g.true) ∙ sym l.invariant.1
+    c.small_size.ensures.0 ∙ ap small_size c.word-then-word-g.ensures.0 ∙ size_hit s.givens.now s.g _ c.loop-i.i c.loop-i-test.true (sym w ∙ c.if-word-g.true) ∙ sym c.loop-i.invariant.1
 
 pub loop-i-preserved : goal.loop-i-preserved
 loop-i-preserved c =
     let s = c.args in
-    let l = c.loop-i in
-    (omega arith, l.invariant.1 ∙ size_go s.givens.now s.g _ l.i c.loop-i-test.true (λ e. c.if-word-g.false (c.word.ensures.0 ∙ e)))
+    (omega arith, c.loop-i.invariant.1 ∙ size_go s.givens.now s.g _ c.loop-i.i c.loop-i-test.true (λ e. c.if-word-g.false (c.word.ensures.0 ∙ e)))
 
 pub returns : goal.returns
 returns c =
     let s = c.args in
-    let l = c.loop-i in
-    size_end s.givens.now s.g _ l.i c.loop-i-test.false ∙ sym l.invariant.1
+    size_end s.givens.now s.g _ c.loop-i.i c.loop-i-test.false ∙ sym c.loop-i.invariant.1

@@ -41,23 +41,20 @@ types_end-type_length-at-requires t c = (omega (arith, c.decreases), tt)
 pub types_end-overflow_add-at-in-loop-i : goal.types_end-overflow_add-at-in-loop-i
 types_end-overflow_add-at-in-loop-i t c =
     let s = c.args in
-    let l = c.loop-i in
-    let k : c.type_length-at.result ≤ length (drop (l.at + s.skip) s.w.now) = rw c.from.ensures at c.type_length-at.ensures.1 in
-    omega (arith, length-drop (l.at + s.skip) s.w.now, c.requires, c.well_formed.0)
+    let k : c.type_length-at.result ≤ length (drop (c.loop-i.at + s.skip) s.w.now) = rw c.from.ensures at c.type_length-at.ensures.1 in
+    omega (arith, length-drop (c.loop-i.at + s.skip) s.w.now, c.requires, c.well_formed.0)
 
 pub types_end-loop-i-preserved : goal.types_end-loop-i-preserved
 types_end-loop-i-preserved t c =
     let s = c.args in
-    let l = c.loop-i in
     let f = c.from.ensures in
-    let k : c.type_length-at.result ≤ length (drop (l.at + s.skip) s.w.now) = rw f at c.type_length-at.ensures.1 in (
+    let k : c.type_length-at.result ≤ length (drop (c.loop-i.at + s.skip) s.w.now) = rw f at c.type_length-at.ensures.1 in (
       omega arith,
-      omega (arith, length-drop (l.at + s.skip) s.w.now, c.requires),
-      l.invariant.2 ∙ types_go (type_length s.depth) s.skip s.w.now s.n l.i l.at c.loop-i-test.true c.type_length-at.result (rw f at c.type_length-at.ensures.0),
+      omega (arith, length-drop (c.loop-i.at + s.skip) s.w.now, c.requires),
+      c.loop-i.invariant.2 ∙ types_go (type_length s.depth) s.skip s.w.now s.n c.loop-i.i c.loop-i.at c.loop-i-test.true c.type_length-at.result (rw f at c.type_length-at.ensures.0),
     )
 
 pub types_end-returns : goal.types_end-returns
 types_end-returns t c =
     let s = c.args in
-    let l = c.loop-i in
-    types_done (type_length s.depth) s.skip s.w.now s.n l.i l.at c.loop-i-test.false ∙ sym l.invariant.2
+    types_done (type_length s.depth) s.skip s.w.now s.n c.loop-i.i c.loop-i.at c.loop-i-test.false ∙ sym c.loop-i.invariant.2

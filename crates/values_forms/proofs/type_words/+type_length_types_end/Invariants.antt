@@ -10,8 +10,8 @@ decreases-type_length l = 2 * l.depth
 abbrev pub decreases-types_end : goal.decreases-types_end
 decreases-types_end l = 2 * l.depth + 1
 
-abbrev pub invariant-loop-i : goal.invariant-loop-i
-invariant-loop-i l = (l.i ≤ l.n) × (l.at ≤ length l.w + 2 + l.i) × (types_end (type_length l.depth) l.skip l.n l.w l.start ≡ types_end (type_length l.depth) l.skip (l.n - l.i) l.w l.at)
+abbrev pub invariant-types_end-loop-i : goal.invariant-types_end-loop-i
+invariant-types_end-loop-i l = (l.i ≤ l.n) × (l.at ≤ length l.w + 2 + l.i) × (types_end (type_length l.depth) l.skip l.n l.w l.start ≡ types_end (type_length l.depth) l.skip (l.n - l.i) l.w l.at)
 
-abbrev pub decreases-loop-i : goal.decreases-loop-i
-decreases-loop-i l = l.n - l.i
+abbrev pub decreases-types_end-loop-i : goal.decreases-types_end-loop-i
+decreases-types_end-loop-i l = l.n - l.i

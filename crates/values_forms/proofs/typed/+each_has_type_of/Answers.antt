@@ -16,36 +16,32 @@ each_has-type_of-requires t c = (omega (arith, c.decreases), tt)
 pub each_has-overflow_add-here : goal.each_has-overflow_add-here
 each_has-overflow_add-here t c =
     let s = c.args in
-    let l = c.loop-i in
-    let k : c.type_step-here.result ≤ length (drop l.here s.t.now) = rw c.from-u.ensures at c.type_step-here.ensures.1 in
-    omega (arith, length-drop l.here s.t.now, c.well_formed.0)
+    let k : c.type_step-here.result ≤ length (drop c.loop-i.here s.t.now) = rw c.from-u.ensures at c.type_step-here.ensures.1 in
+    omega (arith, length-drop c.loop-i.here s.t.now, c.well_formed.0)
 
 pub each_has-loop-i-preserved : goal.each_has-loop-i-preserved
 each_has-loop-i-preserved t c =
     let s = c.args in
-    let l = c.loop-i in
     let e = c.from-u.ensures in
     let f = c.from-v.ensures in
-    let k : c.type_step-here.result ≤ length (drop l.here s.t.now) = rw e at c.type_step-here.ensures.1 in (
+    let k : c.type_step-here.result ≤ length (drop c.loop-i.here s.t.now) = rw e at c.type_step-here.ensures.1 in (
       omega arith,
-      omega (arith, length-drop l.here s.t.now),
+      omega (arith, length-drop c.loop-i.here s.t.now),
       omega arith,
-      l.invariant.3 ∙ each_go (has_type s.depth) s.own s.t.now s.w.now s.n l.i l.here l.at c.loop-i-test.true
+      c.loop-i.invariant.3 ∙ each_go (has_type s.depth) s.own s.t.now s.w.now s.n c.loop-i.i c.loop-i.here c.loop-i.at c.loop-i-test.true
           (rw (← e, ← f) (sym c.type_of.ensures ∙ c.if-type_of.true)) c.type_step-here.result c.span-at.result (rw e at c.type_step-here.ensures.0) (rw f at c.span-at.ensures.0),
     )
 
 pub each_has-returns-else-type_of : goal.each_has-returns-else-type_of
 each_has-returns-else-type_of t c =
     let s = c.args in
-    let l = c.loop-i in
-    each_stop (has_type s.depth) s.own s.t.now s.w.now s.n l.i l.here l.at c.loop-i-test.true
-    (rw (← c.from-u.ensures, ← c.from-v.ensures) (sym c.type_of.ensures ∙ c.if-type_of.false)) ∙ sym l.invariant.3
+    each_stop (has_type s.depth) s.own s.t.now s.w.now s.n c.loop-i.i c.loop-i.here c.loop-i.at c.loop-i-test.true
+    (rw (← c.from-u.ensures, ← c.from-v.ensures) (sym c.type_of.ensures ∙ c.if-type_of.false)) ∙ sym c.loop-i.invariant.3
 
 pub each_has-returns : goal.each_has-returns
 each_has-returns t c =
     let s = c.args in
-    let l = c.loop-i in
-    each_done (has_type s.depth) s.own s.t.now s.w.now s.n l.i l.here l.at c.loop-i-test.false ∙ sym l.invariant.3
+    each_done (has_type s.depth) s.own s.t.now s.w.now s.n c.loop-i.i c.loop-i.here c.loop-i.at c.loop-i-test.false ∙ sym c.loop-i.invariant.3
 
 pub type_of-returns-then-depth-eq0 : goal.type_of-returns-then-depth-eq0
 type_of-returns-then-depth-eq0 t c =
