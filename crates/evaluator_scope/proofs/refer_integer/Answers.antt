@@ -10,7 +10,7 @@ returns-then-b-eq0 c =
     λ scope s xs e.
     let a = c.args in
     let f = subst (λ (b : ℕ). FoundBlock a.state.now a.work.now b (lookup a.name scope)) (sym c.find-b.ensures.0) (lookup_found _ _ a.name _ scope s) in
-    refer_unknown _ _ _ _ _ f xs _ c.if-b-eq0.true c.no_Operand.ensures
+    refer_unknown _ _ _ _ _ f xs _ c.if-b-eq0.true c.no_operand.ensures
 
 pub returns-then-word-eq-GENERIC : goal.returns-then-word-eq-GENERIC
 returns-then-word-eq-GENERIC c =

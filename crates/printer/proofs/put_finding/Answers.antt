@@ -7,4 +7,4 @@ returns-in-Accepted c = rw c.in-Accepted.is c.put_accepted.ensures
 
 pub returns-in-Refused : goal.returns-in-Refused
 unfolding print_of
-returns-in-Refused c = rw c.in-Refused.is c.Put-refused.ensures
+returns-in-Refused c = rw c.in-Refused.is c.put_refused.ensures

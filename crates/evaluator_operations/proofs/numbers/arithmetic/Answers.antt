@@ -9,7 +9,7 @@ use Rattle.evaluator_operations.proofs.OperationLaws.{arithmetic_left, arithmeti
 use Rattle.evaluator_operations.proofs.numbers.arithmetic.Goals as goal
 
 pub returns-in-Misfit : goal.returns-in-Misfit
-returns-in-Misfit c = λ x y hx hy. arithmetic_left _ _ x y _ (sym c.in-Misfit.is ∙ hx.integer) c.no_Operand.ensures
+returns-in-Misfit c = λ x y hx hy. arithmetic_left _ _ x y _ (sym c.in-Misfit.is ∙ hx.integer) c.no_operand.ensures
 
 pub returns-in-Misfit-b : goal.returns-in-Misfit-b
 returns-in-Misfit-b c = λ x y hx hy. arithmetic_right _ _ x y _ hx.narrow _ (sym c.in-Integer.is ∙ hx.integer) (sym c.in-Misfit-b.is ∙ hy.integer) c.no_operand-in-Misfit-b.ensures

@@ -19,7 +19,7 @@ returns-in-Whole c =
 
 pub returns-in-Undefined : goal.returns-in-Undefined
 unfolding keep_integer
-returns-in-Undefined c = rw c.in-Undefined.is (stop_told c.no_Operand.ensures (λ z. omega arith))
+returns-in-Undefined c = rw c.in-Undefined.is (stop_told c.no_operand.ensures (λ z. omega arith))
 
 pub returns-in-Outside : goal.returns-in-Outside
 unfolding keep_integer
