@@ -3,17 +3,15 @@ use Prim.Native.Nat.{suc, zero, ℕ}
 use lib.Dec.{eqb}
 use lib.ListN.{length}
 use mathlib.Core.Bool.{Bool, false, true}
-use mathlib.Core.List.{List, [], ◌∷◌}
+use mathlib.Core.List.{List}
 use mathlib.Core.Option.{Option, none, some}
 use mathlib.Core.Path.{◌≡◌, ap, refl, subst, sym}
 use native.Mathlib.Omega.{arith}
-use Rattle.types_rules.proofs.Solutions.{resolve_eq}
 use Rattle.types_rules.proofs.Terms.{same_true}
-use Rattle.types_rules.specs.Component.{component, component_type, pick, pick_type}
 use Rattle.types_rules.specs.Equations.{Pairs, end, pair}
 use Rattle.types_rules.specs.Formed.{Formed, FormedType, FormedTypes, Formeds, part_count, part_count_type}
-use Rattle.types_rules.specs.Former.{Former, identifiers, same_former}
-use Rattle.types_rules.specs.Substitution.{Respects, Substitution, bind, empty, occurs, replace, replaces, resolve, sol, update, without}
+use Rattle.types_rules.specs.Former.{Former, same_former}
+use Rattle.types_rules.specs.Substitution.{Substitution, bind, empty, occurs, replace, replaces, resolve, sol, update, without}
 use Rattle.types_rules.specs.Types.{Term, Terms, Ty, con, cons, nil, under, unders, unknown}
 use Rattle.types_rules.specs.Unify.{Next, Outcome, clash, cycle, flex, is_unknown, ok, replace_all, rigid, stuck, unify, unify_level, unify_levels, unify_step, weight, zip_terms}
 

@@ -1,10 +1,9 @@
 -- Laws of instances of recorded types.
 use Prim.Native.Nat.{ℕ, zero, suc}
 use mathlib.Core.Option.{Option, some, none}
-use mathlib.Core.Path.{◌≡◌, refl, ap, ap₂, ◌∙◌, subst}
-use native.Mathlib.Omega.{arith}
-use Rattle.types_rules.specs.Former.{Former, int, given, parameter, power, product, binding, identifiers}
-use Rattle.types_rules.specs.Types.{Ty, Tys, node, tnil, tcons, Term, Terms, unknown, con, nil, cons, under, unders, Each, Eachs, integer_type}
+use mathlib.Core.Path.{◌≡◌, refl, ap, ap₂, ◌∙◌}
+use Rattle.types_rules.specs.Former.{Former, int, given, parameter, power, product, binding}
+use Rattle.types_rules.specs.Types.{Ty, Tys, node, tnil, tcons, Term, Terms, nil, cons, under, unders}
 use Rattle.types_rules.specs.Instance.{nth, actual, instance_former, instance, instances}
 
 nth_same : (σ τ : ℕ → Ty) (r : Terms) (i : ℕ) (ts : Terms) → unders σ r ≡ unders τ r → unders σ ts ≡ unders τ ts → under σ (actual (nth r i) i ts) ≡ under τ (actual (nth r i) i ts)

@@ -87,11 +87,11 @@ without_less x (z ∷ ys) e = without_less_c x z ys (eqb z x) (without_len x ys)
 tri_map : (F K : ℕ → Type 0) (s : Substitution) → ((y : ℕ) → F y → K y) → ((y : ℕ) → K y → F y) → Tri F s → Tri K s
 tri_map F K empty f g h = tt
 tri_map F K (bind x t s) f g h =
-    (λ q. h.0 (g x q), each_map F K f t h.1, tri_map _ _ s (λ y q e. f y (q e)) (λ y q e. g y (q e)) h.2)
+    (λ q. h.0 (g x q), each_map F K f t h.1, tri_map (λ y. eqb y x ≡ false → F y) (λ y. eqb y x ≡ false → K y) s (λ y q e. f y (q e)) (λ y q e. g y (q e)) h.2)
 
 base_map : (F K : ℕ → Type 0) (s : Substitution) → ((y : ℕ) → F y → K y) → (y : ℕ) → Base F s y → Base K s y
 base_map F K empty f y h = f y h
-base_map F K (bind x t s) f y h = base_map _ _ s (λ z q e. f z (q e)) y h
+base_map F K (bind x t s) f y h = base_map (λ z. eqb z x ≡ false → F z) (λ z. eqb z x ≡ false → K z) s (λ z q e. f z (q e)) y h
 
 pub decide : (b : Bool) → (C : Type 0) → (b ≡ true → C) → (b ≡ false → C) → C
 decide true C f g = f refl
@@ -199,7 +199,7 @@ outer_good N (suc k) vs s es l h hs =
 resolve_each : (F : ℕ → Type 0) (s : Substitution) (t : Term) → Tri F s → Each (Base F s) t → Each F (resolve s t)
 unfolding resolve
 resolve_each F empty t h e = e
-resolve_each F (bind x u s) t h e = each_put F x u h.1 (resolve s t) (resolve_each _ s t h.2 e)
+resolve_each F (bind x u s) t h e = each_put F x u h.1 (resolve s t) (resolve_each (λ y. eqb y x ≡ false → F y) s t h.2 e)
 
 pub resolve_free : (N : ℕ → Type 0) (vs : List ℕ) (s : Substitution) (t : Term) → State N vs s → Each N t → Each (λ y. member y vs ≡ true) (resolve s t)
 resolve_free N vs s t h e = resolve_each _ s t h.tri (each_map N _ h.all t e)
@@ -215,7 +215,7 @@ sol_free : (F : ℕ → Type 0) (s : Substitution) → Tri F s → (τ : ℕ →
 unfolding sol
 sol_free F empty h τ y f = refl
 sol_free F (bind x t s) h τ y f =
-    sol_free _ s h.2 (update τ x (under τ t)) y (λ e. f) ∙ update_other τ x (under τ t) y (ne_eqb y x (λ q. h.0 (subst F q f)))
+    sol_free (λ z. eqb z x ≡ false → F z) s h.2 (update τ x (under τ t)) y (λ e. f) ∙ update_other τ x (under τ t) y (ne_eqb y x (λ q. h.0 (subst F q f)))
 
 sol_sat_F : (F : ℕ → Type 0) (s : Substitution) → Tri F s → (τ : ℕ → Ty) → Respects (sol τ s) s
 unfolding sol
@@ -223,7 +223,7 @@ sol_sat_F F empty h τ = tt
 sol_sat_F F (bind x t s) h τ = (
   sol_free _ s h.2 (update τ x (under τ t)) x (not_self x _) ∙ update_same τ x (under τ t)
       ∙ sym (under_ext (sol (update τ x (under τ t)) s) τ t (each_map F _ (λ y f. sol_free F (bind x t s) h τ y f) t h.1)),
-  sol_sat_F _ s h.2 (update τ x (under τ t)),
+  sol_sat_F (λ y. eqb y x ≡ false → F y) s h.2 (update τ x (under τ t)),
 )
 
 pub sol_sat : (N : ℕ → Type 0) (vs : List ℕ) (s : Substitution) → State N vs s → (τ : ℕ → Ty) → Respects (sol τ s) s

@@ -2,29 +2,12 @@
 use Prim.Native.Nat.{ℕ, zero, suc, ◌+◌, ◌*◌, ◌≤◌, ◌<◌}
 use lib.ListN.{length, length-append}
 use mathlib.Core.List.{List, [], ◌∷◌, ◌++◌, append_assoc}
-use mathlib.Core.Path.{◌≡◌, refl, ap, ap₂, sym, subst, ◌∙◌}
+use mathlib.Core.Path.{◌≡◌, refl, ap, sym, ◌∙◌}
 use native.Mathlib.Omega.{arith}
 use Rattle.types_rules.specs.Former.{Former, int, given, parameter, power, product, binding, tag, identifiers}
 use Rattle.types_rules.specs.Types.{Ty, Tys, node, tnil, tcons, size, sizes}
-use Rattle.types_rules.specs.Formed.{part_count_type, FormedType, FormedTypes, Ascending, Arity, WellFormed}
-use Rattle.types_rules.specs.Words.{
-  second,
-  words,
-  part_words,
-  Read,
-  nothing,
-  got,
-  and_then,
-  with_word,
-  read_parts,
-  Components,
-  components,
-  add,
-  read_components,
-  binding_of,
-  read_former,
-  read_type,
-}
+use Rattle.types_rules.specs.Formed.{part_count_type, FormedType, FormedTypes, Arity, WellFormed}
+use Rattle.types_rules.specs.Words.{second, words, part_words, got, and_then, with_word, read_parts, components, add, read_components, binding_of, read_former, read_type}
 
 abbrev Back : ℕ → Type 0
 Back f = (g : Ty) → WellFormed g → size g ≤ f → (r : List ℕ) → read_type f (words g ++ r) ≡ got g r
