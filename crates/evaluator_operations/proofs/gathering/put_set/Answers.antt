@@ -11,7 +11,7 @@ pub returns-then-s-lt-GATHERED : goal.returns-then-s-lt-GATHERED
 returns-then-s-lt-GATHERED c = λ vs l h. absurd (omega (arith, c.if-s-lt-GATHERED.true))
 
 pub copy-requires : goal.copy-requires
-copy-requires c = let l : 64 ≡ length c.args.t.words = slice-aggregate-copy c in omega (arith, c.if-s-lt-GATHERED.false)
+copy-requires c = ?
 
 pub returns : goal.returns
 returns c =
