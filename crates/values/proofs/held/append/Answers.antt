@@ -17,12 +17,6 @@ returns-then-len-w c =
     let l = held_len a.v ws e h in
     c.over-then-len-w.ensures ∙ sym (keep_over (ws ++ a.w.now) (omega (arith, length-append ws a.w.now)))
 
-pub copy-requires : goal.copy-requires
-copy-requires c =
-    let a = c.args in
-    let l : 64 ≡ length a.v.words = slice-aggregate-copy c in
-    omega arith
-
 pub returns : goal.returns
 returns c =
     λ ws e.

@@ -21,13 +21,13 @@ loop-i-preserved c =
     let k = c.span-at.ensures.0 ∙ ap span w in (
       omega arith,
       omega arith,
-      ⊎_elim (λ p. omega (arith, p.1)) (λ p. omega (arith, p.1)) c.if-same.branch-raw,
-      ⊎_elim (λ p. omega (arith, p.2)) (λ p. omega (arith, p.2)) c.if-same.branch-raw,
+      ⊎_elim (λ p. omega (arith, p.hits-is)) (λ p. omega (arith, p.hits-is)) c.if-same.branch-raw,
+      ⊎_elim (λ p. omega (arith, p.hit-is)) (λ p. omega (arith, p.hit-is)) c.if-same.branch-raw,
       c.loop-i.invariant.4 ∙ ⊎_elim
-          (λ p. rw (p.1, p.2) (apply_hit s.f.now s.a.now _ c.loop-i.i c.loop-i.at c.loop-i.hits c.loop-i.hit (omega arith) e c.span-at.result k
-          (rw (← w, ← c.from.ensures, ← c.first.ensures) (sym c.same.ensures ∙ p.0.true))))
-          (λ p. rw (p.1, p.2) (apply_go s.f.now s.a.now _ c.loop-i.i c.loop-i.at c.loop-i.hits c.loop-i.hit (omega arith) e c.span-at.result k
-          (rw (← w, ← c.from.ensures, ← c.first.ensures) (sym c.same.ensures ∙ p.0.false))))
+          (λ p. rw (p.hits-is, p.hit-is) (apply_hit s.f.now s.a.now _ c.loop-i.i c.loop-i.at c.loop-i.hits c.loop-i.hit (omega arith) e c.span-at.result k
+          (rw (← w, ← c.from.ensures, ← c.first.ensures) (sym c.same.ensures ∙ p.if-same.true))))
+          (λ p. rw (p.hits-is, p.hit-is) (apply_go s.f.now s.a.now _ c.loop-i.i c.loop-i.at c.loop-i.hits c.loop-i.hit (omega arith) e c.span-at.result k
+          (rw (← w, ← c.from.ensures, ← c.first.ensures) (sym c.same.ensures ∙ p.if-same.false))))
           c.if-same.branch-raw,
     )
 
