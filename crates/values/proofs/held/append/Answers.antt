@@ -1,4 +1,4 @@
-use Rattle.std.proofs.Common.{◌≡◌, ◌+◌, ◌≤◌, ◌++◌, length, sym, ◌∙◌, arith, length-append}
+use Rattle.std.proofs.Common.{◌+◌, ◌≤◌, ◌++◌, length, sym, ◌∙◌, arith, length-append}
 use Rattle.values.proofs.Holding.{keep_over, keep_fits, held_short, held_long, held_len, held_words, appended}
 use Rattle.values.proofs.held.append.Goals as goal
 
