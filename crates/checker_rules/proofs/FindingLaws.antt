@@ -11,7 +11,7 @@ use lib.Dec.{ltb, eqb}
 use borrow.Author.Tests.{eqb-true, eqb-false, ltb-true, ltb-false, lt-ltb}
 use Rattle.words.specs.Loops.{has}
 use Rattle.reader_rules.specs.Tree.{reference, theta, Exprs, none, more, include}
-use Rattle.reader_rules.specs.Tree.{from, exprs_length}
+use Rattle.reader_rules.specs.Tree.{exprs_length}
 use Rattle.types_rules.specs.Former.{same_former}
 use Rattle.types_rules.specs.Types.{Ty, node, Tys, tnil, tcons, Term, under, size}
 use Rattle.types_rules.specs.Instance.{instance}

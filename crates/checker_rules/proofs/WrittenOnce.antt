@@ -1,19 +1,19 @@
 -- By 16 no two paragraphs of a readable document write the same identifier.
 use mathlib.Core.Path.{◌≡◌, refl, sym, ap, subst, ◌∙◌}
-use mathlib.Core.Bool.{Bool, true, false, ◌&&◌, ◌||◌, cond, not, false≢true}
+use mathlib.Core.Bool.{Bool, true, false, ◌||◌, cond, not, false≢true}
 use mathlib.Core.List.{List, [], ◌∷◌, ◌++◌, append_assoc}
-use mathlib.Core.Logic.{◌⊎◌, inl, inr, ⊎_elim}
-use Prim.Native.Nat.{ℕ, zero, suc, ◌+◌, ◌-◌, ◌≤◌, ◌<◌}
+use mathlib.Core.Logic.{◌⊎◌, inl, inr}
+use Prim.Native.Nat.{ℕ, ◌-◌, ◌≤◌, ◌<◌}
 use native.Mathlib.Omega.{arith}
-use lib.Dec.{eqb, leb, ltb}
-use lib.ListN.{length, get_or, take, drop}
-use borrow.Author.Tests.{eqb-true, eq-eqb, ne_eqb, ltb-true, ltb-false, eqb-false}
+use lib.Dec.{eqb, ltb}
+use lib.ListN.{length, get_or, drop}
+use borrow.Author.Tests.{eqb-true, eq-eqb, ne_eqb, ltb-true, ltb-false}
 use Rattle.words.specs.Loops.{joined, has, occurrences}
 use Rattle.words.proofs.Loops.{and_left, and_right}
 use Rattle.words.proofs.Lists.{has_append, occurrences_append, has_joined, some_true, has_once, drop_next}
 use Rattle.layout.specs.Layout.{count, part}
-use Rattle.reader_rules.specs.Kinds.{cell, sort_at, sort_in, is_node_sort, between, texts, lines, paragraphs}
-use Rattle.reader_rules.specs.Nodes.{kind_at, operand_at, children, uses, parent}
+use Rattle.reader_rules.specs.Kinds.{cell, sort_in, is_node_sort, between, texts, lines, paragraphs}
+use Rattle.reader_rules.specs.Nodes.{kind_at, operand_at, children, parent}
 use Rattle.reader_rules.specs.Repeats.{fresh, is_axiom_decl, globals as globalsAt, repeats, repeat_number}
 use Rattle.reader_rules.specs.Reading.{read_of}
 use Rattle.reader_rules.specs.declared.Reading.TheVariants.{Readable}
@@ -21,7 +21,7 @@ use Rattle.reader_rules.specs.Promise.{At, Lower}
 use Rattle.reader_rules.specs.Tree.{Expr, Pred, Lines, end, declaration, inclusion, Text, text, Include, Schema, Paragraph, given, axiomatic, schema}
 use Rattle.reader_rules.specs.Tree.{abbreviation, constraint, Document as Tree, document}
 use Rattle.reader_rules.specs.TreeNumbers.{expr_numbers, pred_numbers, lines_numbers, text_numbers, include_numbers, paragraph_numbers, paragraphs_numbers, node_numbers}
-use Rattle.reader_rules.specs.Decode.{gather, expr_at, pred_at, text_at, include_at, line_at, paragraph_at, lines_from, paragraphs_from, tree_of}
+use Rattle.reader_rules.specs.Decode.{expr_at, pred_at, text_at, include_at, line_at, paragraph_at, lines_from, paragraphs_from, tree_of}
 use Rattle.reader_rules.proofs.Accepted.{Document, readable, used_once}
 use Rattle.reader_rules.proofs.Operands.{cond_same}
 use Rattle.reader_rules.proofs.Parents.{place_child, parent_only}
@@ -33,10 +33,10 @@ use Rattle.reader_rules.proofs.TreeText.{line_range, text_kind, text_law, line_d
 use Rattle.reader_rules.proofs.TreeParagraph.{paragraph_range, paragraph_given, paragraph_axiomatic, paragraph_schema, paragraph_abbreviation}
 use Rattle.reader_rules.proofs.TreeParagraph.{paragraph_constraint, document_law}
 use Rattle.reader_rules.proofs.TreeNodes.{each_node_once}
-use Rattle.checker_rules.specs.Dictionary.{Dictionary, blank}
+use Rattle.checker_rules.specs.Dictionary.{Dictionary}
 use Rattle.checker_rules.specs.Scopes.{Scope, globals}
 use Rattle.checker_rules.specs.Entries.{extend}
-use Rattle.checker_rules.specs.Globals.{Way, written, included, LinesDeclare, TextDeclares, Declares, History, paragraphs_in, Earlier}
+use Rattle.checker_rules.specs.Globals.{written, included, LinesDeclare, TextDeclares, Declares, History, paragraphs_in, Earlier}
 use Rattle.checker_rules.specs.Check.{paragraphs_of}
 use Rattle.checker_rules.proofs.GlobalNames.{or_side}
 
