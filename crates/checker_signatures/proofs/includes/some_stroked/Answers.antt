@@ -1,5 +1,4 @@
 use mathlib.Core.Path.{sym, ◌∙◌}
-use Prim.Native.Nat.{◌-◌}
 use native.Mathlib.Omega.{arith}
 use Rattle.checker_signatures.proofs.IncludeLaws.{stroked_start, stroked_on, stroked_go, stroked_end}
 use Rattle.checker_signatures.proofs.includes.some_stroked.Goals as goal
