@@ -1,12 +1,11 @@
 use Rattle.checker_closing.proofs.ElementLaws.{closed_several, closed_storing, closed_one}
-use borrow.Author.Tests.{not-true, not-false}
 use Rattle.checker_closing.proofs.elements.closed_type.Goals as goal
 
 pub returns-then-not-close : goal.returns-then-not-close
-returns-then-not-close c = closed_several c.close.ensures (not-true _ c.if-not-close.true) c.refused.ensures
+returns-then-not-close c = closed_several c.close.ensures c.if-not-close.true c.refused.ensures
 
 pub kept_type-requires : goal.kept_type-requires
-kept_type-requires c = closed_storing c.close.ensures (not-false _ c.if-not-close.false) c.requires
+kept_type-requires c = closed_storing c.close.ensures c.if-not-close.false c.requires
 
 pub returns : goal.returns
-returns c = closed_one c.close.ensures (not-false _ c.if-not-close.false) c.kept_type.ensures
+returns c = closed_one c.close.ensures c.if-not-close.false c.kept_type.ensures
