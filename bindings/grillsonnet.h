@@ -1,4 +1,4 @@
-/* Grillsonnet: a checker and evaluator for documents of Z in coded form. `rt staticlib capi` writes the archive, target/staticlib/libcapi.a.
+/* Grillsonnet: a checker and evaluator for documents of Z in coded form. `tools/build` writes the archive, target/staticlib/libcapi.a.
  *
  * Words are uint32_t, and an area is a pointer and its number of words. Any words and any lengths are allowed; a pointer is valid for its length
  * and is not NULL, also where the length is 0. No call keeps a pointer, uses the heap or touches anything but its areas, so calls on different

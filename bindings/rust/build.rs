@@ -1,4 +1,4 @@
-//! Links the archive that `rt staticlib capi` writes, or the one that Z_LIB
+//! Links the archive that `tools/build` writes, or the one that Z_LIB
 //! names. Which calls it has, the build script of a crate above knows by
 //! DEP_CAPI_CALLS.
 
@@ -7,7 +7,7 @@ use std::process::Command;
 
 fn main() {
     let archive = archive();
-    assert!(archive.exists(), "no archive at {}: rt staticlib capi writes it", archive.display());
+    assert!(archive.exists(), "no archive at {}: tools/build writes it", archive.display());
     println!("cargo::rerun-if-env-changed=Z_LIB");
     println!("cargo::rerun-if-changed=build.rs");
     println!("cargo::rerun-if-changed={}", archive.display());

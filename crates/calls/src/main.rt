@@ -2,7 +2,7 @@
 #![tactic(auto)]
 
 use codes::limits;
-use libc::STDOUT_FILENO;
+use std::io;
 use words::word;
 
 // Words of the areas.
@@ -46,95 +46,79 @@ const SEVEN: [u32; 5] = [1, 3, 2, 1, 7];
 
 const EMPTY_SET: [u32; 5] = [1, 3, 2, 3, 0];
 
-fn show_refused(number: u32, place: u32) {
-    io::write_all(STDOUT_FILENO, b"refused ");
-    io::print_decimal(STDOUT_FILENO, number as u64);
-    io::write_all(STDOUT_FILENO, b" at ");
-    io::print_decimal(STDOUT_FILENO, place as u64);
-    io::write_all(STDOUT_FILENO, b"\n");
+fn show_refused(rt: &impl Print, number: u32, place: u32) -> io::Result<()> {
+    println!(rt; "refused {number} at {place}")
 }
 
-fn show_reading(finding: reader_rules::Reading) {
+fn show_reading(rt: &impl Print, finding: reader_rules::Reading) -> io::Result<()> {
     match finding {
-        reader_rules::Reading::Readable => {
-            io::write_all(STDOUT_FILENO, b"readable\n");
-        }
-        reader_rules::Reading::Refused { number, place } => {
-            show_refused(number, place);
-        }
+        reader_rules::Reading::Readable => println!(rt; "readable"),
+        reader_rules::Reading::Refused { number, place } => show_refused(rt, number, place),
     }
 }
 
 // Printed by the print call.
-fn show_finding(finding: checker_rules::Finding, dict: &[u32]) {
+fn show_finding(rt: &impl Print, finding: checker_rules::Finding, dict: &[u32]) -> io::Result<()> {
     let mut out = [0u8; OUTPUT];
     let n = printer::print_finding(finding, dict, &mut out);
-    io::write_all(STDOUT_FILENO, &out[..n]);
+    rt.write_all(&out[..n])
 }
 
-fn show_run(finding: evaluator_rules::Finding) {
+fn show_run(rt: &impl Print, finding: evaluator_rules::Finding) -> io::Result<()> {
     match finding {
-        evaluator_rules::Finding::Holds => {
-            io::write_all(STDOUT_FILENO, b"holds\n");
-        }
-        evaluator_rules::Finding::Fails { node } => {
-            io::write_all(STDOUT_FILENO, b"fails at ");
-            io::print_decimal(STDOUT_FILENO, node as u64);
-            io::write_all(STDOUT_FILENO, b"\n");
-        }
-        evaluator_rules::Finding::Refused { number, place } => {
-            show_refused(number, place);
-        }
+        evaluator_rules::Finding::Holds => println!(rt; "holds"),
+        evaluator_rules::Finding::Fails { node } => println!(rt; "fails at {node}"),
+        evaluator_rules::Finding::Refused { number, place } => show_refused(rt, number, place),
     }
 }
 
-fn check(doc: &[u32]) {
+fn check(rt: &impl Print, doc: &[u32]) -> io::Result<()> {
     let mut dict = [0u32; DICTIONARY];
     let mut work = [0u32; CHECK_WORK];
     let finding = checker::check(doc, &mut dict, &mut work);
-    show_finding(finding, &dict);
+    show_finding(rt, finding, &dict)
 }
 
-fn fit(doc: &[u32], state: &[u32]) {
+fn fit(rt: &impl Print, doc: &[u32], state: &[u32]) -> io::Result<()> {
     let mut dict = [0u32; DICTIONARY];
     let mut work = [0u32; CHECK_WORK];
     let finding = fitter::fit(doc, state, &mut dict, &mut work);
-    show_finding(finding, &dict);
+    show_finding(rt, finding, &dict)
 }
 
-fn run(doc: &[u32], state: &[u32]) {
+fn run(rt: &impl Print, doc: &[u32], state: &[u32]) -> io::Result<()> {
     let mut work = [0u32; RUN_WORK];
-    show_run(evaluator::run(doc, state, &mut work));
+    show_run(rt, evaluator::run(doc, state, &mut work))
 }
 
-fn show_words(area: &[u32]) {
-    io::write_all(STDOUT_FILENO, b"words");
+fn show_words(rt: &impl Print, area: &[u32]) -> io::Result<()> {
+    print!(rt; "words")?;
     for i in 0..area.len() {
-        io::write_all(STDOUT_FILENO, b" ");
-        io::print_decimal(STDOUT_FILENO, word(area, i) as u64);
+        let w = word(area, i);
+        print!(rt; " {w}")?;
     }
-    io::write_all(STDOUT_FILENO, b"\n");
+    println!(rt)
 }
 
 // Written again, in an area of WORDS words, whether or not there is room.
-fn rewrite(doc: &[u32]) {
+fn rewrite(rt: &impl Print, doc: &[u32]) -> io::Result<()> {
     let mut output = [1u32; WORDS];
-    show_reading(canonical::canonical(doc, &mut output));
-    show_words(&output);
+    show_reading(rt, canonical::canonical(doc, &mut output))?;
+    show_words(rt, &output)
 }
 
-fn main() {
-    show_reading(reader::read(&GIVEN));
-    show_reading(reader::read(&NO_KIND));
-    show_reading(states::check_state(&GIVEN, &THREE));
-    show_reading(states::check_state(&GIVEN, &TOO_MANY));
-    check(&GIVEN);
-    check(&UNEQUAL);
-    fit(&INTEGER, &SEVEN);
-    fit(&INTEGER, &EMPTY_SET);
-    run(&INTEGER, &SEVEN);
-    run(&DESCENDING, &NO_NAMES);
-    run(&DESCENDING, &THREE);
-    rewrite(&INTEGER);
-    rewrite(&UNEQUAL);
+fn main(rt: HostRuntime) -> io::Result<()> {
+    show_reading(&rt, reader::read(&GIVEN))?;
+    show_reading(&rt, reader::read(&NO_KIND))?;
+    show_reading(&rt, states::check_state(&GIVEN, &THREE))?;
+    show_reading(&rt, states::check_state(&GIVEN, &TOO_MANY))?;
+    check(&rt, &GIVEN)?;
+    check(&rt, &UNEQUAL)?;
+    fit(&rt, &INTEGER, &SEVEN)?;
+    fit(&rt, &INTEGER, &EMPTY_SET)?;
+    run(&rt, &INTEGER, &SEVEN)?;
+    run(&rt, &DESCENDING, &NO_NAMES)?;
+    run(&rt, &DESCENDING, &THREE)?;
+    rewrite(&rt, &INTEGER)?;
+    rewrite(&rt, &UNEQUAL)
 }

@@ -1,11 +1,11 @@
 -- Entries that wait, one after another: their words, and all of them put after others.
-use Rattle.std.proofs.Common.{◌≡◌, ℕ, suc, ◌+◌, ◌-◌, ◌*◌, ◌^◌, ◌<◌, ◌≤◌, Bool, true, false, List, [], ◌∷◌, ◌++◌, length, get_or, take, drop, replicate, sym, refl, ap, ◌∙◌, subst, ⊎_elim, append_assoc, append-nil, eq-or-lt_of_le, arith, length-append, length-drop, get_or-drop, drop-drop}
+use Rattle.std.proofs.Common.{◌≡◌, ℕ, ◌+◌, ◌-◌, ◌*◌, ◌^◌, ◌<◌, ◌≤◌, true, false, List, [], ◌∷◌, ◌++◌, length, get_or, take, drop, replicate, sym, refl, ap, ◌∙◌, subst, ⊎_elim, append_assoc, append-nil, eq-or-lt_of_le, arith, length-append, length-drop}
 use lib.ListN.{length-replicate}
-use lib.Seq.{sets, take-append_seam, drop-append_seam}
+use lib.Seq.{sets}
 use Rattle.types_rules.proofs.Terms.{bool_no}
 use Rattle.layout.specs.Layout.{count}
 use Rattle.checker_rules.proofs.DictionaryLaid.{words_append}
-use Rattle.checker_rules.specs.Dictionary.{Entry, entry_words, all_words, Dictionary, ◌▸◌, entries, dictionary_words, dictionary_length}
+use Rattle.checker_rules.specs.Dictionary.{Entry, entry_words, all_words, Dictionary, entries, dictionary_words, dictionary_length}
 use Rattle.checker_dictionary.specs.Spaced.{spaced_words, Spaced, Spacing, first_at, PlaceAsk, Respaced, Usable, RoomAsk, Roomy, PutAsk, Put, AllPut, AllAppended}
 use Rattle.checker_dictionary.specs.Growth.{size_at, pair_added}
 use Rattle.checker_dictionary.specs.Waiting.{with_entries, waiting, Waits, Waiting}

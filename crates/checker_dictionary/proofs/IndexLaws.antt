@@ -1,5 +1,5 @@
 -- The index finds what the search from the newest entry down finds.
-use Rattle.std.proofs.Common.{◌≡◌, ℕ, zero, suc, ◌+◌, ◌-◌, ◌%◌, ◌<◌, ◌≤◌, Bool, true, false, cond, ◌&&◌, eqb, ◌⊎◌, List, [], ◌∷◌, ◌++◌, length, get_or, set, replicate, sym, refl, ap, ◌∙◌, subst, inl, inr, append_assoc, append-nil, mod-lt, eq-or-lt_of_le, arith, length-append, length-set, get_or-set_other, get_or-set_same, get_or-append-add, eq-eqb, ne_eqb, eqb-true}
+use Rattle.std.proofs.Common.{◌≡◌, ℕ, zero, suc, ◌+◌, ◌-◌, ◌<◌, ◌≤◌, Bool, true, false, cond, eqb, ◌⊎◌, List, [], ◌∷◌, ◌++◌, length, get_or, set, replicate, sym, refl, ap, ◌∙◌, subst, inl, inr, append_assoc, append-nil, mod-lt, eq-or-lt_of_le, arith, length-append, length-set, get_or-set_other, get_or-set_same, get_or-append-add, eq-eqb, ne_eqb, eqb-true}
 use mathlib.Core.Bool.{false≢true}
 use lib.ListN.{length-replicate, get_or-replicate, get_or-append}
 use borrow.Author.Tests.{eqb-false}

@@ -1,7 +1,7 @@
 -- One turn of moving words inside an area, up or down, and of making words zero.
-use Rattle.std.proofs.Common.{◌≡◌, ℕ, zero, suc, ◌+◌, ◌-◌, ◌<◌, ◌≤◌, List, [], ◌∷◌, ◌++◌, length, get_or, take, drop, set, replicate, sym, refl, ap, ◌∙◌, arith, length-drop, length-take, length-take-le, get_or-drop, get_or-set_other, get_or-take, take-suc}
+use Rattle.std.proofs.Common.{◌≡◌, ℕ, suc, ◌+◌, ◌-◌, ◌<◌, ◌≤◌, List, [], ◌∷◌, ◌++◌, length, get_or, take, drop, set, replicate, sym, refl, ap, ◌∙◌, arith, length-drop, length-take, length-take-le, get_or-drop, get_or-set_other, get_or-take, take-suc}
 use lib.ListN.{length-replicate, replicate-append-replicate}
-use lib.Seq.{sets, take-nil, set_comm}
+use lib.Seq.{sets, set_comm}
 use Rattle.words.proofs.Lists.{sets_append, drop_done}
 use Rattle.words.proofs.Copying.{sets_go}
 

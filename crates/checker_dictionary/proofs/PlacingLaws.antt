@@ -1,9 +1,8 @@
 -- An area with no entry, entries moved to another place, and an area without spare words.
-use Rattle.std.proofs.Common.{◌≡◌, ℕ, zero, suc, ◌+◌, ◌-◌, ◌*◌, ◌%◌, ◌^◌, ◌<◌, ◌≤◌, List, [], ◌∷◌, ◌++◌, length, get_or, take, drop, set, replicate, sym, ap, ◌∙◌, subst, arith}
-use lib.ListN.{length-replicate}
+use Rattle.std.proofs.Common.{◌≡◌, ℕ, suc, ◌+◌, ◌-◌, ◌*◌, ◌%◌, ◌^◌, ◌<◌, ◌≤◌, List, length, get_or, take, drop, set, replicate, sym, ap, ◌∙◌, subst, arith}
 use lib.Seq.{sets}
 use Rattle.layout.specs.Layout.{count}
-use Rattle.checker_rules.specs.Dictionary.{Dictionary, blank, entries, entry_pairs, all_words, laid_out_words, dictionary_words}
+use Rattle.checker_rules.specs.Dictionary.{Dictionary, blank, entries}
 use Rattle.checker_dictionary.specs.Holds.{Holds}
 use Rattle.checker_dictionary.specs.Spaced.{Spaced, Spacing, first_at, placed, PlaceAsk, Respaced}
 use Rattle.checker_dictionary.specs.Growth.{size_at}

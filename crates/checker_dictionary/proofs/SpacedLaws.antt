@@ -1,5 +1,5 @@
 -- Where the entries of a dictionary that grows stand in its area, and how many words they take.
-use Rattle.std.proofs.Common.{◌≡◌, ℕ, zero, suc, ◌+◌, ◌-◌, ◌*◌, ◌%◌, ◌^◌, ◌<◌, ◌≤◌, Bool, cond, eqb, List, [], ◌∷◌, ◌++◌, length, get_or, take, drop, set, replicate, sym, refl, ap, ◌∙◌, append_assoc, append-nil, mod-eq_of_lt, arith, length-append, length-take-le, take_at, drop_at, ne_eqb}
+use Rattle.std.proofs.Common.{◌≡◌, ℕ, suc, ◌+◌, ◌-◌, ◌*◌, ◌%◌, ◌^◌, ◌<◌, ◌≤◌, Bool, cond, List, [], ◌∷◌, ◌++◌, length, get_or, take, drop, set, replicate, sym, refl, ap, ◌∙◌, append_assoc, mod-eq_of_lt, arith, length-append, length-take-le, take_at, drop_at, ne_eqb}
 use lib.ListN.{length-replicate, replicate-append-replicate}
 use lib.Seq.{set_at, get_or_at, take-append-add, drop-append-add, sets-eq}
 use Rattle.words.proofs.Lists.{sets_append, zeros_dropped}

@@ -1,5 +1,5 @@
 -- Entries that wait, one after another.
-use Rattle.std.proofs.Common.{◌≡◌, ℕ, suc, ◌+◌, ◌-◌, ◌<◌, ◌≤◌, Bool, true, false, List, [], ◌∷◌, ◌++◌, length, get_or, take, drop, sym, refl, ap, ◌∙◌, subst, append_assoc, le_trans, arith, length-append, length-drop, get_or-drop, drop-drop}
+use Rattle.std.proofs.Common.{◌≡◌, ℕ, ◌+◌, ◌-◌, ◌≤◌, Bool, true, false, List, [], ◌∷◌, ◌++◌, length, get_or, take, drop, sym, refl, ap, ◌∙◌, subst, append_assoc, le_trans, arith, length-append, length-drop, get_or-drop, drop-drop}
 use lib.Seq.{take-append_seam, drop-append_seam}
 use Rattle.types_rules.proofs.Terms.{bool_no}
 use Rattle.checker_rules.proofs.DictionaryLaid.{entry_long}

@@ -1,6 +1,6 @@
 -- A DICTIONARY THAT GROWS. Its area may have spare words between the pairs and the entries, over which further pairs are written, so that entries need not move
 -- for each of them. Words after the entries are zero.
-use Rattle.std.specs.Prelude.{◌≡◌, ℕ, zero, suc, ◌+◌, ◌-◌, ◌*◌, ◌%◌, ◌^◌, ◌<◌, ◌≤◌, Bool, true, false, cond, List, [], ◌∷◌, ◌++◌, length, replicate, ◌==◌, slice_index, slice_set}
+use Rattle.std.specs.Prelude.{◌≡◌, ℕ, zero, suc, ◌+◌, ◌-◌, ◌*◌, ◌%◌, ◌^◌, ◌<◌, ◌≤◌, Bool, true, false, cond, List, ◌∷◌, ◌++◌, length, replicate, ◌==◌, slice_index, slice_set}
 use Rattle.layout.specs.Layout.{count, offset_at}
 use Rattle.checker_rules.specs.Dictionary.{Entry, Dictionary, entries, entry_pairs, all_words, dictionary_length}
 use Rattle.checker_dictionary.specs.Growth.{size_at}

@@ -1,5 +1,5 @@
 -- One turn of each function that writes after what is built.
-use Rattle.std.proofs.Common.{◌≡◌, ℕ, zero, suc, ◌+◌, ◌-◌, ◌/◌, ◌%◌, ◌^◌, ◌<◌, ◌≤◌, List, [], ◌∷◌, ◌++◌, get_or, drop, sym, refl, ap, ◌∙◌, append_assoc, append-nil, arith, drop_of_length-le, le-ltb, lt-ltb, ne_eqb}
+use Rattle.std.proofs.Common.{◌≡◌, ℕ, zero, suc, ◌+◌, ◌-◌, ◌/◌, ◌%◌, ◌^◌, ◌<◌, ◌≤◌, List, [], ◌∷◌, ◌++◌, get_or, drop, sym, refl, ◌∙◌, append_assoc, append-nil, arith, drop_of_length-le, le-ltb, lt-ltb, ne_eqb}
 use Rattle.words.proofs.Lists.{drop_next}
 use Rattle.values.specs.Span.{span}
 use Rattle.values.specs.Sets.{first, rest}

@@ -1,8 +1,8 @@
 -- What the functions hold, said of values: the power of a set, and a product with one operand more.
-use Rattle.std.proofs.Common.{◌≡◌, ℕ, zero, suc, ◌+◌, ◌-◌, ◌*◌, ◌/◌, ◌^◌, ◌<◌, ◌≤◌, Bool, true, false, leb, List, length, get_or, sym, refl, ap, ◌∙◌, subst, arith, leb-false, leb-true}
+use Rattle.std.proofs.Common.{◌≡◌, ℕ, zero, suc, ◌+◌, ◌-◌, ◌*◌, ◌/◌, ◌^◌, ◌<◌, ◌≤◌, Bool, true, false, leb, List, length, get_or, sym, refl, ap, subst, arith, leb-false, leb-true}
 use Rattle.values.specs.Held.{keep, over}
 use Rattle.values.specs.declared.held.Held.{Held}
-use Rattle.values.specs.Value.{Value, set, tuple, Values, nil, cons, count, encode, encodes}
+use Rattle.values.specs.Value.{set, tuple, Values, nil, cons, count, encode, encodes}
 use Rattle.values.proofs.Holding.{keep_over, held_words}
 use Rattle.enumeration_rules.specs.Enumeration.{each, subsets}
 use Rattle.enumeration_rules.specs.OnWords.{grow, grow_on, power_on}

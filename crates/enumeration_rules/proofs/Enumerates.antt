@@ -7,7 +7,7 @@ use native.Mathlib.Omega.{arith}
 use lib.ListN.{length}
 use Rattle.words.proofs.Loops.{and_left, and_right}
 use Rattle.values.specs.Order.{or_else, compare, is_less, is_same, same}
-use Rattle.values.specs.Value.{Value, set, Values, nil, cons, count, encode, encodes}
+use Rattle.values.specs.Value.{Value, set, Values, cons, count, encode, encodes}
 use Rattle.values.specs.WellFormed.{well_formed, all_well_formed}
 use Rattle.values.specs.SetValues.{same_value, is_in}
 use Rattle.values.specs.declared.order.Order.{Order}

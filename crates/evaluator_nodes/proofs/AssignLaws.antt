@@ -290,4 +290,5 @@ assigns_some doc state before after n (suc m) k c s s1 r e x g =
         }
       where
         pick : (scope : Environment) → Scoped state before n scope → (ds : Domains) → Pending before n (suc m) ds → (vs : Values) → SoFar doc k s vs → Told (Flowed (SoFar doc k s1)) r (assign ds (turn_at doc k) scope vs)
+        pick scope sc no_more p vs h = elim p [ ]
         pick scope sc (domain i us ds) (more a l b d p) vs h = f.told scope sc i us ds (more a l b d p) us (rest_block before n c us l b d x) vs h

@@ -77,6 +77,7 @@ module _ (doc state w0 w1 w2 : List ℕ) (n m k at c here len : ℕ) (s s1 : Lis
   each_pends ds p = subst (λ (j : ℕ). Pending w2 n j ds) (sym (add-one m)) (keep_all ds (subst (λ (j : ℕ). Pending w0 n j ds) (add-one m) p))
     where
       keep_all : (es : Domains) → Pending w0 n (suc m) es → Pending w2 n (suc m) es
+      keep_all no_more p = elim p [ ]
       keep_all (domain i us es) (more e l short nr p) =
           more (name_same ∙ e) (block_same (block_words * n + head_words) (encode (Value.set us)) (omega arith) (omega arith) l) short nr
           (subst (λ (j : ℕ). Pending w2 j m es) (add-one n) (A.pends es (subst (λ (j : ℕ). Pending w1 j m es) (sym (add-one n)) (pending_above w0 w1 (block_words * n + head_words) above4 (suc n) m (omega arith) p))))

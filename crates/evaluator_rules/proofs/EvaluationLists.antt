@@ -23,8 +23,10 @@ Some R r = (t : List Event) × R t r
 
 pub said : {A : Type 0} {R : List Event → Result A → Type 0} {o : Outcome A} {a : A} → Says R o → Gives o a → Some R (gives a)
 said (Said.finished {t = t} h) gave = (t, h)
+said (Said.ceased h) g = elim g [ ]
 
 pub stop_said : {A : Type 0} {R : List Event → Result A → Type 0} {o : Outcome A} {w m : ℕ} → Says R o → Stops o w m → Some R (stops w m)
+stop_said (Said.finished h) g = elim g [ ]
 stop_said (Said.ceased {t = t} h) broke = (t, h)
 
 pub come : {A : Type 0} {o : Outcome A} {a : A} {t : List Event} → Comes o t (gives a) → Gives o a

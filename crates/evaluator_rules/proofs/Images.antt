@@ -114,6 +114,7 @@ finds a vs = go (pairs_or_not a vs)
 
 -- ---- members
 pub all_pairs_lem : {a : Value} {vs zs : Values} → Images a vs zs → AllPairs vs
+all_pairs_lem no_images w m = elim m [ ]
 all_pairs_lem (one_image {x = x} {z = z} e i) w here = (x, (z, refl))
 all_pairs_lem (one_image e i) w (later m) = all_pairs_lem i w m
 all_pairs_lem (other_pair {x = x} {z = z} e i) w here = (x, (z, refl))
@@ -121,6 +122,7 @@ all_pairs_lem (other_pair e i) w (later m) = all_pairs_lem i w m
 
 -- each image is the second part of a member
 pub image_among : {a v : Value} {vs zs : Values} → Images a vs zs → Among v zs → (x : Value) × ((same_value x a ≡ true) × Among (pair x v) vs)
+image_among no_images m = elim m [ ]
 image_among (one_image {x = x} e i) here = (x, (e, here))
 image_among (one_image e i) (later m) = let r = image_among i m in (r.0, (r.1.0, later r.1.1))
 image_among (other_pair e i) m = let r = image_among i m in (r.0, (r.1.0, later r.1.1))

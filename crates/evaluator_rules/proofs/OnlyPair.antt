@@ -21,7 +21,7 @@ use Rattle.evaluator_rules.specs.Rules.{eval_expr}
 use Rattle.evaluator_rules.specs.Listing
 use Rattle.evaluator_rules.specs.Listing.{gives, Works}
 use Rattle.evaluator_rules.specs.Evaluations.{Gives, gave, Stops}
-use Rattle.evaluator_rules.specs.Applications.{pair, SomeNoPair, this_no_pair, later_no_pair, Images, one_image, other_pair, Among, here, later, AllPairs, OnlyPair}
+use Rattle.evaluator_rules.specs.Applications.{pair, SomeNoPair, this_no_pair, later_no_pair, Images, no_images, one_image, other_pair, Among, here, later, AllPairs, OnlyPair}
 use Rattle.evaluator_rules.proofs.Images.{PairsOrNot, pairs_or_not, all_pairs_lem, image_among, found_among, applied_words}
 use Rattle.evaluator_rules.proofs.EvaluationLists.{value_said, value_comes, value_stops}
 use Rattle.evaluator_rules.proofs.TroublesFound.{value_short}
@@ -29,6 +29,7 @@ use Rattle.evaluator_rules.proofs.TroublesFound.{value_short}
 -- ---- members ascend
 pub ascends_above : (p : List ℕ) (vs : Values) → ascends p vs ≡ true → (w : Value) → Among w vs → is_less (compare p (encode w)) ≡ true
 unfolding ascends
+ascends_above p nil h w m = elim m [ ]
 ascends_above p (cons v vs) h w here = and_left (is_less (compare p (encode v))) _ h
 ascends_above p (cons v vs) h w (later m) =
     less_trans p (encode v) (encode w) (and_left (is_less (compare p (encode v))) _ h) (ascends_above (encode v) vs (and_right (is_less (compare p (encode v))) _ h) w m)
@@ -43,6 +44,7 @@ pairs_only h (this_no_pair {v = v} n) = let r = h v here in n r.0 r.1.0 r.1.1
 pairs_only h (later_no_pair s) = pairs_only (λ w m. h w (later m)) s
 
 none_other : {a x z : Value} {vs : Values} → Images a vs nil → Among (pair x z) vs → same_value x a ≡ true → ⊥
+none_other no_images m t = elim m [ ]
 none_other (other_pair e i) here t = false≢true (sym e ∙ t)
 none_other (other_pair e i) (later m) t = none_other i m t
 
@@ -85,6 +87,7 @@ record Two (a z w : Value) (vs : Values) : Type 0 where
 
 two : {a z w : Value} (p : List ℕ) {vs ws : Values} → ascends p vs ≡ true → Images a vs (cons z (cons w ws)) → Two a z w vs
 unfolding ascends
+two p {vs = nil} h i = elim i [ ]
 two {z = z} {w = w} p {vs = cons _ us} h (one_image {x = x} e i) =
     let r = image_among i here in
     record {

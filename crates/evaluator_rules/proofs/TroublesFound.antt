@@ -15,7 +15,7 @@ use Rattle.evaluator_rules.specs.Environment.{Environment}
 use Rattle.evaluator_rules.specs.Assignments.{Domains}
 use Rattle.evaluator_rules.specs.Rules.{eval_expr, eval_pred, eval_lines, test, stop_include}
 use Rattle.evaluator_rules.specs.Listing
-use Rattle.evaluator_rules.specs.Listing.{gives, stops, Works, WorksAll, Fills, Tells, Declares, Gathers, Quantifies, Tests, TestsMembers, TestsParts, stops_at, assignments}
+use Rattle.evaluator_rules.specs.Listing.{gives, stops, Enters, Works, WorksAll, Fills, Tells, Declares, Gathers, Quantifies, Tests, TestsMembers, TestsParts, stops_at, assignments}
 use Rattle.evaluator_rules.specs.Evaluations
 use Rattle.evaluator_rules.specs.Evaluations.{Gives, Stops, broke, Evaluation, working, telling, testing, declaring, including, StopsAt, RoomFor, Operand, Adding, Gathering, Trying, EachMember, EachPart, Reaches}
 use Rattle.evaluator_rules.specs.Troubles
@@ -112,17 +112,24 @@ gathers_fit (Listing.body_added h k e j) f = gathers_fit j e
 never : {A : Type 0} (vs : Values) → RoomFor vs → 64 < word_count (Value.set vs) → A
 never vs f l = absurd (omega arith)
 
+entry_short : {n : ℕ} {v x : Value} {l : List Event} → Enters n v l (gives x) → word_count x ≤ 64
+entry_short (Listing.entered h) = h
+
+entry_long : {n : ℕ} {v : Value} {l : List Event} {w m : ℕ} {a : Expr} {scope : Environment} → (64 < word_count v → Row 55 n (working a scope)) → Enters n v l (stops w m)
+    → Below (working a scope) w m ⊎ Row w m (working a scope)
+entry_long row (Listing.too_long h) = inr (row h)
+
 -- every value that is worked out has at most 64 words
 pub value_short : {a : Expr} {scope : Environment} {t : List Event} {v : Value} → Works a scope t (gives v) → word_count v ≤ 64
-value_short (Listing.name_valued e (Listing.entered l)) = l
-value_short (Listing.a_literal (Listing.entered l)) = l
-value_short (Listing.a_set h (Listing.entered l)) = l
-value_short (Listing.a_tuple h (Listing.entered l)) = l
-value_short (Listing.a_power h (Listing.entered l)) = l
-value_short (Listing.a_product h e (Listing.entered l)) = l
-value_short (Listing.applied h k e (Listing.entered l)) = l
-value_short (Listing.calculated h k e (Listing.entered l)) = l
-value_short (Listing.all_gathered h k (Listing.entered l)) = l
+value_short (Listing.name_valued e l) = entry_short l
+value_short (Listing.a_literal l) = entry_short l
+value_short (Listing.a_set h l) = entry_short l
+value_short (Listing.a_tuple h l) = entry_short l
+value_short (Listing.a_power h l) = entry_short l
+value_short (Listing.a_product h e l) = entry_short l
+value_short (Listing.applied h k e l) = entry_short l
+value_short (Listing.calculated h k e l) = entry_short l
+value_short (Listing.all_gathered h k l) = entry_short l
 
 -- ---- each sort of evaluation
 below : {t u : Evaluation} {w m : ℕ} → Reaches t u → StopsAt u w m → Below t w m ⊎ Row w m t
@@ -152,35 +159,35 @@ works_found (Listing.actuals_stop h) = let r = all_found h in below (Evaluations
 works_found (Listing.name_unknown {xs = xs} h e) = inr (row51 (Troubles.name_unknown (values_come xs _ h) e))
 works_found (Listing.name_generic {xs = xs} h e) = inr (row54 (Troubles.name_generic (values_come xs _ h) e))
 works_found (Listing.name_with_actuals {a = a} {xs = xs} h e) = inr (row51 (Troubles.actuals_on_name (values_come (more a xs) _ h) e))
-works_found (Listing.name_valued e (Listing.too_long l)) = inr (row55 (Troubles.name_too_long e l))
-works_found (Listing.a_literal {k = k} (Listing.too_long l)) = absurd (int_short (pos k) l)
+works_found (Listing.name_valued e l) = entry_long (λ h'. row55 (Troubles.name_too_long e h')) l
+works_found (Listing.a_literal {k = k} l) = entry_long (λ h'. absurd (int_short (pos k) h')) l
 works_found (Listing.not_run h) = inr (row54 (Troubles.as_value h))
 works_found (Listing.members_stop h) = set_found (fills_found h)
-works_found (Listing.a_set {vs = vs} h (Listing.too_long l)) = never vs (fills_fit h nil_fits) l
+works_found (Listing.a_set {vs = vs} h l) = entry_long (λ h'. never vs (fills_fit h nil_fits) h') l
 works_found (Listing.parts_stop h) = let r = all_found h in below (Evaluations.tuple_part r.1) r.2
-works_found (Listing.a_tuple {xs = xs} h (Listing.too_long l)) = inr (row55 (Troubles.tuple_too_long (values_come xs _ h) l))
+works_found (Listing.a_tuple {xs = xs} h l) = entry_long (λ h'. row55 (Troubles.tuple_too_long (values_come xs _ h) h')) l
 works_found (Listing.base_stops {a = a} h) = below Evaluations.power_base (value_stops a _ h)
 works_found (Listing.no_base {a = a} h d) = inr (row51 (Troubles.no_base (value_comes a _ h) d))
-works_found (Listing.a_power {a = a} h (Listing.too_long l)) = inr (row55 (Troubles.power_too_long (value_comes a _ h) l))
+works_found (Listing.a_power {a = a} h l) = entry_long (λ h'. row55 (Troubles.power_too_long (value_comes a _ h) h')) l
 works_found (Listing.factors_stop h) = let r = all_found h in below (Evaluations.product_factor r.1) r.2
 works_found (Listing.no_factor {xs = xs} h d) = inr (row51 (Troubles.no_factor (values_come xs _ h) d))
-works_found (Listing.a_product {xs = xs} h e (Listing.too_long l)) = inr (row55 (Troubles.product_too_long (values_come xs _ h) e l))
+works_found (Listing.a_product {xs = xs} h e l) = entry_long (λ h'. row55 (Troubles.product_too_long (values_come xs _ h) e h')) l
 works_found (Listing.function_stops {f = f} h) = below Evaluations.function (value_stops f _ h)
 works_found (Listing.argument_stops {f = f} {a = a} h k) = below (Evaluations.argument (value_comes f _ h)) (value_stops a _ k)
 works_found (Listing.no_function {f = f} {a = a} h k d) = inr (row51 (Troubles.no_function (value_comes f _ h) (value_comes a _ k) d))
 works_found (Listing.no_pair {f = f} {a = a} h k s) = inr (row51 (Troubles.no_pair (value_comes f _ h) (value_comes a _ k) s))
 works_found (Listing.not_one {f = f} {a = a} h k i e) = inr (row52 (Troubles.not_one (value_comes f _ h) (value_comes a _ k) i e))
-works_found (Listing.applied h k i (Listing.too_long l)) = let n = value_short h in let q = applied_words i in absurd (omega arith)
+works_found (Listing.applied h k i l) = let n = value_short h in let q = applied_words i in entry_long (λ h'. absurd (omega arith)) l
 works_found (Listing.left_stops {a = a} h) = below Evaluations.left_number (value_stops a _ h)
 works_found (Listing.right_stops {a = a} {b = b} h k) = below (Evaluations.right_number (value_comes a _ h)) (value_stops b _ k)
 works_found (Listing.no_number {a = a} {b = b} h k d) = inr (row51 (Troubles.no_number (value_comes a _ h) (value_comes b _ k) d))
 works_found (Listing.no_result {o = o} {a = a} {b = b} {j = i} {k = j} h k e) =
     let r = no_divisor_lem o i j e in inr (row52 (Troubles.no_divisor (value_comes a _ h) (value_comes b _ k) r.0 r.1))
 works_found (Listing.outside {o = o} {a = a} {b = b} {j = i} {k = j} h k e) = inr (row53 (Troubles.outside (value_comes a _ h) (value_comes b _ k) (exceeds o i j e)))
-works_found (Listing.calculated {z = z} h k e (Listing.too_long l)) = absurd (int_short z l)
+works_found (Listing.calculated {z = z} h k e l) = entry_long (λ h'. absurd (int_short z h')) l
 works_found (Listing.sets_stop {ls = ls} h) = below Evaluations.gathered_sets (sets_stops ls _ h)
 works_found (Listing.bodies_stop {ls = ls} h k) = gathering_found (sets_come ls _ h) (gathers_found k)
-works_found (Listing.all_gathered {vs = vs} h k (Listing.too_long l)) = never vs (gathers_fit k nil_fits) l
+works_found (Listing.all_gathered {vs = vs} h k l) = entry_long (λ h'. never vs (gathers_fit k nil_fits) h') l
 
 tells_found : {p : Pred} {scope : Environment} {t : List Event} {w m : ℕ} → Tells p scope t (stops w m) → Below (telling p scope) w m ⊎ Row w m (telling p scope)
 unfolding StopsAt

@@ -166,6 +166,7 @@ module _ (state work : List ℕ) (i : ℕ) where
       go : (t : Bool) → FoundBlock state work (last_block work i n) (lookup i scope) → FoundBlock state work (cond t (last_block work i n) (last_block work i n)) (lookup i scope)
       go true f = f
       go false f = f
+  lookup_found zero (bind j m scope) h = elim h [ ]
   lookup_found (suc n) (bind j m scope) (named s e q) =
       rw (ne_eqb (field work n 1) 0 (class_some n q)) (go (eqb i j) (eqb-true i j) (eqb-false i j) (lookup_found n scope s))
     where
@@ -235,6 +236,7 @@ module _ (state work : List ℕ) (b k : ℕ) (m : Meaning) (f : FoundBlock state
       go : (n : Meaning) → Means state work (b - 1) n → (ys : Exprs) → Told R r (refer k ys n)
       go (valued v) (in_state d t) ys = absurd (omega arith)
       go (valued v) (in_work d l t) ys = absurd (omega arith)
+      go unknown q ys = elim q [ ]
       go generic (is_generic d) Tree.none = stop_told s (λ z. omega arith)
       go generic (is_generic d) (Tree.more a ys) = stop_told s (λ z. omega arith)
 
@@ -247,6 +249,7 @@ module _ (state work : List ℕ) (b k : ℕ) (m : Meaning) (f : FoundBlock state
       go (valued v) (in_state d t) (Tree.more y ys) e = stop_told s (λ z. omega arith)
       go (valued v) (in_work d l t) (Tree.more y ys) e = stop_told s (λ z. omega arith)
       go generic (is_generic d) (Tree.more y ys) e = absurd (c d)
+      go unknown q (Tree.more y ys) e = elim q [ ]
 
   pub refer_value : {R : Judgement → Value → Type 0} → (b ≡ 0 → ⊥) → (field work (b - 1) 1 ≡ 3 → ⊥) → false ≡ has_actuals xs → r.number ≡ 0 →
       ((v : Value) → Stored (value_of state work (b - 1)) v → R r v) → Told R r (refer k xs m)
@@ -258,6 +261,7 @@ module _ (state work : List ℕ) (b k : ℕ) (m : Meaning) (f : FoundBlock state
       go (valued v) (in_state d t) Tree.none e = keep_told k v r z t.short (w v (rw (eq-eqb (field work (b - 1) 1) 1 d) t))
       go (valued v) (in_work d l t) Tree.none e = keep_told k v r z t.short (w v (rw (ne_eqb (field work (b - 1) 1) 1 (λ y. omega arith)) t))
       go generic (is_generic d) Tree.none e = absurd (c d)
+      go unknown q Tree.none e = elim q [ ]
 
 -- ---- identifiers with the set that they run through
 take_sets : (ws l : List ℕ) (N i : ℕ) → N ≤ i → take N (sets l i ws) ≡ take N l

@@ -32,6 +32,7 @@ use Rattle.evaluator_scope.proofs.StateValues.{entry_holds, given_holds}
 
 -- ---- an identifier among names
 pub among_left : {i : ℕ} (xs ys : List Name) → Among i xs → Among i (xs ++ ys)
+among_left [] ys a = elim a [ ]
 among_left (x ∷ xs) ys (here e) = here e
 among_left (x ∷ xs) ys (there a) = there (among_left xs ys a)
 
@@ -41,11 +42,13 @@ among_right (x ∷ xs) ys a = there (among_right xs ys a)
 
 pub among_as : {i : ℕ} (b c : Bool) (xs : List ℕ) → Among i (names_as b xs) → Among i (names_as c xs)
 unfolding names_as
+among_as b c [] a = elim a [ ]
 among_as b c (x ∷ xs) (here e) = here e
 among_as b c (x ∷ xs) (there a) = there (among_as b c xs a)
 
 entry_among : (ns : List Name) (i k : ℕ) → Among i ns → (k ≤ entry_from ns i k) × (entry_from ns i k < k + length ns)
 unfolding entry_from
+entry_among [] i k a = elim a [ ]
 entry_among (n ∷ ns) i k (here e) = rw (eq-eqb n.identifier i e) (omega arith, omega arith)
 entry_among (n ∷ ns) i k (there a) = go (eqb n.identifier i) (entry_among ns i (suc k) a)
   where

@@ -13,7 +13,7 @@ have_members : {vs : Values} {t : Ty} → MembersHave vs t → Members (λ v. Ha
 have_members no_member = nobody
 have_members (a_member h hs) = member h (have_members hs)
 
-each_have : {f : Values → Value} {xs : List Values} {t : Ty} → All (λ r. Has (f r) t) xs → MembersHave (each f xs) t
+each_have : {f : Values → Value} {t : Ty} {xs : List Values} → All (λ r. Has (f r) t) xs → MembersHave (each f xs) t
 unfolding each
 each_have none = no_member
 each_have (also h hs) = a_member h (each_have hs)

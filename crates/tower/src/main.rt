@@ -6,7 +6,7 @@ ghost use Rattle.std.specs.Prelude.{◌<◌};
 ghost use Rattle.tower.specs.Ready.{Rowing, Rowed, TowerRoom, Built, Forming, Applying, Applied, Towering, Towered, Asked};
 
 use codes::type_tags;
-use libc::STDOUT_FILENO;
+use std::io;
 use types_cells::area::{AREA, FIRST_RUN};
 use types_solver::sizes::OVER;
 
@@ -166,31 +166,25 @@ fn tower(a: &mut [u32], d: &[u32], start: u32, levels: usize, tie: bool) -> Outc
     Outcome::Clash
 }
 
-fn show(outcome: Outcome) {
+fn show(rt: &impl Print, outcome: Outcome) -> io::Result<()> {
     match outcome {
-        Outcome::Clash => {
-            io::write_all(STDOUT_FILENO, b"clash\n");
-        }
-        Outcome::Cycle => {
-            io::write_all(STDOUT_FILENO, b"cycle\n");
-        }
+        Outcome::Clash => println!(rt; "clash"),
+        Outcome::Cycle => println!(rt; "cycle"),
         Outcome::Solved { size } => {
             if size < OVER {
-                io::write_all(STDOUT_FILENO, b"solved, size ");
-                io::print_decimal(STDOUT_FILENO, size as u64);
-                io::write_all(STDOUT_FILENO, b"\n");
+                println!(rt; "solved, size {size}")
             } else {
-                io::write_all(STDOUT_FILENO, b"solved, size over 32\n");
+                println!(rt; "solved, size over 32")
             }
         }
     }
 }
 
-fn main() {
+fn main(rt: HostRuntime) -> io::Result<()> {
     let mut a = [0u32; AREA];
     let d = [0u32; 1];
-    show(tower(&mut a, &d, INTEGERS, 1, false));
-    show(tower(&mut a, &d, INTEGERS, LEVELS, false));
-    show(tower(&mut a, &d, INTEGERS, LEVELS, true));
-    show(tower(&mut a, &d, UNKNOWN, LEVELS, true));
+    show(&rt, tower(&mut a, &d, INTEGERS, 1, false))?;
+    show(&rt, tower(&mut a, &d, INTEGERS, LEVELS, false))?;
+    show(&rt, tower(&mut a, &d, INTEGERS, LEVELS, true))?;
+    show(&rt, tower(&mut a, &d, UNKNOWN, LEVELS, true))
 }

@@ -1,15 +1,16 @@
 // The program of document 01, "The printed finding": a document from standard input, its finding to standard output.
-// No contract can say which bytes C's read and write move; `report` says what is written for the bytes that were read.
+// No contract can say which bytes the system's read and write move; `report` says what is written for the bytes that were read.
 #![tactic(auto)]
 
-ghost use Rattle.std.specs.Prelude.{◌≡◌, [], length};
+ghost use Rattle.std.specs.Prelude.{◌≡◌, ◌≤◌, [], length, IfOk};
 ghost use Rattle.checker_rules.specs.declared.Finding.TheVariants.{Refused};
 ghost use Rattle.printer_rules.specs.Print.{printed_of, print_of};
 ghost use Rattle.zcheck.specs.Report.{report_of, Prints, Areas};
 
 use checker_rules::Finding;
 use codes::{WORD_BYTES, findings, limits};
-use libc::{STDIN_FILENO, STDOUT_FILENO};
+use std::io;
+use std::io::Read;
 
 // Words of the areas.
 const DOCUMENT: usize = limits::DOCUMENT_WORDS;
@@ -58,10 +59,25 @@ fn report(input: &[u8], out: &mut [u8; OUTPUT]) -> usize
     print_broken(&dict, out)
 }
 
-fn main() {
+// The bytes that a reader has left, at the beginning of a buffer: how many, all of them or as many as the buffer holds.
+fn read_bytes(from: &mut impl Read, bytes: &mut [u8]) -> io::Result<usize>
+    ensures { IfOk result (λ n. n ≤ length bytes.old) }
+{
+    let mut n = 0;
+    while n < bytes.len() {
+        let got = from.read(&mut bytes[n..])?;
+        if got == 0 {
+            break;
+        }
+        n += got;
+    }
+    Ok(n)
+}
+
+fn main(rt: HostRuntime) -> io::Result<()> {
     let mut input = [0u8; INPUT];
     let mut out = [0u8; OUTPUT];
-    let n = io::read_full(STDIN_FILENO, &mut input);
+    let n = read_bytes(&mut rt.stdin(), &mut input)?;
     let m = report(&input[..n], &mut out);
-    io::write_all(STDOUT_FILENO, &out[..m]);
+    rt.write_all(&out[..m])
 }

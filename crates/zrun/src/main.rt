@@ -3,14 +3,18 @@
 // a document of no words is 11 at 0, a state 41 at 0.
 #![tactic(auto)]
 
-ghost use Rattle.std.specs.Prelude.{◌≡◌, ◌≤◌, length};
+ghost use Rattle.std.specs.Prelude.{◌≡◌, ◌≤◌, length, IfOk, IfSome};
 ghost use Rattle.fitter_rules.specs.Fit.{fit_of};
 ghost use Rattle.evaluator_rules.specs.Run.{run_of};
 ghost use Rattle.zrun.specs.Judge.{judge_of};
 
 use codes::{WORD_BYTES, limits};
 use evaluator_rules::Finding;
-use libc::STDOUT_FILENO;
+use std::env::FillError;
+use std::fs::File;
+use std::io::Read;
+use std::rt::{Env, Files};
+use std::{io, str};
 
 // Words of the areas: of the document and the state, of the dictionary; and the work area, first the fit's, which needs no more than the run's.
 const DOCUMENT: usize = limits::DOCUMENT_WORDS;
@@ -22,67 +26,80 @@ const WORK: usize = limits::RUN_WORK_WORDS;
 // One byte more than a document has, so that a longer file shows.
 const INPUT: usize = WORD_BYTES * DOCUMENT + 1;
 
-// What was read, where it could be: n bytes of a file, or words of an area.
-#[derive(Drop)]
-struct Input {
-    read: bool,
-    n: usize,
-}
+// Bytes of the buffer for a file's name: those of the longest that the system opens.
+const PATH: usize = 4096;
 
-// The bytes of an open file, at the beginning of a buffer.
-fn read_bytes(fd: i32, bytes: &mut [u8]) -> Input
-    ensures { result.n ≤ length bytes.old }
+// The bytes that an open file has left, at the beginning of a buffer: how many, all of them or as many as the buffer holds.
+fn read_bytes(file: &mut impl Read, bytes: &mut [u8]) -> io::Result<usize>
+    ensures { IfOk result (λ n. n ≤ length bytes.old) }
 {
-    let got = libc::read(fd, bytes);
-    if got < 0 {
-        return Input { read: false, n: 0 };
+    let mut n = 0;
+    while n < bytes.len() {
+        let got = file.read(&mut bytes[n..])?;
+        if got == 0 {
+            break;
+        }
+        n += got;
     }
-    let n = io::count(got, bytes);
-    let more = io::read_full(fd, &mut bytes[n..]);
-    Input {
-        read: true,
-        n: n + more,
-    }
+    Ok(n)
 }
 
-// The words of an open file, at the beginning of an area.
-fn take_file(fd: i32, path: &[u8], area: &mut [u32]) -> Input
-    ensures { result.n ≤ length area.old }
+// The words of an open file, at the beginning of an area: how many.
+fn take_file(file: &mut impl Read, area: &mut [u32]) -> io::Result<usize>
+    ensures { IfOk result (λ n. n ≤ length area.old) }
 {
     let mut bytes = [0u8; INPUT];
-    let got = read_bytes(fd, &mut bytes);
-    if !got.read {
-        os::fail(path);
-        return Input { read: false, n: 0 };
-    }
-    let n = got.n;
+    let n = read_bytes(file, &mut bytes)?;
     if input::take_words(&bytes[..n], area) {
-        return Input {
-            read: true,
-            n: n / WORD_BYTES,
-        };
+        return Ok(n / WORD_BYTES);
     }
-    Input { read: true, n: 0 }
+    Ok(0)
 }
 
-// The file that argument i names, as words in an area.
-fn load(i: usize, area: &mut [u32]) -> Input
-    ensures { result.n ≤ length area.old }
+// The same of the file of that name, which is opened.
+fn open_file(files: &impl Files, path: &str, area: &mut [u32]) -> io::Result<usize>
+    ensures { IfOk result (λ n. n ≤ length area.old) }
 {
-    let mut path = io::buffer();
-    let length = os::arg(i, &mut path);
-    if os::errno() != 0 {
-        os::fail(b"zrun DOCUMENT STATE");
-        return Input { read: false, n: 0 };
+    let mut file = File::open(files, path)?;
+    take_file(&mut file, area)
+}
+
+// The words of the file that argument i names, at the beginning of an area: how many. None where it cannot be read, and standard error says why.
+// An Err is of standard error.
+fn load<R: Env + Files + Eprint>(rt: &R, i: usize, area: &mut [u32]) -> io::Result<Option<usize>>
+    ensures { IfOk result (λ found. IfSome found (λ n. n ≤ length area.old)) }
+{
+    let mut name = [0u8; PATH];
+    match rt.arg(i, &mut name) {
+        Ok(length) => load_named(rt, &name[..length], area),
+        Err(FillError::NotPresent) => {
+            eprintln!(rt; "zrun DOCUMENT STATE: Invalid argument")?;
+            Ok(None)
+        }
+        Err(FillError::TooLong) => {
+            eprintln!(rt; "zrun DOCUMENT STATE: File name too long")?;
+            Ok(None)
+        }
     }
-    let fd = os::open_read(&path[..length]);
-    if fd < 0 {
-        os::fail(&path[..length]);
-        return Input { read: false, n: 0 };
+}
+
+// The same of the file of that name. One that is not UTF-8 is not opened.
+fn load_named(rt: &(impl Files + Eprint), name: &[u8], area: &mut [u32]) -> io::Result<Option<usize>>
+    ensures { IfOk result (λ found. IfSome found (λ n. n ≤ length area.old)) }
+{
+    match str::from_utf8(name) {
+        Ok(path) => match open_file(rt, path, area) {
+            Ok(n) => Ok(Some(n)),
+            Err(error) => {
+                eprintln!(rt; "{path}: {error}")?;
+                Ok(None)
+            }
+        },
+        Err(error) => {
+            eprintln!(rt; "{}: {error}", name.escape_ascii())?;
+            Ok(None)
+        }
     }
-    let words = take_file(fd, &path[..length], area);
-    libc::close(fd);
-    words
 }
 
 // The refusal of the fit call, else the finding of the run.
@@ -99,40 +116,24 @@ fn judge(doc: &[u32], state: &[u32], dict: &mut [u32], work: &mut [u32]) -> Find
     }
 }
 
-fn show(finding: Finding) {
+fn show(rt: &impl Print, finding: Finding) -> io::Result<()> {
     match finding {
-        Finding::Holds => {
-            io::write_all(STDOUT_FILENO, b"holds\n");
-        }
-        Finding::Fails { node } => {
-            io::write_all(STDOUT_FILENO, b"fails at ");
-            io::print_decimal(STDOUT_FILENO, node as u64);
-            io::write_all(STDOUT_FILENO, b"\n");
-        }
-        Finding::Refused { number, place } => {
-            io::write_all(STDOUT_FILENO, b"refused ");
-            io::print_decimal(STDOUT_FILENO, number as u64);
-            io::write_all(STDOUT_FILENO, b" at ");
-            io::print_decimal(STDOUT_FILENO, place as u64);
-            io::write_all(STDOUT_FILENO, b"\n");
-        }
+        Finding::Holds => println!(rt; "holds"),
+        Finding::Fails { node } => println!(rt; "fails at {node}"),
+        Finding::Refused { number, place } => println!(rt; "refused {number} at {place}"),
     }
 }
 
-fn main() {
+fn main(rt: HostRuntime) -> io::Result<()> {
     let mut doc = [0u32; DOCUMENT];
-    let document = load(1, &mut doc);
-    if !document.read {
-        return;
-    }
+    let Some(n) = load(&rt, 1, &mut doc)? else {
+        return Ok(());
+    };
     let mut state = [0u32; DOCUMENT];
-    let values = load(2, &mut state);
-    if !values.read {
-        return;
-    }
-    let n = document.n;
-    let m = values.n;
+    let Some(m) = load(&rt, 2, &mut state)? else {
+        return Ok(());
+    };
     let mut dict = [0u32; DICTIONARY];
     let mut work = [0u32; WORK];
-    show(judge(&doc[..n], &state[..m], &mut dict, &mut work));
+    show(&rt, judge(&doc[..n], &state[..m], &mut dict, &mut work))
 }

@@ -1,10 +1,10 @@
 use mathlib.Core.Path.{◌≡◌, refl, ap, ◌∙◌}
 use mathlib.Core.List.{List, ◌++◌}
-use Prim.Native.Nat.{ℕ, ◌-◌}
+use Prim.Native.Nat.{ℕ}
 use native.Mathlib.Omega.{arith}
 use lib.ListN.{set, drop}
 use Rattle.words.specs.Loops.{joined}
-use Rattle.input.specs.Input.{word_at, first_words}
+use Rattle.input.specs.Input.{first_words}
 use Rattle.input.proofs.Laws.{store_next}
 use Rattle.input.proofs.copy_words.Goals as goal
 

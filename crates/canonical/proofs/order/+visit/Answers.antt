@@ -28,10 +28,10 @@ loop-i-preserved t c =
     let q = c.sort_at.ensures in (
       omega arith,
       omega arith,
-      ⊎_elim (λ p. ap length p.6 ∙ p.3.kept.1.1.0 ∙ c.loop-i.invariant.2) (λ p. ap length p.1 ∙ c.loop-i.invariant.2) c.if-sort_at-gt-LAST_PLAIN.branch-raw,
+      ⊎_elim (λ p. ap length p.order-is ∙ p.visit-end.auto.order ∙ c.loop-i.invariant.2) (λ p. ap length p.order-is ∙ c.loop-i.invariant.2) c.if-sort_at-gt-LAST_PLAIN.branch-raw,
       ⊎_elim
-          (λ p. rw (p.6, p.7) (left_node _ _ _ _ _ _ _ _ t c.loop-i.invariant.3 p.1.result (subst (λ x. ltb 5 x ≡ true) q (lt-ltb _ _ p.0.true)) p.1.ensures.0 _ _ p.3.ensures.0 p.3.ensures.1))
-          (λ p. rw (p.1, p.2) (left_plain _ _ _ _ _ _ _ _ t c.loop-i.invariant.3 (subst (λ x. ltb 5 x ≡ false) q (le-ltb _ _ p.0.false))))
+          (λ p. rw (p.order-is, p.end-is) (left_node _ _ _ _ _ _ _ _ t c.loop-i.invariant.3 p.word.result (subst (λ x. ltb 5 x ≡ true) q (lt-ltb _ _ p.if-sort_at-gt-LAST_PLAIN.true)) p.word.ensures.0 _ _ p.visit-end.ensures.0 p.visit-end.ensures.1))
+          (λ p. rw (p.order-is, p.end-is) (left_plain _ _ _ _ _ _ _ _ t c.loop-i.invariant.3 (subst (λ x. ltb 5 x ≡ false) q (le-ltb _ _ p.if-sort_at-gt-LAST_PLAIN.false))))
           c.if-sort_at-gt-LAST_PLAIN.branch-raw,
     )
 

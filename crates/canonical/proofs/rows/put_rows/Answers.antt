@@ -1,17 +1,14 @@
 use mathlib.Core.Path.{refl, sym, ap, ◌∙◌, subst}
-use mathlib.Core.List.{List}
 use native.Mathlib.Omega.{arith}
-use Prim.Native.Nat.{ℕ, ◌+◌, ◌-◌, ◌≤◌}
+use Prim.Native.Nat.{◌+◌, ◌-◌, ◌≤◌}
 use lib.ListN.{length}
 use Rattle.layout.specs.Layout.{part}
 use Rattle.canonical_rules.specs.RowMap.{map_row}
 use Rattle.canonical_rules.proofs.RowMaps.{row_length}
 use Rattle.canonical.specs.Rows.{table_at}
 use Rattle.canonical.proofs.RowLaws.{row_room, words_next, words_done, words_alike}
+use Rattle.canonical.proofs.rows.put_rows.Invariants.{row_by}
 use Rattle.canonical.proofs.rows.put_rows.Goals as goal
-
-abbrev row_by : List ℕ → List ℕ → ℕ → List ℕ
-row_by doc numbers k = map_row (table_at numbers) (part doc k)
 
 pub overflow_mul-at : goal.overflow_mul-at
 overflow_mul-at c = let r = c.requires.room in omega arith

@@ -1,4 +1,4 @@
-use Rattle.std.proofs.Common.{◌-◌, sym, refl, ◌∙◌, arith}
+use Rattle.std.proofs.Common.{sym, refl, ◌∙◌, arith}
 use Rattle.checker_dictionary.proofs.LiftLaws.{lifted_go, lifted_end}
 use Rattle.checker_dictionary.proofs.growth.lift.Goals as goal
 

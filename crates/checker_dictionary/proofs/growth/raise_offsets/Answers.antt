@@ -1,4 +1,4 @@
-use Rattle.std.proofs.Common.{◌-◌, sym, refl, ◌∙◌, add-sub_cancel, arith}
+use Rattle.std.proofs.Common.{sym, refl, ◌∙◌, add-sub_cancel, arith}
 use Rattle.words.proofs.Loops.{run_go, run_end}
 use Rattle.checker_dictionary.specs.Growth.{offset_raised}
 use Rattle.checker_dictionary.proofs.growth.raise_offsets.Goals as goal

@@ -1,6 +1,6 @@
 use Rattle.std.proofs.Common.{◌≡◌, sym, ap, ◌∙◌, arith}
 use Rattle.layout.specs.Layout.{count}
-use Rattle.checker_dictionary.specs.Lookup.{is_entry, newest}
+use Rattle.checker_dictionary.specs.Lookup.{newest}
 use Rattle.checker_dictionary.specs.Index.{indexed}
 use Rattle.checker_dictionary.proofs.LookupLaws.{newest_hit, newest_miss}
 use Rattle.checker_dictionary.proofs.index.find.Goals as goal

@@ -1,5 +1,4 @@
 use Rattle.std.proofs.Common.{sym, ◌∙◌, subst, arith}
-use Rattle.checker_dictionary.specs.Lookup.{is_entry}
 use Rattle.checker_dictionary.specs.Index.{bucket_of}
 use Rattle.checker_dictionary.proofs.LookupLaws.{newest_hit, newest_none}
 use Rattle.checker_dictionary.proofs.IndexLaws.{Chained, chained_first, chained_next, older_less}

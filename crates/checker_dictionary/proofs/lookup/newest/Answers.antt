@@ -1,5 +1,4 @@
-use Rattle.std.proofs.Common.{◌-◌, sym, ◌∙◌, arith}
-use Rattle.checker_dictionary.specs.Lookup.{is_entry}
+use Rattle.std.proofs.Common.{sym, ◌∙◌, arith}
 use Rattle.checker_dictionary.proofs.LookupLaws.{newest_hit, newest_miss, newest_none}
 use Rattle.checker_dictionary.proofs.lookup.newest.Goals as goal
 

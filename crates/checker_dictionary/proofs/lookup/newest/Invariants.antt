@@ -1,4 +1,4 @@
-use Rattle.std.proofs.Common.{◌≡◌, ◌-◌}
+use Rattle.std.proofs.Common.{◌≡◌}
 use Rattle.layout.specs.Layout.{count}
 use Rattle.checker_dictionary.specs.Lookup.{is_entry, newest}
 use Rattle.checker_dictionary.proofs.lookup.newest.Given as goal

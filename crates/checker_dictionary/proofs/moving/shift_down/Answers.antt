@@ -1,4 +1,4 @@
-use Rattle.std.proofs.Common.{◌≡◌, ◌-◌, take, drop, refl, ap, ◌∙◌, arith}
+use Rattle.std.proofs.Common.{◌≡◌, take, drop, refl, ap, ◌∙◌, arith}
 use lib.Seq.{sets}
 use Rattle.checker_dictionary.proofs.MovingLaws.{down_next}
 use Rattle.checker_dictionary.proofs.moving.shift_down.Goals as goal

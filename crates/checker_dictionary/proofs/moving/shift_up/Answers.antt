@@ -1,4 +1,4 @@
-use Rattle.std.proofs.Common.{◌-◌, refl, ◌∙◌, arith}
+use Rattle.std.proofs.Common.{refl, ◌∙◌, arith}
 use Rattle.checker_dictionary.proofs.MovingLaws.{up_start, up_step, up_end}
 use Rattle.checker_dictionary.proofs.moving.shift_up.Goals as goal
 

@@ -1,4 +1,4 @@
-use Rattle.std.proofs.Common.{◌-◌, sym, refl, ◌∙◌, add-sub_cancel, arith}
+use Rattle.std.proofs.Common.{sym, refl, ◌∙◌, add-sub_cancel, arith}
 use Rattle.checker_dictionary.proofs.PlacingLaws.{placed_go, placed_end}
 use Rattle.checker_dictionary.proofs.placing.place_pairs.Goals as goal
 

@@ -5,7 +5,6 @@ use Prim.Native.Nat.{◌-◌}
 use Rattle.types_rules.proofs.Terms.{bool_no}
 use Rattle.types_cells.proofs.Reading.{heap_length, place_few}
 use Rattle.checker_includes.proofs.SameLaws.{lead_needed, match_start, match_step, match_end}
-use borrow.Author.Tests.{not-true, not-false}
 use Rattle.checker_includes.proofs.filling.+same_filled.Goals as goal
 
 pub type_word-t-requires : goal.type_word-t-requires
@@ -30,7 +29,7 @@ returns-then-not-same_words t c =
     record {
       tells = λ g k hs R S T. record {
         holds = λ z. absurd (bool_no false z refl);
-        fails = λ z e. c.same_words.ensures.fails (not-true _ c.if-not-same_words.true) (lead_needed _ _ _ g k hs R S _ _ c.type_word-t.ensures.0 c.if-t-eq-PARAMETER.false c.lead_words-k.ensures.0 e);
+        fails = λ z e. c.same_words.ensures.fails c.if-not-same_words.true (lead_needed _ _ _ g k hs R S _ _ c.type_word-t.ensures.0 c.if-t-eq-PARAMETER.false c.lead_words-k.ensures.0 e);
       };
     }
 
@@ -56,7 +55,7 @@ pub loop-j-init : goal.loop-j-init
 loop-j-init t c =
     let z = c.lead_words-k.ensures.2 in (
       omega arith,
-      λ g k hs R S T. match_start _ _ _ g k hs R S _ _ _ _ _ _ c.type_word-t.ensures.0 c.if-t-eq-PARAMETER.false c.lead_words-k.ensures.0 (c.same_words.ensures.holds (not-false _ c.if-not-same_words.false)) c.name_words-w.ensures.0 c.parts_of-n.ensures.0 refl refl,
+      λ g k hs R S T. match_start _ _ _ g k hs R S _ _ _ _ _ _ c.type_word-t.ensures.0 c.if-t-eq-PARAMETER.false c.lead_words-k.ensures.0 (c.same_words.ensures.holds c.if-not-same_words.false) c.name_words-w.ensures.0 c.parts_of-n.ensures.0 refl refl,
     )
 
 pub same_words-requires-in-loop-j : goal.same_words-requires-in-loop-j
@@ -75,7 +74,7 @@ returns-then-not-same_words-2 t c =
     record {
       tells = λ g k hs R S T. record {
         holds = λ z. absurd (bool_no false z refl);
-        fails = λ z e. c.same_words-in-loop-j.ensures.fails (not-true _ c.if-not-same_words-2.true) ((match_step _ _ _ _ _ _ _ _ _ (c.loop-j.invariant.1 g k hs R S T) c.loop-j-test.true).named e);
+        fails = λ z e. c.same_words-in-loop-j.ensures.fails c.if-not-same_words-2.true ((match_step _ _ _ _ _ _ _ _ _ (c.loop-j.invariant.1 g k hs R S T) c.loop-j-test.true).named e);
       };
     }
 
@@ -113,7 +112,7 @@ returns-then-not-same_filled t c =
           let M = match_step _ _ _ _ _ _ _ _ _ (c.loop-j.invariant.1 g k hs R S T) c.loop-j-test.true in
           record {
             holds = λ z. absurd (bool_no false z refl);
-            fails = λ z e. (c.same_filled.ensures.tells M.part M.other hs M.reads M.there T).fails (not-true _ c.if-not-same_filled.true) (M.same e);
+            fails = λ z e. (c.same_filled.ensures.tells M.part M.other hs M.reads M.there T).fails c.if-not-same_filled.true (M.same e);
           };
     }
 
@@ -144,8 +143,8 @@ loop-j-preserved t c =
       omega arith,
       λ g k hs R S T.
           let N = match_step _ _ _ _ _ _ _ _ _ (c.loop-j.invariant.1 g k hs R S T) c.loop-j-test.true in
-          N.next _ _ (c.skip-at.ensures.is N.part N.reads) (c.skip-to.ensures.is N.other N.there) (c.same_words-in-loop-j.ensures.holds (not-false _ c.if-not-same_words-2.false))
-          ((c.same_filled.ensures.tells N.part N.other hs N.reads N.there T).holds (not-false _ c.if-not-same_filled.false)),
+          N.next _ _ (c.skip-at.ensures.is N.part N.reads) (c.skip-to.ensures.is N.other N.there) (c.same_words-in-loop-j.ensures.holds c.if-not-same_words-2.false)
+          ((c.same_filled.ensures.tells N.part N.other hs N.reads N.there T).holds c.if-not-same_filled.false),
     )
 
 pub returns : goal.returns

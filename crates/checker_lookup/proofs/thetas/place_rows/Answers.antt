@@ -1,4 +1,3 @@
-use borrow.Author.Tests.{not-true, not-false}
 use Rattle.checker_lookup.proofs.PlacedLaws.{placing_start, placing_ask, placing_next, placing_stops, placing_end}
 use native.Mathlib.Omega.{arith}
 use Prim.Native.Nat.{◌-◌}
@@ -15,13 +14,13 @@ pub shape_of-w-then-not-place_row : goal.shape_of-w-then-not-place_row
 shape_of-w-then-not-place_row c = c.place_row.auto.w ∙ c.loop-j.invariant.1
 
 pub returns-then-not-place_row : goal.returns-then-not-place_row
-returns-then-not-place_row c = placing_stops _ _ _ _ _ _ _ _ c.requires c.loop-j.invariant.2 _ _ c.place_row.ensures c.loop-j-test.true (not-true _ c.if-not-place_row.true)
+returns-then-not-place_row c = placing_stops _ _ _ _ _ _ _ _ c.requires c.loop-j.invariant.2 _ _ c.place_row.ensures c.loop-j-test.true c.if-not-place_row.true
 
 pub loop-j-smaller : goal.loop-j-smaller
 loop-j-smaller c = let l = c.loop-j-test.true in omega arith
 
 pub loop-j-preserved : goal.loop-j-preserved
-loop-j-preserved c = let l = c.loop-j-test.true in (omega arith, c.place_row.auto.w ∙ c.loop-j.invariant.1, placing_next _ _ _ _ _ _ _ _ c.requires c.loop-j.invariant.2 _ _ c.place_row.ensures (not-false _ c.if-not-place_row.false))
+loop-j-preserved c = let l = c.loop-j-test.true in (omega arith, c.place_row.auto.w ∙ c.loop-j.invariant.1, placing_next _ _ _ _ _ _ _ _ c.requires c.loop-j.invariant.2 _ _ c.place_row.ensures c.if-not-place_row.false)
 
 pub shape_of-w : goal.shape_of-w
 shape_of-w c = c.loop-j.invariant.1

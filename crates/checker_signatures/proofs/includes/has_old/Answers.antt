@@ -1,5 +1,4 @@
 use mathlib.Core.Path.{refl, sym, ◌∙◌}
-use Prim.Native.Nat.{◌-◌}
 use native.Mathlib.Omega.{arith}
 use Rattle.checker_signatures.proofs.IncludeLaws.{old_hit, old_go, old_end}
 use Rattle.checker_signatures.proofs.includes.has_old.Goals as goal

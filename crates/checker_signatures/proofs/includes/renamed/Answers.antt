@@ -1,5 +1,4 @@
 use mathlib.Core.Path.{refl, sym, ◌∙◌}
-use Prim.Native.Nat.{◌-◌}
 use native.Mathlib.Omega.{arith}
 use Rattle.checker_signatures.proofs.IncludeLaws.{renamed_hit, renamed_go, renamed_end}
 use Rattle.checker_signatures.proofs.includes.renamed.Goals as goal

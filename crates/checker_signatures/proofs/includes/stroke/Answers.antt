@@ -1,6 +1,6 @@
 use Rattle.checker_rules.specs.Strokes.{takes}
 use mathlib.Core.Path.{refl, sym, ap, ◌∙◌}
-use Prim.Native.Nat.{◌+◌, ◌-◌}
+use Prim.Native.Nat.{◌+◌}
 use native.Mathlib.Omega.{arith}
 use Rattle.checker_signatures.proofs.IncludeLaws.{stroke_fits, stroked_start, stroked_first, stroked_rest, stroking_start, stroking_go, stroking_end}
 use Rattle.checker_signatures.proofs.includes.stroke.Goals as goal

@@ -5,7 +5,7 @@ use Rattle.checker_signatures.proofs.TableLaws.{table_none, table_word, table_sn
 use Rattle.checker_signatures.specs.Rows.{flat, rows}
 use lib.Seq.{sets}
 use mathlib.Core.Path.{◌≡◌, refl, sym, ap, subst, ◌∙◌}
-use Prim.Native.Nat.{ℕ, ◌+◌, ◌-◌, ◌*◌, ◌≤◌, ◌<◌}
+use Prim.Native.Nat.{ℕ, ◌+◌, ◌*◌, ◌≤◌, ◌<◌}
 use native.Mathlib.Omega.{arith}
 use lib.ListN.{get_or}
 use Rattle.checker_signatures.specs.Tables.{Table}

@@ -1,5 +1,4 @@
 use mathlib.Core.Path.{refl, sym, ◌∙◌}
-use Prim.Native.Nat.{◌-◌}
 use native.Mathlib.Omega.{arith}
 use Rattle.checker_signatures.proofs.InsertLaws.{shift_start, shift_go, shift_end}
 use Rattle.checker_signatures.proofs.tables.put_before.Goals as goal

@@ -1,4 +1,4 @@
-use Rattle.std.proofs.Common.{◌-◌, subst}
+use Rattle.std.proofs.Common.{subst}
 use Rattle.values.specs.Held.{Building}
 use Rattle.enumeration.proofs.Laws.{sets_none, sets_take, sets_skip}
 use Rattle.enumeration.proofs.powers.+subsets.Goals as goal

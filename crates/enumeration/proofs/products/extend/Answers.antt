@@ -37,4 +37,4 @@ returns c =
     λ rs vs p e k.
     let l = held_short _ _ p c.if-len-gt-VALUE.false in
     c.over-2.ensures
-    ∙ grow_long rs vs _ _ _ _ (c.word-m.ensures.0 ∙ rows_held rs _ p l) (c.word-n.ensures.0 ∙ set_count _ vs e) (held_len _ _ p l) (ap length e) (sym c.fits2.ensures ∙ c.if-fits.false)
+    ∙ grow_long rs vs _ _ _ _ (c.word-m.ensures.0 ∙ rows_held rs _ p l) (c.word-n.ensures.0 ∙ set_count _ vs e) (held_len _ _ p l) (ap length e) (sym c.fits.ensures ∙ c.if-fits.false)

@@ -1,120 +1,41 @@
-use Prim.Native.Nat.{ℕ}
+use Prim.Native.Nat.{ℕ, ◌≤◌, ◌+◌, ◌*◌, ◌-◌}
 use mathlib.Core.Path.{◌≡◌, refl, sym, ap, subst, ◌∙◌}
-use mathlib.Core.List.{List}
-use Prim.Native.Nat.{◌≤◌}
+use mathlib.Core.List.{List, ◌++◌, [], ◌∷◌}
 use lib.ListN.{length, get_or}
 use native.Mathlib.Omega.{arith}
-use Rattle.reader_rules.specs.Kinds.{expressions}
+use Rattle.reader_rules.specs.Kinds.{expressions, predicates, lines}
 use Rattle.reader_rules.specs.Promise.{Lower}
-use Rattle.evaluator_scope.proofs.BlockLaws.{scoped_same}
-use Rattle.evaluator_nodes.proofs.NodeLaws.{ready_lower, handed_same, in_words, adds_end, adds_stop, adds_over, adds_go}
-use Prim.Native.Nat.{◌+◌, ◌*◌, ◌-◌}
-use Prim.Native.Nat.{ℕ}
-use Rattle.evaluator_nodes.proofs.NodeLaws.{ready_same}
-use Rattle.evaluator_nodes.proofs.TestLaws.{all_end, all_stop, all_false, all_go}
-use lib.ListN.{get_or}
-use mathlib.Core.Path.{◌≡◌, refl, ◌∙◌}
-use Rattle.evaluator_nodes.proofs.NodeLaws.{ready_lower, apply_operands, apply_told}
+use Rattle.evaluator_scope.proofs.BlockLaws.{scoped_same, same_less}
+use Rattle.evaluator_nodes.proofs.NodeLaws.{ready_lower, handed_same, in_words, adds_end, adds_stop, adds_over, adds_go, ready_same, apply_operands, apply_told, arith_operands, arith_told, relation_operands, below_told, connected_operands, connected_stop, connected_known, connected_right, member_operands, set_stop, set_go, handed_of, exprs_stop, few_words, member_stop, member_go, not_operand, not_stop, not_go, parts_end, parts_go, power_operand, node_words, reference_plain, no_actuals, reference_operands, reference_stop, reference_go, has_actuals_lem, equal_told, tuple_stop, tuple_go}
+use Rattle.evaluator_nodes.proofs.TestLaws.{all_end, all_stop, all_false, all_go, product_end, product_stop, product_false, product_go, power_other, power_told, product_other, product_uneven, product_told, integers_test, value_stop, value_go}
 use Rattle.evaluator_operations.proofs.ToldLaws.{halt_told, second_told, both_told}
-use mathlib.Core.Path.{◌≡◌, refl, sym, subst, ap, ◌∙◌}
-use Rattle.values.specs.Value.{Value}
-use Rattle.evaluator_operations.specs.Steps.{arithmetic_of}
-use Rattle.evaluator_operations.specs.Worked.{Told, Counted}
-use Rattle.evaluator_nodes.proofs.NodeLaws.{ready_lower, in_words, arith_operands, arith_told}
-use Prim.Native.Nat.{ℕ, ◌+◌, ◌-◌}
-use Rattle.evaluator_nodes.proofs.AssignLaws.{scoping_shift, assigns_none, assigns_some}
-use Rattle.evaluator_nodes.proofs.NodeLaws.{ready_lower, relation_operands, below_told}
-use Prim.Native.Nat.{ℕ, ◌+◌}
-use Rattle.reader_rules.specs.Kinds.{expressions, predicates}
-use Rattle.reader_rules.specs.Decode.{quantifier_of}
-use Rattle.evaluator_operations.specs.Steps.{verdict_of}
-use Rattle.evaluator_nodes.specs.Ready.{Ready}
-use Rattle.evaluator_nodes.proofs.AssignLaws.{body_expr, body_pred, body_ready, gather_stop, gather_go, decide_stop, decide_go}
+use Rattle.values.specs.Value.{Value, nil, encode}
+use Rattle.evaluator_operations.specs.Steps.{arithmetic_of, verdict_of, decision_of}
+use Rattle.evaluator_operations.specs.Worked.{Told, Counted, Holds, Valued, no_parts}
+use Rattle.evaluator_nodes.proofs.AssignLaws.{scoping_shift, assigns_none, assigns_some, body_expr, body_pred, body_ready, gather_stop, gather_go, decide_stop, decide_go, compr_scoping, compr_stop, compr_go, lines_start, scoping_same, quant_scoping, quant_stop, quant_go, text_pred, turn_stop, turn_true, turn_false}
+use Rattle.reader_rules.specs.Decode.{quantifier_of, expr_at, connective_of}
+use Rattle.evaluator_nodes.specs.Ready.{Ready, SoFar, Rest}
 use Rattle.evaluator_rules.specs.Environment.{empty}
 use mathlib.Core.Bool.{true, false, true≢false}
-use lib.ListN.{length}
 use Rattle.values.specs.declared.held.Held.{Held}
-use Rattle.values.specs.Value as Value
-use Rattle.evaluator_operations.specs.Worked.{Holds}
-use Rattle.evaluator_scope.specs.Blocks.{Scoped}
-use Rattle.evaluator_scope.specs.Blocks as Blocks
+use Rattle.evaluator_scope.specs.Blocks.{Scoped, block_words}
 use Rattle.evaluator_rules.specs.Assignments.{no_more}
-use Rattle.evaluator_nodes.proofs.NodeLaws.{in_words}
-use Rattle.evaluator_nodes.proofs.AssignLaws.{compr_scoping, compr_stop, compr_go, lines_start}
 use Rattle.values.proofs.Holding.{held_len}
-use Rattle.reader_rules.specs.Decode.{expr_at}
 use Rattle.evaluator_rules.specs.Rules.{eval_expr}
 use Rattle.evaluator_operations.specs.declared.worked.Judgement.{Judgement}
-use Rattle.evaluator_operations.specs.Worked.{Told, Valued}
-use Rattle.evaluator_nodes.specs.Ready.{SoFar}
-use mathlib.Core.Path.{◌≡◌, refl, sym, ap, ◌∙◌}
-use Rattle.reader_rules.specs.Kinds.{predicates}
-use Rattle.reader_rules.specs.Decode.{connective_of}
-use Rattle.evaluator_operations.specs.Steps.{decision_of}
-use Rattle.evaluator_nodes.proofs.NodeLaws.{ready_lower, in_words, connected_operands, connected_stop, connected_known, connected_right}
-use mathlib.Core.Path.{sym, subst}
-use Rattle.values.specs.Value.{nil}
-use Rattle.evaluator_operations.specs.Worked.{Holds, Told, Valued}
-use Rattle.evaluator_nodes.proofs.NodeLaws.{member_operands, set_stop, set_go}
-use Prim.Native.Nat.{ℕ, ◌+◌, ◌*◌, ◌≤◌}
-use lib.ListN.{length}
 use Rattle.values.specs.Span.{span}
-use Rattle.evaluator_nodes.proofs.AssignLaws.{scoping_same, scoping_shift}
 use Rattle.evaluator_nodes.proofs.EachLaws.{left_all, each_end, each_past, left_stop, left_halt, left_more}
-use Rattle.evaluator_nodes.proofs.NodeLaws.{ready_lower, handed_same, in_words}
-use Rattle.evaluator_nodes.proofs.TestLaws.{product_end, product_stop, product_false, product_go}
 use mathlib.Core.Logic.{⊎_elim}
-use Prim.Native.Nat.{ℕ, ◌≤◌}
-use Rattle.reader_rules.specs.Nodes.{kind_at}
+use Rattle.reader_rules.specs.Nodes.{kind_at, operand_at}
 use Rattle.reader_rules.proofs.TreeWords.{number_word}
-use Rattle.evaluator_nodes.proofs.NodeLaws.{handed_of, in_words}
-use Rattle.evaluator_nodes.proofs.KindLaws.{Unrun, unrun_told, number_told}
-use Rattle.evaluator_nodes.proofs.NodeLaws.{ready_lower, handed_same, in_words, exprs_stop}
-use Rattle.evaluator_nodes.proofs.FactorLaws.{factors_end, factors_go}
-use Prim.Native.Nat.{ℕ, ◌+◌, ◌*◌, ◌-◌, ◌≤◌}
+use Rattle.evaluator_nodes.proofs.KindLaws.{Unrun, unrun_told, number_told, from_25, truth_told}
+use Rattle.evaluator_nodes.proofs.FactorLaws.{factors_end, factors_go, power_stop, power_go, product_stop as tuples_stop, product_go as tuples_go}
 use Rattle.layout.specs.Layout.{part}
-use Rattle.reader_rules.specs.Kinds.{lines}
-use Rattle.evaluator_scope.proofs.BlockLaws.{same_less}
-use Rattle.evaluator_nodes.proofs.NodeLaws.{few_words}
 use Rattle.evaluator_nodes.proofs.LineLaws.{lines_done, include_told, decl_operand, decl_count, decl_stop, decl_other, decl_go, line_ready, line_at_lem}
-use Rattle.evaluator_scope.specs.Blocks.{block_words}
-use Rattle.evaluator_nodes.proofs.NodeLaws.{ready_lower, relation_operands, member_stop, member_go}
-use mathlib.Core.Bool.{true, false}
-use Rattle.evaluator_nodes.proofs.NodeLaws.{ready_lower, not_operand, not_stop, not_go}
-use mathlib.Core.List.{List, ◌++◌}
-use Rattle.values.specs.Value.{encode}
-use Rattle.evaluator_nodes.proofs.NodeLaws.{ready_lower, handed_same, in_words, exprs_stop, parts_end, parts_go}
-use Rattle.evaluator_nodes.specs.Ready.{Rest}
-use Rattle.evaluator_nodes.proofs.NodeLaws.{ready_lower, power_operand}
-use Rattle.evaluator_nodes.proofs.TestLaws.{power_other, power_told}
-use Rattle.evaluator_nodes.proofs.KindLaws.{from_25, truth_told}
 use Rattle.reader_rules.proofs.TreePred.{pred_range}
-use Rattle.evaluator_nodes.proofs.NodeLaws.{handed_of}
-use Rattle.evaluator_nodes.proofs.NodeLaws.{member_operands, node_words}
-use Rattle.evaluator_nodes.proofs.TestLaws.{product_other, product_uneven, product_told}
-use Rattle.evaluator_nodes.proofs.AssignLaws.{quant_scoping, quant_stop, quant_go, lines_start}
-use Prim.Native.Nat.{ℕ, ◌≤◌}
 use Rattle.evaluator_operations.proofs.OperationLaws.{counted_integral}
-use Rattle.evaluator_nodes.proofs.NodeLaws.{handed_of, in_words, reference_plain, no_actuals}
-use Rattle.evaluator_nodes.proofs.KindLaws.{number_told}
-use mathlib.Core.Path.{refl}
-use mathlib.Core.List.{[]}
-use Rattle.evaluator_nodes.proofs.NodeLaws.{reference_operands, reference_plain, reference_stop, reference_go, no_actuals, has_actuals_lem}
-use Rattle.evaluator_nodes.proofs.NodeLaws.{ready_lower, relation_operands, equal_told}
-use Rattle.evaluator_nodes.proofs.FactorLaws.{power_stop, power_go}
-use lib.ListN.{get_or, length}
-use Rattle.evaluator_nodes.proofs.NodeLaws.{few_words, handed_of}
-use Rattle.evaluator_nodes.proofs.TestLaws.{integers_test}
-use mathlib.Core.List.{[], ◌∷◌}
-use Prim.Native.Nat.{◌-◌}
-use Rattle.evaluator_nodes.proofs.NodeLaws.{member_operands, tuple_stop, tuple_go, node_words}
-use Rattle.evaluator_operations.specs.Worked.{no_parts}
-use Rattle.evaluator_nodes.proofs.NodeLaws.{member_operands}
-use Rattle.evaluator_nodes.proofs.FactorLaws.{product_stop, product_go}
-use mathlib.Core.Path.{◌≡◌, refl, ap, subst, ◌∙◌}
-use Rattle.reader_rules.specs.Nodes.{operand_at}
-use Rattle.evaluator_nodes.proofs.AssignLaws.{scoping_same, text_pred, turn_stop, turn_true, turn_false}
-use Rattle.evaluator_nodes.proofs.TestLaws.{value_stop, value_go}
+use Rattle.values.specs.Value as Value
+use Rattle.evaluator_scope.specs.Blocks as Blocks
 use Rattle.evaluator_nodes.proofs.nodes.+adds_all_apply_arith_assign_below_body_compr_connect_display_each_each_part_expr_factors_lines_member_negate_parts_power_pred_product_quant_reckon_refers_same_subsets_tests_tuple_tuples_turn_value.Goals as goal
 
 pub adds-returns-then-w-i : goal.adds-returns-then-w-i
@@ -501,7 +422,7 @@ each-loop-left-preserved t c =
     let k = c.assign-x.auto in
     let q = c.if-at-gt-VALUE.false in
     let d = c.span-len.ensures.1 in
-    (k.1.1.0 ∙ c.put_head.auto.work ∙ z, k.1.1.1.1.1.1.0 ∙ c.loop-left.invariant.1, omega arith, omega arith, left_more a.doc.now a.state.now _ _ _ a.n a.m a.k c.loop-left.at c.loop-left.left _ _ c.loop-left.s _ _ refl el e1 (omega arith) c.assign-x.ensures (λ y. omega arith) a.c a.work.now a.s.now c.loop-left.invariant.4 c.if-x-ne0.false c.if-x.false)
+    (k.work ∙ c.put_head.auto.work ∙ z, k.s ∙ c.loop-left.invariant.1, omega arith, omega arith, left_more a.doc.now a.state.now _ _ _ a.n a.m a.k c.loop-left.at c.loop-left.left _ _ c.loop-left.s _ _ refl el e1 (omega arith) c.assign-x.ensures (λ y. omega arith) a.c a.work.now a.s.now c.loop-left.invariant.4 c.if-x-ne0.false c.if-x.false)
 
 pub each-returns : goal.each-returns
 each-returns t c =
@@ -611,7 +532,7 @@ pub expr-returns-in_default : goal.expr-returns-in_default
 expr-returns-in_default t c =
     let q = c.word-q.ensures.0 ∙ ap (λ (l : List ℕ). get_or l 0 0) c.part-w.ensures in
     let r = c.in_default-1.rest in
-    let u : Unrun (kind_at c.args.doc.now c.args.k) = record { a = λ e. r.0.0.0.0.0.0.0.1 (q ∙ e); b = λ e. r.0.0.0.0.0.0.1 (q ∙ e); c = λ e. r.0.0.0.0.0.1 (q ∙ e); d = λ e. r.0.0.0.0.1 (q ∙ e); e = λ e. r.0.0.0.1 (q ∙ e); f = λ e. r.0.0.1 (q ∙ e); g = λ e. r.0.1 (q ∙ e); h = λ e. r.1 (q ∙ e); i = λ x y. ⊎_elim (λ t. let v = t.true in omega (arith, q)) (λ p. let v = p.1.false in omega (arith, q)) c.in_default.branch-raw } in
+    let u : Unrun (kind_at c.args.doc.now c.args.k) = record { a = λ e. r.0.0.0.0.0.0.0.1 (q ∙ e); b = λ e. r.0.0.0.0.0.0.1 (q ∙ e); c = λ e. r.0.0.0.0.0.1 (q ∙ e); d = λ e. r.0.0.0.0.1 (q ∙ e); e = λ e. r.0.0.0.1 (q ∙ e); f = λ e. r.0.0.1 (q ∙ e); g = λ e. r.0.1 (q ∙ e); h = λ e. r.1 (q ∙ e); i = λ x y. ⊎_elim (λ t. let v = t.if-q-lt41-1.true in omega (arith, q)) (λ p. let v = p.1.false in omega (arith, q)) c.in_default.branch-raw } in
     record { kept = refl; told = λ scope sc. unrun_told _ _ c.requires.at u scope c.stop.ensures }
 
 pub factors-returns-then-w-i : goal.factors-returns-then-w-i
@@ -846,7 +767,7 @@ pred-returns-in_default t c =
     let g = pred_range _ _ c.requires.at in
     let x = g.0 in
     let y = g.1 in
-    let k : kind_at c.args.doc.now c.args.k ≡ 20 = ⊎_elim (λ t. let v = t.true in omega arith) (λ p. let v = p.2.false in omega arith) c.in_default.branch-raw in
+    let k : kind_at c.args.doc.now c.args.k ≡ 20 = ⊎_elim (λ t. let v = t.if-q-lt21-1.true in omega arith) (λ p. let v = p.2.false in omega arith) c.in_default.branch-raw in
     record { kept = refl; told = λ scope sc. truth_told _ _ c.requires.at k scope c.judge.ensures.0 c.judge.ensures.1 }
 
 pub pred-returns-in-21 : goal.pred-returns-in-21
@@ -1067,12 +988,12 @@ tuples-factors-x-requires t c = (omega arith, (c.requires.0, member_operands c.r
 pub tuples-returns-then-x-ne0 : goal.tuples-returns-then-x-ne0
 tuples-returns-then-x-ne0 t c =
     let e = c.factors-x.ensures in
-    record { kept = e.kept; told = λ scope sc. product_stop c.requires.0 c.requires.1 scope (e.told no_parts (record { words = λ f. c.unit.ensures }) scope sc) c.if-x-ne0.true }
+    record { kept = e.kept; told = λ scope sc. tuples_stop c.requires.0 c.requires.1 scope (e.told no_parts (record { words = λ f. c.unit.ensures }) scope sc) c.if-x-ne0.true }
 
 pub tuples-returns : goal.tuples-returns
 tuples-returns t c =
     let e = c.factors-x.ensures in
-    record { kept = e.kept; told = λ scope sc. product_go c.requires.0 c.requires.1 scope (e.told no_parts (record { words = λ f. c.unit.ensures }) scope sc) c.if-x-ne0.false c.multiplied.ensures }
+    record { kept = e.kept; told = λ scope sc. tuples_go c.requires.0 c.requires.1 scope (e.told no_parts (record { words = λ f. c.unit.ensures }) scope sc) c.if-x-ne0.false c.multiplied.ensures }
 
 pub turn-pred-x-requires : goal.turn-pred-x-requires
 turn-pred-x-requires t c =

@@ -2,6 +2,7 @@ use mathlib.Core.Path.{◌≡◌, ap, subst, sym, ◌∙◌}
 use mathlib.Core.List.{List}
 use Prim.Native.Nat.{ℕ}
 use native.Mathlib.Omega.{arith}
+use borrow.Author.Rules.{rules}
 use lib.ListN.{length, set}
 use Rattle.evaluator_operations.specs.Worked.{SetIn}
 use Rattle.evaluator_operations.proofs.GatherLaws.{set_written}
@@ -11,7 +12,7 @@ pub returns-then-s-lt-GATHERED : goal.returns-then-s-lt-GATHERED
 returns-then-s-lt-GATHERED c = λ vs l h. absurd (omega (arith, c.if-s-lt-GATHERED.true))
 
 pub copy-requires : goal.copy-requires
-copy-requires c = let l : 64 ≡ length c.args.t.words = slice-aggregate-copy c in omega (arith, c.if-s-lt-GATHERED.false)
+copy-requires c = let l : 64 ≡ length c.args.t.words = search rules in omega (arith, c.if-s-lt-GATHERED.false)
 
 pub returns : goal.returns
 returns c =

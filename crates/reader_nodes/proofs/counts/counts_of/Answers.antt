@@ -19,5 +19,5 @@ returns-in-30-to-46 c = search tests
 pub returns-in_default : goal.returns-in_default
 unfolding chosen_counts
 returns-in_default c =
-    let o : Outside c.args.q = ⊎_elim (λ t. inl t.true) (⊎_elim (λ p. inr (inl (p.1.false, p.2.true))) (λ p. inr (inr p.4.false))) c.in_default.branch-raw in
+    let o : Outside c.args.q = ⊎_elim (λ t. inl t.if-q-lt2-1.true) (⊎_elim (λ p. inr (inl (p.if-q-lt7-1.false, p.if-q-lt20-1.true))) (λ p. inr (inr p.if-q-lt47-1.false))) c.in_default.branch-raw in
     rw (← (outside paragraph_counts predicate_counts expression_counts other_counts c.args.q o)) c.other.ensures

@@ -25,7 +25,7 @@ unfolding expression_counts
 returns-in_default c =
     let q = c.args.q in
     let r = c.in_default-1.rest in
-    let z : 35 < q = ⊎_elim (λ t. let v = t.true in absurd (omega arith)) (λ p. let v = p.2.false in omega arith) c.in_default.branch-raw in
+    let z : 35 < q = ⊎_elim (λ t. let v = t.if-q-lt30-1.true in absurd (omega arith)) (λ p. let v = p.if-q-lt36-1.false in omega arith) c.in_default.branch-raw in
     rw
     (ne_eqb q 30 (λ e. omega arith), ne_eqb q 31 (λ e. omega arith), ne_eqb q 32 (λ e. omega arith), ne_eqb q 33 (λ e. omega arith), over 34 q 35 z, ne_eqb q 36 r.0.1, ne_eqb q 40 r.1)
     c.from_below-in_default.ensures

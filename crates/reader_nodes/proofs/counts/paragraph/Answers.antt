@@ -20,4 +20,4 @@ unfolding paragraph_counts
 returns-in_default c =
     let s = c.args in
     let r = c.in_default-1.rest in
-    rw (ne_eqb s.q 2 r.1, ⊎_elim (λ t. under 4 s.q 5 t.true) (λ p. over 4 s.q 5 p.1.false) c.in_default.branch-raw) c.from_below-in_default.ensures
+    rw (ne_eqb s.q 2 r.1, ⊎_elim (λ t. under 4 s.q 5 t.if-q-lt4-1.true) (λ p. over 4 s.q 5 p.if-q-lt6-1.false) c.in_default.branch-raw) c.from_below-in_default.ensures

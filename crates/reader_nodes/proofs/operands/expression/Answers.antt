@@ -30,8 +30,8 @@ unfolding sorts_number expression_sorts every
 returns-in_default c =
     let r = c.in_default-1.rest in
     ⊎_elim
-    (λ t. let v = t.true in absurd (omega arith))
+    (λ t. let v = t.if-q-lt30-1.true in absurd (omega arith))
     (⊎_elim
-    (λ p. let v = p.3.true in let w = p.2.false in along (λ n. sorts_number (expression_sorts n)) 37 1 c.two-in_default.ensures refl c.args.q (omega arith) (omega arith))
-    (λ p. let v = p.4.false in along (λ n. sorts_number (expression_sorts n)) 41 5 c.two-in_default.ensures refl c.args.q (omega arith) (omega arith)))
+    (λ p. let v = p.if-q-lt38-1.true in let w = p.if-q-lt36-1.false in along (λ n. sorts_number (expression_sorts n)) 37 1 c.two-in_default.ensures refl c.args.q (omega arith) (omega arith))
+    (λ p. let v = p.if-q-lt41-1.false in along (λ n. sorts_number (expression_sorts n)) 41 5 c.two-in_default.ensures refl c.args.q (omega arith) (omega arith)))
     c.in_default.branch-raw

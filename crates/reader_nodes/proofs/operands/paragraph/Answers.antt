@@ -17,5 +17,5 @@ returns-in-4-to-5 c = c.definition.ensures
 pub returns-in_default : goal.returns-in_default
 unfolding sorts_number paragraph_sorts every
 returns-in_default c =
-    let z : 6 ≤ c.args.q = ⊎_elim (λ t. let v = t.true in absurd (omega arith)) (λ p. let v = p.1.false in omega arith) c.in_default.branch-raw in
+    let z : 6 ≤ c.args.q = ⊎_elim (λ t. let v = t.if-q-lt2-1.true in absurd (omega arith)) (λ p. let v = p.if-q-lt4-1.false in omega arith) c.in_default.branch-raw in
     along (λ n. sorts_number (paragraph_sorts n)) 6 1 c.one.ensures refl c.args.q z (search rules)

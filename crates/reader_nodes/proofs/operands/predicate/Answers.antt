@@ -27,5 +27,5 @@ returns-in-25-to-27 c = along (λ n. sorts_number (predicate_sorts n)) 25 3 c.tw
 pub returns-in_default : goal.returns-in_default
 unfolding sorts_number predicate_sorts every
 returns-in_default c =
-    let z : 28 ≤ c.args.q = ⊎_elim (λ t. let v = t.true in absurd (omega arith)) (λ p. let v = p.2.false in omega arith) c.in_default.branch-raw in
+    let z : 28 ≤ c.args.q = ⊎_elim (λ t. let v = t.if-q-lt20-1.true in absurd (omega arith)) (λ p. let v = p.if-q-lt28-1.false in omega arith) c.in_default.branch-raw in
     along (λ n. sorts_number (predicate_sorts n)) 28 2 c.two-in_default.ensures refl c.args.q z (search rules)

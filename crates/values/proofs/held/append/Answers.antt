@@ -1,4 +1,4 @@
-use Rattle.std.proofs.Common.{◌≡◌, ◌+◌, ◌≤◌, ◌++◌, length, sym, ◌∙◌, arith, length-append}
+use Rattle.std.proofs.Common.{◌+◌, ◌≤◌, ◌++◌, length, sym, ◌∙◌, arith, length-append}
 use Rattle.values.proofs.Holding.{keep_over, keep_fits, held_short, held_long, held_len, held_words, appended}
 use Rattle.values.proofs.held.append.Goals as goal
 
@@ -16,12 +16,6 @@ returns-then-len-w c =
     let h = held_short a.v ws e c.if-len-gt-VALUE.false in
     let l = held_len a.v ws e h in
     c.over-then-len-w.ensures ∙ sym (keep_over (ws ++ a.w.now) (omega (arith, length-append ws a.w.now)))
-
-pub copy-requires : goal.copy-requires
-copy-requires c =
-    let a = c.args in
-    let l : 64 ≡ length a.v.words = slice-aggregate-copy c in
-    omega arith
 
 pub returns : goal.returns
 returns c =

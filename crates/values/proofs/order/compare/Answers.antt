@@ -1,4 +1,4 @@
-use Rattle.std.proofs.Common.{◌-◌, sym, refl, ◌∙◌, arith}
+use Rattle.std.proofs.Common.{sym, refl, ◌∙◌, arith}
 use Rattle.values.proofs.Orders.{compare_longer, compare_shorter, compare_equal, compare_stop, compare_go}
 use Rattle.values.proofs.order.compare.Goals as goal
 

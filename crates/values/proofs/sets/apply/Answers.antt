@@ -1,9 +1,10 @@
-use Rattle.std.proofs.Common.{◌≡◌, ◌-◌, true, drop, sym, ap, ◌∙◌, ⊎_elim, arith, eq-eqb, ne_eqb}
+use Rattle.std.proofs.Common.{◌≡◌, true, drop, sym, ap, ◌∙◌, arith, eq-eqb, ne_eqb}
 use native.Mathlib.Nat.{sub-zero}
 use Rattle.values.specs.Sets.{is_pair, apply}
 use Rattle.values.specs.Span.{span}
 use Rattle.values.proofs.Members.{apply_from, seen, apply_misfit, apply_hit, apply_go, apply_one, apply_none}
 use Rattle.values.proofs.sets.apply.Goals as goal
+use Rattle.values.proofs.sets.apply.Goals.{then-same, else-same}
 
 pub returns-then-word-ne-SET : goal.returns-then-word-ne-SET
 unfolding apply
@@ -21,14 +22,14 @@ loop-i-preserved c =
     let k = c.span-at.ensures.0 ∙ ap span w in (
       omega arith,
       omega arith,
-      ⊎_elim (λ p. omega (arith, p.1)) (λ p. omega (arith, p.1)) c.if-same.branch-raw,
-      ⊎_elim (λ p. omega (arith, p.2)) (λ p. omega (arith, p.2)) c.if-same.branch-raw,
-      c.loop-i.invariant.4 ∙ ⊎_elim
-          (λ p. rw (p.1, p.2) (apply_hit s.f.now s.a.now _ c.loop-i.i c.loop-i.at c.loop-i.hits c.loop-i.hit (omega arith) e c.span-at.result k
-          (rw (← w, ← c.from.ensures, ← c.first.ensures) (sym c.same.ensures ∙ p.0.true))))
-          (λ p. rw (p.1, p.2) (apply_go s.f.now s.a.now _ c.loop-i.i c.loop-i.at c.loop-i.hits c.loop-i.hit (omega arith) e c.span-at.result k
-          (rw (← w, ← c.from.ensures, ← c.first.ensures) (sym c.same.ensures ∙ p.0.false))))
-          c.if-same.branch-raw,
+      omega arith,
+      omega arith,
+      c.loop-i.invariant.4 ∙ elim c.if-same.branch [
+        | then-same p ↦ rw (p.hits-is, p.hit-is) (apply_hit s.f.now s.a.now _ c.loop-i.i c.loop-i.at c.loop-i.hits c.loop-i.hit (omega arith) e c.span-at.result k
+            (rw (← w, ← c.from.ensures, ← c.first.ensures) (sym c.same.ensures ∙ p.if-same.true)))
+        | else-same p ↦ rw (p.hits-is, p.hit-is) (apply_go s.f.now s.a.now _ c.loop-i.i c.loop-i.at c.loop-i.hits c.loop-i.hit (omega arith) e c.span-at.result k
+            (rw (← w, ← c.from.ensures, ← c.first.ensures) (sym c.same.ensures ∙ p.if-same.false)))
+      ],
     )
 
 pub returns-else-is_pair : goal.returns-else-is_pair

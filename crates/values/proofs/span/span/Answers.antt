@@ -1,4 +1,4 @@
-use Rattle.std.proofs.Common.{◌-◌, sym, ◌∙◌, zero-add, arith}
+use Rattle.std.proofs.Common.{sym, ◌∙◌, zero-add, arith}
 use Rattle.values.specs.Span.{span}
 use Rattle.values.proofs.Spans.{spans_go, spans_end, spans_stop}
 use Rattle.values.proofs.span.span.Goals as goal

@@ -4,7 +4,7 @@ use native.Mathlib.Omega.{arith}
 use native.Mathlib.Nat.{sub-zero}
 use lib.ListN.{length, take, drop, length-drop}
 use Rattle.values.specs.Givens.{size_of}
-use Rattle.values.specs.Form.{follows, group_end, by_shape, value_length}
+use Rattle.values.specs.Form.{by_shape, value_length}
 use Rattle.values_forms.proofs.Forms.{shape_within, length_none, length_level, group_none, group_stop, group_go, group_done}
 use Rattle.values_forms.proofs.form.+group_end_value_length.Goals as goal
 

@@ -1,9 +1,9 @@
 use mathlib.Core.Path.{sym, ◌∙◌}
-use Prim.Native.Nat.{◌+◌, ◌-◌, ◌≤◌}
+use Prim.Native.Nat.{◌+◌, ◌≤◌}
 use native.Mathlib.Omega.{arith}
 use native.Mathlib.Nat.{sub-zero}
 use lib.ListN.{length, drop, length-drop}
-use Rattle.values.specs.TypeWords.{types_end, by_former, type_length, clip}
+use Rattle.values.specs.TypeWords.{by_former, type_length}
 use Rattle.values_forms.proofs.TypeSpans.{former_bounded, type_none, type_level, types_go, types_done}
 use Rattle.values_forms.proofs.type_words.+type_length_types_end.Goals as goal
 

@@ -7,20 +7,13 @@ use Rattle.values_integers.specs.Integer.{signed}
 use Rattle.values_integers.proofs.Integers.{complement, complement_fits, complement_signed}
 use Rattle.values_integers.proofs.integer.signed.Goals as goal
 
-word : (s : tie.Start) → s.args.w < 2 ^ 32
-word s = omega arith
-
 pub returns-then-w-lt-NEGATIVE : goal.returns-then-w-lt-NEGATIVE
 unfolding signed
 returns-then-w-lt-NEGATIVE c = refl
 
-pub overflow_sub-result : goal.overflow_sub-result
-overflow_sub-result c =
-    let w = c.args.w in
-    rw (complement w c.if-w-lt-NEGATIVE.false (word c)) (complement_fits w c.if-w-lt-NEGATIVE.false (word c))
-
 pub returns : goal.returns
 returns c =
     let w = c.args.w in
-    rw (complement w c.if-w-lt-NEGATIVE.false (word c), to_z-of_z w32 _ (complement_fits w c.if-w-lt-NEGATIVE.false (word c)))
-    (complement_signed w c.if-w-lt-NEGATIVE.false (word c))
+    let word : w < 2 ^ 32 = omega arith in
+    rw (complement w c.if-w-lt-NEGATIVE.false word, to_z-of_z w32 _ (complement_fits w c.if-w-lt-NEGATIVE.false word))
+    (complement_signed w c.if-w-lt-NEGATIVE.false word)
