@@ -423,20 +423,18 @@ include-returns t c = node_schema_told c.requires.0 c.requires.1 (schema_found c
 
 pub line-decl-requires : goal.line-decl-requires
 line-decl-requires t c =
-    let s = c.requires in
-    let y = s.0 in
-    (omega arith, (node_of s.1.0 c.part-p.ensures, kind_of c.args.doc.now c.part-p.result.now c.args.k c.part-p.ensures c.word.ensures.0 ∙ c.if-word-eq-DECL.true, s.1.1))
+    let y = c.decreases in
+    (omega arith, (node_of c.requires.0 c.part-p.ensures, kind_of c.args.doc.now c.part-p.result.now c.args.k c.part-p.ensures c.word.ensures.0 ∙ c.if-word-eq-DECL.true, c.requires.1))
 
 pub line-returns-then-word-eq-DECL : goal.line-returns-then-word-eq-DECL
 line-returns-then-word-eq-DECL t c = c.decl.ensures
 
 pub line-incl-requires : goal.line-incl-requires
 line-incl-requires t c =
-    let s = c.requires in
-    let y = s.0 in
+    let y = c.decreases in
     let k = kind_of c.args.doc.now c.part-p.result.now c.args.k c.part-p.ensures c.word.ensures.0 in
     let n = c.if-word-eq-DECL.false in
-    (omega arith, (node_of s.1.0 c.part-p.ensures, not_eleven _ _ s.1.0 (λ z. n (sym k ∙ z)), s.1.1))
+    (omega arith, (node_of c.requires.0 c.part-p.ensures, not_eleven _ _ c.requires.0 (λ z. n (sym k ∙ z)), c.requires.1))
 
 pub line-returns : goal.line-returns
 line-returns t c = c.incl.ensures
@@ -445,47 +443,43 @@ pub lines-lined_at-requires : goal.lines-lined_at-requires
 lines-lined_at-requires t c = let z = c.requires.0.at.small in omega arith
 
 pub lines-returns-then-p-i : goal.lines-returns-then-p-i
-lines-returns-then-p-i t c = let s = c.requires in node_lines_none c.args.i s.0 s.3 c.if-p-i.true c.lined_at.ensures
+lines-returns-then-p-i t c = node_lines_none c.args.i c.requires.0 c.requires.3 c.if-p-i.true c.lined_at.ensures
 
 pub lines-line-r-requires : goal.lines-line-r-requires
 lines-line-r-requires t c =
-    let s = c.requires in
     let z = c.if-p-i.false in
     let e = c.word.ensures.0 in
-    let L = line_lower c.args.doc.now c.args.p.now c.args.k c.args.i s.1.2 e (omega arith) in
+    let L = line_lower c.args.doc.now c.args.p.now c.args.k c.args.i c.requires.2 e (omega arith) in
     let x = L.below in
-    let y = s.0 in
-    (omega arith, (L.at, node_line_ask c.args.i s.1.0 s.1.3 _ e (omega arith) L))
+    let y = c.decreases in
+    (omega arith, (L.at, node_line_ask c.args.i c.requires.0 c.requires.3 _ e (omega arith) L))
 
 pub lines-returns-then-r-ne0 : goal.lines-returns-then-r-ne0
 lines-returns-then-r-ne0 t c =
-    let s = c.requires in
     let z = c.if-p-i.false in
     let e = c.word.ensures.0 in
-    let L = line_lower c.args.doc.now c.args.p.now c.args.k c.args.i s.1.2 e (omega arith) in
-    node_line_refused c.args.i s.1.0 s.1.3 _ e (omega arith) L c.line-r.ensures c.if-r-ne0.true
+    let L = line_lower c.args.doc.now c.args.p.now c.args.k c.args.i c.requires.2 e (omega arith) in
+    node_line_refused c.args.i c.requires.0 c.requires.3 _ e (omega arith) L c.line-r.ensures c.if-r-ne0.true
 
 pub lines-overflow_add-i : goal.lines-overflow_add-i
 lines-overflow_add-i t c = let z = c.requires.1 in omega arith
 
 pub lines-lines-requires : goal.lines-lines-requires
 lines-lines-requires t c =
-    let s = c.requires in
     let z = c.if-p-i.false in
     let e = c.word.ensures.0 in
-    let L = line_lower c.args.doc.now c.args.p.now c.args.k c.args.i s.1.2 e (omega arith) in
-    let f = lines_few c.args.i s.1.0 s.1.3 in
-    let y = s.0 in
-    let g = s.1.1 in
-    (omega arith, (s.1.0, omega arith, (λ q a b. s.1.2 q (omega arith) b), node_lines_ask c.args.i s.1.0 s.1.3 _ e (omega arith) L c.line-r.ensures c.if-r-ne0.false))
+    let L = line_lower c.args.doc.now c.args.p.now c.args.k c.args.i c.requires.2 e (omega arith) in
+    let f = lines_few c.args.i c.requires.0 c.requires.3 in
+    let y = c.decreases in
+    let g = c.requires.1 in
+    (omega arith, (c.requires.0, omega arith, (λ q a b. c.requires.2 q (omega arith) b), node_lines_ask c.args.i c.requires.0 c.requires.3 _ e (omega arith) L c.line-r.ensures c.if-r-ne0.false))
 
 pub lines-returns : goal.lines-returns
 lines-returns t c =
-    let s = c.requires in
     let z = c.if-p-i.false in
     let e = c.word.ensures.0 in
-    let L = line_lower c.args.doc.now c.args.p.now c.args.k c.args.i s.1.2 e (omega arith) in
-    node_lines_then c.args.i s.1.0 s.1.3 _ e (omega arith) L c.line-r.ensures c.if-r-ne0.false c.lines.ensures
+    let L = line_lower c.args.doc.now c.args.p.now c.args.k c.args.i c.requires.2 e (omega arith) in
+    node_lines_then c.args.i c.requires.0 c.requires.3 _ e (omega arith) L c.line-r.ensures c.if-r-ne0.false c.lines.ensures
 
 pub opers-visit_at-requires : goal.opers-visit_at-requires
 opers-visit_at-requires t c = let z = c.requires.0.at.small in omega arith
@@ -506,7 +500,7 @@ pub opers-overflow_add-i : goal.opers-overflow_add-i
 opers-overflow_add-i t c = let z = c.requires.1 in omega arith
 
 pub opers-overflow_add-j : goal.opers-overflow_add-j
-opers-overflow_add-j t c = let N = c.requires.0 in let K = c.requires.3 in let h = c.if-p-i.false in let e = c.word.ensures.0 in let z = opers_space N K h in let v = c.well_formed.1.1.1.1.1.1.1.1.1.1.1.1.0.0 in omega arith
+opers-overflow_add-j t c = let N = c.requires.0 in let K = c.requires.3 in let h = c.if-p-i.false in let e = c.word.ensures.0 in let z = opers_space N K h in omega arith
 
 pub opers-opers-requires : goal.opers-opers-requires
 opers-opers-requires t c = let N = c.requires.0 in let K = c.requires.3 in let h = c.if-p-i.false in let e = c.word.ensures.0 in let m = few_words N in let y = c.decreases in (omega arith, (N, omega arith, λ q a b. c.requires.2 q (omega arith) b, opers_next N K _ e h c.expr-x.ensures c.if-x-ne0.false c.store.ensures))
