@@ -1,7 +1,7 @@
 -- Two operands that are integers: ℤ is built once, and both are compared with it, together.
 use mathlib.Core.Path.{◌≡◌, sym, subst, ◌∙◌}
 use mathlib.Core.List.{List, [], ◌∷◌}
-use Prim.Native.Nat.{ℕ, suc, ◌+◌, ◌≤◌, ◌<◌}
+use Prim.Native.Nat.{ℕ, suc, ◌+◌, ◌<◌}
 use native.Mathlib.Omega.{arith}
 use Rattle.types_rules.specs.Equations.{end, pair}
 use Rattle.types_rules.specs.Former.{int}

@@ -13,7 +13,6 @@ use Rattle.reader_rules.specs.Tree.{none}
 use Rattle.types_rules.specs.Formed.{WellFormed}
 use Rattle.types_rules.specs.Types.{Ty, size}
 use Rattle.types_rules.specs.Words.{words}
-use Rattle.checker_rules.specs.Conditions.{typed}
 use Rattle.checker_rules.specs.Dictionary.{Dictionary, blank, ◌▸◌, name_entry, schema_entry, Named, unnamed, of_local, of_global, name_in}
 use Rattle.checker_rules.specs.Items.{Items, refusal, Refuses}
 use Rattle.checker_rules.specs.Rules.{reference_items}

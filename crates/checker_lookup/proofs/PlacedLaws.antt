@@ -22,7 +22,7 @@ use Rattle.checker_signatures.proofs.ScopeLaws.{stack_kept}
 use Rattle.checker_signatures.specs.Carried.{Stacked}
 use Rattle.checker_pieces.specs.Stage.{Ghost}
 use Rattle.checker_lookup.specs.Scoped.{SettledAt, Scoped}
-use Rattle.checker_lookup.specs.Thetas.{InScope, RowsAsked, ComponentInScope, RowPlaced, Idle, RowsOver, RowsPlaced}
+use Rattle.checker_lookup.specs.Thetas.{InScope, RowsAsked, ComponentInScope, RowPlaced, Idle, RowsPlaced}
 use Rattle.checker_dictionary.specs.Index.{index_end}
 use Rattle.checker_lookup.proofs.HeldLaws.{held_in}
 use Rattle.checker_lookup.proofs.IdleLaws.{idle_refuses}

@@ -1,5 +1,5 @@
 use mathlib.Core.Path.{◌≡◌, refl, subst, ◌∙◌}
-use Prim.Native.Nat.{◌+◌, ◌-◌}
+use Prim.Native.Nat.{◌+◌}
 use lib.ListN.{take}
 use native.Mathlib.Omega.{arith}
 use Rattle.checker_kinds.specs.Formers.{up_from}

@@ -1,5 +1,5 @@
 use mathlib.Core.Path.{◌≡◌, refl, subst, ◌∙◌}
-use Prim.Native.Nat.{ℕ, ◌-◌}
+use Prim.Native.Nat.{ℕ}
 use native.Mathlib.Omega.{arith}
 use Rattle.checker_lookup.specs.Bindings.{RowsPut}
 use Rattle.checker_lookup.proofs.BindingLaws.{rows_start, rows_ask, rows_next}

@@ -1,7 +1,6 @@
 use Rattle.checker_lookup.proofs.ComponentLaws.{writing_start, writing_next, writing_end, components_of_lem, component_few}
 use Rattle.types_cells.proofs.Reading.{place_few, names_length}
 use native.Mathlib.Omega.{arith}
-use Prim.Native.Nat.{◌-◌}
 use mathlib.Core.Path.{refl, sym, ◌∙◌}
 use Rattle.checker_lookup.proofs.components.component_rows.Goals as goal
 

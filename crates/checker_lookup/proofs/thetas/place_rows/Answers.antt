@@ -1,6 +1,5 @@
 use Rattle.checker_lookup.proofs.PlacedLaws.{placing_start, placing_ask, placing_next, placing_stops, placing_end}
 use native.Mathlib.Omega.{arith}
-use Prim.Native.Nat.{◌-◌}
 use mathlib.Core.Path.{refl, ◌∙◌}
 use Rattle.checker_lookup.proofs.thetas.place_rows.Goals as goal
 
