@@ -2,15 +2,13 @@
 use mathlib.Core.Path.{◌≡◌, refl, sym, ap, subst, ◌∙◌}
 use mathlib.Core.Bool.{Bool, true, false}
 use mathlib.Core.List.{List, [], ◌∷◌}
-use mathlib.Core.Option.{Option, some, none as nothing}
 use Prim.Native.Nat.{ℕ, suc, ◌+◌, ◌-◌, ◌*◌, ◌≤◌, ◌<◌}
 use native.Mathlib.Omega.{arith}
 use lib.ListN.{length, get_or, drop}
 use Rattle.words.proofs.Lists.{drop_next}
-use Rattle.types_rules.specs.Equations.{In}
 use Rattle.types_rules.specs.Types.{Ty, Term}
 use Rattle.types_rules.proofs.Terms.{bool_no}
-use Rattle.checker_rules.specs.Items.{Items, skip, ◌⨾◌, Refuses, MeetsIn}
+use Rattle.checker_rules.specs.Items.{Items, ◌⨾◌, Refuses, MeetsIn}
 use Rattle.checker_rules.specs.Signatures.{Signature, no_names, naming, term_in}
 use Rattle.checker_rules.specs.Conditions.{same_type, merge_declared, merge_names}
 use Rattle.types_cells.specs.Settled.{heap, Reads, Readable, Readings, SameType}
@@ -20,7 +18,7 @@ use Rattle.checker_signatures.specs.Tables.{Finds}
 use Rattle.checker_signatures.specs.Carried.{Carries}
 use Rattle.checker_signatures.proofs.CallLaws.{found_term, no_term}
 use Rattle.checker_signatures.proofs.CarryLaws.{carries_other}
-use Rattle.checker_pieces.specs.Piece.{Steady, Walked, Settled}
+use Rattle.checker_pieces.specs.Piece.{Steady, Walked}
 use Rattle.checker_pieces.proofs.Between.{walked_skip, walked_then, equal_noted, equal_refused, settled_later, refuses_first, refuses_second}
 use Rattle.checker_merging.specs.Merging.{TypedAt, DeclaredAsk, OneTold, DeclaredTold, RowsAsk, RowsTold}
 

@@ -2,13 +2,13 @@
 use mathlib.Core.Path.{◌≡◌, refl, sym, ap, subst, ◌∙◌}
 use mathlib.Core.Bool.{Bool, true, false}
 use mathlib.Core.List.{List, [], ◌∷◌}
-use Prim.Native.Nat.{ℕ, suc, ◌+◌, ◌-◌, ◌*◌, ◌≤◌, ◌<◌}
+use Prim.Native.Nat.{ℕ, suc, ◌+◌, ◌-◌, ◌≤◌, ◌<◌}
 use native.Mathlib.Omega.{arith}
 use lib.ListN.{length, get_or, drop}
-use Rattle.words.proofs.Lists.{drop_next, drop_done}
+use Rattle.words.proofs.Lists.{drop_next}
 use Rattle.reader_rules.specs.Decode.{pairs_from}
 use Rattle.types_rules.proofs.Terms.{bool_no}
-use Rattle.checker_rules.specs.Dictionary.{Dictionary, Named, unnamed, of_global, name_in}
+use Rattle.checker_rules.specs.Dictionary.{Dictionary, name_in}
 use Rattle.checker_rules.specs.Items.{Items, ◌⨾◌, Refuses, MeetsIn}
 use Rattle.checker_rules.specs.Conditions.{new_name, new_names}
 use Rattle.checker_dictionary.specs.Index.{Indexed}

@@ -1,5 +1,5 @@
 -- Finding 36 on words: equal identifiers in one signature merge if their types are equal. The types are settled, and their words stand in reach.
-use Rattle.std.specs.Prelude.{◌≡◌, Bool, true, false, List, ℕ, suc, ◌+◌, ◌*◌, ◌≤◌, ◌<◌, length, get_or}
+use Rattle.std.specs.Prelude.{◌≡◌, Bool, true, false, List, ℕ, ◌+◌, ◌*◌, ◌≤◌, ◌<◌, length, get_or}
 use Rattle.types_rules.specs.Equations.{In}
 use Rattle.types_rules.specs.Types.{Ty, Term, Each}
 use Rattle.checker_rules.specs.Dictionary.{Dictionary}

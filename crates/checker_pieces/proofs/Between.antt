@@ -1,15 +1,14 @@
 -- Items between pieces, one after another.
-use mathlib.Core.Path.{◌≡◌, refl, sym, ap, subst, ◌∙◌}
-use mathlib.Core.List.{List, [], ◌∷◌}
-use mathlib.Core.Logic.{◌⊎◌, ◌↔◌, inl, inr, ⊎_elim}
+use mathlib.Core.Path.{◌≡◌, refl, sym, subst, ◌∙◌}
+use mathlib.Core.List.{List}
+use mathlib.Core.Logic.{◌↔◌, inl, inr, ⊎_elim}
 use Prim.Native.Nat.{ℕ, ◌≤◌, ◌<◌}
-use Rattle.types_rules.specs.Equations.{In}
-use Rattle.types_rules.specs.Types.{Ty, Term, under, size}
+use Rattle.types_rules.specs.Types.{Ty, Term, size}
 use Rattle.types_rules.specs.Trees.{Extent, Tree}
 use Rattle.checker_rules.specs.Unknowns.{Valuation}
 use Rattle.checker_rules.specs.Items.{Items, skip, ◌⨾◌, equate, small, refusal, Meets, MeetsIn, Any, And, Passes, Refuses}
 use Rattle.checker_rules.proofs.ItemLaws.{passes_ext, refuses_ext}
-use Rattle.checker_pieces.specs.Piece.{SameOn, Local, Steady, Extends, Walked, Settled}
+use Rattle.checker_pieces.specs.Piece.{Steady, Walked, Settled}
 
 -- Two lists of items after H, or the second in a row of them.
 pub after : (H a : Items) (ε : Extent) (τ : ℕ → Tree ε) → MeetsIn (H ⨾ a) ε τ ↔ And (MeetsIn H) a ε τ

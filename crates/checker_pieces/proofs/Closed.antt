@@ -3,23 +3,21 @@ use mathlib.Core.Path.{◌≡◌, refl, sym, subst}
 use mathlib.Core.Bool.{Bool, true, false}
 use mathlib.Core.List.{List}
 use mathlib.Core.Logic.{⊎_elim}
-use Prim.Native.Nat.{ℕ, ◌+◌, ◌≤◌, ◌<◌, ◌^◌}
+use Prim.Native.Nat.{ℕ, ◌<◌}
 use native.Mathlib.Omega.{arith}
-use lib.ListN.{length}
 use Rattle.types_rules.proofs.Terms.{bool_no}
 use Rattle.types_rules.specs.Types.{size}
 use Rattle.checker_rules.specs.Items.{piece, Passes, Refuses, MeetsIn}
 use Rattle.types_cells.specs.Store.{frozen}
-use Rattle.types_rules.specs.Words.{words}
 use Rattle.types_cells.specs.Calls.{Above}
-use Rattle.types_solver.specs.Sizes.{cap, mark_at, Read, TestedFinite, Measuring, Measured}
+use Rattle.types_solver.specs.Sizes.{mark_at, Read, TestedFinite, Measuring, Measured}
 use Rattle.types_solver.specs.Answers.{Finite, Left}
 use Rattle.types_solver.specs.Written.{Writing, Typed}
 use Rattle.types_solver.proofs.Accepted.{model, least}
 use Rattle.types_cells.proofs.Growing.{lt_or_ge}
 use Rattle.types_solver.proofs.Marking.{cap_low}
 use Rattle.types_solver.proofs.Sizing.{high}
-use Rattle.checker_pieces.specs.Piece.{Piece, Solution}
+use Rattle.checker_pieces.specs.Piece.{Piece}
 use Rattle.checker_pieces.specs.Stage.{Ghost, Stands}
 use Rattle.checker_pieces.specs.Closed.{Closing, Shut, Closed, Sizing, SizeIs, Wording, WordsAre}
 use Rattle.checker_pieces.proofs.ClosingLaws.{tested, tested_true, finite_after, to_tested, closed_goes, closed_stops, closed_extends, closed_steady, closed_type}

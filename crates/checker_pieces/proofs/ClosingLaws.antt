@@ -1,10 +1,9 @@
 -- A piece is closed (34), and the one around it is taken up again.
 use mathlib.Core.Path.{◌≡◌, refl, sym, ap, subst, ◌∙◌}
 use mathlib.Core.Bool.{Bool, true, false}
-use mathlib.Core.List.{List, [], ◌∷◌}
-use mathlib.Core.Logic.{◌⊎◌, ◌↔◌, inl, inr, ⊎_elim}
+use mathlib.Core.List.{List}
+use mathlib.Core.Logic.{inl, inr, ⊎_elim}
 use Prim.Native.Nat.{ℕ, ◌<◌, ◌≤◌}
-use native.Mathlib.Omega.{arith}
 use Rattle.types_rules.specs.Equations.{AllP, In, InP, Pairs, pair, end}
 use Rattle.types_rules.specs.Types.{Ty}
 use Rattle.types_rules.specs.Trees.{finite}
@@ -13,7 +12,7 @@ use Rattle.checker_rules.specs.Items.{Items, ◌⨾◌, piece, Meets, Agree, Pas
 use Rattle.types_cells.specs.Layout.{max_cells}
 use Rattle.types_cells.specs.Store.{frozen, tag_at, Solved}
 use Rattle.types_cells.specs.Settled.{Pinned, Fits}
-use Rattle.types_solver.specs.Sizes.{Same, TestedFinite}
+use Rattle.types_solver.specs.Sizes.{TestedFinite}
 use Rattle.types_solver.specs.Answers.{SolutionOf, Finite, Left, Differ}
 use Rattle.types_solver.proofs.Accepted.{same_pinned, same_obeys}
 use Rattle.types_solver.proofs.Opening.{finite_none}

@@ -6,7 +6,7 @@ use mathlib.Core.Option.{some, none}
 use Prim.Native.Nat.{ℕ, suc, ◌+◌, ◌*◌, ◌≤◌, ◌<◌}
 use native.Mathlib.Omega.{arith}
 use Rattle.types_rules.specs.Component.{component_type}
-use Rattle.types_rules.specs.Equations.{In, Pairs, pair}
+use Rattle.types_rules.specs.Equations.{In, pair}
 use Rattle.types_rules.specs.Types.{Ty, Term}
 use Rattle.checker_rules.specs.Items.{Items, ◌⨾◌, fresh, select}
 use Rattle.checker_rules.specs.Unknowns.{slot}

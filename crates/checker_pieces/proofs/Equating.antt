@@ -5,7 +5,7 @@ use mathlib.Core.Logic.{◌↔◌, inl, inr, ⊎_elim}
 use Prim.Native.Nat.{ℕ, ◌+◌}
 use Rattle.types_rules.specs.Equations.{AllP, In, Pairs, Solves, end, pair}
 use Rattle.types_rules.specs.Trees.{finite}
-use Rattle.types_rules.specs.Types.{Ty, node, Term, under, Each}
+use Rattle.types_rules.specs.Types.{Ty, Term, under, Each}
 use Rattle.checker_rules.specs.Unknowns.{Valuation}
 use Rattle.checker_rules.specs.Items.{Items, ◌⨾◌, equations, Meets, MeetsIn, Agree, Passes, Refuses}
 use Rattle.types_cells.specs.Store.{tag_at}

@@ -1,11 +1,11 @@
 -- A row of new unknowns, made one by one.
 use mathlib.Core.Path.{◌≡◌, refl, sym, ap, subst, ◌∙◌}
 use mathlib.Core.List.{List, [], ◌∷◌}
-use mathlib.Core.Logic.{◌⊎◌, ◌↔◌, inl, inr, ⊎_elim}
+use mathlib.Core.Logic.{◌↔◌, inl, inr, ⊎_elim}
 use Prim.Native.Nat.{ℕ, zero, suc, ◌+◌, ◌≤◌, ◌<◌}
 use native.Mathlib.Omega.{arith}
 use native.Mathlib.Nat.{eq-or-lt_of_le}
-use Rattle.types_rules.specs.Equations.{In, Pairs, pair, end}
+use Rattle.types_rules.specs.Equations.{In, Pairs, pair}
 use Rattle.checker_rules.specs.Unknowns.{Valuation, slot}
 use Rattle.checker_rules.specs.Items.{Items, ◌⨾◌, fresh, Meets, MeetsIn, Agree, Typings, And, Passes}
 use Rattle.checker_rules.specs.Conditions.{fresh_row}

@@ -1,17 +1,17 @@
 -- A piece begins; its store grows by cells with formers, a settled cell, a new unknown.
-use mathlib.Core.Path.{◌≡◌, refl, sym, ap, subst, ◌∙◌}
-use mathlib.Core.List.{List, [], ◌∷◌}
-use mathlib.Core.Logic.{◌⊎◌, ◌↔◌, inl, inr, ⊎_elim}
-use Prim.Native.Nat.{ℕ, suc, ◌+◌, ◌<◌, ◌≤◌}
+use mathlib.Core.Path.{◌≡◌, refl, sym, subst, ◌∙◌}
+use mathlib.Core.List.{List, ◌∷◌}
+use mathlib.Core.Logic.{◌↔◌, inl, inr, ⊎_elim}
+use Prim.Native.Nat.{ℕ, suc, ◌<◌, ◌≤◌}
 use native.Mathlib.Omega.{arith}
 use native.Mathlib.Nat.{eq-zero-or-pos}
 use lib.ListN.{length}
-use Rattle.types_rules.specs.Equations.{AllP, In, InP, Pairs, Solves, end, pair}
+use Rattle.types_rules.specs.Equations.{AllP, In, InP, Pairs, end, pair}
 use Rattle.types_rules.specs.Types.{Ty, integer_type}
 use Rattle.checker_rules.specs.Unknowns.{Valuation}
 use Rattle.checker_rules.specs.Items.{Items, skip, ◌⨾◌, fresh, Meets, MeetsIn, Agree, Passes}
 use Rattle.types_cells.specs.Layout.{first_run, area_size}
-use Rattle.types_cells.specs.Store.{frozen, tag_at, view, Solved}
+use Rattle.types_cells.specs.Store.{frozen, tag_at}
 use Rattle.types_cells.specs.Calls.{Making, Made}
 use Rattle.types_solver.specs.Growth.{Grows, Builds, Extension}
 use Rattle.types_cells.specs.Settled.{heap, Reads, Entering, Entered}
@@ -19,7 +19,7 @@ use Rattle.types_solver.proofs.Accepted.{start}
 use Rattle.types_solver.proofs.Extending.{restrict, extends_solves, made_grows, extend_unknown, entered_grows}
 use Rattle.types_cells.proofs.Growing.{view_made, lt_or_ge}
 use Rattle.types_cells.proofs.Heads.{view_unk, view_shape}
-use Rattle.checker_pieces.specs.Piece.{Solution, Matches, SameOn, Goes, Piece, Accounted, Later, Steady}
+use Rattle.checker_pieces.specs.Piece.{Solution, Matches, Goes, Piece, Accounted, Later, Steady}
 use Rattle.checker_pieces.proofs.Updates.{put, put_hit, put_miss}
 use Rattle.checker_pieces.proofs.Walks.{items_earlier, passes_more}
 

@@ -1,7 +1,7 @@
 -- A new unknown whose type is that of a cell: the type of a node, the component of a Select (35). And items that the ones before settle.
 use mathlib.Core.Path.{◌≡◌, refl, sym, ap, subst, ◌∙◌}
 use mathlib.Core.List.{List, ◌∷◌}
-use mathlib.Core.Logic.{◌⊎◌, ◌↔◌, inl, inr, ⊎_elim}
+use mathlib.Core.Logic.{◌↔◌, inl, inr, ⊎_elim}
 use mathlib.Core.Option.{some, none as nothing}
 use Prim.Native.Nat.{ℕ, ◌<◌}
 use Rattle.types_rules.specs.Component.{component_type}

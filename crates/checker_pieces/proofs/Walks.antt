@@ -1,15 +1,14 @@
 -- Items one after another, and how states of a piece follow each other.
-use mathlib.Core.Path.{◌≡◌, refl, ◌∙◌}
 use mathlib.Core.Logic.{◌↔◌, inl, inr}
 use mathlib.Core.List.{List}
 use Prim.Native.Nat.{ℕ}
-use Rattle.types_rules.specs.Equations.{Pairs, AllP}
-use Rattle.types_rules.specs.Types.{Ty, Term, under}
+use Rattle.types_rules.specs.Equations.{Pairs}
+use Rattle.types_rules.specs.Types.{Term}
 use Rattle.types_rules.specs.Trees.{Extent, finite, Tree}
 use Rattle.checker_rules.specs.Unknowns.{Valuation}
 use Rattle.checker_rules.specs.Items.{Items, ◌⨾◌, Meets, MeetsIn, Agree, Typings, And, Passes, Refuses}
 use Rattle.checker_rules.proofs.ItemLaws.{passes_ext, refuses_ext}
-use Rattle.checker_pieces.specs.Piece.{Solution, Matches, Local, Goes, Stops, Piece, Denotes, Later}
+use Rattle.checker_pieces.specs.Piece.{Goes, Stops, Piece, Denotes, Later}
 
 -- Items may be grouped either way.
 pub regroup : (H t a : Items) (ε : Extent) (τ : ℕ → Tree ε) → MeetsIn (H ⨾ (t ⨾ a)) ε τ ↔ And (MeetsIn (H ⨾ t)) a ε τ

@@ -1,7 +1,6 @@
 use native.Mathlib.Omega.{arith}
 use Rattle.words.proofs.Lists.{drop_done}
 use Rattle.checker_merging.proofs.MergeLaws.{declared_none, declared_go, declared_stop}
-use Prim.Native.Nat.{◌-◌}
 use Rattle.checker_merging.proofs.+declared_agree.Goals as goal
 
 pub returns-then-part-j : goal.returns-then-part-j

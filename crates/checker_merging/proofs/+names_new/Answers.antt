@@ -1,7 +1,6 @@
 use native.Mathlib.Omega.{arith}
 use Rattle.words.proofs.Lists.{drop_done}
 use Rattle.checker_merging.proofs.NewLaws.{new_none, names_go, names_stop}
-use Prim.Native.Nat.{◌-◌}
 use Rattle.checker_merging.proofs.+names_new.Goals as goal
 
 pub returns-then-part-j : goal.returns-then-part-j

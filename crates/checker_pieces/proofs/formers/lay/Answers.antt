@@ -1,5 +1,4 @@
 use mathlib.Core.Path.{◌≡◌, subst}
-use Prim.Native.Nat.{◌-◌}
 use lib.ListN.{take}
 use native.Mathlib.Omega.{arith}
 use Rattle.checker_pieces.specs.Building.{Laid}

@@ -1,5 +1,5 @@
 use mathlib.Core.Path.{◌≡◌, refl, subst, ◌∙◌}
-use Prim.Native.Nat.{ℕ, ◌-◌}
+use Prim.Native.Nat.{ℕ}
 use native.Mathlib.Omega.{arith}
 use Rattle.checker_pieces.specs.Rows.{RowMade}
 use Rattle.checker_pieces.proofs.FreshRows.{row_start, row_ask, row_next}
