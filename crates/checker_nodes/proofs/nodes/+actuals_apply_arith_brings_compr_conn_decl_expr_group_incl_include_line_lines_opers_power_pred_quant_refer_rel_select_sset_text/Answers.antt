@@ -300,7 +300,7 @@ pub expr-arith-requires : goal.expr-arith-requires
 expr-arith-requires t c = let y = c.decreases in let N = handed_node c.requires.0 c.part-p.ensures in let K = c.requires.1 in let w = node_kind N _ c.word-q.ensures.0 in let a = past _ 40 (past _ 39 (past _ 38 (past _ 37 (past _ 36 c.in-41-to-45.if-q-lt36-own.false c.in-41-to-45.in_default-own.rest.0.0.0.0.1) c.in-41-to-45.in_default-own.rest.0.0.0.1) c.in-41-to-45.in_default-own.rest.0.0.1) c.in-41-to-45.in_default-own.rest.0.1) c.in-41-to-45.in_default-own.rest.1 in let b = c.in-41-to-45.if-q-lt46-own.true in (omega arith, (N, omega arith, omega arith, K))
 
 pub expr-compr-requires : goal.expr-compr-requires
-expr-compr-requires t c = let y = c.decreases in let N = handed_node c.requires.0 c.part-p.ensures in let K = c.requires.1 in let w = node_kind N _ c.word-q.ensures.0 in let r = expr_range _ _ c.requires.0 in let k = ⊎_elim (λ z. let u = z.true in last_kind_low r.0 w u) (λ z. last_kind r.1 w z.2.false) c.in_default.branch-raw in (omega arith, (N, k, K))
+expr-compr-requires t c = let y = c.decreases in let N = handed_node c.requires.0 c.part-p.ensures in let K = c.requires.1 in let w = node_kind N _ c.word-q.ensures.0 in let r = expr_range _ _ c.requires.0 in let k = ⊎_elim (λ z. let u = z.if-q-lt30-1.true in last_kind_low r.0 w u) (λ z. last_kind r.1 w z.if-q-lt46-1.false) c.in_default.branch-raw in (omega arith, (N, k, K))
 
 pub expr-returns-in-30 : goal.expr-returns-in-30
 expr-returns-in-30 t c = c.refer.ensures
@@ -561,7 +561,7 @@ pred-quant-requires t c =
     let g = pred_range _ _ c.requires.0 in
     let x = g.0 in
     let y = g.1 in
-    let z : 28 ≤ kind_at c.args.doc.now c.args.k = ⊎_elim (λ t. let v = t.true in absurd (omega arith)) (λ p. let v = p.2.false in omega arith) c.in_default.branch-raw in
+    let z : 28 ≤ kind_at c.args.doc.now c.args.k = ⊎_elim (λ t. let v = t.if-q-lt20-1.true in absurd (omega arith)) (λ p. let v = p.if-q-lt28-1.false in omega arith) c.in_default.branch-raw in
     let m = c.decreases in
     (omega arith, (B, z, y, c.requires.1))
 
