@@ -31,7 +31,7 @@ use Rattle.reader_rules.proofs.TreeWords.{number_word}
 use Rattle.evaluator_nodes.proofs.KindLaws.{Unrun, unrun_told, number_told, from_25, truth_told}
 use Rattle.evaluator_nodes.proofs.FactorLaws.{factors_end, factors_go, power_stop, power_go, product_stop as tuples_stop, product_go as tuples_go}
 use Rattle.layout.specs.Layout.{part}
-use Rattle.evaluator_nodes.proofs.LineLaws.{lines_done, include_told, decl_operand, decl_count, decl_stop, decl_other, decl_go, line_ready, line_at_lem}
+use Rattle.evaluator_nodes.proofs.LineLaws.{lines_done, include_told, decl_operand, decl_count, decl_stop, decl_other, decl_go, decl_words, line_ready, line_at_lem}
 use Rattle.reader_rules.proofs.TreePred.{pred_range}
 use Rattle.evaluator_operations.proofs.OperationLaws.{counted_integral}
 use Rattle.values.specs.Value as Value
@@ -532,7 +532,7 @@ pub expr-returns-in_default : goal.expr-returns-in_default
 expr-returns-in_default t c =
     let q = c.word-q.ensures.0 ∙ ap (λ (l : List ℕ). get_or l 0 0) c.part-w.ensures in
     let r = c.in_default-1.rest in
-    let u : Unrun (kind_at c.args.doc.now c.args.k) = record { a = λ e. r.0.0.0.0.0.0.0.1 (q ∙ e); b = λ e. r.0.0.0.0.0.0.1 (q ∙ e); c = λ e. r.0.0.0.0.0.1 (q ∙ e); d = λ e. r.0.0.0.0.1 (q ∙ e); e = λ e. r.0.0.0.1 (q ∙ e); f = λ e. r.0.0.1 (q ∙ e); g = λ e. r.0.1 (q ∙ e); h = λ e. r.1 (q ∙ e); i = λ x y. ⊎_elim (λ t. let v = t.if-q-lt41-1.true in omega (arith, q)) (λ p. let v = p.1.false in omega (arith, q)) c.in_default.branch-raw } in
+    let u : Unrun (kind_at c.args.doc.now c.args.k) = record { a = λ e. r.0.0.0.0.0.0.0.1 (q ∙ e); b = λ e. r.0.0.0.0.0.0.1 (q ∙ e); c = λ e. r.0.0.0.0.0.1 (q ∙ e); d = λ e. r.0.0.0.0.1 (q ∙ e); e = λ e. r.0.0.0.1 (q ∙ e); f = λ e. r.0.0.1 (q ∙ e); g = λ e. r.0.1 (q ∙ e); h = λ e. r.1 (q ∙ e); i = λ x y. ⊎_elim (λ t. let v = t.if-q-lt41-1.true in omega (arith, q)) (λ p. let v = p.if-q-lt46-1.false in omega (arith, q)) c.in_default.branch-raw } in
     record { kept = refl; told = λ scope sc. unrun_told _ _ c.requires.at u scope c.stop.ensures }
 
 pub factors-returns-then-w-i : goal.factors-returns-then-w-i
@@ -579,6 +579,19 @@ pub lines-returns-then-u-i : goal.lines-returns-then-u-i
 lines-returns-then-u-i t c =
     let a = c.args in
     lines_done a.doc.now a.k a.t (length a.u.now) a.i a.state.now a.work.now a.n a.m a.s.now _ _ _ c.if-u-i.true c.assign.ensures
+
+pub lines-refuse-requires : goal.lines-refuse-requires
+lines-refuse-requires t c = let a = c.args in (line_at_lem c.requires.0 a.t c.requires.1 a.u.now c.requires.2 a.i _ c.requires.3 (omega (arith, c.if-u-i.false)) c.word-v.ensures.0).0.at.small
+
+pub lines-refuse-requires-then-tag_of-ne-SET : goal.lines-refuse-requires-then-tag_of-ne-SET
+lines-refuse-requires-then-tag_of-ne-SET t c = let a = c.args in (line_at_lem c.requires.0 a.t c.requires.1 a.u.now c.requires.2 a.i _ c.requires.3 (omega (arith, c.if-u-i.false)) c.word-v.ensures.0).0.at.small
+
+pub lines-overflow_sub-x : goal.lines-overflow_sub-x
+lines-overflow_sub-x t c =
+    let a = c.args in
+    let o = line_at_lem c.requires.0 a.t c.requires.1 a.u.now c.requires.2 a.i _ c.requires.3 (omega (arith, c.if-u-i.false)) c.word-v.ensures.0 in
+    let d = decl_words a.doc.now _ o.0.at (λ z. c.if-word-eq-INCLUDE.false (c.word.ensures.0 ∙ ap (λ (l : List ℕ). get_or l 0 0) c.part-x.ensures ∙ z)) in
+    omega (arith, ap length c.part-x.ensures)
 
 pub lines-returns-then-word-eq-INCLUDE : goal.lines-returns-then-word-eq-INCLUDE
 lines-returns-then-word-eq-INCLUDE t c =
@@ -767,7 +780,7 @@ pred-returns-in_default t c =
     let g = pred_range _ _ c.requires.at in
     let x = g.0 in
     let y = g.1 in
-    let k : kind_at c.args.doc.now c.args.k ≡ 20 = ⊎_elim (λ t. let v = t.if-q-lt21-1.true in omega arith) (λ p. let v = p.2.false in omega arith) c.in_default.branch-raw in
+    let k : kind_at c.args.doc.now c.args.k ≡ 20 = ⊎_elim (λ t. let v = t.if-q-lt21-1.true in omega arith) (λ p. let v = p.if-q-lt30-1.false in omega arith) c.in_default.branch-raw in
     record { kept = refl; told = λ scope sc. truth_told _ _ c.requires.at k scope c.judge.ensures.0 c.judge.ensures.1 }
 
 pub pred-returns-in-21 : goal.pred-returns-in-21
