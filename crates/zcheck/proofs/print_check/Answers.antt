@@ -1,0 +1,18 @@
+use native.Mathlib.Omega.{arith}
+use contract.Lifetimes.{Lfts}
+use Rattle.checker_rules.specs.declared.Finding.{Finding}
+use Rattle.checker_rules.specs.declared.Finding.TheVariants.{Accepted, Refused}
+use Rattle.printer_rules.specs.Bounds.{OfWords, no_place, placed}
+use Rattle.zcheck.proofs.Reports.{check_prints}
+use Rattle.zcheck.proofs.print_check.Goals as goal
+
+-- a finding's number and place are words
+of_words : (κs : Lfts 3) (f : Finding) → (lts.r-0).is.Ok κs f → OfWords f
+of_words κs Accepted o = no_place
+of_words κs (Refused n p) o = placed {number = n} {place = p} (omega (arith, o.1.1.1.1.0)) (omega (arith, o.1.1.1.1.1.0))
+
+pub returns : goal.returns
+returns c =
+    let a = c.requires in
+        let k = c.type_inv.dict in
+    check_prints {dict = c.check-finding.new.dict} a c.check-finding.ensures c.check-finding.auto.dict (λ i. omega (arith, k i)) (of_words c.check-finding.lifetimes c.check-finding.result c.check-finding.type_inv) c.print_finding.ensures
