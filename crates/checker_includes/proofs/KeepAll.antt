@@ -6,8 +6,7 @@ use mathlib.Core.Option.{some}
 use Prim.Native.Nat.{ℕ, ◌+◌, ◌-◌, ◌*◌, ◌≤◌, ◌<◌}
 use native.Mathlib.Omega.{arith}
 use lib.ListN.{get_or}
-use Rattle.types_rules.specs.Types.{Ty, size}
-use Rattle.types_rules.specs.Words.{words}
+use Rattle.types_rules.specs.Types.{Ty}
 use Rattle.types_cells.specs.Settled.{heap, Reads, Readable}
 use Rattle.types_cells.proofs.Growing.{lt_or_ge}
 use Rattle.checker_signatures.specs.Rows.{rows, place_in}

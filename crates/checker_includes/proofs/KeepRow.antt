@@ -7,7 +7,7 @@ use Prim.Native.Nat.{ℕ, ◌+◌, ◌*◌, ◌≤◌, ◌<◌}
 use native.Mathlib.Omega.{arith}
 use lib.ListN.{length, get_or, set, length-set}
 use lib.Seq.{length-sets, get_or-set_same, get_or-set_other}
-use Rattle.types_rules.specs.Types.{Ty, Tys, size}
+use Rattle.types_rules.specs.Types.{Ty, Tys}
 use Rattle.types_rules.specs.Words.{words}
 use Rattle.types_rules.proofs.Words.{words_few}
 use Rattle.types_cells.specs.Settled.{heap, Reads}

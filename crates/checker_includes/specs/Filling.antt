@@ -1,12 +1,12 @@
 -- Findings 36 and 38 of what an Include brings, decided on words.
-use Rattle.std.specs.Prelude.{◌≡◌, Bool, true, false, List, ℕ, ◌+◌, ◌*◌, ◌≤◌, ◌<◌, length, get_or}
+use Rattle.std.specs.Prelude.{◌≡◌, Bool, true, false, List, ℕ, ◌+◌, ◌*◌, ◌≤◌, ◌<◌, get_or}
 use Rattle.types_rules.specs.Types.{Ty, Tys, Term, size}
 use Rattle.checker_rules.specs.Unknowns.{row}
 use Rattle.checker_rules.specs.Items.{Items, Refuses, MeetsIn}
 use Rattle.checker_rules.specs.Signatures.{Signature, term_in}
 use Rattle.checker_rules.specs.Conditions.{same_type, merge_names, small_types}
 use Rattle.types_cells.specs.Calls.{Tells}
-use Rattle.types_cells.specs.Settled.{heap, Reads, Readable, Areas}
+use Rattle.types_cells.specs.Settled.{heap, Reads, Readable}
 use Rattle.checker_signatures.specs.Rows.{rows}
 use Rattle.checker_signatures.specs.Carried.{Carries}
 use Rattle.types_instances.specs.Fill.{fill}

@@ -1,6 +1,6 @@
 -- The steps of writing types into the caller's part: words of types in the work area, of one cell or of the rows that an Include brings, which are then
 -- moved.
-use Rattle.std.specs.Prelude.{◌≡◌, List, ◌⊎◌, ℕ, suc, ◌+◌, ◌-◌, ◌*◌, ◌≤◌, ◌<◌, ◌^◌, length, get_or}
+use Rattle.std.specs.Prelude.{◌≡◌, List, ◌⊎◌, ℕ, suc, ◌+◌, ◌*◌, ◌≤◌, ◌<◌, ◌^◌, length, get_or}
 use Rattle.types_rules.specs.Types.{Ty, Tys, size}
 use Rattle.types_rules.specs.Formed.{WellFormed}
 use Rattle.types_rules.specs.Words.{words}

@@ -1,7 +1,6 @@
 use mathlib.Core.Path.{refl, sym, ◌∙◌}
 use mathlib.Core.Bool.{true, false}
 use native.Mathlib.Omega.{arith}
-use Prim.Native.Nat.{◌-◌}
 use Rattle.types_rules.proofs.Terms.{bool_no}
 use Rattle.types_cells.proofs.Reading.{heap_length, place_few}
 use Rattle.checker_includes.proofs.SameLaws.{lead_needed, match_start, match_step, match_end}

@@ -1,7 +1,6 @@
 use native.Mathlib.Omega.{arith}
 use Rattle.words.proofs.Lists.{drop_done}
 use Rattle.checker_includes.proofs.OverlapLaws.{overlap_end, overlap_stop, overlap_go}
-use Prim.Native.Nat.{◌-◌}
 use Rattle.checker_includes.proofs.storing.+none_declared.Goals as goal
 
 pub returns-then-part-j : goal.returns-then-part-j

@@ -1,5 +1,4 @@
 use native.Mathlib.Omega.{arith}
-use Prim.Native.Nat.{◌-◌}
 use Rattle.checker_includes.proofs.KeepAll.{all_start, all_short, step_asked, all_step, all_end}
 use Rattle.checker_includes.proofs.storing.keep_all.Goals as goal
 

@@ -1,6 +1,6 @@
 use mathlib.Core.Path.{refl, sym, ap, subst, ◌∙◌}
 use native.Mathlib.Omega.{arith}
-use Prim.Native.Nat.{◌+◌, ◌-◌}
+use Prim.Native.Nat.{◌+◌}
 use lib.ListN.{length, length-set}
 use Rattle.checker_includes.proofs.LargeLaws.{Put, put_start, put_step, put_end}
 use Rattle.checker_includes.proofs.storing.put_large.Goals as goal
