@@ -5,6 +5,7 @@ use Rattle.checker_rules.specs.declared.Finding.TheVariants.{Accepted, Refused}
 use Rattle.printer_rules.specs.Bounds.{OfWords, no_place, placed}
 use Rattle.zcheck.proofs.Reports.{check_prints}
 use Rattle.zcheck.proofs.print_check.Goals as goal
+use Rattle.zcheck.proofs.print_check.Lts as lts
 
 -- a finding's number and place are words
 of_words : (κs : Lfts 3) (f : Finding) → (lts.r-0).is.Ok κs f → OfWords f
@@ -14,5 +15,5 @@ of_words κs (Refused n p) o = placed {number = n} {place = p} (omega (arith, o.
 pub returns : goal.returns
 returns c =
     let a = c.requires in
-        let k = c.type_inv.dict in
+    let k = c.type_inv.dict in
     check_prints {dict = c.check-finding.new.dict} a c.check-finding.ensures c.check-finding.auto.dict (λ i. omega (arith, k i)) (of_words c.check-finding.lifetimes c.check-finding.result c.check-finding.type_inv) c.print_finding.ensures
