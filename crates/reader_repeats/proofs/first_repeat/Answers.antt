@@ -2,6 +2,7 @@ use Rattle.reader_repeats.proofs.WritingLaws.{written_none}
 use Rattle.reader_rules.proofs.Scan.{scan_hit, scan_go, scan_end}
 use native.Mathlib.Omega.{arith}
 use native.Mathlib.Nat.{add-sub_cancel}
+use Prim.Native.Nat.{◌-◌}
 use mathlib.Core.Path.{sym, ◌∙◌}
 use Rattle.reader_repeats.proofs.first_repeat.Goals as goal
 

@@ -1,6 +1,8 @@
+use Rattle.reader_repeats.specs.Marks.{shared_at}
 use Rattle.words.proofs.Loops.{some_on, some_go, some_end}
 use native.Mathlib.Omega.{arith}
 use native.Mathlib.Nat.{add-sub_cancel}
+use Prim.Native.Nat.{◌-◌}
 use mathlib.Core.Path.{sym, ◌∙◌}
 use Rattle.reader_repeats.proofs.shared_before.Goals as goal
 

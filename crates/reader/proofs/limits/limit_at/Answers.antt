@@ -1,6 +1,6 @@
 use Rattle.reader.proofs.CountLaws.{deep_eq, ancestors_short, crowded_eq, below_on}
 use native.Mathlib.Omega.{arith}
-use mathlib.Core.Bool.{false≢true}
+use mathlib.Core.Bool.{false, true, false≢true}
 use mathlib.Core.Path.{sym, ◌∙◌}
 use Rattle.reader.proofs.limits.limit_at.Goals as goal
 

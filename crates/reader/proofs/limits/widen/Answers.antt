@@ -6,7 +6,7 @@ use borrow.Author.Tests.{eq-eqb, ne_eqb, lt-ltb, le-ltb}
 use lib.ListN.{length, get_or}
 use native.Mathlib.Omega.{arith}
 use Prim.Native.Nat.{◌+◌, ◌<◌}
-use mathlib.Core.Bool.{false≢true}
+use mathlib.Core.Bool.{false, true, false≢true}
 use mathlib.Core.Path.{◌≡◌, sym, ◌∙◌}
 use Rattle.reader.proofs.limits.widen.Goals as goal
 

@@ -1,6 +1,7 @@
 use Rattle.reader_rules.proofs.Scan.{scan_hit, scan_go, scan_end}
 use native.Mathlib.Omega.{arith}
 use native.Mathlib.Nat.{add-sub_cancel}
+use Prim.Native.Nat.{◌-◌}
 use mathlib.Core.Path.{sym, ◌∙◌}
 use Rattle.reader.proofs.links.first_misused.Goals as goal
 

@@ -1,6 +1,7 @@
 use Rattle.words.proofs.Loops.{run_go, run_end}
 use native.Mathlib.Omega.{arith}
 use native.Mathlib.Nat.{add-sub_cancel}
+use Prim.Native.Nat.{◌-◌}
 use mathlib.Core.Path.{refl, sym, ◌∙◌}
 use Rattle.reader.proofs.links.link_nodes.Goals as goal
 

@@ -1,6 +1,8 @@
+use Rattle.reader_rules.specs.Findings.{plain_at}
 use Rattle.words.proofs.Loops.{every_off, every_go, every_end}
 use native.Mathlib.Omega.{arith}
 use native.Mathlib.Nat.{add-sub_cancel}
+use Prim.Native.Nat.{◌-◌}
 use mathlib.Core.Path.{sym, ◌∙◌}
 use Rattle.reader_nodes.proofs.nodes.plain_words.Goals as goal
 

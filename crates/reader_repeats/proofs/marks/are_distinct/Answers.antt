@@ -3,7 +3,7 @@ use Rattle.words.proofs.Lists.{take_rest}
 use Rattle.words.specs.Loops.{has}
 use lib.ListN.{get_or, drop}
 use native.Mathlib.Omega.{arith}
-use Prim.Native.Nat.{◌+◌}
+use Prim.Native.Nat.{◌+◌, ◌-◌}
 use mathlib.Core.Bool.{true, false}
 use mathlib.Core.Path.{◌≡◌, refl, sym, ◌∙◌}
 use Rattle.reader_repeats.proofs.marks.are_distinct.Goals as goal

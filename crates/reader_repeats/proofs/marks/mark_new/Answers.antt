@@ -2,6 +2,7 @@ use Rattle.reader_repeats.proofs.MarkLaws.{unmarked_off, unmarked_go, unmarked_e
 use Rattle.reader_repeats.specs.Marks.{is_free, with_mark}
 use lib.ListN.{get_or}
 use native.Mathlib.Omega.{arith}
+use Prim.Native.Nat.{◌-◌}
 use mathlib.Core.Bool.{true, false, false≢true}
 use mathlib.Core.Path.{◌≡◌, refl, sym, ◌∙◌}
 use Rattle.reader_repeats.proofs.marks.mark_new.Goals as goal

@@ -2,6 +2,7 @@ use Rattle.reader_repeats.proofs.MarkLaws.{shares_on, shares_go, shares_end}
 use Rattle.words.specs.Loops.{has}
 use lib.ListN.{get_or}
 use native.Mathlib.Omega.{arith}
+use Prim.Native.Nat.{◌-◌}
 use mathlib.Core.Bool.{true, false}
 use mathlib.Core.Path.{◌≡◌, refl, sym, ◌∙◌}
 use Rattle.reader_repeats.proofs.marks.share.Goals as goal

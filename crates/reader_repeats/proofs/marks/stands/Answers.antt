@@ -1,5 +1,6 @@
 use Rattle.reader_repeats.proofs.MarkLaws.{has_here, has_go, has_end}
 use native.Mathlib.Omega.{arith}
+use Prim.Native.Nat.{◌-◌}
 use mathlib.Core.Path.{refl, sym, ◌∙◌}
 use Rattle.reader_repeats.proofs.marks.stands.Goals as goal
 
