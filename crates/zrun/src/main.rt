@@ -84,7 +84,11 @@ fn load<R: Env + Files + Eprint>(rt: &R, i: usize, area: &mut [u32]) -> io::Resu
 }
 
 // The same of the file of that name. One that is not UTF-8 is not opened.
-fn load_named(rt: &(impl Files + Eprint), name: &[u8], area: &mut [u32]) -> io::Result<Option<usize>>
+fn load_named(
+    rt: &(impl Files + Eprint),
+    name: &[u8],
+    area: &mut [u32],
+) -> io::Result<Option<usize>>
     ensures { IfOk result (λ found. IfSome found (λ n. n ≤ length area.old)) }
 {
     match str::from_utf8(name) {
