@@ -1,6 +1,5 @@
 use mathlib.Core.Path.{refl}
 use mathlib.Core.Bool.{true, false}
-use Prim.Native.Nat.{◌-◌}
 use native.Mathlib.Omega.{arith}
 use Rattle.types_rules.proofs.Terms.{bool_no}
 use Rattle.tower.proofs.Building.{form_plain, ready_start, levels_start, levels_applying, levels_step, levels_end}

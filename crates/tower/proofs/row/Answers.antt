@@ -1,4 +1,3 @@
-use Prim.Native.Nat.{◌-◌}
 use native.Mathlib.Omega.{arith}
 use Rattle.tower.proofs.Building.{row_start, row_cell, row_few, row_adding, row_step, row_size, row_end}
 use Rattle.tower.proofs.row.Goals as goal
