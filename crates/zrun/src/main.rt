@@ -12,7 +12,7 @@ use codes::{WORD_BYTES, limits};
 use evaluator_rules::Finding;
 use std::env::FillError;
 use std::fs::File;
-use std::io::Read;
+use std::io::{Read, Write};
 use std::rt::{Env, Files};
 use std::{io, str};
 
@@ -28,6 +28,9 @@ const INPUT: usize = WORD_BYTES * DOCUMENT + 1;
 
 // Bytes of the buffer for a file's name: those of the longest that the system opens.
 const PATH: usize = 4096;
+
+// Bytes of the buffer for the reason why a file cannot be read.
+const REASON: usize = 512;
 
 // The bytes that an open file has left, at the beginning of a buffer: how many, all of them or as many as the buffer holds.
 fn read_bytes(file: &mut impl Read, bytes: &mut [u8]) -> io::Result<usize>
@@ -83,6 +86,26 @@ fn load<R: Env + Files + Eprint>(rt: &R, i: usize, area: &mut [u32]) -> io::Resu
     }
 }
 
+// The reason alone: std's text of an error of the system goes on with its number.
+fn reason(text: &str) -> &str {
+    match text.split_once(" (os error ") {
+        Some((reason, _)) => reason,
+        None => text,
+    }
+}
+
+// Names a file that cannot be read on standard error, with the reason.
+fn name_reason(rt: &impl Eprint, path: &str, error: &io::Error) -> io::Result<()> {
+    let mut buffer = [0u8; REASON];
+    let mut rest = &mut buffer[..];
+    write!(rest, "{error}")?;
+    let n = REASON.saturating_sub(rest.len());
+    match str::from_utf8(&buffer[..n]) {
+        Ok(text) => eprintln!(rt; "{path}: {}", reason(text)),
+        Err(_) => eprintln!(rt; "{path}: {error}"),
+    }
+}
+
 // The same of the file of that name. One that is not UTF-8 is not opened.
 fn load_named(
     rt: &(impl Files + Eprint),
@@ -95,7 +118,7 @@ fn load_named(
         Ok(path) => match open_file(rt, path, area) {
             Ok(n) => Ok(Some(n)),
             Err(error) => {
-                eprintln!(rt; "{path}: {error}")?;
+                name_reason(rt, path, &error)?;
                 Ok(None)
             }
         },
