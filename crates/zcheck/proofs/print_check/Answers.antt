@@ -15,5 +15,5 @@ of_words κs (Refused n p) o = placed {number = n} {place = p} (omega (arith, o.
 pub returns : goal.returns
 returns c =
     let a = c.requires in
-    let k = c.type_inv.dict in
+    let k = c.slice_known-4-1.given in
     check_prints {dict = c.check-finding.new.dict} a c.check-finding.ensures c.check-finding.auto.dict (λ i. omega (arith, k i)) (of_words c.check-finding.lifetimes c.check-finding.result c.check-finding.type_inv) c.print_finding.ensures
